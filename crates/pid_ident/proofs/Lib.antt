@@ -1,0 +1,4 @@
+pub mod PathOrder
+pub mod Parsing
+pub mod WordTests
+pub mod SendingLemmas

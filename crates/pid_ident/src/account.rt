@@ -1,0 +1,80 @@
+//! Accounts.
+ghost use Rattle.std.specs.Prelude.{◌≡◌, ◌↔◌, false, IsTrue, IfOk, IsErrOf};
+ghost use Rattle.std.specs.List.{list_all};
+ghost use Rattle.pid_ident.specs.Words.{is_account as account_test, is_account_byte as account_byte};
+
+use crate::bytes::is_empty;
+use crate::word_fault::WordFault;
+use std::alloc::{AllocError, Global};
+use std::marker::Model;
+
+/// The name of an account: 1 to 32 of `a` to `z`, `0` to `9` and `-`.
+#[derive(Debug, Drop)]
+pub struct Account {
+    text: String,
+}
+
+impl Model for Account {
+    ghost use Rattle.std.specs.Prelude.{ℕ, List, string_bytes, IsTrue};
+    ghost use Rattle.pid_ident.specs.Words.{is_account};
+
+    ghost Value = { List ℕ };
+
+    ghost view = { λ word. string_bytes word.text };
+
+    ghost invariant = { λ word. IsTrue (is_account (string_bytes word.text)) };
+}
+
+impl Account {
+    /// The text as the name of an account, kept byte for byte.
+    pub fn of(alloc: Global, text: &str) -> Result<Account, WordFault>
+        ensures ok { IfOk result (λ word. word ≡ text.now) }
+        ensures bad { IsErrOf result WordFault.Bad ↔ (account_test text.now ≡ false) }
+    {
+        if !is_account(text) {
+            return Err(WordFault::Bad);
+        }
+        Ok(Account {
+            text: String::from_str(alloc, text)?,
+        })
+    }
+
+    pub fn as_str(&self) -> &str
+        ensures text { result.now ≡ self.now }
+        ensures checked { IsTrue (account_test self.now) }
+    {
+        self.text.as_str()
+    }
+
+    /// The same account once more.
+    pub fn copy(&self) -> Result<Account, AllocError>
+        ensures { IfOk result (λ word. word ≡ self.now) }
+    {
+        Ok(Account {
+            text: self.text.clone()?,
+        })
+    }
+}
+
+/// Whether a text may be the name of an account.
+pub fn is_account(text: &str) -> bool
+    ensures { result ≡ account_test text.now }
+{
+    let bytes = text.as_bytes();
+    if is_empty(bytes) || bytes.len() > 32 {
+        return false;
+    }
+    are_account_bytes(bytes)
+}
+
+fn are_account_bytes(bytes: &[u8]) -> bool
+    ensures { result ≡ list_all account_byte bytes.now }
+{
+    bytes.iter().all(|b| is_account_byte(*b))
+}
+
+fn is_account_byte(byte: u8) -> bool
+    ensures { result ≡ account_byte byte }
+{
+    (byte >= b'a' && byte <= b'z') || (byte >= b'0' && byte <= b'9') || byte == b'-'
+}

@@ -1,0 +1,28 @@
+//! Tests of bytes that the rules of words share.
+ghost use Rattle.std.specs.Prelude.{◌≡◌};
+ghost use Rattle.std.specs.List.{list_all};
+ghost use Rattle.pid_ident.specs.Bytes.{is_printed as printed_byte, is_empty as no_bytes, begins_blank as blank_first};
+
+pub fn is_empty(bytes: &[u8]) -> bool
+    ensures { result ≡ no_bytes bytes.now }
+{
+    matches!(bytes, [])
+}
+
+pub fn begins_blank(bytes: &[u8]) -> bool
+    ensures { result ≡ blank_first bytes.now }
+{
+    matches!(bytes, [b' ' | b'\t', ..])
+}
+
+pub fn are_printed(bytes: &[u8]) -> bool
+    ensures { result ≡ list_all printed_byte bytes.now }
+{
+    bytes.iter().all(|b| is_printed(*b))
+}
+
+fn is_printed(byte: u8) -> bool
+    ensures { result ≡ printed_byte byte }
+{
+    (byte >= b' ' || byte == b'\t') && byte != 127
+}

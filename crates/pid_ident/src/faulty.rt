@@ -1,0 +1,134 @@
+//! A reader and a writer over memory that fail where a test wants it.
+ghost use Rattle.std.specs.Prelude.{◌≡◌, ◌<◌, [], None, Some};
+
+use crate::io::{Input, Output, ReadFault, WriteFault};
+use std::alloc::Global;
+
+/// A reader of given bytes, for tests: each call moves at most some bytes, and from one call on each fails.
+#[derive(Drop)]
+pub struct FaultyInput<'a> {
+    /// The bytes to come.
+    pub rest: &'a [u8],
+    most: usize,
+    good_calls: Option<u64>,
+    fault: Option<ReadFault>,
+    reads: u64,
+    ghost moves: { 0 < most },
+}
+
+impl<'a> FaultyInput<'a> {
+    /// A reader of the bytes that gives at most `most` of them a call, and at least one.
+    pub fn new(bytes: &'a [u8], most: usize) -> FaultyInput<'a>
+        ensures { result.rest.now ≡ bytes.now }
+    {
+        FaultyInput {
+            rest: bytes,
+            most: most.max(1),
+            good_calls: None,
+            fault: None,
+            reads: 0,
+        }
+    }
+
+    /// The reader, failing after so many calls.
+    pub fn failing_after(mut self, calls: u64) -> FaultyInput<'a>
+        ensures { result.rest.now ≡ self.entry.rest.now }
+    {
+        self.good_calls = Some(calls);
+        self
+    }
+}
+
+impl Input for FaultyInput<'_> {
+    ghost to_come = { λ i. Some i.rest.now };
+
+    ghost read_fault = { λ i. i.fault };
+
+    ghost reads = { λ i. i.reads };
+
+    fn read(&mut self, buffer: &mut [u8]) -> Result<usize, ReadFault> {
+        self.reads = self.reads.saturating_add(1);
+        if let Some(fault) = self.fault {
+            return Err(fault);
+        }
+        if is_spent(&mut self.good_calls) {
+            self.fault = Some(ReadFault::Device);
+            return Err(ReadFault::Device);
+        }
+        let count = self.most.min(buffer.len()).min(self.rest.len());
+        let (front, behind) = self.rest.split_at(count);
+        buffer[..count].copy_from_slice(front);
+        self.rest = behind;
+        Ok(count)
+    }
+}
+
+// Whether no good call is left; else there is one less.
+fn is_spent(good_calls: &mut Option<u64>) -> bool {
+    match *good_calls {
+        None => false,
+        Some(0) => true,
+        Some(calls) => {
+            *good_calls = Some(calls - 1);
+            false
+        }
+    }
+}
+
+/// A writer that keeps what it takes, for tests: each call takes at most some bytes, and from one call on each fails.
+#[derive(Drop)]
+pub struct FaultyOutput {
+    /// The bytes that were taken.
+    pub taken: Vec<u8>,
+    most: usize,
+    good_calls: Option<u64>,
+    last_fault: WriteFault,
+    fault: Option<WriteFault>,
+    ghost moves: { 0 < most },
+}
+
+impl FaultyOutput {
+    /// A writer that takes at most `most` bytes a call, and at least one.
+    pub fn new(alloc: Global, most: usize) -> FaultyOutput
+        ensures { result.taken.items ≡ [] }
+    {
+        FaultyOutput {
+            taken: Vec::new(alloc),
+            most: most.max(1),
+            good_calls: None,
+            last_fault: WriteFault::Device,
+            fault: None,
+        }
+    }
+
+    /// The writer, giving the fault after so many calls.
+    pub fn failing_after(mut self, calls: u64, fault: WriteFault) -> FaultyOutput
+        ensures { result.taken.items ≡ self.taken.items }
+    {
+        self.good_calls = Some(calls);
+        self.last_fault = fault;
+        self
+    }
+}
+
+impl Output for FaultyOutput {
+    ghost taken = { λ o. Some o.taken.items };
+
+    ghost write_fault = { λ o. o.fault };
+
+    fn write(&mut self, bytes: &[u8]) -> Result<usize, WriteFault> {
+        if let Some(fault) = self.fault {
+            return Err(fault);
+        }
+        if is_spent(&mut self.good_calls) {
+            self.fault = Some(self.last_fault);
+            return Err(self.last_fault);
+        }
+        let (front, _) = bytes.split_at(self.most.min(bytes.len()));
+        if self.taken.extend_from_slice(front).is_err() {
+            self.fault = Some(WriteFault::Device);
+            return Err(WriteFault::Device);
+        }
+        Ok(front.len())
+    }
+}

@@ -1,0 +1,80 @@
+//! Keys of commands.
+ghost use Rattle.std.specs.Prelude.{◌≡◌, ◌↔◌, false, IsTrue, IfOk, IsErrOf};
+ghost use Rattle.std.specs.List.{list_all};
+ghost use Rattle.pid_ident.specs.Words.{is_key as key_test, is_key_byte as key_byte};
+
+use crate::bytes::is_empty;
+use crate::word_fault::WordFault;
+use std::alloc::{AllocError, Global};
+use std::marker::Model;
+
+/// The key of a command: 1 to 64 bytes of visible ASCII.
+#[derive(Debug, Drop)]
+pub struct Key {
+    text: String,
+}
+
+impl Model for Key {
+    ghost use Rattle.std.specs.Prelude.{ℕ, List, string_bytes, IsTrue};
+    ghost use Rattle.pid_ident.specs.Words.{is_key};
+
+    ghost Value = { List ℕ };
+
+    ghost view = { λ word. string_bytes word.text };
+
+    ghost invariant = { λ word. IsTrue (is_key (string_bytes word.text)) };
+}
+
+impl Key {
+    /// The text as the key of a command, kept byte for byte.
+    pub fn of(alloc: Global, text: &str) -> Result<Key, WordFault>
+        ensures ok { IfOk result (λ word. word ≡ text.now) }
+        ensures bad { IsErrOf result WordFault.Bad ↔ (key_test text.now ≡ false) }
+    {
+        if !is_key(text) {
+            return Err(WordFault::Bad);
+        }
+        Ok(Key {
+            text: String::from_str(alloc, text)?,
+        })
+    }
+
+    pub fn as_str(&self) -> &str
+        ensures text { result.now ≡ self.now }
+        ensures checked { IsTrue (key_test self.now) }
+    {
+        self.text.as_str()
+    }
+
+    /// The same key once more.
+    pub fn copy(&self) -> Result<Key, AllocError>
+        ensures { IfOk result (λ word. word ≡ self.now) }
+    {
+        Ok(Key {
+            text: self.text.clone()?,
+        })
+    }
+}
+
+/// Whether a text may be the key of a command.
+pub fn is_key(text: &str) -> bool
+    ensures { result ≡ key_test text.now }
+{
+    let bytes = text.as_bytes();
+    if is_empty(bytes) || bytes.len() > 64 {
+        return false;
+    }
+    are_key_bytes(bytes)
+}
+
+fn are_key_bytes(bytes: &[u8]) -> bool
+    ensures { result ≡ list_all key_byte bytes.now }
+{
+    bytes.iter().all(|b| is_key_byte(*b))
+}
+
+fn is_key_byte(byte: u8) -> bool
+    ensures { result ≡ key_byte byte }
+{
+    byte >= b'!' && byte <= b'~'
+}

@@ -1,0 +1,59 @@
+//! What can be wrong with a line of `pci.ids`.
+ghost use Rattle.std.specs.Prelude.{◌≡◌};
+
+/// What is wrong with a line, in the order in which faults of one line are told.
+#[derive(Clone, Copy, Debug, PartialEq, Eq)]
+pub enum LineKind {
+    /// The bytes are not UTF-8.
+    NotUtf8,
+    /// More tabs lead than its block has levels.
+    TooDeep,
+    /// No line that it could belong to is open.
+    NoParent,
+    /// The hex digits, or the space or tab behind them, are not there.
+    BadId,
+    /// Nothing stands behind the identifier and its blanks.
+    NoName,
+    /// The name is too long, or holds a control byte.
+    BadName,
+    /// An earlier entry has the same path.
+    Duplicate,
+    /// A block of generic subsystems of a vendor that no earlier entry names.
+    VendorMissing,
+}
+
+impl LineKind {
+    ghost use Rattle.pid_ident.specs.LineKinds.{number_of, word_of};
+
+    /// 1 to 8, in the order above.
+    pub fn number(self) -> u8
+        ensures { result ≡ number_of self }
+    {
+        match self {
+            LineKind::NotUtf8 => 1,
+            LineKind::TooDeep => 2,
+            LineKind::NoParent => 3,
+            LineKind::BadId => 4,
+            LineKind::NoName => 5,
+            LineKind::BadName => 6,
+            LineKind::Duplicate => 7,
+            LineKind::VendorMissing => 8,
+        }
+    }
+
+    /// The name of the kind, as it is printed.
+    pub fn word(self) -> &'static str
+        ensures { result.now ≡ word_of self }
+    {
+        match self {
+            LineKind::NotUtf8 => "NotUtf8",
+            LineKind::TooDeep => "TooDeep",
+            LineKind::NoParent => "NoParent",
+            LineKind::BadId => "BadId",
+            LineKind::NoName => "NoName",
+            LineKind::BadName => "BadName",
+            LineKind::Duplicate => "Duplicate",
+            LineKind::VendorMissing => "VendorMissing",
+        }
+    }
+}

@@ -1,0 +1,67 @@
+//! Names of items.
+ghost use Rattle.std.specs.Prelude.{◌≡◌, ◌↔◌, false, IsTrue, IfOk, IsErrOf};
+ghost use Rattle.pid_ident.specs.Words.{is_name as name_test};
+
+use crate::bytes::{are_printed, begins_blank, is_empty};
+use crate::word_fault::WordFault;
+use std::alloc::{AllocError, Global};
+use std::marker::Model;
+
+/// A name of an item: text of 1 to 1,000 bytes that begins with no blank and holds no control byte but tabs. Blanks at its end belong to it.
+#[derive(Debug, Drop)]
+pub struct Name {
+    text: String,
+}
+
+impl Model for Name {
+    ghost use Rattle.std.specs.Prelude.{ℕ, List, string_bytes, IsTrue};
+    ghost use Rattle.pid_ident.specs.Words.{is_name};
+
+    ghost Value = { List ℕ };
+
+    ghost view = { λ word. string_bytes word.text };
+
+    ghost invariant = { λ word. IsTrue (is_name (string_bytes word.text)) };
+}
+
+impl Name {
+    /// The text as a name, kept byte for byte.
+    pub fn of(alloc: Global, text: &str) -> Result<Name, WordFault>
+        ensures ok { IfOk result (λ word. word ≡ text.now) }
+        ensures bad { IsErrOf result WordFault.Bad ↔ (name_test text.now ≡ false) }
+    {
+        if !is_name(text) {
+            return Err(WordFault::Bad);
+        }
+        Ok(Name {
+            text: String::from_str(alloc, text)?,
+        })
+    }
+
+    pub fn as_str(&self) -> &str
+        ensures text { result.now ≡ self.now }
+        ensures checked { IsTrue (name_test self.now) }
+    {
+        self.text.as_str()
+    }
+
+    /// The same name once more.
+    pub fn copy(&self) -> Result<Name, AllocError>
+        ensures { IfOk result (λ word. word ≡ self.now) }
+    {
+        Ok(Name {
+            text: self.text.clone()?,
+        })
+    }
+}
+
+/// Whether a text may be a name.
+pub fn is_name(text: &str) -> bool
+    ensures { result ≡ name_test text.now }
+{
+    let bytes = text.as_bytes();
+    if is_empty(bytes) || bytes.len() > 1000 || begins_blank(bytes) {
+        return false;
+    }
+    are_printed(bytes)
+}

@@ -1,0 +1,120 @@
+//! Readers and writers of std as an `Input` and an `Output`.
+ghost use Rattle.std.specs.Prelude.{◌≡◌, ◌<◌, ◌≤◌, None, IfSome, IfNone, length, take};
+ghost use Rattle.std.specs.Io.KnownBytes.{Consumes, IsAtEnd, Keeps, Appends};
+
+use crate::io::{Input, Output, ReadFault, WriteFault};
+use std::io;
+use std::io::{ErrorKind, Read, Write};
+
+/// A reader or a writer of std, with the fault that it gave.
+///
+/// A call that a signal interrupts is made again, and counts as one.
+#[derive(Drop)]
+pub struct Plain<T> {
+    inner: T,
+    reads: u64,
+    read_fault: Option<ReadFault>,
+    write_fault: Option<WriteFault>,
+}
+
+impl<T> Plain<T> {
+    pub fn new(inner: T) -> Plain<T> {
+        Plain {
+            inner,
+            reads: 0,
+            read_fault: None,
+            write_fault: None,
+        }
+    }
+
+    /// The reader or the writer itself.
+    pub fn into_inner(self) -> T {
+        self.inner
+    }
+}
+
+// What one read gives that no signal interrupts.
+fn read_once<R: Read>(reader: &mut R, buffer: &mut [u8]) -> Option<usize>
+    ensures room { IfSome result (λ n. n ≤ length buffer.new) }
+    ensures bytes { IfSome result (λ n. Consumes (R.remaining reader.old) (R.remaining reader.new) (take n buffer.new)) }
+    ensures end { IfSome result (λ n. n ≡ 0 → 0 < length buffer.new → IsAtEnd (R.remaining reader.new)) }
+    ensures fault { IfNone result (Keeps (R.remaining reader.old) (R.remaining reader.new)) }
+{
+    for _ in 0..u64::MAX {
+        match reader.read(buffer) {
+            Ok(count) => return Some(count),
+            Err(error) => {
+                if !is_interrupted(&error) {
+                    return None;
+                }
+            }
+        }
+    }
+    None
+}
+
+// What one write takes that no signal interrupts.
+fn write_once<W: Write>(writer: &mut W, bytes: &[u8]) -> Option<usize>
+    ensures room { IfSome result (λ n. n ≤ length bytes.now) }
+    ensures bytes { IfSome result (λ n. Appends (W.contents writer.old) (W.contents writer.new) (take n bytes.now)) }
+    ensures fault { IfNone result (Keeps (W.contents writer.old) (W.contents writer.new)) }
+{
+    for _ in 0..u64::MAX {
+        match writer.write(bytes) {
+            Ok(count) => return Some(count),
+            Err(error) => {
+                if !is_interrupted(&error) {
+                    return None;
+                }
+            }
+        }
+    }
+    None
+}
+
+fn is_interrupted(error: &io::Error) -> bool {
+    error.kind() == ErrorKind::Interrupted
+}
+
+impl<R: Read> Input for Plain<R> {
+    ghost to_come = { λ p. R.remaining p.inner };
+
+    ghost read_fault = { λ p. p.read_fault };
+
+    ghost reads = { λ p. p.reads };
+
+    fn read(&mut self, buffer: &mut [u8]) -> Result<usize, ReadFault> {
+        self.reads = self.reads.saturating_add(1);
+        if let Some(fault) = self.read_fault {
+            return Err(fault);
+        }
+        match read_once(&mut self.inner, buffer) {
+            Some(count) => Ok(count),
+            None => {
+                self.read_fault = Some(ReadFault::Device);
+                Err(ReadFault::Device)
+            }
+        }
+    }
+}
+
+impl<W: Write> Output for Plain<W> {
+    ghost taken = { λ p. W.contents p.inner };
+
+    ghost write_fault = { λ p. p.write_fault };
+
+    fn write(&mut self, bytes: &[u8]) -> Result<usize, WriteFault> {
+        if let Some(fault) = self.write_fault {
+            return Err(fault);
+        }
+        let Some(count) = write_once(&mut self.inner, bytes) else {
+            self.write_fault = Some(WriteFault::Device);
+            return Err(WriteFault::Device);
+        };
+        if count == 0 && !bytes.is_empty() {
+            self.write_fault = Some(WriteFault::Zero);
+            return Err(WriteFault::Zero);
+        }
+        Ok(count)
+    }
+}

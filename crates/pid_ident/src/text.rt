@@ -1,0 +1,67 @@
+//! Notes, comments and reasons.
+ghost use Rattle.std.specs.Prelude.{◌≡◌, ◌↔◌, false, IsTrue, IfOk, IsErrOf};
+ghost use Rattle.pid_ident.specs.Words.{is_text as text_test};
+
+use crate::bytes::are_printed;
+use crate::word_fault::WordFault;
+use std::alloc::{AllocError, Global};
+use std::marker::Model;
+
+/// A note, a comment or a reason: text of at most 4,000 bytes that holds no control byte but tabs. It may be empty.
+#[derive(Debug, Drop)]
+pub struct Text {
+    text: String,
+}
+
+impl Model for Text {
+    ghost use Rattle.std.specs.Prelude.{ℕ, List, string_bytes, IsTrue};
+    ghost use Rattle.pid_ident.specs.Words.{is_text};
+
+    ghost Value = { List ℕ };
+
+    ghost view = { λ word. string_bytes word.text };
+
+    ghost invariant = { λ word. IsTrue (is_text (string_bytes word.text)) };
+}
+
+impl Text {
+    /// The text as a text, kept byte for byte.
+    pub fn of(alloc: Global, text: &str) -> Result<Text, WordFault>
+        ensures ok { IfOk result (λ word. word ≡ text.now) }
+        ensures bad { IsErrOf result WordFault.Bad ↔ (text_test text.now ≡ false) }
+    {
+        if !is_text(text) {
+            return Err(WordFault::Bad);
+        }
+        Ok(Text {
+            text: String::from_str(alloc, text)?,
+        })
+    }
+
+    pub fn as_str(&self) -> &str
+        ensures text { result.now ≡ self.now }
+        ensures checked { IsTrue (text_test self.now) }
+    {
+        self.text.as_str()
+    }
+
+    /// The same text once more.
+    pub fn copy(&self) -> Result<Text, AllocError>
+        ensures { IfOk result (λ word. word ≡ self.now) }
+    {
+        Ok(Text {
+            text: self.text.clone()?,
+        })
+    }
+}
+
+/// Whether a text may be a note, a comment or a reason.
+pub fn is_text(text: &str) -> bool
+    ensures { result ≡ text_test text.now }
+{
+    let bytes = text.as_bytes();
+    if bytes.len() > 4000 {
+        return false;
+    }
+    are_printed(bytes)
+}
