@@ -1,0 +1,3 @@
+pub mod Feeding
+pub mod Tidying
+pub mod Going

@@ -1,0 +1,9 @@
+use Rattle.std.proofs.Common.{ℕ, ◌+◌, ◌-◌, ◌≤◌}
+use Rattle.pid_cli.proofs.Feeding.{Holds, HasRead}
+use Rattle.pid_cli.proofs.pieces.read_text.Given as goal
+
+abbrev pub invariant-loop-length : goal.invariant-loop-length
+invariant-loop-length g l = (read : HasRead (g.I.Input.to_come l.fn.input) (g.I.Input.to_come l.input) l.length) × Holds g.R.PieceReader.took l.reader l.refusal read.front × (l.length ≤ 4210688)
+
+abbrev pub decreases-loop-length : goal.decreases-loop-length
+decreases-loop-length g l = 4194305 - l.length

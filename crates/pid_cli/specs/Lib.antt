@@ -1,0 +1,6 @@
+pub mod TextEnds
+pub mod Judgements
+pub mod InputEnds
+pub mod Told
+pub mod Tidied
+pub mod Checked

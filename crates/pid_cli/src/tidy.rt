@@ -1,0 +1,54 @@
+//! The canonical text of what an input gives.
+ghost use Rattle.std.specs.Prelude.{◌≡◌, ◌⊎◌, ℕ, List, IsSome, IfSome, Err};
+ghost use Rattle.pid_reader.specs.Reading.{Reads};
+ghost use Rattle.pid_cli.specs.InputEnds.{IsRead};
+ghost use Rattle.pid_cli.specs.Tidied.{IsTidied, PrintsNothing};
+
+use crate::pieces::{InputEnd, read_text};
+use crate::text_end::TextEnd;
+use crate::told::tell_unread;
+use pid_ident::{Input, Output};
+use pid_reader::Feeder;
+use pid_tree::{Tree, write_canonical};
+use std::alloc::Global;
+
+/// Writes the canonical text of what the input gives, or the line of its fault to `faults`.
+///
+/// A fault of the input or of a writer is told by the end alone. Nothing is printed of a text that has a fault. Once the
+/// input is past 4,194,304 bytes, no more is read.
+pub fn tidy<I: Input, O: Output, F: Output>(
+    alloc: Global,
+    input: &mut I,
+    output: &mut O,
+    faults: &mut F,
+) -> TextEnd
+    ensures tidied { IfSome (I.to_come input.old) (λ text.
+        IsTidied result text (record { output = O.taken output.old; output_after = O.taken output.new; faults = F.taken faults.old; faults_after = F.taken faults.new })) }
+    ensures read_fault { result ≡ TextEnd.ReadFault → IsSome (I.read_fault input.new) }
+    ensures write_fault { result ≡ TextEnd.WriteFault → IsSome (O.write_fault output.new) ⊎ IsSome (F.write_fault faults.new) }
+    ensures nothing_printed { PrintsNothing result (O.taken output.old) (O.taken output.new) }
+{
+    let read = read_text(input, Feeder::new(alloc));
+    print_read(read, output, faults)
+}
+
+// Prints the tree that was read, or tells why there is none.
+fn print_read<O: Output, F: Output>(
+    read: Result<Tree, InputEnd>,
+    output: &mut O,
+    faults: &mut F,
+) -> TextEnd
+    ensures tidied { (text : List ℕ) → IsRead Reads read text →
+        IsTidied result text (record { output = O.taken output.old; output_after = O.taken output.new; faults = F.taken faults.old; faults_after = F.taken faults.new }) }
+    ensures read_fault { result ≡ TextEnd.ReadFault → read ≡ Err InputEnd.ReadFault }
+    ensures write_fault { result ≡ TextEnd.WriteFault → IsSome (O.write_fault output.new) ⊎ IsSome (F.write_fault faults.new) }
+    ensures nothing_printed { PrintsNothing result (O.taken output.old) (O.taken output.new) }
+{
+    match read {
+        Ok(tree) => match write_canonical(&tree, output) {
+            Ok(()) => TextEnd::Done,
+            Err(_) => TextEnd::WriteFault,
+        },
+        Err(end) => tell_unread(end, faults),
+    }
+}

@@ -1,0 +1,161 @@
+use super::*;
+use std::io;
+use std::io::{ErrorKind, Read};
+use std::test::Fail;
+
+#[test]
+fn names_are_kept(rt: HostRuntime) -> Result<(), Fail> {
+    let longest = "a".repeat(rt.alloc(), 1000)?;
+    for word in ["a\tb #  ", "Intel Corporation", "Société", longest.as_str()] {
+        let name = Name::of(rt.alloc(), word)?;
+        assert_eq!(rt; name.as_str(), word);
+        assert_eq!(rt; name.copy()?.as_str(), word);
+    }
+    let longer = "a".repeat(rt.alloc(), 1001)?;
+    for word in ["", " a", "\ta", "a\nb", "a\u{7f}", longer.as_str()] {
+        assert!(rt;
+            matches!(Name::of(rt.alloc(), word), Err(WordFault::Bad)),
+            "{word:?}"
+        );
+    }
+    Ok(())
+}
+
+#[test]
+fn texts_are_kept(rt: HostRuntime) -> Result<(), Fail> {
+    let longest = "a".repeat(rt.alloc(), 4000)?;
+    for word in ["", " seen\t", longest.as_str()] {
+        let text = Text::of(rt.alloc(), word)?;
+        assert_eq!(rt; text.as_str(), word);
+        assert_eq!(rt; text.copy()?.as_str(), word);
+    }
+    let longer = "a".repeat(rt.alloc(), 4001)?;
+    for word in ["a\nb", longer.as_str()] {
+        assert!(rt;
+            matches!(Text::of(rt.alloc(), word), Err(WordFault::Bad)),
+            "{word:?}"
+        );
+    }
+    Ok(())
+}
+
+#[test]
+fn accounts_and_keys_are_kept(rt: HostRuntime) -> Result<(), Fail> {
+    let longest = "k".repeat(rt.alloc(), 64)?;
+    for word in ["root", "alice-2", "0", "abcdefghijklmnopqrstuvwxyz012345"] {
+        let account = Account::of(rt.alloc(), word)?;
+        assert_eq!(rt; account.as_str(), word);
+        assert_eq!(rt; account.copy()?.as_str(), word);
+    }
+    for word in ["", "Root", "a b", "abcdefghijklmnopqrstuvwxyz0123456"] {
+        assert!(rt;
+            matches!(Account::of(rt.alloc(), word), Err(WordFault::Bad)),
+            "{word:?}"
+        );
+    }
+    for word in ["k1", "!~", longest.as_str()] {
+        let key = Key::of(rt.alloc(), word)?;
+        assert_eq!(rt; key.as_str(), word);
+        assert_eq!(rt; key.copy()?.as_str(), word);
+    }
+    let longer = "k".repeat(rt.alloc(), 65)?;
+    for word in ["", "a b", "é", longer.as_str()] {
+        assert!(rt;
+            matches!(Key::of(rt.alloc(), word), Err(WordFault::Bad)),
+            "{word:?}"
+        );
+    }
+    Ok(())
+}
+
+const PATHS: [&str; 7] = [
+    "PC/8086",
+    "PC/8086/1237",
+    "PC/8086/1237/1af41100",
+    "PD/01",
+    "PD/01/01",
+    "PD/01/01/80",
+    "PS/1af4/1100",
+];
+
+#[test]
+fn paths_and_their_texts(rt: HostRuntime) -> Result<(), Fail> {
+    for text in PATHS {
+        let path = Path::parse(text).ok_or("no path")?;
+        assert_eq!(rt; path.path_text(rt.alloc())?.as_str(), text);
+    }
+    for text in [
+        "",
+        "PC",
+        "PC/",
+        "PC/80A6",
+        "PC/8086/",
+        "PC/8086/1237/1af4",
+        "PD/0101",
+        "PS/1af4",
+        "PC/8086/1237/1af41100/",
+        "pc/8086",
+    ] {
+        assert!(rt; Path::parse(text).is_none(), "{text}");
+    }
+    Ok(())
+}
+
+// Each call is interrupted once, and then gives one byte.
+#[derive(Drop)]
+struct Hiccups<'a> {
+    rest: &'a [u8],
+    interrupted: bool,
+}
+
+impl Read for Hiccups<'_> {
+    fn read(&mut self, buf: &mut [u8]) -> io::Result<usize> {
+        self.interrupted = !self.interrupted;
+        if self.interrupted {
+            return Err(io::Error::from(ErrorKind::Interrupted));
+        }
+        let Some((first, others)) = self.rest.split_first() else {
+            return Ok(0);
+        };
+        if buf.is_empty() {
+            return Ok(0);
+        }
+        buf[0] = *first;
+        self.rest = others;
+        Ok(1)
+    }
+}
+
+#[test]
+fn an_interrupted_read_is_made_again(rt: HostRuntime) -> Result<(), Fail> {
+    let mut input = Plain::new(Hiccups {
+        rest: b"ab",
+        interrupted: false,
+    });
+    let mut buffer = [0u8; 8];
+    assert_eq!(rt; input.read(&mut buffer)?, 1);
+    assert_eq!(rt; buffer[0], b'a');
+    assert_eq!(rt; input.read(&mut buffer)?, 1);
+    assert_eq!(rt; input.read(&mut buffer)?, 0);
+    Ok(())
+}
+
+#[test]
+fn a_writer_fails_in_mid_stream(rt: HostRuntime) -> Result<(), Fail> {
+    for calls in 0..4u64 {
+        for fault in [WriteFault::Device, WriteFault::Zero] {
+            let mut out = FaultyOutput::new(rt.alloc(), 2).failing_after(calls, fault);
+            let parts: [&[u8]; 3] = [b"abc", b"", b"defg"];
+            assert_eq!(rt; write_parts(&mut out, &parts), Err(fault));
+            let whole: [&[u8]; 4] = [b"", b"ab", b"abc", b"abcde"];
+            assert_eq!(rt; out.taken.as_slice(), whole[calls as usize]);
+        }
+    }
+    let mut out = FaultyOutput::new(rt.alloc(), 2);
+    write_all(&mut out, b"abc")?;
+    assert_eq!(rt; out.taken.as_slice(), b"abc".as_slice());
+    let mut plain = Plain::new(Vec::new(rt.alloc()));
+    write_all(&mut plain, b"abc")?;
+    assert_eq!(rt; plain.into_inner().as_slice(), b"abc".as_slice());
+    Ok(())
+}

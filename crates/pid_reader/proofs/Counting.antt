@@ -1,0 +1,60 @@
+-- How many entries a text has that is not refused.
+use Rattle.std.proofs.Common.{◌≡◌, ℕ, ◌+◌, ◌<◌, ◌≤◌, ◌^◌, ◌-◌, Bool, true, false, cond, ◌&&◌, leb, List, [], ◌∷◌, ◌++◌, length, Option, Some, None, Result, Ok, Err, refl, sym, ap, subst, ◌∙◌, arith, inl, inr}
+use mathlib.Core.List.{reverse_aux}
+use mathlib.Core.Bool.{true≢false}
+use Rattle.std.specs.Prelude.{is_some, min, reverse, IfErr, OnOk}
+use Rattle.std.proofs.lemmas.Bool.Decides.{nat_tests}
+use Rattle.pid_reader.specs.declared.refusal.ReadRefusal.{ReadRefusal}
+use Rattle.pid_reader.specs.declared.refusal.ReadRefusal.TheVariants.{TooManyEntries}
+use Rattle.pid_reader.specs.declared.sink.CutEnd.{CutEnd}
+use Rattle.pid_reader.specs.declared.sink.CutEnd.TheVariants.{Refused, Fault}
+use Rattle.pid_reader.specs.declared.counter.Counter.{Counter}
+use Rattle.pid_reader.specs.declared.counter.Never.{Never}
+use Rattle.pid_reader.specs.declared.entry_counter.EntryCounter.{EntryCounter}
+use Rattle.pid_reader.specs.Lines.{lines_of}
+use Rattle.pid_reader.specs.LookingBack.{Item, is_entry, path_at, name_at, entries_back}
+use Rattle.pid_reader.specs.Faults.{fault_of}
+use Rattle.pid_reader.specs.Reading.{history_of, ENTRIES, refused_at, refused_from, refused, refusal_of, entries_of}
+use Rattle.pid_reader.specs.WholeLines.{whole_lines}
+use Rattle.pid_reader.specs.Refusals.{refusal_at, IsRefusal}
+use Rattle.pid_reader.specs.Sinks.{Took, Ends}
+use Rattle.pid_reader.specs.Cutters.{Holds}
+use Rattle.pid_reader.specs.Counters.{Counts}
+use Rattle.pid_reader.specs.EntryCounters.{CountsText}
+use Rattle.pid_reader.proofs.Feeding.{good_cases, good_at, entries-good}
+
+abbrev item : List ℕ → List ℕ → List Item
+item path name = (path, name) ∷ []
+
+room : (b : Bool) (n : ℕ) → cond (b && leb 100000 n) (Some TooManyEntries) None ≡ None → b ≡ true → n < 100000
+room true n h e = elim (leb 100000 n) as (λ t. leb 100000 n ≡ t → cond t (Some TooManyEntries) None ≡ None → n < 100000) [
+  | true ↦ λ f x. absurd (true≢false (ap is_some x))
+  | false ↦ λ f x. grind (arith, nat_tests)
+] refl h
+room false n h e = absurd (true≢false (sym e))
+
+few_more : (earlier : List (List ℕ)) (line : List ℕ) → refusal_at earlier line ≡ None → length (entries_back earlier) ≤ 100000 → length (entries_back (line ∷ earlier)) ≤ 100000
+few_more earlier line ok few =
+    let plain : cond (is_entry earlier line && leb ENTRIES (length (entries_back earlier))) (Some TooManyEntries) None ≡ None = ap (refused_at earlier line) (sym (good_at earlier line ok)) ∙ ok in
+    elim (is_entry earlier line) as (λ b. is_entry earlier line ≡ b → length (cond b (item (path_at earlier line) (name_at earlier line)) [] ++ entries_back earlier) ≤ 100000) [
+      | true ↦ λ e. let r : length (entries_back earlier) < 100000 = room (is_entry earlier line) (length (entries_back earlier)) plain e in omega arith
+      | false ↦ λ e. few
+    ] refl
+
+pub few_from : (earlier lines : List (List ℕ)) → refused_from earlier lines ≡ None → length (entries_back earlier) ≤ 100000 → length (entries_back (reverse_aux lines earlier)) ≤ 100000
+few_from earlier [] h few = few
+few_from earlier (line ∷ lines) h few =
+    let p = good_cases (refusal_at earlier line) (refused_from (line ∷ earlier) lines) h in
+    few_from (line ∷ earlier) lines p.1 (few_more earlier line p.0 few)
+
+took_count : (start new : Counter) (items : List Item) → start.count ≡ 0 → length items ≤ 100000 → Took Counts start items new → new.count ≡ length items
+took_count start new [] zero few t = ap (λ (s : Counter). s.count) t ∙ zero
+took_count start new (x ∷ xs) zero few t =
+    let before : t.0.count ≡ length xs = took_count start t.0 xs zero (omega arith) t.1 in
+    let step : new.count ≡ min (t.0.count + 1) (2 ^ 64 - 1) = t.2 in
+    omega arith
+
+pub count_is : (text : List ℕ) (start new : Counter) → start.count ≡ 0 → (refused text ≡ None) × Took Counts start (entries_of (lines_of text)) new → new.count ≡ length (entries_back (history_of text))
+count_is text start new zero h =
+    let same : entries_of (lines_of text) ≡ entries_back (history_of text) = entries-good (lines_of text) h.0 in
+    took_count start new (entries_back (history_of text)) zero (few_from [] (lines_of text) h.0 (omega arith)) (subst (λ es. Took Counts start es new) same h.1)

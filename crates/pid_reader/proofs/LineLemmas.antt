@@ -1,0 +1,54 @@
+-- The bytes of a line.
+use Rattle.std.proofs.Common.{◌≡◌, ◌≢◌, ℕ, zero, suc, ◌-◌, ◌≤◌, Bool, true, false, cond, eqb, ◌&&◌, List, [], ◌∷◌, length, get_or, take, Some, refl, sym, ap, subst, ◌∙◌, arith}
+use Rattle.std.specs.Str.{is_utf8, IsUtf8}
+use Rattle.pid_ident.specs.Bytes.{is_empty}
+use Rattle.pid_ident.specs.declared.line_kind.LineKind.TheVariants.{BadName}
+use Rattle.pid_reader.specs.EntryLines.{name_fault}
+use Rattle.std.proofs.lemmas.Str.{IsUtf8-from_is_utf8}
+use Rattle.pid_reader.specs.Marks.{depth, body}
+use Rattle.std.proofs.lemmas.Bool.Decides.{nat_tests}
+use Rattle.pid_reader.specs.Columns.{is_hex, begins_with_id}
+use Rattle.pid_reader.specs.Lines.{drop_cr}
+
+and_false : (b : Bool) → (b && false) ≡ false
+and_false true = refl
+and_false false = refl
+
+-- too few bytes for digits and a blank
+pub short_id : (n : ℕ) (l : List ℕ) → length l ≤ n → begins_with_id n l ≡ false
+short_id n [] h = refl
+short_id zero (b ∷ l) h = absurd (omega arith)
+short_id (suc n) (b ∷ l) h = ap (λ t. is_hex b && t) (short_id n l (omega arith)) ∙ and_false (is_hex b)
+
+pub drop_cr-cr : (l : List ℕ) → 1 ≤ length l → get_or l (length l - 1) 0 ≡ 13 → drop_cr l ≡ take (length l - 1) l
+drop_cr-cr [] h e = absurd (omega arith)
+drop_cr-cr (b ∷ []) h e = let b_is : b ≡ 13 = e in rw b_is refl
+drop_cr-cr (b ∷ c ∷ l) h e =
+    let one : suc (suc (length l)) - 1 ≡ suc (length l) = omega arith in
+    let two : suc (length l) - 1 ≡ length l = omega arith in
+    let last : get_or (c ∷ l) (suc (length l) - 1) 0 ≡ 13 = rw two (subst (λ (n : ℕ). get_or (b ∷ c ∷ l) n 0 ≡ 13) one e) in
+    let rest : drop_cr (c ∷ l) ≡ take (length l) (c ∷ l) = subst (λ (n : ℕ). drop_cr (c ∷ l) ≡ take n (c ∷ l)) two (drop_cr-cr (c ∷ l) (omega arith) last) in
+    ap (λ t. b ∷ t) rest ∙ ap (λ n. take n (b ∷ c ∷ l)) (sym one)
+
+pub drop_cr-other : (l : List ℕ) → (get_or l (length l - 1) 0 ≡ 13 → ⊥) → drop_cr l ≡ l
+drop_cr-other [] h = refl
+drop_cr-other (b ∷ []) h = let other : b ≢ 13 = h in grind (arith, nat_tests)
+drop_cr-other (b ∷ c ∷ l) h =
+    let one : suc (suc (length l)) - 1 ≡ suc (length l) = omega arith in
+    let two : suc (length l) - 1 ≡ length l = omega arith in
+    ap (λ t. b ∷ t) (drop_cr-other (c ∷ l) (λ e. h (subst (λ (n : ℕ). get_or (b ∷ c ∷ l) n 0 ≡ 13) (sym one) (subst (λ (n : ℕ). get_or (c ∷ l) n 0 ≡ 13) two e))))
+
+pub by_bool : (b : Bool) → (b ≡ true → ⊥) → b ≡ false
+by_bool true h = absurd (h refl)
+by_bool false h = refl
+
+pub not_utf8 : (bytes : List ℕ) → (IsUtf8 bytes → ⊥) → is_utf8 bytes ≡ false
+not_utf8 bytes none = by_bool (is_utf8 bytes) (λ e. none (IsUtf8-from_is_utf8 bytes e))
+
+-- of depth 0, no tab leads
+pub body_flat : (line : List ℕ) → depth line ≡ 0 → body line ≡ line
+body_flat [] h = refl
+body_flat (b ∷ bs) h = elim (eqb b 9) as (λ t. cond t (suc (depth bs)) 0 ≡ 0 → cond t (body bs) (b ∷ bs) ≡ b ∷ bs) [ true ↦ λ e. absurd (omega arith) | false ↦ λ e. refl ] h
+
+pub bad_bytes : (bytes : List ℕ) → is_empty bytes ≡ false → is_utf8 bytes ≡ false → name_fault bytes ≡ Some BadName
+bad_bytes bytes some text = rw (some, text) refl

@@ -1,0 +1,35 @@
+-- What a cutter holds of the text that it was fed.
+use Rattle.std.specs.Prelude.{◌≡◌, ℕ, List, [], ◌∷◌, reverse, Some, None, Result, Ok, Err}
+use Rattle.pid_reader.specs.declared.refusal.ReadRefusal.{ReadRefusal}
+use Rattle.pid_reader.specs.declared.refusal.ReadRefusal.TheVariants.{Memory}
+use Rattle.pid_reader.specs.declared.cutter.Cutter.{Cutter}
+use Rattle.pid_reader.specs.declared.sink.CutEnd.{CutEnd}
+use Rattle.pid_reader.specs.declared.sink.CutEnd.TheVariants.{Refused, Fault}
+use Rattle.pid_reader.specs.LookingBack.{Item, entry_of}
+use Rattle.pid_reader.specs.Reading.{refusal_of}
+use Rattle.pid_reader.specs.WholeLines.{open_part, whole_lines}
+use Rattle.pid_reader.specs.Refusals.{refusal_at, IsRefusal}
+use Rattle.pid_reader.specs.Progress.{Shows}
+use Rattle.pid_reader.specs.Sinks.{Took}
+
+-- the cutter was fed this text, whose whole lines weren't refused
+pub record Holds (c : Cutter) (text : List ℕ) : Type 0 where
+  pub running : c.stopped ≡ None
+  pub open_line : c.line.items ≡ open_part text
+  pub good : refusal_of (whole_lines text) ≡ None
+  pub shown : Shows c.progress (reverse (whole_lines text))
+
+-- the cutter gives this refusal ever after
+abbrev pub IsStopped : Cutter → ReadRefusal → Type 0
+IsStopped c r = c.stopped ≡ Some r
+
+-- the refusal that is given ever after an end
+abbrev pub left_by : {F : Type 0} → CutEnd F → ReadRefusal
+left_by (Refused r) = r
+left_by (Fault f) = Memory
+
+-- what became of the sink at one more line
+abbrev pub LineEnds : {S F X : Type 0} → (S → Item → S → Type 0) → (S → Item → F → S → Type 0) → Result X (CutEnd F) → List (List ℕ) → List ℕ → S → S → Type 0
+LineEnds takes faults (Ok x) earlier line old new = (refusal_at earlier line ≡ None) × Took takes old (entry_of earlier line) new
+LineEnds takes faults (Err (Refused r)) earlier line old new = IsRefusal r (refusal_at earlier line) × (new ≡ old)
+LineEnds takes faults (Err (Fault f)) earlier line old new = (refusal_at earlier line ≡ None) × (item : Item) × (entry_of earlier line ≡ item ∷ []) × faults old item f new

@@ -1,0 +1,33 @@
+-- What a feeder holds of the text that it was fed, and why it gives up.
+use Rattle.std.specs.Prelude.{◌≡◌, ℕ, List, Option}
+use Rattle.std.specs.FinMap.{empty}
+use Rattle.pid_reader.specs.declared.refusal.ReadRefusal.{ReadRefusal}
+use Rattle.pid_reader.specs.declared.sink.CutEnd.{CutEnd}
+use Rattle.pid_reader.specs.declared.sink.CutEnd.TheVariants.{Refused, Fault}
+use Rattle.pid_reader.specs.declared.tree_sink.TreeFault.{TreeFault}
+use Rattle.pid_reader.specs.declared.tree_sink.TreeFault.TheVariants.{ParentMissing, Memory}
+use Rattle.pid_reader.specs.declared.tree_sink.TreeSink.{TreeSink}
+use Rattle.pid_reader.specs.declared.feeder.Feeder.{Feeder}
+use Rattle.pid_reader.specs.Reading.{entries_of}
+use Rattle.pid_reader.specs.WholeLines.{whole_lines}
+use Rattle.pid_reader.specs.Refusals.{IsRefusal}
+use Rattle.pid_reader.specs.Sinks.{Took}
+use Rattle.pid_reader.specs.Cutters.{Holds, IsStopped}
+use Rattle.pid_reader.specs.TreeSinks.{SetsItem}
+
+-- the feeder was fed this text, whose whole lines weren't refused
+pub record Feeds (f : Feeder) (text : List ℕ) : Type 0 where
+  pub holds : Holds f.cutter text
+  pub start : TreeSink
+  pub empty_tree : start.tree ≡ empty
+  pub took : Took SetsItem start (entries_of (whole_lines text)) f.sink
+
+-- the feeder gives this refusal ever after
+abbrev pub GaveUp : Feeder → ReadRefusal → Type 0
+GaveUp f r = IsStopped f.cutter r
+
+-- the text's refusal, or want of memory: no parent is missing
+abbrev pub IsTreeEnd : CutEnd TreeFault → Option ReadRefusal → Type 0
+IsTreeEnd (Refused r) refusal = IsRefusal r refusal
+IsTreeEnd (Fault ParentMissing) refusal = ⊥
+IsTreeEnd (Fault Memory) refusal = Unit {0}

@@ -1,0 +1,28 @@
+//! Counting entries.
+
+use crate::sink::{Entry, Sink};
+
+/// Counts entries, up to the greatest count.
+#[derive(Clone, Copy, Debug, PartialEq, Eq)]
+pub struct Counter {
+    pub count: u64,
+}
+
+/// A fault that never comes.
+#[derive(Clone, Copy, Debug)]
+pub enum Never {}
+
+impl Sink for Counter {
+    ghost use Rattle.pid_reader.specs.Counters.{Counts};
+
+    type Fault = Never;
+
+    ghost takes = { Counts };
+
+    ghost faults = { λ s item f t. ⊥ };
+
+    fn entry(&mut self, _entry: &Entry<'_>) -> Result<(), Never> {
+        self.count = self.count.saturating_add(1);
+        Ok(())
+    }
+}

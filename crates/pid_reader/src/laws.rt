@@ -1,0 +1,28 @@
+//! Laws of the definitions, over all texts and all trees.
+ghost use Rattle.std.specs.Prelude.{◌≡◌, ◌↔◌, ◌++◌, ◌≤◌, List, ℕ, None, Some, length};
+ghost use Rattle.pid_ident.specs.Trees.{TreeMap, IsTree};
+ghost use Rattle.pid_tree.specs.Printing.{print};
+ghost use Rattle.pid_reader.specs.LookingBack.{entries_back};
+ghost use Rattle.pid_reader.specs.Reading.{AreGood, Reads, history_of, refused, refusal_of};
+ghost use Rattle.pid_reader.specs.WholeLines.{whole_lines};
+ghost use Rattle.pid_reader.specs.declared.refusal.ReadRefusal.{ReadRefusal};
+
+/// A printed tree reads back to itself, and to no other tree.
+pub fn printed_trees_read_back()
+    ensures { (t s : TreeMap) → IsTree t → (Reads (print t) s ↔ (s ≡ t)) }
+{}
+
+/// What a text without faults says is a tree.
+pub fn texts_read_to_trees()
+    ensures { (text : List ℕ) (t : TreeMap) → Reads text t → IsTree t }
+{}
+
+/// A refusal of the whole lines of a text, those whose LF has come, is the refusal of every text that begins with it.
+pub fn refusals_stand()
+    ensures { (text more : List ℕ) (r : ReadRefusal) → refusal_of (whole_lines text) ≡ Some r → refused (text ++ more) ≡ Some r }
+{}
+
+/// A text is refused nowhere exactly where no line has a fault and it has at most 100,000 entries.
+pub fn good_texts_are_read()
+    ensures { (text : List ℕ) → (refused text ≡ None) ↔ (AreGood (history_of text) × (length (entries_back (history_of text)) ≤ 100000)) }
+{}

@@ -1,0 +1,25 @@
+//! Why a text is not read.
+use pid_ident::LineKind;
+use thiserror::Error;
+
+/// Why a text of PCI identifiers is not read.
+#[derive(Clone, Copy, Debug, PartialEq, Eq, Error)]
+pub enum ReadRefusal {
+    /// The first faulty line, counted from 1, and what is wrong with it.
+    #[error("a line has a fault")]
+    Line { line: usize, kind: LineKind },
+    /// The text has more than 100,000 entries.
+    #[error("too many entries")]
+    TooManyEntries,
+    #[error("no memory")]
+    Memory,
+}
+
+/// The first line that has a fault of its own.
+#[derive(Clone, Copy, Debug, PartialEq, Eq, Error)]
+#[error("a line has a fault")]
+pub struct LineFault {
+    /// Its number, counted from 1.
+    pub line: usize,
+    pub kind: LineKind,
+}

@@ -1,0 +1,41 @@
+//! What takes the entries of a text.
+ghost use Rattle.std.specs.Prelude.{◌≡◌, IsTrue, OnOk, IfErr};
+ghost use Rattle.pid_ident.specs.PathTexts.{path_text};
+ghost use Rattle.pid_ident.specs.Words.{is_name};
+
+use crate::refusal::ReadRefusal;
+use pid_ident::Path;
+
+/// An entry of a text: the number of its line, counted from 1, its path and its name.
+#[derive(Clone, Copy, Debug)]
+pub struct Entry<'a> {
+    pub line: usize,
+    pub path: Path,
+    pub name: &'a str,
+}
+
+/// What takes entries one by one, and may fault.
+pub trait Sink {
+    ghost use Rattle.std.specs.Prelude.{List, ℕ};
+
+    type Fault;
+
+    /// The sink before, an entry (the text of its path, its name), and the sink after.
+    ghost takes: { Self → List ℕ × List ℕ → Self → Type 0 };
+
+    /// The sink before, an entry, the fault, and the sink after.
+    ghost faults: { Self → List ℕ × List ℕ → Self.Fault → Self → Type 0 };
+
+    /// Takes an entry.
+    fn entry(&mut self, entry: &Entry<'_>) -> Result<(), Self::Fault>
+        requires { IsTrue (is_name entry.now.name.now) }
+        ensures taken { OnOk result (takes self.old (path_text entry.now.path, entry.now.name.now) self.new) }
+        ensures fault { IfErr result (λ f. faults self.old (path_text entry.now.path, entry.now.name.now) f self.new) };
+}
+
+/// Why no more of a text is read: the text is refused, or the sink faulted.
+#[derive(Drop)]
+pub enum CutEnd<F> {
+    Refused(ReadRefusal),
+    Fault(F),
+}

@@ -1,0 +1,4 @@
+pub mod Items
+pub mod Parents
+pub mod Between
+pub mod Printing

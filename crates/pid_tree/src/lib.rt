@@ -1,0 +1,12 @@
+//! A tree of names by their paths, and its canonical text.
+#![tactic(auto)]
+
+mod print;
+#[cfg(test)]
+mod tests;
+mod tree;
+
+pub use print::{
+    opened_block, write_behind, write_block, write_canonical, write_header, write_item,
+};
+pub use tree::{Tree, TreeRefusal};

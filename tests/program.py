@@ -1,0 +1,51 @@
+"""The program under test, and the counting of cases."""
+import os
+import subprocess
+
+TOP = os.path.dirname(os.path.dirname(os.path.abspath(__file__)))
+PROGRAM = os.path.join(TOP, "pciids")
+REAL_FILE = "/usr/share/misc/pci.ids"
+HEADER = b"# PCI ID registry\n"
+
+
+class Ran:
+    def __init__(self, done):
+        self.out = done.stdout
+        self.err = done.stderr
+        self.status = done.returncode
+
+
+def tidy(text):
+    """What the program makes of a text on its standard input."""
+    return Ran(subprocess.run([PROGRAM], input=text, stdout=subprocess.PIPE, stderr=subprocess.PIPE, timeout=60))
+
+
+class Cases:
+    def __init__(self):
+        self.passed = 0
+        self.failed = 0
+
+    def equal(self, name, got, want):
+        if got == want:
+            self.passed += 1
+            return
+        self.failed += 1
+        print(f"FAILED {name}\n  got  {short(got)}\n  want {short(want)}")
+
+    def printed(self, name, text, want):
+        """The text is tidied to this, with status 0."""
+        ran = tidy(text)
+        self.equal(name, (ran.out, ran.err, ran.status), (want, b"", 0))
+
+    def refused(self, name, text, fault_line):
+        """The text is refused with this line on standard error, status 1, and nothing is printed."""
+        ran = tidy(text)
+        self.equal(name, (ran.out, ran.err, ran.status), (b"", fault_line + b"\n", 1))
+
+    def skipped(self, name, why):
+        print(f"skipped {name}: {why}")
+
+
+def short(value):
+    text = repr(value)
+    return text if len(text) <= 400 else text[:200] + " .. " + text[-200:]

@@ -1,0 +1,27 @@
+"""The file of Debian's package pci.ids, against grep and against the program's own output."""
+import os
+import re
+import subprocess
+
+from program import HEADER, REAL_FILE, tidy
+
+
+def run(cases):
+    if not os.path.exists(REAL_FILE):
+        cases.skipped("the real file", "the package pci.ids is not installed")
+        return
+    with open(REAL_FILE, "rb") as file:
+        text = file.read()
+    # The file is sorted as the canonical text is, so this is that text without our own reader.
+    entries = subprocess.run(
+        ["grep", "-v", "-e", "^[[:space:]]*#", "-e", "^[[:space:]]*$", REAL_FILE], stdout=subprocess.PIPE, check=True
+    ).stdout
+    ran = tidy(text)
+    cases.equal("the real file: status", (ran.status, ran.err), (0, b""))
+    cases.equal("the real file: its entry lines behind the header", ran.out, HEADER + entries)
+    if re.search(rb"^#\s*Version: 2023\.04\.10", text, re.M):
+        cases.equal("version 2023.04.10: lines", ran.out.count(b"\n"), 35599)
+        cases.equal("version 2023.04.10: bytes", len(ran.out), 1339707)
+    cases.equal("the real file: tidied twice", tidy(ran.out).out, ran.out)
+    with_cr = tidy(text.replace(b"\n", b"\r\n"))
+    cases.equal("the real file with CR LF", with_cr.out, ran.out)
