@@ -2,12 +2,13 @@
 import fault_gallery
 import limits
 import lspci
+import memory
 import real_file
 import worked_rows
 from program import Cases
 
 cases = Cases()
-for part in (worked_rows, fault_gallery, limits, real_file, lspci):
+for part in (worked_rows, fault_gallery, limits, real_file, lspci, memory):
     before = cases.passed
     part.run(cases)
     print(f"{part.__name__}: {cases.passed - before} passed")

@@ -4,6 +4,8 @@
 mod check;
 mod pieces;
 mod readers;
+#[cfg(test)]
+mod tests;
 mod text_end;
 mod tidy;
 mod told;

@@ -1,17 +1,19 @@
 -- The order of numbers is the order of their digits.
-use Rattle.std.proofs.Common.{◌≡◌, ℕ, zero, suc, ◌+◌, ◌-◌, ◌*◌, ◌/◌, ◌%◌, ◌<◌, ◌≤◌, ◌^◌, Bool, true, false, cond, eqb, ltb, List, [], ◌∷◌, ◌++◌, Option, Some, None, refl, sym, ap, subst, ◌∙◌, arith, inl, inr}
+use Rattle.std.proofs.Common.{◌≡◌, ℕ, zero, suc, ◌+◌, ◌-◌, ◌*◌, ◌/◌, ◌%◌, ◌<◌, ◌≤◌, ◌^◌, Bool, true, false, cond, eqb, ltb, List, [], ◌∷◌, ◌++◌, Option, Some, None, length, refl, sym, ap, subst, ◌∙◌, arith, inl, inr}
 use Rattle.std.specs.declared.cmp.Ordering.{Ordering}
 use Rattle.std.specs.declared.cmp.Ordering.TheVariants.{Less, Equal, Greater}
 use Rattle.std.specs.Ordering.{nat_cmp, ordering_then, is_eq}
 use Rattle.std.specs.Cmp.Lexicographic.{slice_cmp}
 use Rattle.std.specs.Char.{digit_char}
+use Rattle.std.specs.Option.{option_cmp}
+use Rattle.std.specs.Prelude.{slice_get}
 use Rattle.std.specs.FinMap.{nat_cmp-IsAntisymmetric}
 use Rattle.std.proofs.lemmas.Bool.{cases_lt}
 use Rattle.std.proofs.lemmas.Bool.Decides.{nat_tests}
 use Rattle.pid_ident.specs.declared.path.Path.{Path}
 use Rattle.pid_ident.specs.declared.path.Path.TheVariants.{Vendor, Device, Subsystem, Class, Subclass, ProgIf, Generic}
 use Rattle.pid_ident.specs.PathTexts.{IsPath, path_text, path_cmp}
-use Rattle.pid_ident.specs.PathPlaces.{letter_of, numbers_of}
+use Rattle.pid_ident.specs.PathPlaces.{letter_of, numbers_of, rest_cmp}
 use Rattle.pid_ident.specs.Identifiers.{hex4, hex2}
 
 -- digits compare as what they stand for
@@ -150,3 +152,67 @@ equal_test v w = elim (cases_lt v w) [
 -- blocks are the same where their vendors are
 pub same_block : (v w : ℕ) → v < 2 ^ 16 → w < 2 ^ 16 → eqb v w ≡ is_eq (slice_cmp nat_cmp (hex4 v) (hex4 w))
 same_block v w p q = equal_test v w ∙ sym (ap is_eq (hex4_order v w p q [] [] ∙ then_equal (nat_cmp v w)))
+
+-- number after number: a missing one comes before every other
+abbrev tail : List ℕ → List ℕ
+tail [] = []
+tail (n ∷ ns) = ns
+
+slice_get-tail : (ns : List ℕ) (i : ℕ) → slice_get (tail ns) i ≡ slice_get ns (suc i)
+slice_get-tail [] i = refl
+slice_get-tail (n ∷ ns) i = refl
+
+abbrev by_place : ℕ → List ℕ → List ℕ → Ordering
+by_place zero ms ns = Equal
+by_place (suc k) ms ns = ordering_then (option_cmp nat_cmp (slice_get ms 0) (slice_get ns 0)) (by_place k (tail ms) (tail ns))
+
+by_place-nil : (k : ℕ) → by_place k [] [] ≡ Equal
+by_place-nil zero = refl
+by_place-nil (suc k) = by_place-nil k
+
+slice_cmp-by_place : (k : ℕ) (ms ns : List ℕ) → length ms ≤ k → length ns ≤ k → slice_cmp nat_cmp ms ns ≡ by_place k ms ns
+slice_cmp-by_place k [] [] p q = sym (by_place-nil k)
+slice_cmp-by_place zero [] (n ∷ ns) p q = absurd (omega arith)
+slice_cmp-by_place (suc k) [] (n ∷ ns) p q = refl
+slice_cmp-by_place zero (m ∷ ms) ns p q = absurd (omega arith)
+slice_cmp-by_place (suc k) (m ∷ ms) [] p q = refl
+slice_cmp-by_place (suc k) (m ∷ ms) (n ∷ ns) p q = ap (ordering_then (nat_cmp m n)) (slice_cmp-by_place k ms ns (omega arith) (omega arith))
+
+few : (p : Path) → length (numbers_of p) ≤ 4
+few (Vendor v) = omega arith
+few (Device v d) = omega arith
+few (Subsystem v d s e) = omega arith
+few (Class c) = omega arith
+few (Subclass c s) = omega arith
+few (ProgIf c s p) = omega arith
+few (Generic v d) = omega arith
+
+-- what stands at the front of a path
+pub record IsHead (p : Path) (letter first : ℕ) : Type 0 where
+  pub in_range : IsPath p
+  pub letter_is : letter ≡ letter_of p
+  pub first_is : Some first ≡ slice_get (numbers_of p) 0
+
+pub path_cmp-heads : (p q : Path) (a b c d : ℕ) → IsHead p a b → IsHead q c d → path_cmp p q ≡ ordering_then (ordering_then (nat_cmp a c) (nat_cmp b d)) (rest_cmp (numbers_of p) (numbers_of q))
+path_cmp-heads p q a b c d m n =
+    let ms = numbers_of p in
+    let ns = numbers_of q in
+    let first : option_cmp nat_cmp (slice_get ms 0) (slice_get ns 0) ≡ nat_cmp b d = λ i. option_cmp nat_cmp (sym m.first_is i) (sym n.first_is i) in
+    places_order p q m.in_range n.in_range
+    ∙ ap (ordering_then (nat_cmp (letter_of p) (letter_of q))) (slice_cmp-by_place 4 ms ns (few p) (few q))
+    ∙ rw (first, slice_get-tail (tail (tail ms)) 0, slice_get-tail (tail ms) 1, slice_get-tail (tail ms) 0, slice_get-tail ms 2, slice_get-tail ms 1, slice_get-tail ms 0, slice_get-tail (tail (tail ns)) 0, slice_get-tail (tail ns) 1, slice_get-tail (tail ns) 0, slice_get-tail ns 2, slice_get-tail ns 1, slice_get-tail ns 0, m.letter_is, n.letter_is, then_equal (option_cmp nat_cmp (slice_get ms 3) (slice_get ns 3))) refl
+    ∙ sym (then_assoc (nat_cmp a c) (nat_cmp b d) (rest_cmp ms ns))
+
+-- what decides at the front decides
+pub decided : (a b : Ordering) → is_eq a ≡ false → a ≡ ordering_then a b
+decided Less b h = refl
+decided Equal b h = absurd cc
+decided Greater b h = refl
+
+pub undecided : (a b : Ordering) → is_eq a ≡ true → b ≡ ordering_then a b
+undecided Less b h = absurd cc
+undecided Equal b h = refl
+undecided Greater b h = absurd cc
+
+pub path_cmp-by_head : (p q : Path) (a b c d : ℕ) (by_head by_letter by_first : Ordering) → IsHead p a b → IsHead q c d → by_letter ≡ nat_cmp a c → by_first ≡ nat_cmp b d → by_head ≡ ordering_then by_letter by_first → path_cmp p q ≡ ordering_then by_head (rest_cmp (numbers_of p) (numbers_of q))
+path_cmp-by_head p q a b c d by_head by_letter by_first m n l f h = path_cmp-heads p q a b c d m n ∙ sym (ap (λ o. ordering_then o (rest_cmp (numbers_of p) (numbers_of q))) (h ∙ (λ i. ordering_then (l i) (f i))))

@@ -1,12 +1,11 @@
 -- What the digits that are written say as bytes of a line.
-use Rattle.std.proofs.Common.{◌≡◌, ℕ, zero, suc, ◌+◌, ◌-◌, ◌/◌, ◌%◌, ◌<◌, ◌≤◌, Bool, true, false, cond, not, ◌&&◌, eqb, ltb, leb, List, [], ◌∷◌, ◌++◌, length, take, drop, map, refl, sym, ap, subst, ◌∙◌, arith, inl, inr}
-use Rattle.std.specs.Char.{digit_value, digit_char, to_ascii_lowercase}
+use Rattle.std.proofs.Common.{◌≡◌, ℕ, ◌/◌, ◌%◌, ◌<◌, true, false, eqb, arith, inl, inr}
+use Rattle.std.specs.Char.{digit_char, to_ascii_lowercase}
 use Rattle.std.proofs.lemmas.Bool.{cases_lt}
 use Rattle.std.proofs.lemmas.Bool.Decides.{nat_tests}
 use Rattle.pid_ident.specs.Bytes.{is_blank}
 use Rattle.pid_reader.specs.Columns.{is_hex}
 use Rattle.pid_reader.specs.Marks.{is_capital}
-use Rattle.pid_ident.specs.Identifiers.{hex4, hex2}
 
 -- a byte that is a lower-case hex digit
 pub record IsDigit (c : ℕ) : Type 0 where

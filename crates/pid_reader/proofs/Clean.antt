@@ -1,7 +1,7 @@
 -- What a line without a fault keeps, and the lines that it looks back at.
-use Rattle.std.proofs.Common.{◌≡◌, ℕ, zero, suc, ◌+◌, ◌<◌, ◌≤◌, Bool, true, false, cond, not, ◌&&◌, ◌||◌, eqb, ltb, leb, List, [], ◌∷◌, ◌++◌, length, Option, Some, None, refl, sym, ap, subst, ◌∙◌, arith}
+use Rattle.std.proofs.Common.{◌≡◌, ℕ, ◌≤◌, Bool, true, false, cond, not, ◌&&◌, ltb, List, [], ◌∷◌, ◌++◌, Option, Some, None, refl, sym, ap, subst, ◌∙◌, arith}
 use mathlib.Core.Bool.{false≢true, true≢false}
-use Rattle.std.specs.Prelude.{IsSome, is_some, is_none, find, codes, unwrap_or}
+use Rattle.std.specs.Prelude.{IsSome, is_some, unwrap_or}
 use Rattle.std.specs.FinMap.Entries.{find as value_at}
 use Rattle.std.specs.Ordering.{is_eq}
 use Rattle.std.proofs.lemmas.Bool.Decides.{nat_tests}
@@ -10,7 +10,7 @@ use Rattle.pid_ident.specs.declared.line_kind.LineKind.TheVariants.{NotUtf8, Too
 use Rattle.pid_reader.specs.Marks.{is_idle, depth}
 use Rattle.pid_reader.specs.Faults.{has, fault_of}
 use Rattle.pid_reader.specs.Reading.{AreGood}
-use Rattle.pid_reader.specs.LookingBack.{is_above, above, entries_back, entry_of, is_entry, path_at, name_at}
+use Rattle.pid_reader.specs.LookingBack.{is_above, above, entries_back, is_entry, path_at, name_at}
 use Rattle.pid_ident.specs.Trees.{text_cmp}
 
 cond_none : (b : Bool) (k : LineKind) (r : Option LineKind) → cond b (Some k) r ≡ None → (b ≡ false) × (r ≡ None)
@@ -55,7 +55,7 @@ pub record Nearest (n : ℕ) (earlier : List (List ℕ)) (line : List ℕ) : Typ
   pub told : (path : List ℕ) → IsToldBy (line ∷ before) path → IsToldBy earlier path
   pub same : (m : ℕ) → m ≤ n → above m (line ∷ before) ≡ above m earlier
 
-not_above : (line : List ℕ) (m n : ℕ) → m ≤ n → is_above n line ≡ false → is_above m line ≡ false
+pub not_above : (line : List ℕ) (m n : ℕ) → m ≤ n → is_above n line ≡ false → is_above m line ≡ false
 not_above line m n le h = elim (is_idle line) as (λ b. (not b && ltb (depth line) n) ≡ false → (not b && ltb (depth line) m) ≡ false) [
   | true ↦ λ _. refl
   | false ↦ λ h. grind (arith, nat_tests)

@@ -1,26 +1,17 @@
 -- How many entries a text has that is not refused.
-use Rattle.std.proofs.Common.{◌≡◌, ℕ, ◌+◌, ◌<◌, ◌≤◌, ◌^◌, ◌-◌, Bool, true, false, cond, ◌&&◌, leb, List, [], ◌∷◌, ◌++◌, length, Option, Some, None, Result, Ok, Err, refl, sym, ap, subst, ◌∙◌, arith, inl, inr}
+use Rattle.std.proofs.Common.{◌≡◌, ℕ, ◌+◌, ◌<◌, ◌≤◌, ◌^◌, ◌-◌, Bool, true, false, cond, ◌&&◌, leb, List, [], ◌∷◌, ◌++◌, length, Some, None, refl, sym, ap, subst, ◌∙◌, arith}
 use mathlib.Core.List.{reverse_aux}
 use mathlib.Core.Bool.{true≢false}
-use Rattle.std.specs.Prelude.{is_some, min, reverse, IfErr, OnOk}
+use Rattle.std.specs.Prelude.{is_some, min}
 use Rattle.std.proofs.lemmas.Bool.Decides.{nat_tests}
-use Rattle.pid_reader.specs.declared.refusal.ReadRefusal.{ReadRefusal}
 use Rattle.pid_reader.specs.declared.refusal.ReadRefusal.TheVariants.{TooManyEntries}
-use Rattle.pid_reader.specs.declared.sink.CutEnd.{CutEnd}
-use Rattle.pid_reader.specs.declared.sink.CutEnd.TheVariants.{Refused, Fault}
 use Rattle.pid_reader.specs.declared.counter.Counter.{Counter}
-use Rattle.pid_reader.specs.declared.counter.Never.{Never}
-use Rattle.pid_reader.specs.declared.entry_counter.EntryCounter.{EntryCounter}
 use Rattle.pid_reader.specs.Lines.{lines_of}
 use Rattle.pid_reader.specs.LookingBack.{Item, is_entry, path_at, name_at, entries_back}
-use Rattle.pid_reader.specs.Faults.{fault_of}
-use Rattle.pid_reader.specs.Reading.{history_of, ENTRIES, refused_at, refused_from, refused, refusal_of, entries_of}
-use Rattle.pid_reader.specs.WholeLines.{whole_lines}
-use Rattle.pid_reader.specs.Refusals.{refusal_at, IsRefusal}
-use Rattle.pid_reader.specs.Sinks.{Took, Ends}
-use Rattle.pid_reader.specs.Cutters.{Holds}
+use Rattle.pid_reader.specs.Reading.{history_of, ENTRIES, refused_at, refused_from, refused, entries_of}
+use Rattle.pid_reader.specs.Refusals.{refusal_at}
+use Rattle.pid_reader.specs.Sinks.{Took}
 use Rattle.pid_reader.specs.Counters.{Counts}
-use Rattle.pid_reader.specs.EntryCounters.{CountsText}
 use Rattle.pid_reader.proofs.Feeding.{good_cases, good_at, entries-good}
 
 abbrev item : List ℕ → List ℕ → List Item

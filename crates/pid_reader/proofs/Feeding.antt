@@ -46,7 +46,7 @@ read-append earlier (x ∷ xs) ys h =
 pub read-good : (earlier xs : List (List ℕ)) → refused_from earlier xs ≡ None → read_from earlier xs ≡ reverse_aux xs earlier
 read-good earlier xs h = ap (read_from earlier) (sym (append-nil xs)) ∙ read-append earlier xs [] h
 
-reverse_aux-snoc : (xs earlier : List (List ℕ)) (line : List ℕ) → reverse_aux (xs ++ line ∷ []) earlier ≡ line ∷ reverse_aux xs earlier
+pub reverse_aux-snoc : (xs earlier : List (List ℕ)) (line : List ℕ) → reverse_aux (xs ++ line ∷ []) earlier ≡ line ∷ reverse_aux xs earlier
 reverse_aux-snoc [] earlier line = refl
 reverse_aux-snoc (x ∷ xs) earlier line = reverse_aux-snoc xs (x ∷ earlier) line
 

@@ -18,3 +18,4 @@ pub mod OneMoreLine
 pub mod NoMissing
 pub mod Counting
 pub mod LinesTold
+pub mod LookingBack

@@ -1,7 +1,7 @@
 -- What one more line says below open levels.
-use Rattle.std.proofs.Common.{◌≡◌, ℕ, zero, suc, ◌+◌, ◌<◌, ◌≤◌, Bool, true, false, cond, not, ◌&&◌, ◌||◌, eqb, ltb, leb, List, [], ◌∷◌, ◌++◌, length, take, drop, map, Option, Some, None, Result, Ok, Err, refl, sym, ap, subst, ◌∙◌, arith}
-use mathlib.Core.Bool.{false≢true, true≢false}
-use Rattle.std.specs.Prelude.{is_some, is_none, codes, unwrap_or}
+use Rattle.std.proofs.Common.{◌≡◌, ℕ, suc, Bool, true, false, cond, not, ◌&&◌, ◌||◌, eqb, ltb, leb, List, [], ◌∷◌, ◌++◌, length, take, map, Option, Some, None, Ok, Err, refl, sym, ap, subst, ◌∙◌, arith}
+use mathlib.Core.Bool.{true≢false}
+use Rattle.std.specs.Prelude.{is_none, codes, unwrap_or}
 use Rattle.std.specs.Str.{is_utf8}
 use Rattle.std.specs.Char.{to_ascii_lowercase}
 use Rattle.std.proofs.lemmas.Bool.Decides.{nat_tests}
@@ -9,8 +9,6 @@ use Rattle.pid_ident.specs.declared.line_kind.LineKind.{LineKind}
 use Rattle.pid_ident.specs.declared.line_kind.LineKind.TheVariants.{NotUtf8, TooDeep, NoParent, BadId}
 use Rattle.pid_ident.specs.declared.path.Path.{Path}
 use Rattle.pid_ident.specs.declared.path.Path.TheVariants as paths
-use Rattle.pid_ident.specs.Bytes.{is_empty}
-use Rattle.pid_ident.specs.Words.{is_name}
 use Rattle.pid_ident.specs.Identifiers.{hex4, hex2}
 use Rattle.pid_ident.specs.PathTexts.{path_text}
 use Rattle.pid_reader.specs.declared.mark.Mark.{Mark}
@@ -20,14 +18,13 @@ use Rattle.pid_reader.specs.declared.entry_line.Place.TheVariants.{Vendor, Devic
 use Rattle.pid_reader.specs.declared.entry_line.Named.{Named}
 use Rattle.pid_reader.specs.declared.open_levels.OpenLevels.{OpenLevels}
 use Rattle.pid_reader.specs.declared.open_levels.OpenLevels.TheVariants as opens
-use Rattle.pid_reader.specs.declared.open_levels.Said.{Said}
 use Rattle.pid_reader.specs.declared.open_levels.Said.TheVariants as said
 use Rattle.pid_reader.specs.Marks.{is_idle, depth, body, mark, is_unknown, inside}
 use Rattle.pid_reader.specs.Levels.{levels, widths}
 use Rattle.pid_reader.specs.Columns.{begins_with_ids, is_id, digits_in, name_in}
-use Rattle.pid_reader.specs.LookingBack.{Item, is_above, above, mark_at, parent_line, is_block, is_entry, widths_at, digits_at, head_path, path_at, entry_of}
+use Rattle.pid_reader.specs.LookingBack.{is_above, above, mark_at, parent_line, is_block, is_entry, widths_at, digits_at, head_path, path_at, entry_of}
 use Rattle.pid_reader.specs.Faults.{line_fault_of}
-use Rattle.pid_reader.specs.EntryLines.{columns_fault, name_fault, widths_of, text_before, IsPathAt}
+use Rattle.pid_reader.specs.EntryLines.{columns_fault, widths_of, text_before, IsPathAt}
 use Rattle.pid_reader.specs.OpenLevels.{Under, Below, IsBare, IsUnknown, IsOpenAt, first_below, second_below, deeper_below, below, open_below, Says}
 
 -- a line that is neither an entry nor the line of a block

@@ -1,5 +1,5 @@
 -- One more line of a text that is told line by line.
-use Rattle.std.proofs.Common.{◌≡◌, ℕ, ◌+◌, List, [], ◌∷◌, ◌++◌, length, map, Some, None, Result, Ok, Err, refl, sym, ap, subst, ◌∙◌, arith}
+use Rattle.std.proofs.Common.{◌≡◌, ℕ, ◌+◌, List, [], ◌∷◌, ◌++◌, length, map, Some, None, Result, Ok, Err, refl, sym, ap, ◌∙◌, arith}
 use Rattle.pid_ident.specs.declared.line_kind.LineKind.{LineKind}
 use Rattle.pid_reader.specs.declared.refusal.LineFault.{LineFault}
 use Rattle.pid_reader.specs.declared.lines.Lines.{Lines}

@@ -1,32 +1,30 @@
 -- Items in order, each behind its parent, are what their lines say.
-use Rattle.std.proofs.Common.{◌≡◌, ◌≢◌, ℕ, zero, suc, ◌+◌, ◌-◌, ◌<◌, ◌≤◌, ◌^◌, Bool, true, false, cond, not, ◌&&◌, ◌||◌, eqb, ltb, leb, List, [], ◌∷◌, ◌++◌, length, take, drop, map, Option, Some, None, refl, sym, ap, subst, ◌∙◌, arith, inl, inr}
+use Rattle.std.proofs.Common.{◌≡◌, ℕ, true, false, cond, not, List, [], ◌∷◌, ◌++◌, take, drop, Some, None, refl, sym, ap, subst, ◌∙◌}
 use mathlib.Core.Bool.{false≢true, true≢false}
 use lib.Utf8.{encode}
 use Rattle.std.specs.Str.{is_utf8, chars}
-use Rattle.std.specs.Prelude.{IsSome, IfSome, find, is_some, is_none, codes}
+use Rattle.std.specs.Prelude.{IsSome, IfSome, codes}
 use Rattle.std.specs.declared.cmp.Ordering.{Ordering}
 use Rattle.std.specs.declared.cmp.Ordering.TheVariants.{Less, Equal, Greater}
 use Rattle.std.specs.Ordering.{nat_cmp, ordering_then, ordering_reverse, is_eq, is_gt}
-use Rattle.std.specs.Cmp.Lexicographic.{slice_cmp}
-use Rattle.std.proofs.lemmas.Cmp.{nat_list_cmp_total, tied_itself, nat_cmp_total}
+use Rattle.std.proofs.lemmas.Cmp.{nat_list_cmp_total, nat_cmp_total}
 use Rattle.std.proofs.lemmas.List.{take-append-drop}
 use Rattle.std.specs.FinMap.{slice_cmp-IsAntisymmetric, nat_cmp-IsAntisymmetric}
 use Rattle.std.specs.FinMap.Entries.{find as value_at}
 use Rattle.std.specs.List.{AllByRecursion}
 use Rattle.pid_ident.specs.declared.path.Path.{Path}
 use Rattle.pid_ident.specs.declared.path.Path.TheVariants.{Vendor, Device, Subsystem, Class, Subclass, ProgIf, Generic}
-use Rattle.pid_ident.specs.PathTexts.{IsPath, path_text, parent_of}
+use Rattle.pid_ident.specs.PathTexts.{path_text, parent_of}
 use Rattle.pid_ident.specs.Words.{is_name}
 use Rattle.pid_ident.specs.Identifiers.{hex4, hex2}
-use Rattle.pid_reader.specs.declared.mark.Mark.{Mark}
-use Rattle.pid_reader.specs.declared.mark.Mark.TheVariants.{Devices, Classes, Generics, Unknown}
+use Rattle.pid_reader.specs.declared.mark.Mark.TheVariants.{Devices, Classes, Generics}
 use Rattle.pid_reader.specs.LookingBack.{entries_back}
 use Rattle.pid_reader.specs.Reading.{AreGood}
 use Rattle.pid_reader.specs.Faults.{fault_of}
 use Rattle.pid_ident.specs.Trees.{text_cmp}
 use Rattle.pid_tree.specs.Printing.{item_line, block_line, opens_block, header}
-use Rattle.pid_reader.proofs.Written.{Written, Stands, written4, written2, written44, bare, lettered, one_tab, two_tabs}
-use Rattle.pid_reader.proofs.Steps.{Says, IsRow, Under, Below, IsOpen, OneMore, SaysBlock, says_head, says_one, says_two, one_more, says_block, under_head, under_nested, below_one, below_two}
+use Rattle.pid_reader.proofs.Written.{written4, written2, written44, bare, lettered, one_tab, two_tabs}
+use Rattle.pid_reader.proofs.Steps.{Says, IsRow, Under, Below, IsOpen, OneMore, says_head, says_one, says_two, one_more, says_block, under_head, under_nested, below_one, below_two}
 
 abbrev pub Items : Type 0
 Items = List (List ℕ × List ℕ)

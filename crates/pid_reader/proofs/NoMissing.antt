@@ -24,7 +24,6 @@ use Rattle.pid_reader.specs.Cutters.{Holds}
 use Rattle.pid_reader.specs.TreeSinks.{SetsItem, IsTreeFault}
 use Rattle.pid_reader.specs.Feeders.{Feeds, IsTreeEnd}
 use Rattle.pid_reader.proofs.Clean.{IsToldBy}
-use Rattle.pid_reader.proofs.Sound.{IsKept}
 use Rattle.pid_reader.proofs.ReadTrees.{kept, parent_text, to_text, from_text}
 use Rattle.pid_reader.proofs.Feeding.{good_at, good_front, good_lines, took_tree, entries-good}
 

@@ -1,8 +1,7 @@
 -- One more line, of which it is known what it says.
-use Rattle.std.proofs.Common.{◌≡◌, ℕ, ◌+◌, ◌<◌, ◌≤◌, Bool, true, false, cond, not, ◌&&◌, eqb, leb, List, [], ◌∷◌, ◌++◌, length, Option, Some, None, refl, sym, ap, subst, ◌∙◌, arith, inr}
+use Rattle.std.proofs.Common.{◌≡◌, ℕ, ◌+◌, ◌<◌, ◌≤◌, Bool, true, false, cond, not, ◌&&◌, eqb, leb, List, [], ◌∷◌, ◌++◌, length, Option, Some, None, refl, sym, ap, subst, ◌∙◌, arith}
 use mathlib.Core.Bool.{false≢true, true≢false}
 use Rattle.std.specs.Prelude.{is_some, codes}
-use Rattle.std.specs.Str.{is_utf8}
 use Rattle.std.proofs.lemmas.Bool.Decides.{nat_tests}
 use Rattle.std.proofs.lemmas.Cmp.{nat_list_cmp_total}
 use Rattle.std.specs.Ordering.{is_eq}
@@ -15,7 +14,6 @@ use Rattle.pid_ident.specs.declared.path.Path.TheVariants.{Vendor}
 use Rattle.pid_ident.specs.PathTexts.{path_text, path_cmp}
 use Rattle.pid_ident.specs.Trees.{text_cmp}
 use Rattle.pid_ident.specs.Identifiers.{hex4}
-use Rattle.pid_reader.specs.declared.refusal.ReadRefusal.{ReadRefusal}
 use Rattle.pid_reader.specs.declared.refusal.ReadRefusal.TheVariants.{Line, TooManyEntries}
 use Rattle.pid_reader.specs.declared.mark.Mark.TheVariants.{Generics}
 use Rattle.pid_reader.specs.declared.mark.Mark.TheVariants as marks
@@ -29,7 +27,7 @@ use Rattle.pid_reader.specs.OpenLevels.{IsOpenAt}
 use Rattle.pid_reader.specs.Refusals.{refusal_at}
 use Rattle.pid_reader.specs.Progress.{IsShown, has_path}
 
-abbrev or_kind : Option LineKind → Option LineKind → Option LineKind
+abbrev pub or_kind : Option LineKind → Option LineKind → Option LineKind
 or_kind (Some k) o = Some k
 or_kind None o = o
 
@@ -46,10 +44,10 @@ six_then false false false false false true x = refl
 six_then false false false false false false x = refl
 
 -- the faults that need the paths of earlier entries
-abbrev late_fault : List (List ℕ) → List ℕ → Option LineKind
+abbrev pub late_fault : List (List ℕ) → List ℕ → Option LineKind
 late_fault earlier line = cond (has Duplicate earlier line) (Some Duplicate) (cond (has VendorMissing earlier line) (Some VendorMissing) None)
 
-split_fault : (earlier : List (List ℕ)) (line : List ℕ) → fault_of earlier line ≡ or_kind (line_fault_of earlier line) (late_fault earlier line)
+pub split_fault : (earlier : List (List ℕ)) (line : List ℕ) → fault_of earlier line ≡ or_kind (line_fault_of earlier line) (late_fault earlier line)
 split_fault earlier line = six_then (has NotUtf8 earlier line) (has TooDeep earlier line) (has NoParent earlier line) (has BadId earlier line) (has NoName earlier line) (has BadName earlier line) (late_fault earlier line)
 
 -- a fault of the line itself

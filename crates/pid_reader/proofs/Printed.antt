@@ -1,6 +1,5 @@
 -- The lines of a printed text.
-use Rattle.std.proofs.Common.{◌≡◌, ℕ, zero, suc, ◌+◌, ◌-◌, ◌<◌, ◌≤◌, Bool, true, false, cond, not, ◌&&◌, ◌||◌, eqb, leb, List, [], ◌∷◌, ◌++◌, length, take, drop, map, refl, sym, ap, subst, ◌∙◌, append_assoc, arith}
-use Rattle.std.specs.Prelude.{codes}
+use Rattle.std.proofs.Common.{◌≡◌, ℕ, true, false, cond, not, ◌&&◌, ◌||◌, eqb, leb, List, [], ◌∷◌, ◌++◌, map, refl, sym, ap, subst, ◌∙◌, arith}
 use Rattle.std.specs.List.{AllByRecursion, list_all}
 use Rattle.std.proofs.lemmas.Bool.Decides.{nat_tests}
 use Rattle.pid_ident.specs.declared.path.Path.{Path}
@@ -9,7 +8,7 @@ use Rattle.pid_ident.specs.PathTexts.{IsTextOf, path_text}
 use Rattle.pid_ident.specs.Words.{is_name}
 use Rattle.pid_ident.specs.Bytes.{is_printed}
 use Rattle.pid_ident.specs.Identifiers.{hex4, hex2}
-use Rattle.pid_reader.specs.Lines.{pieces_of, onto_first, drop_cr, lines_of}
+use Rattle.pid_reader.specs.Lines.{pieces_of, drop_cr, lines_of}
 use Rattle.pid_tree.specs.Printing.{header, item_line, block_line, opens_block, lines_behind, ended}
 use Rattle.pid_reader.proofs.Cells.{hex4_is, hex2_is}
 use Rattle.pid_reader.proofs.Written.{both_true, not_true}

@@ -1,29 +1,28 @@
 -- A printed tree reads back to itself, and to no other tree.
-use Rattle.std.proofs.Common.{◌≡◌, ◌≢◌, ℕ, zero, suc, ◌+◌, ◌-◌, ◌<◌, ◌≤◌, ◌^◌, Bool, true, false, cond, not, ◌&&◌, ◌||◌, eqb, ltb, leb, List, [], ◌∷◌, ◌++◌, length, take, drop, map, Option, Some, None, refl, sym, ap, subst, ◌∙◌, append_assoc, arith, inl, inr}
-use mathlib.Core.Bool.{false≢true, true≢false}
+use Rattle.std.proofs.Common.{◌≡◌, ℕ, Bool, true, false, cond, ◌&&◌, List, [], ◌∷◌, ◌++◌, Option, Some, None, refl, sym, ap, subst, ◌∙◌, inl, inr}
+use mathlib.Core.Bool.{false≢true}
 use mathlib.Core.Logic.{◌⊎◌}
-use Rattle.std.specs.Prelude.{IsSome, IfSome, IsTrue, T, is_some, is_none, codes, reverse, ◌↔◌}
+use Rattle.std.specs.Prelude.{IsSome, IfSome, IsTrue, T, is_some, reverse, ◌↔◌}
 use mathlib.Core.List.{reverse_aux}
 use Rattle.std.specs.declared.cmp.Ordering.{Ordering}
 use Rattle.std.specs.declared.cmp.Ordering.TheVariants.{Less, Equal, Greater}
-use Rattle.std.specs.Ordering.{nat_cmp, ordering_then, ordering_reverse, is_eq, is_lt, is_gt}
-use Rattle.std.specs.Cmp.Lexicographic.{slice_cmp}
+use Rattle.std.specs.Ordering.{ordering_reverse, is_eq, is_lt}
 use Rattle.std.proofs.lemmas.Cmp.{nat_list_cmp_total, tied_itself, nat_cmp_total}
-use Rattle.std.specs.FinMap.{FinMap, get, entries, from_entries, get-entries, get-from_entries, entries_sorted, same_map, slice_cmp-IsAntisymmetric, nat_cmp-IsAntisymmetric}
+use Rattle.std.specs.FinMap.{get, entries, from_entries, get-entries, get-from_entries, entries_sorted, same_map, slice_cmp-IsAntisymmetric, nat_cmp-IsAntisymmetric}
 use Rattle.std.specs.FinMap.Entries.{find as value_at, is_sorted, below_all}
-use Rattle.std.specs.List.{AllByRecursion, list_all}
+use Rattle.std.specs.List.{AllByRecursion}
 use Rattle.pid_ident.specs.declared.path.Path.{Path}
 use Rattle.pid_ident.specs.declared.path.Path.TheVariants.{Vendor, Device, Subsystem, Class, Subclass, ProgIf, Generic}
-use Rattle.pid_ident.specs.PathTexts.{IsPath, IsTextOf, path_text, parent_of}
+use Rattle.pid_ident.specs.PathTexts.{path_text, parent_of}
 use Rattle.pid_ident.specs.Words.{is_name}
 use Rattle.pid_ident.specs.Identifiers.{hex4, hex2}
 use Rattle.pid_reader.specs.Lines.{lines_of}
 use Rattle.pid_reader.specs.Reading.{Reads, history_of, AreGood}
 use Rattle.pid_reader.specs.LookingBack.{entries_back}
 use Rattle.pid_ident.specs.Trees.{TreeMap, IsTree, text_cmp}
-use Rattle.pid_tree.specs.Printing.{item_line, block_line, opens_block, header, lines_behind, ended, print}
+use Rattle.pid_tree.specs.Printing.{item_line, block_line, opens_block, header, lines_behind, print}
 use Rattle.pid_reader.proofs.Printed.{IsItem, lines_of-ended, lines_plain, header_plain}
-use Rattle.pid_reader.proofs.Listing.{Items, IsListing, IsNext, IsTold, told, lines_back, last_path}
+use Rattle.pid_reader.proofs.Listing.{Items, IsListing, IsNext, told, lines_back, last_path}
 
 is_less : (o : Ordering) → T (is_lt o) → o ≡ Less
 is_less Less h = refl

@@ -1,7 +1,7 @@
 -- What a text without faults says is a tree.
-use Rattle.std.proofs.Common.{◌≡◌, ℕ, zero, suc, ◌+◌, ◌<◌, ◌≤◌, ◌^◌, Bool, true, false, cond, not, ◌&&◌, ◌||◌, eqb, ltb, leb, List, [], ◌∷◌, ◌++◌, length, take, drop, map, Option, Some, None, refl, sym, ap, subst, ◌∙◌, arith}
+use Rattle.std.proofs.Common.{◌≡◌, ℕ, zero, suc, Bool, true, false, cond, not, ◌&&◌, eqb, leb, List, [], ◌∷◌, ◌++◌, length, take, drop, Option, Some, None, refl, sym, ap, subst, ◌∙◌, arith}
 use mathlib.Core.Bool.{false≢true, true≢false}
-use Rattle.std.specs.Prelude.{IsSome, IfSome, IsTrue, is_some, is_none, codes, unwrap_or}
+use Rattle.std.specs.Prelude.{IsSome, IfSome, IsTrue, is_none, codes, unwrap_or}
 use Rattle.std.specs.List.{AllByRecursion}
 use Rattle.std.specs.declared.cmp.Ordering.TheVariants.{Less, Equal, Greater}
 use Rattle.std.specs.Ordering.{is_eq}
@@ -11,7 +11,7 @@ use Rattle.std.proofs.lemmas.Cmp.{nat_list_cmp_total}
 use Rattle.std.proofs.lemmas.Bool.Decides.{nat_tests}
 use Rattle.pid_ident.specs.declared.path.Path.{Path}
 use Rattle.pid_ident.specs.declared.path.Path.TheVariants.{Vendor, Device, Subsystem, Class, Subclass, ProgIf, Generic}
-use Rattle.pid_ident.specs.PathTexts.{IsPath, IsTextOf, path_text, parent_of}
+use Rattle.pid_ident.specs.PathTexts.{path_text, parent_of}
 use Rattle.pid_ident.specs.Words.{is_name}
 use Rattle.pid_reader.specs.declared.mark.Mark.{Mark}
 use Rattle.pid_reader.specs.declared.mark.Mark.TheVariants.{Devices, Classes, Generics, Unknown}
@@ -19,10 +19,10 @@ use Rattle.pid_reader.specs.Marks.{is_idle, depth, mark, is_unknown, is_generics
 use Rattle.pid_reader.specs.Levels.{levels}
 use Rattle.pid_reader.specs.Reading.{Reads, history_of, AreGood}
 use Rattle.pid_reader.specs.Faults.{fault_of}
-use Rattle.pid_reader.specs.LookingBack.{above, mark_at, if_depth, parent_line, entries_back, is_block, is_entry, path_at, name_at}
+use Rattle.pid_reader.specs.LookingBack.{above, mark_at, if_depth, entries_back, is_block, is_entry, path_at, name_at}
 use Rattle.pid_ident.specs.Trees.{TreeMap, IsTree, text_cmp}
 use Rattle.pid_reader.proofs.Written.{both_true, not_true}
-use Rattle.pid_reader.proofs.Clean.{IsClean, clean, IsToldBy, told_on, Nearest, nearest}
+use Rattle.pid_reader.proofs.Clean.{IsClean, clean, IsToldBy, told_on, nearest}
 use Rattle.pid_reader.proofs.Sound.{IsKept, kept_vendor, kept_class, kept_device, kept_subclass, kept_generic, kept_subsystem, kept_progif, has_upper, above_two}
 
 too_deep : (m : Mark) (n : ℕ) → leb (length (levels m)) (suc (suc (suc n))) ≡ true
@@ -32,7 +32,7 @@ too_deep Generics n = grind (arith, nat_tests)
 too_deep Unknown n = grind (arith, nat_tests)
 
 -- at depth 2 a head is there
-no_head : (before : List (List ℕ)) (u : List ℕ) → AreGood before → above 2 before ≡ Some u → depth u ≡ 1 → above 1 before ≡ None → ⊥
+pub no_head : (before : List (List ℕ)) (u : List ℕ) → AreGood before → above 2 before ≡ Some u → depth u ≡ 1 → above 1 before ≡ None → ⊥
 no_head before u good is_upper nested none =
     let near = nearest 2 before u good is_upper in
     let skipped : above 1 (u ∷ near.before) ≡ above 1 near.before = rw (above_two u near.is_near, nested) refl in

@@ -1,14 +1,13 @@
 -- A text without faults and with few entries is not refused.
-use Rattle.std.proofs.Common.{◌≡◌, ℕ, suc, ◌+◌, ◌<◌, ◌≤◌, Bool, true, false, cond, not, ◌&&◌, leb, List, [], ◌∷◌, ◌++◌, length, Some, None, refl, sym, ap, subst, ◌∙◌, arith}
+use Rattle.std.proofs.Common.{◌≡◌, ℕ, suc, ◌≤◌, true, false, cond, ◌&&◌, leb, List, [], ◌∷◌, ◌++◌, length, Some, None, refl, ap, ◌∙◌, arith}
 use mathlib.Core.List.{reverse_aux}
 use Rattle.std.proofs.lemmas.Bool.Decides.{nat_tests}
 use Rattle.std.proofs.lemmas.List.{length-append}
-use Rattle.pid_reader.specs.Lines.{lines_of}
 use Rattle.std.specs.Prelude.{Option, is_some}
 use mathlib.Core.Bool.{true≢false}
 use Rattle.pid_ident.specs.declared.line_kind.LineKind.{LineKind}
 use Rattle.pid_reader.specs.declared.refusal.ReadRefusal.{ReadRefusal}
-use Rattle.pid_reader.specs.Reading.{AreGood, history_of, refused, refused_from, refused_at, or_else, ENTRIES}
+use Rattle.pid_reader.specs.Reading.{AreGood, refused_from, refused_at, or_else, ENTRIES}
 use Rattle.pid_reader.specs.LookingBack.{entries_back, entry_of, is_entry, path_at, name_at}
 use Rattle.pid_reader.specs.Faults.{fault_of}
 use Rattle.pid_reader.specs.declared.refusal.ReadRefusal.TheVariants.{TooManyEntries}

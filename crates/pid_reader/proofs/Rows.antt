@@ -1,12 +1,11 @@
 -- Worked rows, by computation.
 use Rattle.std.proofs.Common.{◌≡◌, ℕ, List, [], ◌∷◌, ◌++◌, Some, None, refl}
-use Rattle.std.specs.Prelude.{codes, reverse}
+use Rattle.std.specs.Prelude.{codes}
 use Rattle.std.specs.Str.{is_utf8, chars}
 use lib.Utf8.{encode}
-use Rattle.pid_ident.specs.declared.line_kind.LineKind.TheVariants.{NotUtf8, TooDeep, NoParent, BadId, NoName, BadName, Duplicate, VendorMissing}
+use Rattle.pid_ident.specs.declared.line_kind.LineKind.TheVariants.{NotUtf8, TooDeep, NoParent, BadId, NoName, Duplicate, VendorMissing}
 use Rattle.pid_reader.specs.declared.refusal.ReadRefusal.TheVariants.{Line}
-use Rattle.pid_reader.specs.Lines.{lines_of}
-use Rattle.pid_tree.specs.Printing.{header, lines_behind}
+use Rattle.pid_tree.specs.Printing.{lines_behind}
 use Rattle.pid_reader.specs.LookingBack.{entries_back}
 use Rattle.pid_reader.specs.Reading.{history_of, refused}
 

@@ -1,29 +1,26 @@
 -- Lines without faults tell a tree.
-use Rattle.std.proofs.Common.{◌≡◌, ℕ, zero, suc, ◌+◌, ◌<◌, ◌≤◌, ◌^◌, Bool, true, false, cond, not, ◌&&◌, ◌||◌, eqb, ltb, leb, List, [], ◌∷◌, ◌++◌, length, take, drop, map, Option, Some, None, refl, sym, ap, subst, ◌∙◌, arith}
-use mathlib.Core.Bool.{false≢true, true≢false}
-use Rattle.std.specs.Prelude.{IsSome, IfSome, IsTrue, is_some, is_none, codes, unwrap_or}
-use Rattle.std.specs.FinMap.Entries.{find as value_at}
+use Rattle.std.proofs.Common.{◌≡◌, ℕ, suc, ◌<◌, ◌^◌, Bool, true, false, cond, not, ◌&&◌, ◌||◌, eqb, List, [], ◌∷◌, ◌++◌, take, drop, map, Some, None, refl, sym, ap, subst, ◌∙◌, arith}
+use mathlib.Core.Bool.{true≢false}
+use Rattle.std.specs.Prelude.{IfSome, is_none, codes}
 use Rattle.std.specs.Char.{to_ascii_lowercase}
 use Rattle.std.proofs.lemmas.Bool.Decides.{nat_tests}
 use Rattle.pid_ident.specs.declared.path.Path.{Path}
 use Rattle.pid_ident.specs.declared.path.Path.TheVariants.{Vendor, Device, Subsystem, Class, Subclass, ProgIf, Generic}
-use Rattle.pid_ident.specs.PathTexts.{IsPath, IsTextOf, path_text, parent_of}
-use Rattle.pid_ident.specs.Words.{is_name}
+use Rattle.pid_ident.specs.PathTexts.{IsPath, path_text, parent_of}
 use Rattle.pid_ident.specs.Identifiers.{hex4, hex2}
 use Rattle.pid_reader.specs.declared.mark.Mark.{Mark}
-use Rattle.pid_reader.specs.declared.mark.Mark.TheVariants.{Devices, Classes, Generics, Unknown}
-use Rattle.pid_reader.specs.Marks.{is_idle, depth, body, mark, is_unknown, is_generics, inside}
-use Rattle.pid_reader.specs.Levels.{front, levels, widths}
-use Rattle.pid_reader.specs.Columns.{begins_with_id, begins_with_ids, is_id, digits_in}
-use Rattle.pid_reader.specs.Faults.{has, fault_of}
+use Rattle.pid_reader.specs.declared.mark.Mark.TheVariants.{Devices, Classes, Generics}
+use Rattle.pid_reader.specs.Marks.{is_idle, depth, body, mark, is_unknown, inside}
+use Rattle.pid_reader.specs.Levels.{widths}
+use Rattle.pid_reader.specs.Columns.{begins_with_id, begins_with_ids}
+use Rattle.pid_reader.specs.Faults.{has}
 use Rattle.pid_reader.specs.Reading.{AreGood}
-use Rattle.pid_reader.specs.LookingBack.{is_above, above, head_of, mark_at, parent_line, if_depth, entries_back, entry_of, is_block, is_entry, digits_at, head_path, path_at, name_at, is_told}
-use Rattle.pid_ident.specs.declared.line_kind.LineKind.TheVariants.{TooDeep, NoParent, BadId, BadName, VendorMissing}
-use Rattle.pid_ident.specs.Trees.{text_cmp}
+use Rattle.pid_reader.specs.LookingBack.{is_above, above, parent_line, if_depth, is_entry, head_path, path_at}
+use Rattle.pid_ident.specs.declared.line_kind.LineKind.TheVariants.{VendorMissing}
 use Rattle.pid_reader.proofs.Written.{both_true, not_true}
 use Rattle.pid_reader.proofs.Digits.{Number4, Number2, id4, id2, whole4}
 use Rattle.std.proofs.lemmas.Cmp.{nat_list_cmp_total, tied_itself}
-use Rattle.pid_reader.proofs.Clean.{IsClean, clean, IsToldBy, told_on, Nearest, nearest}
+use Rattle.pid_reader.proofs.Clean.{IsClean, clean, IsToldBy, told_on, nearest}
 
 -- a path whose parent is told
 pub record IsKept (lines : List (List ℕ)) (path : List ℕ) : Type 0 where

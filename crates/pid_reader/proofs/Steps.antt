@@ -1,21 +1,19 @@
 -- What one more line says behind others, and which lines are open behind it.
-use Rattle.std.proofs.Common.{◌≡◌, ℕ, zero, suc, ◌+◌, ◌-◌, ◌<◌, ◌≤◌, Bool, true, false, cond, not, ◌&&◌, ◌||◌, eqb, ltb, leb, List, [], ◌∷◌, ◌++◌, length, take, drop, map, Option, Some, None, refl, sym, ap, subst, ◌∙◌, arith}
-use mathlib.Core.Bool.{false≢true, true≢false}
+use Rattle.std.proofs.Common.{◌≡◌, ℕ, true, false, cond, not, ◌&&◌, eqb, ltb, leb, List, [], ◌∷◌, ◌++◌, length, take, drop, Some, None, refl, arith}
 use Rattle.std.specs.Prelude.{is_some, is_none, codes, unwrap_or}
 use Rattle.std.specs.Str.{is_utf8}
-use Rattle.std.proofs.lemmas.Str.{IsUtf8-from_is_utf8, is_utf8-from_IsUtf8, IsUtf8-from_ascii}
+use Rattle.std.proofs.lemmas.Str.{is_utf8-from_IsUtf8, IsUtf8-from_ascii}
 use Rattle.std.specs.FinMap.Entries.{find as value_at}
 use Rattle.pid_ident.specs.Words.{is_name}
 use Rattle.pid_ident.specs.Bytes.{is_empty}
 use Rattle.pid_ident.specs.Identifiers.{hex4}
 use Rattle.pid_reader.specs.declared.mark.Mark.{Mark}
 use Rattle.pid_reader.specs.declared.mark.Mark.TheVariants.{Devices, Classes, Generics, Unknown}
-use Rattle.pid_reader.specs.Marks.{is_idle, depth, mark, is_unknown, is_generics, inside}
+use Rattle.pid_reader.specs.Marks.{depth, mark, is_unknown, is_generics, inside}
 use Rattle.pid_reader.specs.Levels.{front, levels, widths}
-use Rattle.pid_reader.specs.Columns.{begins_with_ids, digits_in, name_in}
-use Rattle.pid_reader.specs.LookingBack.{above, head_of, mark_at, parent_line, is_block, is_entry, widths_at, digits_at, name_at, head_path, path_at, entry_of, entries_back, is_told}
-use Rattle.pid_reader.specs.Faults.{has, fault_of}
-use Rattle.pid_reader.specs.Reading.{AreGood}
+use Rattle.pid_reader.specs.Columns.{begins_with_ids, digits_in}
+use Rattle.pid_reader.specs.LookingBack.{above, mark_at, parent_line, is_block, is_entry, widths_at, digits_at, name_at, head_path, path_at, entries_back, is_told}
+use Rattle.pid_reader.specs.Faults.{fault_of}
 use Rattle.pid_ident.specs.Trees.{text_cmp}
 use Rattle.pid_reader.proofs.Cells.{AreDigits, hex4_is}
 use Rattle.pid_reader.proofs.Written.{Written, Stands, name_parts, utf8_cons}

@@ -1,16 +1,15 @@
 -- What the line of an item says by its own bytes.
-use Rattle.std.proofs.Common.{◌≡◌, ℕ, zero, suc, ◌+◌, ◌-◌, ◌<◌, ◌≤◌, Bool, true, false, cond, not, ◌&&◌, ◌||◌, eqb, ltb, leb, List, [], ◌∷◌, ◌++◌, length, take, drop, map, refl, sym, ap, subst, ◌∙◌, arith}
-use mathlib.Core.Bool.{false≢true, true≢false}
+use Rattle.std.proofs.Common.{◌≡◌, ℕ, zero, suc, ◌<◌, Bool, true, false, not, ◌&&◌, List, [], ◌∷◌, ◌++◌, refl, arith}
 use Rattle.std.specs.Str.{is_utf8, IsUtf8, IsAscii}
 use Rattle.std.proofs.lemmas.Str.{IsUtf8-append, IsUtf8-from_ascii, IsUtf8-from_is_utf8, is_utf8-from_IsUtf8}
-use Rattle.pid_ident.specs.Bytes.{is_empty, is_printed, begins_blank, is_blank}
+use Rattle.pid_ident.specs.Bytes.{is_empty, begins_blank}
 use Rattle.pid_ident.specs.Words.{is_name}
 use Rattle.pid_reader.specs.declared.mark.Mark.{Mark}
-use Rattle.pid_reader.specs.declared.mark.Mark.TheVariants.{Devices, Classes, Generics, Unknown}
+use Rattle.pid_reader.specs.declared.mark.Mark.TheVariants.{Devices, Classes}
 use Rattle.pid_reader.specs.Marks.{trim_blanks, is_idle, depth, body, mark, inside}
 use Rattle.pid_ident.specs.Identifiers.{hex4, hex2}
 use Rattle.pid_reader.specs.Columns.{begins_with_ids, digits_in, name_in}
-use Rattle.pid_reader.proofs.Cells.{IsDigit, AreDigits, AreTwo, hex4_is, hex2_is}
+use Rattle.pid_reader.proofs.Cells.{AreDigits, AreTwo, hex4_is, hex2_is}
 
 pub both_true : (a b : Bool) → (a && b) ≡ true → (a ≡ true) × (b ≡ true)
 both_true true b h = (refl, h)

@@ -1,5 +1,5 @@
 -- What the open levels of a reader show of the lines that it has read, the nearest first.
-use Rattle.std.specs.Prelude.{◌≡◌, ℕ, Bool, true, false, List, [], ◌∷◌, ◌++◌, ◌==◌, if◌then◌else◌, Option, Some, None, Result, Ok, Err, codes, IsTrue}
+use Rattle.std.specs.Prelude.{◌≡◌, ℕ, true, false, List, [], ◌∷◌, ◌++◌, ◌==◌, if◌then◌else◌, Option, Some, None, Result, Ok, Err, codes, IsTrue}
 use Rattle.pid_ident.specs.declared.line_kind.LineKind.{LineKind}
 use Rattle.pid_ident.specs.declared.line_kind.LineKind.TheVariants.{TooDeep, NoParent}
 use Rattle.pid_ident.specs.declared.path.Path.{Path}

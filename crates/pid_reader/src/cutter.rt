@@ -4,11 +4,13 @@ ghost use Rattle.pid_reader.specs.Lines.{drop_cr, lines_of};
 ghost use Rattle.pid_reader.specs.WholeLines.{ended_pieces, open_part, whole_lines};
 ghost use Rattle.pid_reader.specs.Reading.{entries_of};
 ghost use Rattle.pid_reader.specs.Sinks.{Took, Ends};
+ghost use Rattle.pid_reader.specs.OpenLevels.{IsOpenAt};
 ghost use Rattle.pid_reader.specs.Progress.{Shows};
 ghost use Rattle.pid_reader.specs.Cutters.{Holds, IsStopped, LineEnds, left_by};
 ghost use Rattle.pid_reader.specs.declared.sink.CutEnd.TheVariants.{Refused};
 
 use crate::mark::without_cr;
+use crate::open_levels::OpenLevels;
 use crate::pieces::split_line;
 use crate::progress::Progress;
 use crate::refusal::ReadRefusal;
@@ -51,6 +53,13 @@ impl Cutter {
             progress: Progress::new(alloc),
             stopped: None,
         }
+    }
+
+    /// Takes levels that the lines so far leave open.
+    pub(crate) fn set_levels(&mut self, levels: OpenLevels)
+        ensures { (text : List ℕ) → Holds self.old text → IsOpenAt levels (reverse (whole_lines text)) → Holds self.new text }
+    {
+        self.progress.levels = levels;
     }
 
     // The open line ends with these bytes.

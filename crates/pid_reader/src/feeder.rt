@@ -1,13 +1,15 @@
 //! A text as a tree, whole or in pieces.
-ghost use Rattle.std.specs.Prelude.{◌≡◌, ◌++◌, ℕ, [], List, None, Err, OnOk, IfOk, IfErr};
+ghost use Rattle.std.specs.Prelude.{◌≡◌, ◌++◌, ℕ, [], List, None, Err, OnOk, IfOk, IfErr, reverse};
 ghost use Rattle.pid_reader.specs.Reading.{Reads, refused, refusal_of};
 ghost use Rattle.pid_reader.specs.WholeLines.{whole_lines};
+ghost use Rattle.pid_reader.specs.OpenLevels.{IsOpenAt};
 ghost use Rattle.pid_reader.specs.Refusals.{IsRefusal};
 ghost use Rattle.pid_reader.specs.Cutters.{left_by};
 ghost use Rattle.pid_reader.specs.Feeders.{Feeds, GaveUp, IsTreeEnd};
 ghost use Rattle.pid_reader.specs.declared.sink.CutEnd.TheVariants.{Refused};
 
 use crate::cutter::Cutter;
+use crate::open_levels::OpenLevels;
 use crate::refusal::ReadRefusal;
 use crate::sink::CutEnd;
 use crate::tree_sink::{TreeFault, TreeSink};
@@ -29,6 +31,13 @@ impl Feeder {
             cutter: Cutter::new(alloc),
             sink: TreeSink::new(alloc),
         }
+    }
+
+    /// Takes levels that the lines so far leave open.
+    pub(crate) fn set_levels(&mut self, levels: OpenLevels)
+        ensures { (text : List ℕ) → Feeds self.old text → IsOpenAt levels (reverse (whole_lines text)) → Feeds self.new text }
+    {
+        self.cutter.set_levels(levels);
     }
 
     // The piece goes into the tree, where no parent is missing.

@@ -5,6 +5,7 @@ use crate::cutter::Cutter;
 use crate::entry_counter::EntryCounter;
 use crate::feeder::{Feeder, read_ids};
 use crate::lines::Lines;
+use crate::looking_back::read_by_looking_back;
 use crate::refusal::ReadRefusal;
 use crate::sink::CutEnd;
 use pid_ident::{LineKind, Path};
@@ -82,6 +83,10 @@ fn by_read_ids(alloc: Global, text: &[u8]) -> Answer {
     Ok(read_ids(alloc, text)?.len())
 }
 
+fn by_looking_back(alloc: Global, text: &[u8]) -> Answer {
+    Ok(read_by_looking_back(alloc, text)?.len())
+}
+
 // The answer of a feeder that is fed pieces of this many bytes.
 fn by_pieces(alloc: Global, text: &[u8], size: usize) -> Answer {
     let mut feeder = Feeder::new(alloc);
@@ -105,6 +110,7 @@ fn rows_whole_and_cut(rt: HostRuntime) {
     for (text, want) in rows() {
         assert_eq!(rt; by_read_ids(rt.alloc(), text), want, "{text:?}");
         assert_eq!(rt; by_pieces(rt.alloc(), text, 1), want, "{text:?}");
+        assert_eq!(rt; by_looking_back(rt.alloc(), text), want, "{text:?}");
         for at in 0..text.len() {
             let counted = want.map(|n| n as u64);
             assert_eq!(rt;
@@ -123,6 +129,7 @@ fn prefixes_have_one_answer(rt: HostRuntime) {
         let whole = by_read_ids(rt.alloc(), text);
         assert_eq!(rt; by_pieces(rt.alloc(), text, 1), whole, "{end}");
         assert_eq!(rt; by_pieces(rt.alloc(), text, 7), whole, "{end}");
+        assert_eq!(rt; by_looking_back(rt.alloc(), text), whole, "{end}");
     }
 }
 

@@ -1,53 +1,82 @@
 //! The bytewise order of the texts of paths, without the texts: the letter of the front decides, and then the numbers.
-ghost use Rattle.std.specs.Prelude.{◌≡◌, ◌<◌, take};
+ghost use Rattle.std.specs.Prelude.{◌≡◌, Some, slice_get};
 ghost use Rattle.std.specs.Ordering.{on, eq_by_cmp, as_partial_cmp};
 ghost use Rattle.std.specs.Cmp.{on_total, eq_by_cmp_equiv, partial_equiv_from_equiv, partial_order_from_own_ties};
 ghost use Rattle.std.specs.Cmp.Lexicographic.{nat_list_cmp_total};
 ghost use Rattle.std.specs.Cmp.Rules.{comparing};
 ghost use Rattle.std.proofs.Common.{refl, rules};
 ghost use Rattle.pid_ident.specs.PathTexts.{IsPath, path_text, path_cmp};
-ghost use Rattle.pid_ident.specs.PathPlaces.{letter_of, numbers_of};
+ghost use Rattle.pid_ident.specs.PathPlaces.{letter_of, numbers_of, rest_cmp};
 
 use super::Path;
 use std::cmp::Ordering;
 
-// The letter of the front, and the first `len` of the numbers.
+// The letter of the front, and the first number: most paths differ there.
 #[derive(Clone, Copy)]
-struct Place {
+struct Head {
     letter: u8,
-    numbers: [u16; 4],
-    len: usize,
+    first: u16,
 }
 
-fn place_of(path: Path) -> Place
+fn head_of(path: Path) -> Head
     ensures letter { result.letter ≡ letter_of path }
-    ensures numbers { take result.len result.numbers ≡ numbers_of path }
-    ensures len { result.len < 5 }
+    ensures first { Some result.first ≡ slice_get (numbers_of path) 0 }
     ensures in_range { IsPath path }
 {
-    let (letter, numbers, len) = match path {
-        Path::Vendor { vendor } => (b'C', [vendor, 0, 0, 0], 1),
-        Path::Device { vendor, device } => (b'C', [vendor, device, 0, 0], 2),
-        Path::Subsystem {
-            vendor,
-            device,
-            subvendor,
-            subdevice,
-        } => (b'C', [vendor, device, subvendor, subdevice], 4),
-        Path::Class { class } => (b'D', [class as u16, 0, 0, 0], 1),
-        Path::Subclass { class, subclass } => (b'D', [class as u16, subclass as u16, 0, 0], 2),
-        Path::ProgIf {
-            class,
-            subclass,
-            progif,
-        } => (b'D', [class as u16, subclass as u16, progif as u16, 0], 3),
-        Path::Generic { vendor, device } => (b'S', [vendor, device, 0, 0], 2),
+    let (letter, first) = match path {
+        Path::Vendor { vendor } | Path::Device { vendor, .. } | Path::Subsystem { vendor, .. } => {
+            (b'C', vendor)
+        }
+        Path::Class { class } | Path::Subclass { class, .. } | Path::ProgIf { class, .. } => {
+            (b'D', class as u16)
+        }
+        Path::Generic { vendor, .. } => (b'S', vendor),
     };
-    Place {
-        letter,
-        numbers,
-        len,
+    Head { letter, first }
+}
+
+fn second_of(path: Path) -> Option<u16>
+    ensures { result ≡ slice_get (numbers_of path) 1 }
+{
+    match path {
+        Path::Vendor { .. } | Path::Class { .. } => None,
+        Path::Device { device, .. }
+        | Path::Subsystem { device, .. }
+        | Path::Generic { device, .. } => { Some(device) }
+        Path::Subclass { subclass, .. } | Path::ProgIf { subclass, .. } => Some(subclass as u16),
     }
+}
+
+fn third_of(path: Path) -> Option<u16>
+    ensures { result ≡ slice_get (numbers_of path) 2 }
+{
+    match path {
+        Path::Subsystem { subvendor, .. } => Some(subvendor),
+        Path::ProgIf { progif, .. } => Some(progif as u16),
+        _ => None,
+    }
+}
+
+fn fourth_of(path: Path) -> Option<u16>
+    ensures { result ≡ slice_get (numbers_of path) 3 }
+{
+    match path {
+        Path::Subsystem { subdevice, .. } => Some(subdevice),
+        _ => None,
+    }
+}
+
+// By the numbers behind the first: a missing one comes before every other.
+fn compare_rests(mine: Path, theirs: Path) -> Ordering
+    ensures { result ≡ rest_cmp (numbers_of mine) (numbers_of theirs) }
+{
+    let by_second = second_of(mine).cmp(&second_of(theirs));
+    if by_second.is_ne() {
+        return by_second;
+    }
+    let by_third = third_of(mine).cmp(&third_of(theirs));
+    let by_fourth = fourth_of(mine).cmp(&fourth_of(theirs));
+    by_third.then(by_fourth)
 }
 
 impl PartialEq for Path {
@@ -84,11 +113,13 @@ impl Ord for Path {
     ghost matches_eq = { λ x y. refl };
 
     fn cmp(&self, other: &Path) -> Ordering {
-        let mine = place_of(*self);
-        let theirs = place_of(*other);
+        let mine = head_of(*self);
+        let theirs = head_of(*other);
         let by_letter = mine.letter.cmp(&theirs.letter);
-        let (numbers, _) = mine.numbers.split_at(mine.len);
-        let (others, _) = theirs.numbers.split_at(theirs.len);
-        by_letter.then(numbers.cmp(others))
+        let by_head = by_letter.then(mine.first.cmp(&theirs.first));
+        if by_head.is_ne() {
+            return by_head;
+        }
+        compare_rests(*self, *other)
     }
 }

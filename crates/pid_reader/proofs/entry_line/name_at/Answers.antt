@@ -1,5 +1,4 @@
-use Rattle.std.proofs.Common.{◌≡◌, ◌∙◌, sym, ap, subst, List, ℕ, Some}
-use Rattle.pid_ident.specs.Bytes.{is_empty}
+use Rattle.std.proofs.Common.{◌≡◌, ◌∙◌, sym, subst, List, ℕ, Some}
 use Rattle.pid_ident.specs.declared.line_kind.LineKind.TheVariants.{BadName}
 use Rattle.pid_reader.specs.EntryLines.{name_fault}
 use Rattle.pid_reader.proofs.LineLemmas.{not_utf8, bad_bytes}

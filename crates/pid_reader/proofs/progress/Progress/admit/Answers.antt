@@ -1,5 +1,4 @@
 use Rattle.std.proofs.Common.{◌≡◌, ◌∙◌, sym, subst, arith, inr, Bool, cond, ◌+◌, length}
-use Rattle.pid_ident.specs.declared.path.Path.TheVariants.{Vendor}
 use Rattle.pid_reader.specs.OpenLevels.{open_behind}
 use Rattle.pid_reader.specs.Progress.{has_path}
 use Rattle.pid_reader.proofs.OneMoreLine.{block_refused, block_good, quiet_taken, duplicate_refused, many_refused, item_taken, not_true, not_false}

@@ -1,0 +1,67 @@
+-- The answer of a look-up: libpci's pci_lookup_name over a map of names.
+use Rattle.std.specs.Prelude.{ℕ, not, ◌||◌, List, ◌++◌, Option, Some, None, codes}
+use Rattle.pid_ident.specs.declared.path.Path.{Path}
+use Rattle.pid_ident.specs.declared.path.Path.TheVariants.{Vendor, Device}
+use Rattle.pid_ident.specs.Identifiers.{hex4, hex2}
+use Rattle.pid_ident.specs.Trees.{TreeMap}
+use Rattle.pid_lookup.specs.declared.args.Args.{Args}
+use Rattle.pid_lookup.specs.declared.flags.Request.{Request}
+use Rattle.pid_lookup.specs.declared.flags.Request.TheVariants as requests
+use Rattle.pid_lookup.specs.declared.answer.Answer.{Answer}
+use Rattle.pid_lookup.specs.declared.answer.Answer.TheVariants.{Text, NoAnswer}
+use Rattle.pid_lookup.specs.Flags.{Switches, switches_of, request_of}
+use Rattle.pid_lookup.specs.Found.{name_in, subsystem_name, subclass_name, class_name, progif_name}
+use Rattle.pid_lookup.specs.Layouts.{one_text, pair_text}
+use Rattle.pid_lookup.specs.Cut.{cut}
+
+-- two numbers of a pair
+abbrev pub joined : ℕ → ℕ → List ℕ
+joined v d = hex4 v ++ codes ":" ++ hex4 d
+
+-- the number that a request shows
+abbrev pub number_of : Request → Args → List ℕ
+number_of requests.Vendor a = hex4 a.vendor
+number_of requests.Device a = hex4 a.device
+number_of requests.VendorAndDevice a = joined a.vendor a.device
+number_of requests.Subvendor a = hex4 a.subvendor
+number_of requests.Subsystem a = hex4 a.subdevice
+number_of requests.SubvendorAndSubsystem a = joined a.subvendor a.subdevice
+number_of requests.Class a = hex4 a.class
+number_of requests.ProgIf a = hex2 a.progif
+
+-- MIXED, but where numbers stand alone
+abbrev pub with_numbers : Switches → Switches
+with_numbers s = record s { mixed = s.mixed || not s.numeric }
+
+-- a class without the subclass's name shows that of the class, and then the number too
+abbrev pub class_text : Switches → List ℕ → Option (List ℕ) → Option (List ℕ) → Option (List ℕ)
+class_text s number (Some subclass) class = one_text s number (codes "Class") (Some subclass)
+class_text s number None None = one_text s number (codes "Class") None
+class_text s number None (Some class) = one_text (with_numbers s) number (codes "Class") (Some class)
+
+-- what a request shows of the names that are looked for
+abbrev pub text_of : (Path → Option (List ℕ)) → Switches → Request → Args → Option (List ℕ)
+text_of named s requests.Vendor a = one_text s (hex4 a.vendor) (codes "Vendor") (named (Vendor a.vendor))
+text_of named s requests.Device a = one_text s (hex4 a.device) (codes "Device") (named (Device a.vendor a.device))
+text_of named s requests.Subvendor a = one_text s (hex4 a.subvendor) (codes "Unknown vendor") (named (Vendor a.subvendor))
+text_of named s requests.Subsystem a = one_text s (hex4 a.subdevice) (codes "Device") (subsystem_name named a)
+text_of named s requests.Class a = class_text s (hex4 a.class) (subclass_name named a) (class_name named a)
+text_of named s requests.ProgIf a = one_text s (hex2 a.progif) (codes "ProgIf") (progif_name named a)
+text_of named s requests.VendorAndDevice a = pair_text s (joined a.vendor a.device) (named (Vendor a.vendor)) (named (Device a.vendor a.device))
+text_of named s requests.SubvendorAndSubsystem a = pair_text s (joined a.subvendor a.subdevice) (named (Vendor a.subvendor)) (subsystem_name named a)
+
+abbrev pub invalid_request : List ℕ
+invalid_request = codes "<pci_lookup_name: invalid request>"
+
+abbrev pub cut_answer : Option (List ℕ) → ℕ → Answer
+cut_answer None size = NoAnswer
+cut_answer (Some text) size = Text (cut text size)
+
+-- a request that is none is told whole, whatever the buffer
+abbrev pub requested : (Path → Option (List ℕ)) → Switches → Option Request → Args → ℕ → Answer
+requested named s None a size = Text invalid_request
+requested named s (Some request) a size = cut_answer (text_of named s request a) size
+
+-- the answer to flags that are not bad
+abbrev pub answer_of : TreeMap → ℕ → Args → ℕ → Answer
+answer_of t flags a size = requested (name_in t) (switches_of flags) (request_of flags) a size

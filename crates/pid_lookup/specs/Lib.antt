@@ -1,0 +1,11 @@
+pub mod Flags
+pub mod Styles
+pub mod Found
+pub mod Layouts
+pub mod Cut
+pub mod Answers
+pub mod TreeNames
+pub mod Fields
+pub mod Holders
+pub mod Words
+pub mod Searching

@@ -1,0 +1,150 @@
+//! The texts that libpci's `pci_lookup_name` gives.
+ghost use Rattle.std.specs.Prelude.{◌≡◌, ◌≢◌, ◌↔◌, true, Err, IfOk, IfErr, IsErrOf};
+ghost use Rattle.std.specs.List.{flat_map};
+ghost use Rattle.pid_lookup.specs.declared.answering.LookupRefusal.TheVariants.{Memory};
+ghost use Rattle.pid_lookup.specs.Answers.{answer_of, cut_answer, number_of, text_of};
+ghost use Rattle.pid_lookup.specs.Cut.{cut as cut_text};
+ghost use Rattle.pid_lookup.specs.Flags.{is_bad};
+ghost use Rattle.pid_lookup.specs.Found.{name_in};
+ghost use Rattle.pid_lookup.specs.Holders.{Keeps};
+ghost use Rattle.pid_lookup.specs.Searching.{found_text, word_of};
+ghost use Rattle.pid_lookup.specs.Styles.{switches};
+
+use crate::answer::{Answer, AnswerText};
+use crate::args::Args;
+use crate::cut::cut;
+use crate::digits::Digits;
+use crate::find::{Found, find};
+use crate::flags::{Request, Style, read_flags};
+use crate::layout::found_parts;
+use crate::names::Names;
+use std::alloc::{AllocError, Global};
+use thiserror::Error;
+
+/// Why a look-up has no answer.
+#[derive(Debug, Drop, Error)]
+pub enum LookupRefusal<F> {
+    #[error("the flags ask for numbers alone and for no numbers, or have an unknown bit")]
+    BadFlags,
+    /// The holder of the names gave a fault.
+    #[error("the names could not be read")]
+    Names(F),
+    #[error("no memory")]
+    Memory,
+}
+
+impl<F> From<AllocError> for LookupRefusal<F> {
+    ghost from_gives = { λ _ e. e ≡ Memory };
+
+    fn from(_error: AllocError) -> LookupRefusal<F> {
+        LookupRefusal::Memory
+    }
+}
+
+/// The text for the flags and the arguments, as it fits into a buffer of `size` bytes.
+///
+/// The low 16 bits of the flags say what is looked up, as libpci's `PCI_LOOKUP_VENDOR` and its kin do; above these
+/// `PCI_LOOKUP_NUMERIC`, `PCI_LOOKUP_NO_NUMBERS` and `PCI_LOOKUP_MIXED` say how. The answer takes one allocation.
+pub fn lookup<N: Names>(
+    alloc: Global,
+    names: &mut N,
+    flags: u32,
+    args: &Args,
+    size: u32,
+) -> Result<Answer, LookupRefusal<N::Fault>>
+    ensures answer { N.is_honest names.new → (s : N.Shown) → N.shows names.old s
+        → IfOk result (λ answer. answer ≡ answer_of (N.map_of s) flags args.now size) }
+    ensures bad_flags { IsErrOf result LookupRefusal.BadFlags ↔ (is_bad flags ≡ true) }
+    ensures fault { (f : _) → IsErrOf result (LookupRefusal.Names f) → N.may_give names.old f }
+    ensures kept { Keeps N.shows N.is_honest N.may_give names.old names.new }
+{
+    let Some(flags) = read_flags(flags) else {
+        return Err(LookupRefusal::BadFlags);
+    };
+    match flags.request {
+        Some(request) => answer_request(alloc, names, request, flags.style, args, size),
+        None => Ok(told(alloc, b"<pci_lookup_name: invalid request>")?),
+    }
+}
+
+// A text that is told whole.
+fn told(alloc: Global, text: &[u8]) -> Result<Answer, AllocError>
+    ensures { IfOk result (λ answer. answer ≡ Answer.Text text.now) }
+{
+    Ok(Answer::Text(AnswerText::of(Vec::from_slice(alloc, text)?)))
+}
+
+fn answer_request<N: Names>(
+    alloc: Global,
+    names: &mut N,
+    request: Request,
+    style: Style,
+    args: &Args,
+    size: u32,
+) -> Result<Answer, LookupRefusal<N::Fault>>
+    ensures answer { N.is_honest names.new → (s : N.Shown) → N.shows names.old s
+        → IfOk result (λ answer. answer ≡ cut_answer (text_of (name_in (N.map_of s)) (switches style) request args.now) size) }
+    ensures good_flags { result ≢ Err LookupRefusal.BadFlags }
+    ensures fault { (f : _) → IsErrOf result (LookupRefusal.Names f) → N.may_give names.old f }
+    ensures kept { Keeps N.shows N.is_honest N.may_give names.old names.new }
+{
+    match style {
+        Style::Numeric => Ok(show_number(alloc, request, args, size)?),
+        _ => match find(names, request, args) {
+            Ok(found) => Ok(show(alloc, style, request, args, found, size)?),
+            Err(fault) => Err(LookupRefusal::Names(fault)),
+        },
+    }
+}
+
+// The number alone.
+fn show_number(
+    alloc: Global,
+    request: Request,
+    args: &Args,
+    size: u32,
+) -> Result<Answer, AllocError>
+    ensures { IfOk result (λ answer. answer ≡ Answer.Text (cut_text (number_of request args.now) size)) }
+{
+    let number = Digits::of(request, args);
+    show_parts(alloc, &[number.as_bytes()], size)
+}
+
+// What was found.
+fn show(
+    alloc: Global,
+    style: Style,
+    request: Request,
+    args: &Args,
+    found: Found,
+    size: u32,
+) -> Result<Answer, AllocError>
+    ensures { IfOk result (λ answer. answer ≡ cut_answer
+        (found_text (switches style) (number_of request args.now) (word_of request) found) size) }
+{
+    show_found(alloc, style, request, args, &found, size)
+}
+
+fn show_found(
+    alloc: Global,
+    style: Style,
+    request: Request,
+    args: &Args,
+    found: &Found,
+    size: u32,
+) -> Result<Answer, AllocError>
+    ensures { IfOk result (λ answer. answer ≡ cut_answer
+        (found_text (switches style) (number_of request args.now) (word_of request) found.now) size) }
+{
+    let number = Digits::of(request, args);
+    match found_parts(style, number.as_bytes(), request.word(), found) {
+        Some(parts) => show_parts(alloc, &parts.slices, size),
+        None => Ok(Answer::NoAnswer),
+    }
+}
+
+fn show_parts(alloc: Global, parts: &[&[u8]], size: u32) -> Result<Answer, AllocError>
+    ensures { IfOk result (λ answer. answer ≡ Answer.Text (cut_text (flat_map (λ part. part.now) parts.now) size)) }
+{
+    Ok(Answer::Text(AnswerText::of(cut(alloc, parts, size)?)))
+}

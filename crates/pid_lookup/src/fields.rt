@@ -1,0 +1,175 @@
+//! The fields of a look-up.
+ghost use Rattle.std.specs.Prelude.{◌≡◌, ◌↔◌, ◌<◌, ◌≤◌, ◌^◌, true, false, find, string_bytes, IfOk, IfSome, IsNone, IsErr, nat_lt};
+ghost use Rattle.std.specs.Char.{is_digit};
+ghost use Rattle.std.specs.List.{list_all};
+ghost use Rattle.std.specs.Option.{option_copied};
+ghost use Rattle.std.specs.Str.{bytes_eq};
+ghost use Rattle.pid_lookup.specs.Fields.{numeral as numeral_of, times, value_of, flags_said, size_said, number_said, progif_said, is_known as known_name, are_known as known_names, are_bad, LooksUp};
+
+use crate::args::Args;
+use thiserror::Error;
+
+/// A field of a look-up is unknown, there twice, missing where it must be there, or breaks its rule.
+#[derive(Clone, Copy, Debug, PartialEq, Eq, Error)]
+#[error("the fields of the look-up are bad")]
+pub struct BadField;
+
+/// The flags, the arguments and the size that fields, pairs of a name and a value, say.
+///
+/// `flags` is 1 to 8 hex digits and must be there. `size` is 1 to 9 decimal digits, 1024 where it is missing.
+/// `vendor`, `device`, `subvendor`, `subdevice` and `class` are 4 hex digits, `progif` is 2, and 0 where they are missing.
+/// The order of the fields does not matter.
+pub fn args_of(fields: &[(String, String)]) -> Result<(u32, Args, u32), BadField>
+    ensures ok { IfOk result (LooksUp fields.now) }
+    ensures bad { IsErr result ↔ (are_bad fields.now ≡ true) }
+{
+    read_fields(fields).ok_or(BadField)
+}
+
+fn read_fields(fields: &[(String, String)]) -> Option<(u32, Args, u32)>
+    ensures found { IfSome result (LooksUp fields.now) }
+    ensures none { IsNone result ↔ (are_bad fields.now ≡ true) }
+{
+    if !are_known(fields) {
+        return None;
+    }
+    let flags = flags_of(fields)?;
+    let size = size_of(fields)?;
+    let vendor = number_of(fields, "vendor")?;
+    let device = number_of(fields, "device")?;
+    let subvendor = number_of(fields, "subvendor")?;
+    let subdevice = number_of(fields, "subdevice")?;
+    let class = number_of(fields, "class")?;
+    let progif = progif_of(fields)?;
+    let args = Args {
+        vendor,
+        device,
+        subvendor,
+        subdevice,
+        class,
+        progif,
+    };
+    Some((flags, args, size))
+}
+
+fn are_known(fields: &[(String, String)]) -> bool
+    ensures { result ≡ known_names fields.now }
+{
+    fields.iter().all(|field| is_known(field.0.as_str()))
+}
+
+fn is_known(name: &str) -> bool
+    ensures { result ≡ known_name name.now }
+{
+    name == "flags"
+        || name == "size"
+        || name == "vendor"
+        || name == "device"
+        || name == "subvendor"
+        || name == "subdevice"
+        || name == "class"
+        || name == "progif"
+}
+
+fn flags_of(fields: &[(String, String)]) -> Option<u32>
+    ensures { result ≡ flags_said fields.now }
+{
+    if is_twice(fields, "flags") {
+        return None;
+    }
+    numeral(value(fields, "flags")?, 16, 1, 8)
+}
+
+fn size_of(fields: &[(String, String)]) -> Option<u32>
+    ensures { result ≡ size_said fields.now }
+{
+    if is_twice(fields, "size") {
+        return None;
+    }
+    match value(fields, "size") {
+        Some(text) => numeral(text, 10, 1, 9),
+        None => Some(1024),
+    }
+}
+
+fn number_of(fields: &[(String, String)], name: &str) -> Option<u16>
+    ensures { result ≡ number_said name.now fields.now }
+{
+    if is_twice(fields, name) {
+        return None;
+    }
+    match value(fields, name) {
+        Some(text) => Some(numeral(text, 16, 4, 4)? as u16),
+        None => Some(0),
+    }
+}
+
+fn progif_of(fields: &[(String, String)]) -> Option<u8>
+    ensures { result ≡ progif_said fields.now }
+{
+    if is_twice(fields, "progif") {
+        return None;
+    }
+    match value(fields, "progif") {
+        Some(text) => Some(numeral(text, 16, 2, 2)? as u8),
+        None => Some(0),
+    }
+}
+
+// Whether a field is there more than once.
+fn is_twice(fields: &[(String, String)], name: &str) -> bool
+    ensures { result ≡ nat_lt 1 (times name.now fields.now) }
+{
+    times_there(fields, name) > 1
+}
+
+fn times_there(fields: &[(String, String)], name: &str) -> usize
+    ensures { result ≡ times name.now fields.now }
+{
+    fields
+        .iter()
+        .filter(|field| field.0.as_str() == name)
+        .count()
+}
+
+// The value of the first field of the name.
+fn value<'a>(fields: &'a [(String, String)], name: &str) -> Option<&'a str>
+    ensures { option_copied result ≡ value_of name.now fields.now }
+{
+    match first(fields, name) {
+        Some((_, value)) => Some(value.as_str()),
+        None => None,
+    }
+}
+
+fn first<'a>(fields: &'a [(String, String)], name: &str) -> Option<&'a (String, String)>
+    ensures { option_copied result ≡ find (λ field. bytes_eq (string_bytes field.0) name.now) fields.now }
+{
+    fields.iter().find(|field| field.0.as_str() == name)
+}
+
+// The number that a text of so many digits writes.
+fn numeral(text: &str, radix: u32, least: usize, most: usize) -> Option<u32>
+    requires some { 0 < least }
+    requires binary { 2 ≤ radix }
+    requires letters { radix ≤ 36 }
+    requires fits { radix ^ most ≤ 2 ^ 32 }
+    ensures value { result ≡ numeral_of radix least most text.now }
+    ensures bound { IfSome result (λ number. number < radix ^ most) }
+{
+    if text.len() < least || text.len() > most || !are_digits(text.as_bytes(), radix) {
+        return None;
+    }
+    match u32::from_str_radix(text, radix) {
+        Ok(number) => Some(number),
+        Err(_) => None,
+    }
+}
+
+fn are_digits(bytes: &[u8], radix: u32) -> bool
+    requires binary { 2 ≤ radix }
+    requires letters { radix ≤ 36 }
+    ensures { result ≡ list_all (λ c. is_digit c radix) bytes.now }
+{
+    bytes.iter().all(|b| char::from(*b).is_digit(radix))
+}

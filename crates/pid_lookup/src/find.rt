@@ -1,0 +1,219 @@
+//! The names that a request is about.
+ghost use Rattle.std.specs.Prelude.{◌≡◌, ◌&&◌, ◌==◌, not, nat_lt, IfOk, IfErr};
+ghost use Rattle.pid_ident.specs.declared.path.Path.TheVariants as paths;
+ghost use Rattle.pid_lookup.specs.Found.{name_in, where_true, subsystem_name, subclass_name, class_name, class_byte as class_half, subclass_byte as subclass_half};
+ghost use Rattle.pid_lookup.specs.Flags.{has};
+ghost use Rattle.pid_lookup.specs.Holders.{Keeps};
+ghost use Rattle.pid_lookup.specs.Searching.{found_for, class_found, nameless, progif_found};
+
+use crate::args::Args;
+use crate::flags::Request;
+use crate::ide::IdeWords;
+use crate::names::Names;
+use pid_ident::{Id16, Name, Path};
+
+/// What there is for a request.
+#[derive(Drop)]
+pub enum Found {
+    One(Option<Name>),
+    /// The interface of an IDE controller that has no name.
+    Ide(IdeWords),
+    /// The name of a class in place of that of its subclass.
+    ClassOnly(Name),
+    /// The names of a vendor and of a device.
+    Pair(Option<Name>, Option<Name>),
+}
+
+/// The names that a request is about.
+pub fn find<N: Names>(names: &mut N, request: Request, args: &Args) -> Result<Found, N::Fault>
+    ensures found { N.is_honest names.new → (s : N.Shown) → N.shows names.old s
+        → IfOk result (λ found. found ≡ found_for (name_in (N.map_of s)) request args.now) }
+    ensures fault { IfErr result (λ f. N.may_give names.old f) }
+    ensures kept { Keeps N.shows N.is_honest N.may_give names.old names.new }
+{
+    match request {
+        Request::Vendor => Ok(Found::One(find_vendor(names, args.vendor)?)),
+        Request::Device => Ok(Found::One(find_device(names, args)?)),
+        Request::Subvendor => Ok(Found::One(find_vendor(names, args.subvendor)?)),
+        Request::Subsystem => Ok(Found::One(find_subsystem(names, args)?)),
+        Request::Class => find_class(names, args),
+        Request::ProgIf => find_progif(names, args),
+        Request::VendorAndDevice => find_device_pair(names, args),
+        Request::SubvendorAndSubsystem => find_subsystem_pair(names, args),
+    }
+}
+
+fn find_vendor<N: Names>(names: &mut N, vendor: Id16) -> Result<Option<Name>, N::Fault>
+    ensures found { N.is_honest names.new → (s : N.Shown) → N.shows names.old s
+        → IfOk result (λ name. name ≡ name_in (N.map_of s) (paths.Vendor vendor)) }
+    ensures fault { IfErr result (λ f. N.may_give names.old f) }
+    ensures kept { Keeps N.shows N.is_honest N.may_give names.old names.new }
+{
+    names.name_of(&Path::Vendor { vendor })
+}
+
+fn find_device<N: Names>(names: &mut N, args: &Args) -> Result<Option<Name>, N::Fault>
+    ensures found { N.is_honest names.new → (s : N.Shown) → N.shows names.old s
+        → IfOk result (λ name. name ≡ name_in (N.map_of s) (paths.Device args.now.vendor args.now.device)) }
+    ensures fault { IfErr result (λ f. N.may_give names.old f) }
+    ensures kept { Keeps N.shows N.is_honest N.may_give names.old names.new }
+{
+    names.name_of(&Path::Device {
+        vendor: args.vendor,
+        device: args.device,
+    })
+}
+
+fn find_device_pair<N: Names>(names: &mut N, args: &Args) -> Result<Found, N::Fault>
+    ensures found { N.is_honest names.new → (s : N.Shown) → N.shows names.old s
+        → IfOk result (λ found. found ≡ Found.Pair
+        (name_in (N.map_of s) (paths.Vendor args.now.vendor))
+        (name_in (N.map_of s) (paths.Device args.now.vendor args.now.device))) }
+    ensures fault { IfErr result (λ f. N.may_give names.old f) }
+    ensures kept { Keeps N.shows N.is_honest N.may_give names.old names.new }
+{
+    let vendor = find_vendor(names, args.vendor)?;
+    let device = find_device(names, args)?;
+    Ok(Found::Pair(vendor, device))
+}
+
+fn find_subsystem_pair<N: Names>(names: &mut N, args: &Args) -> Result<Found, N::Fault>
+    ensures found { N.is_honest names.new → (s : N.Shown) → N.shows names.old s
+        → IfOk result (λ found. found ≡ Found.Pair
+        (name_in (N.map_of s) (paths.Vendor args.now.subvendor))
+        (subsystem_name (name_in (N.map_of s)) args.now)) }
+    ensures fault { IfErr result (λ f. N.may_give names.old f) }
+    ensures kept { Keeps N.shows N.is_honest N.may_give names.old names.new }
+{
+    let vendor = find_vendor(names, args.subvendor)?;
+    let device = find_subsystem(names, args)?;
+    Ok(Found::Pair(vendor, device))
+}
+
+fn find_subsystem<N: Names>(names: &mut N, args: &Args) -> Result<Option<Name>, N::Fault>
+    ensures found { N.is_honest names.new → (s : N.Shown) → N.shows names.old s
+        → IfOk result (λ name. name ≡ subsystem_name (name_in (N.map_of s)) args.now) }
+    ensures fault { IfErr result (λ f. N.may_give names.old f) }
+    ensures kept { Keeps N.shows N.is_honest N.may_give names.old names.new }
+{
+    if let Some(name) = find_under_device(names, args)? {
+        return Ok(Some(name));
+    }
+    if let Some(name) = find_generic(names, args)? {
+        return Ok(Some(name));
+    }
+    find_own_device(names, args)
+}
+
+// The subsystem's entry under the device.
+fn find_under_device<N: Names>(names: &mut N, args: &Args) -> Result<Option<Name>, N::Fault>
+    ensures found { N.is_honest names.new → (s : N.Shown) → N.shows names.old s
+        → IfOk result (λ name. name ≡ where_true (nat_lt 0 args.now.vendor && nat_lt 0 args.now.device)
+        (name_in (N.map_of s) (paths.Subsystem args.now.vendor args.now.device args.now.subvendor args.now.subdevice))) }
+    ensures fault { IfErr result (λ f. N.may_give names.old f) }
+    ensures kept { Keeps N.shows N.is_honest N.may_give names.old names.new }
+{
+    if args.vendor == 0 || args.device == 0 {
+        return Ok(None);
+    }
+    names.name_of(&Path::Subsystem {
+        vendor: args.vendor,
+        device: args.device,
+        subvendor: args.subvendor,
+        subdevice: args.subdevice,
+    })
+}
+
+// The subsystem's entry under no device.
+fn find_generic<N: Names>(names: &mut N, args: &Args) -> Result<Option<Name>, N::Fault>
+    ensures found { N.is_honest names.new → (s : N.Shown) → N.shows names.old s
+        → IfOk result (λ name. name ≡ name_in (N.map_of s) (paths.Generic args.now.subvendor args.now.subdevice)) }
+    ensures fault { IfErr result (λ f. N.may_give names.old f) }
+    ensures kept { Keeps N.shows N.is_honest N.may_give names.old names.new }
+{
+    names.name_of(&Path::Generic {
+        vendor: args.subvendor,
+        device: args.subdevice,
+    })
+}
+
+// The device, where it is its own subsystem.
+fn find_own_device<N: Names>(names: &mut N, args: &Args) -> Result<Option<Name>, N::Fault>
+    ensures found { N.is_honest names.new → (s : N.Shown) → N.shows names.old s
+        → IfOk result (λ name. name ≡ where_true (args.now.subvendor == args.now.vendor && args.now.subdevice == args.now.device)
+        (name_in (N.map_of s) (paths.Device args.now.vendor args.now.device))) }
+    ensures fault { IfErr result (λ f. N.may_give names.old f) }
+    ensures kept { Keeps N.shows N.is_honest N.may_give names.old names.new }
+{
+    if !is_own_subsystem(args) {
+        return Ok(None);
+    }
+    find_device(names, args)
+}
+
+fn is_own_subsystem(args: &Args) -> bool
+    ensures { result ≡ (args.now.subvendor == args.now.vendor && args.now.subdevice == args.now.device) }
+{
+    args.subvendor == args.vendor && args.subdevice == args.device
+}
+
+fn find_class<N: Names>(names: &mut N, args: &Args) -> Result<Found, N::Fault>
+    ensures found { N.is_honest names.new → (s : N.Shown) → N.shows names.old s
+        → IfOk result (λ found. found ≡ class_found
+        (subclass_name (name_in (N.map_of s)) args.now)
+        (class_name (name_in (N.map_of s)) args.now)) }
+    ensures fault { IfErr result (λ f. N.may_give names.old f) }
+    ensures kept { Keeps N.shows N.is_honest N.may_give names.old names.new }
+{
+    let class = class_byte(args);
+    let subclass = subclass_byte(args);
+    if let Some(name) = names.name_of(&Path::Subclass { class, subclass })? {
+        return Ok(Found::One(Some(name)));
+    }
+    match names.name_of(&Path::Class { class })? {
+        Some(name) => Ok(Found::ClassOnly(name)),
+        None => Ok(Found::One(None)),
+    }
+}
+
+fn find_progif<N: Names>(names: &mut N, args: &Args) -> Result<Found, N::Fault>
+    ensures found { N.is_honest names.new → (s : N.Shown) → N.shows names.old s
+        → IfOk result (λ found. found ≡ progif_found
+        (name_in (N.map_of s) (paths.ProgIf (class_half args.now) (subclass_half args.now) args.now.progif))
+        (args.now.class == 0x101 && not (has args.now.progif 0x70)) args.now.progif) }
+    ensures fault { IfErr result (λ f. N.may_give names.old f) }
+    ensures kept { Keeps N.shows N.is_honest N.may_give names.old names.new }
+{
+    let path = Path::ProgIf {
+        class: class_byte(args),
+        subclass: subclass_byte(args),
+        progif: args.progif,
+    };
+    match names.name_of(&path)? {
+        Some(name) => Ok(Found::One(Some(name))),
+        None => Ok(nameless_progif(args)),
+    }
+}
+
+// An interface that has no name.
+fn nameless_progif(args: &Args) -> Found
+    ensures { result ≡ nameless (args.now.class == 0x101 && not (has args.now.progif 0x70)) args.now.progif }
+{
+    if args.class == 0x101 && args.progif & 0x70 == 0 {
+        Found::Ide(IdeWords::of(args.progif))
+    } else {
+        Found::One(None)
+    }
+}
+
+fn class_byte(args: &Args) -> u8
+    ensures { result ≡ class_half args.now }
+{
+    (args.class / 256) as u8
+}
+
+fn subclass_byte(args: &Args) -> u8
+    ensures { result ≡ subclass_half args.now }
+{
+    (args.class % 256) as u8
+}

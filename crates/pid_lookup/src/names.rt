@@ -1,0 +1,37 @@
+//! Holders of names.
+ghost use Rattle.std.specs.Prelude.{◌≡◌, IfOk, IfErr};
+ghost use Rattle.pid_ident.specs.Trees.{TreeMap};
+ghost use Rattle.pid_lookup.specs.Found.{name_in};
+ghost use Rattle.pid_lookup.specs.Holders.{Keeps};
+
+use pid_ident::{Name, Path};
+
+/// A holder of names: a tree, or a registry over a disk.
+///
+/// What it tells is the map of what it shows, where it is honest as the call ends. No question changes what is shown
+/// or which faults may come.
+pub trait Names {
+    type Fault;
+
+    /// What the holder may show: a map, or a history that has one.
+    ghost Shown: { Type 0 };
+
+    /// The map of what is shown.
+    ghost map_of: { Shown → TreeMap };
+
+    /// Whether the holder shows this.
+    ghost shows: { Self → Shown → Type 0 };
+
+    /// Whether what the holder reads from gave back what was written to it.
+    ghost is_honest: { Self → Type 0 };
+
+    /// Whether the holder may give this fault.
+    ghost may_give: { Self → Self.Fault → Type 0 };
+
+    /// A copy of the name of a path.
+    fn name_of(&mut self, path: &Path) -> Result<Option<Name>, Self::Fault>
+        ensures found { is_honest self.new → (s : Shown) → shows self.old s
+            → IfOk result (λ name. name ≡ name_in (map_of s) path.now) }
+        ensures fault { IfErr result (λ f. may_give self.old f) }
+        ensures kept { Keeps shows is_honest may_give self.old self.new };
+}

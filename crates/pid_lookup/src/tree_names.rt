@@ -1,0 +1,47 @@
+//! The names of a tree.
+ghost use Rattle.std.specs.Prelude.{◌≡◌};
+ghost use Rattle.pid_lookup.specs.TreeNames.{tree_shown};
+
+use crate::names::Names;
+use pid_ident::{Name, Path};
+use pid_tree::Tree;
+use std::alloc::AllocError;
+
+/// The names of a tree that is lent. Its fault is want of memory for a copy.
+#[derive(Drop)]
+pub struct TreeNames<'a> {
+    tree: &'a Tree,
+}
+
+impl<'a> TreeNames<'a> {
+    pub fn new(tree: &'a Tree) -> TreeNames<'a>
+        ensures { tree_shown result ≡ tree.now }
+    {
+        TreeNames { tree }
+    }
+}
+
+impl Names for TreeNames<'_> {
+    type Fault = AllocError;
+
+    ghost use Rattle.std.specs.Prelude.{◌≡◌, ⊤};
+    ghost use Rattle.pid_ident.specs.Trees.{TreeMap};
+    ghost use Rattle.pid_lookup.specs.TreeNames.{tree_shown};
+
+    ghost Shown = { TreeMap };
+
+    ghost map_of = { λ map. map };
+
+    ghost shows = { λ names map. tree_shown names ≡ map };
+
+    ghost is_honest = { λ _. ⊤ };
+
+    ghost may_give = { λ _ _. ⊤ };
+
+    fn name_of(&mut self, path: &Path) -> Result<Option<Name>, AllocError> {
+        match self.tree.get(path) {
+            Some(name) => Ok(Some(name.copy()?)),
+            None => Ok(None),
+        }
+    }
+}

@@ -1,0 +1,49 @@
+"""Each request for memory of the built program refused in turn: the whole answer, or `no memory` and nothing printed."""
+import os
+import shutil
+import subprocess
+import tempfile
+
+from program import TOP, tidy
+from worked_rows import PRINTED
+
+
+def run_refusing(shim, at, text):
+    """The program's output, faults and status with its request number `at` refused, and whether there was one."""
+    told, telling = os.pipe()
+    program = os.path.join(TOP, "crates", "pid_cli", "out", "pid_cli")
+    environment = dict(os.environ, LD_PRELOAD=shim, REFUSE_AT=str(at), REFUSE_FD=str(telling))
+    ran = subprocess.run([program], input=text, stdout=subprocess.PIPE, stderr=subprocess.PIPE, env=environment, pass_fds=[telling], timeout=60)
+    os.close(telling)
+    with os.fdopen(told, "rb") as pipe:
+        was_refused = pipe.read(1) == b"!"
+    return (ran.stdout, ran.stderr, ran.returncode), was_refused
+
+
+def run(cases):
+    if shutil.which("gcc") is None:
+        cases.skipped("refused memory", "gcc is not installed")
+        return
+    with tempfile.TemporaryDirectory() as folder:
+        shim = os.path.join(folder, "refuse_malloc.so")
+        source = os.path.join(os.path.dirname(os.path.abspath(__file__)), "refuse_malloc.c")
+        if subprocess.run(["gcc", "-O1", "-shared", "-fPIC", source, "-o", shim, "-ldl"]).returncode != 0:
+            cases.skipped("refused memory", "gcc could not build the shim")
+            return
+        # A line that comes in two pieces too, which the reader keeps.
+        texts = {name: text for name, (text, _) in PRINTED.items()}
+        texts["many vendors"] = b"".join(b"%04x  %s\n" % (v, b"n" * 40) for v in range(800))
+        refusals = 0
+        for name, text in texts.items():
+            ran = tidy(text)
+            whole = (ran.out, ran.err, ran.status)
+            for at in range(1, 100_000):
+                got, was_refused = run_refusing(shim, at, text)
+                if not was_refused:
+                    cases.equal(f"refused memory: {name}: none refused", got, whole)
+                    break
+                refusals += 1
+                if got not in (whole, (b"", b"no memory\n", 3)):
+                    cases.equal(f"refused memory: {name}: request {at}", got, whole)
+                    break
+        cases.equal("refused memory: requests were refused", refusals > 100, True)
