@@ -1,0 +1,80 @@
+-- Worked rows, by computation.
+use Rattle.std.proofs.Common.{◌≡◌, ℕ, List, [], ◌∷◌, ◌++◌, Some, None, refl}
+use Rattle.std.specs.Prelude.{codes, Ok, Err}
+use Rattle.pid_ident.specs.declared.path.Path.TheVariants.{Vendor, Device}
+use Rattle.pid_ident.specs.declared.line_kind.LineKind.TheVariants.{Duplicate}
+use Rattle.pid_moderation.specs.declared.command.Proposal.TheVariants.{Name, Removal}
+use Rattle.pid_moderation.specs.declared.command.Reply.TheVariants.{Done, Numbered, Counts}
+use Rattle.pid_moderation.specs.declared.rank.Rank.TheVariants.{Contributor, Moderator, Senior}
+use Rattle.pid_moderation.specs.declared.refusal.FileFault.TheVariants.{Line}
+use Rattle.pid_moderation.specs.declared.refusal.Refusal.TheVariants.{NoAccount, RankTooLow, NoSubmission, NotPending, NotAuthor, OwnDecision, ParentMissing, HasChildren, NothingToDo, FileFault}
+use Rattle.pid_moderation.specs.History.{Deed, Reading, Good, Faulty, Ranks, Submits, Comments, Withdraws, Approves, Rejects, Imports, Asked}
+use Rattle.pid_moderation.specs.Views.{items_of}
+use Rattle.pid_moderation.specs.Judgement.{answers, after_all}
+
+abbrev by : List ℕ → Deed → Asked
+by account deed = record { account = account; key = None; deed = deed }
+
+abbrev under : List ℕ → List ℕ → Deed → Asked
+under key account deed = record { account = account; key = Some key; deed = deed }
+
+abbrev root : List ℕ
+root = codes "root"
+
+abbrev alice : List ℕ
+alice = codes "alice"
+
+abbrev bob : List ℕ
+bob = codes "bob"
+
+abbrev row5 : List Asked
+row5 = by root (Ranks alice Contributor) ∷ by alice (Submits (Vendor 32902) (Name (codes "Intel Corporation")) []) ∷ by alice (Approves 1) ∷ by root (Approves 1) ∷ []
+
+row5_answers : answers [] row5 ≡ Ok Done ∷ Ok (Numbered 1) ∷ Err RankTooLow ∷ Ok Done ∷ []
+row5_answers = refl
+
+row5_items : items_of (after_all [] row5) ≡ (codes "PC/8086", codes "Intel Corporation") ∷ []
+row5_items = refl
+
+abbrev row6 : List Asked
+row6 = by root (Ranks bob Moderator) ∷ by bob (Submits (Device 32902 4663) (Name (codes "440FX")) []) ∷ by root (Approves 1) ∷ by bob (Submits (Vendor 32902) (Name (codes "Intel")) []) ∷ by root (Approves 2) ∷ by root (Approves 1) ∷ []
+
+row6_answers : answers [] row6 ≡ Ok Done ∷ Ok (Numbered 1) ∷ Err ParentMissing ∷ Ok (Numbered 2) ∷ Ok Done ∷ Ok Done ∷ []
+row6_answers = refl
+
+row6_items : items_of (after_all [] row6) ≡ (codes "PC/8086", codes "Intel") ∷ (codes "PC/8086/1237", codes "440FX") ∷ []
+row6_items = refl
+
+abbrev row7 : List Asked
+row7 = by bob (Submits (Vendor 32902) Removal []) ∷ by root (Approves 3) ∷ by bob (Submits (Device 32902 4663) Removal []) ∷ by root (Approves 4) ∷ by root (Approves 3) ∷ []
+
+row7_answers : answers (after_all [] row6) row7 ≡ Ok (Numbered 3) ∷ Err HasChildren ∷ Ok (Numbered 4) ∷ Ok Done ∷ Ok Done ∷ []
+row7_answers = refl
+
+row7_items : items_of (after_all [] (row6 ++ row7)) ≡ []
+row7_items = refl
+
+abbrev intel : Reading
+intel = Good ((codes "PC/8086", codes "Intel") ∷ [])
+
+abbrev intel_corporation : Reading
+intel_corporation = Good ((codes "PC/8086", codes "Intel Corporation") ∷ [])
+
+abbrev row8 : List Asked
+row8 = under (codes "k1") root (Imports intel) ∷ under (codes "k1") root (Imports intel) ∷ by root (Imports intel) ∷ by root (Imports intel_corporation) ∷ under (codes "k1") root (Imports intel) ∷ []
+
+row8_answers : answers [] row8 ≡ Ok (Counts 1 0 0) ∷ Ok (Counts 1 0 0) ∷ Ok (Counts 0 0 1) ∷ Ok (Counts 0 1 0) ∷ Ok (Counts 1 0 0) ∷ []
+row8_answers = refl
+
+row8_items : items_of (after_all [] row8) ≡ (codes "PC/8086", codes "Intel Corporation") ∷ []
+row8_items = refl
+
+row9 : answers [] (by root (Imports (Faulty (Line 3 Duplicate))) ∷ []) ≡ Err (FileFault (Line 3 Duplicate)) ∷ []
+row9 = refl
+
+abbrev row21 : List Asked
+row21 = by root (Ranks alice Contributor) ∷ by root (Submits (Vendor 4332) (Name (codes "Realtek")) []) ∷ by root (Approves 1) ∷ by alice (Withdraws 1) ∷ by alice (Comments 1 (codes "seen")) ∷ by root (Ranks root Senior) ∷ by root (Ranks alice Contributor)
+    ∷ by (codes "carol") (Submits (Vendor 4332) (Name (codes "X")) []) ∷ by root (Approves 2) ∷ by root (Withdraws 1) ∷ by root (Withdraws 1) ∷ by alice (Withdraws 1) ∷ by alice (Rejects 1 (codes "no")) ∷ []
+
+row21_answers : answers [] row21 ≡ Ok Done ∷ Ok (Numbered 1) ∷ Err OwnDecision ∷ Err NotAuthor ∷ Ok Done ∷ Err OwnDecision ∷ Err NothingToDo ∷ Err NoAccount ∷ Err NoSubmission ∷ Ok Done ∷ Err NotPending ∷ Err NotAuthor ∷ Err NotPending ∷ []
+row21_answers = refl

@@ -1,0 +1,15 @@
+use Rattle.pid_moderation.proofs.Deciding.{answered, turned_down, leading}
+use Rattle.pid_moderation.proofs.Fitting.{fitting}
+use Rattle.pid_moderation.proofs.policy.decide.Goals as goal
+
+pub returns-clause-reply : goal.returns-clause-reply
+returns-clause-reply c = λ v reading e. answered _ _ _ (c.by_facts.ensures reading) v e
+
+pub returns-clause-refusal : goal.returns-clause-refusal
+returns-clause-refusal c = λ v reading e. turned_down _ _ _ (c.by_facts.ensures reading) v e
+
+pub returns-clause-change : goal.returns-clause-change
+returns-clause-change c = λ h reading e. leading _ _ _ (c.by_facts.ensures reading) h e
+
+pub returns-clause-fits : goal.returns-clause-fits
+returns-clause-fits c = λ h reading e. fitting _ _ _ (c.by_facts.ensures reading) h e

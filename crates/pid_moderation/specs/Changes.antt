@@ -1,0 +1,79 @@
+-- What an accepted command does to the views.
+use Rattle.std.specs.Prelude.{◌≡◌, ℕ, ◌+◌, List, true, not, ◌&&◌, ◌==◌, if◌then◌else◌, [], ◌∷◌, ◌++◌, length, Option, Some, None, is_none, is_some}
+use Rattle.std.specs.Str.{bytes_eq}
+use Rattle.std.specs.Ordering.{eq_by_cmp}
+use Rattle.std.specs.FinMap.Entries.{put, where_key}
+use Rattle.pid_ident.specs.PathTexts.{path_text}
+use Rattle.pid_ident.specs.Trees.{text_cmp}
+use Rattle.pid_moderation.specs.declared.change.Change.{Change}
+use Rattle.pid_moderation.specs.declared.change.Receipt.{Receipt}
+use Rattle.pid_moderation.specs.declared.change.Edit.{Edit}
+use Rattle.pid_moderation.specs.declared.change.Edit.TheVariants.{Add, Rename, Remove}
+use Rattle.pid_moderation.specs.declared.change.Write.{Write}
+use Rattle.pid_moderation.specs.declared.change.Effect.{Effect}
+use Rattle.pid_moderation.specs.declared.change.Effect.TheVariants.{Nothing, Ranked, Submitted, Remarked, Decided, Imported}
+use Rattle.pid_moderation.specs.Items.{Items, name_at, imported}
+use Rattle.pid_moderation.specs.Views.{Views, Submitted as Submission, submission_at}
+
+-- the item of a path, added, renamed or removed
+abbrev pub edited : List ℕ → Edit → Items → Items
+edited path (Add name) items = put text_cmp path name items
+edited path (Rename name) items = put text_cmp path name items
+edited path Remove items = where_key text_cmp (λ k. not (eq_by_cmp text_cmp path k)) items
+
+-- the item of a decision, if it writes one
+abbrev pub write : Option Write → Items → Items
+write None items = items
+write (Some w) items = edited (path_text w.path) w.edit items
+
+abbrev pub affected : Effect → Views → Views
+affected Nothing v = v
+affected (Ranked who rank is_new) v = record v { rank = λ a. if bytes_eq a who then Some rank else v.rank a }
+affected (Submitted number author path proposal note) v = record v { submits = v.submits ++ record { author = author; path = path; proposal = proposal; note = note } ∷ [] }
+affected (Remarked number place author text) v = record v { remarks = λ n. if n == number then v.remarks n ++ record { author = author; text = text } ∷ [] else v.remarks n }
+affected (Decided number state w) v = record v { state = λ n. if n == number then state else v.state n; items = write w v.items }
+affected (Imported added renamed same items) v = v
+
+-- the receipt, where there is a key
+abbrev pub keeping : Option Receipt → Views → Views
+keeping None v = v
+keeping (Some r) v = record v { kept = λ a k. if bytes_eq a r.account && bytes_eq k r.key then Some r.reply else v.kept a k }
+
+abbrev pub changed : Change → Views → Views
+changed change v = keeping change.receipt (affected change.effect v)
+
+-- the pairs of a file, written one by one
+abbrev pub with_pairs : Items → Views → Views
+with_pairs pairs v = record v { items = imported pairs v.items }
+
+-- FITS: what the numbers and the kinds of a change say of the views that it is done to
+
+abbrev pub IsThere : Option Submission → Type 0
+IsThere o = is_some o ≡ true
+
+-- an item is added where there is none, and renamed or removed where there is one
+abbrev pub FitsEdit : Edit → Option (List ℕ) → Type 0
+FitsEdit (Add name) present = is_none present ≡ true
+FitsEdit (Rename name) present = is_some present ≡ true
+FitsEdit Remove present = is_some present ≡ true
+
+-- a write tells how many items there are afterwards
+abbrev pub FitsWrite : Option Write → Items → Type 0
+FitsWrite None items = Unit {0}
+FitsWrite (Some w) items = (w.items ≡ length (edited (path_text w.path) w.edit items)) × FitsEdit w.edit (name_at (path_text w.path) items)
+
+abbrev pub FitsEffect : Effect → Views → Type 0
+FitsEffect Nothing v = Unit {0}
+FitsEffect (Ranked who rank is_new) v = is_new ≡ is_none (v.rank who)
+FitsEffect (Submitted number author path proposal note) v = number ≡ length v.submits + 1
+FitsEffect (Remarked number place author text) v = IsThere (submission_at number v.submits) × (place ≡ length (v.remarks number) + 1)
+FitsEffect (Decided number state w) v = IsThere (submission_at number v.submits) × FitsWrite w v.items
+FitsEffect (Imported added renamed same items) v = items ≡ length v.items
+
+-- no reply is kept yet where a receipt goes
+abbrev pub FitsReceipt : Option Receipt → Views → Type 0
+FitsReceipt None v = Unit {0}
+FitsReceipt (Some r) v = v.kept r.account r.key ≡ None
+
+abbrev pub Fits : Change → Views → Type 0
+Fits change v = FitsEffect change.effect v × FitsReceipt change.receipt v

@@ -1,0 +1,103 @@
+-- What is answered and changed where all checks pass, by the facts.
+use Rattle.std.specs.Prelude.{◌≡◌, ◌≢◌, ℕ, ◌+◌, ◌-◌, is_none, List, [], Option, Some, None, Result, Ok, Err, MatchResult}
+use Rattle.std.specs.Option.{option_map}
+use Rattle.pid_moderation.specs.declared.command.Reply.{Reply}
+use Rattle.pid_moderation.specs.declared.command.Proposal.{Proposal}
+use Rattle.pid_moderation.specs.declared.command.Proposal.TheVariants.{Name, Removal}
+use Rattle.pid_moderation.specs.declared.facts.Facts.{Facts}
+use Rattle.pid_moderation.specs.declared.facts.Named.{Named}
+use Rattle.pid_moderation.specs.declared.facts.State.TheVariants.{Approved, Rejected, Withdrawn}
+use Rattle.pid_moderation.specs.declared.facts.Verdict.{Verdict}
+use Rattle.pid_moderation.specs.declared.facts.Verdict.TheVariants as verdicts
+use Rattle.pid_moderation.specs.declared.refusal.Refusal.{Refusal}
+use Rattle.pid_moderation.specs.declared.refusal.Refusal.TheVariants.{Memory}
+use Rattle.pid_moderation.specs.declared.change.Change.{Change}
+use Rattle.pid_moderation.specs.declared.change.Edit.{Edit}
+use Rattle.pid_moderation.specs.declared.change.Edit.TheVariants.{Add, Rename, Remove}
+use Rattle.pid_moderation.specs.declared.change.Write.{Write}
+use Rattle.pid_moderation.specs.declared.change.Receipt.{Receipt}
+use Rattle.pid_moderation.specs.declared.change.Effect.{Effect}
+use Rattle.pid_moderation.specs.declared.change.Effect.TheVariants.{Nothing, Ranked, Submitted, Remarked, Decided, Imported}
+use Rattle.pid_moderation.specs.History.{Deed, Ranks, Submits, Comments, Withdraws, Approves, Rejects, Imports, Asked, History}
+use Rattle.pid_moderation.specs.Items.{Items}
+use Rattle.pid_moderation.specs.Views.{views_of, pairs_of}
+use Rattle.pid_moderation.specs.Changes.{changed, with_pairs, Fits}
+use Rattle.pid_moderation.specs.CheckTables.{Checks, first_failing}
+use Rattle.pid_moderation.specs.Judgement.{Outcome, Refused, Repeated, Accepts, judge, judged, answer, after}
+
+abbrev pub counted : Verdict → Effect
+counted verdicts.NoFile = Nothing
+counted verdicts.TooLong = Nothing
+counted (verdicts.Faulty fault) = Nothing
+counted (verdicts.Good added renamed same items) = Imported added renamed same items
+
+abbrev pub edit_of : Proposal → Option (List ℕ) → Edit
+edit_of (Name name) None = Add name
+edit_of (Name name) (Some old) = Rename name
+edit_of Removal present = Remove
+
+-- how many items there are afterwards
+abbrev pub items_after : Edit → ℕ → ℕ
+items_after (Add name) items = items + 1
+items_after (Rename name) items = items
+items_after Remove items = items - 1
+
+abbrev pub write_of : Facts → Named → Write
+write_of f s = record { path = s.path; edit = edit_of s.proposal f.present; items = items_after (edit_of s.proposal f.present) f.items }
+
+-- the place of one more remark
+abbrev pub next_place : Option Named → ℕ
+next_place None = 1
+next_place (Some s) = s.remarks + 1
+
+abbrev pub effect_of : List ℕ → Facts → Deed → Effect
+effect_of account f (Ranks who rank) = Ranked who rank (is_none f.who)
+effect_of account f (Submits path proposal note) = Submitted (f.submissions + 1) account path proposal note
+effect_of account f (Comments n text) = Remarked n (next_place f.named) account text
+effect_of account f (Withdraws n) = Decided n Withdrawn None
+effect_of account f (Approves n) = Decided n (Approved account) (option_map (write_of f) f.named)
+effect_of account f (Rejects n reason) = Decided n (Rejected account reason) None
+effect_of account f (Imports reading) = counted f.file
+
+abbrev pub receipt_of : List ℕ → Option (List ℕ) → Reply → Option Receipt
+receipt_of account None reply = None
+receipt_of account (Some key) reply = Some (record { account = account; key = key; reply = reply })
+
+abbrev pub change_of : Facts → Asked → Reply → Change
+change_of f c reply = record { effect = effect_of c.account f c.deed; receipt = receipt_of c.account c.key reply }
+
+abbrev pub no_change : Change
+no_change = record { effect = Nothing; receipt = None }
+
+-- what a file brings
+abbrev pub pairs_in : Deed → Items
+pairs_in (Imports reading) = pairs_of reading
+pairs_in deed = []
+
+-- what is written of a file
+abbrev pub new_pairs : Outcome → Deed → Items
+new_pairs (Accepts reply) deed = pairs_in deed
+new_pairs (Refused refusal) deed = []
+new_pairs (Repeated reply) deed = []
+
+-- the first check that fails, else what follows; or memory is short
+abbrev pub Follows : {X : Type 0} → Checks → X → Result X Refusal → Type 0
+Follows cs x result = MatchResult result (λ y. (first_failing cs ≡ None) × (y ≡ x)) (λ e. e ≢ Memory → first_failing cs ≡ Some e)
+
+-- a kept reply changes nothing
+abbrev pub change_by : Facts → Asked → Outcome → Change
+change_by f c (Accepts reply) = change_of f c reply
+change_by f c (Refused refusal) = no_change
+change_by f c (Repeated reply) = no_change
+
+-- the outcome by the facts, with its change; or memory is short
+abbrev pub Decides : Facts → Asked → Result (Change × Reply) Refusal → Type 0
+Decides f c result = MatchResult result (λ d. (answer (judged f c) ≡ Ok d.1) × (d.0 ≡ change_by f c (judged f c))) (λ e. e ≢ Memory → answer (judged f c) ≡ Err e)
+
+-- the change leads from what h shows to what it shows after c
+abbrev pub LeadsOn : History → Asked → Change → Type 0
+LeadsOn h c change = views_of (after h c) ≡ changed change (with_pairs (new_pairs (judge (views_of h) c) c.deed) (views_of h))
+
+-- the numbers of the change are those of what h shows, with the pairs of a file written
+abbrev pub FitsHistory : History → Asked → Change → Type 0
+FitsHistory h c change = Fits change (with_pairs (new_pairs (judge (views_of h) c) c.deed) (views_of h))

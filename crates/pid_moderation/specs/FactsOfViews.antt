@@ -1,0 +1,73 @@
+-- What of the views a command looks at.
+use Rattle.std.specs.Prelude.{ℕ, false, List, length, Option, Some, None}
+use Rattle.std.specs.Option.{option_map}
+use Rattle.pid_ident.specs.PathTexts.{path_text}
+use Rattle.pid_moderation.specs.declared.command.Reply.{Reply}
+use Rattle.pid_moderation.specs.declared.facts.Facts.{Facts}
+use Rattle.pid_moderation.specs.declared.facts.Named.{Named}
+use Rattle.pid_moderation.specs.declared.facts.Verdict.{Verdict}
+use Rattle.pid_moderation.specs.declared.facts.Verdict.TheVariants as verdicts
+use Rattle.pid_moderation.specs.History.{Reading, NoFile, TooLong, Faulty, Good, Deed, Ranks, Submits, Comments, Withdraws, Approves, Rejects, Imports, Asked}
+use Rattle.pid_moderation.specs.Items.{Items, name_at, parent_text, holds_parent, has_children, imported, count_new, count_renamed, count_same}
+use Rattle.pid_moderation.specs.Views.{Views, submission_at}
+
+abbrev pub kept_in : Views → List ℕ → Option (List ℕ) → Option Reply
+kept_in v account None = None
+kept_in v account (Some key) = v.kept account key
+
+abbrev pub named : Views → ℕ → Option Named
+named v n = option_map (λ s. record { author = s.author; path = s.path; proposal = s.proposal; state = v.state n; remarks = length (v.remarks n) }) (submission_at n v.submits)
+
+-- what a file comes to over these items, with how many items there are then
+abbrev pub verdict : Items → Reading → Verdict
+verdict items NoFile = verdicts.NoFile
+verdict items TooLong = verdicts.TooLong
+verdict items (Faulty fault) = verdicts.Faulty fault
+verdict items (Good pairs) = verdicts.Good (count_new items pairs) (count_renamed items pairs) (count_same items pairs) (length (imported pairs items))
+
+-- what is known of every command: the caller's rank, and the reply that is kept for it
+abbrev pub known : Views → List ℕ → Option (List ℕ) → Facts
+known v account key = record { rank = v.rank account; kept = kept_in v account key; who = None; submissions = 0; items = 0; named = None; present = None; has_parent = false; has_children = false; file = verdicts.NoFile }
+
+-- what a command looks at besides
+pub data Wanted : Type 0 where
+  RankOf : List ℕ → Wanted
+  SubmissionCount : Wanted
+  SubmissionOf : ℕ → Wanted
+  ItemOf : ℕ → Wanted
+  FileVerdict : Wanted
+
+abbrev pub wanted : Deed → Wanted
+wanted (Ranks who rank) = RankOf who
+wanted (Submits path proposal note) = SubmissionCount
+wanted (Comments n text) = SubmissionOf n
+wanted (Withdraws n) = SubmissionOf n
+wanted (Approves n) = ItemOf n
+wanted (Rejects n reason) = SubmissionOf n
+wanted (Imports reading) = FileVerdict
+
+-- the item that a submission speaks of
+abbrev pub with_item : Views → Option Named → Facts → Facts
+with_item v None f = f
+with_item v (Some s) f = record f { named = Some s; items = length v.items; present = name_at (path_text s.path) v.items; has_parent = holds_parent (parent_text (path_text s.path)) v.items; has_children = has_children (path_text s.path) v.items }
+
+abbrev pub looked_at : Views → Verdict → Wanted → Facts → Facts
+looked_at v file (RankOf who) f = record f { who = v.rank who }
+looked_at v file SubmissionCount f = record f { submissions = length v.submits }
+looked_at v file (SubmissionOf n) f = record f { named = named v n }
+looked_at v file (ItemOf n) f = with_item v (named v n) f
+looked_at v file FileVerdict f = record f { file = file }
+
+-- the facts, where the file, if any, comes to this
+abbrev pub facts_at : Views → Verdict → List ℕ → Option (List ℕ) → Wanted → Facts
+facts_at v file account key w = looked_at v file w (known v account key)
+
+abbrev pub facts_given : Views → Verdict → Asked → Facts
+facts_given v file c = facts_at v file c.account c.key (wanted c.deed)
+
+abbrev pub verdict_in : Items → Deed → Verdict
+verdict_in items (Imports reading) = verdict items reading
+verdict_in items deed = verdicts.NoFile
+
+abbrev pub facts_of : Views → Asked → Facts
+facts_of v c = facts_given v (verdict_in v.items c.deed) c

@@ -1,0 +1,55 @@
+-- What was asked of the registry, and the list of what it accepted.
+use Rattle.std.specs.Prelude.{ℕ, List, Option}
+use Rattle.pid_ident.specs.declared.path.Path.{Path}
+use Rattle.pid_moderation.specs.declared.command.Proposal.{Proposal}
+use Rattle.pid_moderation.specs.declared.command.Reply.{Reply}
+use Rattle.pid_moderation.specs.declared.command.Act.{Act}
+use Rattle.pid_moderation.specs.declared.command.Act.TheVariants as acts
+use Rattle.pid_moderation.specs.declared.command.Command.{Command}
+use Rattle.pid_moderation.specs.declared.rank.Rank.{Rank}
+use Rattle.pid_moderation.specs.declared.refusal.FileFault.{FileFault}
+
+-- what a file comes to: paths with their names, in any order, since none stands there twice; or why it is not imported.
+-- Other commands have none
+pub data Reading : Type 0 where
+  NoFile : Reading
+  TooLong : Reading
+  Faulty : FileFault → Reading
+  Good : List (List ℕ × List ℕ) → Reading
+
+-- what is asked; an import stands with its reading
+pub data Deed : Type 0 where
+  Ranks : (who : List ℕ) (rank : Rank) → Deed
+  Submits : (path : Path) (proposal : Proposal) (note : List ℕ) → Deed
+  Comments : (number : ℕ) (text : List ℕ) → Deed
+  Withdraws : (number : ℕ) → Deed
+  Approves : (number : ℕ) → Deed
+  Rejects : (number : ℕ) (reason : List ℕ) → Deed
+  Imports : (reading : Reading) → Deed
+
+pub record Asked : Type 0 where
+  pub account : List ℕ
+  pub key : Option (List ℕ)
+  pub deed : Deed
+
+-- what a command asks, where its file, if any, has this reading
+abbrev pub deed_of : Act → Reading → Deed
+deed_of (acts.Account who rank) reading = Ranks who rank
+deed_of (acts.Submit path proposal note) reading = Submits path proposal note
+deed_of (acts.Comment number text) reading = Comments number text
+deed_of (acts.Withdraw number) reading = Withdraws number
+deed_of (acts.Approve number) reading = Approves number
+deed_of (acts.Reject number reason) reading = Rejects number reason
+deed_of (acts.Import file) reading = Imports reading
+
+abbrev pub asked : Command → Reading → Asked
+asked command reading = record { account = command.account; key = command.key; deed = deed_of command.act reading }
+
+-- a command that was accepted, and its reply
+pub record Accepted : Type 0 where
+  pub asked : Asked
+  pub reply : Reply
+
+-- the accepted commands, the newest first
+abbrev pub History : Type 0
+History = List Accepted

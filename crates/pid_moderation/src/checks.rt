@@ -1,0 +1,177 @@
+//! The tests that commands are checked by.
+ghost use Rattle.std.specs.Prelude.{◌≡◌, true, find, is_none};
+ghost use Rattle.pid_moderation.specs.CheckTables.{is_pending as stands_pending, is_removal as removal, is_so as so_already, lacks_parent as parent_lacking, leaves_children as children_left, overflows as one_too_many, is_ill_formed as ill_formed, is_broken as broken_act, is_too_long as too_long, TellsLength};
+ghost use Rattle.pid_moderation.specs.Ranks.{has_rank as rank_reaches, is_rank as rank_equals};
+ghost use Rattle.pid_moderation.specs.History.{Reading, asked, deed_of};
+ghost use Rattle.pid_moderation.specs.Judgement.{judge, Refused};
+ghost use Rattle.pid_moderation.specs.Views.{Views};
+ghost use Rattle.pid_moderation.specs.Items.{has_name as names_so};
+ghost use Rattle.pid_moderation.specs.Effects.{Follows};
+
+use crate::command::{Act, Command, Proposal};
+use crate::facts::{Facts, State, Verdict};
+use crate::rank::Rank;
+use crate::refusal::Refusal;
+use crate::words::{is_empty_text, is_name_of};
+use pid_ident::Name;
+
+/// Items that a registry holds at most, and entries of a file.
+pub const ITEMS: u32 = 100_000;
+
+/// Submissions that a registry holds at most.
+pub const SUBMISSIONS: u32 = 2_000_000_000;
+
+/// Remarks on one submission at most.
+pub const REMARKS: u32 = 1_000_000;
+
+/// Bytes that a file to be imported has at most.
+pub const FILE_BYTES: usize = 4_194_304;
+
+fn failing(checks: &[(bool, Refusal)]) -> Option<(bool, Refusal)>
+    ensures { result ≡ find (λ c. c.0) checks.now }
+{
+    checks.iter().copied().find(|check| check.0)
+}
+
+// The first check that fails is the refusal.
+pub fn pass(checks: &[(bool, Refusal)]) -> Result<(), Refusal>
+    ensures { Follows checks.now tt result }
+{
+    match failing(checks) {
+        Some((_, refusal)) => Err(refusal),
+        None => Ok(()),
+    }
+}
+
+pub fn is_unknown(rank: Option<Rank>) -> bool
+    ensures { result ≡ is_none rank }
+{
+    rank.is_none()
+}
+
+pub fn has_rank(needed: Rank, rank: Option<Rank>) -> bool
+    ensures { result ≡ rank_reaches needed rank }
+{
+    match rank {
+        Some(rank) => needed.number() <= rank.number(),
+        None => false,
+    }
+}
+
+pub fn is_rank(wanted: Rank, rank: Option<Rank>) -> bool
+    ensures { result ≡ rank_equals wanted rank }
+{
+    match rank {
+        Some(rank) => wanted.number() == rank.number(),
+        None => false,
+    }
+}
+
+pub fn is_pending(state: &State) -> bool
+    ensures { result ≡ stands_pending state.now }
+{
+    match state {
+        State::Pending => true,
+        State::Approved { .. } => false,
+        State::Rejected { .. } => false,
+        State::Withdrawn => false,
+    }
+}
+
+pub fn is_removal(proposal: &Proposal) -> bool
+    ensures { result ≡ removal proposal.now }
+{
+    match proposal {
+        Proposal::Name(_) => false,
+        Proposal::Removal => true,
+    }
+}
+
+fn is_named_so(name: &Name, present: &Option<Name>) -> bool
+    ensures { result ≡ names_so name.now present.now }
+{
+    match present {
+        Some(present) => is_name_of(name, present),
+        None => false,
+    }
+}
+
+pub fn is_so(proposal: &Proposal, present: &Option<Name>) -> bool
+    ensures { result ≡ so_already proposal.now present.now }
+{
+    match proposal {
+        Proposal::Name(name) => is_named_so(name, present),
+        Proposal::Removal => present.is_none(),
+    }
+}
+
+pub fn lacks_parent(proposal: &Proposal, has_parent: bool) -> bool
+    ensures { result ≡ parent_lacking proposal.now has_parent }
+{
+    match proposal {
+        Proposal::Name(_) => !has_parent,
+        Proposal::Removal => false,
+    }
+}
+
+pub fn leaves_children(proposal: &Proposal, has_children: bool) -> bool
+    ensures { result ≡ children_left proposal.now has_children }
+{
+    match proposal {
+        Proposal::Name(_) => false,
+        Proposal::Removal => has_children,
+    }
+}
+
+pub fn overflows(proposal: &Proposal, present: &Option<Name>, items: u32) -> bool
+    ensures { result ≡ one_too_many proposal.now present.now items }
+{
+    match proposal {
+        Proposal::Name(_) => present.is_none() && ITEMS <= items,
+        Proposal::Removal => false,
+    }
+}
+
+fn is_too_long(file: Verdict) -> bool
+    ensures { result ≡ too_long file }
+{
+    match file {
+        Verdict::TooLong => true,
+        Verdict::NoFile => false,
+        Verdict::Faulty(_) => false,
+        Verdict::Good { .. } => false,
+    }
+}
+
+/// Whether a command breaks a rule that its type does not keep: an empty comment or reason, or a file too long.
+pub fn is_ill_formed(facts: &Facts, act: &Act) -> bool
+    ensures { (reading : Reading) → result ≡ ill_formed facts.now (deed_of act.now reading) }
+{
+    match act {
+        Act::Comment { text, .. } => is_empty_text(text),
+        Act::Reject { reason, .. } => is_empty_text(reason),
+        Act::Import { .. } => is_too_long(facts.file),
+        Act::Account { .. } => false,
+        Act::Submit { .. } => false,
+        Act::Withdraw { .. } => false,
+        Act::Approve { .. } => false,
+    }
+}
+
+/// Whether a command breaks a rule of form that its type does not keep, whatever the registry holds: an empty comment
+/// or reason, or a file that is too long. It is refused as `BadText`, before any kept reply.
+pub fn breaks_form(command: &Command) -> bool
+    ensures broken { result ≡ broken_act command.now.act }
+    ensures refused { (v : Views) (reading : Reading) → TellsLength command.now.act reading → result ≡ true →
+        judge v (asked command.now reading) ≡ Refused Refusal.BadText }
+{
+    match &command.act {
+        Act::Comment { text, .. } => is_empty_text(text),
+        Act::Reject { reason: text, .. } => is_empty_text(text),
+        Act::Import { file } => FILE_BYTES < file.as_bytes().len(),
+        Act::Account { .. } => false,
+        Act::Submit { .. } => false,
+        Act::Withdraw { .. } => false,
+        Act::Approve { .. } => false,
+    }
+}

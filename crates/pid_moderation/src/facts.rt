@@ -1,0 +1,53 @@
+//! What is known of the registry when a command is judged.
+use crate::command::{Proposal, Reply};
+use crate::rank::Rank;
+use crate::refusal::FileFault;
+use pid_ident::{Account, Name, Path, Text};
+
+/// How a submission stands.
+#[derive(Debug, Drop)]
+pub enum State {
+    Pending,
+    Approved { decider: Account },
+    Rejected { decider: Account, reason: Text },
+    Withdrawn,
+}
+
+/// The submission that a command names.
+#[derive(Debug, Drop)]
+pub struct Named {
+    pub author: Account,
+    pub path: Path,
+    pub proposal: Proposal,
+    pub state: State,
+    pub remarks: u32,
+}
+
+/// What a file to be imported comes to.
+#[derive(Clone, Copy, Debug, PartialEq, Eq)]
+pub enum Verdict {
+    NoFile,
+    TooLong,
+    Good {
+        added: u32,
+        renamed: u32,
+        same: u32,
+        items: u32,
+    },
+    Faulty(FileFault),
+}
+
+/// The rows that a command is judged by. What the command does not look at is None, 0 or false.
+#[derive(Debug, Drop)]
+pub struct Facts {
+    pub rank: Option<Rank>,
+    pub kept: Option<Reply>,
+    pub who: Option<Rank>,
+    pub submissions: u32,
+    pub items: u32,
+    pub named: Option<Named>,
+    pub present: Option<Name>,
+    pub has_parent: bool,
+    pub has_children: bool,
+    pub file: Verdict,
+}

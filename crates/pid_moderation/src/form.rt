@@ -1,0 +1,175 @@
+//! Commands from their fields.
+ghost use Rattle.std.specs.Prelude.{◌≡◌, ◌≢◌, true, false, IfOk, IfErr, None, Some, codes};
+ghost use Rattle.pid_ident.specs.Words.{is_name as name_test};
+ghost use Rattle.std.specs.Str.{bytes_eq};
+ghost use Rattle.std.specs.Option.{option_copied};
+ghost use Rattle.pid_moderation.specs.Fields.{texts_of, value as value_in, text_at as text_in};
+ghost use Rattle.pid_moderation.specs.Forms.{has_fields as fields_there, value_checks, act_said, form_checks, command_said, proposal_in, is_none_or, number_in, Says};
+
+use crate::command::{Act, Command, Proposal};
+use crate::fields::{
+    account_in, file_in, is_once, is_one_of, key_in, name_in, note_in, number_said, path_in,
+    rank_said, remark_in, text_at, times, value,
+};
+use crate::refusal::Refusal;
+use crate::verb::Verb;
+use std::alloc::Global;
+
+fn has_fields(verb: Verb, fields: &[(String, String)]) -> bool
+    ensures { result ≡ fields_there verb (texts_of fields.now) }
+{
+    let count = fields.len();
+    match verb {
+        Verb::Account => is_once(fields, "who") && is_once(fields, "rank") && count == 2,
+        Verb::Submit => has_submit_fields(fields),
+        Verb::Comment => is_once(fields, "num") && is_once(fields, "text") && count == 2,
+        Verb::Withdraw => is_once(fields, "num") && count == 1,
+        Verb::Approve => is_once(fields, "num") && count == 1,
+        Verb::Reject => is_once(fields, "num") && is_once(fields, "reason") && count == 2,
+        Verb::Import => is_once(fields, "file") && count == 1,
+    }
+}
+
+fn has_submit_fields(fields: &[(String, String)]) -> bool
+    ensures { result ≡ fields_there Verb.Submit (texts_of fields.now) }
+{
+    let notes = times(fields, "note");
+    is_once(fields, "path")
+        && is_one_of(fields, "name", "remove")
+        && notes <= 1
+        && fields.len() == 2 + notes
+}
+
+fn number_at(fields: &[(String, String)]) -> Result<u32, Refusal>
+    ensures ok { IfOk result (λ n. number_in (text_in (codes "num") (texts_of fields.now)) ≡ Some n) }
+    ensures err { IfErr result (λ e. (e ≡ Refusal.BadText) ×
+        (number_in (text_in (codes "num") (texts_of fields.now)) ≡ None)) }
+{
+    match number_said(text_at(fields, "num")) {
+        Some(number) => Ok(number),
+        None => Err(Refusal::BadText),
+    }
+}
+
+fn account_act(alloc: Global, fields: &[(String, String)]) -> Result<Act, Refusal>
+    ensures { Says (value_checks Verb.Account (texts_of fields.now))
+        (act_said Verb.Account (texts_of fields.now)) result }
+{
+    let who = account_in(alloc, text_at(fields, "who"))?;
+    match rank_said(text_at(fields, "rank")) {
+        Some(rank) => Ok(Act::Account { who, rank }),
+        None => Err(Refusal::BadText),
+    }
+}
+
+// The name that is proposed, or the removal.
+fn proposal(alloc: Global, fields: &[(String, String)]) -> Result<Proposal, Refusal>
+    ensures ok { IfOk result (λ proposal. (proposal ≡ proposal_in (value_in (codes "name") (texts_of fields.now))) ×
+        (is_none_or name_test (value_in (codes "name") (texts_of fields.now)) ≡ true)) }
+    ensures err { IfErr result (λ e. e ≢ Refusal.Memory → (e ≡ Refusal.BadName) ×
+        (is_none_or name_test (value_in (codes "name") (texts_of fields.now)) ≡ false)) }
+{
+    match value(fields, "name") {
+        Some(name) => Ok(Proposal::Name(name_in(alloc, name)?)),
+        None => Ok(Proposal::Removal),
+    }
+}
+
+// Whether a removal, where there is one, is told by `yes`.
+fn is_removal_told(fields: &[(String, String)]) -> bool
+    ensures { result ≡ is_none_or (bytes_eq (codes "yes")) (value_in (codes "remove") (texts_of fields.now)) }
+{
+    match value(fields, "remove") {
+        Some(word) => "yes" == word,
+        None => true,
+    }
+}
+
+fn submit_act(alloc: Global, fields: &[(String, String)]) -> Result<Act, Refusal>
+    ensures { Says (value_checks Verb.Submit (texts_of fields.now))
+        (act_said Verb.Submit (texts_of fields.now)) result }
+{
+    let Some(path) = path_in(text_at(fields, "path")) else {
+        return Err(Refusal::BadPath);
+    };
+    let proposal = proposal(alloc, fields)?;
+    if !is_removal_told(fields) {
+        return Err(Refusal::BadText);
+    }
+    let note = note_in(alloc, text_at(fields, "note"))?;
+    Ok(Act::Submit {
+        path,
+        proposal,
+        note,
+    })
+}
+
+fn comment_act(alloc: Global, fields: &[(String, String)]) -> Result<Act, Refusal>
+    ensures { Says (value_checks Verb.Comment (texts_of fields.now))
+        (act_said Verb.Comment (texts_of fields.now)) result }
+{
+    let number = number_at(fields)?;
+    let text = remark_in(alloc, text_at(fields, "text"))?;
+    Ok(Act::Comment { number, text })
+}
+
+fn reject_act(alloc: Global, fields: &[(String, String)]) -> Result<Act, Refusal>
+    ensures { Says (value_checks Verb.Reject (texts_of fields.now))
+        (act_said Verb.Reject (texts_of fields.now)) result }
+{
+    let number = number_at(fields)?;
+    let reason = remark_in(alloc, text_at(fields, "reason"))?;
+    Ok(Act::Reject { number, reason })
+}
+
+fn import_act(alloc: Global, fields: &[(String, String)]) -> Result<Act, Refusal>
+    ensures { Says (value_checks Verb.Import (texts_of fields.now))
+        (act_said Verb.Import (texts_of fields.now)) result }
+{
+    let file = file_in(alloc, text_at(fields, "file"))?;
+    Ok(Act::Import { file })
+}
+
+fn act(alloc: Global, verb: Verb, fields: &[(String, String)]) -> Result<Act, Refusal>
+    ensures { Says (value_checks verb (texts_of fields.now)) (act_said verb (texts_of fields.now)) result }
+{
+    match verb {
+        Verb::Account => account_act(alloc, fields),
+        Verb::Submit => submit_act(alloc, fields),
+        Verb::Comment => comment_act(alloc, fields),
+        Verb::Withdraw => {
+            let number = number_at(fields)?;
+            Ok(Act::Withdraw { number })
+        }
+        Verb::Approve => {
+            let number = number_at(fields)?;
+            Ok(Act::Approve { number })
+        }
+        Verb::Reject => reject_act(alloc, fields),
+        Verb::Import => import_act(alloc, fields),
+    }
+}
+
+/// The command of an account, under a key where there is one, that the fields say; or the first form check that fails.
+///
+/// The fields are the names and values of a form, in any order: `who` and `rank` (`0` to `3`) of `account`; `path`,
+/// one of `name` and `remove` (`yes`), and where wanted `note` of `submit`; `num` and `text` of `comment`; `num` of
+/// `withdraw` and `approve`; `num` and `reason` of `reject`; `file` of `import`.
+pub fn command_of(
+    alloc: Global,
+    verb: Verb,
+    account: &str,
+    key: Option<&str>,
+    fields: &[(String, String)],
+) -> Result<Command, Refusal>
+    ensures { Says (form_checks verb account.now (option_copied key.entry) (texts_of fields.now))
+        (command_said verb account.now (option_copied key.entry) (texts_of fields.now)) result }
+{
+    if !has_fields(verb, fields) {
+        return Err(Refusal::BadText);
+    }
+    let act = act(alloc, verb, fields)?;
+    let account = account_in(alloc, account)?;
+    let key = key_in(alloc, key)?;
+    Ok(Command { account, key, act })
+}

@@ -1,0 +1,32 @@
+//! Commands of the registry and the policy that judges them: who may do what, and what comes of it.
+#![tactic(auto)]
+
+mod change;
+mod checks;
+mod command;
+mod facts;
+mod fields;
+mod form;
+mod laws;
+mod plain;
+mod policy;
+mod rank;
+mod refusal;
+mod reply_lines;
+mod verb;
+mod wants;
+mod words;
+
+pub use change::{Change, Edit, Effect, Receipt, Write};
+pub use checks::{FILE_BYTES, ITEMS, REMARKS, SUBMISSIONS, breaks_form};
+pub use command::{Act, Command, File, Proposal, Reply};
+pub use facts::{Facts, Named, State, Verdict};
+pub use form::command_of;
+pub use laws::{command_is_well_made, histories_are_sound, trees_are_files, trees_are_last_writes};
+pub use plain::{FileReading, PlainRegistry};
+pub use policy::decide;
+pub use rank::{Rank, needed_rank};
+pub use refusal::{FileFault, Refusal};
+pub use reply_lines::reply_line;
+pub use verb::Verb;
+pub use wants::{Rows, needs};

@@ -1,0 +1,402 @@
+//! The judgement of a command by facts.
+ghost use Rattle.std.specs.Prelude.{◌≡◌, ◌≢◌, ℕ, false, true, List, [], ◌∷◌, Option, Some, None, IfOk, IfErr, is_none};
+ghost use Rattle.pid_moderation.specs.History.{Reading, History, asked, deed_of, Ranks, Submits, Comments, Withdraws, Approves, Rejects, Imports};
+ghost use Rattle.pid_moderation.specs.Views.{Views, views_of};
+ghost use Rattle.pid_moderation.specs.FactsOfViews.{facts_of};
+ghost use Rattle.pid_moderation.specs.CheckTables.{checks as checks_for, first_failing as first_that_fails, later_checks, approval_checks, overflows as one_too_many, reply_to};
+ghost use Rattle.pid_moderation.specs.Judgement.{judge, answer};
+ghost use Rattle.pid_moderation.specs.Effects.{Follows, effect_of, edit_of, items_after, write_of, Decides, LeadsOn, FitsHistory, receipt_of};
+
+use crate::change::{Change, Edit, Effect, Receipt, Write};
+use crate::checks::{
+    ITEMS, REMARKS, SUBMISSIONS, has_rank, is_ill_formed, is_pending, is_rank, is_removal, is_so,
+    is_unknown, lacks_parent, leaves_children, overflows, pass,
+};
+use crate::command::{Act, Command, Proposal, Reply};
+use crate::facts::{Facts, Named, State, Verdict};
+use crate::rank::{Rank, needed_rank};
+use crate::refusal::Refusal;
+use crate::words::is_account_of;
+use pid_ident::{Account, Name, Path, Text};
+use std::alloc::AllocError;
+
+// What is refused where no submission has the number.
+fn absent(facts: &Facts) -> Refusal
+    ensures { first_that_fails ((is_none facts.now.rank, Refusal.NoAccount) ∷ (true, Refusal.NoSubmission) ∷ []) ≡ Some result }
+{
+    if facts.rank.is_none() {
+        Refusal::NoAccount
+    } else {
+        Refusal::NoSubmission
+    }
+}
+
+fn set_rank(
+    facts: &Facts,
+    account: &Account,
+    who: &Account,
+    rank: Rank,
+) -> Result<(Effect, Reply), Refusal>
+    ensures { Follows ((is_none facts.now.rank, Refusal.NoAccount) ∷
+        later_checks account.now facts.now (Ranks who.now rank)) (
+          effect_of account.now facts.now (Ranks who.now rank),
+          reply_to facts.now (Ranks who.now rank),
+        ) result }
+{
+    pass(&[
+        (facts.rank.is_none(), Refusal::NoAccount),
+        (
+            !has_rank(Rank::Administrator, facts.rank),
+            Refusal::RankTooLow,
+        ),
+        (is_account_of(account, who), Refusal::OwnDecision),
+        (is_rank(rank, facts.who), Refusal::NothingToDo),
+    ])?;
+    let who = who.copy()?;
+    let is_new = is_unknown(facts.who);
+    Ok((Effect::Ranked { who, rank, is_new }, Reply::Done))
+}
+
+fn submit(
+    facts: &Facts,
+    account: &Account,
+    path: &Path,
+    proposal: &Proposal,
+    note: &Text,
+) -> Result<(Effect, Reply), Refusal>
+    ensures { Follows ((is_none facts.now.rank, Refusal.NoAccount) ∷
+        later_checks account.now facts.now (Submits path.now proposal.now note.now)) (
+          effect_of account.now facts.now (Submits path.now proposal.now note.now),
+          reply_to facts.now (Submits path.now proposal.now note.now),
+        ) result }
+{
+    pass(&[
+        (facts.rank.is_none(), Refusal::NoAccount),
+        (SUBMISSIONS <= facts.submissions, Refusal::Full),
+    ])?;
+    let number = facts.submissions + 1;
+    let effect = Effect::Submitted {
+        number,
+        author: account.copy()?,
+        path: *path,
+        proposal: proposal.copy()?,
+        note: note.copy()?,
+    };
+    Ok((effect, Reply::Numbered(number)))
+}
+
+fn comment(
+    facts: &Facts,
+    account: &Account,
+    number: u32,
+    text: &Text,
+) -> Result<(Effect, Reply), Refusal>
+    ensures { Follows ((is_none facts.now.rank, Refusal.NoAccount) ∷
+        later_checks account.now facts.now (Comments number text.now)) (
+          effect_of account.now facts.now (Comments number text.now),
+          reply_to facts.now (Comments number text.now),
+        ) result }
+{
+    let Some(named) = &facts.named else {
+        return Err(absent(facts));
+    };
+    pass(&[
+        (facts.rank.is_none(), Refusal::NoAccount),
+        (REMARKS <= named.remarks, Refusal::Full),
+    ])?;
+    let effect = Effect::Remarked {
+        number,
+        place: named.remarks + 1,
+        author: account.copy()?,
+        text: text.copy()?,
+    };
+    Ok((effect, Reply::Done))
+}
+
+fn withdraw(facts: &Facts, account: &Account, number: u32) -> Result<(Effect, Reply), Refusal>
+    ensures { Follows ((is_none facts.now.rank, Refusal.NoAccount) ∷
+        later_checks account.now facts.now (Withdraws number)) (
+          effect_of account.now facts.now (Withdraws number),
+          reply_to facts.now (Withdraws number),
+        ) result }
+{
+    let Some(named) = &facts.named else {
+        return Err(absent(facts));
+    };
+    pass(&[
+        (facts.rank.is_none(), Refusal::NoAccount),
+        (!is_account_of(account, &named.author), Refusal::NotAuthor),
+        (!is_pending(&named.state), Refusal::NotPending),
+    ])?;
+    let effect = Effect::Decided {
+        number,
+        state: State::Withdrawn,
+        write: None,
+    };
+    Ok((effect, Reply::Done))
+}
+
+// The checks of an approval, once there is such a submission.
+fn may_approve(facts: &Facts, account: &Account, named: &Named) -> Result<(), Refusal>
+    ensures { Follows ((is_none facts.now.rank, Refusal.NoAccount) ∷
+        approval_checks account.now facts.now named.now) tt result }
+{
+    pass(&[
+        (is_unknown(facts.rank), Refusal::NoAccount),
+        (!is_pending(&named.state), Refusal::NotPending),
+        (
+            !has_rank(
+                needed_rank(&named.path, is_removal(&named.proposal)),
+                facts.rank,
+            ),
+            Refusal::RankTooLow,
+        ),
+        (is_account_of(account, &named.author), Refusal::OwnDecision),
+        (is_so(&named.proposal, &facts.present), Refusal::NothingToDo),
+        (
+            lacks_parent(&named.proposal, facts.has_parent),
+            Refusal::ParentMissing,
+        ),
+        (
+            leaves_children(&named.proposal, facts.has_children),
+            Refusal::HasChildren,
+        ),
+        (
+            overflows(&named.proposal, &facts.present, facts.items),
+            Refusal::Full,
+        ),
+    ])
+}
+
+fn edit(proposal: &Proposal, present: &Option<Name>) -> Result<Edit, AllocError>
+    ensures { IfOk result (λ edit. edit ≡ edit_of proposal.now present.now) }
+{
+    match proposal {
+        Proposal::Name(name) => match present {
+            Some(_) => Ok(Edit::Rename(name.copy()?)),
+            None => Ok(Edit::Add(name.copy()?)),
+        },
+        Proposal::Removal => Ok(Edit::Remove),
+    }
+}
+
+// How many items there are after the proposal is carried out.
+fn count_after(proposal: &Proposal, present: &Option<Name>, items: u32) -> u32
+    requires { one_too_many proposal.now present.now items ≡ false }
+    ensures { result ≡ items_after (edit_of proposal.now present.now) items }
+{
+    match proposal {
+        Proposal::Name(_) => match present {
+            Some(_) => items,
+            None => {
+                if ITEMS <= items {
+                    unreachable!();
+                }
+                items + 1
+            }
+        },
+        Proposal::Removal => items.saturating_sub(1),
+    }
+}
+
+fn write(facts: &Facts, named: &Named) -> Result<Write, AllocError>
+    requires { one_too_many named.now.proposal facts.now.present facts.now.items ≡ false }
+    ensures { IfOk result (λ w. w ≡ write_of facts.now named.now) }
+{
+    Ok(Write {
+        path: named.path,
+        edit: edit(&named.proposal, &facts.present)?,
+        items: count_after(&named.proposal, &facts.present, facts.items),
+    })
+}
+
+fn approve(facts: &Facts, account: &Account, number: u32) -> Result<(Effect, Reply), Refusal>
+    ensures { Follows ((is_none facts.now.rank, Refusal.NoAccount) ∷
+        later_checks account.now facts.now (Approves number)) (
+          effect_of account.now facts.now (Approves number),
+          reply_to facts.now (Approves number),
+        ) result }
+{
+    let Some(named) = &facts.named else {
+        return Err(absent(facts));
+    };
+    may_approve(facts, account, named)?;
+    let state = State::Approved {
+        decider: account.copy()?,
+    };
+    let write = Some(write(facts, named)?);
+    Ok((
+        Effect::Decided {
+            number,
+            state,
+            write,
+        },
+        Reply::Done,
+    ))
+}
+
+fn reject(
+    facts: &Facts,
+    account: &Account,
+    number: u32,
+    reason: &Text,
+) -> Result<(Effect, Reply), Refusal>
+    ensures { Follows ((is_none facts.now.rank, Refusal.NoAccount) ∷
+        later_checks account.now facts.now (Rejects number reason.now)) (
+          effect_of account.now facts.now (Rejects number reason.now),
+          reply_to facts.now (Rejects number reason.now),
+        ) result }
+{
+    let Some(named) = &facts.named else {
+        return Err(absent(facts));
+    };
+    let is_own = is_account_of(account, &named.author);
+    pass(&[
+        (facts.rank.is_none(), Refusal::NoAccount),
+        (!is_pending(&named.state), Refusal::NotPending),
+        (
+            !has_rank(
+                needed_rank(&named.path, is_removal(&named.proposal)),
+                facts.rank,
+            ),
+            Refusal::RankTooLow,
+        ),
+        (is_own, Refusal::OwnDecision),
+    ])?;
+    let state = State::Rejected {
+        decider: account.copy()?,
+        reason: reason.copy()?,
+    };
+    Ok((
+        Effect::Decided {
+            number,
+            state,
+            write: None,
+        },
+        Reply::Done,
+    ))
+}
+
+fn import(facts: &Facts) -> Result<(Effect, Reply), Refusal>
+    ensures { (reading : Reading) (account : List ℕ) → Follows ((is_none facts.now.rank, Refusal.NoAccount) ∷
+        later_checks account facts.now (Imports reading)) (
+          effect_of account facts.now (Imports reading),
+          reply_to facts.now (Imports reading),
+        ) result }
+{
+    let no_account = (facts.rank.is_none(), Refusal::NoAccount);
+    let too_low = (!has_rank(Rank::Senior, facts.rank), Refusal::RankTooLow);
+    match facts.file {
+        Verdict::Faulty(fault) => {
+            pass(&[no_account, too_low, (true, Refusal::FileFault(fault))])?;
+            Ok((Effect::Nothing, Reply::Done))
+        }
+        Verdict::Good {
+            added,
+            renamed,
+            same,
+            items,
+        } => {
+            pass(&[no_account, too_low, (ITEMS < items, Refusal::Full)])?;
+            let effect = Effect::Imported {
+                added,
+                renamed,
+                same,
+                items,
+            };
+            let reply = Reply::Counts {
+                added,
+                renamed,
+                same,
+            };
+            Ok((effect, reply))
+        }
+        Verdict::NoFile => {
+            pass(&[no_account, too_low])?;
+            Ok((Effect::Nothing, Reply::Done))
+        }
+        Verdict::TooLong => {
+            pass(&[no_account, too_low])?;
+            Ok((Effect::Nothing, Reply::Done))
+        }
+    }
+}
+
+// The effect and the reply of a command that breaks no rule of form, and is new.
+fn effect(facts: &Facts, command: &Command) -> Result<(Effect, Reply), Refusal>
+    ensures { (reading : Reading) → let c = asked command.now reading in Follows (checks_for facts.now c) (
+      effect_of c.account facts.now c.deed,
+      reply_to facts.now c.deed,
+    ) result }
+{
+    let account = &command.account;
+    match &command.act {
+        Act::Account { who, rank } => set_rank(facts, account, who, *rank),
+        Act::Submit {
+            path,
+            proposal,
+            note,
+        } => submit(facts, account, path, proposal, note),
+        Act::Comment { number, text } => comment(facts, account, *number, text),
+        Act::Withdraw { number } => withdraw(facts, account, *number),
+        Act::Approve { number } => approve(facts, account, *number),
+        Act::Reject { number, reason } => reject(facts, account, *number, reason),
+        Act::Import { .. } => import(facts),
+    }
+}
+
+fn receipt(command: &Command, reply: Reply) -> Result<Option<Receipt>, AllocError>
+    ensures { IfOk result (λ r. r ≡ receipt_of command.now.account command.now.key reply) }
+{
+    match &command.key {
+        Some(key) => {
+            let account = command.account.copy()?;
+            let key = key.copy()?;
+            Ok(Some(Receipt {
+                account,
+                key,
+                reply,
+            }))
+        }
+        None => Ok(None),
+    }
+}
+
+// The outcome by the facts, and what it changes.
+fn by_facts(facts: &Facts, command: &Command) -> Result<(Change, Reply), Refusal>
+    ensures { (reading : Reading) → Decides facts.now (asked command.now reading) result }
+{
+    if is_ill_formed(facts, &command.act) {
+        return Err(Refusal::BadText);
+    }
+    if let Some(reply) = facts.kept {
+        return Ok((
+            Change {
+                effect: Effect::Nothing,
+                receipt: None,
+            },
+            reply,
+        ));
+    }
+    let (effect, reply) = effect(facts, command)?;
+    let receipt = receipt(command, reply)?;
+    Ok((Change { effect, receipt }, reply))
+}
+
+/// Judges a command by the facts of a history: the reply with what it changes, or the first check that fails.
+pub fn decide(facts: &Facts, command: &Command) -> Result<(Change, Reply), Refusal>
+    // The reply is that of the judgement.
+    ensures reply { (v : Views) (reading : Reading) → facts.now ≡ facts_of v (asked command.now reading) →
+        IfOk result (λ d. answer (judge v (asked command.now reading)) ≡ Ok d.1) }
+    // So is the refusal, unless memory is short.
+    ensures refusal { (v : Views) (reading : Reading) → facts.now ≡ facts_of v (asked command.now reading) →
+        IfErr result (λ e. e ≢ Refusal.Memory → answer (judge v (asked command.now reading)) ≡ Err e) }
+    // The change leads from what a history shows to what it shows with the command.
+    ensures change { (h : History) (reading : Reading) → facts.now ≡ facts_of (views_of h) (asked command.now reading) →
+        IfOk result (λ d. LeadsOn h (asked command.now reading) d.0) }
+    // And its numbers are right: storage knows of each row whether it is there, and where a new one goes.
+    ensures fits { (h : History) (reading : Reading) → facts.now ≡ facts_of (views_of h) (asked command.now reading) →
+        IfOk result (λ d. FitsHistory h (asked command.now reading) d.0) }
+{
+    by_facts(facts, command)
+}
