@@ -4,7 +4,8 @@ use Rattle.std.specs.Io.KnownBytes.{Appends}
 use Rattle.pid_reader.specs.Reading.{refused, history_of}
 use Rattle.pid_reader.specs.LookingBack.{entries_back}
 use Rattle.pid_cli.specs.Judgements.{LARGEST}
-use Rattle.pid_cli.specs.Told.{AppendsFront, IsTold}
+use Rattle.pid_ident.specs.Sending.{SendsFront}
+use Rattle.pid_cli.specs.Told.{IsTold}
 use Rattle.pid_cli.specs.declared.text_end.TextEnd.{TextEnd}
 use Rattle.pid_cli.specs.declared.text_end.TextEnd.TheVariants.{Done, Line, TooManyEntries, TooLarge, Memory, ReadFault, WriteFault}
 
@@ -26,7 +27,7 @@ pub record IsGood (text : List ℕ) : Type 0 where
 
 abbrev pub IsChecked : TextEnd → List ℕ → Option (List ℕ) → Option (List ℕ) → Type 0
 IsChecked Done text old new = IsGood text × Appends old new (ok_line (count_of text))
-IsChecked WriteFault text old new = (IsGood text × AppendsFront old new (ok_line (count_of text))) ⊎ IsTold WriteFault text old new
+IsChecked WriteFault text old new = (IsGood text × SendsFront old new (ok_line (count_of text))) ⊎ IsTold WriteFault text old new
 IsChecked (Line line kind) text old new = IsTold (Line line kind) text old new
 IsChecked TooManyEntries text old new = IsTold TooManyEntries text old new
 IsChecked TooLarge text old new = IsTold TooLarge text old new

@@ -4,7 +4,8 @@ use Rattle.std.specs.Io.KnownBytes.{Appends, Keeps}
 use Rattle.pid_ident.specs.Trees.{TreeMap}
 use Rattle.pid_tree.specs.Printing.{print}
 use Rattle.pid_cli.specs.Judgements.{ReadsWithin}
-use Rattle.pid_cli.specs.Told.{AppendsFront, IsTold}
+use Rattle.pid_ident.specs.Sending.{SendsFront}
+use Rattle.pid_cli.specs.Told.{IsTold}
 use Rattle.pid_cli.specs.declared.text_end.TextEnd.{TextEnd}
 use Rattle.pid_cli.specs.declared.text_end.TextEnd.TheVariants.{Done, Line, TooManyEntries, TooLarge, Memory, ReadFault, WriteFault}
 
@@ -26,7 +27,7 @@ pub record Prints (text : List ℕ) (w : Writers) : Type 0 where
 pub record PrintsFront (text : List ℕ) (w : Writers) : Type 0 where
   pub tree : TreeMap
   pub reads : ReadsWithin text tree
-  pub printed : AppendsFront w.output w.output_after (print tree)
+  pub printed : SendsFront w.output w.output_after (print tree)
   pub nothing_told : Keeps w.faults w.faults_after
 
 -- nothing was printed, and why was told

@@ -1,14 +1,11 @@
 -- How the fault of a text is told.
-use Rattle.std.specs.Prelude.{ℕ, List, Option, take}
+use Rattle.std.specs.Prelude.{ℕ, List, Option}
 use Rattle.std.specs.Io.KnownBytes.{Appends, Keeps}
+use Rattle.pid_ident.specs.Sending.{SendsFront}
 use Rattle.pid_cli.specs.Judgements.{IsFaultOf}
 use Rattle.pid_cli.specs.TextEnds.{fault_line}
 use Rattle.pid_cli.specs.declared.text_end.TextEnd.{TextEnd}
 use Rattle.pid_cli.specs.declared.text_end.TextEnd.TheVariants.{Done, Line, TooManyEntries, TooLarge, Memory, ReadFault, WriteFault}
-
--- a front of these bytes was taken
-abbrev pub AppendsFront : Option (List ℕ) → Option (List ℕ) → List ℕ → Type 0
-AppendsFront old new bytes = (n : ℕ) × Appends old new (take n bytes)
 
 -- the end is a fault of the text, and its line was written
 pub record TellsFault (end : TextEnd) (text : List ℕ) (old new : Option (List ℕ)) : Type 0 where
@@ -19,7 +16,7 @@ pub record TellsFault (end : TextEnd) (text : List ℕ) (old new : Option (List 
 pub record TellsFront (text : List ℕ) (old new : Option (List ℕ)) : Type 0 where
   pub end : TextEnd
   pub is_fault : IsFaultOf end text
-  pub told : AppendsFront old new (fault_line end)
+  pub told : SendsFront old new (fault_line end)
 
 -- an end without a result: a fault of the text is told, one of the reader is not
 abbrev pub IsTold : TextEnd → List ℕ → Option (List ℕ) → Option (List ℕ) → Type 0

@@ -6,3 +6,4 @@ pub mod Words
 pub mod Trees
 pub mod LineKinds
 pub mod Sending
+pub mod Wrapping

@@ -1,6 +1,7 @@
 //! Readers and writers of std as an `Input` and an `Output`.
 ghost use Rattle.std.specs.Prelude.{◌≡◌, ◌<◌, ◌≤◌, None, IfSome, IfNone, length, take};
 ghost use Rattle.std.specs.Io.KnownBytes.{Consumes, IsAtEnd, Keeps, Appends};
+ghost use Rattle.pid_ident.specs.Wrapping.{wrapped, kept_read_fault, kept_write_fault, count_of_reads};
 
 use crate::io::{Input, Output, ReadFault, WriteFault};
 use std::io;
@@ -18,7 +19,13 @@ pub struct Plain<T> {
 }
 
 impl<T> Plain<T> {
-    pub fn new(inner: T) -> Plain<T> {
+    /// The reader or the writer, with no fault kept and no read counted.
+    pub fn new(inner: T) -> Plain<T>
+        ensures wraps { wrapped result ≡ inner }
+        ensures no_read_fault { kept_read_fault result ≡ None }
+        ensures no_write_fault { kept_write_fault result ≡ None }
+        ensures no_reads { count_of_reads result ≡ 0 }
+    {
         Plain {
             inner,
             reads: 0,
@@ -28,7 +35,9 @@ impl<T> Plain<T> {
     }
 
     /// The reader or the writer itself.
-    pub fn into_inner(self) -> T {
+    pub fn into_inner(self) -> T
+        ensures { result ≡ wrapped self }
+    {
         self.inner
     }
 }
@@ -77,11 +86,11 @@ fn is_interrupted(error: &io::Error) -> bool {
 }
 
 impl<R: Read> Input for Plain<R> {
-    ghost to_come = { λ p. R.remaining p.inner };
+    ghost to_come = { λ p. R.remaining (wrapped p) };
 
-    ghost read_fault = { λ p. p.read_fault };
+    ghost read_fault = { λ p. kept_read_fault p };
 
-    ghost reads = { λ p. p.reads };
+    ghost reads = { λ p. count_of_reads p };
 
     fn read(&mut self, buffer: &mut [u8]) -> Result<usize, ReadFault> {
         self.reads = self.reads.saturating_add(1);
@@ -99,9 +108,9 @@ impl<R: Read> Input for Plain<R> {
 }
 
 impl<W: Write> Output for Plain<W> {
-    ghost taken = { λ p. W.contents p.inner };
+    ghost taken = { λ p. W.contents (wrapped p) };
 
-    ghost write_fault = { λ p. p.write_fault };
+    ghost write_fault = { λ p. kept_write_fault p };
 
     fn write(&mut self, bytes: &[u8]) -> Result<usize, WriteFault> {
         if let Some(fault) = self.write_fault {

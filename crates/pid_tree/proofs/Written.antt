@@ -1,9 +1,9 @@
 -- The loop that writes the items.
-use Rattle.std.proofs.Common.{◌≡◌, ℕ, true, false, List, [], ◌∷◌, ◌++◌, take, map, Option, Result, refl, sym, ap, subst, ◌∙◌, append_assoc}
+use Rattle.std.proofs.Common.{◌≡◌, ℕ, true, false, List, [], ◌∷◌, ◌++◌, map, Option, Result, refl, sym, ap, subst, ◌∙◌, append_assoc}
 use Rattle.std.specs.Prelude.{if◌then◌else◌}
 use Rattle.std.proofs.lemmas.List.{append-nil}
 use Rattle.std.specs.Io.KnownBytes.{Appends}
-use Rattle.pid_ident.specs.Sending.{Sends}
+use Rattle.pid_ident.specs.Sending.{Sends, SendsFront}
 use Rattle.pid_ident.specs.declared.path.Path.{Path}
 use Rattle.pid_ident.specs.PathTexts.{path_text}
 use Rattle.pid_ident.proofs.SendingLemmas.{Appends-nil, Appends-then, Sends-then, stopped}
@@ -40,7 +40,7 @@ written_more a b c all before s u e (sent, whole, sent_before) first now =
       Appends-then a b c sent line sent_before now,
     )
 
-pub written_stop : (a b c : Option (List ℕ)) (all before : List ℕ) (s u : Items) (e : Path × List ℕ) → IsWritten a b all before s → s ≡ e ∷ u → (n : ℕ) × Appends b c (take n (ended (lines_behind before (item_of e ∷ [])))) → (n : ℕ) × Appends a c (take n all)
+pub written_stop : (a b c : Option (List ℕ)) (all before : List ℕ) (s u : Items) (e : Path × List ℕ) → IsWritten a b all before s → s ≡ e ∷ u → SendsFront b c (ended (lines_behind before (item_of e ∷ []))) → SendsFront a c all
 written_stop a b c all before s u e (sent, whole, sent_before) first now =
     let line = ended (lines_behind before (item_of e ∷ [])) in
     let rest = ended (lines_behind (path_text e.0) (map item_of u)) in
@@ -64,7 +64,7 @@ block_and_item r a b c before item block opens same first after =
     subst (Sends r a c) (sym (lines_opened before item block opens same)) (Sends-then r a b c _ _ first after)
 
 -- a fault in the block's line
-pub block_stopped : (a c : Option (List ℕ)) (before : List ℕ) (item : List ℕ × List ℕ) (block : List ℕ) → opens_block before item.0 ≡ true → block_line item.0 ≡ block → (n : ℕ) × Appends a c (take n (ended (block ∷ []))) → (n : ℕ) × Appends a c (take n (ended (lines_behind before (item ∷ []))))
+pub block_stopped : (a c : Option (List ℕ)) (before : List ℕ) (item : List ℕ × List ℕ) (block : List ℕ) → opens_block before item.0 ≡ true → block_line item.0 ≡ block → SendsFront a c (ended (block ∷ [])) → SendsFront a c (ended (lines_behind before (item ∷ [])))
 block_stopped a c before item block opens same now =
     stopped a a c [] (ended (block ∷ [])) (ended (item_line item ∷ [])) _ (Appends-nil a) now (lines_opened before item block opens same)
 
