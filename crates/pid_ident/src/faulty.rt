@@ -1,5 +1,5 @@
 //! A reader and a writer over memory that fail where a test wants it.
-ghost use Rattle.std.specs.Prelude.{◌≡◌, ◌<◌, [], None, Some};
+ghost use Rattle.std.specs.Prelude.{◌≡◌, ◌<◌, [], None, Some, max};
 
 use crate::io::{Input, Output, ReadFault, WriteFault};
 use std::alloc::Global;
@@ -9,17 +9,25 @@ use std::alloc::Global;
 pub struct FaultyInput<'a> {
     /// The bytes to come.
     pub rest: &'a [u8],
-    most: usize,
-    good_calls: Option<u64>,
-    fault: Option<ReadFault>,
-    reads: u64,
+    /// The most bytes that a call gives, at least one.
+    pub most: usize,
+    /// How many calls are still good; `None` where none fails.
+    pub good_calls: Option<u64>,
+    /// The fault that is kept.
+    pub fault: Option<ReadFault>,
+    /// How many reads were made.
+    pub reads: u64,
     ghost moves: { 0 < most },
 }
 
 impl<'a> FaultyInput<'a> {
     /// A reader of the bytes that gives at most `most` of them a call, and at least one.
     pub fn new(bytes: &'a [u8], most: usize) -> FaultyInput<'a>
-        ensures { result.rest.now ≡ bytes.now }
+        ensures rest { result.rest.now ≡ bytes.now }
+        ensures most { result.most ≡ max most 1 }
+        ensures good { result.good_calls ≡ None }
+        ensures no_fault { result.fault ≡ None }
+        ensures no_reads { result.reads ≡ 0 }
     {
         FaultyInput {
             rest: bytes,
@@ -30,11 +38,15 @@ impl<'a> FaultyInput<'a> {
         }
     }
 
-    /// The reader, failing after so many calls.
-    pub fn failing_after(mut self, calls: u64) -> FaultyInput<'a>
-        ensures { result.rest.now ≡ self.entry.rest.now }
+    /// The reader, failing after so many reads.
+    pub fn failing_after(mut self, reads: u64) -> FaultyInput<'a>
+        ensures rest { result.rest.now ≡ self.entry.rest.now }
+        ensures most { result.most ≡ self.entry.most }
+        ensures good { result.good_calls ≡ Some reads }
+        ensures same_fault { result.fault ≡ self.entry.fault }
+        ensures same_reads { result.reads ≡ self.entry.reads }
     {
-        self.good_calls = Some(calls);
+        self.good_calls = Some(reads);
         self
     }
 }
@@ -80,17 +92,25 @@ fn is_spent(good_calls: &mut Option<u64>) -> bool {
 pub struct FaultyOutput {
     /// The bytes that were taken.
     pub taken: Vec<u8>,
-    most: usize,
-    good_calls: Option<u64>,
-    last_fault: WriteFault,
-    fault: Option<WriteFault>,
+    /// The most bytes that a call takes, at least one.
+    pub most: usize,
+    /// How many calls are still good; `None` where none fails.
+    pub good_calls: Option<u64>,
+    /// What the first bad call gives.
+    pub last_fault: WriteFault,
+    /// The fault that is kept.
+    pub fault: Option<WriteFault>,
     ghost moves: { 0 < most },
 }
 
 impl FaultyOutput {
     /// A writer that takes at most `most` bytes a call, and at least one.
     pub fn new(alloc: Global, most: usize) -> FaultyOutput
-        ensures { result.taken.items ≡ [] }
+        ensures taken { result.taken.items ≡ [] }
+        ensures most { result.most ≡ max most 1 }
+        ensures good { result.good_calls ≡ None }
+        ensures to_come { result.last_fault ≡ WriteFault.Device }
+        ensures no_fault { result.fault ≡ None }
     {
         FaultyOutput {
             taken: Vec::new(alloc),
@@ -101,11 +121,15 @@ impl FaultyOutput {
         }
     }
 
-    /// The writer, giving the fault after so many calls.
-    pub fn failing_after(mut self, calls: u64, fault: WriteFault) -> FaultyOutput
-        ensures { result.taken.items ≡ self.taken.items }
+    /// The writer, giving the fault after so many writes.
+    pub fn failing_after(mut self, writes: u64, fault: WriteFault) -> FaultyOutput
+        ensures taken { result.taken.items ≡ self.taken.items }
+        ensures most { result.most ≡ self.most }
+        ensures good { result.good_calls ≡ Some writes }
+        ensures to_come { result.last_fault ≡ fault }
+        ensures same_fault { result.fault ≡ self.fault }
     {
-        self.good_calls = Some(calls);
+        self.good_calls = Some(writes);
         self.last_fault = fault;
         self
     }
