@@ -4,11 +4,12 @@ import limits
 import lspci
 import memory
 import real_file
+import words
 import worked_rows
 from program import Cases
 
 cases = Cases()
-for part in (worked_rows, fault_gallery, limits, real_file, lspci, memory):
+for part in (worked_rows, words, fault_gallery, limits, real_file, lspci, memory):
     before = cases.passed
     part.run(cases)
     print(f"{part.__name__}: {cases.passed - before} passed")

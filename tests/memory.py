@@ -4,16 +4,16 @@ import shutil
 import subprocess
 import tempfile
 
-from program import TOP, tidy
+from program import TOP, run as run_program
 from worked_rows import PRINTED
 
 
-def run_refusing(shim, at, text):
+def run_refusing(shim, at, text, *words):
     """The program's output, faults and status with its request number `at` refused, and whether there was one."""
     told, telling = os.pipe()
     program = os.path.join(TOP, "crates", "pid_cli", "out", "pid_cli")
     environment = dict(os.environ, LD_PRELOAD=shim, REFUSE_AT=str(at), REFUSE_FD=str(telling))
-    ran = subprocess.run([program], input=text, stdout=subprocess.PIPE, stderr=subprocess.PIPE, env=environment, pass_fds=[telling], timeout=60)
+    ran = subprocess.run([program, *words], input=text, stdout=subprocess.PIPE, stderr=subprocess.PIPE, env=environment, pass_fds=[telling], timeout=60)
     os.close(telling)
     with os.fdopen(told, "rb") as pipe:
         was_refused = pipe.read(1) == b"!"
@@ -33,17 +33,22 @@ def run(cases):
         # A line that comes in two pieces too, which the reader keeps.
         texts = {name: text for name, (text, _) in PRINTED.items()}
         texts["many vendors"] = b"".join(b"%04x  %s\n" % (v, b"n" * 40) for v in range(800))
-        refusals = 0
-        for name, text in texts.items():
-            ran = tidy(text)
-            whole = (ran.out, ran.err, ran.status)
-            for at in range(1, 100_000):
-                got, was_refused = run_refusing(shim, at, text)
-                if not was_refused:
-                    cases.equal(f"refused memory: {name}: none refused", got, whole)
-                    break
-                refusals += 1
-                if got not in (whole, (b"", b"no memory\n", 3)):
-                    cases.equal(f"refused memory: {name}: request {at}", got, whole)
-                    break
+        refusals = sum(refuse_in_turn(cases, shim, name, text, *words) for name, text in texts.items() for words in ([], ["check"]))
         cases.equal("refused memory: requests were refused", refusals > 100, True)
+
+
+def refuse_in_turn(cases, shim, name, text, *words):
+    """Refuses each request of one run in turn, and answers how many there were."""
+    name = " ".join(["refused memory", *words]) + f": {name}"
+    ran = run_program(text, *words)
+    whole = (ran.out, ran.err, ran.status)
+    # Where the words are not yet read, the fault goes to standard error.
+    wanted = [whole, (b"", b"no memory\n", 3)] + ([(b"no memory\n", b"", 3)] if words == ("check",) else [])
+    for at in range(1, 100_000):
+        got, was_refused = run_refusing(shim, at, text, *words)
+        if not was_refused:
+            cases.equal(f"{name}: none refused", got, whole)
+            return at - 1
+        if got not in wanted:
+            cases.equal(f"{name}: request {at}", got, whole)
+            return at

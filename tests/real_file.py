@@ -3,7 +3,7 @@ import os
 import re
 import subprocess
 
-from program import HEADER, REAL_FILE, tidy
+from program import HEADER, REAL_FILE, entries_of, run as run_program, tidy
 
 
 def run(cases):
@@ -19,8 +19,11 @@ def run(cases):
     ran = tidy(text)
     cases.equal("the real file: status", (ran.status, ran.err), (0, b""))
     cases.equal("the real file: its entry lines behind the header", ran.out, HEADER + entries)
+    counted = run_program(text, "check")
+    cases.equal("the real file: its entries", (counted.out, counted.status), (b"ok %d\n" % entries_of(entries), 0))
     if re.search(rb"^#\s*Version: 2023\.04\.10", text, re.M):
         cases.equal("version 2023.04.10: lines", ran.out.count(b"\n"), 35599)
+        cases.equal("version 2023.04.10: entries", counted.out, b"ok 35598\n")
         cases.equal("version 2023.04.10: bytes", len(ran.out), 1339707)
     cases.equal("the real file: tidied twice", tidy(ran.out).out, ran.out)
     with_cr = tidy(text.replace(b"\n", b"\r\n"))
