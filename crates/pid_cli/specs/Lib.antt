@@ -4,3 +4,4 @@ pub mod InputEnds
 pub mod Told
 pub mod Tidied
 pub mod Checked
+pub mod Commands
