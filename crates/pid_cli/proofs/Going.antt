@@ -1,5 +1,5 @@
 -- What a reader of pieces says, in the words of the loop that feeds it.
-use Rattle.std.proofs.Common.{◌≡◌, ℕ, List, ◌++◌, Option, Some, None, Result, Ok, Err, inl, inr}
+use Rattle.std.proofs.Common.{◌≡◌, ℕ, List, ◌++◌, Some, None, Result, Ok, Err, inl, inr}
 use Rattle.std.specs.Prelude.{IfOk, IfErr, OnOk}
 use Rattle.pid_ident.specs.Trees.{TreeMap}
 use Rattle.pid_reader.specs.declared.refusal.ReadRefusal.{ReadRefusal}

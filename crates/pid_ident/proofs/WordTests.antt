@@ -1,6 +1,6 @@
 -- What is left of the rule of a word when its length and its first byte are known.
-use Rattle.std.proofs.Common.{◌≡◌, ℕ, ◌≤◌, List, length, false, true, leb, refl, sym, ap, ◌∙◌, arith}
-use Rattle.std.specs.Str.{IsUtf8, is_utf8}
+use Rattle.std.proofs.Common.{◌≡◌, ℕ, ◌≤◌, List, length, false, true, leb, refl, arith}
+use Rattle.std.specs.Str.{IsUtf8}
 use Rattle.std.specs.List.{list_all}
 use Rattle.std.proofs.lemmas.Str.{is_utf8-from_IsUtf8}
 use Rattle.std.proofs.lemmas.Bool.Decides.{nat_tests}

@@ -1,11 +1,10 @@
 -- The bytes of a line.
-use Rattle.std.proofs.Common.{◌≡◌, ◌≢◌, ℕ, zero, suc, ◌-◌, ◌≤◌, Bool, true, false, cond, eqb, ◌&&◌, List, [], ◌∷◌, length, get_or, take, Some, refl, sym, ap, subst, ◌∙◌, arith}
+use Rattle.std.proofs.Common.{◌≡◌, ◌≢◌, ℕ, zero, suc, ◌-◌, ◌≤◌, Bool, true, false, ◌&&◌, List, [], ◌∷◌, length, get_or, take, Some, refl, sym, ap, subst, ◌∙◌, arith}
 use Rattle.std.specs.Str.{is_utf8, IsUtf8}
 use Rattle.pid_ident.specs.Bytes.{is_empty}
 use Rattle.pid_ident.specs.declared.line_kind.LineKind.TheVariants.{BadName}
 use Rattle.pid_reader.specs.EntryLines.{name_fault}
 use Rattle.std.proofs.lemmas.Str.{IsUtf8-from_is_utf8}
-use Rattle.pid_reader.specs.Marks.{depth, body}
 use Rattle.std.proofs.lemmas.Bool.Decides.{nat_tests}
 use Rattle.pid_reader.specs.Columns.{is_hex, begins_with_id}
 use Rattle.pid_reader.specs.Lines.{drop_cr}
@@ -44,11 +43,6 @@ by_bool false h = refl
 
 pub not_utf8 : (bytes : List ℕ) → (IsUtf8 bytes → ⊥) → is_utf8 bytes ≡ false
 not_utf8 bytes none = by_bool (is_utf8 bytes) (λ e. none (IsUtf8-from_is_utf8 bytes e))
-
--- of depth 0, no tab leads
-pub body_flat : (line : List ℕ) → depth line ≡ 0 → body line ≡ line
-body_flat [] h = refl
-body_flat (b ∷ bs) h = elim (eqb b 9) as (λ t. cond t (suc (depth bs)) 0 ≡ 0 → cond t (body bs) (b ∷ bs) ≡ b ∷ bs) [ true ↦ λ e. absurd (omega arith) | false ↦ λ e. refl ] h
 
 pub bad_bytes : (bytes : List ℕ) → is_empty bytes ≡ false → is_utf8 bytes ≡ false → name_fault bytes ≡ Some BadName
 bad_bytes bytes some text = rw (some, text) refl

@@ -1,12 +1,12 @@
 -- What one more line says below open levels.
-use Rattle.std.proofs.Common.{◌≡◌, ℕ, suc, Bool, true, false, cond, not, ◌&&◌, ◌||◌, eqb, ltb, leb, List, [], ◌∷◌, ◌++◌, length, take, map, Option, Some, None, Ok, Err, refl, sym, ap, subst, ◌∙◌, arith}
+use Rattle.std.proofs.Common.{◌≡◌, ℕ, suc, Bool, true, false, cond, not, ◌&&◌, ◌||◌, eqb, leb, List, [], ◌∷◌, ◌++◌, length, take, map, Option, Some, None, Ok, Err, refl, sym, ap, subst, ◌∙◌, arith}
 use mathlib.Core.Bool.{true≢false}
 use Rattle.std.specs.Prelude.{is_none, codes, unwrap_or}
 use Rattle.std.specs.Str.{is_utf8}
 use Rattle.std.specs.Char.{to_ascii_lowercase}
 use Rattle.std.proofs.lemmas.Bool.Decides.{nat_tests}
 use Rattle.pid_ident.specs.declared.line_kind.LineKind.{LineKind}
-use Rattle.pid_ident.specs.declared.line_kind.LineKind.TheVariants.{NotUtf8, TooDeep, NoParent, BadId}
+use Rattle.pid_ident.specs.declared.line_kind.LineKind.TheVariants.{TooDeep, NoParent}
 use Rattle.pid_ident.specs.declared.path.Path.{Path}
 use Rattle.pid_ident.specs.declared.path.Path.TheVariants as paths
 use Rattle.pid_ident.specs.Identifiers.{hex4, hex2}
@@ -25,14 +25,7 @@ use Rattle.pid_reader.specs.Columns.{begins_with_ids, is_id, digits_in, name_in}
 use Rattle.pid_reader.specs.LookingBack.{is_above, above, mark_at, parent_line, is_block, is_entry, widths_at, digits_at, head_path, path_at, entry_of}
 use Rattle.pid_reader.specs.Faults.{line_fault_of}
 use Rattle.pid_reader.specs.EntryLines.{columns_fault, widths_of, text_before, IsPathAt}
-use Rattle.pid_reader.specs.OpenLevels.{Under, Below, IsBare, IsUnknown, IsOpenAt, first_below, second_below, deeper_below, below, open_below, Says}
-
--- a line that is neither an entry nor the line of a block
-nothing_fault : (earlier : List (List ℕ)) (line : List ℕ) → is_utf8 line ≡ true → is_entry earlier line ≡ false → is_block line ≡ false → line_fault_of earlier line ≡ None
-nothing_fault earlier line text entry block = rw (text, entry, block) refl
-
-pub not_text : (earlier : List (List ℕ)) (line : List ℕ) → is_utf8 line ≡ false → line_fault_of earlier line ≡ Some NotUtf8
-not_text earlier line text = rw text refl
+use Rattle.pid_reader.specs.OpenLevels.{Under, Below, IsBare, IsOpenAt, first_below, second_below, deeper_below, below, open_below, Says}
 
 -- lines that are passed over when looking back
 past : (n : ℕ) (earlier : List (List ℕ)) (line : List ℕ) → is_above n line ≡ false → above n (line ∷ earlier) ≡ above n earlier
@@ -44,59 +37,12 @@ under_past earlier line m top h u = record { head = u.head; is_head = past 1 ear
 below_past : (earlier : List (List ℕ)) (line : List ℕ) (m : Mark) (digits : List ℕ) → is_above 2 line ≡ false → Below earlier m digits → Below (line ∷ earlier) m digits
 below_past earlier line m digits h b = record { line = b.line; is_open = past 2 earlier line h ∙ b.is_open; nested = b.nested; says = b.says }
 
-bare_past : (earlier : List (List ℕ)) (line : List ℕ) → is_above 2 line ≡ false → IsBare earlier → IsBare (line ∷ earlier)
-bare_past earlier line h b = record { nearest = b.nearest; is_nearest = past 2 earlier line h ∙ b.is_nearest; flat = b.flat }
-
-unknown_past : (earlier : List (List ℕ)) (line : List ℕ) → is_above 1 line ≡ false → IsUnknown earlier → IsUnknown (line ∷ earlier)
-unknown_past earlier line h u = record { head = u.head; is_head = past 1 earlier line h ∙ u.is_head; marked = u.marked }
-
-open_past : (open_is : OpenLevels) (earlier : List (List ℕ)) (line : List ℕ) → is_above 1 line ≡ false → is_above 2 line ≡ false → IsOpenAt open_is earlier → IsOpenAt open_is (line ∷ earlier)
-open_past opens.Nothing earlier line h k o = (past 1 earlier line h ∙ o.0, past 2 earlier line k ∙ o.1)
-open_past opens.Unknown earlier line h k o = unknown_past earlier line h o
-open_past (opens.Vendor v) earlier line h k o = (under_past earlier line _ _ h o.0, bare_past earlier line k o.1)
-open_past (opens.Device v d) earlier line h k o = (under_past earlier line _ _ h o.0, below_past earlier line _ _ k o.1)
-open_past (opens.Class c) earlier line h k o = (under_past earlier line _ _ h o.0, bare_past earlier line k o.1)
-open_past (opens.Subclass c s) earlier line h k o = (under_past earlier line _ _ h o.0, below_past earlier line _ _ k o.1)
-open_past (opens.Generics v) earlier line h k o = under_past earlier line _ _ h o
-
--- an idle line
-pub idle_says : (open_is : OpenLevels) (earlier : List (List ℕ)) (line : List ℕ) → is_utf8 line ≡ true → is_idle line ≡ true → IsOpenAt open_is earlier → Says open_is earlier line said.Nothing
-idle_says open_is earlier line text idle o = record {
-  good = nothing_fault earlier line text (rw idle refl) (rw idle refl);
-  entry = rw idle refl;
-  block = rw idle refl;
-  behind = open_past open_is earlier line (rw idle refl) (rw idle refl) o;
-}
-
--- a line that opens an unknown block
-pub unknown_says : (open_is : OpenLevels) (earlier : List (List ℕ)) (line : List ℕ) → is_utf8 line ≡ true → is_idle line ≡ false → depth line ≡ 0 → mark line ≡ marks.Unknown → Says open_is earlier line said.Unknown
-unknown_says open_is earlier line text active flat marked = record {
-  good = nothing_fault earlier line text (rw (active, flat, marked) refl) (rw (active, flat, marked) refl);
-  entry = rw (active, flat, marked) refl;
-  block = rw (active, flat, marked) refl;
-  behind = record { head = line; is_head = rw (active, flat) refl; marked = marked };
-}
-
 -- a line that opens a block of generic subsystems
 block_good : (earlier : List (List ℕ)) (line : List ℕ) → is_utf8 line ≡ true → is_entry earlier line ≡ false → is_block line ≡ true → is_id 4 (inside line) ≡ true → line_fault_of earlier line ≡ None
 block_good earlier line text entry block id = rw (text, entry, block, id) refl
 
-block_bad : (earlier : List (List ℕ)) (line : List ℕ) → is_utf8 line ≡ true → is_entry earlier line ≡ false → is_block line ≡ true → is_id 4 (inside line) ≡ false → line_fault_of earlier line ≡ Some BadId
-block_bad earlier line text entry block id = rw (text, entry, block, id) refl
-
 block_digits : (bytes : List ℕ) (v : ℕ) → map to_ascii_lowercase (take 4 bytes) ≡ hex4 v → digits_in (4 ∷ []) bytes ≡ hex4 v
 block_digits bytes v h = ap (λ (l : List ℕ). l ++ []) h
-
-pub block_says : (open_is : OpenLevels) (earlier : List (List ℕ)) (line : List ℕ) (v : ℕ) → is_utf8 line ≡ true → is_idle line ≡ false → depth line ≡ 0 → mark line ≡ marks.Generics → is_id 4 (inside line) ≡ true → map to_ascii_lowercase (take 4 (inside line)) ≡ hex4 v → Says open_is earlier line (said.Block v)
-block_says open_is earlier line v text active flat marked id digits = record {
-  good = block_good earlier line text (rw (active, flat, marked) refl) (rw (active, flat, marked) refl) id;
-  entry = rw (active, flat, marked) refl;
-  block = (rw (active, flat, marked) refl, block_digits (inside line) v digits);
-  behind = record { head = line; is_head = rw (active, flat) refl; flat = flat; marked = marked; path = subst (λ (l : List ℕ). head_path line ≡ codes "PS/" ++ l) (block_digits (inside line) v digits) (rw marked refl) };
-}
-
-pub block_fault : (earlier : List (List ℕ)) (line : List ℕ) → is_utf8 line ≡ true → is_idle line ≡ false → depth line ≡ 0 → mark line ≡ marks.Generics → is_id 4 (inside line) ≡ false → line_fault_of earlier line ≡ Some BadId
-block_fault earlier line text active flat marked id = block_bad earlier line text (rw (active, flat, marked) refl) (rw (active, flat, marked) refl) id
 
 -- where an entry's line stands among the open lines
 abbrev pub IsPlace : Place → List (List ℕ) → List ℕ → Type 0
@@ -262,54 +208,6 @@ place_is open_is d place earlier line at o h =
         | false ↦ λ _ h. absurd (place_deep open_is place h)
       ] refl h
     ] refl h
-
--- a nested line that is skipped
-skip_says : (earlier : List (List ℕ)) (line : List ℕ) → is_utf8 line ≡ true → is_idle line ≡ false → eqb (depth line) 0 ≡ false → IsUnknown earlier → Says opens.Unknown earlier line said.Nothing
-skip_says earlier line text active nested u =
-    let far : is_above 1 line ≡ false = let l : ltb (depth line) 1 ≡ false = grind (arith, nat_tests) in rw (active, l) refl in
-    record {
-      good = nothing_fault earlier line text (rw (active, nested, u.is_head, u.marked) refl) (rw (active, nested) refl);
-      entry = rw (active, nested, u.is_head, u.marked) refl;
-      block = rw (active, nested) refl;
-      behind = unknown_past earlier line far u;
-    }
-
-skip_open : (open_is : OpenLevels) → (first_below open_is ≡ Ok None) → open_is ≡ opens.Unknown
-skip_open opens.Nothing h = absurd cc
-skip_open opens.Unknown h = refl
-skip_open (opens.Vendor v) h = absurd cc
-skip_open (opens.Device v d) h = absurd cc
-skip_open (opens.Class c) h = absurd cc
-skip_open (opens.Subclass c s) h = absurd cc
-skip_open (opens.Generics v) h = absurd cc
-
-skip_second : (open_is : OpenLevels) → (second_below open_is ≡ Ok None) → open_is ≡ opens.Unknown
-skip_second opens.Nothing h = absurd cc
-skip_second opens.Unknown h = refl
-skip_second (opens.Vendor v) h = absurd cc
-skip_second (opens.Device v d) h = absurd cc
-skip_second (opens.Class c) h = absurd cc
-skip_second (opens.Subclass c s) h = absurd cc
-skip_second (opens.Generics v) h = absurd cc
-
-skip_deeper : (open_is : OpenLevels) → (deeper_below open_is ≡ Ok None) → open_is ≡ opens.Unknown
-skip_deeper opens.Nothing h = absurd cc
-skip_deeper opens.Unknown h = refl
-skip_deeper (opens.Vendor v) h = absurd cc
-skip_deeper (opens.Device v d) h = absurd cc
-skip_deeper (opens.Class c) h = absurd cc
-skip_deeper (opens.Subclass c s) h = absurd cc
-skip_deeper (opens.Generics v) h = absurd cc
-
-skipped_open : (open_is : OpenLevels) (a b : Bool) → cond a (first_below open_is) (cond b (second_below open_is) (deeper_below open_is)) ≡ Ok None → open_is ≡ opens.Unknown
-skipped_open open_is true b h = skip_open open_is h
-skipped_open open_is false true h = skip_second open_is h
-skipped_open open_is false false h = skip_deeper open_is h
-
-pub skipped_says : (open_is : OpenLevels) (d : ℕ) (earlier : List (List ℕ)) (line : List ℕ) → is_utf8 line ≡ true → is_idle line ≡ false → eqb d 0 ≡ false → depth line ≡ d → IsOpenAt open_is earlier → below open_is d ≡ Ok None → Says open_is earlier line said.Nothing
-skipped_says open_is d earlier line text active nested at o h =
-    let is = skipped_open open_is (eqb d 1) (eqb d 2) h in
-    subst (λ (q : OpenLevels). Says q earlier line said.Nothing) (sym is) (skip_says earlier line text active (subst (λ n. eqb n 0 ≡ false) (sym at) nested) (subst (λ (q : OpenLevels). IsOpenAt q earlier) is o))
 
 -- a nested line that stands nowhere
 orphan_fault : (earlier : List (List ℕ)) (line : List ℕ) → is_utf8 line ≡ true → is_entry earlier line ≡ true → leb (length (levels (mark_at earlier line))) (depth line) ≡ false → eqb (depth line) 0 ≡ false → is_none (parent_line earlier line) ≡ true → line_fault_of earlier line ≡ Some NoParent

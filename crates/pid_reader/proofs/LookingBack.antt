@@ -1,6 +1,5 @@
 -- Looking back over a text of whole lines.
-use Rattle.std.proofs.Common.{◌≡◌, ℕ, ◌+◌, ◌<◌, ◌≤◌, Bool, true, false, cond, not, ◌&&◌, ◌||◌, eqb, ltb, leb, List, [], ◌∷◌, ◌++◌, ◌-◌, length, length-append, take, drop, map, Option, Some, None, refl, sym, ap, subst, ◌∙◌, append_assoc, arith, inl, inr}
-use mathlib.Core.List.{reverse_aux}
+use Rattle.std.proofs.Common.{◌≡◌, ℕ, ◌+◌, ◌<◌, Bool, true, false, cond, not, ◌&&◌, ◌||◌, eqb, ltb, leb, List, [], ◌∷◌, ◌++◌, ◌-◌, length, length-append, take, drop, map, Option, Some, None, refl, sym, ap, subst, ◌∙◌, append_assoc, arith, inl, inr}
 use mathlib.Core.Bool.{false≢true, true≢false}
 use Rattle.std.specs.Prelude.{reverse, is_some, is_none}
 use Rattle.std.specs.Str.{is_utf8}
@@ -18,17 +17,17 @@ use Rattle.pid_reader.specs.Marks.{is_idle, depth, mark, is_unknown, is_generics
 use Rattle.pid_reader.specs.Levels.{levels, widths}
 use Rattle.pid_reader.specs.Columns.{begins_with_ids, is_id, name_in}
 use Rattle.pid_reader.specs.Faults.{fault_of, line_fault_of}
-use Rattle.pid_reader.specs.OpenLevels.{Under, Below, IsBare, IsUnknown, IsOpenAt}
+use Rattle.pid_reader.specs.OpenLevels.{Under, Below, IsBare, IsOpenAt}
 use Rattle.pid_reader.specs.Lines.{lines_of, drop_cr}
 use Rattle.pid_reader.specs.WholeLines.{ended_pieces, open_part, whole_lines}
 use Rattle.pid_reader.specs.LookingBack.{is_above, above, if_depth}
 use Rattle.pid_reader.specs.Reading.{AreGood, history_of, refusal_of, refused}
 use Rattle.pid_reader.specs.Refusals.{IsRefusal}
 use Rattle.pid_reader.specs.declared.refusal.ReadRefusal.{ReadRefusal}
-use Rattle.pid_reader.proofs.Cuts.{ended_line, open_line, open_behind, lines_split, map_append}
+use Rattle.pid_reader.proofs.Cuts.{ended_line, open_line, open_behind, lines_split}
 use Rattle.pid_reader.proofs.Feeding.{reverse_aux-snoc, good_lines, refused_more}
 use Rattle.pid_reader.proofs.Written.{both_true, not_true}
-use Rattle.pid_reader.proofs.Clean.{Nearest, nearest, not_above}
+use Rattle.pid_reader.proofs.Clean.{nearest, not_above}
 use Rattle.pid_reader.proofs.ReadTrees.{no_head}
 use Rattle.pid_reader.proofs.OneMoreLine.{or_kind, late_fault, split_fault}
 
@@ -38,9 +37,6 @@ pub record PartWay (before rest : List ℕ) (n : ℕ) (found : Option (List ℕ)
   pub parts : whole_lines before ≡ gone ++ whole_lines rest
   pub is_whole : open_part rest ≡ []
   pub found_is : above n (reverse gone) ≡ found
-
-pub way_starts : (before : List ℕ) (n : ℕ) → open_part before ≡ [] → PartWay before before n None
-way_starts before n whole = record { gone = []; parts = refl; is_whole = whole; found_is = refl }
 
 pub way_goes : (before rest piece behind line : List ℕ) (n : ℕ) (found : Option (List ℕ)) → PartWay before rest n found → rest ≡ piece ++ 10 ∷ behind → ended_pieces piece ≡ [] → line ≡ drop_cr piece → PartWay before behind n (cond (is_above n line) (Some line) found)
 way_goes before rest piece behind line n found w rest_is no_lf line_is =

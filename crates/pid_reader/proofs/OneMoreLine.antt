@@ -97,9 +97,6 @@ quiet_taken now next seen lines number earlier line shown at none good behind =
       none,
     )
 
-pub nothing_good : (earlier : List (List ℕ)) (line : List ℕ) → line_fault_of earlier line ≡ None → [] ≡ entry_of earlier line → is_block line ≡ false → fault_of earlier line ≡ None
-nothing_good earlier line own none block = late earlier line own ∙ rw (no_entry earlier line none, block) refl
-
 -- the line of a block
 flat_is : (n : ℕ) → eqb n 0 ≡ true → n ≡ 0
 flat_is n h = grind (arith, nat_tests)

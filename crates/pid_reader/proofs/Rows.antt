@@ -9,47 +9,47 @@ use Rattle.pid_tree.specs.Printing.{lines_behind}
 use Rattle.pid_reader.specs.LookingBack.{entries_back}
 use Rattle.pid_reader.specs.Reading.{history_of, refused}
 
-row28 : List ℕ
-row28 = codes "1af4  Red Hat" ++ 10 ∷ codes "S 1AF4" ++ 10 ∷ 9 ∷ codes "1100  Qemu" ++ 10 ∷ 9 ∷ codes "0001  Net" ++ 10 ∷ codes "C 01  Mass" ++ 10 ∷ codes "8086  I" ++ 10 ∷ codes "S 1af4" ++ 10 ∷ 9 ∷ codes "0002  Blk" ++ 10 ∷ []
+generics : List ℕ
+generics = codes "1af4  Red Hat" ++ 10 ∷ codes "S 1AF4" ++ 10 ∷ 9 ∷ codes "1100  Qemu" ++ 10 ∷ 9 ∷ codes "0001  Net" ++ 10 ∷ codes "C 01  Mass" ++ 10 ∷ codes "8086  I" ++ 10 ∷ codes "S 1af4" ++ 10 ∷ 9 ∷ codes "0002  Blk" ++ 10 ∷ []
 
-row28_entries : entries_back (history_of row28) ≡ (codes "PS/1af4/0002", codes "Blk") ∷ (codes "PC/8086", codes "I") ∷ (codes "PD/01", codes "Mass") ∷ (codes "PS/1af4/0001", codes "Net") ∷ (codes "PS/1af4/1100", codes "Qemu") ∷ (codes "PC/1af4", codes "Red Hat") ∷ []
-unfolding row28
-row28_entries = refl
+generics_entries : entries_back (history_of generics) ≡ (codes "PS/1af4/0002", codes "Blk") ∷ (codes "PC/8086", codes "I") ∷ (codes "PD/01", codes "Mass") ∷ (codes "PS/1af4/0001", codes "Net") ∷ (codes "PS/1af4/1100", codes "Qemu") ∷ (codes "PC/1af4", codes "Red Hat") ∷ []
+unfolding generics
+generics_entries = refl
 
-row28_good : refused row28 ≡ None
-unfolding row28 is_utf8 chars encode
-row28_good = refl
+generics_good : refused generics ≡ None
+unfolding generics is_utf8 chars encode
+generics_good = refl
 
-row28_printed : lines_behind [] ((codes "PC/1af4", codes "Red Hat") ∷ (codes "PC/8086", codes "I") ∷ (codes "PD/01", codes "Mass") ∷ (codes "PS/1af4/0001", codes "Net") ∷ (codes "PS/1af4/0002", codes "Blk") ∷ (codes "PS/1af4/1100", codes "Qemu") ∷ [])
+generics_printed : lines_behind [] ((codes "PC/1af4", codes "Red Hat") ∷ (codes "PC/8086", codes "I") ∷ (codes "PD/01", codes "Mass") ∷ (codes "PS/1af4/0001", codes "Net") ∷ (codes "PS/1af4/0002", codes "Blk") ∷ (codes "PS/1af4/1100", codes "Qemu") ∷ [])
     ≡ codes "1af4  Red Hat" ∷ codes "8086  I" ∷ codes "C 01  Mass" ∷ codes "S 1af4" ∷ (9 ∷ codes "0001  Net") ∷ (9 ∷ codes "0002  Blk") ∷ (9 ∷ codes "1100  Qemu") ∷ []
-row28_printed = refl
+generics_printed = refl
 
 abbrev after : List ℕ → List ℕ
 after rest = codes "1af4  R" ++ 10 ∷ rest
 
-row29_long : refused (after (codes "S 1af4x")) ≡ Some (Line 2 BadId)
+letter_behind_block : refused (after (codes "S 1af4x")) ≡ Some (Line 2 BadId)
 unfolding is_utf8 chars encode
-row29_long = refl
+letter_behind_block = refl
 
-row29_short : refused (after (codes "S 1af")) ≡ Some (Line 2 BadId)
+three_digits_of_block : refused (after (codes "S 1af")) ≡ Some (Line 2 BadId)
 unfolding is_utf8 chars encode
-row29_short = refl
+three_digits_of_block = refl
 
-row29_alone : refused (after (codes "S 1af4")) ≡ None
+block_alone : refused (after (codes "S 1af4")) ≡ None
 unfolding is_utf8 chars encode
-row29_alone = refl
+block_alone = refl
 
-row29_deep : refused (after (codes "S 1af4" ++ 10 ∷ 9 ∷ codes "1100  X" ++ 10 ∷ 9 ∷ 9 ∷ codes "1  Y")) ≡ Some (Line 4 TooDeep)
+two_tabs_in_block : refused (after (codes "S 1af4" ++ 10 ∷ 9 ∷ codes "1100  X" ++ 10 ∷ 9 ∷ 9 ∷ codes "1  Y")) ≡ Some (Line 4 TooDeep)
 unfolding is_utf8 chars encode
-row29_deep = refl
+two_tabs_in_block = refl
 
-row29_twice : refused (after (codes "S 1af4" ++ 10 ∷ 9 ∷ codes "1100  X" ++ 10 ∷ codes "S 1af4" ++ 10 ∷ 9 ∷ codes "1100  Z")) ≡ Some (Line 5 Duplicate)
+generic_twice : refused (after (codes "S 1af4" ++ 10 ∷ 9 ∷ codes "1100  X" ++ 10 ∷ codes "S 1af4" ++ 10 ∷ 9 ∷ codes "1100  Z")) ≡ Some (Line 5 Duplicate)
 unfolding is_utf8 chars encode
-row29_twice = refl
+generic_twice = refl
 
-row29_missing : refused (after (codes "S 8086")) ≡ Some (Line 2 VendorMissing)
+vendor_of_block_missing : refused (after (codes "S 8086")) ≡ Some (Line 2 VendorMissing)
 unfolding is_utf8 chars encode
-row29_missing = refl
+vendor_of_block_missing = refl
 
 whole : List ℕ
 whole = codes "8086  Intel" ++ 10 ∷ 9 ∷ codes "1237  440FX" ++ 10 ∷ 9 ∷ 9 ∷ codes "1AF4 1100  Qemu" ++ 10 ∷ codes "# c" ++ 10 ∷ codes "C 01  Mass" ++ 10 ∷ 9 ∷ codes "01  IDE" ++ 10 ∷ 9 ∷ 9 ∷ codes "80  Master" ++ 10 ∷ codes "A b" ++ 10 ∷ 9 ∷ codes "junk" ++ 10 ∷ 9 ∷ 9 ∷ 9 ∷ 9 ∷ codes "deep" ++ 10 ∷ codes "10ec  R"
@@ -98,16 +98,16 @@ bad_bytes : refused (35 ∷ 255 ∷ []) ≡ Some (Line 1 NotUtf8)
 unfolding is_utf8 chars encode
 bad_bytes = refl
 
-row17 : refused (codes "S 1af4" ++ 10 ∷ codes "1af4  Red Hat" ++ 10 ∷ []) ≡ Some (Line 1 VendorMissing)
+block_before_vendor : refused (codes "S 1af4" ++ 10 ∷ codes "1af4  Red Hat" ++ 10 ∷ []) ≡ Some (Line 1 VendorMissing)
 unfolding is_utf8 chars encode
-row17 = refl
+block_before_vendor = refl
 
-row4 : refused (codes "8086  I" ++ 10 ∷ codes "# c" ++ 10 ∷ 10 ∷ 9 ∷ codes "1237  X") ≡ None
+comment_between : refused (codes "8086  I" ++ 10 ∷ codes "# c" ++ 10 ∷ 10 ∷ 9 ∷ codes "1237  X") ≡ None
 unfolding is_utf8 chars encode
-row4 = refl
+comment_between = refl
 
-row4_cr : entries_back (history_of (codes "8086  I" ++ 13 ∷ 10 ∷ [])) ≡ (codes "PC/8086", codes "I") ∷ []
-row4_cr = refl
+line_with_cr : entries_back (history_of (codes "8086  I" ++ 13 ∷ 10 ∷ [])) ≡ (codes "PC/8086", codes "I") ∷ []
+line_with_cr = refl
 
 -- what bad heads leave open
 class_alone : refused (codes "C 01") ≡ Some (Line 1 BadId)

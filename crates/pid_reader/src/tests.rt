@@ -96,6 +96,15 @@ fn by_pieces(alloc: Global, text: &[u8], size: usize) -> Answer {
     Ok(feeder.finish()?.len())
 }
 
+// The answer of a feeder that is fed the text in two pieces.
+fn by_cutting(alloc: Global, text: &[u8], at: usize) -> Answer {
+    let (front, behind) = text.split_at(at.min(text.len()));
+    let mut feeder = Feeder::new(alloc);
+    feeder.feed(front)?;
+    feeder.feed(behind)?;
+    Ok(feeder.finish()?.len())
+}
+
 // The answer of a counter that is fed the text in two pieces.
 fn by_counting(alloc: Global, text: &[u8], at: usize) -> Result<u64, ReadRefusal> {
     let (front, behind) = text.split_at(at.min(text.len()));
@@ -112,6 +121,7 @@ fn rows_whole_and_cut(rt: HostRuntime) {
         assert_eq!(rt; by_pieces(rt.alloc(), text, 1), want, "{text:?}");
         assert_eq!(rt; by_looking_back(rt.alloc(), text), want, "{text:?}");
         for at in 0..text.len() {
+            assert_eq!(rt; by_cutting(rt.alloc(), text, at), want, "{text:?} at {at}");
             let counted = want.map(|n| n as u64);
             assert_eq!(rt;
                 by_counting(rt.alloc(), text, at),
@@ -131,6 +141,27 @@ fn prefixes_have_one_answer(rt: HostRuntime) {
         assert_eq!(rt; by_pieces(rt.alloc(), text, 7), whole, "{end}");
         assert_eq!(rt; by_looking_back(rt.alloc(), text), whole, "{end}");
     }
+}
+
+// To be run with each allocation refused in turn.
+#[test]
+fn want_of_memory_changes_no_answer(rt: HostRuntime) {
+    for answer in [
+        by_read_ids(rt.alloc(), GENERICS),
+        by_pieces(rt.alloc(), GENERICS, 3),
+        by_looking_back(rt.alloc(), GENERICS),
+    ] {
+        assert!(rt;
+            matches!(answer, Ok(6) | Err(ReadRefusal::Memory)),
+            "{answer:?}"
+        );
+    }
+    let refused = by_read_ids(rt.alloc(), b"8086  I\n8086  J\n");
+    let duplicate = fault(2, LineKind::Duplicate);
+    assert!(rt;
+        refused == duplicate || refused == Err(ReadRefusal::Memory),
+        "{refused:?}"
+    );
 }
 
 #[test]

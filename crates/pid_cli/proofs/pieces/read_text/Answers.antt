@@ -1,6 +1,6 @@
-use Rattle.std.proofs.Common.{◌≡◌, ℕ, ◌+◌, ◌≤◌, List, [], ◌++◌, length, take, refl, sym, ap, ◌∙◌, arith, rules, length-append}
+use Rattle.std.proofs.Common.{◌≡◌, ℕ, ◌≤◌, List, [], ◌++◌, length, take, refl, ◌∙◌, arith, rules, length-append}
 use Rattle.std.proofs.lemmas.List.{length-take-le}
-use Rattle.pid_cli.proofs.Feeding.{Consumes-nil, Consumes-then, Holds-piece, HasRead}
+use Rattle.pid_cli.proofs.Feeding.{Consumes-nil, Consumes-then, Holds-piece}
 use Rattle.pid_cli.proofs.pieces.read_text.Goals as goal
 
 pub loop-length-init : goal.loop-length-init

@@ -1,4 +1,4 @@
-use Rattle.std.proofs.Common.{ℕ, ◌+◌, ◌-◌, ◌≤◌}
+use Rattle.std.proofs.Common.{◌-◌, ◌≤◌}
 use Rattle.pid_cli.proofs.Feeding.{Holds, HasRead}
 use Rattle.pid_cli.proofs.pieces.read_text.Given as goal
 

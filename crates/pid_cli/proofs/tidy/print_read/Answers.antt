@@ -1,5 +1,5 @@
-use Rattle.std.proofs.Common.{◌≡◌, List, ℕ, inl, inr, refl}
-use Rattle.pid_cli.proofs.Tidying.{tidied_told, nothing_printed, Keeps-itself}
+use Rattle.std.proofs.Common.{inl}
+use Rattle.pid_cli.proofs.Tidying.{Keeps-itself}
 use Rattle.pid_cli.proofs.tidy.print_read.Goals as goal
 
 pub returns-in-Ok-write_canonical-clause-tidied : goal.returns-in-Ok-write_canonical-clause-tidied

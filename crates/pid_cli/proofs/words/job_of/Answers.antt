@@ -1,4 +1,4 @@
-use Rattle.std.proofs.Common.{◌≡◌, true, ap, sym, ◌∙◌, map, string_bytes}
+use Rattle.std.proofs.Common.{ap, ◌∙◌, map, string_bytes}
 use Rattle.std.proofs.lemmas.Result.{err_from_is_err_and}
 use Rattle.clap.specs.Words.{takes}
 use Rattle.pid_cli.specs.Commands.{are_taken}

@@ -1,4 +1,4 @@
-use Rattle.std.proofs.Common.{◌≡◌, sym, ap, ◌∙◌, arith}
+use Rattle.std.proofs.Common.{sym, ap, ◌∙◌, arith}
 use Rattle.pid_ident.specs.Words.{is_account}
 use Rattle.pid_ident.proofs.WordTests.{account_said}
 use Rattle.pid_ident.proofs.account.is_account.Goals as goal

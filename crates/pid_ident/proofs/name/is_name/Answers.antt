@@ -1,4 +1,4 @@
-use Rattle.std.proofs.Common.{◌≡◌, sym, ap, ◌∙◌, arith, subst, List, ℕ}
+use Rattle.std.proofs.Common.{sym, ap, ◌∙◌, arith}
 use Rattle.pid_ident.specs.Words.{is_name as name_test}
 use Rattle.pid_ident.proofs.WordTests.{name_said}
 use Rattle.pid_ident.proofs.name.is_name.Goals as goal

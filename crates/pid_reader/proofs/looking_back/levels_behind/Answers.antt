@@ -1,4 +1,4 @@
-use Rattle.std.proofs.Common.{◌≡◌, ◌∙◌, sym, arith, refl, [], ◌∷◌, eqb, false, List, ℕ}
+use Rattle.std.proofs.Common.{◌≡◌, ◌∙◌, sym, arith, refl, [], ◌∷◌, eqb, false}
 use Rattle.std.proofs.lemmas.Bool.Decides.{nat_tests}
 use Rattle.pid_reader.specs.Marks.{depth}
 use Rattle.pid_reader.specs.Reading.{history_of}

@@ -1,12 +1,7 @@
-use Rattle.std.proofs.Common.{◌≡◌, ◌∙◌, sym, ap, subst, List, ℕ, ◌++◌, ◌∷◌, [], inl, inr, length, ◌+◌, take, drop, refl}
+use Rattle.std.proofs.Common.{◌∙◌, sym, ap, subst, List, ℕ, ◌++◌, ◌∷◌, [], length, ◌+◌, take, refl}
 use Rattle.std.proofs.lemmas.List.{append-nil}
 use Rattle.std.proofs.lemmas.Result.{err_from_is_err_and, IfOk-weaker}
-use Rattle.std.specs.Prelude.{reverse}
-use Rattle.pid_reader.specs.declared.feeder.Feeder.{Feeder}
 use Rattle.pid_reader.specs.Feeders.{Feeds}
-use Rattle.pid_reader.specs.OpenLevels.{IsOpenAt}
-use Rattle.pid_reader.specs.Reading.{AreGood, Reads, history_of, refused}
-use Rattle.pid_reader.specs.WholeLines.{open_part, whole_lines}
 use Rattle.pid_reader.proofs.LookingBack.{front_is, from_is, line_is, whole_on, gone_on, looked_back, refused_on}
 use Rattle.pid_reader.proofs.looking_back.read_by_looking_back.Goals as goal
 

@@ -1,4 +1,4 @@
-use Rattle.std.proofs.Common.{◌≡◌, ℕ, ◌+◌, List, [], ◌∷◌, ◌++◌, length, ap, ◌∙◌, arith, rules}
+use Rattle.std.proofs.Common.{◌≡◌, ℕ, List, ◌∷◌, ◌++◌, ap, ◌∙◌, rules}
 use Rattle.pid_ident.specs.Identifiers.{hex4}
 use Rattle.pid_ident.proofs.Parsing.{no_device, no_subvendor, no_subdevice, Behind2}
 use Rattle.pid_ident.proofs.path.parse.device_path.Goals as goal

@@ -1,4 +1,3 @@
-use Rattle.std.proofs.Common.{◌≡◌}
 use Rattle.pid_ident.proofs.Parsing.{no_generic}
 use Rattle.pid_ident.proofs.path.parse.generic_path.Goals as goal
 
