@@ -1,14 +1,12 @@
 //! A slow registry for tests: it keeps the list of accepted commands, and computes all else from it.
 //!
 //! It is what the layers above are compared with. Only tests speak for it.
-use crate::command::{Act, Command, Proposal, Reply};
-use crate::facts::{Facts, Named, State, Verdict};
-use crate::policy::decide;
-use crate::rank::Rank;
-use crate::refusal::{FileFault, Refusal};
-use crate::wants::{Rows, needs};
 use crate::words::{is_account_of, is_key_of, is_name_of};
-use pid_ident::{Account, Key, Name, Path};
+use pid_ident::{Account, Name, Path};
+use pid_moderation::{
+    Act, Command, Facts, FileFault, Named, Proposal, Rank, Refusal, Reply, Rows, State, Verdict,
+    decide, needs,
+};
 use std::alloc::{AllocError, Global};
 
 /// What the file of an import reads to. Other commands have none.
