@@ -1,7 +1,11 @@
 //! A slow registry for tests: it keeps the list of accepted commands, and computes all else from it.
 #![tactic(auto)]
 
-mod plain;
+mod items;
+mod past;
+mod registry;
+mod verdict;
 mod words;
 
-pub use plain::{FileReading, PlainRegistry};
+pub use past::FileReading;
+pub use registry::PlainRegistry;
