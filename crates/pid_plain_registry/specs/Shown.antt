@@ -2,14 +2,15 @@
 use Rattle.std.specs.Prelude.{ℕ, List, map, reverse, Option, Some, None}
 use Rattle.pid_ident.specs.PathTexts.{path_text}
 use Rattle.pid_ident.specs.declared.path.Path.{Path}
+use Rattle.pid_moderation.specs.declared.command.Command.{Command}
 use Rattle.pid_moderation.specs.History as histories
-use Rattle.pid_moderation.specs.History.{History, Reading, Asked, Deed, asked, deed_of}
+use Rattle.pid_moderation.specs.History.{History, Reading, Asked, asked}
 use Rattle.pid_plain_registry.specs.declared.past.Accepted.{Accepted}
 use Rattle.pid_plain_registry.specs.declared.past.FileReading.{FileReading}
 use Rattle.pid_plain_registry.specs.declared.past.Submission.{Submission}
 use Rattle.pid_plain_registry.specs.declared.registry.PlainRegistry.{PlainRegistry}
 use Rattle.std.specs.BTreeMap.{BTreeMap}
-use Rattle.pid_moderation.specs.Views.{Submitted}
+use Rattle.pid_moderation.specs.Views.{Submitted, Views, views_of}
 use Rattle.pid_moderation.specs.Items.{Items}
 use Rattle.pid_plain_registry.specs.declared.past.FileReading.TheVariants.{TooLong, Faulty, Good}
 
@@ -43,3 +44,11 @@ lent s = record { author = s.author.now; path = s.path; proposal = s.proposal.no
 -- the history that a registry shows
 abbrev pub shown : PlainRegistry → History
 shown registry = history_of registry.accepted.items
+
+-- what it shows to those who look
+abbrev pub views : PlainRegistry → Views
+views registry = views_of (shown registry)
+
+-- what a command with its file asks
+abbrev pub asks : Command → Option FileReading → Asked
+asks command file = asked command (reading_of file)

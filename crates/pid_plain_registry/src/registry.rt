@@ -1,11 +1,11 @@
 //! The registry over the list of what it accepted.
 ghost use Rattle.std.specs.Prelude.{◌≡◌, ◌≢◌, [], ◌∷◌, length, is_some, IfOk, IfErr, OnOk, OnErr, Some, Ok, Err};
 ghost use Rattle.pid_moderation.specs.History.{Reading, asked};
-ghost use Rattle.pid_moderation.specs.Views.{Views, views_of, rank_of, submits_of, items_of, submission_at};
+ghost use Rattle.pid_moderation.specs.Views.{Views, rank_of, submits_of, items_of, submission_at};
 ghost use Rattle.pid_moderation.specs.FactsOfViews.{known as known_by, named as named_in, looked_at, facts_of, with_item, verdict as verdict_over};
 ghost use Rattle.pid_moderation.specs.Judgement.{judge, answer, after};
 ghost use Rattle.pid_moderation.specs.Wants.{wanted_by};
-ghost use Rattle.pid_plain_registry.specs.Shown.{shown, entry_of, reading_of, texts};
+ghost use Rattle.pid_plain_registry.specs.Shown.{shown, views, asks, entry_of, reading_of, texts};
 
 use crate::items::{has_children, holds_parent, items_after, name_at};
 use crate::past::{
@@ -66,7 +66,7 @@ impl PlainRegistry {
 
     // The reply that is kept for a command.
     fn kept(&self, command: &Command) -> Option<Reply>
-        ensures { result ≡ (known_by (views_of (shown self.now)) command.now.account command.now.key).kept }
+        ensures { result ≡ (known_by (views self.now) command.now.account command.now.key).kept }
     {
         match &command.key {
             Some(key) => kept_reply(self.accepted.as_slice(), &command.account, key),
@@ -76,7 +76,7 @@ impl PlainRegistry {
 
     // What is known of every command.
     fn known(&self, command: &Command) -> Facts
-        ensures { result ≡ known_by (views_of (shown self.now)) command.now.account command.now.key }
+        ensures { result ≡ known_by (views self.now) command.now.account command.now.key }
     {
         Facts {
             rank: self.rank(&command.account),
@@ -94,7 +94,7 @@ impl PlainRegistry {
 
     // The submission that a command names.
     fn named(&self, submission: u32) -> Result<Option<Named>, AllocError>
-        ensures { IfOk result (λ named. named ≡ named_in (views_of (shown self.now)) submission) }
+        ensures { IfOk result (λ named. named ≡ named_in (views self.now) submission) }
     {
         let past = self.accepted.as_slice();
         let Some(found) = numbered(past, submission) else {
@@ -115,7 +115,7 @@ impl PlainRegistry {
 
     // The facts of a submission with those of the item that it speaks of.
     fn look_at_item(&self, named: Option<Named>, known: Facts) -> Result<Facts, AllocError>
-        ensures { IfOk result (λ facts. facts ≡ with_item (views_of (shown self.now)) named known) }
+        ensures { IfOk result (λ facts. facts ≡ with_item (views self.now) named known) }
     {
         let Some(named) = named else {
             return Ok(known);
@@ -140,7 +140,7 @@ impl PlainRegistry {
         file: &Option<FileReading>,
         known: Facts,
     ) -> Result<Facts, AllocError>
-        ensures { IfOk result (λ facts. facts ≡ looked_at (views_of (shown self.now)) (verdict_over (items_of (shown self.now)) (reading_of file.now)) (wanted_by rows.entry) known) }
+        ensures { IfOk result (λ facts. facts ≡ looked_at (views self.now) (verdict_over (items_of (shown self.now)) (reading_of file.now)) (wanted_by rows.entry) known) }
     {
         let mut facts = known;
         match rows {
@@ -158,7 +158,7 @@ impl PlainRegistry {
 
     /// What a command is judged by.
     pub fn facts(&self, command: &Command, file: &Option<FileReading>) -> Result<Facts, AllocError>
-        ensures { IfOk result (λ facts. facts ≡ facts_of (views_of (shown self.now)) (asked command.now (reading_of file.now))) }
+        ensures { IfOk result (λ facts. facts ≡ facts_of (views self.now) (asks command.now file.now)) }
     {
         let known = self.known(command);
         self.look_at(needs(command), file, known)
@@ -166,9 +166,9 @@ impl PlainRegistry {
 
     // What a command is answered.
     fn answer(&self, command: &Command, file: &Option<FileReading>) -> Result<Answer, Refusal>
-        ensures reply { IfOk result (λ a. answer (judge (views_of (shown self.now)) (asked command.now (reading_of file.now))) ≡ Ok a.reply) }
-        ensures refusal { IfErr result (λ e. e ≢ Refusal.Memory → answer (judge (views_of (shown self.now)) (asked command.now (reading_of file.now))) ≡ Err e) }
-        ensures kept { IfOk result (λ a. a.is_kept ≡ is_some (facts_of (views_of (shown self.now)) (asked command.now (reading_of file.now))).kept) }
+        ensures reply { IfOk result (λ a. answer (judge (views self.now) (asks command.now file.now)) ≡ Ok a.reply) }
+        ensures refusal { IfErr result (λ e. e ≢ Refusal.Memory → answer (judge (views self.now) (asks command.now file.now)) ≡ Err e) }
+        ensures kept { IfOk result (λ a. a.is_kept ≡ is_some (facts_of (views self.now) (asks command.now file.now)).kept) }
     {
         match self.facts(command, file) {
             Ok(facts) => answer_by(&facts, command),
@@ -179,11 +179,11 @@ impl PlainRegistry {
     /// Obeys a command: what is accepted, and was not answered before, is added to the list.
     pub fn obey(&mut self, command: Command, file: Option<FileReading>) -> Result<Reply, Refusal>
         // The reply is that of the judgement over the history.
-        ensures reply { IfOk result (λ reply. answer (judge (views_of (shown self.old)) (asked command (reading_of file))) ≡ Ok reply) }
+        ensures reply { IfOk result (λ reply. answer (judge (views self.old) (asks command file)) ≡ Ok reply) }
         // So is the refusal, unless memory is short.
-        ensures refusal { IfErr result (λ e. e ≢ Refusal.Memory → answer (judge (views_of (shown self.old)) (asked command (reading_of file))) ≡ Err e) }
+        ensures refusal { IfErr result (λ e. e ≢ Refusal.Memory → answer (judge (views self.old) (asks command file)) ≡ Err e) }
         // Afterwards the history is the one after the command.
-        ensures history { OnOk result (shown self.new ≡ after (shown self.old) (asked command (reading_of file))) }
+        ensures history { OnOk result (shown self.new ≡ after (shown self.old) (asks command file)) }
         ensures unchanged { OnErr result (shown self.new ≡ shown self.old) }
     {
         match self.answer(&command, &file) {

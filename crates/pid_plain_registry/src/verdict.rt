@@ -1,7 +1,8 @@
 //! What a file comes to over the items.
-ghost use Rattle.std.specs.Prelude.{◌≡◌, ◌&&◌, not, map, length, option_copied, is_none, is_some, IfOk};
+ghost use Rattle.std.specs.Prelude.{◌≡◌, ◌&&◌, not, map, option_copied, is_none, is_some, IfOk};
 ghost use Rattle.pid_ident.specs.PathTexts.{path_text};
-ghost use Rattle.pid_moderation.specs.Items.{name_at as name_in, has_name as names_so, count_new as count_of_new, count_renamed as count_of_renamed, count_same as count_of_same, imported};
+ghost use Rattle.pid_moderation.specs.Items.{name_at as name_in, has_name as names_so, count_new as count_of_new, count_renamed as count_of_renamed, count_same as count_of_same};
+ghost use Rattle.pid_moderation.specs.History.{Good};
 ghost use Rattle.pid_moderation.specs.FactsOfViews.{verdict as verdict_over};
 ghost use Rattle.pid_plain_registry.specs.Shown.{item_of, texts, reading_of};
 
@@ -13,7 +14,8 @@ use pid_moderation::Verdict;
 use std::alloc::AllocError;
 use std::collections::BTreeMap;
 
-/// A count as a number of 32 bits. There is no memory for so many that it is none.
+/// A count as a number of 32 bits. A larger one is answered as want of memory: no registry comes near it, since its
+/// limits are far below.
 pub fn number(count: usize) -> Result<u32, AllocError>
     ensures { IfOk result (λ number. number ≡ count) }
 {
@@ -65,7 +67,7 @@ fn count_same(items: &BTreeMap<Path, Name>, pairs: &[(Path, Name)]) -> usize
 
 // What these pairs come to, which are written over the items.
 fn good(mut items: BTreeMap<Path, Name>, pairs: &[(Path, Name)]) -> Result<Verdict, AllocError>
-    ensures { IfOk result (λ v. v ≡ Verdict.Good (count_of_new (texts items) (map item_of pairs.now)) (count_of_renamed (texts items) (map item_of pairs.now)) (count_of_same (texts items) (map item_of pairs.now)) (length (imported (map item_of pairs.now) (texts items)))) }
+    ensures { IfOk result (λ v. v ≡ verdict_over (texts items) (Good (map item_of pairs.now))) }
 {
     let added = number(count_new(&items, pairs))?;
     let renamed = number(count_renamed(&items, pairs))?;
