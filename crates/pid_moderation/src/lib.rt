@@ -28,3 +28,6 @@ pub use refusal::{FileFault, Refusal};
 pub use reply_lines::reply_line;
 pub use verb::Verb;
 pub use wants::{Rows, needs};
+
+#[cfg(test)]
+mod tests;

@@ -9,3 +9,6 @@ mod words;
 
 pub use past::FileReading;
 pub use registry::PlainRegistry;
+
+#[cfg(test)]
+mod tests;
