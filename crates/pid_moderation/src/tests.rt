@@ -249,15 +249,21 @@ fn facts_in(alloc: Global, row: &str) -> Result<Facts, Fail> {
     })
 }
 
+// What the command of a row is answered over the facts.
+fn answered(alloc: Global, form: &str, facts: &Facts) -> Result<Result<Reply, Refusal>, Fail> {
+    match command_in(alloc, form)? {
+        Ok(command) => Ok(decide(facts, &command).map(|decided| decided.1)),
+        Err(refusal) => Ok(Err(refusal)),
+    }
+}
+
 // Asserts what each row's command is answered over the facts of the row.
 fn expect_answers(rt: &impl Abort, alloc: Global, rows: &str) -> Result<(), Fail> {
     for row in rows.lines() {
         let (form, rest) = row.split_once(" | ").ok_or("a command")?;
         let (facts, expected) = rest.split_once(" | ").ok_or("facts")?;
-        let command = command_in(alloc, form)??;
         let facts = facts_in(alloc, facts)?;
-        let outcome = decide(&facts, &command).map(|decided| decided.1);
-        let line = reply_line(alloc, outcome)?;
+        let line = reply_line(alloc, answered(alloc, form, &facts)?)?;
         assert_eq!(rt; line.as_str().trim_end(), expected, "at {row}");
     }
     Ok(())
@@ -466,5 +472,40 @@ fn tells_refusals_and_replies(rt: HostRuntime) -> Result<(), Fail> {
     let line = reply_line(alloc, Ok(counts))?;
     assert_eq!(rt; line.as_str(), "ok added=4294967295 renamed=0 same=10\n");
     assert_eq!(rt; reply_line(alloc, Ok(Reply::Done))?.as_str(), "ok\n");
+    Ok(())
+}
+
+const ONE_OF_EACH: &str = "\
+account k1/root who=bob&rank=1 | rank=3 | ok
+submit k1/alice path=PC/8086&name=Intel&note=new | rank=0 | ok 1
+submit alice path=PC/8086&name=*1001 | rank=0 | refused 2 BadName
+comment k1/alice num=1&text=seen | rank=0&author=bob&path=PC/8086 | ok
+withdraw k1/bob num=1 | rank=0&author=bob&path=PC/8086 | ok
+approve k1/root num=1 | rank=2&author=bob&path=PC/8086&name=a&present=b&parent=yes&items=1 | ok
+approve root num=1 | rank=1&author=bob&path=PC/8086&name=a&present=b&parent=yes&items=1 | refused 5 RankTooLow
+reject k1/root num=1&reason=no | rank=2&author=bob&path=PC/8086 | ok
+import k1/root file=a | rank=2&file=good&items=3 | ok added=1 renamed=2 same=3
+import root file=a | rank=2&file=faulty | refused 14 FileFault line=3 kind=7 Duplicate
+";
+
+// Where one request for memory is refused, that is told, and the same call answers as ever when it is made again. (Run
+// with each request refused in turn; what a row is made of ends the test then.)
+#[test]
+fn tells_want_of_memory(rt: HostRuntime) -> Result<(), Fail> {
+    let alloc = rt.alloc();
+    for row in ONE_OF_EACH.lines() {
+        let (form, rest) = row.split_once(" | ").ok_or("a command")?;
+        let (facts, expected) = rest.split_once(" | ").ok_or("facts")?;
+        let facts = facts_in(alloc, facts)?;
+        let outcome = match answered(alloc, form, &facts)? {
+            Err(Refusal::Memory) => answered(alloc, form, &facts)?,
+            outcome => outcome,
+        };
+        let line = match reply_line(alloc, outcome) {
+            Ok(line) => line,
+            Err(_) => reply_line(alloc, outcome)?,
+        };
+        assert_eq!(rt; line.as_str().trim_end(), expected, "at {row}");
+    }
     Ok(())
 }

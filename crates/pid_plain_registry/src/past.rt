@@ -13,8 +13,11 @@ use std::alloc::AllocError;
 /// What the file of an import reads to. Other commands have none.
 #[derive(Drop)]
 pub enum FileReading {
+    /// The file has more bytes than an import takes.
     TooLong,
+    /// The first fault of the file.
     Faulty(FileFault),
+    /// The paths of the file with their names, in any order.
     Good(Vec<(Path, Name)>),
 }
 

@@ -57,7 +57,7 @@ impl PlainRegistry {
         submission_count(self.accepted.as_slice())
     }
 
-    /// The items, in the order of their paths.
+    /// The items, in the order of their paths; or there is no memory for them.
     pub fn items(&self) -> Result<BTreeMap<Path, Name>, AllocError>
         ensures { IfOk result (λ items. texts items ≡ items_of (shown self.now)) }
     {
@@ -156,7 +156,7 @@ impl PlainRegistry {
         Ok(facts)
     }
 
-    /// What a command is judged by.
+    /// What a command is judged by; or memory is short. The file is what an import's file reads to.
     pub fn facts(&self, command: &Command, file: &Option<FileReading>) -> Result<Facts, AllocError>
         ensures { IfOk result (λ facts. facts ≡ facts_of (views self.now) (asks command.now file.now)) }
     {
@@ -176,7 +176,8 @@ impl PlainRegistry {
         }
     }
 
-    /// Obeys a command: what is accepted, and was not answered before, is added to the list.
+    /// Obeys a command, whose file, if it is an import, reads to this. What is accepted, and was not answered before, is
+    /// added to the list. A refusal, also one for want of memory, changes nothing.
     pub fn obey(&mut self, command: Command, file: Option<FileReading>) -> Result<Reply, Refusal>
         // The reply is that of the judgement over the history.
         ensures reply { IfOk result (λ reply. answer (judge (views self.old) (asks command file)) ≡ Ok reply) }
