@@ -1,18 +1,18 @@
--- The history that a list of accepted commands stands for.
+-- What a plain registry shows: the history of the commands that it accepted. A choice of this project, for tests.
 use Rattle.std.specs.Prelude.{ℕ, List, map, reverse, Option, Some, None}
+use Rattle.std.specs.BTreeMap.{BTreeMap}
 use Rattle.pid_ident.specs.PathTexts.{path_text}
 use Rattle.pid_ident.specs.declared.path.Path.{Path}
 use Rattle.pid_moderation.specs.declared.command.Command.{Command}
 use Rattle.pid_moderation.specs.History as histories
 use Rattle.pid_moderation.specs.History.{History, Reading, Asked, asked}
+use Rattle.pid_moderation.specs.Items.{Items}
+use Rattle.pid_moderation.specs.Views.{Submitted, Views, views_of}
 use Rattle.pid_plain_registry.specs.declared.past.Accepted.{Accepted}
 use Rattle.pid_plain_registry.specs.declared.past.FileReading.{FileReading}
+use Rattle.pid_plain_registry.specs.declared.past.FileReading.TheVariants.{TooLong, Faulty, Good}
 use Rattle.pid_plain_registry.specs.declared.past.Submission.{Submission}
 use Rattle.pid_plain_registry.specs.declared.registry.PlainRegistry.{PlainRegistry}
-use Rattle.std.specs.BTreeMap.{BTreeMap}
-use Rattle.pid_moderation.specs.Views.{Submitted, Views, views_of}
-use Rattle.pid_moderation.specs.Items.{Items}
-use Rattle.pid_plain_registry.specs.declared.past.FileReading.TheVariants.{TooLong, Faulty, Good}
 
 -- an item: the text of its path, and its name
 abbrev pub item_of : Path × List ℕ → List ℕ × List ℕ
@@ -33,11 +33,11 @@ reading_of (Some (Good pairs)) = histories.Good (map item_of pairs.items)
 abbrev pub entry_of : Accepted → histories.Accepted
 entry_of e = record { asked = asked e.command (reading_of e.file); reply = e.reply }
 
--- the newest first
+-- the accepted commands, which are kept the oldest first, as a history, the newest first
 abbrev pub history_of : List Accepted → History
 history_of accepted = reverse (map entry_of accepted)
 
--- a submission that is lent
+-- a submission as it was made
 abbrev pub lent : Submission → Submitted
 lent s = record { author = s.author.now; path = s.path; proposal = s.proposal.now; note = s.note.now }
 
@@ -45,7 +45,7 @@ lent s = record { author = s.author.now; path = s.path; proposal = s.proposal.no
 abbrev pub shown : PlainRegistry → History
 shown registry = history_of registry.accepted.items
 
--- what it shows to those who look
+-- and the views of that history
 abbrev pub views : PlainRegistry → Views
 views registry = views_of (shown registry)
 
