@@ -1,11 +1,10 @@
 -- A command that breaks a rule of form by itself is refused so.
-use Rattle.std.proofs.Common.{◌≡◌, ℕ, List, Option, true, refl, ap}
+use Rattle.std.proofs.Common.{◌≡◌, ℕ, List, Option, true, ap}
 use Rattle.pid_moderation.specs.declared.command.Command.{Command}
 use Rattle.pid_moderation.specs.declared.command.Act.{Act}
 use Rattle.pid_moderation.specs.declared.command.Act.TheVariants as acts
-use Rattle.pid_moderation.specs.declared.facts.Verdict.{Verdict}
 use Rattle.pid_moderation.specs.declared.refusal.Refusal.TheVariants.{BadText}
-use Rattle.pid_moderation.specs.History.{Reading, TooLong, asked, deed_of}
+use Rattle.pid_moderation.specs.History.{Reading, asked, deed_of}
 use Rattle.pid_moderation.specs.Views.{Views}
 use Rattle.pid_moderation.specs.FactsOfViews.{facts_of, verdict}
 use Rattle.pid_moderation.specs.CheckTables.{is_broken, is_ill_formed, is_too_long, TellsLength}

@@ -1,14 +1,14 @@
 -- Fields of strings and of their bytes.
 use Rattle.std.proofs.Common.{◌≡◌, ℕ, Bool, true, false, cond, List, [], ◌∷◌, Option, Some, None, refl, sym, ap, subst, ◌∙◌, arith, String}
-use Rattle.std.specs.Prelude.{find, string_bytes, not, ◌&&◌, nat_le, ◌<◌, ◌^◌, ◌≤◌, slice_index, length, drop, ◌==◌, ◌+◌}
+use Rattle.std.specs.Prelude.{find, string_bytes, ◌&&◌, nat_le, ◌<◌, ◌^◌, drop, ◌==◌}
 use Rattle.std.specs.List.{list_all}
 use Rattle.std.specs.Option.{option_map}
 use Rattle.std.specs.Str.{bytes_eq}
 use Rattle.std.specs.Str.Parse.{IsNumeral, AllDigits, digits_value, without_leading_plus}
 use Rattle.std.specs.Char.{is_ascii_digit, digit_value}
-use Rattle.std.proofs.lemmas.Bool.Decides.{nat_tests, Decides-eqb}
+use Rattle.std.proofs.lemmas.Bool.Decides.{nat_tests}
 use Rattle.pid_moderation.specs.CheckTables.{most_submissions}
-use Rattle.pid_moderation.specs.Fields.{Fields, texts_of, value}
+use Rattle.pid_moderation.specs.Fields.{texts_of, value}
 use Rattle.pid_moderation.specs.Forms.{is_plain_number, number_in}
 
 one_found : {A : Type 0} (b : Bool) (f : String A × String A) (o : Option (String A × String A)) (p : Option (List ℕ × List ℕ)) → p ≡ option_map (λ g. (string_bytes g.0, string_bytes g.1)) o → cond b (Some (string_bytes f.0, string_bytes f.1)) p ≡ option_map (λ g. (string_bytes g.0, string_bytes g.1)) (cond b (Some f) o)

@@ -1,5 +1,5 @@
 -- The numbers of a change are those of the views that it is done to.
-use Rattle.std.proofs.Common.{◌≡◌, ℕ, ◌+◌, ◌-◌, Bool, true, false, cond, not, List, [], ◌∷◌, length, Option, Some, None, refl, sym, ap, subst, ◌∙◌, arith}
+use Rattle.std.proofs.Common.{◌≡◌, ℕ, ◌+◌, ◌-◌, true, false, cond, not, List, length, Option, Some, None, refl, sym, ap, subst, ◌∙◌, arith}
 use Rattle.std.specs.Prelude.{T, is_none, is_some, Result, Ok, Err, IfOk}
 use Rattle.std.specs.Option.{option_map}
 use Rattle.std.specs.Ordering.{eq_by_cmp}
@@ -19,9 +19,9 @@ use Rattle.pid_moderation.specs.Items.{Items, name_at}
 use Rattle.pid_moderation.specs.Views.{Views, Submitted, views_of, rank_of, submits_of, submission_at, items_of}
 use Rattle.pid_moderation.specs.FactsOfViews.{facts_of, with_item, known, kept_in, wanted, verdict_in}
 use Rattle.pid_moderation.specs.CheckTables.{checks, if_named, comment_checks, decision_checks, withdraw_checks, is_so}
-use Rattle.pid_moderation.specs.Changes.{changed, with_pairs, edited, FitsWrite, FitsEffect, FitsReceipt, Fits, IsThere}
+use Rattle.pid_moderation.specs.Changes.{with_pairs, FitsWrite, FitsEffect, FitsReceipt, Fits, IsThere}
 use Rattle.pid_moderation.specs.Judgement.{Outcome, Refused, Repeated, Accepts, judge, judged}
-use Rattle.pid_moderation.specs.Effects.{edit_of, items_after, write_of, effect_of, receipt_of, change_of, change_by, pairs_in, new_pairs, next_place, Decides}
+use Rattle.pid_moderation.specs.Effects.{edit_of, items_after, write_of, effect_of, receipt_of, change_by, pairs_in, new_pairs, next_place, Decides}
 use Rattle.pid_moderation.proofs.Changing.{asks, seen}
 use Rattle.pid_moderation.proofs.WriteLemmas.{items_sorted}
 use Rattle.pid_moderation.proofs.Knowing.{to_deed, approving}

@@ -1,6 +1,6 @@
 -- The first of joined checks.
 use Rattle.std.proofs.Common.{◌≡◌, ℕ, Bool, true, false, cond, List, [], ◌∷◌, ◌++◌, Option, Some, None, refl, ◌∙◌, sym, ap, subst, ◌≢◌}
-use Rattle.std.specs.Prelude.{find, not, Result, Ok, Err}
+use Rattle.std.specs.Prelude.{find, not, Result, Err}
 use Rattle.std.specs.Option.{option_map}
 use Rattle.pid_ident.specs.Words.{is_account, is_key}
 use Rattle.pid_moderation.specs.declared.refusal.Refusal.{Refusal}

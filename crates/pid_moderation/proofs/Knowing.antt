@@ -1,5 +1,5 @@
 -- Accounts stay, and who was obeyed is one.
-use Rattle.std.proofs.Common.{◌≡◌, ℕ, Bool, true, false, cond, not, List, [], ◌∷◌, Option, Some, None, refl, sym, ap, subst, ◌∙◌}
+use Rattle.std.proofs.Common.{◌≡◌, ℕ, Bool, true, false, cond, not, List, [], ◌∷◌, Option, Some, None, refl, sym, subst}
 use Rattle.std.specs.Prelude.{is_none, is_some, codes}
 use Rattle.std.specs.Str.{bytes_eq}
 use Rattle.std.specs.Option.{option_map}
@@ -11,14 +11,14 @@ use Rattle.pid_moderation.specs.declared.rank.Rank.{Rank}
 use Rattle.pid_moderation.specs.declared.rank.Rank.TheVariants.{Administrator}
 use Rattle.pid_moderation.specs.declared.refusal.Refusal.TheVariants.{NoAccount}
 use Rattle.pid_moderation.specs.History.{Deed, Ranks, Submits, Comments, Withdraws, Approves, Rejects, Imports, Asked, History}
-use Rattle.pid_moderation.specs.Views.{Views, Submitted, views_of, rank_of, ranked, submits_of, submission_at}
+use Rattle.pid_moderation.specs.Views.{Submitted, views_of, rank_of, ranked, submits_of, submission_at}
 use Rattle.pid_moderation.specs.FactsOfViews.{facts_of, with_item, known}
 use Rattle.pid_moderation.specs.CheckTables.{Checks, checks, if_named, approval_checks}
 use Rattle.pid_moderation.specs.Ranks.{has_rank}
 use Rattle.pid_moderation.specs.Sound.{IsKnown}
 use Rattle.pid_moderation.specs.WellMade.{IsWellMade}
 use Rattle.pid_moderation.proofs.Changing.{asks, entry, seen}
-use Rattle.pid_moderation.proofs.Passing.{AllPass, Passes}
+use Rattle.pid_moderation.proofs.Passing.{AllPass}
 use Rattle.pid_moderation.proofs.Reaching.{Stays}
 
 pub yes : (b : Bool) → not b ≡ false → b ≡ true

@@ -1,6 +1,6 @@
 -- The path that a text reads to is the one whose text it is.
-use Rattle.std.proofs.Common.{◌≡◌, ℕ, ◌+◌, ◌-◌, ◌*◌, ◌/◌, ◌%◌, ◌<◌, ◌^◌, Bool, true, false, cond, List, [], ◌∷◌, ◌++◌, Option, Some, None, refl, sym, ap, subst, ◌∙◌, arith}
-use Rattle.std.specs.Prelude.{nat_lt, nat_le, ◌==◌, length, slice_index}
+use Rattle.std.proofs.Common.{◌≡◌, ℕ, ◌+◌, ◌*◌, ◌/◌, ◌%◌, ◌<◌, ◌^◌, Bool, true, false, cond, List, Option, Some, None, refl, sym, ap, subst, ◌∙◌, arith}
+use Rattle.std.specs.Prelude.{nat_lt, ◌==◌, length, slice_index}
 use Rattle.std.specs.Char.{digit_char}
 use Rattle.std.specs.Option.{IfSome, IfNone}
 use Rattle.std.specs.Str.{bytes_eq}
@@ -9,8 +9,7 @@ use Rattle.std.proofs.lemmas.Slice.Eq.{bytes_eq-Decides}
 use Rattle.pid_ident.specs.declared.path.Path.{Path}
 use Rattle.pid_ident.specs.declared.path.Path.TheVariants.{Vendor, Device, Subsystem, Class, Subclass, ProgIf, Generic}
 use Rattle.pid_ident.specs.PathTexts.{IsPath, IsTextOf, path_text}
-use Rattle.pid_ident.specs.Identifiers.{hex4, hex2}
-use Rattle.pid_moderation.specs.PathReading.{hex_value, digit_at, two_at, four_at, candidate, if_its_text, path_of}
+use Rattle.pid_moderation.specs.PathReading.{hex_value, two_at, four_at, candidate, if_its_text, path_of}
 
 hex_value-digit_char : (x : ℕ) → x < 16 → hex_value (digit_char x) ≡ x
 hex_value-digit_char x h = chosen (nat_lt x 10) refl

@@ -1,25 +1,24 @@
 -- Kept replies stay, and are of their accounts.
-use Rattle.std.proofs.Common.{◌≡◌, ℕ, ◌+◌, ◌≤◌, zero, suc, Bool, true, false, cond, not, List, [], ◌∷◌, ◌++◌, length, Option, Some, None, refl, sym, ap, subst, ◌∙◌, arith}
-use Rattle.std.specs.Prelude.{◌&&◌, slice_get, count_by, is_none, is_some}
+use Rattle.std.proofs.Common.{◌≡◌, ℕ, ◌+◌, ◌≤◌, zero, suc, Bool, true, false, cond, not, List, [], ◌∷◌, ◌++◌, length, Option, Some, None, refl, sym, subst, ◌∙◌, arith}
+use Rattle.std.specs.Prelude.{◌&&◌, slice_get, is_none, is_some}
 use Rattle.std.specs.Str.{bytes_eq}
 use Rattle.std.proofs.lemmas.List.Sums.{sum_by-cons}
 use Rattle.std.proofs.lemmas.Slice.Eq.{bytes_eq-Decides}
 use Rattle.pid_ident.specs.Words.{is_key}
 use Rattle.pid_moderation.specs.declared.command.Reply.{Reply}
 use Rattle.pid_moderation.specs.declared.command.Reply.TheVariants.{Done, Numbered, Counts}
-use Rattle.pid_moderation.specs.History.{Reading, NoFile, TooLong, Faulty, Good, Deed, Ranks, Submits, Comments, Withdraws, Approves, Rejects, Imports, Asked, Accepted, History}
+use Rattle.pid_moderation.specs.History.{NoFile, TooLong, Faulty, Good, Deed, Ranks, Submits, Comments, Withdraws, Approves, Rejects, Imports, Asked, Accepted, History}
 use Rattle.pid_moderation.specs.Items.{Items, name_at, has_name, count_new, count_renamed, count_same}
 use Rattle.pid_moderation.specs.Views.{Views, Submitted, views_of, submits_of, submitted, submission_at, items_of, kept_of, receipted}
 use Rattle.pid_moderation.specs.declared.facts.Facts.{Facts}
 use Rattle.pid_moderation.specs.declared.facts.Named.{Named}
 use Rattle.pid_moderation.specs.declared.facts.Verdict.{Verdict}
-use Rattle.pid_moderation.specs.FactsOfViews.{Wanted, ItemOf, wanted, verdict_in, looked_at, with_item, known, named, kept_in, facts_of}
+use Rattle.pid_moderation.specs.FactsOfViews.{Wanted, ItemOf, wanted, verdict_in, looked_at, with_item, known, named, kept_in}
 use Rattle.pid_moderation.specs.CheckTables.{reply_to, most_items}
 use Rattle.pid_moderation.specs.Sound.{IsKnown, HasReceipt, HaveReceipts, IsBy, IsOwnReply, IsReceipt}
 use Rattle.pid_moderation.specs.WellMade.{IsWellMade, IsGoodKey}
 use Rattle.pid_moderation.proofs.Changing.{asks, entry}
 use Rattle.pid_moderation.proofs.Knowing.{to_deed, caller_known, known_stays, same_text}
-use Rattle.pid_moderation.proofs.Passing.{Passes}
 use Rattle.pid_moderation.proofs.Reaching.{Stays}
 
 -- EACH HAS ITS RECEIPT

@@ -1,16 +1,14 @@
 -- Submissions, their decisions and their remarks stay good.
-use Rattle.std.proofs.Common.{◌≡◌, ℕ, ◌+◌, ◌≤◌, zero, suc, Bool, true, false, cond, eqb, not, List, [], ◌∷◌, ◌++◌, length, length-append, Option, Some, None, refl, sym, ap, subst, ◌∙◌, arith}
+use Rattle.std.proofs.Common.{◌≡◌, ℕ, ◌+◌, ◌≤◌, zero, suc, Bool, true, false, cond, eqb, List, [], ◌∷◌, ◌++◌, length, length-append, Option, Some, None, refl, sym, subst, arith}
 use Rattle.std.specs.Prelude.{nat_le, slice_get}
 use Rattle.std.specs.Option.{option_map}
 use Rattle.std.proofs.lemmas.Bool.Decides.{nat_tests, Decides-eqb}
 use Rattle.pid_ident.specs.Bytes.{is_empty}
 use Rattle.pid_ident.specs.Words.{is_text}
-use Rattle.pid_moderation.specs.declared.command.Reply.{Reply}
-use Rattle.pid_moderation.specs.declared.facts.Facts.{Facts}
 use Rattle.pid_moderation.specs.declared.facts.State.{State}
 use Rattle.pid_moderation.specs.declared.facts.State.TheVariants.{Pending, Approved, Rejected, Withdrawn}
 use Rattle.pid_moderation.specs.declared.rank.Rank.{Rank}
-use Rattle.pid_moderation.specs.History.{Deed, Ranks, Submits, Comments, Withdraws, Approves, Rejects, Imports, Asked, History}
+use Rattle.pid_moderation.specs.History.{Deed, Submits, Comments, Withdraws, Approves, Rejects, History}
 use Rattle.pid_moderation.specs.Views.{Views, Submitted, Remark, views_of, rank_of, submits_of, submitted, submission_at, state_of, decided, remarks_of, remarked}
 use Rattle.pid_moderation.specs.FactsOfViews.{with_item, known}
 use Rattle.pid_moderation.specs.CheckTables.{checks, if_named, comment_checks, decision_checks, withdraw_checks, is_ill_formed, most_submissions, most_remarks}
@@ -18,7 +16,7 @@ use Rattle.pid_moderation.specs.Sound.{IsKnown, IsGoodSubmission, AreGoodSubmiss
 use Rattle.pid_moderation.specs.WellMade.{IsWellMade}
 use Rattle.pid_moderation.proofs.Changing.{asks, entry, seen}
 use Rattle.pid_moderation.proofs.Knowing.{to_deed, approving, caller_known, known_stays}
-use Rattle.pid_moderation.proofs.Passing.{AllPass, Passes}
+use Rattle.pid_moderation.proofs.Passing.{AllPass}
 use Rattle.pid_moderation.proofs.Reaching.{Stays}
 
 -- what is known stays known

@@ -1,5 +1,5 @@
 -- The items stay a tree of names, and not too many.
-use Rattle.std.proofs.Common.{◌≡◌, ℕ, ◌+◌, ◌≤◌, zero, suc, Bool, true, false, cond, not, List, [], ◌∷◌, ◌++◌, length, Option, Some, None, refl, sym, ap, subst, ◌∙◌, arith}
+use Rattle.std.proofs.Common.{◌≡◌, ℕ, ◌+◌, ◌≤◌, zero, suc, Bool, true, false, cond, not, List, [], ◌∷◌, ◌++◌, length, Option, Some, None, refl, arith}
 use Rattle.std.specs.Prelude.{T, is_none, is_some, ◌&&◌, nat_le, nat_lt, slice_get}
 use Rattle.std.specs.Option.{option_map}
 use Rattle.std.specs.Ordering.{eq_by_cmp}
@@ -12,17 +12,17 @@ use Rattle.pid_ident.specs.PathTexts.{IsPath, path_text}
 use Rattle.pid_ident.specs.Trees.{text_cmp}
 use Rattle.pid_moderation.specs.declared.command.Proposal.{Proposal}
 use Rattle.pid_moderation.specs.declared.command.Proposal.TheVariants.{Name, Removal}
-use Rattle.pid_moderation.specs.History.{Reading, NoFile, TooLong, Faulty, Good, Deed, Submits, Approves, Imports, Asked, History}
+use Rattle.pid_moderation.specs.History.{NoFile, TooLong, Faulty, Good, Deed, Submits, Approves, Imports, History}
 use Rattle.pid_moderation.specs.Items.{Items, name_at, parent_text, holds_parent, has_children, written, imported}
 use Rattle.pid_moderation.specs.Views.{Views, Submitted, views_of, submits_of, submitted, submission_at, items_of, itemized, carried_out, pairs_of}
 use Rattle.pid_moderation.specs.FactsOfViews.{with_item, known}
-use Rattle.pid_moderation.specs.CheckTables.{Checks, checks, lacks_parent, leaves_children, overflows, most_items}
+use Rattle.pid_moderation.specs.CheckTables.{checks, lacks_parent, leaves_children, overflows, most_items}
 use Rattle.pid_moderation.specs.WellMade.{IsItem, AllItems, HoldsParents, ProposesName, IsWellMade}
-use Rattle.pid_moderation.proofs.Changing.{asks, entry, seen}
+use Rattle.pid_moderation.proofs.Changing.{asks, seen}
 use Rattle.pid_moderation.proofs.ItemLemmas.{put_keeps, without_keeps, imported_keeps}
 use Rattle.pid_moderation.proofs.WriteLemmas.{items_sorted}
 use Rattle.pid_moderation.proofs.Knowing.{yes, to_deed, approving}
-use Rattle.pid_moderation.proofs.Passing.{AllPass, Passes}
+use Rattle.pid_moderation.proofs.Passing.{AllPass}
 use Rattle.pid_moderation.proofs.Reaching.{Stays}
 
 -- PARENTS

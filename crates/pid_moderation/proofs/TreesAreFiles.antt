@@ -7,14 +7,14 @@ use Rattle.std.specs.Ordering.{eq_by_cmp, is_eq, is_lt}
 use Rattle.std.specs.FinMap.{get, entries, get-entries, entries_sorted}
 use Rattle.std.specs.FinMap.Entries.{below_all, is_sorted}
 use Rattle.std.proofs.lemmas.Map.Text.{is_eq-slice_cmp}
-use Rattle.pid_ident.specs.PathTexts.{IsPath, IsTextOf, path_text, parent_of}
+use Rattle.pid_ident.specs.PathTexts.{IsPath, path_text, parent_of}
 use Rattle.pid_ident.specs.Trees.{IsTree, TreeMap, text_cmp}
 use Rattle.pid_ident.specs.Words.{is_name}
 use Rattle.pid_ident.specs.declared.path.Path.{Path}
 use Rattle.pid_ident.specs.declared.path.Path.TheVariants.{Vendor, Device, Subsystem, Class, Subclass, ProgIf, Generic}
 use Rattle.pid_moderation.specs.Items.{Items, name_at, parent_text, holds_parent}
 use Rattle.pid_moderation.specs.CheckTables.{most_items}
-use Rattle.pid_moderation.specs.WellMade.{IsItem, AllItems, HoldsParents, IsFile}
+use Rattle.pid_moderation.specs.WellMade.{IsItem, AllItems, IsFile}
 use Rattle.pid_moderation.proofs.ItemLemmas.{tied}
 use Rattle.pid_moderation.proofs.Knowing.{same_text}
 

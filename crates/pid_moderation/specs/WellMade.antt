@@ -1,5 +1,5 @@
 -- What the parts of a command keep by their types, and what a file keeps by its reading.
-use Rattle.std.specs.Prelude.{◌≡◌, ℕ, ◌≤◌, true, List, [], ◌∷◌, Option, Some, None, is_some, IsTrue, length}
+use Rattle.std.specs.Prelude.{◌≡◌, ℕ, ◌≤◌, true, List, [], ◌∷◌, Option, Some, None, is_some, length}
 use Rattle.pid_ident.specs.PathTexts.{IsPath, IsTextOf}
 use Rattle.pid_ident.specs.Words.{is_name, is_text, is_account, is_key}
 use Rattle.pid_ident.specs.declared.path.Path.{Path}

@@ -55,7 +55,8 @@ impl File {
     pub fn into_bytes(self) -> Vec<u8>
         ensures { result.items ≡ self }
     {
-        self.bytes
+        let File { bytes } = self;
+        bytes
     }
 }
 

@@ -8,7 +8,6 @@ mod facts;
 mod fields;
 mod form;
 mod laws;
-mod plain;
 mod policy;
 mod rank;
 mod refusal;
@@ -23,10 +22,12 @@ pub use command::{Act, Command, File, Proposal, Reply};
 pub use facts::{Facts, Named, State, Verdict};
 pub use form::command_of;
 pub use laws::{command_is_well_made, histories_are_sound, trees_are_files, trees_are_last_writes};
-pub use plain::{FileReading, PlainRegistry};
 pub use policy::decide;
 pub use rank::{Rank, needed_rank};
 pub use refusal::{FileFault, Refusal};
 pub use reply_lines::reply_line;
 pub use verb::Verb;
 pub use wants::{Rows, needs};
+
+#[cfg(test)]
+mod tests;

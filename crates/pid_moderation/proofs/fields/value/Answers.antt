@@ -1,4 +1,4 @@
-use Rattle.std.proofs.Common.{sym, rules, ap, ◌∙◌, Some}
+use Rattle.std.proofs.Common.{sym, ap, ◌∙◌, Some}
 use Rattle.std.specs.Option.{option_copied}
 use Rattle.pid_moderation.proofs.FieldLemmas.{value_found, value_missing}
 use Rattle.pid_moderation.proofs.fields.value.Goals as goal

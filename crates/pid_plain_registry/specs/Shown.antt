@@ -1,0 +1,54 @@
+-- What a plain registry shows: the history of the commands that it accepted. A choice of this project, for tests.
+use Rattle.std.specs.Prelude.{ℕ, List, map, reverse, Option, Some, None}
+use Rattle.std.specs.BTreeMap.{BTreeMap}
+use Rattle.pid_ident.specs.PathTexts.{path_text}
+use Rattle.pid_ident.specs.declared.path.Path.{Path}
+use Rattle.pid_moderation.specs.declared.command.Command.{Command}
+use Rattle.pid_moderation.specs.History as histories
+use Rattle.pid_moderation.specs.History.{History, Reading, Asked, asked}
+use Rattle.pid_moderation.specs.Items.{Items}
+use Rattle.pid_moderation.specs.Views.{Submitted, Views, views_of}
+use Rattle.pid_plain_registry.specs.declared.past.Accepted.{Accepted}
+use Rattle.pid_plain_registry.specs.declared.past.FileReading.{FileReading}
+use Rattle.pid_plain_registry.specs.declared.past.FileReading.TheVariants.{TooLong, Faulty, Good}
+use Rattle.pid_plain_registry.specs.declared.past.Submission.{Submission}
+use Rattle.pid_plain_registry.specs.declared.registry.PlainRegistry.{PlainRegistry}
+
+-- an item: the text of its path, and its name
+abbrev pub item_of : Path × List ℕ → List ℕ × List ℕ
+item_of e = (path_text e.0, e.1)
+
+-- the items of a map, in the order of their paths
+abbrev pub texts : BTreeMap Path (List ℕ) → Items
+texts items = map item_of items.entries
+
+-- what a file reads to
+abbrev pub reading_of : Option FileReading → Reading
+reading_of None = histories.NoFile
+reading_of (Some TooLong) = histories.TooLong
+reading_of (Some (Faulty fault)) = histories.Faulty fault
+reading_of (Some (Good pairs)) = histories.Good (map item_of pairs.items)
+
+-- a command with the reading of its file, and its reply
+abbrev pub entry_of : Accepted → histories.Accepted
+entry_of e = record { asked = asked e.command (reading_of e.file); reply = e.reply }
+
+-- the accepted commands, which are kept the oldest first, as a history, the newest first
+abbrev pub history_of : List Accepted → History
+history_of accepted = reverse (map entry_of accepted)
+
+-- a submission as it was made
+abbrev pub lent : Submission → Submitted
+lent s = record { author = s.author.now; path = s.path; proposal = s.proposal.now; note = s.note.now }
+
+-- the history that a registry shows
+abbrev pub shown : PlainRegistry → History
+shown registry = history_of registry.accepted.items
+
+-- and the views of that history
+abbrev pub views : PlainRegistry → Views
+views registry = views_of (shown registry)
+
+-- what a command with its file asks
+abbrev pub asks : Command → Option FileReading → Asked
+asks command file = asked command (reading_of file)

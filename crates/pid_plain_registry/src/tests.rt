@@ -1,0 +1,304 @@
+//! Worked runs. A row is a line of a text: a command with its reply, or `items` with what the registry holds.
+use crate::past::FileReading;
+use crate::registry::PlainRegistry;
+use pid_ident::{Account, LineKind, Name, Path};
+use pid_moderation::{Command, FileFault, Rank, Refusal, Reply, Verb, command_of, reply_line};
+use std::alloc::Global;
+use std::process::Abort;
+use std::test::Fail;
+
+fn fields_of(alloc: Global, row: &str) -> Result<Vec<(String, String)>, Fail> {
+    let mut fields = Vec::new(alloc);
+    for pair in row.split('&') {
+        let (name, value) = pair.split_once('=').ok_or("a field")?;
+        fields.push((
+            String::from_str(alloc, name)?,
+            String::from_str(alloc, value)?,
+        ))?;
+    }
+    Ok(fields)
+}
+
+// The pairs of a file such as `PC/8086=Intel&PC/8086/1237=440FX`.
+fn pairs_of(alloc: Global, row: &str) -> Result<Vec<(Path, Name)>, Fail> {
+    let mut pairs = Vec::new(alloc);
+    for pair in row.split('&') {
+        let (path, name) = pair.split_once('=').ok_or("a pair")?;
+        let path = Path::parse(path).ok_or("a path")?;
+        pairs.push((path, Name::of(alloc, name)?))?;
+    }
+    Ok(pairs)
+}
+
+// What a file of a row reads to.
+fn file_of(alloc: Global, row: &str) -> Result<FileReading, Fail> {
+    match row {
+        "long" => Ok(FileReading::TooLong),
+        "many" => Ok(FileReading::Faulty(FileFault::TooMany)),
+        "faulty" => Ok(FileReading::Faulty(FileFault::Line {
+            line: 3,
+            kind: LineKind::Duplicate,
+        })),
+        "" => Ok(FileReading::Good(Vec::new(alloc))),
+        _ => Ok(FileReading::Good(pairs_of(alloc, row)?)),
+    }
+}
+
+// The command of a row such as `comment alice num=1&text=seen`, and the reading of its file, which stands in place of
+// the fields of an import. A key stands before a slash, as in `k1/alice`.
+fn command_in(alloc: Global, row: &str) -> Result<(Command, Option<FileReading>), Fail> {
+    let (verb, rest) = row.split_once(' ').ok_or("a verb")?;
+    let (caller, rest) = rest.split_once(' ').ok_or("an account")?;
+    let (key, account) = match caller.split_once('/') {
+        Some((key, account)) => (Some(key), account),
+        None => (None, caller),
+    };
+    let verb = Verb::of_word(verb).ok_or("a verb")?;
+    if verb == Verb::Import {
+        let fields = fields_of(alloc, "file=")?;
+        let command = command_of(alloc, verb, account, key, fields.as_slice())?;
+        return Ok((command, Some(file_of(alloc, rest)?)));
+    }
+    let fields = fields_of(alloc, rest)?;
+    Ok((
+        command_of(alloc, verb, account, key, fields.as_slice())?,
+        None,
+    ))
+}
+
+// The items of a registry, as `PC/8086 Intel;PC/8086/1237 440FX;`.
+fn items_in(alloc: Global, registry: &PlainRegistry) -> Result<String, Fail> {
+    let mut text = String::new(alloc);
+    let items = registry.items()?;
+    for (path, name) in &items {
+        text.push_str(path.path_text(alloc)?.as_str())?;
+        text.push(' ')?;
+        text.push_str(name.as_str())?;
+        text.push(';')?;
+    }
+    Ok(text)
+}
+
+fn told(alloc: Global, registry: &mut PlainRegistry, row: &str) -> Result<String, Fail> {
+    if row == "items" {
+        return items_in(alloc, registry);
+    }
+    let (command, file) = command_in(alloc, row)?;
+    Ok(reply_line(alloc, registry.obey(command, file))?)
+}
+
+// Asserts what a new registry tells, row by row.
+fn expect_run(rt: &impl Abort, alloc: Global, rows: &str) -> Result<(), Fail> {
+    let mut registry = PlainRegistry::new(alloc);
+    for row in rows.lines() {
+        let (asked, expected) = row.split_once(" | ").ok_or("a row")?;
+        let line = told(alloc, &mut registry, asked)?;
+        assert_eq!(rt; line.as_str().trim_end(), expected, "at {row}");
+    }
+    Ok(())
+}
+
+const VENDOR: &str = "\
+account root who=alice&rank=0 | ok
+submit alice path=PC/8086&name=Intel Corporation | ok 1
+approve alice num=1 | refused 5 RankTooLow
+approve root num=1 | ok
+items | PC/8086 Intel Corporation;
+";
+
+#[test]
+fn approves_a_vendor(rt: HostRuntime) -> Result<(), Fail> {
+    expect_run(&rt, rt.alloc(), VENDOR)
+}
+
+const DEVICE: &str = "\
+account root who=bob&rank=1 | ok
+submit bob path=PC/8086/1237&name=440FX | ok 1
+approve root num=1 | refused 11 ParentMissing
+submit bob path=PC/8086&name=Intel | ok 2
+approve root num=2 | ok
+approve root num=1 | ok
+items | PC/8086 Intel;PC/8086/1237 440FX;
+submit bob path=PC/8086&remove=yes | ok 3
+approve root num=3 | refused 12 HasChildren
+submit bob path=PC/8086/1237&remove=yes | ok 4
+approve root num=4 | ok
+approve root num=3 | ok
+items | 
+";
+
+#[test]
+fn adds_and_removes_a_device(rt: HostRuntime) -> Result<(), Fail> {
+    expect_run(&rt, rt.alloc(), DEVICE)
+}
+
+const IMPORTS: &str = "\
+import k1/root PC/8086=Intel | ok added=1 renamed=0 same=0
+import k1/root PC/8086=Intel | ok added=1 renamed=0 same=0
+import root PC/8086=Intel | ok added=0 renamed=0 same=1
+import root PC/8086=Intel Corporation | ok added=0 renamed=1 same=0
+import k1/root PC/8086=Intel | ok added=1 renamed=0 same=0
+items | PC/8086 Intel Corporation;
+import root faulty | refused 14 FileFault line=3 kind=7 Duplicate
+import root many | refused 14 FileFault too many entries
+import root long | refused 3 BadText
+import k1/root long | refused 3 BadText
+import k1/root faulty | ok added=1 renamed=0 same=0
+import root PC/10ec=Realtek&PC/8086=Intel&PC/8086/1237=440FX | ok added=2 renamed=1 same=0
+import root  | ok added=0 renamed=0 same=0
+items | PC/10ec Realtek;PC/8086 Intel;PC/8086/1237 440FX;
+";
+
+#[test]
+fn imports_files(rt: HostRuntime) -> Result<(), Fail> {
+    expect_run(&rt, rt.alloc(), IMPORTS)
+}
+
+const FAULTY: &str = "\
+import root faulty | refused 14 FileFault line=3 kind=7 Duplicate
+items | 
+";
+
+#[test]
+fn keeps_nothing_of_a_faulty_file(rt: HostRuntime) -> Result<(), Fail> {
+    expect_run(&rt, rt.alloc(), FAULTY)
+}
+
+const REFUSALS: &str = "\
+account root who=alice&rank=0 | ok
+submit root path=PC/10ec&name=Realtek | ok 1
+approve root num=1 | refused 10 OwnDecision
+withdraw alice num=1 | refused 9 NotAuthor
+comment alice num=1&text=seen | ok
+account root who=root&rank=2 | refused 10 OwnDecision
+account root who=alice&rank=0 | refused 13 NothingToDo
+submit carol path=PC/10ec&name=X | refused 4 NoAccount
+approve root num=2 | refused 7 NoSubmission
+withdraw root num=1 | ok
+withdraw root num=1 | refused 8 NotPending
+withdraw alice num=1 | refused 9 NotAuthor
+reject alice num=1&reason=no | refused 8 NotPending
+";
+
+#[test]
+fn refuses_in_order(rt: HostRuntime) -> Result<(), Fail> {
+    expect_run(&rt, rt.alloc(), REFUSALS)
+}
+
+const KEYS: &str = "\
+account a1/root who=bob&rank=2 | ok
+account a1/root who=bob&rank=0 | ok
+submit s1/bob path=PC/8086&name=Intel | ok 1
+submit s1/root path=PC/8086&name=I | ok 2
+submit s1/bob path=PC/10ec&name=Realtek | ok 1
+reject r1/root num=3&reason=no | refused 7 NoSubmission
+reject r1/root num=1&reason=no | ok
+approve r1/root num=1 | ok
+approve root num=1 | refused 8 NotPending
+approve bob num=2 | ok
+account root who=bob&rank=1 | ok
+approve bob num=2 | refused 8 NotPending
+import bob PC/8086=Intel | refused 5 RankTooLow
+items | PC/8086 I;
+";
+
+#[test]
+fn keeps_replies_under_keys(rt: HostRuntime) -> Result<(), Fail> {
+    expect_run(&rt, rt.alloc(), KEYS)
+}
+
+// The example of docs/REGISTRY.md.
+const EXAMPLE: &str = "\
+account root who=alice&rank=0 | ok
+submit alice path=PC/8086&name=Intel Corporation | ok 1
+approve alice num=1 | refused 5 RankTooLow
+approve root num=1 | ok
+submit alice path=PC/8086&remove=yes | ok 2
+reject root num=2&reason=Intel stays | ok
+approve root num=2 | refused 8 NotPending
+import k1/root PC/8086=Intel | ok added=0 renamed=1 same=0
+import k1/root PC/8086=Intel | ok added=0 renamed=1 same=0
+";
+
+#[test]
+fn runs_the_example(rt: HostRuntime) -> Result<(), Fail> {
+    expect_run(&rt, rt.alloc(), EXAMPLE)
+}
+
+#[test]
+fn tells_ranks_and_counts(rt: HostRuntime) -> Result<(), Fail> {
+    let alloc = rt.alloc();
+    let mut registry = PlainRegistry::new(alloc);
+    let root = Account::of(alloc, "root")?;
+    let bob = Account::of(alloc, "bob")?;
+    assert_eq!(rt; registry.rank(&root), Some(Rank::Administrator));
+    assert_eq!(rt; registry.rank(&bob), None);
+    told(alloc, &mut registry, "account root who=bob&rank=2")?;
+    told(alloc, &mut registry, "account root who=bob&rank=1")?;
+    told(alloc, &mut registry, "submit bob path=PC/8086&name=Intel")?;
+    assert_eq!(rt; registry.rank(&bob), Some(Rank::Moderator));
+    assert_eq!(rt; registry.submissions(), 1);
+    let (command, file) = command_in(alloc, "approve root num=1")?;
+    let facts = registry.facts(&command, &file)?;
+    assert_eq!(rt; facts.rank, Some(Rank::Administrator));
+    assert_eq!(rt; facts.items, 0);
+    assert!(rt; facts.has_parent);
+    assert!(rt; !facts.has_children);
+    Ok(())
+}
+
+const MEMORY: &str = "\
+submit s1/root path=PC/8086&name=Intel | ok 1
+account root who=bob&rank=2 | ok
+comment bob num=1&text=seen | ok
+approve a1/bob num=1 | ok
+approve a1/bob num=1 | ok
+reject bob num=1&reason=no | refused 8 NotPending
+import bob PC/8086=Intel&PC/8086/1237=440FX | ok added=1 renamed=0 same=1
+submit root path=PC/8086/1237&remove=yes | ok 2
+approve bob num=2 | ok
+import bob PC/8086/1237=440FX | ok added=1 renamed=0 same=0
+";
+
+// What a command is answered, sent again where memory was refused.
+fn obeyed(
+    registry: &mut PlainRegistry,
+    first: (Command, Option<FileReading>),
+    again: (Command, Option<FileReading>),
+) -> Result<Reply, Refusal> {
+    let (command, file) = first;
+    match registry.obey(command, file) {
+        Err(Refusal::Memory) => {
+            let (command, file) = again;
+            registry.obey(command, file)
+        }
+        outcome => outcome,
+    }
+}
+
+// Where one request for memory is refused while a command is obeyed, the command has done nothing, and is obeyed as
+// ever when it is sent again. (Run with each request refused in turn; where that is one for the commands themselves,
+// which are made first, the test ends there.)
+#[test]
+fn stays_where_memory_is_refused(rt: HostRuntime) -> Result<(), Fail> {
+    let alloc = rt.alloc();
+    let mut sent = Vec::new(alloc);
+    for row in MEMORY.lines() {
+        let (asked, expected) = row.split_once(" | ").ok_or("a row")?;
+        sent.push((
+            command_in(alloc, asked)?,
+            command_in(alloc, asked)?,
+            expected,
+        ))?;
+    }
+    let mut registry = PlainRegistry::new(alloc);
+    for (first, again, expected) in sent {
+        let outcome = obeyed(&mut registry, first, again);
+        let line = match reply_line(alloc, outcome) {
+            Ok(line) => line,
+            Err(_) => reply_line(alloc, outcome)?,
+        };
+        assert_eq!(rt; line.as_str().trim_end(), expected);
+    }
+    Ok(())
+}
