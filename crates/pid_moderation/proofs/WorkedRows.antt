@@ -27,32 +27,32 @@ alice = codes "alice"
 abbrev bob : List ℕ
 bob = codes "bob"
 
-abbrev row5 : List Asked
-row5 = by root (Ranks alice Contributor) ∷ by alice (Submits (Vendor 32902) (Name (codes "Intel Corporation")) []) ∷ by alice (Approves 1) ∷ by root (Approves 1) ∷ []
+abbrev first_approval : List Asked
+first_approval = by root (Ranks alice Contributor) ∷ by alice (Submits (Vendor 32902) (Name (codes "Intel Corporation")) []) ∷ by alice (Approves 1) ∷ by root (Approves 1) ∷ []
 
-row5_answers : answers [] row5 ≡ Ok Done ∷ Ok (Numbered 1) ∷ Err RankTooLow ∷ Ok Done ∷ []
-row5_answers = refl
+first_approval_answers : answers [] first_approval ≡ Ok Done ∷ Ok (Numbered 1) ∷ Err RankTooLow ∷ Ok Done ∷ []
+first_approval_answers = refl
 
-row5_items : items_of (after_all [] row5) ≡ (codes "PC/8086", codes "Intel Corporation") ∷ []
-row5_items = refl
+first_approval_items : items_of (after_all [] first_approval) ≡ (codes "PC/8086", codes "Intel Corporation") ∷ []
+first_approval_items = refl
 
-abbrev row6 : List Asked
-row6 = by root (Ranks bob Moderator) ∷ by bob (Submits (Device 32902 4663) (Name (codes "440FX")) []) ∷ by root (Approves 1) ∷ by bob (Submits (Vendor 32902) (Name (codes "Intel")) []) ∷ by root (Approves 2) ∷ by root (Approves 1) ∷ []
+abbrev device_waits_for_vendor : List Asked
+device_waits_for_vendor = by root (Ranks bob Moderator) ∷ by bob (Submits (Device 32902 4663) (Name (codes "440FX")) []) ∷ by root (Approves 1) ∷ by bob (Submits (Vendor 32902) (Name (codes "Intel")) []) ∷ by root (Approves 2) ∷ by root (Approves 1) ∷ []
 
-row6_answers : answers [] row6 ≡ Ok Done ∷ Ok (Numbered 1) ∷ Err ParentMissing ∷ Ok (Numbered 2) ∷ Ok Done ∷ Ok Done ∷ []
-row6_answers = refl
+device_waits_for_vendor_answers : answers [] device_waits_for_vendor ≡ Ok Done ∷ Ok (Numbered 1) ∷ Err ParentMissing ∷ Ok (Numbered 2) ∷ Ok Done ∷ Ok Done ∷ []
+device_waits_for_vendor_answers = refl
 
-row6_items : items_of (after_all [] row6) ≡ (codes "PC/8086", codes "Intel") ∷ (codes "PC/8086/1237", codes "440FX") ∷ []
-row6_items = refl
+device_waits_for_vendor_items : items_of (after_all [] device_waits_for_vendor) ≡ (codes "PC/8086", codes "Intel") ∷ (codes "PC/8086/1237", codes "440FX") ∷ []
+device_waits_for_vendor_items = refl
 
-abbrev row7 : List Asked
-row7 = by bob (Submits (Vendor 32902) Removal []) ∷ by root (Approves 3) ∷ by bob (Submits (Device 32902 4663) Removal []) ∷ by root (Approves 4) ∷ by root (Approves 3) ∷ []
+abbrev removals : List Asked
+removals = by bob (Submits (Vendor 32902) Removal []) ∷ by root (Approves 3) ∷ by bob (Submits (Device 32902 4663) Removal []) ∷ by root (Approves 4) ∷ by root (Approves 3) ∷ []
 
-row7_answers : answers (after_all [] row6) row7 ≡ Ok (Numbered 3) ∷ Err HasChildren ∷ Ok (Numbered 4) ∷ Ok Done ∷ Ok Done ∷ []
-row7_answers = refl
+removals_answers : answers (after_all [] device_waits_for_vendor) removals ≡ Ok (Numbered 3) ∷ Err HasChildren ∷ Ok (Numbered 4) ∷ Ok Done ∷ Ok Done ∷ []
+removals_answers = refl
 
-row7_items : items_of (after_all [] (row6 ++ row7)) ≡ []
-row7_items = refl
+removals_items : items_of (after_all [] (device_waits_for_vendor ++ removals)) ≡ []
+removals_items = refl
 
 abbrev intel : Reading
 intel = Good ((codes "PC/8086", codes "Intel") ∷ [])
@@ -60,21 +60,21 @@ intel = Good ((codes "PC/8086", codes "Intel") ∷ [])
 abbrev intel_corporation : Reading
 intel_corporation = Good ((codes "PC/8086", codes "Intel Corporation") ∷ [])
 
-abbrev row8 : List Asked
-row8 = under (codes "k1") root (Imports intel) ∷ under (codes "k1") root (Imports intel) ∷ by root (Imports intel) ∷ by root (Imports intel_corporation) ∷ under (codes "k1") root (Imports intel) ∷ []
+abbrev imports : List Asked
+imports = under (codes "k1") root (Imports intel) ∷ under (codes "k1") root (Imports intel) ∷ by root (Imports intel) ∷ by root (Imports intel_corporation) ∷ under (codes "k1") root (Imports intel) ∷ []
 
-row8_answers : answers [] row8 ≡ Ok (Counts 1 0 0) ∷ Ok (Counts 1 0 0) ∷ Ok (Counts 0 0 1) ∷ Ok (Counts 0 1 0) ∷ Ok (Counts 1 0 0) ∷ []
-row8_answers = refl
+imports_answers : answers [] imports ≡ Ok (Counts 1 0 0) ∷ Ok (Counts 1 0 0) ∷ Ok (Counts 0 0 1) ∷ Ok (Counts 0 1 0) ∷ Ok (Counts 1 0 0) ∷ []
+imports_answers = refl
 
-row8_items : items_of (after_all [] row8) ≡ (codes "PC/8086", codes "Intel Corporation") ∷ []
-row8_items = refl
+imports_items : items_of (after_all [] imports) ≡ (codes "PC/8086", codes "Intel Corporation") ∷ []
+imports_items = refl
 
-row9 : answers [] (by root (Imports (Faulty (Line 3 Duplicate))) ∷ []) ≡ Err (FileFault (Line 3 Duplicate)) ∷ []
-row9 = refl
+faulty_import : answers [] (by root (Imports (Faulty (Line 3 Duplicate))) ∷ []) ≡ Err (FileFault (Line 3 Duplicate)) ∷ []
+faulty_import = refl
 
-abbrev row21 : List Asked
-row21 = by root (Ranks alice Contributor) ∷ by root (Submits (Vendor 4332) (Name (codes "Realtek")) []) ∷ by root (Approves 1) ∷ by alice (Withdraws 1) ∷ by alice (Comments 1 (codes "seen")) ∷ by root (Ranks root Senior) ∷ by root (Ranks alice Contributor)
+abbrev policy : List Asked
+policy = by root (Ranks alice Contributor) ∷ by root (Submits (Vendor 4332) (Name (codes "Realtek")) []) ∷ by root (Approves 1) ∷ by alice (Withdraws 1) ∷ by alice (Comments 1 (codes "seen")) ∷ by root (Ranks root Senior) ∷ by root (Ranks alice Contributor)
     ∷ by (codes "carol") (Submits (Vendor 4332) (Name (codes "X")) []) ∷ by root (Approves 2) ∷ by root (Withdraws 1) ∷ by root (Withdraws 1) ∷ by alice (Withdraws 1) ∷ by alice (Rejects 1 (codes "no")) ∷ []
 
-row21_answers : answers [] row21 ≡ Ok Done ∷ Ok (Numbered 1) ∷ Err OwnDecision ∷ Err NotAuthor ∷ Ok Done ∷ Err OwnDecision ∷ Err NothingToDo ∷ Err NoAccount ∷ Err NoSubmission ∷ Ok Done ∷ Err NotPending ∷ Err NotAuthor ∷ Err NotPending ∷ []
-row21_answers = refl
+policy_answers : answers [] policy ≡ Ok Done ∷ Ok (Numbered 1) ∷ Err OwnDecision ∷ Err NotAuthor ∷ Ok Done ∷ Err OwnDecision ∷ Err NothingToDo ∷ Err NoAccount ∷ Err NoSubmission ∷ Ok Done ∷ Err NotPending ∷ Err NotAuthor ∷ Err NotPending ∷ []
+policy_answers = refl
