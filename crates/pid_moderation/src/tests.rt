@@ -320,11 +320,11 @@ fn checks_comments_and_withdrawals(rt: HostRuntime) -> Result<(), Fail> {
 }
 
 const APPROVAL_CHECKS: &str = "\
-approve root num=1 | author=bob&path=PC/8086&name=a | refused 4 NoAccount
+approve root num=1 | author=bob&path=PC/8086&name=a&parent=yes | refused 4 NoAccount
 approve root num=1 | - | refused 4 NoAccount
 approve root num=1 | rank=3 | refused 7 NoSubmission
-approve root num=1 | rank=2&author=bob&path=PC/8086&name=a&state=approved | refused 8 NotPending
-approve root num=1 | rank=1&author=bob&path=PC/8086&name=a&state=approved | refused 8 NotPending
+approve root num=1 | rank=2&author=bob&path=PC/8086&name=a&parent=yes&state=approved | refused 8 NotPending
+approve root num=1 | rank=1&author=bob&path=PC/8086&name=a&parent=yes&state=approved | refused 8 NotPending
 approve root num=1 | rank=1&author=bob&path=PC/8086&name=a&parent=yes | refused 5 RankTooLow
 approve root num=1 | rank=1&author=root&path=PC/8086&name=a&parent=yes | refused 5 RankTooLow
 approve root num=1 | rank=1&author=bob&path=PD/01&name=a&parent=yes | refused 5 RankTooLow
