@@ -1,0 +1,7 @@
+pub mod Faults
+pub mod Schema
+pub mod PairRows
+pub mod TableRows
+pub mod Shows
+pub mod Leaves
+pub mod Writes
