@@ -5,7 +5,7 @@ use Rattle.sqlite.specs.Term.{Term, lit, col}
 use Rattle.sqlite.specs.Listing.{understood, reads_listing}
 use Rattle.sqlite_tied.specs.Compute.{everything}
 use Rattle.pid_tables.proofs.Statements.{equals, IsSelect, IsInsert, IsUpdate, IsDelete}
-use Rattle.pid_tables.proofs.StatementTexts.{select_meta, insert_meta, update_meta, select_account, insert_account, update_account, select_item, insert_item, update_item, delete_item, select_submission, insert_submission, update_submission, insert_remark, select_receipt, insert_receipt}
+use Rattle.pid_tables.proofs.StatementTexts.{select_meta, insert_meta, update_meta, select_account, insert_account, update_account, select_item, insert_item, update_item, delete_item, select_submission, insert_submission, update_submission, withdraw_submission, insert_remark, select_receipt, insert_receipt}
 
 -- the key in the first column behind the rowid, in the rowid, and in the first two columns
 abbrev pub by_first : List Term
@@ -86,6 +86,13 @@ insert_submission_is = record { is = refl; plain = (refl, refl) }
 pub update_submission_is : IsUpdate 3 6 by_rowid submission_change update_submission
 unfolding understood everything
 update_submission_is = record { is = refl; plain = (refl, refl) }
+
+abbrev pub withdrawal : List Term
+withdrawal = col 1 0 ∷ lit Null ∷ col 1 2 ∷ col 1 3 ∷ col 1 4 ∷ col 1 5 ∷ col 1 6 ∷ lit (Int (pos 3)) ∷ col 1 2 ∷ lit (Text []) ∷ []
+
+pub withdraw_submission_is : IsUpdate 3 6 by_rowid withdrawal withdraw_submission
+unfolding understood everything
+withdraw_submission_is = record { is = refl; plain = (refl, refl) }
 
 abbrev pub remark_terms : List Term
 remark_terms = lit Null ∷ col 0 0 ∷ col 0 1 ∷ col 0 2 ∷ col 0 3 ∷ []

@@ -36,6 +36,6 @@ rests_on g old mid end v one kept two undone settled law rest =
       settled = settled;
       same = λ opened. ((back opened).undone opened).0 ∙ sym ((back opened).undone opened).1;
       shows = λ opened. let was = left opened in
-      subst (λ d. Shows d v) (sym (((back opened).undone opened).0 ∙ was.1 ∙ sym (rest.same was.0))) (rest.shows was.0);
+          subst (λ d. Shows d v) (sym (((back opened).undone opened).0 ∙ was.1 ∙ sym (rest.same was.0))) (rest.shows was.0);
       leaves = leaves_on mid end v two (leaves_on (state g (record old { in_transaction = true })) mid v one (record { each = rest.leaves.each }));
     }

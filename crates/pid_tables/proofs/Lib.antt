@@ -10,5 +10,6 @@ pub mod LeaveLemmas
 pub mod StatementTexts
 pub mod KeyTexts
 pub mod Keys
+pub mod SetLemmas
 pub mod ShowLemmas
 pub mod WriteRows

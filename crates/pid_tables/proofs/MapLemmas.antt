@@ -84,9 +84,9 @@ module _ {K V : Type 0} (row : ℤ → K → V → Row) (tests : List Term) (giv
     first_is project out outs answer same = elim (nil_or_first answer) [
       | inl none ↦ go (m key) refl none
       | inr some ↦
-        let back = has_mapped _ _ some.0 (permuted answer _ some.0 (IsPermutation-sym _ _ same) some.1) in
-        let found = passes_for back.0 back.1 in
-        some.2 ∙ ap Some back.2 ∙ ap (λ r. Some (shown project params r)) found.2 ∙ ap Some (outs found.0 found.1) ∙ ap (option_map out) (sym found.3)
+          let back = has_mapped _ _ some.0 (permuted answer _ some.0 (IsPermutation-sym _ _ same) some.1) in
+          let found = passes_for back.0 back.1 in
+          some.2 ∙ ap Some back.2 ∙ ap (λ r. Some (shown project params r)) found.2 ∙ ap Some (outs found.0 found.1) ∙ ap (option_map out) (sym found.3)
     ]
       where
         go : (o : Option V) → m key ≡ o → answer ≡ [] → slice_get answer 0 ≡ option_map out o
@@ -112,17 +112,17 @@ module _ {K V : Type 0} (row : ℤ → K → V → Row) (tests : List Term) (giv
     sound = λ x h. elim (turns.from x h) [
       | inl new ↦ let made = each x new in record { id = made.0; key = key; value = made.1; is = made.2; maps = sets.at ∙ made.3 }
       | inr was ↦
-        let pair = are.sound x was.0 in
-        let other = missed pair.id pair.key pair.value pair.maps (ap hit (sym pair.is) ∙ was.1) in
-        record { id = pair.id; key = pair.key; value = pair.value; is = pair.is; maps = sets.past pair.key other ∙ pair.maps }
+          let pair = are.sound x was.0 in
+          let other = missed pair.id pair.key pair.value pair.maps (ap hit (sym pair.is) ∙ was.1) in
+          record { id = pair.id; key = pair.key; value = pair.value; is = pair.is; maps = sets.past pair.key other ∙ pair.maps }
     ];
     complete = λ k v maps. elim (it.decides k key) [
       | inl is ↦
-        let there = some v (sym (ap after is ∙ sets.at) ∙ maps) in
-        (there.0, turns.added _ (subst (λ q. Has news (row there.0 q v)) (sym is) there.1))
+          let there = some v (sym (ap after is ∙ sets.at) ∙ maps) in
+          (there.0, turns.added _ (subst (λ q. Has news (row there.0 q v)) (sym is) there.1))
       | inr other ↦
-        let there = are.complete k v (sym (sets.past k other) ∙ maps) in
-        (there.0, turns.stays _ there.1 (others there.0 k v other))
+          let there = are.complete k v (sym (sets.past k other) ∙ maps) in
+          (there.0, turns.stays _ there.1 (others there.0 k v other))
     ];
   }
 

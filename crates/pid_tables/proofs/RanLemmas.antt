@@ -45,7 +45,6 @@ pub record Makes (old new : State) (edit : Edit) : Type 0 where
 
 module _ (sql : List ℕ) (params : Row) (old new : State) (has : old.now.schema ≡ pid_schema) (at : ℕ) (table : Table) (here : slice_get pid_schema.tables at ≡ Some table) (plain : IsPlainTable table)
     (is_plain : IsPlain (understood pid_schema sql)) (count : ℕ) (h : Executes sql params old new (Ok count)) where
-
   makes_from : (edit : Edit) (w : Written) → IsDatabase new.now → new.now ≡ record { schema = pid_schema; trees = w.trees } → Applies pid_schema Enforced old.now.trees edit w.trees → Makes old new edit
   makes_from edit w sound is applies = record { schema = ap (λ (d : Database). d.schema) is; sound = sound; applies = subst (λ (d : Database). Applies pid_schema Enforced old.now.trees edit d.trees) (sym is) applies }
 

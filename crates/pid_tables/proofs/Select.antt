@@ -36,7 +36,7 @@ outputs_are : (params : Row) (tests project : List Term) (q : Query) → q.proje
 outputs_are params tests project q same none [] = refl
 outputs_are params tests project q same none (r ∷ rows) =
     elim (list_all (holds (env params r)) tests) as (λ b. map (output q) (cond b (env params r ∷ []) [] ++ flat_map (λ r. cond (list_all (holds (env params r)) tests) (env params r ∷ []) []) rows)
-        ≡ map (λ r. ([], shown project params r)) (cond b (r ∷ passing tests params rows) (passing tests params rows)))
+    ≡ map (λ r. ([], shown project params r)) (cond b (r ∷ passing tests params rows) (passing tests params rows)))
     [ true ↦ rw (same, none, outputs_are params tests project q same none rows) | false ↦ outputs_are params tests project q same none rows ]
 
 shown_again : (project : List Term) (params : Row) (rows : List Row) → map (λ (o : Output). o.1) (map (λ r. ([], shown project params r)) rows) ≡ map (shown project params) rows

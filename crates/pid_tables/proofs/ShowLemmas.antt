@@ -10,7 +10,8 @@ use Rattle.pid_moderation.specs.declared.command.Reply.{Reply}
 use Rattle.pid_moderation.specs.declared.facts.State.{State as Standings}
 use Rattle.pid_moderation.specs.declared.rank.Rank.{Rank}
 use Rattle.pid_moderation.specs.Items.{Items, name_at}
-use Rattle.pid_moderation.specs.Views.{Views, Submitted, Remark}
+use Rattle.pid_moderation.specs.declared.facts.State.TheVariants.{Pending}
+use Rattle.pid_moderation.specs.Views.{Views, Submitted, Remark, submission_at}
 use Rattle.pid_tables.specs.Schema.{meta, account, item, submission, remark, receipt}
 use Rattle.pid_tables.specs.PairRows.{Map, RowsAre}
 use Rattle.pid_tables.specs.TableRows.{meta_row, account_row, item_row, submission_row, remark_row, receipt_row}
@@ -42,7 +43,7 @@ module _ (old new : State) (c : Counts) (v : Views) (shows : ShowsCounting c old
   wrote_account rank w = record {
     schema = w.schema;
     sound = w.sound;
-    views = record { sorted = shows.views.sorted; paths = shows.views.paths };
+    views = record { sorted = shows.views.sorted; paths = shows.views.paths; pending = shows.views.pending };
     meta = still meta_row (meta_of c) _ _ (w.others.0 (λ e. omega arith)) shows.meta;
     accounts = w.rows;
     items = still item_row _ _ _ (w.others.1.1.0 (λ e. omega arith)) shows.items;
@@ -55,7 +56,7 @@ module _ (old new : State) (c : Counts) (v : Views) (shows : ShowsCounting c old
   wrote_item items sorted w = record {
     schema = w.schema;
     sound = w.sound;
-    views = record { sorted = sorted; paths = shows.views.paths };
+    views = record { sorted = sorted; paths = shows.views.paths; pending = shows.views.pending };
     meta = still meta_row (meta_of c) _ _ (w.others.0 (λ e. omega arith)) shows.meta;
     accounts = still account_row v.rank _ _ (w.others.1.0 (λ e. omega arith)) shows.accounts;
     items = w.rows;
@@ -64,12 +65,12 @@ module _ (old new : State) (c : Counts) (v : Views) (shows : ShowsCounting c old
     receipts = still receipt_row (receipt_in v) _ _ (w.others.1.1.1.1.1.0 (λ e. omega arith)) shows.receipts;
   }
 
-  pub wrote_submission : (submits : List Submitted) (state : ℕ → Standings) → AllByRecursion (λ (s : Submitted). IsPath s.path) submits
+  pub wrote_submission : (submits : List Submitted) (state : ℕ → Standings) → AllByRecursion (λ (s : Submitted). IsPath s.path) submits → ((n : ℕ) → submission_at n submits ≡ None → state n ≡ Pending)
       → Wrote submission_row submission old new (standing_in (record v { submits = submits; state = state })) → ShowsCounting c new.now (record v { submits = submits; state = state })
-  wrote_submission submits state paths w = record {
+  wrote_submission submits state paths pending w = record {
     schema = w.schema;
     sound = w.sound;
-    views = record { sorted = shows.views.sorted; paths = paths };
+    views = record { sorted = shows.views.sorted; paths = paths; pending = pending };
     meta = still meta_row (meta_of c) _ _ (w.others.0 (λ e. omega arith)) shows.meta;
     accounts = still account_row v.rank _ _ (w.others.1.0 (λ e. omega arith)) shows.accounts;
     items = still item_row _ _ _ (w.others.1.1.0 (λ e. omega arith)) shows.items;
@@ -82,7 +83,7 @@ module _ (old new : State) (c : Counts) (v : Views) (shows : ShowsCounting c old
   wrote_remark remarks w = record {
     schema = w.schema;
     sound = w.sound;
-    views = record { sorted = shows.views.sorted; paths = shows.views.paths };
+    views = record { sorted = shows.views.sorted; paths = shows.views.paths; pending = shows.views.pending };
     meta = still meta_row (meta_of c) _ _ (w.others.0 (λ e. omega arith)) shows.meta;
     accounts = still account_row v.rank _ _ (w.others.1.0 (λ e. omega arith)) shows.accounts;
     items = still item_row _ _ _ (w.others.1.1.0 (λ e. omega arith)) shows.items;
@@ -95,7 +96,7 @@ module _ (old new : State) (c : Counts) (v : Views) (shows : ShowsCounting c old
   wrote_receipt kept w = record {
     schema = w.schema;
     sound = w.sound;
-    views = record { sorted = shows.views.sorted; paths = shows.views.paths };
+    views = record { sorted = shows.views.sorted; paths = shows.views.paths; pending = shows.views.pending };
     meta = still meta_row (meta_of c) _ _ (w.others.0 (λ e. omega arith)) shows.meta;
     accounts = still account_row v.rank _ _ (w.others.1.0 (λ e. omega arith)) shows.accounts;
     items = still item_row _ _ _ (w.others.1.1.0 (λ e. omega arith)) shows.items;

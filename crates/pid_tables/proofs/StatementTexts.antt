@@ -40,6 +40,9 @@ insert_submission = codes "INSERT INTO submission (num, author, path, form, name
 abbrev pub update_submission : List ℕ
 update_submission = codes "UPDATE submission SET state = ?2, decider = ?3, reason = ?4 WHERE num = ?1"
 
+abbrev pub withdraw_submission : List ℕ
+withdraw_submission = codes "UPDATE submission SET state = 3, decider = author, reason = '' WHERE num = ?1"
+
 abbrev pub insert_remark : List ℕ
 insert_remark = codes "INSERT INTO remark (num, seq, author, body) VALUES (?1, ?2, ?3, ?4)"
 

@@ -72,7 +72,6 @@ turns_insert rows next news up fresh is = record {
 
 module _ (tests more : List Term) (params : Row) (rows answer : List Row) (up : IsTable rows) (keyed : AreKeyed rows)
     (same : IsPermutation (map (shown (col 1 0 ∷ more) params) (passing tests params rows)) answer) where
-
   hit_taken : (r : Row) → Has rows r → hits tests params r ≡ true → (id : ℤ) × Has (ids_of answer) id × (has_rowid id r ≡ true)
   hit_taken r h is =
       let key = keyed r h in
@@ -98,19 +97,19 @@ module _ (tests more : List Term) (params : Row) (rows answer : List Row) (up : 
         from = λ x h. elim (put_all_has news left x (subst (λ l. Has l x) is h)) [
           | inl new ↦ inl new
           | inr there ↦
-            let was = without_all_has (ids_of answer) rows x there in
-            elim (cases_Bool (hits tests params x)) [
-              | inl passed ↦ absurd (let it = hit_taken x was passed in left_lacks (ids_of answer) rows it.0 x it.1 it.2 there)
-              | inr miss ↦ inr (was, miss)
-            ]
+              let was = without_all_has (ids_of answer) rows x there in
+              elim (cases_Bool (hits tests params x)) [
+                | inl passed ↦ absurd (let it = hit_taken x was passed in left_lacks (ids_of answer) rows it.0 x it.1 it.2 there)
+                | inr miss ↦ inr (was, miss)
+              ]
         ];
         stays = λ x h miss. subst (λ l. Has l x) (sym is) (put_all_keeps news left x fresh (elim (left_or_taken rows (ids_of answer) x up h) [
           | inl there ↦ there
           | inr taken ↦ absurd (
-            let id = has_mapped (row_at rows) (ids_of answer) x taken in
-            let r = taken_hit id.0 id.1 in
-            let row = row_at_is rows id.0 r.0 up r.1 (own_rowid id.0 r.0 r.3) in
-            true≢false (sym r.2 ∙ ap (hits tests params) (sym row ∙ sym id.2) ∙ miss))
+              let id = has_mapped (row_at rows) (ids_of answer) x taken in
+              let r = taken_hit id.0 id.1 in
+              let row = row_at_is rows id.0 r.0 up r.1 (own_rowid id.0 r.0 r.3) in
+              true≢false (sym r.2 ∙ ap (hits tests params) (sym row ∙ sym id.2) ∙ miss))
         ]));
         added = λ x h. subst (λ l. Has l x) (sym is) (put_all_adds news left x fresh h);
       }

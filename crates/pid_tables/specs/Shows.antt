@@ -7,6 +7,7 @@ use Rattle.sqlite.specs.Effect.{Database, IsDatabase}
 use Rattle.pid_ident.specs.PathTexts.{IsPath}
 use Rattle.pid_ident.specs.Trees.{text_cmp}
 use Rattle.pid_moderation.specs.declared.command.Reply.{Reply}
+use Rattle.pid_moderation.specs.declared.facts.State.TheVariants.{Pending}
 use Rattle.pid_moderation.specs.Items.{name_at}
 use Rattle.pid_moderation.specs.Views.{Views, Submitted, Remark, submission_at}
 use Rattle.pid_tables.specs.Schema.{pid_schema}
@@ -42,10 +43,12 @@ remark_in v at = counted_from_one at.1 (v.remarks at.0)
 abbrev pub receipt_in : Views → Map (List ℕ × List ℕ) Reply
 receipt_in v at = v.kept at.0 at.1
 
--- what the views of every history keep: the items are in the order of their paths, and paths have the numbers of identifiers
+-- what the views of every history keep: the items are in the order of their paths, paths have the numbers of identifiers,
+-- and what is not yet submitted is pending
 pub record AreViews (v : Views) : Type 0 where
   pub sorted : is_sorted text_cmp v.items ≡ true
   pub paths : AllByRecursion (λ (s : Submitted). IsPath s.path) v.submits
+  pub pending : (n : ℕ) → submission_at n v.submits ≡ None → v.state n ≡ Pending
 
 -- the tables show the views, and meta has these counts
 pub record ShowsCounting (counts : Counts) (db : Database) (v : Views) : Type 0 where

@@ -3,6 +3,11 @@
 
 mod account;
 mod fault;
+mod item;
+mod meta;
+mod receipt;
+mod remark;
 mod run;
+mod submission;
 
 pub use fault::TableFault;
