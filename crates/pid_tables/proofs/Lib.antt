@@ -13,3 +13,5 @@ pub mod Keys
 pub mod SetLemmas
 pub mod ShowLemmas
 pub mod WriteRows
+pub mod GoingLemmas
+pub mod ApplyLemmas

@@ -26,12 +26,12 @@ pub record AtRest (s : State) (v : Views) : Type 0 where
   pub shows : IsTrue s.is_open → Shows s.now v
   pub leaves : Leaves s v
 
--- A call inside a transaction commits nothing, whatever it answers, and where it answers a value the transaction goes on.
+-- A call inside a transaction commits nothing, whatever it answers; where it answers a value, the transaction goes on.
 pub record GoesOn {X E : Type 0} (old new : State) (result : Result X E) : Type 0 where
   pub survives : Survives old new (λ _. ⊥)
   pub was_open : HasCleanDisk new → IsTrue old.in_transaction → IsTrue new.is_open → IsTrue old.is_open
   pub committed : HasCleanDisk new → IsTrue old.in_transaction → IsTrue new.is_open → new.committed ≡ old.committed
-  pub going : HasCleanDisk new → IsTrue old.in_transaction → OnOk result (IsTrue new.is_open × IsTrue new.in_transaction)
+  pub going : HasCleanDisk new → IsTrue old.in_transaction → OnOk result (IsTrue new.in_transaction)
 
 -- Where the transaction shows views that the call is for, it answers a value only with the transaction showing the next ones.
 abbrev pub LeadsTo : {X E : Type 0} → State → State → Result X E → (Counts → Views → Type 0) → (Counts → Counts) → (Views → Views) → Type 0

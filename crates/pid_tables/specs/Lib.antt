@@ -5,3 +5,4 @@ pub mod TableRows
 pub mod Shows
 pub mod Leaves
 pub mod Writes
+pub mod Applies

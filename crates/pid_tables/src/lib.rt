@@ -2,6 +2,7 @@
 #![tactic(auto)]
 
 mod account;
+mod batch;
 mod fault;
 mod item;
 mod meta;
@@ -10,4 +11,5 @@ mod remark;
 mod run;
 mod submission;
 
+pub use batch::Batch;
 pub use fault::TableFault;
