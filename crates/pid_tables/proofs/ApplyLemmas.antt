@@ -43,3 +43,7 @@ kept_counts (Some r) v = refl
 -- so the tables show them whole
 pub shows_whole : (change : Change) (c : Counts) (v : Views) (db : Database) → IsCounted change.effect c v → FitsEffect change.effect v → ShowsCounting (recounted change.effect c) db (changed change v) → Shows db (changed change v)
 shows_whole change c v db is fits = subst (λ counts. ShowsCounting counts db (changed change v)) (recounted_is change.effect c v is fits ∙ sym (kept_counts change.receipt (affected change.effect v)))
+
+pub whole_with : (change : Change) (r : Option Receipt) (c : Counts) (v : Views) (db : Database) → change.receipt ≡ r → IsCounted change.effect c v → FitsEffect change.effect v
+    → ShowsCounting (recounted change.effect c) db (keeping r (affected change.effect v)) → Shows db (changed change v)
+whole_with change r c v db is counted fits h = shows_whole change c v db counted fits (subst (λ r. ShowsCounting (recounted change.effect c) db (keeping r (affected change.effect v))) (sym is) h)

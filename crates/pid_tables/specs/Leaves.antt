@@ -26,12 +26,28 @@ pub record AtRest (s : State) (v : Views) : Type 0 where
   pub shows : IsTrue s.is_open → Shows s.now v
   pub leaves : Leaves s v
 
+-- whatever a transaction does, what was committed before it shows the views, and so does each thing that a crash may leave
+pub record Holds (s : State) (v : Views) : Type 0 where
+  pub committed : IsTrue s.is_open → Shows s.committed v
+  pub leaves : Leaves s v
+
+-- a transaction is under way that holds the first views and shows the second, where meta has these counts
+pub record Within (c : Counts) (s : State) (held now : Views) : Type 0 where
+  pub inside : HasCleanDisk s → IsTrue s.in_transaction
+  pub holds : Holds s held
+  pub shows : IsTrue s.is_open → ShowsCounting c s.now now
+
+-- the same, once a statement was carried out: no fault has shut the connection
+pub record Written (c : Counts) (s : State) (held now : Views) : Type 0 where
+  pub within : Within c s held now
+  pub opened : HasCleanDisk s → IsTrue s.is_open
+
 -- A call inside a transaction commits nothing, whatever it answers; where it answers a value, the transaction goes on.
 pub record GoesOn {X E : Type 0} (old new : State) (result : Result X E) : Type 0 where
   pub survives : Survives old new (λ _. ⊥)
-  pub was_open : HasCleanDisk new → IsTrue old.in_transaction → IsTrue new.is_open → IsTrue old.is_open
+  pub was_open : HasCleanDisk new → IsTrue new.is_open → IsTrue old.is_open
   pub committed : HasCleanDisk new → IsTrue old.in_transaction → IsTrue new.is_open → new.committed ≡ old.committed
-  pub going : HasCleanDisk new → IsTrue old.in_transaction → OnOk result (IsTrue new.in_transaction)
+  pub going : HasCleanDisk new → IsTrue old.in_transaction → OnOk result (IsTrue new.is_open × IsTrue new.in_transaction)
 
 -- Where the transaction shows views that the call is for, it answers a value only with the transaction showing the next ones.
 abbrev pub LeadsTo : {X E : Type 0} → State → State → Result X E → (Counts → Views → Type 0) → (Counts → Counts) → (Views → Views) → Type 0

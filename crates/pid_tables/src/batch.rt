@@ -1,26 +1,26 @@
 //! One transaction on the tables, which writes a whole change.
-ghost use Rattle.std.specs.Prelude.{◌≡◌, ◌+◌, ℕ, true, length, is_none, is_some, IsSome, IsTrue, OnOk};
+ghost use Rattle.std.specs.Prelude.{◌≡◌, ◌+◌, ℕ, true, false, length, is_none, is_some, IsSome, IsTrue, OnOk};
 ghost use Rattle.sqlite.specs.Held.{state as shown};
-ghost use Rattle.sqlite.specs.State.{HasCleanDisk};
+ghost use Rattle.sqlite.specs.State.{HasCleanDisk, Survives};
 ghost use Rattle.pid_ident.specs.PathTexts.{path_text};
 ghost use Rattle.pid_moderation.specs.Items.{name_at};
 ghost use Rattle.pid_moderation.specs.Views.{Views, submission_at};
 ghost use Rattle.pid_moderation.specs.Changes.{edited, affected, changed, write as written, FitsEdit, FitsEffect, FitsWrite, FitsReceipt, keeping, Fits};
 ghost use Rattle.pid_tables.specs.Shows.{Counts, ShowsCounting, Shows, counts_of};
-ghost use Rattle.pid_tables.specs.Leaves.{GoesOn, LeadsTo};
+ghost use Rattle.pid_tables.specs.Leaves.{AtRest, Holds, Within, Written, LeavesEither, GoesOn, LeadsTo};
 ghost use Rattle.pid_tables.specs.Writes.{with_rank, with_submission, with_state};
 ghost use Rattle.pid_tables.specs.Applies.{IsCounted, recounted};
 
 use crate::account::{add_account, change_rank};
 use crate::fault::TableFault;
 use crate::item::{add_item, remove_item, rename_item};
-use crate::meta::{count_items, count_submissions};
+use crate::meta::{count_items, count_submissions, touch};
 use crate::receipt::keep_reply;
 use crate::remark::add_remark;
 use crate::submission::{add_submission, decide};
 use pid_ident::{Account, Path, Text};
 use pid_moderation::{Change, Edit, Effect, Proposal, Rank, Receipt, State, Write};
-use sqlite::{Alter, Transaction};
+use sqlite::{Alter, Connection, Transaction};
 use std::alloc::Global;
 
 /// One transaction on the tables. Where it is dropped before its commit, nothing of it stays.
@@ -118,7 +118,7 @@ fn write_effect<S: Alter>(
     ensures shows { LeadsTo (shown S.Store batch.old.conn.now) (shown S.Store batch.new.conn.now) result (λ c v. FitsEffect effect.now v) (recounted effect.now) (affected effect.now) }
 {
     match effect {
-        Effect::Nothing => Ok(()),
+        Effect::Nothing => touch(batch),
         Effect::Ranked { who, rank, is_new } => set_rank(batch, who, *rank, *is_new),
         Effect::Submitted {
             number,
@@ -142,15 +142,31 @@ fn write_effect<S: Alter>(
     }
 }
 
-fn keep<S: Alter>(batch: &mut Batch<'_, S>, receipt: &Option<Receipt>) -> Result<(), TableFault>
+fn write_change<S: Alter>(
+    batch: &mut Batch<'_, S>,
+    alloc: Global,
+    change: &Change,
+) -> Result<(), TableFault>
     ensures same_reference { batch.new.conn.ghost_name ≡ batch.old.conn.ghost_name }
     ensures goes { GoesOn (shown S.Store batch.old.conn.now) (shown S.Store batch.new.conn.now) result }
-    ensures shows { LeadsTo (shown S.Store batch.old.conn.now) (shown S.Store batch.new.conn.now) result (λ c v. FitsReceipt receipt.now v) (λ c. c) (keeping receipt.now) }
+    ensures shows { HasCleanDisk (shown S.Store batch.new.conn.now) → IsTrue (shown S.Store batch.old.conn.now).in_transaction → (counts : Counts) (v : Views) → ShowsCounting counts (shown S.Store batch.old.conn.now).now v
+        → IsCounted change.now.effect counts v → Fits change.now v → OnOk result (Shows (shown S.Store batch.new.conn.now).now (changed change.now v)) }
 {
-    match receipt {
+    write_effect(batch, alloc, &change.effect)?;
+    match &change.receipt {
         None => Ok(()),
         Some(receipt) => keep_reply(batch, &receipt.account, &receipt.key, receipt.reply),
     }
+}
+
+/// Begins a transaction on tables at rest. It shows what they show.
+pub fn begin<S: Alter>(conn: &mut Connection<S>) -> Batch<'_, S>
+    requires { (shown S.Store conn.old).in_transaction ≡ false }
+    ensures same_reference { result.conn.ghost_name ≡ conn.entry.ghost_name }
+    ensures unchanged { result.conn.now ≡ record conn.old { in_transaction = true } }
+    ensures begun { (v : Views) → AtRest (shown S.Store conn.old) v → Within (counts_of v) (shown S.Store result.conn.now) v v }
+{
+    conn.transaction()
 }
 
 /// Writes a whole change, its receipt included.
@@ -163,10 +179,30 @@ pub fn apply<S: Alter>(
     change: &Change,
 ) -> Result<(), TableFault>
     ensures same_reference { batch.new.conn.ghost_name ≡ batch.old.conn.ghost_name }
-    ensures goes { GoesOn (shown S.Store batch.old.conn.now) (shown S.Store batch.new.conn.now) result }
-    ensures shows { HasCleanDisk (shown S.Store batch.new.conn.now) → IsTrue (shown S.Store batch.old.conn.now).in_transaction → (counts : Counts) (v : Views) → ShowsCounting counts (shown S.Store batch.old.conn.now).now v
-        → IsCounted change.now.effect counts v → Fits change.now v → OnOk result (Shows (shown S.Store batch.new.conn.now).now (changed change.now v)) }
+    ensures survives { Survives (shown S.Store batch.old.conn.now) (shown S.Store batch.new.conn.now) (λ _. ⊥) }
+    ensures holds { (c : Counts) (v w : Views) → Within c (shown S.Store batch.old.conn.now) v w → Holds (shown S.Store batch.new.conn.now) v }
+    ensures applied { (c : Counts) (v w : Views) → Within c (shown S.Store batch.old.conn.now) v w → IsCounted change.now.effect c w → Fits change.now w
+        → OnOk result (Written (counts_of (changed change.now w)) (shown S.Store batch.new.conn.now) v (changed change.now w)) }
 {
-    write_effect(batch, alloc, &change.effect)?;
-    keep(batch, &change.receipt)
+    write_change(batch, alloc, change)
+}
+
+/// Lets what the transaction wrote stand, all of it or nothing.
+pub fn commit<S: Alter>(batch: Batch<'_, S>) -> Result<(), TableFault>
+    ensures ended { batch.exit.0.now.in_transaction ≡ false }
+    ensures survives { Survives (shown S.Store batch.entry.conn.now) (shown S.Store batch.exit.0.now) (λ db. db ≡ (shown S.Store batch.entry.conn.now).now.trees) }
+    ensures stands { (v w : Views) → Written (counts_of w) (shown S.Store batch.entry.conn.now) v w → OnOk result (AtRest (shown S.Store batch.exit.0.now) w) }
+    ensures either { (v w : Views) → Written (counts_of w) (shown S.Store batch.entry.conn.now) v w → LeavesEither (shown S.Store batch.exit.0.now) v w }
+{
+    batch.commit()?;
+    Ok(())
+}
+
+/// Gives the transaction up: the tables are as they were before it.
+pub fn roll_back<S: Alter>(batch: Batch<'_, S>)
+    ensures ended { batch.exit.0.now.in_transaction ≡ false }
+    ensures survives { Survives (shown S.Store batch.entry.conn.now) (shown S.Store batch.exit.0.now) (λ _. ⊥) }
+    ensures given_back { (v : Views) → Holds (shown S.Store batch.entry.conn.now) v → AtRest (shown S.Store batch.exit.0.now) v }
+{
+    batch.rollback();
 }

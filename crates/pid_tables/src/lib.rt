@@ -11,5 +11,5 @@ mod remark;
 mod run;
 mod submission;
 
-pub use batch::Batch;
+pub use batch::{Batch, apply, begin, commit, roll_back};
 pub use fault::TableFault;

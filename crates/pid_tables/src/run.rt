@@ -1,13 +1,14 @@
 //! One statement at a time.
-ghost use Rattle.std.specs.Prelude.{◌≡◌, ℕ, OnOk, IsTrue, Ok};
+ghost use Rattle.std.specs.Prelude.{◌≡◌, ℕ, false, true, IfOk, OnOk, IsTrue, Ok};
 ghost use Rattle.sqlite.specs.Values.{bound};
-ghost use Rattle.sqlite.specs.State.{HasCleanDisk, Executes};
-ghost use Rattle.sqlite.specs.Held.{state};
-ghost use Rattle.pid_tables.specs.Leaves.{GoesOn};
+ghost use Rattle.sqlite.specs.State.{HasCleanDisk, Executes, Shown};
+ghost use Rattle.sqlite.specs.Held.{state, Held};
+ghost use Rattle.pid_moderation.specs.Views.{Views};
+ghost use Rattle.pid_tables.specs.Leaves.{AtRest, GoesOn};
 
 use crate::fault::TableFault;
 use sqlite::types::ValueRef;
-use sqlite::{Alter, Transaction};
+use sqlite::{Alter, Connection, Row, Transaction};
 
 /// Runs one statement that writes, inside a transaction.
 pub(crate) fn write_one<S: Alter>(
@@ -21,4 +22,33 @@ pub(crate) fn write_one<S: Alter>(
 {
     tx.execute(sql, params)?;
     Ok(())
+}
+
+/// The rows of one query, inside a transaction.
+pub(crate) fn read_inside<S: Alter>(
+    tx: &mut Transaction<'_, S>,
+    sql: &str,
+    params: &[ValueRef<'_>],
+) -> Result<Vec<Row>, TableFault>
+    ensures same_reference { tx.new.conn.ghost_name ≡ tx.old.conn.ghost_name }
+    ensures goes { GoesOn (state S.Store tx.old.conn.now) (state S.Store tx.new.conn.now) result }
+    ensures shown { HasCleanDisk (state S.Store tx.new.conn.now) → IfOk result (λ rows. Shown sql.now (bound params.now) (state S.Store tx.old.conn.now) (state S.Store tx.new.conn.now) rows.items) }
+{
+    Ok(tx.query_all(sql, params)?)
+}
+
+/// The rows of one query, in a transaction of its own, which is rolled back.
+pub(crate) fn read_rows<S: Alter>(
+    conn: &mut Connection<S>,
+    sql: &str,
+    params: &[ValueRef<'_>],
+) -> Result<Vec<Row>, TableFault>
+    requires { (state S.Store conn.old).in_transaction ≡ false }
+    ensures settled { (state S.Store conn.new).in_transaction ≡ false }
+    ensures clean { HasCleanDisk (state S.Store conn.new) → HasCleanDisk (state S.Store conn.old) }
+    ensures kept { (v : Views) → AtRest (state S.Store conn.old) v → AtRest (state S.Store conn.new) v }
+    ensures shown { HasCleanDisk (state S.Store conn.new) → IfOk result (λ rows. (mid : Held S) × Shown sql.now (bound params.now) (state S.Store (record conn.old { in_transaction = true })) (state S.Store mid) rows.items) }
+{
+    let mut tx = conn.transaction();
+    read_inside(&mut tx, sql, params)
 }

@@ -1,14 +1,18 @@
-use Rattle.std.proofs.Common.{arith}
 use Rattle.sqlite.specs.Held.{state}
-use Rattle.sqlite.specs.State.{HasCleanDisk}
-use Rattle.pid_tables.proofs.ShowLemmas.{on_ok}
-use Rattle.pid_tables.proofs.ApplyLemmas.{receipt_still_fits, shows_whole}
+use Rattle.sqlite.proofs.StateLemmas.{clean_if_open}
+use Rattle.pid_tables.specs.Shows.{counts_of}
+use Rattle.pid_moderation.specs.Changes.{changed}
+use Rattle.pid_tables.proofs.GoingLemmas.{holds_on, within_on}
 use Rattle.pid_tables.proofs.batch.apply.Goals as goal
 
-pub returns-clause-shows : goal.returns-clause-shows
-returns-clause-shows g c clean inside counts v shows counted fits =
-    let early : HasCleanDisk (state g.S.Store c.write_effect.new.batch.conn.now) = omega (arith, c.keep.ensures.goes.survives.clean) in
-    let first = c.in_ok-write_effect.ensures in
-    let change = c.args.change.now in
-    on_ok c.keep.result (shows_whole change counts v (state g.S.Store c.keep.new.batch.conn.now).now counted fits.0)
-    (c.keep.ensures.shows clean (first.goes.going early inside) _ _ (first.shows early inside counts v shows fits.0) (receipt_still_fits change.effect change.receipt v fits.1))
+pub returns-clause-holds : goal.returns-clause-holds
+returns-clause-holds g c counts v w within =
+    let new = c.write_change.new.batch.conn.now in
+    holds_on (state g.S.Store c.args.batch.now.conn.now) (state g.S.Store new) c.write_change.result counts v w (clean_if_open (g.S.Store.view new.store) (g.met.S.Store.shut_if_dirty new.store)) c.write_change.ensures.goes within
+
+pub returns-clause-applied : goal.returns-clause-applied
+returns-clause-applied g c counts v w within counted fits =
+    let new = c.write_change.new.batch.conn.now in
+    let after = changed c.args.change.now w in
+    within_on (state g.S.Store c.args.batch.now.conn.now) (state g.S.Store new) c.write_change.result counts (counts_of after) v w after (clean_if_open (g.S.Store.view new.store) (g.met.S.Store.shut_if_dirty new.store)) c.write_change.ensures.goes within
+    (λ clean inside shows. c.write_change.ensures.shows clean inside counts w shows counted fits)
