@@ -15,3 +15,4 @@ pub mod ShowLemmas
 pub mod WriteRows
 pub mod GoingLemmas
 pub mod ApplyLemmas
+pub mod FindLemmas

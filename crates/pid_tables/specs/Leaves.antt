@@ -1,5 +1,5 @@
 -- What a connection is left as by a call, and what a crash may then leave. All of it holds while the disk returns what was written.
-use Rattle.std.specs.Prelude.{◌≡◌, ◌⊎◌, false, Result, OnOk, IsTrue}
+use Rattle.std.specs.Prelude.{◌≡◌, ◌⊎◌, false, Result, OnOk, IfOk, IsTrue}
 use Rattle.sqlite.specs.Tree.{Trees}
 use Rattle.sqlite.specs.State.{State, HasCleanDisk, Survives}
 use Rattle.sqlite.specs.Effect.{Database}
@@ -53,3 +53,13 @@ pub record GoesOn {X E : Type 0} (old new : State) (result : Result X E) : Type 
 abbrev pub LeadsTo : {X E : Type 0} → State → State → Result X E → (Counts → Views → Type 0) → (Counts → Counts) → (Views → Views) → Type 0
 LeadsTo old new result IsFor recount next =
     HasCleanDisk new → IsTrue old.in_transaction → (c : Counts) (v : Views) → ShowsCounting c old.now v → IsFor c v → OnOk result (ShowsCounting (recount c) new.now (next v))
+
+-- a read leaves what was at rest at rest
+pub record OnlyReads (old new : State) : Type 0 where
+  pub settled : new.in_transaction ≡ false
+  pub clean : HasCleanDisk new → HasCleanDisk old
+  pub kept : (v : Views) → AtRest old v → AtRest new v
+
+-- and tells of the views that were at rest
+abbrev pub Tells : {X E : Type 0} → State → State → Result X E → (Views → X → Type 0) → Type 0
+Tells old new result Says = HasCleanDisk new → (v : Views) → AtRest old v → IfOk result (Says v)

@@ -10,6 +10,7 @@ mod receipt;
 mod remark;
 mod run;
 mod submission;
+mod value;
 
 pub use batch::{Batch, apply, begin, commit, roll_back};
 pub use fault::TableFault;

@@ -3,8 +3,7 @@ ghost use Rattle.std.specs.Prelude.{◌≡◌, ℕ, false, true, IfOk, OnOk, IsT
 ghost use Rattle.sqlite.specs.Values.{bound};
 ghost use Rattle.sqlite.specs.State.{HasCleanDisk, Executes, Shown};
 ghost use Rattle.sqlite.specs.Held.{state, Held};
-ghost use Rattle.pid_moderation.specs.Views.{Views};
-ghost use Rattle.pid_tables.specs.Leaves.{AtRest, GoesOn};
+ghost use Rattle.pid_tables.specs.Leaves.{OnlyReads, GoesOn};
 
 use crate::fault::TableFault;
 use sqlite::types::ValueRef;
@@ -44,9 +43,7 @@ pub(crate) fn read_rows<S: Alter>(
     params: &[ValueRef<'_>],
 ) -> Result<Vec<Row>, TableFault>
     requires { (state S.Store conn.old).in_transaction ≡ false }
-    ensures settled { (state S.Store conn.new).in_transaction ≡ false }
-    ensures clean { HasCleanDisk (state S.Store conn.new) → HasCleanDisk (state S.Store conn.old) }
-    ensures kept { (v : Views) → AtRest (state S.Store conn.old) v → AtRest (state S.Store conn.new) v }
+    ensures rests { OnlyReads (state S.Store conn.old) (state S.Store conn.new) }
     ensures shown { HasCleanDisk (state S.Store conn.new) → IfOk result (λ rows. (mid : Held S) × Shown sql.now (bound params.now) (state S.Store (record conn.old { in_transaction = true })) (state S.Store mid) rows.items) }
 {
     let mut tx = conn.transaction();
