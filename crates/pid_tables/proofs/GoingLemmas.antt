@@ -1,5 +1,5 @@
 -- What calls inside a transaction leave.
-use Rattle.std.proofs.Common.{◌≡◌, ◌⊎◌, inl, inr, ◌≤◌, Ok, Err, Result, OnOk, IsTrue, refl, sym, subst, arith}
+use Rattle.std.proofs.Common.{◌≡◌, ◌⊎◌, inl, inr, ◌≤◌, Ok, Err, Result, OnOk, IfOk, IsTrue, refl, sym, subst, arith}
 use Rattle.sqlite.specs.Tree.{Trees}
 use Rattle.sqlite.specs.State.{State, Survives}
 use Rattle.sqlite.specs.State.{HasCleanDisk}
@@ -32,3 +32,8 @@ within_on old new (Ok x) c next v w after law goes within shows = record {
   opened = λ clean. (goes.going clean (within.inside (earlier old new goes.survives clean))).0;
 }
 within_on old new (Err e) c next v w after law goes within shows = tt
+
+-- a value is told of what the transaction showed
+pub told_within : {X E : Type 0} (old new : State) (r : Result X E) (c : Counts) (v w : Views) (P : X → Type 0) → GoesOn old new r → Within c old v w → HasCleanDisk new → (ShowsCounting c old.now w → IfOk r P) → IfOk r P
+told_within old new (Ok x) c v w P goes within clean h = h (within.shows (goes.was_open clean (goes.going clean (within.inside (earlier old new goes.survives clean))).0))
+told_within old new (Err e) c v w P goes within clean h = tt

@@ -16,3 +16,5 @@ pub mod WriteRows
 pub mod GoingLemmas
 pub mod ApplyLemmas
 pub mod FindLemmas
+pub mod DecodeLemmas
+pub mod PutLemmas

@@ -5,5 +5,7 @@ pub mod TableRows
 pub mod Answers
 pub mod Shows
 pub mod Leaves
+pub mod Standings
+pub mod Puts
 pub mod Writes
 pub mod Applies

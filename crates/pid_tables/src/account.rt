@@ -56,11 +56,7 @@ fn rank_rows<S: Alter>(conn: &mut Connection<S>, name: &str) -> Result<Vec<Row>,
     ensures found { Tells (state S.Store conn.old) (state S.Store conn.new) result (λ v rows. slice_get rows.items 0 ≡ option_map rank_row (v.rank name.now)) }
 {
     let name = name.to_sql();
-    read_rows(
-        conn,
-        "SELECT rank FROM account WHERE name = ?1",
-        &[name],
-    )
+    read_rows(conn, "SELECT rank FROM account WHERE name = ?1", &[name])
 }
 
 /// The rank of an account.

@@ -1,5 +1,5 @@
 //! One transaction on the tables, which writes a whole change.
-ghost use Rattle.std.specs.Prelude.{◌≡◌, ◌+◌, ℕ, true, false, length, is_none, is_some, IsSome, IsTrue, OnOk};
+ghost use Rattle.std.specs.Prelude.{◌≡◌, ◌+◌, ℕ, true, false, length, is_none, is_some, IsSome, IsTrue, IfOk, OnOk};
 ghost use Rattle.sqlite.specs.Held.{state as shown};
 ghost use Rattle.sqlite.specs.State.{HasCleanDisk, Survives};
 ghost use Rattle.pid_ident.specs.PathTexts.{path_text};
@@ -8,13 +8,15 @@ ghost use Rattle.pid_moderation.specs.Views.{Views, submission_at};
 ghost use Rattle.pid_moderation.specs.Changes.{edited, affected, changed, write as written, FitsEdit, FitsEffect, FitsWrite, FitsReceipt, keeping, Fits};
 ghost use Rattle.pid_tables.specs.Shows.{Counts, ShowsCounting, Shows, counts_of};
 ghost use Rattle.pid_tables.specs.Leaves.{AtRest, Holds, Within, Written, LeavesEither, GoesOn, LeadsTo};
-ghost use Rattle.pid_tables.specs.Writes.{with_rank, with_submission, with_state};
+ghost use Rattle.pid_tables.specs.Writes.{with_rank, with_name, with_submission, with_state};
+ghost use Rattle.pid_tables.specs.Puts.{put_over};
 ghost use Rattle.pid_tables.specs.Applies.{IsCounted, recounted};
 
 use crate::account::{add_account, change_rank};
 use crate::fault::TableFault;
 use crate::item::{add_item, remove_item, rename_item};
 use crate::meta::{count_items, count_submissions, touch};
+use crate::putting::{Put, put_text};
 use crate::receipt::keep_reply;
 use crate::remark::add_remark;
 use crate::submission::{add_submission, decide};
@@ -167,6 +169,23 @@ pub fn begin<S: Alter>(conn: &mut Connection<S>) -> Batch<'_, S>
     ensures begun { (v : Views) → AtRest (shown S.Store conn.old) v → Within (counts_of v) (shown S.Store result.conn.now) v v }
 {
     conn.transaction()
+}
+
+/// Gives a path a name within the transaction, and answers what it was to it. The count of items follows with the change.
+pub fn put<S: Alter>(
+    batch: &mut Batch<'_, S>,
+    alloc: Global,
+    path: &Path,
+    name: &str,
+) -> Result<Put, TableFault>
+    ensures same_reference { batch.new.conn.ghost_name ≡ batch.old.conn.ghost_name }
+    ensures survives { Survives (shown S.Store batch.old.conn.now) (shown S.Store batch.new.conn.now) (λ _. ⊥) }
+    ensures holds { (c : Counts) (v w : Views) → Within c (shown S.Store batch.old.conn.now) v w → Holds (shown S.Store batch.new.conn.now) v }
+    ensures written { (c : Counts) (v w : Views) → Within c (shown S.Store batch.old.conn.now) v w → OnOk result (Written c (shown S.Store batch.new.conn.now) v (with_name (path_text path.now) name.now w)) }
+    ensures told { HasCleanDisk (shown S.Store batch.new.conn.now) → (c : Counts) (v w : Views) → Within c (shown S.Store batch.old.conn.now) v w → IfOk result (λ put. put ≡ put_over name.now (name_at (path_text path.now) w.items)) }
+{
+    let path = path.path_text(alloc)?;
+    put_text(batch, path.as_str(), name)
 }
 
 /// Writes a whole change, its receipt included.

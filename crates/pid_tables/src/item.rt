@@ -71,11 +71,7 @@ fn name_rows<S: Alter>(conn: &mut Connection<S>, path: &str) -> Result<Vec<Row>,
     ensures found { Tells (state S.Store conn.old) (state S.Store conn.new) result (λ v rows. slice_get rows.items 0 ≡ option_map name_row (item_at path.now v.items)) }
 {
     let path = path.to_sql();
-    read_rows(
-        conn,
-        "SELECT name FROM item WHERE path = ?1",
-        &[path],
-    )
+    read_rows(conn, "SELECT name FROM item WHERE path = ?1", &[path])
 }
 
 /// The name of the item at a path.

@@ -6,11 +6,14 @@ mod batch;
 mod fault;
 mod item;
 mod meta;
+mod putting;
 mod receipt;
 mod remark;
 mod run;
 mod submission;
 mod value;
 
-pub use batch::{Batch, apply, begin, commit, roll_back};
+pub use batch::{Batch, apply, begin, commit, put, roll_back};
 pub use fault::TableFault;
+pub use putting::Put;
+pub use submission::Submission;

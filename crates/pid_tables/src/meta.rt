@@ -1,12 +1,15 @@
 //! The table of counts.
-ghost use Rattle.std.specs.Prelude.{◌≡◌};
+ghost use Rattle.std.specs.Prelude.{◌≡◌, false, Some, length, option_map, slice_get, codes};
 ghost use Rattle.sqlite.specs.Held.{state};
-ghost use Rattle.pid_tables.specs.Leaves.{GoesOn, LeadsTo};
+ghost use Rattle.pid_tables.specs.Leaves.{GoesOn, LeadsTo, OnlyReads, Tells};
+ghost use Rattle.pid_tables.specs.Answers.{value_row};
+ghost use Rattle.pid_tables.specs.Shows.{meta_of, counts_of};
 
 use crate::fault::TableFault;
-use crate::run::{read_inside, write_one};
+use crate::run::{read_inside, read_rows, write_one};
+use crate::value::number_at;
 use sqlite::types::ToSql;
-use sqlite::{Alter, Transaction};
+use sqlite::{Alter, Connection, Row, Transaction};
 
 /// Says how many items there are.
 pub(crate) fn count_items<S: Alter>(
@@ -53,4 +56,43 @@ pub(crate) fn touch<S: Alter>(tx: &mut Transaction<'_, S>) -> Result<(), TableFa
     let label = "schema".to_sql();
     read_inside(tx, "SELECT value FROM meta WHERE label = ?1", &[label])?;
     Ok(())
+}
+
+fn value_rows<S: Alter>(conn: &mut Connection<S>, label: &str) -> Result<Vec<Row>, TableFault>
+    requires { (state S.Store conn.old).in_transaction ≡ false }
+    ensures rests { OnlyReads (state S.Store conn.old) (state S.Store conn.new) }
+    ensures found { Tells (state S.Store conn.old) (state S.Store conn.new) result (λ v rows. slice_get rows.items 0 ≡ option_map value_row (meta_of (counts_of v) label.now)) }
+{
+    let label = label.to_sql();
+    read_rows(conn, "SELECT value FROM meta WHERE label = ?1", &[label])
+}
+
+fn count<S: Alter>(conn: &mut Connection<S>, label: &str) -> Result<u32, TableFault>
+    requires { (state S.Store conn.old).in_transaction ≡ false }
+    ensures rests { OnlyReads (state S.Store conn.old) (state S.Store conn.new) }
+    ensures found { Tells (state S.Store conn.old) (state S.Store conn.new) result (λ v n. Some n ≡ meta_of (counts_of v) label.now) }
+{
+    let rows = value_rows(conn, label)?;
+    match rows.first() {
+        Some(row) => number_at(row, 0),
+        None => Err(TableFault::Damaged),
+    }
+}
+
+/// How many items there are.
+pub(crate) fn items<S: Alter>(conn: &mut Connection<S>) -> Result<u32, TableFault>
+    requires { (state S.Store conn.old).in_transaction ≡ false }
+    ensures rests { OnlyReads (state S.Store conn.old) (state S.Store conn.new) }
+    ensures found { Tells (state S.Store conn.old) (state S.Store conn.new) result (λ v n. n ≡ length v.items) }
+{
+    count(conn, "items")
+}
+
+/// How many submissions there are.
+pub(crate) fn submissions<S: Alter>(conn: &mut Connection<S>) -> Result<u32, TableFault>
+    requires { (state S.Store conn.old).in_transaction ≡ false }
+    ensures rests { OnlyReads (state S.Store conn.old) (state S.Store conn.new) }
+    ensures found { Tells (state S.Store conn.old) (state S.Store conn.new) result (λ v n. n ≡ length v.submits) }
+{
+    count(conn, "submissions")
 }

@@ -1,20 +1,34 @@
 //! The table of submissions, each as it stands.
-ghost use Rattle.std.specs.Prelude.{◌≡◌, ◌+◌, length, [], IsSome, string_bytes};
+ghost use Rattle.std.specs.Prelude.{◌≡◌, ◌+◌, false, length, [], IfOk, IsSome, option_map, slice_get};
 ghost use Rattle.sqlite.specs.Held.{state as shown};
 ghost use Rattle.pid_ident.specs.PathTexts.{path_text};
 ghost use Rattle.pid_moderation.specs.Views.{submission_at};
 ghost use Rattle.pid_moderation.specs.declared.facts.State.TheVariants as states;
 ghost use Rattle.pid_tables.specs.TableRows.{form_of, name_of, state_number, decider_of, reason_of};
-ghost use Rattle.pid_tables.specs.Leaves.{GoesOn, LeadsTo};
+ghost use Rattle.pid_tables.specs.Leaves.{GoesOn, LeadsTo, OnlyReads, Tells};
+ghost use Rattle.pid_tables.specs.Answers.{standing_row};
+ghost use Rattle.pid_tables.specs.Shows.{AreViews, standing_in};
+ghost use Rattle.pid_tables.specs.Standings.{standing_of, ReadsTo};
 ghost use Rattle.pid_tables.specs.Writes.{with_submission, with_state, NamesDecider};
 
 use crate::fault::TableFault;
-use crate::run::write_one;
+use crate::run::{read_rows, write_one};
+use crate::value::{account_at, path_at, proposal_at, state_at, words_at};
 use pid_ident::{Account, Path, Text};
 use pid_moderation::{Proposal, State};
 use sqlite::types::ToSql;
-use sqlite::{Alter, Transaction};
+use sqlite::{Alter, Connection, Row, Transaction};
 use std::alloc::Global;
+
+/// A submission as it stands.
+#[derive(Debug, Drop)]
+pub struct Submission {
+    pub author: Account,
+    pub path: Path,
+    pub proposal: Proposal,
+    pub note: Text,
+    pub state: State,
+}
 
 fn form(proposal: &Proposal) -> u32
     ensures { result ≡ form_of proposal.now }
@@ -164,5 +178,52 @@ pub(crate) fn decide<S: Alter>(
         State::Pending => set_state(tx, number, state),
         State::Approved { .. } => set_state(tx, number, state),
         State::Rejected { .. } => set_state(tx, number, state),
+    }
+}
+
+fn submission_of(row: &Row, alloc: Global) -> Result<Submission, TableFault>
+    ensures { IfOk result (ReadsTo row.now) }
+{
+    let author = account_at(row, alloc, 0)?;
+    let path = path_at(row, 1)?;
+    let proposal = proposal_at(row, alloc, 2, 3)?;
+    let note = words_at(row, alloc, 4)?;
+    let state = state_at(row, alloc, &author)?;
+    Ok(Submission {
+        author,
+        path,
+        proposal,
+        note,
+        state,
+    })
+}
+
+fn submission_rows<S: Alter>(conn: &mut Connection<S>, number: u32) -> Result<Vec<Row>, TableFault>
+    requires { (shown S.Store conn.old).in_transaction ≡ false }
+    ensures rests { OnlyReads (shown S.Store conn.old) (shown S.Store conn.new) }
+    ensures found { Tells (shown S.Store conn.old) (shown S.Store conn.new) result (λ v rows. (slice_get rows.items 0 ≡ option_map standing_row (standing_in v number)) × AreViews v) }
+{
+    let number = number.to_sql();
+    read_rows(
+        conn,
+        "SELECT author, path, form, name, note, state, decider, reason FROM submission WHERE num = ?1",
+        &[number],
+    )
+}
+
+/// The submission with the number, as it stands.
+pub(crate) fn standing<S: Alter>(
+    conn: &mut Connection<S>,
+    alloc: Global,
+    number: u32,
+) -> Result<Option<Submission>, TableFault>
+    requires { (shown S.Store conn.old).in_transaction ≡ false }
+    ensures rests { OnlyReads (shown S.Store conn.old) (shown S.Store conn.new) }
+    ensures found { Tells (shown S.Store conn.old) (shown S.Store conn.new) result (λ v s. option_map standing_of s ≡ standing_in v number) }
+{
+    let rows = submission_rows(conn, number)?;
+    match rows.first() {
+        Some(row) => Ok(Some(submission_of(row, alloc)?)),
+        None => Ok(None),
     }
 }
