@@ -1,4 +1,4 @@
-mod Texts
+pub mod CreateTexts
 pub mod Statements
 pub mod Select
 pub mod ReadLemmas
@@ -18,3 +18,4 @@ pub mod ApplyLemmas
 pub mod FindLemmas
 pub mod DecodeLemmas
 pub mod PutLemmas
+pub mod CreateLemmas

@@ -3,6 +3,7 @@
 
 mod account;
 mod batch;
+mod create;
 mod fault;
 mod item;
 mod meta;
