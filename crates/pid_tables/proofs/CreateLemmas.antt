@@ -84,9 +84,9 @@ all_made db made = record {
 pub label_added : (old new : State) (m : Map (List ℕ) ℕ) (label : List ℕ) (value : ℕ) → HasOnlyMeta m old.now → m label ≡ None → Ran insert_meta (Text label ∷ number value ∷ []) old new → HasOnlyMeta (with_label label value m) new.now
 label_added old new m label value has none ran =
     let w = map_added meta_row by_first _ meta_found m label meta 0 refl meta_plain old new has.schema has.meta insert_meta pair_terms 3 insert_meta_is
-        (number value ∷ []) (Null ∷ Text label ∷ number value ∷ []) refl value
-        (λ rs. (next_rowid rs, ap (λ r. numbered Chosen rs (r ∷ [])) (meta_cast Null label value ∙ ap (λ x. x ∷ Text label ∷ number value ∷ []) cast_null)))
-        _ (text_set m label (Some value)) ran.0 none ran.1 in
+    (number value ∷ []) (Null ∷ Text label ∷ number value ∷ []) refl value
+    (λ rs. (next_rowid rs, ap (λ r. numbered Chosen rs (r ∷ [])) (meta_cast Null label value ∙ ap (λ x. x ∷ Text label ∷ number value ∷ []) cast_null)))
+    _ (text_set m label (Some value)) ran.0 none ran.1 in
     record {
       schema = w.schema;
       sound = w.sound;

@@ -42,16 +42,16 @@ begun_within g old v rest = record {
 }
 
 -- a commit that succeeds lets stand what the transaction showed, and a crash leaves nothing else
-pub stands : {S : Type 0} (g : Ghosts S) (old : State) (end : Held S) (v w : Views) → (IsTrue (state g end).is_open → HasCleanDisk (state g end))
+pub stands : {S : Type 0} (g : Ghosts S) (old : State) (end : Held S) (w : Views) → (IsTrue (state g end).is_open → HasCleanDisk (state g end))
     → ((db : Trees) → IsTrue (state g end).is_open → (state g end).may_leave db → db ≡ (g.view end.store).committed) → end.in_transaction ≡ false
-    → (HasCleanDisk (state g end) → Sees old (state g end) old.now old.now false) → Written (counts_of w) old v w → AtRest (state g end) w
-stands g old end v w law settled ended sees written = record {
+    → (HasCleanDisk (state g end) → Sees old (state g end) old.now old.now false) → (IsTrue old.is_open → Shows old.now w) → AtRest (state g end) w
+stands g old end w law settled ended sees shows = record {
   settled = ended;
   same = λ opened. let s = sees (law opened) in s.now_is ∙ sym s.committed_is;
-  shows = λ opened. let s = sees (law opened) in subst (λ d. Shows d w) (sym s.now_is) (written.within.shows s.was_open);
+  shows = λ opened. let s = sees (law opened) in subst (λ d. Shows d w) (sym s.now_is) (shows s.was_open);
   leaves = record {
     each = λ clean db may.
         let s = sees clean in
-        shows_found old.now w (written.within.shows s.was_open) db (settled db s.is_open may ∙ ap (λ (d : Database). d.trees) s.committed_is);
+        shows_found old.now w (shows s.was_open) db (settled db s.is_open may ∙ ap (λ (d : Database). d.trees) s.committed_is);
   };
 }

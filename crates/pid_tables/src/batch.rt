@@ -210,7 +210,7 @@ pub fn apply<S: Alter>(
 pub fn commit<S: Alter>(batch: Batch<'_, S>) -> Result<(), TableFault>
     ensures ended { batch.exit.0.now.in_transaction ≡ false }
     ensures survives { Survives (shown S.Store batch.entry.conn.now) (shown S.Store batch.exit.0.now) (λ db. db ≡ (shown S.Store batch.entry.conn.now).now.trees) }
-    ensures stands { (v w : Views) → Written (counts_of w) (shown S.Store batch.entry.conn.now) v w → OnOk result (AtRest (shown S.Store batch.exit.0.now) w) }
+    ensures stands { (w : Views) → (IsTrue (shown S.Store batch.entry.conn.now).is_open → Shows (shown S.Store batch.entry.conn.now).now w) → OnOk result (AtRest (shown S.Store batch.exit.0.now) w) }
     ensures either { (v w : Views) → Written (counts_of w) (shown S.Store batch.entry.conn.now) v w → LeavesEither (shown S.Store batch.exit.0.now) v w }
 {
     batch.commit()?;

@@ -3,7 +3,7 @@
 
 mod account;
 mod batch;
-mod create;
+mod creation;
 mod fault;
 mod item;
 mod meta;
@@ -15,6 +15,7 @@ mod submission;
 mod value;
 
 pub use batch::{Batch, apply, begin, commit, put, roll_back};
+pub use creation::create;
 pub use fault::TableFault;
 pub use putting::Put;
 pub use submission::Submission;

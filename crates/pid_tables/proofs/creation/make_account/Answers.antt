@@ -4,7 +4,7 @@ use Rattle.pid_tables.specs.Schema.{meta, account}
 use Rattle.pid_tables.proofs.CreateTexts.{create_account, account_creates}
 use Rattle.pid_tables.proofs.CreateLemmas.{one_more}
 use Rattle.pid_tables.proofs.ShowLemmas.{on_ok}
-use Rattle.pid_tables.proofs.create.make_account.Goals as goal
+use Rattle.pid_tables.proofs.creation.make_account.Goals as goal
 
 pub returns-clause-made : goal.returns-clause-made
 returns-clause-made g c clean inside made =

@@ -1,7 +1,7 @@
 use Rattle.sqlite.specs.Held.{state}
 use Rattle.pid_tables.proofs.CreateLemmas.{label_added}
 use Rattle.pid_tables.proofs.ShowLemmas.{on_ok}
-use Rattle.pid_tables.proofs.create.add_label.Goals as goal
+use Rattle.pid_tables.proofs.creation.add_label.Goals as goal
 
 pub returns-clause-added : goal.returns-clause-added
 returns-clause-added g c clean inside m has none =

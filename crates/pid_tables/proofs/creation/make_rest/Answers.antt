@@ -1,6 +1,6 @@
 use Rattle.sqlite.specs.Held.{state}
 use Rattle.pid_tables.proofs.GoingLemmas.{earlier}
-use Rattle.pid_tables.proofs.create.make_rest.Goals as goal
+use Rattle.pid_tables.proofs.creation.make_rest.Goals as goal
 
 pub returns-clause-made : goal.returns-clause-made
 returns-clause-made g c clean inside made =

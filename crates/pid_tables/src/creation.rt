@@ -7,7 +7,7 @@ ghost use Rattle.pid_tables.specs.Schema as tables;
 ghost use Rattle.pid_tables.specs.PairRows.{Map};
 ghost use Rattle.pid_tables.specs.Creation.{AreMade, HasOnlyMeta, with_label, IsBlank, LeavesBareOrNew};
 ghost use Rattle.pid_tables.specs.Leaves.{GoesOn, AtRest};
-ghost use Rattle.pid_tables.specs.Shows.{Shows};
+ghost use Rattle.pid_tables.specs.Shows.{Shows, meta_of};
 
 use crate::account::add_account;
 use crate::batch::commit;
@@ -126,4 +126,41 @@ fn add_label<S: Alter>(
         "INSERT INTO meta (label, value) VALUES (?1, ?2)",
         &[label, value],
     )
+}
+
+fn add_labels<S: Alter>(tx: &mut Transaction<'_, S>) -> Result<(), TableFault>
+    ensures same_reference { tx.new.conn.ghost_name ≡ tx.old.conn.ghost_name }
+    ensures goes { GoesOn (state S.Store tx.old.conn.now) (state S.Store tx.new.conn.now) result }
+    ensures added { HasCleanDisk (state S.Store tx.new.conn.now) → IsTrue (state S.Store tx.old.conn.now).in_transaction → HasOnlyMeta (λ _. None) (state S.Store tx.old.conn.now).now
+        → OnOk result (HasOnlyMeta (meta_of (record { items = 0; submissions = 0 })) (state S.Store tx.new.conn.now).now) }
+{
+    add_label(tx, "submissions", 0)?;
+    add_label(tx, "items", 0)?;
+    add_label(tx, "schema", 1)
+}
+
+fn fill<S: Alter>(tx: &mut Transaction<'_, S>) -> Result<(), TableFault>
+    ensures same_reference { tx.new.conn.ghost_name ≡ tx.old.conn.ghost_name }
+    ensures goes { GoesOn (state S.Store tx.old.conn.now) (state S.Store tx.new.conn.now) result }
+    ensures filled { HasCleanDisk (state S.Store tx.new.conn.now) → IsTrue (state S.Store tx.old.conn.now).in_transaction → AreMade [] (state S.Store tx.old.conn.now).now → OnOk result (Shows (state S.Store tx.new.conn.now).now (views_of [])) }
+{
+    make_first(tx)?;
+    make_rest(tx)?;
+    add_labels(tx)?;
+    add_account(tx, "root", Rank::Administrator)
+}
+
+/// Makes the tables of a new registry in a database that has none, in one transaction: `root` is an administrator, and
+/// there is nothing else.
+///
+/// Whatever it answers, a crash leaves a database without tables, or the new registry whole.
+pub fn create<S: Alter>(conn: &mut Connection<S>) -> Result<(), TableFault>
+    requires { (state S.Store conn.old).in_transaction ≡ false }
+    ensures settled { (state S.Store conn.new).in_transaction ≡ false }
+    ensures made { IsBlank (state S.Store conn.old) → OnOk result (AtRest (state S.Store conn.new) (views_of [])) }
+    ensures crash { IsBlank (state S.Store conn.old) → LeavesBareOrNew (state S.Store conn.new) }
+{
+    let mut batch = conn.transaction();
+    fill(&mut batch)?;
+    commit(batch)
 }
