@@ -12,6 +12,7 @@ mod receipt;
 mod remark;
 mod run;
 mod submission;
+mod tables;
 mod value;
 
 pub use batch::{Batch, apply, begin, commit, put, roll_back};
@@ -19,3 +20,7 @@ pub use creation::create;
 pub use fault::TableFault;
 pub use putting::Put;
 pub use submission::Submission;
+pub use tables::Tables;
+
+#[cfg(test)]
+mod tests;

@@ -96,3 +96,12 @@ pub(crate) fn submissions<S: Alter>(conn: &mut Connection<S>) -> Result<u32, Tab
 {
     count(conn, "submissions")
 }
+
+/// The number of the schema.
+pub(crate) fn schema_number<S: Alter>(conn: &mut Connection<S>) -> Result<u32, TableFault>
+    requires { (state S.Store conn.old).in_transaction ≡ false }
+    ensures rests { OnlyReads (state S.Store conn.old) (state S.Store conn.new) }
+    ensures found { Tells (state S.Store conn.old) (state S.Store conn.new) result (λ v n. n ≡ 1) }
+{
+    count(conn, "schema")
+}

@@ -49,3 +49,13 @@ pub(crate) fn read_rows<S: Alter>(
     let mut tx = conn.transaction();
     read_inside(&mut tx, sql, params)
 }
+
+/// Finds out whether the connection serves.
+pub(crate) fn look<S: Alter>(conn: &mut Connection<S>) -> Result<(), TableFault>
+    requires { (state S.Store conn.old).in_transaction ≡ false }
+    ensures rests { OnlyReads (state S.Store conn.old) (state S.Store conn.new) }
+    ensures was_open { HasCleanDisk (state S.Store conn.new) → OnOk result (IsTrue (state S.Store conn.old).is_open) }
+{
+    read_rows(conn, "SELECT 1", &[])?;
+    Ok(())
+}
