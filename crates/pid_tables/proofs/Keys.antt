@@ -48,7 +48,7 @@ both_decided p q (inl first) (inl second) = inl (λ i. (first i, second i))
 both_decided p q (inr first) other = inr (λ is. first (ap (λ x. x.0) is))
 both_decided p q (inl first) (inr second) = inr (λ is. second (ap (λ x. x.1) is))
 
-pos_same : (m n : ℕ) → pos m ≡ pos n → m ≡ n
+pub pos_same : (m n : ℕ) → pos m ≡ pos n → m ≡ n
 pos_same m n e = cc
 
 -- ---- what finds the row of a key

@@ -19,3 +19,5 @@ pub mod FindLemmas
 pub mod DecodeLemmas
 pub mod PutLemmas
 pub mod CreateLemmas
+pub mod FirstLemmas
+pub mod LastRemark

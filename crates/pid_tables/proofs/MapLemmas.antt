@@ -57,7 +57,7 @@ pub record Wrote {K V : Type 0} (row : ℤ → K → V → Row) (table : Table) 
   pub rows : RowsAre row m (new.now.trees table.tree)
   pub others : AllByRecursion (λ (t : Table). t.tree ≢ table.tree → new.now.trees t.tree ≡ old.now.trees t.tree) pid_schema.tables
 
-none_over : (db : Trees) (t : ℕ) → overlay db [] t ≡ db t
+pub none_over : (db : Trees) (t : ℕ) → overlay db [] t ≡ db t
 none_over db t = elim (nat_le (2 ^ 31) t) as (λ b. unwrap_or (cond b (slice_get [] (t - 2 ^ 31)) None) (db t) ≡ db t) [ true ↦ refl | false ↦ refl ]
 
 module _ {K V : Type 0} (row : ℤ → K → V → Row) (tests : List Term) (given : K → Row) (it : Finds row tests given) (m : Map K V) (key : K) where
