@@ -21,3 +21,5 @@ pub mod PutLemmas
 pub mod CreateLemmas
 pub mod FirstLemmas
 pub mod LastRemark
+pub mod RangeLemmas
+pub mod ChildLemmas
