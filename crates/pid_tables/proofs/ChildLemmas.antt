@@ -1,6 +1,7 @@
 -- Paths below a path lie between two texts.
 use Rattle.std.proofs.Common.{◌≡◌, ◌⊎◌, inl, inr, ℕ, zero, suc, ◌+◌, List, [], ◌∷◌, ◌++◌, length, take, drop, codes, None, Some, Option, refl, sym, ap, subst, ◌∙◌, arith, ◌<◌, Bool, true, false, Ordering, Less, Equal, Greater}
-use Rattle.std.specs.Prelude.{is_some}
+use Rattle.std.specs.Prelude.{is_some, ◌||◌, ◌/◌, ◌%◌}
+use Rattle.std.specs.Char.{digit_char}
 use Rattle.std.specs.Ordering.{nat_cmp, ordering_then, is_lt}
 use Rattle.std.specs.Cmp.Lexicographic.{slice_cmp}
 use Rattle.std.specs.FinMap.{nat_cmp-IsAntisymmetric}
@@ -13,10 +14,11 @@ use Rattle.pid_ident.specs.Trees.{text_cmp}
 use Rattle.pid_ident.specs.PathTexts.{IsPath, IsTextOf}
 use Rattle.pid_moderation.specs.Items.{Items, name_at, holds_parent, is_parent, has_children}
 use Rattle.pid_moderation.specs.WellMade.{AllItems, HoldsParents}
-use Rattle.pid_tables.specs.Ranges.{is_between, holds_between}
+use Rattle.pid_tables.specs.Ranges.{is_between, holds_between, generics_of}
 use Rattle.pid_tables.proofs.RangeLemmas.{any_there, any_found, found_in, found_at}
 use Rattle.pid_ident.specs.declared.path.Path.{Path}
 use Rattle.pid_ident.specs.declared.path.Path.TheVariants.{Vendor, Device, Subsystem, Class, Subclass, ProgIf, Generic}
+use Rattle.pid_ident.specs.Identifiers.{hex4, hex2}
 use Rattle.pid_ident.specs.PathTexts.{path_text}
 use Rattle.pid_moderation.specs.Items.{parent_text}
 
@@ -108,10 +110,6 @@ below (Generic a b) (Subclass e f) t is x xs split = absurd (let e = ap second (
 below (Generic a b) (ProgIf e f g) t is x xs split = absurd (let e = ap second (sym is ∙ split) in omega arith)
 below (Generic a b) (Generic e f) t is x xs split = absurd (let e = ap length (sym is ∙ split) in omega arith)
 
--- the text behind which the generic subsystems of a vendor stand: PS/8086 for PC/8086
-abbrev pub generics_of : List ℕ → List ℕ
-generics_of text = codes "PS" ++ drop 2 text
-
 pub below_generics : (a : ℕ) (q : Path) (t : List ℕ) → t ≡ path_text q → (x : ℕ) (xs : List ℕ) → t ≡ generics_of (path_text (Vendor a)) ++ 47 ∷ x ∷ xs → parent_text t ≡ Some (path_text (Vendor a))
 unfolding second
 below_generics a (Vendor e) t is x xs split = absurd (let e = ap second (sym is ∙ split) in omega arith)
@@ -153,9 +151,9 @@ prefixed [] (y ∷ ys) low high = elim (then_less (nat_cmp y 48) (slice_cmp nat_
   | inl less ↦ elim (then_less (nat_cmp 47 y) (slice_cmp nat_cmp [] ys) low) [
     | inl above ↦ absurd (let a = less_is 47 y above in let b = less_is y 48 less in omega arith)
     | inr tie ↦
-      let same : 47 ≡ y = nat_cmp-IsAntisymmetric 47 y tie.0 in
-      let more = empty_first ys tie.1 in
-      (more.0, more.1, λ i. sym same i ∷ more.2 i)
+        let same : 47 ≡ y = nat_cmp-IsAntisymmetric 47 y tie.0 in
+        let more = empty_first ys tie.1 in
+        (more.0, more.1, λ i. sym same i ∷ more.2 i)
   ]
 ]
 prefixed (a ∷ p) [] low high = absurd (let bad : ⊥ = cc in bad)
@@ -167,9 +165,9 @@ prefixed (a ∷ p) (y ∷ ys) low high = elim (then_less (nat_cmp a y) _ low) [
   | inr tie ↦ elim (then_less (nat_cmp y a) _ high) [
     | inl back ↦ absurd (let same = nat_cmp-IsAntisymmetric a y tie.0 in let lt = less_is y a back in omega arith)
     | inr other ↦
-      let same = nat_cmp-IsAntisymmetric a y tie.0 in
-      let more = prefixed p ys tie.1 other.1 in
-      (more.0, more.1, λ i. sym same i ∷ more.2 i)
+        let same = nat_cmp-IsAntisymmetric a y tie.0 in
+        let more = prefixed p ys tie.1 other.1 in
+        (more.0, more.1, λ i. sym same i ∷ more.2 i)
   ]
 ]
 
@@ -212,9 +210,9 @@ module _ (items : Items) (sorted : is_sorted text_cmp items ≡ true) (all : All
       elim (below p q.0 e.0 q.1.same split.0 split.1 split.2) [
         | inl child ↦ by_child (path_text p) e found.1 child
         | inr deeper ↦
-          let held : holds_parent (parent_text e.0) items ≡ true = parents.parents e.0 (ap is_some (found_at items e sorted found.1)) in
-          let there = some_name (name_at deeper.0 items) (sym (ap (λ o. holds_parent o items) deeper.1) ∙ held) in
-          by_child (path_text p) (deeper.0, there.0) (found_in deeper.0 there.0 items there.1) deeper.2
+            let held : holds_parent (parent_text e.0) items ≡ true = parents.parents e.0 (ap is_some (found_at items e sorted found.1)) in
+            let there = some_name (name_at deeper.0 items) (sym (ap (λ o. holds_parent o items) deeper.1) ∙ held) in
+            by_child (path_text p) (deeper.0, there.0) (found_in deeper.0 there.0 items there.1) deeper.2
       ]
 
   pub generic_below : (a : ℕ) → holds_between (generics_of (path_text (Vendor a)) ++ 47 ∷ []) (generics_of (path_text (Vendor a)) ++ 48 ∷ []) items ≡ true → has_children (path_text (Vendor a)) items ≡ true
@@ -226,3 +224,73 @@ module _ (items : Items) (sorted : is_sorted text_cmp items ≡ true) (all : All
       let split = prefixed s e.0 inside.0 inside.1 in
       let q = item_path items e all found.1 in
       by_child (path_text (Vendor a)) e found.1 (below_generics a q.0 e.0 q.1.same split.0 split.1 split.2)
+
+-- a child stands behind its parent, or is a generic subsystem of a vendor
+stands : (p q : Path) (t : List ℕ) → t ≡ path_text q → is_parent (path_text p) (parent_text t) ≡ true
+    → (is_between (path_text p ++ 47 ∷ []) (path_text p ++ 48 ∷ []) t ≡ true)
+    ⊎ ((v : ℕ) × (path_text p ≡ path_text (Vendor v)) × (is_between (generics_of (path_text p) ++ 47 ∷ []) (generics_of (path_text p) ++ 48 ∷ []) t ≡ true))
+stands p q t = at q
+  where
+    at : (q : Path) → t ≡ path_text q → is_parent (path_text p) (parent_text t) ≡ true
+        → (is_between (path_text p ++ 47 ∷ []) (path_text p ++ 48 ∷ []) t ≡ true)
+        ⊎ ((v : ℕ) × (path_text p ≡ path_text (Vendor v)) × (is_between (generics_of (path_text p) ++ 47 ∷ []) (generics_of (path_text p) ++ 48 ∷ []) t ≡ true))
+    at (Vendor e) is told = absurd (let bad : ⊥ = let e = sym (ap (λ t. is_parent (path_text p) (parent_text t)) is) ∙ told in cc in bad)
+    at (Device e f) is told = let same = (bytes_eq-Decides (path_text p) (path_text (Vendor e))).0 (sym (ap (λ t. is_parent (path_text p) (parent_text t)) is) ∙ told) in
+        inl (lies_between (path_text p) t _ _ (is ∙ ap (λ s. s ++ 47 ∷ hex4 f) (sym same)))
+    at (Subsystem e f g h) is told = let same = (bytes_eq-Decides (path_text p) (path_text (Device e f))).0 (sym (ap (λ t. is_parent (path_text p) (parent_text t)) is) ∙ told) in
+        inl (lies_between (path_text p) t (digit_char (g / 4096 % 16)) (digit_char (g / 256 % 16) ∷ digit_char (g / 16 % 16) ∷ digit_char (g % 16) ∷ digit_char (h / 4096 % 16) ∷ digit_char (h / 256 % 16) ∷ digit_char (h / 16 % 16) ∷ digit_char (h % 16) ∷ []) (is ∙ ap (λ s. s ++ 47 ∷ digit_char (g / 4096 % 16) ∷ digit_char (g / 256 % 16) ∷ digit_char (g / 16 % 16) ∷ digit_char (g % 16) ∷ digit_char (h / 4096 % 16) ∷ digit_char (h / 256 % 16) ∷ digit_char (h / 16 % 16) ∷ digit_char (h % 16) ∷ []) (sym same)))
+    at (Class e) is told = absurd (let bad : ⊥ = let e = sym (ap (λ t. is_parent (path_text p) (parent_text t)) is) ∙ told in cc in bad)
+    at (Subclass e f) is told = let same = (bytes_eq-Decides (path_text p) (path_text (Class e))).0 (sym (ap (λ t. is_parent (path_text p) (parent_text t)) is) ∙ told) in
+        inl (lies_between (path_text p) t _ _ (is ∙ ap (λ s. s ++ 47 ∷ hex2 f) (sym same)))
+    at (ProgIf e f g) is told = let same = (bytes_eq-Decides (path_text p) (path_text (Subclass e f))).0 (sym (ap (λ t. is_parent (path_text p) (parent_text t)) is) ∙ told) in
+        inl (lies_between (path_text p) t _ _ (is ∙ ap (λ s. s ++ 47 ∷ hex2 g) (sym same)))
+    at (Generic e f) is told = let same = (bytes_eq-Decides (path_text p) (path_text (Vendor e))).0 (sym (ap (λ t. is_parent (path_text p) (parent_text t)) is) ∙ told) in
+        inr (e, same, lies_between (generics_of (path_text p)) t _ _ (is ∙ ap (λ s. generics_of s ++ 47 ∷ hex4 f) (sym same)))
+
+module _ (items : Items) (sorted : is_sorted text_cmp items ≡ true) (all : AllItems items) (parents : HoldsParents items) where
+  stand_of : (p : Path) → has_children (path_text p) items ≡ true
+      → (holds_between (path_text p ++ 47 ∷ []) (path_text p ++ 48 ∷ []) items ≡ true)
+      ⊎ ((v : ℕ) × (path_text p ≡ path_text (Vendor v)) × (holds_between (generics_of (path_text p) ++ 47 ∷ []) (generics_of (path_text p) ++ 48 ∷ []) items ≡ true))
+  stand_of p h =
+      let found = any_found (λ e. is_parent (path_text p) (parent_text e.0)) items h in
+      let e = found.0 in
+      let q = item_path items e all found.1 in
+      elim (stands p q.0 e.0 q.1.same found.2) [
+        | inl there ↦ inl (any_there (λ e. is_between (path_text p ++ 47 ∷ []) (path_text p ++ 48 ∷ []) e.0) items e found.1 there)
+        | inr generic ↦ inr (generic.0, generic.1, any_there (λ e. is_between (generics_of (path_text p) ++ 47 ∷ []) (generics_of (path_text p) ++ 48 ∷ []) e.0) items e found.1 generic.2)
+      ]
+
+  same_truth : (a b : Bool) → (a ≡ true → b ≡ true) → (b ≡ true → a ≡ true) → a ≡ b
+  same_truth true b f g = sym (f refl)
+  same_truth false true f g = g refl
+  same_truth false false f g = refl
+
+  or_true : (a b : Bool) → (a ≡ true) ⊎ (b ≡ true) → (a || b) ≡ true
+  or_true true b h = refl
+  or_true false b (inl h) = absurd (let bad : ⊥ = cc in bad)
+  or_true false b (inr h) = h
+
+  or_parts : (a b : Bool) → (a || b) ≡ true → (a ≡ true) ⊎ (b ≡ true)
+  or_parts true b h = inl refl
+  or_parts false b h = inr h
+
+  -- of a vendor, by two ranges
+  pub vendor_children : (a : ℕ) → (holds_between (path_text (Vendor a) ++ 47 ∷ []) (path_text (Vendor a) ++ 48 ∷ []) items || holds_between (generics_of (path_text (Vendor a)) ++ 47 ∷ []) (generics_of (path_text (Vendor a)) ++ 48 ∷ []) items)
+      ≡ has_children (path_text (Vendor a)) items
+  vendor_children a = same_truth _ _
+      (λ h. elim (or_parts _ _ h) [ inl one ↦ child_below items sorted all parents (Vendor a) one | inr other ↦ generic_below items sorted all parents a other ])
+      (λ h. or_true _ _ (elim (stand_of (Vendor a) h) [ inl one ↦ inl one | inr other ↦ inr other.2 ]))
+
+  -- of another path, by one
+  pub other_children : (p : Path) → (length (path_text p) ≡ 7 → ⊥) → holds_between (path_text p ++ 47 ∷ []) (path_text p ++ 48 ∷ []) items ≡ has_children (path_text p) items
+  other_children p other = same_truth _ _ (child_below items sorted all parents p)
+      (λ h. elim (stand_of p h) [ inl one ↦ one | inr generic ↦ absurd (other (ap length generic.1)) ])
+
+  pub is_no_vendor : (p : Path) → ((v : ℕ) → p ≡ Vendor v → ⊥) → length (path_text p) ≡ 7 → ⊥
+  is_no_vendor (Vendor v) no_vendor len = no_vendor v refl
+  is_no_vendor (Device a b) no_vendor len = omega (arith, len)
+  is_no_vendor (Subsystem a b c d) no_vendor len = omega (arith, len)
+  is_no_vendor (Class a) no_vendor len = omega (arith, len)
+  is_no_vendor (Subclass a b) no_vendor len = omega (arith, len)
+  is_no_vendor (ProgIf a b c) no_vendor len = omega (arith, len)
+  is_no_vendor (Generic a b) no_vendor len = omega (arith, len)

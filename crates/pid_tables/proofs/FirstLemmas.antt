@@ -70,7 +70,7 @@ module _ (tree : ℕ) (tests project : List Term) (order : List (Term × Key)) (
   outs_are [] = refl
   outs_are (r ∷ rows) =
       elim (list_all (holds (params ∷ r ∷ [])) tests) as (λ b. map (output q) (cond b ((params ∷ r ∷ []) ∷ []) [] ++ flat_map (λ r. cond (list_all (holds (params ∷ r ∷ [])) tests) ((params ∷ r ∷ []) ∷ []) []) rows)
-          ≡ map out (cond b (r ∷ passing tests params rows) (passing tests params rows)))
+      ≡ map out (cond b (r ∷ passing tests params rows) (passing tests params rows)))
       [ true ↦ ap (λ xs. out r ∷ xs) (outs_are rows) | false ↦ outs_are rows ]
 
   -- there is none, or it is one that no other comes before

@@ -106,13 +106,13 @@ module _ (old new : State) (c : Counts) (v : Views) (shows : ShowsCounting c old
       (first_found 7 by_first (col 1 2 ∷ []) falling params (overlay old.now.trees []) answer a)) [
         | inl none ↦ inl (none.0, empty last refl none.1)
         | inr first ↦
-          let it = passes_as first.row first.there in
-          let within = place_within (v.remarks n) it.1 it.2 it.4 in
-          let top = last_there (v.remarks n) (omega (arith, within.0, within.1)) in
-          let there = has_place last top.0 top.1 in
-          let least = first.least (remark_row there.0 (n, last) top.0) there.1 in
-          let above : last ≤ it.1 = at_most last it.1 (unwound _ (rw it.3 at least)) in
-          inr (first.is ∙ ap (λ r. shown (col 1 2 ∷ []) params r ∷ []) it.3 ∙ ap (λ s. (number s ∷ []) ∷ []) (same_place it.1 last within.1 above))
+            let it = passes_as first.row first.there in
+            let within = place_within (v.remarks n) it.1 it.2 it.4 in
+            let top = last_there (v.remarks n) (omega (arith, within.0, within.1)) in
+            let there = has_place last top.0 top.1 in
+            let least = first.least (remark_row there.0 (n, last) top.0) there.1 in
+            let above : last ≤ it.1 = at_most last it.1 (unwound _ (rw it.3 at least)) in
+            inr (first.is ∙ ap (λ r. shown (col 1 2 ∷ []) params r ∷ []) it.3 ∙ ap (λ s. (number s ∷ []) ∷ []) (same_place it.1 last within.1 above))
       ]
     where
       empty : (l : ℕ) → last ≡ l → ((r : Row) → Has (passing by_first params rows) r → ⊥) → l ≡ 0

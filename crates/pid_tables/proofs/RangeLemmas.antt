@@ -147,9 +147,9 @@ module _ (old new : State) (c : Counts) (v : Views) (shows : ShowsCounting c old
   none_in : ((r : Row) → Has (passing in_range (Text low ∷ Text high ∷ []) rows) r → ⊥) → holds_between low high v.items ≡ false
   none_in none = elim (cases_Bool (holds_between low high v.items)) [
     | inl some ↦
-      let e = any_found (λ e. is_between low high e.0) v.items some in
-      let pair = shows.items.complete e.0.0 e.0.1 (found_at v.items e.0 shows.views.sorted e.1) in
-      absurd (none _ (has_kept _ rows (item_row pair.0 e.0.0 e.0.1) pair.1 (hits_between low high pair.0 e.0.0 e.0.1 ∙ e.2)))
+        let e = any_found (λ e. is_between low high e.0) v.items some in
+        let pair = shows.items.complete e.0.0 e.0.1 (found_at v.items e.0 shows.views.sorted e.1) in
+        absurd (none _ (has_kept _ rows (item_row pair.0 e.0.0 e.0.1) pair.1 (hits_between low high pair.0 e.0.0 e.0.1 ∙ e.2)))
     | inr none_there ↦ none_there
   ]
 
