@@ -5,6 +5,7 @@ mod account;
 mod batch;
 mod creation;
 mod fault;
+mod gather;
 mod item;
 mod meta;
 mod putting;

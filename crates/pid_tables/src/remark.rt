@@ -1,14 +1,16 @@
 //! The table of remarks on submissions.
-ghost use Rattle.std.specs.Prelude.{◌≡◌, ◌+◌, length};
+ghost use Rattle.std.specs.Prelude.{◌≡◌, ◌⊎◌, ◌+◌, [], ◌∷◌, false, length};
 ghost use Rattle.sqlite.specs.Held.{state};
-ghost use Rattle.pid_tables.specs.Leaves.{GoesOn, LeadsTo};
+ghost use Rattle.pid_tables.specs.Leaves.{GoesOn, LeadsTo, OnlyReads, Tells};
+ghost use Rattle.pid_tables.specs.Answers.{value_row};
 ghost use Rattle.pid_tables.specs.Writes.{with_remark};
 
 use crate::fault::TableFault;
-use crate::run::write_one;
+use crate::run::{read_rows, write_one};
+use crate::value::number_at;
 use pid_ident::{Account, Text};
 use sqlite::types::ToSql;
-use sqlite::{Alter, Transaction};
+use sqlite::{Alter, Connection, Row, Transaction};
 
 /// Adds a remark behind the last one on its submission.
 pub(crate) fn add_remark<S: Alter>(
@@ -32,4 +34,33 @@ pub(crate) fn add_remark<S: Alter>(
         "INSERT INTO remark (num, seq, author, body) VALUES (?1, ?2, ?3, ?4)",
         &[number, place, author, text],
     )
+}
+
+fn place_rows<S: Alter>(conn: &mut Connection<S>, number: u32) -> Result<Vec<Row>, TableFault>
+    requires { (state S.Store conn.old).in_transaction ≡ false }
+    ensures rests { OnlyReads (state S.Store conn.old) (state S.Store conn.new) }
+    ensures found { Tells (state S.Store conn.old) (state S.Store conn.new) result (λ v rows. ((rows.items ≡ []) × (length (v.remarks number) ≡ 0)) ⊎ (rows.items ≡ value_row (length (v.remarks number)) ∷ [])) }
+{
+    let number = number.to_sql();
+    read_rows(
+        conn,
+        "SELECT seq FROM remark WHERE num = ?1 ORDER BY seq DESC LIMIT 1",
+        &[number],
+    )
+}
+
+/// How many remarks there are on a submission: the place of the last one.
+pub(crate) fn remark_count<S: Alter>(
+    conn: &mut Connection<S>,
+    number: u32,
+) -> Result<u32, TableFault>
+    requires { (state S.Store conn.old).in_transaction ≡ false }
+    ensures rests { OnlyReads (state S.Store conn.old) (state S.Store conn.new) }
+    ensures found { Tells (state S.Store conn.old) (state S.Store conn.new) result (λ v count. count ≡ length (v.remarks number)) }
+{
+    let rows = place_rows(conn, number)?;
+    match rows.first() {
+        Some(row) => number_at(row, 0),
+        None => Ok(0),
+    }
 }
