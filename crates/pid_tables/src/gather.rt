@@ -181,3 +181,39 @@ fn with_item<S: Alter>(
         Some(named) => with_named(conn, alloc, named, facts),
     }
 }
+
+/// The facts that a command of the account under the key is judged by, as far as it names rows; its file, if any, comes to
+/// the verdict.
+pub(crate) fn gather_facts<S: Alter>(
+    conn: &mut Connection<S>,
+    alloc: Global,
+    account: &Account,
+    key: &Option<Key>,
+    rows: Rows<'_>,
+    file: Verdict,
+) -> Result<Facts, TableFault>
+    requires { (state S.Store conn.old).in_transaction ≡ false }
+    ensures rests { OnlyReads (state S.Store conn.old) (state S.Store conn.new) }
+    ensures found { Tells (state S.Store conn.old) (state S.Store conn.new) result (λ v facts. AllItems v.items → HoldsParents v.items → facts ≡ facts_at v file account.now key.now (wanted_by rows.entry)) }
+{
+    let mut facts = known(conn, account, key)?;
+    match rows {
+        Rows::Rank(who) => {
+            facts.who = rank(conn, who.as_str())?;
+            Ok(facts)
+        }
+        Rows::Submissions => {
+            facts.submissions = submissions(conn)?;
+            Ok(facts)
+        }
+        Rows::Submission(number) => {
+            facts.named = named(conn, alloc, number)?;
+            Ok(facts)
+        }
+        Rows::Item(number) => with_item(conn, alloc, number, facts),
+        Rows::File => {
+            facts.file = file;
+            Ok(facts)
+        }
+    }
+}

@@ -3,7 +3,10 @@ ghost use Rattle.std.specs.Prelude.{◌≡◌, ◌↔◌, [], false, length, IfO
 ghost use Rattle.sqlite.specs.Held.{state};
 ghost use Rattle.sqlite.specs.State.{HasCleanDisk};
 ghost use Rattle.pid_ident.specs.PathTexts.{path_text};
+ghost use Rattle.pid_moderation.specs.FactsOfViews.{facts_at};
 ghost use Rattle.pid_moderation.specs.Items.{name_at};
+ghost use Rattle.pid_moderation.specs.Wants.{wanted_by};
+ghost use Rattle.pid_moderation.specs.WellMade.{AllItems, HoldsParents};
 ghost use Rattle.pid_tables.specs.Creation.{IsBlank};
 ghost use Rattle.pid_tables.specs.Leaves.{OnlyReads, Tells};
 ghost use Rattle.pid_tables.specs.Shows.{standing_in};
@@ -11,13 +14,14 @@ ghost use Rattle.pid_tables.specs.Standings.{standing_of};
 
 use crate::account::rank;
 use crate::fault::TableFault;
+use crate::gather::gather_facts;
 use crate::item::item_name;
 use crate::meta::{items, schema_number, submissions};
 use crate::receipt::kept_reply;
 use crate::run::look;
 use crate::submission::{Submission, standing};
 use pid_ident::{Account, Key, Name, Path};
-use pid_moderation::{Rank, Reply};
+use pid_moderation::{Facts, Rank, Reply, Rows, Verdict};
 use sqlite::{Alter, Connection};
 use std::alloc::Global;
 
@@ -100,6 +104,25 @@ impl<S: Alter + Drop> Tables<S> {
         ensures told { Tells (state S.Store self.old.conn) (state S.Store self.new.conn) result (λ v n. n ≡ length v.submits) }
     {
         submissions(&mut self.conn)
+    }
+
+    /// The facts that a command of the account under the key is judged by: what `rows` names, as `needs` answers it, and no
+    /// more. Its file, if any, comes to `file`.
+    ///
+    /// It holds of views whose items are a tree, as those of every history are.
+    pub fn gather(
+        &mut self,
+        alloc: Global,
+        account: &Account,
+        key: &Option<Key>,
+        rows: Rows<'_>,
+        file: Verdict,
+    ) -> Result<Facts, TableFault>
+        requires { (state S.Store self.old.conn).in_transaction ≡ false }
+        ensures rests { OnlyReads (state S.Store self.old.conn) (state S.Store self.new.conn) }
+        ensures told { Tells (state S.Store self.old.conn) (state S.Store self.new.conn) result (λ v facts. AllItems v.items → HoldsParents v.items → facts ≡ facts_at v file account.now key.now (wanted_by rows.entry)) }
+    {
+        gather_facts(&mut self.conn, alloc, account, key, rows, file)
     }
 
     /// The number of the schema, and 0 where there is no table.
