@@ -1,0 +1,10 @@
+use Rattle.sqlite.specs.Held.{state}
+use Rattle.sqlite.proofs.StateLemmas.{clean_if_open}
+use Rattle.pid_tables.proofs.LeaveLemmas.{stands}
+use Rattle.pid_tables.proofs.batch.commit.Goals as goal
+
+pub returns-clause-stands : goal.returns-clause-stands
+returns-clause-stands g c w shows =
+    let end = c.commit.new.self.0 in
+    stands g.S.Store (state g.S.Store c.args.batch.conn.now) end w (clean_if_open (g.S.Store.view end.store) (g.met.S.Store.shut_if_dirty end.store)) (g.met.S.Store.settled end.store) c.commit.ensures.ended
+    (λ clean. (c.in_ok-commit.ensures.ok clean).1) shows

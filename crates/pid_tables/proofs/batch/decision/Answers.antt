@@ -1,0 +1,13 @@
+use Rattle.std.proofs.Common.{arith}
+use Rattle.sqlite.specs.Held.{state}
+use Rattle.sqlite.specs.State.{HasCleanDisk}
+use Rattle.pid_tables.proofs.batch.decision.Goals as goal
+
+pub returns-in-None-clause-shows : goal.returns-in-None-clause-shows
+returns-in-None-clause-shows g c = rw c.in-None.is (λ clean inside counts v shows fits. c.in_ok-decide.ensures.shows clean inside counts v shows fits.0)
+
+pub returns-in-Some-clause-shows : goal.returns-in-Some-clause-shows
+returns-in-Some-clause-shows g c = rw c.in-Some.is (λ clean inside counts v shows fits.
+    let early : HasCleanDisk (state g.S.Store c.decide.new.tx.conn.now) = omega (arith, c.write_item.ensures.goes.survives.clean) in
+    let first = c.in_ok-decide.ensures in
+    c.write_item.ensures.shows clean (first.goes.going early inside).1 counts _ (first.shows early inside counts v shows fits.0) fits.1.1)

@@ -1,0 +1,15 @@
+use Rattle.std.proofs.Common.{None, refl, codes}
+use Rattle.sqlite.specs.Held.{state}
+use Rattle.pid_tables.specs.Creation.{with_label}
+use Rattle.pid_tables.proofs.GoingLemmas.{earlier}
+use Rattle.pid_tables.proofs.creation.add_labels.Goals as goal
+
+pub returns-clause-added : goal.returns-clause-added
+returns-clause-added g c clean inside has =
+    let second = earlier (state g.S.Store c.add_label-2.new.tx.conn.now) (state g.S.Store c.add_label-3.new.tx.conn.now) c.add_label-3.ensures.goes.survives clean in
+    let first = earlier (state g.S.Store c.add_label.new.tx.conn.now) (state g.S.Store c.add_label-2.new.tx.conn.now) c.add_label-2.ensures.goes.survives second in
+    let one = c.in_ok-add_label.ensures in
+    let two = c.in_ok-add_label-2.ensures in
+    let within = (one.goes.going first inside).1 in
+    let m = with_label (codes "submissions") 0 (λ _. None) in
+    c.add_label-3.ensures.added clean (two.goes.going second within).1 (with_label (codes "items") 0 m) (two.added second within m (one.added first inside (λ _. None) has refl) refl) refl

@@ -1,0 +1,12 @@
+use Rattle.sqlite.specs.Held.{state}
+use Rattle.pid_tables.proofs.GoingLemmas.{earlier}
+use Rattle.pid_tables.proofs.creation.make_first.Goals as goal
+
+pub returns-clause-made : goal.returns-clause-made
+returns-clause-made g c clean inside made =
+    let second = earlier (state g.S.Store c.make_account.new.tx.conn.now) (state g.S.Store c.make_item.new.tx.conn.now) c.make_item.ensures.goes.survives clean in
+    let first = earlier (state g.S.Store c.make_meta.new.tx.conn.now) (state g.S.Store c.make_account.new.tx.conn.now) c.make_account.ensures.goes.survives second in
+    let one = c.in_ok-make_meta.ensures in
+    let two = c.in_ok-make_account.ensures in
+    let within = (one.goes.going first inside).1 in
+    c.make_item.ensures.made clean (two.goes.going second within).1 (two.made second within (one.made first inside made))

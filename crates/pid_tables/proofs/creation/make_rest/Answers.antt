@@ -1,0 +1,12 @@
+use Rattle.sqlite.specs.Held.{state}
+use Rattle.pid_tables.proofs.GoingLemmas.{earlier}
+use Rattle.pid_tables.proofs.creation.make_rest.Goals as goal
+
+pub returns-clause-made : goal.returns-clause-made
+returns-clause-made g c clean inside made =
+    let second = earlier (state g.S.Store c.make_remark.new.tx.conn.now) (state g.S.Store c.make_receipt.new.tx.conn.now) c.make_receipt.ensures.goes.survives clean in
+    let first = earlier (state g.S.Store c.make_submission.new.tx.conn.now) (state g.S.Store c.make_remark.new.tx.conn.now) c.make_remark.ensures.goes.survives second in
+    let one = c.in_ok-make_submission.ensures in
+    let two = c.in_ok-make_remark.ensures in
+    let within = (one.goes.going first inside).1 in
+    c.make_receipt.ensures.made clean (two.goes.going second within).1 (two.made second within (one.made first inside made))

@@ -1,0 +1,227 @@
+//! One transaction on the tables, which writes a whole change.
+ghost use Rattle.std.specs.Prelude.{◌≡◌, ◌+◌, ℕ, true, false, length, is_none, is_some, IsSome, IsTrue, IfOk, OnOk};
+ghost use Rattle.sqlite.specs.Held.{state as shown};
+ghost use Rattle.sqlite.specs.State.{HasCleanDisk, Survives};
+ghost use Rattle.pid_ident.specs.PathTexts.{path_text};
+ghost use Rattle.pid_moderation.specs.Items.{name_at};
+ghost use Rattle.pid_moderation.specs.Views.{Views, submission_at};
+ghost use Rattle.pid_moderation.specs.Changes.{edited, affected, changed, write as written, FitsEdit, FitsEffect, FitsWrite, FitsReceipt, keeping, Fits};
+ghost use Rattle.pid_tables.specs.Shows.{Counts, ShowsCounting, Shows, counts_of};
+ghost use Rattle.pid_tables.specs.Leaves.{AtRest, Holds, Within, Written, LeavesEither, GoesOn, LeadsTo};
+ghost use Rattle.pid_tables.specs.Writes.{with_rank, with_name, with_submission, with_state};
+ghost use Rattle.pid_tables.specs.Puts.{put_over};
+ghost use Rattle.pid_tables.specs.Applies.{IsCounted, recounted};
+
+use crate::account::{add_account, change_rank};
+use crate::fault::TableFault;
+use crate::item::{add_item, remove_item, rename_item};
+use crate::meta::{count_items, count_submissions, touch};
+use crate::putting::{Put, put_text};
+use crate::receipt::keep_reply;
+use crate::remark::add_remark;
+use crate::submission::{add_submission, decide};
+use pid_ident::{Account, Path, Text};
+use pid_moderation::{Change, Edit, Effect, Proposal, Rank, Receipt, State, Write};
+use sqlite::{Alter, Connection, Transaction};
+use std::alloc::Global;
+
+/// One transaction on the tables. Where it is dropped before its commit, nothing of it stays.
+pub type Batch<'t, S> = Transaction<'t, S>;
+
+fn set_rank<S: Alter>(
+    batch: &mut Batch<'_, S>,
+    who: &Account,
+    rank: Rank,
+    is_new: bool,
+) -> Result<(), TableFault>
+    ensures same_reference { batch.new.conn.ghost_name ≡ batch.old.conn.ghost_name }
+    ensures goes { GoesOn (shown S.Store batch.old.conn.now) (shown S.Store batch.new.conn.now) result }
+    ensures shows { LeadsTo (shown S.Store batch.old.conn.now) (shown S.Store batch.new.conn.now) result (λ c v. is_new ≡ is_none (v.rank who.now)) (λ c. c) (with_rank who.now rank) }
+{
+    if is_new {
+        add_account(batch, who.as_str(), rank)
+    } else {
+        change_rank(batch, who.as_str(), rank)
+    }
+}
+
+fn submit<S: Alter>(
+    batch: &mut Batch<'_, S>,
+    alloc: Global,
+    number: u32,
+    author: &Account,
+    path: Path,
+    proposal: &Proposal,
+    note: &Text,
+) -> Result<(), TableFault>
+    ensures same_reference { batch.new.conn.ghost_name ≡ batch.old.conn.ghost_name }
+    ensures goes { GoesOn (shown S.Store batch.old.conn.now) (shown S.Store batch.new.conn.now) result }
+    ensures shows { LeadsTo (shown S.Store batch.old.conn.now) (shown S.Store batch.new.conn.now) result (λ c v. number ≡ length v.submits + 1) (λ c. record c { submissions = number })
+        (with_submission (record { author = author.now; path = path; proposal = proposal.now; note = note.now })) }
+{
+    add_submission(batch, alloc, number, author, path, proposal, note)?;
+    count_submissions(batch, number)
+}
+
+fn edit_item<S: Alter>(batch: &mut Batch<'_, S>, path: &str, edit: &Edit) -> Result<(), TableFault>
+    ensures same_reference { batch.new.conn.ghost_name ≡ batch.old.conn.ghost_name }
+    ensures goes { GoesOn (shown S.Store batch.old.conn.now) (shown S.Store batch.new.conn.now) result }
+    ensures shows { LeadsTo (shown S.Store batch.old.conn.now) (shown S.Store batch.new.conn.now) result (λ c v. FitsEdit edit.now (name_at path.now v.items)) (λ c. c)
+        (λ v. record v { items = edited path.now edit.now v.items }) }
+{
+    match edit {
+        Edit::Add(name) => add_item(batch, path, name.as_str()),
+        Edit::Rename(name) => rename_item(batch, path, name.as_str()),
+        Edit::Remove => remove_item(batch, path),
+    }
+}
+
+fn write_item<S: Alter>(
+    batch: &mut Batch<'_, S>,
+    alloc: Global,
+    write: &Write,
+) -> Result<(), TableFault>
+    ensures same_reference { batch.new.conn.ghost_name ≡ batch.old.conn.ghost_name }
+    ensures goes { GoesOn (shown S.Store batch.old.conn.now) (shown S.Store batch.new.conn.now) result }
+    ensures shows { LeadsTo (shown S.Store batch.old.conn.now) (shown S.Store batch.new.conn.now) result (λ c v. FitsEdit write.now.edit (name_at (path_text write.now.path) v.items)) (λ c. record c { items = write.now.items })
+        (λ v. record v { items = edited (path_text write.now.path) write.now.edit v.items }) }
+{
+    let path = write.path.path_text(alloc)?;
+    edit_item(batch, path.as_str(), &write.edit)?;
+    count_items(batch, write.items)
+}
+
+fn decision<S: Alter>(
+    batch: &mut Batch<'_, S>,
+    alloc: Global,
+    number: u32,
+    state: &State,
+    write: &Option<Write>,
+) -> Result<(), TableFault>
+    ensures same_reference { batch.new.conn.ghost_name ≡ batch.old.conn.ghost_name }
+    ensures goes { GoesOn (shown S.Store batch.old.conn.now) (shown S.Store batch.new.conn.now) result }
+    ensures shows { LeadsTo (shown S.Store batch.old.conn.now) (shown S.Store batch.new.conn.now) result (λ c v. IsSome (submission_at number v.submits) × FitsWrite write.now v.items) (recounted (Effect.Decided number state.now write.now))
+        (affected (Effect.Decided number state.now write.now)) }
+{
+    decide(batch, number, state)?;
+    match write {
+        None => Ok(()),
+        Some(write) => write_item(batch, alloc, write),
+    }
+}
+
+fn write_effect<S: Alter>(
+    batch: &mut Batch<'_, S>,
+    alloc: Global,
+    effect: &Effect,
+) -> Result<(), TableFault>
+    ensures same_reference { batch.new.conn.ghost_name ≡ batch.old.conn.ghost_name }
+    ensures goes { GoesOn (shown S.Store batch.old.conn.now) (shown S.Store batch.new.conn.now) result }
+    ensures shows { LeadsTo (shown S.Store batch.old.conn.now) (shown S.Store batch.new.conn.now) result (λ c v. FitsEffect effect.now v) (recounted effect.now) (affected effect.now) }
+{
+    match effect {
+        Effect::Nothing => touch(batch),
+        Effect::Ranked { who, rank, is_new } => set_rank(batch, who, *rank, *is_new),
+        Effect::Submitted {
+            number,
+            author,
+            path,
+            proposal,
+            note,
+        } => { submit(batch, alloc, *number, author, *path, proposal, note) }
+        Effect::Remarked {
+            number,
+            place,
+            author,
+            text,
+        } => { add_remark(batch, *number, *place, author, text) }
+        Effect::Decided {
+            number,
+            state,
+            write,
+        } => { decision(batch, alloc, *number, state, write) }
+        Effect::Imported { items, .. } => count_items(batch, *items),
+    }
+}
+
+fn write_change<S: Alter>(
+    batch: &mut Batch<'_, S>,
+    alloc: Global,
+    change: &Change,
+) -> Result<(), TableFault>
+    ensures same_reference { batch.new.conn.ghost_name ≡ batch.old.conn.ghost_name }
+    ensures goes { GoesOn (shown S.Store batch.old.conn.now) (shown S.Store batch.new.conn.now) result }
+    ensures shows { HasCleanDisk (shown S.Store batch.new.conn.now) → IsTrue (shown S.Store batch.old.conn.now).in_transaction → (counts : Counts) (v : Views) → ShowsCounting counts (shown S.Store batch.old.conn.now).now v
+        → IsCounted change.now.effect counts v → Fits change.now v → OnOk result (Shows (shown S.Store batch.new.conn.now).now (changed change.now v)) }
+{
+    write_effect(batch, alloc, &change.effect)?;
+    match &change.receipt {
+        None => Ok(()),
+        Some(receipt) => keep_reply(batch, &receipt.account, &receipt.key, receipt.reply),
+    }
+}
+
+/// Begins a transaction on tables at rest. It shows what they show.
+pub fn begin<S: Alter>(conn: &mut Connection<S>) -> Batch<'_, S>
+    requires { (shown S.Store conn.old).in_transaction ≡ false }
+    ensures same_reference { result.conn.ghost_name ≡ conn.entry.ghost_name }
+    ensures unchanged { result.conn.now ≡ record conn.old { in_transaction = true } }
+    ensures begun { (v : Views) → AtRest (shown S.Store conn.old) v → Within (counts_of v) (shown S.Store result.conn.now) v v }
+{
+    conn.transaction()
+}
+
+/// Gives a path a name within the transaction, and answers what it was to it. The count of items follows with the change.
+pub fn put<S: Alter>(
+    batch: &mut Batch<'_, S>,
+    alloc: Global,
+    path: &Path,
+    name: &str,
+) -> Result<Put, TableFault>
+    ensures same_reference { batch.new.conn.ghost_name ≡ batch.old.conn.ghost_name }
+    ensures survives { Survives (shown S.Store batch.old.conn.now) (shown S.Store batch.new.conn.now) (λ _. ⊥) }
+    ensures holds { (c : Counts) (v w : Views) → Within c (shown S.Store batch.old.conn.now) v w → Holds (shown S.Store batch.new.conn.now) v }
+    ensures written { (c : Counts) (v w : Views) → Within c (shown S.Store batch.old.conn.now) v w → OnOk result (Written c (shown S.Store batch.new.conn.now) v (with_name (path_text path.now) name.now w)) }
+    ensures told { HasCleanDisk (shown S.Store batch.new.conn.now) → (c : Counts) (v w : Views) → Within c (shown S.Store batch.old.conn.now) v w → IfOk result (λ put. put ≡ put_over name.now (name_at (path_text path.now) w.items)) }
+{
+    let path = path.path_text(alloc)?;
+    put_text(batch, path.as_str(), name)
+}
+
+/// Writes a whole change, its receipt included.
+///
+/// On tables that show views to which the numbers of the change fit, it leaves tables that show the changed views. The
+/// items of a file are put one by one before. After a fault the transaction is given up: roll it back.
+pub fn apply<S: Alter>(
+    batch: &mut Batch<'_, S>,
+    alloc: Global,
+    change: &Change,
+) -> Result<(), TableFault>
+    ensures same_reference { batch.new.conn.ghost_name ≡ batch.old.conn.ghost_name }
+    ensures survives { Survives (shown S.Store batch.old.conn.now) (shown S.Store batch.new.conn.now) (λ _. ⊥) }
+    ensures holds { (c : Counts) (v w : Views) → Within c (shown S.Store batch.old.conn.now) v w → Holds (shown S.Store batch.new.conn.now) v }
+    ensures applied { (c : Counts) (v w : Views) → Within c (shown S.Store batch.old.conn.now) v w → IsCounted change.now.effect c w → Fits change.now w
+        → OnOk result (Written (counts_of (changed change.now w)) (shown S.Store batch.new.conn.now) v (changed change.now w)) }
+{
+    write_change(batch, alloc, change)
+}
+
+/// Lets what the transaction wrote stand, all of it or nothing.
+pub fn commit<S: Alter>(batch: Batch<'_, S>) -> Result<(), TableFault>
+    ensures ended { batch.exit.0.now.in_transaction ≡ false }
+    ensures survives { Survives (shown S.Store batch.entry.conn.now) (shown S.Store batch.exit.0.now) (λ db. db ≡ (shown S.Store batch.entry.conn.now).now.trees) }
+    ensures stands { (w : Views) → (IsTrue (shown S.Store batch.entry.conn.now).is_open → Shows (shown S.Store batch.entry.conn.now).now w) → OnOk result (AtRest (shown S.Store batch.exit.0.now) w) }
+    ensures either { (v w : Views) → Written (counts_of w) (shown S.Store batch.entry.conn.now) v w → LeavesEither (shown S.Store batch.exit.0.now) v w }
+{
+    batch.commit()?;
+    Ok(())
+}
+
+/// Gives the transaction up: the tables are as they were before it.
+pub fn roll_back<S: Alter>(batch: Batch<'_, S>)
+    ensures ended { batch.exit.0.now.in_transaction ≡ false }
+    ensures survives { Survives (shown S.Store batch.entry.conn.now) (shown S.Store batch.exit.0.now) (λ _. ⊥) }
+    ensures given_back { (v : Views) → Holds (shown S.Store batch.entry.conn.now) v → AtRest (shown S.Store batch.exit.0.now) v }
+{
+    batch.rollback();
+}

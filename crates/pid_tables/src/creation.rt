@@ -1,0 +1,166 @@
+//! Makes the tables in a database that has none.
+ghost use Rattle.std.specs.Prelude.{◌≡◌, ℕ, [], ◌∷◌, false, None, List, OnOk, IsTrue};
+ghost use Rattle.sqlite.specs.Held.{state};
+ghost use Rattle.sqlite.specs.State.{HasCleanDisk};
+ghost use Rattle.pid_moderation.specs.Views.{views_of};
+ghost use Rattle.pid_tables.specs.Schema as tables;
+ghost use Rattle.pid_tables.specs.PairRows.{Map};
+ghost use Rattle.pid_tables.specs.Creation.{AreMade, HasOnlyMeta, with_label, IsBlank, LeavesBareOrNew};
+ghost use Rattle.pid_tables.specs.Leaves.{GoesOn, AtRest};
+ghost use Rattle.pid_tables.specs.Shows.{Shows, meta_of};
+
+use crate::account::add_account;
+use crate::batch::commit;
+use crate::fault::TableFault;
+use crate::run::write_one;
+use pid_moderation::Rank;
+use sqlite::types::ToSql;
+use sqlite::{Alter, Connection, Transaction};
+
+fn make_meta<S: Alter>(tx: &mut Transaction<'_, S>) -> Result<(), TableFault>
+    ensures same_reference { tx.new.conn.ghost_name ≡ tx.old.conn.ghost_name }
+    ensures goes { GoesOn (state S.Store tx.old.conn.now) (state S.Store tx.new.conn.now) result }
+    ensures made { HasCleanDisk (state S.Store tx.new.conn.now) → IsTrue (state S.Store tx.old.conn.now).in_transaction → AreMade ([]) (state S.Store tx.old.conn.now).now → OnOk result (AreMade (tables.meta ∷ []) (state S.Store tx.new.conn.now).now) }
+{
+    write_one(
+        tx,
+        "CREATE TABLE meta (label TEXT NOT NULL PRIMARY KEY, value INTEGER NOT NULL) STRICT",
+        &[],
+    )
+}
+
+fn make_account<S: Alter>(tx: &mut Transaction<'_, S>) -> Result<(), TableFault>
+    ensures same_reference { tx.new.conn.ghost_name ≡ tx.old.conn.ghost_name }
+    ensures goes { GoesOn (state S.Store tx.old.conn.now) (state S.Store tx.new.conn.now) result }
+    ensures made { HasCleanDisk (state S.Store tx.new.conn.now) → IsTrue (state S.Store tx.old.conn.now).in_transaction → AreMade (tables.meta ∷ []) (state S.Store tx.old.conn.now).now → OnOk result (AreMade (tables.meta ∷ tables.account ∷ []) (state S.Store tx.new.conn.now).now) }
+{
+    write_one(
+        tx,
+        "CREATE TABLE account (name TEXT NOT NULL PRIMARY KEY, rank INTEGER NOT NULL CHECK (rank BETWEEN 0 AND 3)) STRICT",
+        &[],
+    )
+}
+
+fn make_item<S: Alter>(tx: &mut Transaction<'_, S>) -> Result<(), TableFault>
+    ensures same_reference { tx.new.conn.ghost_name ≡ tx.old.conn.ghost_name }
+    ensures goes { GoesOn (state S.Store tx.old.conn.now) (state S.Store tx.new.conn.now) result }
+    ensures made { HasCleanDisk (state S.Store tx.new.conn.now) → IsTrue (state S.Store tx.old.conn.now).in_transaction → AreMade (tables.meta ∷ tables.account ∷ []) (state S.Store tx.old.conn.now).now → OnOk result (AreMade (tables.meta ∷ tables.account ∷ tables.item ∷ []) (state S.Store tx.new.conn.now).now) }
+{
+    write_one(
+        tx,
+        "CREATE TABLE item (path TEXT NOT NULL PRIMARY KEY, name TEXT NOT NULL) STRICT",
+        &[],
+    )
+}
+
+fn make_submission<S: Alter>(tx: &mut Transaction<'_, S>) -> Result<(), TableFault>
+    ensures same_reference { tx.new.conn.ghost_name ≡ tx.old.conn.ghost_name }
+    ensures goes { GoesOn (state S.Store tx.old.conn.now) (state S.Store tx.new.conn.now) result }
+    ensures made { HasCleanDisk (state S.Store tx.new.conn.now) → IsTrue (state S.Store tx.old.conn.now).in_transaction → AreMade (tables.meta ∷ tables.account ∷ tables.item ∷ []) (state S.Store tx.old.conn.now).now → OnOk result (AreMade (tables.meta ∷ tables.account ∷ tables.item ∷ tables.submission ∷ []) (state S.Store tx.new.conn.now).now) }
+{
+    write_one(
+        tx,
+        "CREATE TABLE submission (num INTEGER NOT NULL PRIMARY KEY, author TEXT NOT NULL REFERENCES account(name), path TEXT NOT NULL, form INTEGER NOT NULL CHECK (form BETWEEN 0 AND 1), name TEXT NOT NULL, note TEXT NOT NULL, state INTEGER NOT NULL CHECK (state BETWEEN 0 AND 3), decider TEXT NOT NULL, reason TEXT NOT NULL) STRICT",
+        &[],
+    )
+}
+
+fn make_remark<S: Alter>(tx: &mut Transaction<'_, S>) -> Result<(), TableFault>
+    ensures same_reference { tx.new.conn.ghost_name ≡ tx.old.conn.ghost_name }
+    ensures goes { GoesOn (state S.Store tx.old.conn.now) (state S.Store tx.new.conn.now) result }
+    ensures made { HasCleanDisk (state S.Store tx.new.conn.now) → IsTrue (state S.Store tx.old.conn.now).in_transaction → AreMade (tables.meta ∷ tables.account ∷ tables.item ∷ tables.submission ∷ []) (state S.Store tx.old.conn.now).now → OnOk result (AreMade (tables.meta ∷ tables.account ∷ tables.item ∷ tables.submission ∷ tables.remark ∷ []) (state S.Store tx.new.conn.now).now) }
+{
+    write_one(
+        tx,
+        "CREATE TABLE remark (num INTEGER NOT NULL REFERENCES submission(num), seq INTEGER NOT NULL, author TEXT NOT NULL REFERENCES account(name), body TEXT NOT NULL, PRIMARY KEY (num, seq)) STRICT",
+        &[],
+    )
+}
+
+fn make_receipt<S: Alter>(tx: &mut Transaction<'_, S>) -> Result<(), TableFault>
+    ensures same_reference { tx.new.conn.ghost_name ≡ tx.old.conn.ghost_name }
+    ensures goes { GoesOn (state S.Store tx.old.conn.now) (state S.Store tx.new.conn.now) result }
+    ensures made { HasCleanDisk (state S.Store tx.new.conn.now) → IsTrue (state S.Store tx.old.conn.now).in_transaction → AreMade (tables.meta ∷ tables.account ∷ tables.item ∷ tables.submission ∷ tables.remark ∷ []) (state S.Store tx.old.conn.now).now → OnOk result (AreMade (tables.meta ∷ tables.account ∷ tables.item ∷ tables.submission ∷ tables.remark ∷ tables.receipt ∷ []) (state S.Store tx.new.conn.now).now) }
+{
+    write_one(
+        tx,
+        "CREATE TABLE receipt (account TEXT NOT NULL REFERENCES account(name), token TEXT NOT NULL, kind INTEGER NOT NULL, a INTEGER NOT NULL, b INTEGER NOT NULL, c INTEGER NOT NULL, PRIMARY KEY (account, token)) STRICT",
+        &[],
+    )
+}
+
+fn make_first<S: Alter>(tx: &mut Transaction<'_, S>) -> Result<(), TableFault>
+    ensures same_reference { tx.new.conn.ghost_name ≡ tx.old.conn.ghost_name }
+    ensures goes { GoesOn (state S.Store tx.old.conn.now) (state S.Store tx.new.conn.now) result }
+    ensures made { HasCleanDisk (state S.Store tx.new.conn.now) → IsTrue (state S.Store tx.old.conn.now).in_transaction → AreMade [] (state S.Store tx.old.conn.now).now → OnOk result (AreMade (tables.meta ∷ tables.account ∷ tables.item ∷ []) (state S.Store tx.new.conn.now).now) }
+{
+    make_meta(tx)?;
+    make_account(tx)?;
+    make_item(tx)
+}
+
+fn make_rest<S: Alter>(tx: &mut Transaction<'_, S>) -> Result<(), TableFault>
+    ensures same_reference { tx.new.conn.ghost_name ≡ tx.old.conn.ghost_name }
+    ensures goes { GoesOn (state S.Store tx.old.conn.now) (state S.Store tx.new.conn.now) result }
+    ensures made { HasCleanDisk (state S.Store tx.new.conn.now) → IsTrue (state S.Store tx.old.conn.now).in_transaction → AreMade (tables.meta ∷ tables.account ∷ tables.item ∷ []) (state S.Store tx.old.conn.now).now → OnOk result (AreMade (tables.meta ∷ tables.account ∷ tables.item ∷ tables.submission ∷ tables.remark ∷ tables.receipt ∷ []) (state S.Store tx.new.conn.now).now) }
+{
+    make_submission(tx)?;
+    make_remark(tx)?;
+    make_receipt(tx)
+}
+
+fn add_label<S: Alter>(
+    tx: &mut Transaction<'_, S>,
+    label: &str,
+    value: u32,
+) -> Result<(), TableFault>
+    ensures same_reference { tx.new.conn.ghost_name ≡ tx.old.conn.ghost_name }
+    ensures goes { GoesOn (state S.Store tx.old.conn.now) (state S.Store tx.new.conn.now) result }
+    ensures added { HasCleanDisk (state S.Store tx.new.conn.now) → IsTrue (state S.Store tx.old.conn.now).in_transaction → (m : Map (List ℕ) ℕ) → HasOnlyMeta m (state S.Store tx.old.conn.now).now → m label.now ≡ None
+        → OnOk result (HasOnlyMeta (with_label label.now value m) (state S.Store tx.new.conn.now).now) }
+{
+    let label = label.to_sql();
+    let value = value.to_sql();
+    write_one(
+        tx,
+        "INSERT INTO meta (label, value) VALUES (?1, ?2)",
+        &[label, value],
+    )
+}
+
+fn add_labels<S: Alter>(tx: &mut Transaction<'_, S>) -> Result<(), TableFault>
+    ensures same_reference { tx.new.conn.ghost_name ≡ tx.old.conn.ghost_name }
+    ensures goes { GoesOn (state S.Store tx.old.conn.now) (state S.Store tx.new.conn.now) result }
+    ensures added { HasCleanDisk (state S.Store tx.new.conn.now) → IsTrue (state S.Store tx.old.conn.now).in_transaction → HasOnlyMeta (λ _. None) (state S.Store tx.old.conn.now).now
+        → OnOk result (HasOnlyMeta (meta_of (record { items = 0; submissions = 0 })) (state S.Store tx.new.conn.now).now) }
+{
+    add_label(tx, "submissions", 0)?;
+    add_label(tx, "items", 0)?;
+    add_label(tx, "schema", 1)
+}
+
+fn fill<S: Alter>(tx: &mut Transaction<'_, S>) -> Result<(), TableFault>
+    ensures same_reference { tx.new.conn.ghost_name ≡ tx.old.conn.ghost_name }
+    ensures goes { GoesOn (state S.Store tx.old.conn.now) (state S.Store tx.new.conn.now) result }
+    ensures filled { HasCleanDisk (state S.Store tx.new.conn.now) → IsTrue (state S.Store tx.old.conn.now).in_transaction → AreMade [] (state S.Store tx.old.conn.now).now → OnOk result (Shows (state S.Store tx.new.conn.now).now (views_of [])) }
+{
+    make_first(tx)?;
+    make_rest(tx)?;
+    add_labels(tx)?;
+    add_account(tx, "root", Rank::Administrator)
+}
+
+/// Makes the tables of a new registry in a database that has none, in one transaction: `root` is an administrator, and
+/// there is nothing else.
+///
+/// Whatever it answers, a crash leaves a database without tables, or the new registry whole.
+pub fn create<S: Alter>(conn: &mut Connection<S>) -> Result<(), TableFault>
+    requires { (state S.Store conn.old).in_transaction ≡ false }
+    ensures settled { (state S.Store conn.new).in_transaction ≡ false }
+    ensures made { IsBlank (state S.Store conn.old) → OnOk result (AtRest (state S.Store conn.new) (views_of [])) }
+    ensures crash { IsBlank (state S.Store conn.old) → LeavesBareOrNew (state S.Store conn.new) }
+{
+    let mut batch = conn.transaction();
+    fill(&mut batch)?;
+    commit(batch)
+}

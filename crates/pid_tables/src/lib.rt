@@ -1,0 +1,27 @@
+//! The tables of a registry in a SQLite database: rows that show a history.
+#![tactic(auto)]
+
+mod account;
+mod batch;
+mod creation;
+mod fault;
+mod gather;
+mod item;
+mod meta;
+mod putting;
+mod receipt;
+mod remark;
+mod run;
+mod submission;
+mod tables;
+mod value;
+
+pub use batch::{Batch, apply, begin, commit, put, roll_back};
+pub use creation::create;
+pub use fault::TableFault;
+pub use putting::Put;
+pub use submission::Submission;
+pub use tables::Tables;
+
+#[cfg(test)]
+mod tests;

@@ -1,0 +1,89 @@
+//! Items of a file, put one by one within a transaction.
+ghost use Rattle.std.specs.Prelude.{◌≡◌, None, IsSome, IfOk, OnOk, IsTrue, option_map, slice_get};
+ghost use Rattle.std.specs.Str.{bytes_eq};
+ghost use Rattle.sqlite.specs.Held.{state};
+ghost use Rattle.sqlite.specs.State.{HasCleanDisk};
+ghost use Rattle.pid_moderation.specs.Items.{name_at};
+ghost use Rattle.pid_moderation.specs.Views.{Views};
+ghost use Rattle.pid_tables.specs.Answers.{name_row};
+ghost use Rattle.pid_tables.specs.Leaves.{GoesOn, LeadsTo};
+ghost use Rattle.pid_tables.specs.Puts.{put_over};
+ghost use Rattle.pid_tables.specs.Shows.{Counts, ShowsCounting};
+ghost use Rattle.pid_tables.specs.Writes.{with_name};
+
+use crate::fault::TableFault;
+use crate::item::{add_item, rename_item};
+use crate::run::read_inside;
+use crate::value::is_text_at;
+use sqlite::types::ToSql;
+use sqlite::{Alter, Row, Transaction};
+
+/// What a name that was put at a path was to it.
+#[derive(Clone, Copy, Debug, PartialEq, Eq)]
+pub enum Put {
+    /// There was no item.
+    Added,
+    /// There was an item of another name.
+    Renamed,
+    /// The item had the name already.
+    Same,
+}
+
+fn names_inside<S: Alter>(
+    batch: &mut Transaction<'_, S>,
+    path: &str,
+) -> Result<Vec<Row>, TableFault>
+    ensures same_reference { batch.new.conn.ghost_name ≡ batch.old.conn.ghost_name }
+    ensures goes { GoesOn (state S.Store batch.old.conn.now) (state S.Store batch.new.conn.now) result }
+    ensures shows { LeadsTo (state S.Store batch.old.conn.now) (state S.Store batch.new.conn.now) result (λ c v. Unit {0}) (λ c. c) (λ v. v) }
+    ensures found { HasCleanDisk (state S.Store batch.new.conn.now) → (c : Counts) (v : Views) → ShowsCounting c (state S.Store batch.old.conn.now).now v → IfOk result (λ rows. slice_get rows.items 0 ≡ option_map name_row (name_at path.now v.items)) }
+{
+    let path = path.to_sql();
+    read_inside(batch, "SELECT name FROM item WHERE path = ?1", &[path])
+}
+
+fn compare<S: Alter>(
+    batch: &mut Transaction<'_, S>,
+    path: &str,
+    name: &str,
+) -> Result<Put, TableFault>
+    ensures same_reference { batch.new.conn.ghost_name ≡ batch.old.conn.ghost_name }
+    ensures goes { GoesOn (state S.Store batch.old.conn.now) (state S.Store batch.new.conn.now) result }
+    ensures shows { LeadsTo (state S.Store batch.old.conn.now) (state S.Store batch.new.conn.now) result (λ c v. Unit {0}) (λ c. c) (λ v. v) }
+    ensures found { HasCleanDisk (state S.Store batch.new.conn.now) → (c : Counts) (v : Views) → ShowsCounting c (state S.Store batch.old.conn.now).now v → IfOk result (λ put. put ≡ put_over name.now (name_at path.now v.items)) }
+{
+    let rows = names_inside(batch, path)?;
+    match rows.first() {
+        None => Ok(Put::Added),
+        Some(row) => {
+            if is_text_at(row, 0, name)? {
+                Ok(Put::Same)
+            } else {
+                Ok(Put::Renamed)
+            }
+        }
+    }
+}
+
+pub(crate) fn put_text<S: Alter>(
+    batch: &mut Transaction<'_, S>,
+    path: &str,
+    name: &str,
+) -> Result<Put, TableFault>
+    ensures same_reference { batch.new.conn.ghost_name ≡ batch.old.conn.ghost_name }
+    ensures goes { GoesOn (state S.Store batch.old.conn.now) (state S.Store batch.new.conn.now) result }
+    ensures shows { LeadsTo (state S.Store batch.old.conn.now) (state S.Store batch.new.conn.now) result (λ c v. Unit {0}) (λ c. c) (with_name path.now name.now) }
+    ensures told { HasCleanDisk (state S.Store batch.new.conn.now) → (c : Counts) (v : Views) → ShowsCounting c (state S.Store batch.old.conn.now).now v → IfOk result (λ put. put ≡ put_over name.now (name_at path.now v.items)) }
+{
+    match compare(batch, path, name)? {
+        Put::Added => {
+            add_item(batch, path, name)?;
+            Ok(Put::Added)
+        }
+        Put::Renamed => {
+            rename_item(batch, path, name)?;
+            Ok(Put::Renamed)
+        }
+        Put::Same => Ok(Put::Same),
+    }
+}

@@ -1,0 +1,149 @@
+//! The tables of a registry, over a connection.
+ghost use Rattle.std.specs.Prelude.{◌≡◌, ◌↔◌, [], false, length, IfOk, IsTrue, option_map};
+ghost use Rattle.sqlite.specs.Held.{state};
+ghost use Rattle.sqlite.specs.State.{HasCleanDisk};
+ghost use Rattle.pid_ident.specs.PathTexts.{path_text};
+ghost use Rattle.pid_moderation.specs.FactsOfViews.{facts_at};
+ghost use Rattle.pid_moderation.specs.Items.{name_at};
+ghost use Rattle.pid_moderation.specs.Wants.{wanted_by};
+ghost use Rattle.pid_moderation.specs.WellMade.{AllItems, HoldsParents};
+ghost use Rattle.pid_tables.specs.Creation.{IsBlank};
+ghost use Rattle.pid_tables.specs.Leaves.{OnlyReads, Tells};
+ghost use Rattle.pid_tables.specs.Shows.{standing_in};
+ghost use Rattle.pid_tables.specs.Standings.{standing_of};
+
+use crate::account::rank;
+use crate::fault::TableFault;
+use crate::gather::gather_facts;
+use crate::item::item_name;
+use crate::meta::{items, schema_number, submissions};
+use crate::receipt::kept_reply;
+use crate::run::look;
+use crate::submission::{Submission, standing};
+use pid_ident::{Account, Key, Name, Path};
+use pid_moderation::{Facts, Rank, Reply, Rows, Verdict};
+use sqlite::{Alter, Connection};
+use std::alloc::Global;
+
+/// The tables of a registry, over a connection that is at rest between calls. A read leaves them as they are.
+///
+/// A transaction is begun on `conn`, by `begin`.
+#[derive(Drop)]
+pub struct Tables<S: Alter + Drop> {
+    pub conn: Connection<S>,
+}
+
+impl<S: Alter + Drop> Tables<S> {
+    pub fn new(conn: Connection<S>) -> Tables<S>
+        ensures { result.conn ≡ conn }
+    {
+        Tables { conn }
+    }
+
+    pub fn into_conn(self) -> Connection<S>
+        ensures { result ≡ self.conn }
+    {
+        let Tables { conn } = self;
+        conn
+    }
+
+    /// The rank of an account, if it is one.
+    pub fn rank(&mut self, account: &Account) -> Result<Option<Rank>, TableFault>
+        requires { (state S.Store self.old.conn).in_transaction ≡ false }
+        ensures rests { OnlyReads (state S.Store self.old.conn) (state S.Store self.new.conn) }
+        ensures told { Tells (state S.Store self.old.conn) (state S.Store self.new.conn) result (λ v rank. rank ≡ v.rank account.now) }
+    {
+        rank(&mut self.conn, account.as_str())
+    }
+
+    /// The reply that is kept under an account and a key.
+    pub fn kept(&mut self, account: &Account, key: &Key) -> Result<Option<Reply>, TableFault>
+        requires { (state S.Store self.old.conn).in_transaction ≡ false }
+        ensures rests { OnlyReads (state S.Store self.old.conn) (state S.Store self.new.conn) }
+        ensures told { Tells (state S.Store self.old.conn) (state S.Store self.new.conn) result (λ v reply. reply ≡ v.kept account.now key.now) }
+    {
+        kept_reply(&mut self.conn, account.as_str(), key.as_str())
+    }
+
+    /// The name of the item at a path.
+    pub fn item(&mut self, alloc: Global, path: &Path) -> Result<Option<Name>, TableFault>
+        requires { (state S.Store self.old.conn).in_transaction ≡ false }
+        ensures rests { OnlyReads (state S.Store self.old.conn) (state S.Store self.new.conn) }
+        ensures told { Tells (state S.Store self.old.conn) (state S.Store self.new.conn) result (λ v name. name ≡ name_at (path_text path.now) v.items) }
+    {
+        let path = path.path_text(alloc)?;
+        item_name(&mut self.conn, alloc, path.as_str())
+    }
+
+    /// The submission with the number, as it stands.
+    pub fn submission(
+        &mut self,
+        alloc: Global,
+        number: u32,
+    ) -> Result<Option<Submission>, TableFault>
+        requires { (state S.Store self.old.conn).in_transaction ≡ false }
+        ensures rests { OnlyReads (state S.Store self.old.conn) (state S.Store self.new.conn) }
+        ensures told { Tells (state S.Store self.old.conn) (state S.Store self.new.conn) result (λ v s. option_map standing_of s ≡ standing_in v number) }
+    {
+        standing(&mut self.conn, alloc, number)
+    }
+
+    /// How many items there are.
+    pub fn items(&mut self) -> Result<u32, TableFault>
+        requires { (state S.Store self.old.conn).in_transaction ≡ false }
+        ensures rests { OnlyReads (state S.Store self.old.conn) (state S.Store self.new.conn) }
+        ensures told { Tells (state S.Store self.old.conn) (state S.Store self.new.conn) result (λ v n. n ≡ length v.items) }
+    {
+        items(&mut self.conn)
+    }
+
+    /// How many submissions there are.
+    pub fn submissions(&mut self) -> Result<u32, TableFault>
+        requires { (state S.Store self.old.conn).in_transaction ≡ false }
+        ensures rests { OnlyReads (state S.Store self.old.conn) (state S.Store self.new.conn) }
+        ensures told { Tells (state S.Store self.old.conn) (state S.Store self.new.conn) result (λ v n. n ≡ length v.submits) }
+    {
+        submissions(&mut self.conn)
+    }
+
+    /// The facts that a command of the account under the key is judged by: what `rows` names, as `needs` answers it, and no
+    /// more. Its file, if any, comes to `file`.
+    ///
+    /// It holds of views whose items are a tree, as those of every history are.
+    pub fn gather(
+        &mut self,
+        alloc: Global,
+        account: &Account,
+        key: &Option<Key>,
+        rows: Rows<'_>,
+        file: Verdict,
+    ) -> Result<Facts, TableFault>
+        requires { (state S.Store self.old.conn).in_transaction ≡ false }
+        ensures rests { OnlyReads (state S.Store self.old.conn) (state S.Store self.new.conn) }
+        ensures told { Tells (state S.Store self.old.conn) (state S.Store self.new.conn) result (λ v facts. AllItems v.items → HoldsParents v.items → facts ≡ facts_at v file account.now key.now (wanted_by rows.entry)) }
+    {
+        gather_facts(&mut self.conn, alloc, account, key, rows, file)
+    }
+
+    /// The number of the schema, and 0 where there is no table.
+    pub fn version(&mut self) -> Result<u32, TableFault>
+        requires { (state S.Store self.old.conn).in_transaction ≡ false }
+        ensures rests { OnlyReads (state S.Store self.old.conn) (state S.Store self.new.conn) }
+        ensures told { Tells (state S.Store self.old.conn) (state S.Store self.new.conn) result (λ v n. n ≡ 1) }
+        ensures none { HasCleanDisk (state S.Store self.new.conn) → IsBlank (state S.Store self.old.conn) → IfOk result (λ n. n ≡ 0) }
+    {
+        let bare = is_bare(&self.conn);
+        look(&mut self.conn)?;
+        if bare {
+            Ok(0)
+        } else {
+            schema_number(&mut self.conn)
+        }
+    }
+}
+
+fn is_bare<S: Alter>(conn: &Connection<S>) -> bool
+    ensures { IsTrue result ↔ ((state S.Store conn.now).now.schema.tables ≡ []) }
+{
+    conn.schema().tables.is_empty()
+}
