@@ -23,3 +23,5 @@ pub mod FirstLemmas
 pub mod LastRemark
 pub mod RangeLemmas
 pub mod ChildLemmas
+pub mod SoundLemmas
+pub mod NextLemmas

@@ -23,3 +23,6 @@ standing_row s = Text s.submitted.author ∷ Text (path_text s.submitted.path) �
 
 abbrev pub reply_row : Reply → Row
 reply_row reply = number (kind_of reply) ∷ number (first_of reply) ∷ number (second_of reply) ∷ number (third_of reply) ∷ []
+
+abbrev pub item_shown : List ℕ × List ℕ → Row
+item_shown e = Text e.0 ∷ Text e.1 ∷ []

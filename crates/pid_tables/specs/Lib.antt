@@ -6,6 +6,7 @@ pub mod Answers
 pub mod Shows
 pub mod Leaves
 pub mod Standings
+pub mod ItemPairs
 pub mod Ranges
 pub mod Creation
 pub mod Puts

@@ -8,14 +8,16 @@ ghost use Rattle.pid_moderation.specs.Items.{name_at};
 ghost use Rattle.pid_moderation.specs.Wants.{wanted_by};
 ghost use Rattle.pid_moderation.specs.WellMade.{AllItems, HoldsParents};
 ghost use Rattle.pid_tables.specs.Creation.{IsBlank};
+ghost use Rattle.pid_tables.specs.ItemPairs.{pair_of};
 ghost use Rattle.pid_tables.specs.Leaves.{OnlyReads, Tells};
+ghost use Rattle.pid_tables.specs.Ranges.{first_above};
 ghost use Rattle.pid_tables.specs.Shows.{standing_in};
 ghost use Rattle.pid_tables.specs.Standings.{standing_of};
 
 use crate::account::rank;
 use crate::fault::TableFault;
 use crate::gather::gather_facts;
-use crate::item::item_name;
+use crate::item::{Item, item_above, item_name};
 use crate::meta::{items, schema_number, submissions};
 use crate::receipt::kept_reply;
 use crate::run::look;
@@ -73,6 +75,16 @@ impl<S: Alter + Drop> Tables<S> {
     {
         let path = path.path_text(alloc)?;
         item_name(&mut self.conn, alloc, path.as_str())
+    }
+
+    /// The first item, in the canonical order, whose path is above a text. From the empty text on, and then from the text of
+    /// each path that was told, it goes through all items; nothing is held between the calls.
+    pub fn item_above(&mut self, alloc: Global, text: &str) -> Result<Option<Item>, TableFault>
+        requires { (state S.Store self.old.conn).in_transaction ≡ false }
+        ensures rests { OnlyReads (state S.Store self.old.conn) (state S.Store self.new.conn) }
+        ensures told { Tells (state S.Store self.old.conn) (state S.Store self.new.conn) result (λ v item. option_map pair_of item ≡ first_above text.now v.items) }
+    {
+        item_above(&mut self.conn, alloc, text)
     }
 
     /// The submission with the number, as it stands.
