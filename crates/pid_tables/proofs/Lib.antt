@@ -25,3 +25,4 @@ pub mod RangeLemmas
 pub mod ChildLemmas
 pub mod SoundLemmas
 pub mod NextLemmas
+pub mod PendingLemmas

@@ -7,6 +7,8 @@ pub mod Shows
 pub mod Leaves
 pub mod Standings
 pub mod ItemPairs
+pub mod PendingOnes
+pub mod Comments
 pub mod Ranges
 pub mod Creation
 pub mod Puts

@@ -23,6 +23,7 @@ pub use fault::TableFault;
 pub use item::Item;
 pub use laws::views_of_sound_histories;
 pub use putting::Put;
+pub use remark::Comment;
 pub use submission::Submission;
 pub use tables::Tables;
 

@@ -10,8 +10,10 @@ ghost use Rattle.pid_moderation.specs.WellMade.{AllItems, HoldsParents};
 ghost use Rattle.pid_tables.specs.Creation.{IsBlank};
 ghost use Rattle.pid_tables.specs.ItemPairs.{pair_of};
 ghost use Rattle.pid_tables.specs.Leaves.{OnlyReads, Tells};
+ghost use Rattle.pid_tables.specs.PendingOnes.{IsFirstPending};
 ghost use Rattle.pid_tables.specs.Ranges.{first_above};
-ghost use Rattle.pid_tables.specs.Shows.{standing_in};
+ghost use Rattle.pid_tables.specs.Comments.{remark_of};
+ghost use Rattle.pid_tables.specs.Shows.{standing_in, remark_in};
 ghost use Rattle.pid_tables.specs.Standings.{standing_of};
 
 use crate::account::rank;
@@ -20,8 +22,9 @@ use crate::gather::gather_facts;
 use crate::item::{Item, item_above, item_name};
 use crate::meta::{items, schema_number, submissions};
 use crate::receipt::kept_reply;
+use crate::remark::{Comment, comment_at, remark_count};
 use crate::run::look;
-use crate::submission::{Submission, standing};
+use crate::submission::{Submission, pending_above, standing};
 use pid_ident::{Account, Key, Name, Path};
 use pid_moderation::{Facts, Rank, Reply, Rows, Verdict};
 use sqlite::{Alter, Connection};
@@ -98,6 +101,39 @@ impl<S: Alter + Drop> Tables<S> {
         ensures told { Tells (state S.Store self.old.conn) (state S.Store self.new.conn) result (λ v s. option_map standing_of s ≡ standing_in v number) }
     {
         standing(&mut self.conn, alloc, number)
+    }
+
+    /// The number of the first pending submission above a number. From 0 on, and then from each number that was told, it goes
+    /// through all that are pending.
+    pub fn pending_above(&mut self, after: u32) -> Result<Option<u32>, TableFault>
+        requires { (state S.Store self.old.conn).in_transaction ≡ false }
+        ensures rests { OnlyReads (state S.Store self.old.conn) (state S.Store self.new.conn) }
+        ensures told { Tells (state S.Store self.old.conn) (state S.Store self.new.conn) result (λ v number. IsFirstPending v after number) }
+    {
+        pending_above(&mut self.conn, after)
+    }
+
+    /// How many remarks there are on a submission.
+    pub fn remarks(&mut self, number: u32) -> Result<u32, TableFault>
+        requires { (state S.Store self.old.conn).in_transaction ≡ false }
+        ensures rests { OnlyReads (state S.Store self.old.conn) (state S.Store self.new.conn) }
+        ensures told { Tells (state S.Store self.old.conn) (state S.Store self.new.conn) result (λ v n. n ≡ length (v.remarks number)) }
+    {
+        remark_count(&mut self.conn, number)
+    }
+
+    /// The remark at a place, counted from 1, on a submission.
+    pub fn remark(
+        &mut self,
+        alloc: Global,
+        number: u32,
+        place: u32,
+    ) -> Result<Option<Comment>, TableFault>
+        requires { (state S.Store self.old.conn).in_transaction ≡ false }
+        ensures rests { OnlyReads (state S.Store self.old.conn) (state S.Store self.new.conn) }
+        ensures told { Tells (state S.Store self.old.conn) (state S.Store self.new.conn) result (λ v comment. option_map remark_of comment ≡ remark_in v (number, place)) }
+    {
+        comment_at(&mut self.conn, alloc, number, place)
     }
 
     /// How many items there are.
