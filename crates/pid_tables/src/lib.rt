@@ -25,7 +25,7 @@ pub use laws::views_of_sound_histories;
 pub use putting::Put;
 pub use remark::Comment;
 pub use submission::Submission;
-pub use tables::Tables;
+pub use tables::{Tables, new_in_memory};
 
 #[cfg(test)]
 mod tests;

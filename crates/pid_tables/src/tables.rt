@@ -2,6 +2,8 @@
 ghost use Rattle.std.specs.Prelude.{◌≡◌, ◌↔◌, [], false, length, IfOk, IsTrue, option_map};
 ghost use Rattle.sqlite.specs.Held.{state};
 ghost use Rattle.sqlite.specs.State.{HasCleanDisk};
+ghost use Rattle.sqlite.specs.Steps.{over_memory};
+ghost use Rattle.pid_moderation.specs.Views.{views_of};
 ghost use Rattle.pid_ident.specs.PathTexts.{path_text};
 ghost use Rattle.pid_moderation.specs.FactsOfViews.{facts_at};
 ghost use Rattle.pid_moderation.specs.Items.{name_at};
@@ -9,7 +11,7 @@ ghost use Rattle.pid_moderation.specs.Wants.{wanted_by};
 ghost use Rattle.pid_moderation.specs.WellMade.{AllItems, HoldsParents};
 ghost use Rattle.pid_tables.specs.Creation.{IsBlank};
 ghost use Rattle.pid_tables.specs.ItemPairs.{pair_of};
-ghost use Rattle.pid_tables.specs.Leaves.{OnlyReads, Tells};
+ghost use Rattle.pid_tables.specs.Leaves.{AtRest, OnlyReads, Tells};
 ghost use Rattle.pid_tables.specs.PendingOnes.{IsFirstPending};
 ghost use Rattle.pid_tables.specs.Ranges.{first_above};
 ghost use Rattle.pid_tables.specs.Comments.{remark_of};
@@ -17,6 +19,7 @@ ghost use Rattle.pid_tables.specs.Shows.{standing_in, remark_in};
 ghost use Rattle.pid_tables.specs.Standings.{standing_of};
 
 use crate::account::rank;
+use crate::creation::create;
 use crate::fault::TableFault;
 use crate::gather::gather_facts;
 use crate::item::{Item, item_above, item_name};
@@ -27,7 +30,7 @@ use crate::run::look;
 use crate::submission::{Submission, pending_above, standing};
 use pid_ident::{Account, Key, Name, Path};
 use pid_moderation::{Facts, Rank, Reply, Rows, Verdict};
-use sqlite::{Alter, Connection};
+use sqlite::{Alter, Connection, MemStore};
 use std::alloc::Global;
 
 /// The tables of a registry, over a connection that is at rest between calls. A read leaves them as they are.
@@ -194,4 +197,14 @@ fn is_bare<S: Alter>(conn: &Connection<S>) -> bool
     ensures { IsTrue result ↔ ((state S.Store conn.now).now.schema.tables ≡ []) }
 {
     conn.schema().tables.is_empty()
+}
+
+/// A new registry in memory.
+pub fn new_in_memory(alloc: Global) -> Result<Tables<MemStore>, TableFault>
+    ensures settled { IfOk result (λ tables. tables.conn.in_transaction ≡ false) }
+    ensures made { IfOk result (λ tables. AtRest (state over_memory tables.conn) (views_of [])) }
+{
+    let mut conn = Connection::open_in_memory(alloc)?;
+    create(&mut conn)?;
+    Ok(Tables::new(conn))
 }

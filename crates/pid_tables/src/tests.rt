@@ -1,19 +1,11 @@
 //! A registry written and read back. What each call means is in its contract: the tests show that the calls succeed where
 //! there is memory, and that the texts of rows are those of SQLite.
-use crate::{Put, TableFault, Tables, apply, begin, commit, create, put, roll_back};
+use crate::{Put, TableFault, Tables, apply, begin, commit, new_in_memory, put, roll_back};
 use pid_ident::Path;
 use pid_moderation::{Change, Command, Verb, Verdict, command_of, decide, needs, reply_line};
-use sqlite::{Connection, MemStore};
+use sqlite::MemStore;
 use std::alloc::Global;
 use std::test::Fail;
-
-fn new_registry(alloc: Global) -> Result<Tables<MemStore>, TableFault> {
-    let mut tables = Tables::new(Connection::open_in_memory(alloc)?);
-    if tables.conn.is_autocommit() {
-        create(&mut tables.conn)?;
-    }
-    Ok(tables)
-}
 
 fn command(alloc: Global, key: Option<&str>, line: &str) -> Result<Command, TableFault> {
     let mut words = line.split(' ');
@@ -149,7 +141,7 @@ fn name(tables: &mut Tables<MemStore>, alloc: Global, text: &str) -> Result<Stri
 #[test]
 fn commands_are_carried_out(rt: HostRuntime) -> Result<(), Fail> {
     let alloc = rt.alloc();
-    let mut tables = new_registry(alloc)?;
+    let mut tables = new_in_memory(alloc)?;
     let all = replies(&mut tables, alloc, LINES)?;
     assert!(rt; all.as_str() == REPLIES);
     let twice = keyed(&mut tables, alloc)?;
