@@ -12,15 +12,15 @@ use Rattle.pid_moderation.specs.declared.rank.Rank.{Rank}
 use Rattle.pid_moderation.specs.Items.{name_at}
 use Rattle.pid_moderation.specs.Ranks.{rank_number}
 use Rattle.pid_moderation.specs.Views.{Views}
-use Rattle.pid_tables.specs.Schema.{meta, account, item, submission, receipt}
-use Rattle.pid_tables.specs.TableRows.{number, Standing, meta_row, account_row, item_row, submission_row, receipt_row}
-use Rattle.pid_tables.specs.Answers.{value_row, rank_row, name_row, standing_row, reply_row}
-use Rattle.pid_tables.specs.Shows.{Counts, ShowsCounting, Shows, counts_of, meta_of, standing_in, receipt_in}
+use Rattle.pid_tables.specs.Schema.{meta, account, item, submission, remark, receipt}
+use Rattle.pid_tables.specs.TableRows.{number, Standing, meta_row, account_row, item_row, submission_row, remark_row, receipt_row}
+use Rattle.pid_tables.specs.Answers.{value_row, rank_row, name_row, standing_row, reply_row, remark_shown}
+use Rattle.pid_tables.specs.Shows.{Counts, ShowsCounting, Shows, counts_of, meta_of, standing_in, remark_in, receipt_in}
 use Rattle.pid_tables.specs.Leaves.{AtRest}
 use Rattle.pid_tables.proofs.MapLemmas.{map_found}
-use Rattle.pid_tables.proofs.Keys.{meta_found, account_found, item_found, submission_found, receipt_found, meta_plain, account_plain, item_plain, submission_plain, receipt_plain}
-use Rattle.pid_tables.proofs.KeyTexts.{by_first, by_rowid, by_both, submission_columns, receipt_columns, select_meta_is, select_account_is, select_item_is, select_submission_is, select_receipt_is}
-use Rattle.pid_tables.proofs.StatementTexts.{select_meta, select_account, select_item, select_submission, select_receipt}
+use Rattle.pid_tables.proofs.Keys.{meta_found, account_found, item_found, submission_found, remark_found, receipt_found, meta_plain, account_plain, item_plain, submission_plain, remark_plain, receipt_plain}
+use Rattle.pid_tables.proofs.KeyTexts.{by_first, by_rowid, by_both, submission_columns, receipt_columns, select_meta_is, select_account_is, select_item_is, select_submission_is, select_remark_is, select_receipt_is}
+use Rattle.pid_tables.proofs.StatementTexts.{select_meta, select_account, select_item, select_submission, select_remark, select_receipt}
 use Rattle.pid_tables.proofs.ReadLemmas.{shown_passes}
 
 module _ (old new : State) (c : Counts) (v : Views) (shows : ShowsCounting c old.now v) (answer : List Row) where
@@ -38,6 +38,9 @@ module _ (old new : State) (c : Counts) (v : Views) (shows : ShowsCounting c old
 
   pub reply_found : (who token : List ℕ) → Shown select_receipt (Text who ∷ Text token ∷ []) old new answer → slice_get answer 0 ≡ option_map reply_row (v.kept who token)
   reply_found who token h = map_found receipt_row by_both _ receipt_found (receipt_in v) (who, token) receipt 5 refl receipt_plain old new shows.schema shows.receipts select_receipt _ _ select_receipt_is reply_row (λ id v. refl) answer h
+
+  pub remark_at_found : (n place : ℕ) → Shown select_remark (number n ∷ number place ∷ []) old new answer → slice_get answer 0 ≡ option_map remark_shown (remark_in v (n, place))
+  remark_at_found n place h = map_found remark_row by_both _ remark_found (remark_in v) (n, place) remark 4 refl remark_plain old new shows.schema shows.remarks select_remark _ _ select_remark_is remark_shown (λ id v. refl) answer h
 
 -- the same, read in a transaction of its own on tables at rest
 pub at_rest : {S X E : Type 0} (g : Ghosts S) (old : Held S) (v : Views) (sql : List ℕ) (params : Row) (r : Result X E) (rows : X → List Row) (P : X → Type 0) → AtRest (state g old) v

@@ -23,3 +23,6 @@ pub mod FirstLemmas
 pub mod LastRemark
 pub mod RangeLemmas
 pub mod ChildLemmas
+pub mod SoundLemmas
+pub mod NextLemmas
+pub mod PendingLemmas

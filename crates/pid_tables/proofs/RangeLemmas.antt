@@ -64,7 +64,7 @@ turned Less = refl
 turned Equal = refl
 turned Greater = refl
 
-above : (p q : List ℕ) → is_true (binary (Compare Gt Binary) (Text p) (Text q)) ≡ is_lt (text_cmp q p)
+pub above : (p q : List ℕ) → is_true (binary (Compare Gt Binary) (Text p) (Text q)) ≡ is_lt (text_cmp q p)
 unfolding binary
 above p q = said _ ∙ ap is_gt (value_cmp-Text p q) ∙ turned (text_cmp p q) ∙ ap is_lt (sym (nat_list_cmp_total.antisymm q p))
 

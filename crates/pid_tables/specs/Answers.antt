@@ -6,6 +6,7 @@ use Rattle.pid_ident.specs.PathTexts.{path_text}
 use Rattle.pid_moderation.specs.declared.command.Reply.{Reply}
 use Rattle.pid_moderation.specs.declared.rank.Rank.{Rank}
 use Rattle.pid_moderation.specs.Ranks.{rank_number}
+use Rattle.pid_moderation.specs.Views.{Remark}
 use Rattle.pid_tables.specs.TableRows.{number, Standing, form_of, name_of, state_number, decider_of, reason_of, kind_of, first_of, second_of, third_of}
 
 abbrev pub value_row : ℕ → Row
@@ -23,3 +24,9 @@ standing_row s = Text s.submitted.author ∷ Text (path_text s.submitted.path) �
 
 abbrev pub reply_row : Reply → Row
 reply_row reply = number (kind_of reply) ∷ number (first_of reply) ∷ number (second_of reply) ∷ number (third_of reply) ∷ []
+
+abbrev pub item_shown : List ℕ × List ℕ → Row
+item_shown e = Text e.0 ∷ Text e.1 ∷ []
+
+abbrev pub remark_shown : Remark → Row
+remark_shown r = Text r.author ∷ Text r.text ∷ []

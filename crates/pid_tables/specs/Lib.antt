@@ -6,6 +6,9 @@ pub mod Answers
 pub mod Shows
 pub mod Leaves
 pub mod Standings
+pub mod ItemPairs
+pub mod PendingOnes
+pub mod Comments
 pub mod Ranges
 pub mod Creation
 pub mod Puts

@@ -3,8 +3,11 @@ ghost use Rattle.std.specs.Prelude.{◌≡◌, ◌⊎◌, ◌||◌, ◌++◌, []
 ghost use Rattle.sqlite.specs.Held.{state};
 ghost use Rattle.pid_moderation.specs.Items.{name_at as item_at, has_children as are_children};
 ghost use Rattle.pid_tables.specs.Leaves.{GoesOn, LeadsTo, OnlyReads, Tells};
-ghost use Rattle.pid_tables.specs.Answers.{name_row};
-ghost use Rattle.pid_tables.specs.Ranges.{holds_between, generics_of};
+ghost use Rattle.sqlite.specs.Order.{column};
+ghost use Rattle.sqlite.specs.declared.types.Value.TheVariants.{Text as TextValue};
+ghost use Rattle.pid_tables.specs.Answers.{name_row, item_shown};
+ghost use Rattle.pid_tables.specs.ItemPairs.{pair_of};
+ghost use Rattle.pid_tables.specs.Ranges.{holds_between, generics_of, first_above};
 ghost use Rattle.pid_ident.specs.PathTexts.{path_text};
 ghost use Rattle.pid_moderation.specs.WellMade.{AllItems, HoldsParents};
 ghost use Rattle.pid_tables.specs.Shows.{AreViews};
@@ -12,7 +15,7 @@ ghost use Rattle.pid_tables.specs.Writes.{with_name, without_item};
 
 use crate::fault::TableFault;
 use crate::run::{read_rows, write_one};
-use crate::value::name_at;
+use crate::value::{name_at, path_at};
 use pid_ident::{Name, Path};
 use sqlite::types::{ToSql, ValueRef};
 use sqlite::{Alter, Connection, Row, Transaction};
@@ -195,5 +198,51 @@ pub(crate) fn has_children<S: Alter>(
             Ok(either(below, generic))
         }
         _ => Ok(below),
+    }
+}
+
+/// A path and the name of the item there.
+#[derive(Debug, Drop)]
+pub struct Item {
+    pub path: Path,
+    pub name: Name,
+}
+
+fn next_rows<S: Alter>(conn: &mut Connection<S>, text: &str) -> Result<Vec<Row>, TableFault>
+    requires { (state S.Store conn.old).in_transaction ≡ false }
+    ensures rests { OnlyReads (state S.Store conn.old) (state S.Store conn.new) }
+    ensures found { Tells (state S.Store conn.old) (state S.Store conn.new) result (λ v rows. slice_get rows.items 0 ≡ option_map item_shown (first_above text.now v.items)) }
+{
+    let text = text.to_sql();
+    read_rows(
+        conn,
+        "SELECT path, name FROM item WHERE path > ?1 ORDER BY path LIMIT 1",
+        &[text],
+    )
+}
+
+fn item_of(row: &Row, alloc: Global) -> Result<Item, TableFault>
+    ensures path { IfOk result (λ item. column row.now 0 ≡ TextValue (path_text item.path)) }
+    ensures name { IfOk result (λ item. column row.now 1 ≡ TextValue item.name) }
+{
+    let path = path_at(row, 0)?;
+    let name = name_at(row, alloc, 1)?;
+    Ok(Item { path, name })
+}
+
+/// The first item, in the canonical order, whose path is above a text.
+pub(crate) fn item_above<S: Alter>(
+    conn: &mut Connection<S>,
+    alloc: Global,
+    text: &str,
+) -> Result<Option<Item>, TableFault>
+    requires { (state S.Store conn.old).in_transaction ≡ false }
+    ensures rests { OnlyReads (state S.Store conn.old) (state S.Store conn.new) }
+    ensures found { Tells (state S.Store conn.old) (state S.Store conn.new) result (λ v item. option_map pair_of item ≡ first_above text.now v.items) }
+{
+    let rows = next_rows(conn, text)?;
+    match rows.first() {
+        Some(row) => Ok(Some(item_of(row, alloc)?)),
+        None => Ok(None),
     }
 }

@@ -7,6 +7,7 @@ mod creation;
 mod fault;
 mod gather;
 mod item;
+mod laws;
 mod meta;
 mod putting;
 mod receipt;
@@ -19,9 +20,12 @@ mod value;
 pub use batch::{Batch, apply, begin, commit, put, roll_back};
 pub use creation::create;
 pub use fault::TableFault;
+pub use item::Item;
+pub use laws::views_of_sound_histories;
 pub use putting::Put;
+pub use remark::Comment;
 pub use submission::Submission;
-pub use tables::Tables;
+pub use tables::{Tables, new_in_memory};
 
 #[cfg(test)]
 mod tests;

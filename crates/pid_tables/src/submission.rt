@@ -1,19 +1,20 @@
 //! The table of submissions, each as it stands.
-ghost use Rattle.std.specs.Prelude.{◌≡◌, ◌+◌, false, length, [], IfOk, IsSome, option_map, slice_get};
+ghost use Rattle.std.specs.Prelude.{◌≡◌, ◌+◌, ℕ, Option, false, length, [], IfOk, IsSome, option_map, slice_get};
 ghost use Rattle.sqlite.specs.Held.{state as shown};
 ghost use Rattle.pid_ident.specs.PathTexts.{path_text};
 ghost use Rattle.pid_moderation.specs.Views.{submission_at};
 ghost use Rattle.pid_moderation.specs.declared.facts.State.TheVariants as states;
 ghost use Rattle.pid_tables.specs.TableRows.{form_of, name_of, state_number, decider_of, reason_of};
 ghost use Rattle.pid_tables.specs.Leaves.{GoesOn, LeadsTo, OnlyReads, Tells};
-ghost use Rattle.pid_tables.specs.Answers.{standing_row};
+ghost use Rattle.pid_tables.specs.Answers.{standing_row, value_row};
 ghost use Rattle.pid_tables.specs.Shows.{AreViews, standing_in};
+ghost use Rattle.pid_tables.specs.PendingOnes.{IsFirstPending};
 ghost use Rattle.pid_tables.specs.Standings.{standing_of, ReadsTo};
 ghost use Rattle.pid_tables.specs.Writes.{with_submission, with_state, NamesDecider};
 
 use crate::fault::TableFault;
 use crate::run::{read_rows, write_one};
-use crate::value::{account_at, path_at, proposal_at, state_at, words_at};
+use crate::value::{account_at, number_at, path_at, proposal_at, state_at, words_at};
 use pid_ident::{Account, Path, Text};
 use pid_moderation::{Proposal, State};
 use sqlite::types::ToSql;
@@ -224,6 +225,35 @@ pub(crate) fn standing<S: Alter>(
     let rows = submission_rows(conn, number)?;
     match rows.first() {
         Some(row) => Ok(Some(submission_of(row, alloc)?)),
+        None => Ok(None),
+    }
+}
+
+fn pending_rows<S: Alter>(conn: &mut Connection<S>, after: u32) -> Result<Vec<Row>, TableFault>
+    requires { (shown S.Store conn.old).in_transaction ≡ false }
+    ensures rests { OnlyReads (shown S.Store conn.old) (shown S.Store conn.new) }
+    ensures found { Tells (shown S.Store conn.old) (shown S.Store conn.new) result (λ v rows. (o : Option ℕ) × (slice_get rows.items 0 ≡ option_map value_row o) × IsFirstPending v after o) }
+{
+    let after = after.to_sql();
+    read_rows(
+        conn,
+        "SELECT num FROM submission WHERE state = 0 AND num > ?1 ORDER BY num LIMIT 1",
+        &[after],
+    )
+}
+
+/// The number of the first pending submission above a number.
+pub(crate) fn pending_above<S: Alter>(
+    conn: &mut Connection<S>,
+    after: u32,
+) -> Result<Option<u32>, TableFault>
+    requires { (shown S.Store conn.old).in_transaction ≡ false }
+    ensures rests { OnlyReads (shown S.Store conn.old) (shown S.Store conn.new) }
+    ensures found { Tells (shown S.Store conn.old) (shown S.Store conn.new) result (λ v number. IsFirstPending v after number) }
+{
+    let rows = pending_rows(conn, after)?;
+    match rows.first() {
+        Some(row) => Ok(Some(number_at(row, 0)?)),
         None => Ok(None),
     }
 }

@@ -2,27 +2,35 @@
 ghost use Rattle.std.specs.Prelude.{◌≡◌, ◌↔◌, [], false, length, IfOk, IsTrue, option_map};
 ghost use Rattle.sqlite.specs.Held.{state};
 ghost use Rattle.sqlite.specs.State.{HasCleanDisk};
+ghost use Rattle.sqlite.specs.Steps.{over_memory};
+ghost use Rattle.pid_moderation.specs.Views.{views_of};
 ghost use Rattle.pid_ident.specs.PathTexts.{path_text};
 ghost use Rattle.pid_moderation.specs.FactsOfViews.{facts_at};
 ghost use Rattle.pid_moderation.specs.Items.{name_at};
 ghost use Rattle.pid_moderation.specs.Wants.{wanted_by};
 ghost use Rattle.pid_moderation.specs.WellMade.{AllItems, HoldsParents};
 ghost use Rattle.pid_tables.specs.Creation.{IsBlank};
-ghost use Rattle.pid_tables.specs.Leaves.{OnlyReads, Tells};
-ghost use Rattle.pid_tables.specs.Shows.{standing_in};
+ghost use Rattle.pid_tables.specs.ItemPairs.{pair_of};
+ghost use Rattle.pid_tables.specs.Leaves.{AtRest, OnlyReads, Tells};
+ghost use Rattle.pid_tables.specs.PendingOnes.{IsFirstPending};
+ghost use Rattle.pid_tables.specs.Ranges.{first_above};
+ghost use Rattle.pid_tables.specs.Comments.{remark_of};
+ghost use Rattle.pid_tables.specs.Shows.{standing_in, remark_in};
 ghost use Rattle.pid_tables.specs.Standings.{standing_of};
 
 use crate::account::rank;
+use crate::creation::create;
 use crate::fault::TableFault;
 use crate::gather::gather_facts;
-use crate::item::item_name;
+use crate::item::{Item, item_above, item_name};
 use crate::meta::{items, schema_number, submissions};
 use crate::receipt::kept_reply;
+use crate::remark::{Comment, comment_at, remark_count};
 use crate::run::look;
-use crate::submission::{Submission, standing};
+use crate::submission::{Submission, pending_above, standing};
 use pid_ident::{Account, Key, Name, Path};
 use pid_moderation::{Facts, Rank, Reply, Rows, Verdict};
-use sqlite::{Alter, Connection};
+use sqlite::{Alter, Connection, MemStore};
 use std::alloc::Global;
 
 /// The tables of a registry, over a connection that is at rest between calls. A read leaves them as they are.
@@ -75,6 +83,16 @@ impl<S: Alter + Drop> Tables<S> {
         item_name(&mut self.conn, alloc, path.as_str())
     }
 
+    /// The first item, in the canonical order, whose path is above a text. From the empty text on, and then from the text of
+    /// each path that was told, it goes through all items; nothing is held between the calls.
+    pub fn item_above(&mut self, alloc: Global, text: &str) -> Result<Option<Item>, TableFault>
+        requires { (state S.Store self.old.conn).in_transaction ≡ false }
+        ensures rests { OnlyReads (state S.Store self.old.conn) (state S.Store self.new.conn) }
+        ensures told { Tells (state S.Store self.old.conn) (state S.Store self.new.conn) result (λ v item. option_map pair_of item ≡ first_above text.now v.items) }
+    {
+        item_above(&mut self.conn, alloc, text)
+    }
+
     /// The submission with the number, as it stands.
     pub fn submission(
         &mut self,
@@ -86,6 +104,39 @@ impl<S: Alter + Drop> Tables<S> {
         ensures told { Tells (state S.Store self.old.conn) (state S.Store self.new.conn) result (λ v s. option_map standing_of s ≡ standing_in v number) }
     {
         standing(&mut self.conn, alloc, number)
+    }
+
+    /// The number of the first pending submission above a number. From 0 on, and then from each number that was told, it goes
+    /// through all that are pending.
+    pub fn pending_above(&mut self, after: u32) -> Result<Option<u32>, TableFault>
+        requires { (state S.Store self.old.conn).in_transaction ≡ false }
+        ensures rests { OnlyReads (state S.Store self.old.conn) (state S.Store self.new.conn) }
+        ensures told { Tells (state S.Store self.old.conn) (state S.Store self.new.conn) result (λ v number. IsFirstPending v after number) }
+    {
+        pending_above(&mut self.conn, after)
+    }
+
+    /// How many remarks there are on a submission.
+    pub fn remarks(&mut self, number: u32) -> Result<u32, TableFault>
+        requires { (state S.Store self.old.conn).in_transaction ≡ false }
+        ensures rests { OnlyReads (state S.Store self.old.conn) (state S.Store self.new.conn) }
+        ensures told { Tells (state S.Store self.old.conn) (state S.Store self.new.conn) result (λ v n. n ≡ length (v.remarks number)) }
+    {
+        remark_count(&mut self.conn, number)
+    }
+
+    /// The remark at a place, counted from 1, on a submission.
+    pub fn remark(
+        &mut self,
+        alloc: Global,
+        number: u32,
+        place: u32,
+    ) -> Result<Option<Comment>, TableFault>
+        requires { (state S.Store self.old.conn).in_transaction ≡ false }
+        ensures rests { OnlyReads (state S.Store self.old.conn) (state S.Store self.new.conn) }
+        ensures told { Tells (state S.Store self.old.conn) (state S.Store self.new.conn) result (λ v comment. option_map remark_of comment ≡ remark_in v (number, place)) }
+    {
+        comment_at(&mut self.conn, alloc, number, place)
     }
 
     /// How many items there are.
@@ -146,4 +197,14 @@ fn is_bare<S: Alter>(conn: &Connection<S>) -> bool
     ensures { IsTrue result ↔ ((state S.Store conn.now).now.schema.tables ≡ []) }
 {
     conn.schema().tables.is_empty()
+}
+
+/// A new registry in memory.
+pub fn new_in_memory(alloc: Global) -> Result<Tables<MemStore>, TableFault>
+    ensures settled { IfOk result (λ tables. tables.conn.in_transaction ≡ false) }
+    ensures made { IfOk result (λ tables. AtRest (state over_memory tables.conn) (views_of [])) }
+{
+    let mut conn = Connection::open_in_memory(alloc)?;
+    create(&mut conn)?;
+    Ok(Tables::new(conn))
 }
