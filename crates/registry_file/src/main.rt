@@ -1,0 +1,198 @@
+//! Makes a registry's file from the PCI identifiers on standard input, and obeys some commands in it: what the tests
+//! against sqlite3 and the benchmarks run. It is no part of `pciids`.
+#![tactic(auto)]
+
+ghost use Rattle.std.specs.Prelude.{◌≡◌, false, OnOk};
+ghost use Rattle.sqlite.specs.Held.{state};
+
+use pid_ident::{Account, Name, Path, Text, WordFault};
+use pid_moderation::{Act, Change, Command, Effect, Proposal, Rank, Verdict, decide, needs};
+use pid_reader::Lines;
+use pid_tables::{Batch, Put, TableFault, Tables, apply, begin, commit, create, put};
+use sqlite::{Alter, Connection};
+use std::alloc::{AllocError, Global};
+use std::io::Read;
+use std::process::ExitCode;
+use std::{env, io};
+use thiserror::Error;
+
+/// Why no file was made.
+#[derive(Debug, Drop, Error)]
+enum Fault {
+    #[error("usage: registry_file FILE COMMANDS < pci.ids")]
+    Words,
+    #[error("the text has a fault")]
+    Text,
+    #[error("a command was refused")]
+    Refused,
+    #[error("standard input failed")]
+    Input,
+    #[error("{0}")]
+    Tables(#[from] TableFault),
+}
+
+impl From<AllocError> for Fault {
+    fn from(_error: AllocError) -> Fault {
+        Fault::Tables(TableFault::Memory)
+    }
+}
+
+impl From<WordFault> for Fault {
+    fn from(_fault: WordFault) -> Fault {
+        Fault::Tables(TableFault::Memory)
+    }
+}
+
+fn main(rt: HostRuntime) -> ExitCode {
+    match make(&rt) {
+        Ok(items) => {
+            let _ = println!(rt; "{items} items");
+            ExitCode::SUCCESS
+        }
+        Err(fault) => {
+            let _ = eprintln!(rt; "{fault}");
+            ExitCode::from(2)
+        }
+    }
+}
+
+fn make(rt: &HostRuntime) -> Result<u32, Fault> {
+    let alloc = rt.alloc();
+    let words: Vec<String> = env::args(rt).map_err(|_| Fault::Words)?.collect(alloc)?;
+    let [_, file, commands] = words.as_slice() else {
+        return Err(Fault::Words);
+    };
+    let commands = commands.parse::<u16>().map_err(|_| Fault::Words)?;
+    let mut text = Vec::new(alloc);
+    rt.stdin().read_to_end(&mut text).map_err(|_| Fault::Input)?;
+    let conn = Connection::open(rt, file.as_str()).map_err(TableFault::from)?;
+    let mut tables = Tables::new(conn);
+    if !tables.conn.is_autocommit() {
+        return Err(Fault::Tables(TableFault::Store));
+    }
+    fill(&mut tables, alloc, &text, commands)?;
+    Ok(tables.items()?)
+}
+
+fn fill<S: Alter + Drop>(
+    tables: &mut Tables<S>,
+    alloc: Global,
+    text: &[u8],
+    commands: u16,
+) -> Result<(), Fault>
+    requires { (state S.Store tables.old.conn).in_transaction ≡ false }
+    ensures { OnOk result ((state S.Store tables.new.conn).in_transaction ≡ false) }
+{
+    if tables.version()? == 0 {
+        create(&mut tables.conn)?;
+        let who = Account::of(alloc, "bob")?;
+        obey(
+            tables,
+            alloc,
+            "root",
+            Act::Account {
+                who,
+                rank: Rank::Moderator,
+            },
+        )?;
+    }
+    import(tables, alloc, text)?;
+    for number in 0..commands {
+        submit_and_approve(tables, alloc, number)?;
+    }
+    Ok(())
+}
+
+// How the entries of a text changed the items.
+#[derive(Clone, Copy)]
+struct Counted {
+    added: u32,
+    renamed: u32,
+    same: u32,
+}
+
+fn put_all<S: Alter>(batch: &mut Batch<'_, S>, alloc: Global, text: &[u8]) -> Result<Counted, Fault>
+    ensures { batch.new.conn.ghost_name ≡ batch.old.conn.ghost_name }
+{
+    let (mut added, mut renamed, mut same) = (0u32, 0u32, 0u32);
+    for entry in Lines::new(text) {
+        let entry = entry.map_err(|_| Fault::Text)?;
+        match put(batch, alloc, &entry.path, entry.name)? {
+            Put::Added => added = added.saturating_add(1),
+            Put::Renamed => renamed = renamed.saturating_add(1),
+            Put::Same => same = same.saturating_add(1),
+        }
+    }
+    Ok(Counted {
+        added,
+        renamed,
+        same,
+    })
+}
+
+// The whole text in one transaction.
+fn import<S: Alter + Drop>(tables: &mut Tables<S>, alloc: Global, text: &[u8]) -> Result<(), Fault>
+    requires { (state S.Store tables.old.conn).in_transaction ≡ false }
+    ensures { OnOk result ((state S.Store tables.new.conn).in_transaction ≡ false) }
+{
+    let before = tables.items()?;
+    let mut batch = begin(&mut tables.conn);
+    let counted = put_all(&mut batch, alloc, text)?;
+    let effect = Effect::Imported {
+        added: counted.added,
+        renamed: counted.renamed,
+        same: counted.same,
+        items: before.saturating_add(counted.added),
+    };
+    let change = Change {
+        effect,
+        receipt: None,
+    };
+    apply(&mut batch, alloc, &change)?;
+    commit(batch)?;
+    Ok(())
+}
+
+// A vendor gets a name, which somebody else approves.
+fn submit_and_approve<S: Alter + Drop>(
+    tables: &mut Tables<S>,
+    alloc: Global,
+    number: u16,
+) -> Result<(), Fault>
+    requires { (state S.Store tables.old.conn).in_transaction ≡ false }
+    ensures { OnOk result ((state S.Store tables.new.conn).in_transaction ≡ false) }
+{
+    let submit = Act::Submit {
+        path: Path::Vendor { vendor: number },
+        proposal: Proposal::Name(Name::of(alloc, "renamed")?),
+        note: Text::of(alloc, "")?,
+    };
+    obey(tables, alloc, "bob", submit)?;
+    let number = tables.submissions()?;
+    obey(tables, alloc, "root", Act::Approve { number })
+}
+
+// One command is one transaction.
+fn obey<S: Alter + Drop>(
+    tables: &mut Tables<S>,
+    alloc: Global,
+    account: &str,
+    act: Act,
+) -> Result<(), Fault>
+    requires { (state S.Store tables.old.conn).in_transaction ≡ false }
+    ensures { OnOk result ((state S.Store tables.new.conn).in_transaction ≡ false) }
+{
+    let account = Account::of(alloc, account)?;
+    let command = Command {
+        account,
+        key: None,
+        act,
+    };
+    let rows = needs(&command);
+    let facts = tables.gather(alloc, &command.account, &command.key, rows, Verdict::NoFile)?;
+    let (change, _) = decide(&facts, &command).map_err(|_| Fault::Refused)?;
+    let mut batch = begin(&mut tables.conn);
+    apply(&mut batch, alloc, &change)?;
+    commit(batch)?;
+    Ok(())
+}
