@@ -1,14 +1,13 @@
 -- What a crash may leave after a call.
-use Rattle.std.proofs.Common.{◌≡◌, ◌⊎◌, inl, inr, refl, sym, ap, subst, ◌∙◌, true, false, IsTrue, arith}
+use Rattle.std.proofs.Common.{◌≡◌, inl, inr, refl, sym, ap, subst, ◌∙◌, true, false, IsTrue, arith}
 use Rattle.sqlite.specs.Tree.{Trees}
 use Rattle.sqlite.specs.Effect.{Database}
 use Rattle.sqlite.specs.State.{State, HasCleanDisk, Survives, IsRolledBack, Shows as Sees}
 use Rattle.sqlite.specs.Held.{Held, state}
 use Rattle.sqlite_trees.specs.declared.store.Store.{Ghosts}
-use Rattle.pid_tables.specs.Schema.{pid_schema}
 use Rattle.pid_moderation.specs.Views.{Views}
 use Rattle.pid_tables.specs.Shows.{Shows, counts_of}
-use Rattle.pid_tables.specs.Leaves.{as_found, Leaves, LeavesEither, AtRest, Holds, Within, Written}
+use Rattle.pid_tables.specs.Leaves.{as_found, Leaves, LeavesEither, AtRest, Holds, Within}
 
 pub leaves_on : (old new : State) (v : Views) → Survives old new (λ _. ⊥) → Leaves old v → Leaves new v
 leaves_on old new v s all = record { each = λ clean db may. elim (s.crash clean db may) [ inl was ↦ all.each (omega (arith, s.clean)) db was | inr none ↦ absurd none ] }
