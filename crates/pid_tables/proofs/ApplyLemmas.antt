@@ -1,12 +1,12 @@
 -- What a whole change leaves of counts and receipts.
-use Rattle.std.proofs.Common.{◌≡◌, ℕ, ◌+◌, List, [], ◌∷◌, ◌++◌, length, None, Some, Option, Result, OnOk, refl, sym, ap, subst, ◌∙◌, length-append}
+use Rattle.std.proofs.Common.{◌≡◌, [], ◌∷◌, length, None, Some, Option, refl, sym, ap, subst, ◌∙◌, length-append}
 use Rattle.sqlite.specs.Effect.{Database}
 use Rattle.pid_moderation.specs.declared.change.Change.{Change}
 use Rattle.pid_moderation.specs.declared.change.Effect.{Effect}
 use Rattle.pid_moderation.specs.declared.change.Effect.TheVariants.{Nothing, Ranked, Submitted, Remarked, Decided, Imported}
 use Rattle.pid_moderation.specs.declared.change.Receipt.{Receipt}
 use Rattle.pid_moderation.specs.Changes.{affected, keeping, changed, FitsEffect, FitsReceipt}
-use Rattle.pid_moderation.specs.Views.{Views, Submitted as Submission}
+use Rattle.pid_moderation.specs.Views.{Views}
 use Rattle.pid_tables.specs.Shows.{Counts, ShowsCounting, Shows, counts_of}
 use Rattle.pid_tables.specs.Applies.{IsCounted, recounted}
 

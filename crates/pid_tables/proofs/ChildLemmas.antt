@@ -6,12 +6,12 @@ use Rattle.std.specs.Ordering.{nat_cmp, ordering_then, is_lt}
 use Rattle.std.specs.Cmp.Lexicographic.{slice_cmp}
 use Rattle.std.specs.FinMap.{nat_cmp-IsAntisymmetric}
 use Rattle.std.specs.FinMap.Entries.{is_sorted}
-use Rattle.std.proofs.lemmas.Bool.{cases_Bool, and_parts, and_from}
+use Rattle.std.proofs.lemmas.Bool.{and_parts, and_from}
 use Rattle.std.proofs.lemmas.Bool.Decides.{nat_tests}
 use Rattle.std.proofs.lemmas.Slice.Eq.{bytes_eq-Decides}
 use Rattle.sqlite_rules.specs.Lists.{Has}
 use Rattle.pid_ident.specs.Trees.{text_cmp}
-use Rattle.pid_ident.specs.PathTexts.{IsPath, IsTextOf}
+use Rattle.pid_ident.specs.PathTexts.{IsTextOf}
 use Rattle.pid_moderation.specs.Items.{Items, name_at, holds_parent, is_parent, has_children}
 use Rattle.pid_moderation.specs.WellMade.{AllItems, HoldsParents}
 use Rattle.pid_tables.specs.Ranges.{is_between, holds_between, generics_of}

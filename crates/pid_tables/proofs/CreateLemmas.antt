@@ -1,5 +1,5 @@
 -- What one CREATE TABLE leaves, and the first rows.
-use Rattle.std.proofs.Common.{◌≡◌, ◌⊎◌, inl, inr, ℕ, zero, suc, ℤ, arith, List, [], ◌∷◌, ◌++◌, fold, true, false, None, Some, Option, Ok, Result, refl, sym, ap, subst, ◌∙◌}
+use Rattle.std.proofs.Common.{◌≡◌, ℕ, zero, suc, ℤ, arith, List, [], ◌∷◌, ◌++◌, fold, false, None, Some, Ok, refl, sym, ap, subst, ◌∙◌}
 use Rattle.std.specs.List.{AllByRecursion}
 use Rattle.sqlite.specs.Schema.{Schema}
 use Rattle.sqlite.specs.Table.{Table}
@@ -8,16 +8,14 @@ use Rattle.sqlite.specs.Command.TheVariants.{CreateTable}
 use Rattle.sqlite.specs.Change.{created, next_tree, KeepsRows}
 use Rattle.sqlite.specs.Does.{Tally, lacks_sequence}
 use Rattle.sqlite.specs.Effect.{Database, IsDatabase}
-use Rattle.sqlite.specs.Listing.{understood}
 use Rattle.sqlite.specs.State.{State, Writes, Executes}
-use Rattle.sqlite.proofs.Callers.{runs_as, statement_of}
-use Rattle.std.specs.Prelude.{bytes_eq, codes}
+use Rattle.sqlite.proofs.Callers.{runs_as}
 use Rattle.sqlite.specs.declared.types.Value.TheVariants.{Null, Text}
 use Rattle.sqlite.specs.Edit.{next_rowid, numbered}
 use Rattle.sqlite_rules.specs.declared.error.Rowids.TheVariants.{Chosen}
 use Rattle.pid_moderation.specs.declared.facts.State.TheVariants.{Pending}
-use Rattle.pid_moderation.specs.Views.{Views, views_of}
-use Rattle.pid_tables.specs.Schema.{no_schema, pid_schema, meta, account, item, submission, remark, receipt}
+use Rattle.pid_moderation.specs.Views.{Views}
+use Rattle.pid_tables.specs.Schema.{no_schema, meta, account, item, submission, remark, receipt}
 use Rattle.pid_tables.specs.PairRows.{Map, RowsAre}
 use Rattle.pid_tables.specs.TableRows.{number, meta_row}
 use Rattle.sqlite.specs.Order.{Row}

@@ -1,25 +1,21 @@
 -- What queries by keys answer.
-use Rattle.std.proofs.Common.{◌≡◌, ℕ, true, List, [], ◌∷◌, None, Some, Option, Ok, Err, Result, IfOk, slice_get, refl, sym, ap, ◌∙◌, codes}
+use Rattle.std.proofs.Common.{◌≡◌, ℕ, true, List, [], ◌∷◌, Ok, Err, Result, IfOk, slice_get, refl}
 use Rattle.std.specs.Prelude.{option_map}
-use Rattle.sqlite.specs.declared.types.Value.TheVariants.{Null, Int, Text}
+use Rattle.sqlite.specs.declared.types.Value.TheVariants.{Text}
 use Rattle.sqlite.specs.Order.{Row}
 use Rattle.sqlite.specs.State.{State, Shown}
 use Rattle.sqlite.specs.Held.{Held, state}
 use Rattle.sqlite_trees.specs.declared.store.Store.{Ghosts}
-use Rattle.pid_ident.specs.PathTexts.{path_text}
-use Rattle.pid_moderation.specs.declared.command.Reply.{Reply}
-use Rattle.pid_moderation.specs.declared.rank.Rank.{Rank}
 use Rattle.pid_moderation.specs.Items.{name_at}
-use Rattle.pid_moderation.specs.Ranks.{rank_number}
 use Rattle.pid_moderation.specs.Views.{Views}
 use Rattle.pid_tables.specs.Schema.{meta, account, item, submission, remark, receipt}
-use Rattle.pid_tables.specs.TableRows.{number, Standing, meta_row, account_row, item_row, submission_row, remark_row, receipt_row}
+use Rattle.pid_tables.specs.TableRows.{number, meta_row, account_row, item_row, submission_row, remark_row, receipt_row}
 use Rattle.pid_tables.specs.Answers.{value_row, rank_row, name_row, standing_row, reply_row, remark_shown}
-use Rattle.pid_tables.specs.Shows.{Counts, ShowsCounting, Shows, counts_of, meta_of, standing_in, remark_in, receipt_in}
+use Rattle.pid_tables.specs.Shows.{Counts, ShowsCounting, Shows, meta_of, standing_in, remark_in, receipt_in}
 use Rattle.pid_tables.specs.Leaves.{AtRest}
 use Rattle.pid_tables.proofs.MapLemmas.{map_found}
 use Rattle.pid_tables.proofs.Keys.{meta_found, account_found, item_found, submission_found, remark_found, receipt_found, meta_plain, account_plain, item_plain, submission_plain, remark_plain, receipt_plain}
-use Rattle.pid_tables.proofs.KeyTexts.{by_first, by_rowid, by_both, submission_columns, receipt_columns, select_meta_is, select_account_is, select_item_is, select_submission_is, select_remark_is, select_receipt_is}
+use Rattle.pid_tables.proofs.KeyTexts.{by_first, by_rowid, by_both, select_meta_is, select_account_is, select_item_is, select_submission_is, select_remark_is, select_receipt_is}
 use Rattle.pid_tables.proofs.StatementTexts.{select_meta, select_account, select_item, select_submission, select_remark, select_receipt}
 use Rattle.pid_tables.proofs.ReadLemmas.{shown_passes}
 

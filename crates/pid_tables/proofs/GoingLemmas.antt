@@ -1,11 +1,11 @@
 -- What calls inside a transaction leave.
-use Rattle.std.proofs.Common.{◌≡◌, ◌⊎◌, inl, inr, ◌≤◌, Ok, Err, Result, OnOk, IfOk, IsTrue, refl, sym, subst, arith}
+use Rattle.std.proofs.Common.{Ok, Err, Result, OnOk, IfOk, IsTrue, sym, subst, arith}
 use Rattle.sqlite.specs.Tree.{Trees}
 use Rattle.sqlite.specs.State.{State, Survives}
 use Rattle.sqlite.specs.State.{HasCleanDisk}
 use Rattle.pid_moderation.specs.Views.{Views}
 use Rattle.pid_tables.specs.Shows.{Counts, ShowsCounting, Shows}
-use Rattle.pid_tables.specs.Leaves.{Leaves, Holds, Within, Written, GoesOn, LeadsTo}
+use Rattle.pid_tables.specs.Leaves.{Holds, Within, Written, GoesOn}
 use Rattle.pid_tables.proofs.LeaveLemmas.{leaves_on}
 
 pub earlier : {P : Trees → Type 0} (old new : State) → Survives old new P → HasCleanDisk new → HasCleanDisk old

@@ -1,8 +1,8 @@
 -- What the statements by keys mean in the schema.
-use Rattle.std.proofs.Common.{◌≡◌, ℕ, pos, List, [], ◌∷◌, codes, refl}
+use Rattle.std.proofs.Common.{ℕ, pos, List, [], ◌∷◌, codes, refl}
 use Rattle.sqlite.specs.declared.types.Value.TheVariants.{Null, Int, Text}
 use Rattle.sqlite.specs.Term.{Term, lit, col}
-use Rattle.sqlite.specs.Listing.{understood, reads_listing}
+use Rattle.sqlite.specs.Listing.{understood}
 use Rattle.sqlite_tied.specs.Compute.{everything}
 use Rattle.pid_tables.proofs.Statements.{equals, IsSelect, IsInsert, IsUpdate, IsDelete}
 use Rattle.pid_tables.proofs.StatementTexts.{select_meta, insert_meta, update_meta, select_account, insert_account, update_account, select_item, insert_item, update_item, delete_item, select_submission, insert_submission, update_submission, withdraw_submission, insert_remark, select_receipt, insert_receipt, select_remark}

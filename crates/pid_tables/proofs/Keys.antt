@@ -1,5 +1,5 @@
 -- The tables keep their maps by their keys, and what columns make of the values written to them.
-use Rattle.std.proofs.Common.{◌≡◌, ◌≢◌, ◌⊎◌, inl, inr, ℕ, ℤ, pos, List, [], ◌∷◌, ◌++◌, map, drop, true, false, Bool, refl, sym, ap, subst, ◌∙◌}
+use Rattle.std.proofs.Common.{◌≡◌, ◌≢◌, ◌⊎◌, inl, inr, ℕ, pos, List, [], ◌∷◌, refl, ap}
 use Rattle.std.proofs.lemmas.Bool.{cases_Bool, and_parts, and_from, both_ways}
 use Rattle.std.proofs.lemmas.Slice.Eq.{bytes_eq-Decides}
 use Rattle.std.specs.Prelude.{bytes_eq, ◌==◌}
@@ -7,18 +7,12 @@ use Rattle.std.proofs.lemmas.Bool.Decides.{Decides-eqb}
 use Rattle.pid_ident.specs.PathTexts.{path_text}
 use Rattle.sqlite.specs.declared.types.Value.{Value}
 use Rattle.sqlite.specs.declared.types.Value.TheVariants.{Null, Int, Text}
-use Rattle.sqlite.specs.Order.{Row, column}
-use Rattle.sqlite.specs.Tree.{rowid}
+use Rattle.sqlite.specs.Order.{Row}
 use Rattle.sqlite.specs.Cast.{cast, cast_row}
 use Rattle.sqlite.specs.Kind.TheVariants.{Integer}
-use Rattle.sqlite.specs.Collation.TheVariants.{Binary}
-use Rattle.sqlite.specs.Edit.{numbered, next_rowid}
-use Rattle.sqlite_schema.specs.Rules.{equal}
-use Rattle.sqlite_rules.specs.declared.error.Rowids.TheVariants.{Chosen}
 use Rattle.pid_moderation.specs.declared.command.Reply.{Reply}
-use Rattle.pid_moderation.specs.declared.rank.Rank.{Rank}
 use Rattle.pid_moderation.specs.Ranks.{rank_number}
-use Rattle.pid_moderation.specs.Views.{Submitted, Remark}
+use Rattle.pid_moderation.specs.Views.{Remark}
 use Rattle.pid_tables.specs.Schema.{meta, account, item, submission, remark, receipt}
 use Rattle.pid_tables.specs.TableRows.{number, Standing, meta_row, account_row, item_row, submission_row, remark_row, receipt_row, form_of, name_of, state_number, decider_of, reason_of, kind_of, first_of, second_of, third_of}
 use Rattle.pid_tables.proofs.Select.{texts_equal, text_equal, integers_equal, integer_equal}

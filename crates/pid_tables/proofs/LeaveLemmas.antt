@@ -1,13 +1,14 @@
 -- What a crash may leave after a call.
-use Rattle.std.proofs.Common.{◌≡◌, ◌⊎◌, inl, inr, refl, sym, ap, subst, ◌∙◌, true, false, IsTrue, arith}
+use Rattle.std.proofs.Common.{◌≡◌, inl, inr, refl, sym, ap, subst, ◌∙◌, true, false, IsTrue, arith, Ok, Err, Result, OnErr}
 use Rattle.sqlite.specs.Tree.{Trees}
 use Rattle.sqlite.specs.Effect.{Database}
 use Rattle.sqlite.specs.State.{State, HasCleanDisk, Survives, IsRolledBack, Shows as Sees}
 use Rattle.sqlite.specs.Held.{Held, state}
+use Rattle.sqlite.specs.Steps.{FailsToCommit}
+use Rattle.sqlite.specs.declared.error.Error.{Error}
 use Rattle.sqlite_trees.specs.declared.store.Store.{Ghosts}
-use Rattle.pid_tables.specs.Schema.{pid_schema}
 use Rattle.pid_moderation.specs.Views.{Views}
-use Rattle.pid_tables.specs.Shows.{Shows, counts_of}
+use Rattle.pid_tables.specs.Shows.{Counts, Shows, counts_of}
 use Rattle.pid_tables.specs.Leaves.{as_found, Leaves, LeavesEither, AtRest, Holds, Within, Written}
 
 pub leaves_on : (old new : State) (v : Views) → Survives old new (λ _. ⊥) → Leaves old v → Leaves new v
@@ -55,3 +56,15 @@ stands g old end w law settled ended sees shows = record {
         shows_found old.now w (shows s.was_open) db (settled db s.is_open may ∙ ap (λ (d : Database). d.trees) s.committed_is);
   };
 }
+
+-- a commit that fails, and leaves the connection open, gives back what the transaction held
+pub failed_back : (old new : State) (c : Counts) (v w : Views) (e : Error) → (IsTrue new.is_open → HasCleanDisk new) → (HasCleanDisk new → HasCleanDisk old) → (HasCleanDisk new → FailsToCommit old new e) → Written c old v w
+    → IsTrue new.is_open → Shows new.now v
+failed_back old new c v w e law early fails written opened = elim (fails (law opened)) [
+  | inl failed ↦ let back = failed.3 in subst (λ d. Shows d v) (sym (back.undone opened).0) (written.within.holds.committed (back.was_open opened))
+  | inr odd ↦ absurd (let both = sym (written.within.inside (early (law opened))) ∙ odd.1 in let bad : ⊥ = cc in bad)
+]
+
+pub on_err : {X E : Type 0} {Q : Type 0} (r : Result X E) → Q → OnErr r Q
+on_err (Ok x) q = tt
+on_err (Err e) q = q

@@ -1,8 +1,8 @@
 -- Queries and writes by key on a table that keeps a map.
-use Rattle.std.proofs.Common.{◌≡◌, ◌≢◌, ◌⊎◌, inl, inr, ℕ, ℤ, pos, negsuc, List, [], ◌∷◌, ◌++◌, map, drop, slice_get, length, Bool, true, false, cond, None, Some, Option, Ok, Err, Result, refl, sym, ap, subst, ◌∙◌}
+use Rattle.std.proofs.Common.{◌≡◌, ◌≢◌, ◌⊎◌, inl, inr, ℕ, ℤ, List, [], ◌∷◌, ◌++◌, map, drop, slice_get, length, Bool, true, false, cond, None, Some, Option, Ok, refl, sym, ap, subst, ◌∙◌}
 use Rattle.std.specs.Prelude.{option_map, nat_le, unwrap_or, ◌-◌, ◌^◌, ◌/◌}
 use Rattle.std.specs.List.{AllByRecursion}
-use Rattle.std.proofs.lemmas.Bool.{cases_Bool, both_ways, false_from_ne_true}
+use Rattle.std.proofs.lemmas.Bool.{both_ways, false_from_ne_true}
 use Rattle.std.specs.List.Sorted.{IsPermutation}
 use Rattle.std.proofs.lemmas.List.Sorted.{IsPermutation-sym}
 use Rattle.sqlite.specs.Tree.{Trees, rowid}
@@ -18,13 +18,13 @@ use Rattle.sqlite.specs.Effect.{IsDatabase, value_rows}
 use Rattle.sqlite.specs.State.{State, Executes, Shown}
 use Rattle.sqlite.proofs.Callers.{reads_as}
 use Rattle.sqlite_rules.specs.Lists.{Has}
-use Rattle.sqlite_rules.specs.declared.error.Rowids.TheVariants.{Chosen, Given}
+use Rattle.sqlite_rules.specs.declared.error.Rowids.TheVariants.{Chosen}
 use Rattle.sqlite_rules.specs.Calls.{ids_of}
 use Rattle.sqlite_rules.proofs.ListLemmas.{has_filtered, has_kept}
 use Rattle.sqlite_rules.proofs.ProbeLemmas.{mapped_has}
 use Rattle.sqlite_rules.proofs.PlaceLemmas.{given as given_rows}
 use Rattle.pid_tables.specs.Schema.{pid_schema}
-use Rattle.pid_tables.specs.PairRows.{Map, IsPairRow, RowsAre}
+use Rattle.pid_tables.specs.PairRows.{Map, RowsAre}
 use Rattle.pid_tables.proofs.Statements.{simple, program, IsSelect, IsInsert, IsUpdate, IsDelete}
 use Rattle.pid_tables.proofs.Select.{passing, shown, simple_rows}
 use Rattle.pid_tables.proofs.WriteLemmas.{IsPlainTable}

@@ -1,13 +1,12 @@
 -- The next item in the order of paths.
-use Rattle.std.proofs.Common.{◌≡◌, ◌⊎◌, inl, inr, ℕ, ℤ, List, [], ◌∷◌, Bool, cond, true, false, ◌&&◌, None, Some, Option, Ordering, Less, Equal, Greater, is_lt, is_gt, is_eq, refl, sym, ap, subst, ◌∙◌, codes}
+use Rattle.std.proofs.Common.{◌≡◌, ◌⊎◌, inl, inr, ℕ, ℤ, List, [], ◌∷◌, Bool, cond, true, false, ◌&&◌, None, Some, Ordering, Less, Equal, Greater, is_lt, is_gt, refl, sym, ap, subst, ◌∙◌, codes}
 use Rattle.std.specs.Prelude.{find, option_map, slice_get}
 use Rattle.std.specs.Ordering.{ordering_reverse, ordering_then}
 use Rattle.std.specs.Cmp.Lexicographic.{nat_list_cmp_total}
 use Rattle.std.specs.FinMap.Entries.{is_sorted, below_all}
-use Rattle.std.proofs.lemmas.Bool.{cases_Bool, and_parts, and_from}
-use Rattle.sqlite.specs.declared.types.Value.TheVariants.{Null, Int, Text}
-use Rattle.sqlite.specs.Order.{Row, column, value_cmp}
-use Rattle.sqlite.specs.Ops.{is_true, binary}
+use Rattle.std.proofs.lemmas.Bool.{cases_Bool, and_parts}
+use Rattle.sqlite.specs.declared.types.Value.TheVariants.{Null, Text}
+use Rattle.sqlite.specs.Order.{Row}
 use Rattle.sqlite.specs.Term.{Term, col, op2}
 use Rattle.sqlite.specs.Query.{IsAnswer}
 use Rattle.sqlite.specs.Program.{overlay}
@@ -25,7 +24,7 @@ use Rattle.sqlite_value.specs.Keys.{ascending}
 use Rattle.sqlite_rules.specs.Lists.{Has}
 use Rattle.sqlite_rules.proofs.ListLemmas.{has_filtered, has_kept}
 use Rattle.pid_ident.specs.Trees.{text_cmp}
-use Rattle.pid_moderation.specs.Items.{Items, name_at}
+use Rattle.pid_moderation.specs.Items.{Items}
 use Rattle.pid_moderation.specs.Views.{Views}
 use Rattle.pid_tables.specs.Schema.{pid_schema}
 use Rattle.pid_tables.specs.TableRows.{item_row}
@@ -34,7 +33,7 @@ use Rattle.pid_tables.specs.Shows.{Counts, ShowsCounting}
 use Rattle.pid_tables.specs.Ranges.{first_above}
 use Rattle.pid_tables.proofs.Statements.{program}
 use Rattle.pid_tables.proofs.MapLemmas.{none_over}
-use Rattle.pid_tables.proofs.Select.{passing, shown}
+use Rattle.pid_tables.proofs.Select.{shown}
 use Rattle.pid_tables.proofs.TurnLemmas.{hits}
 use Rattle.pid_tables.proofs.FirstLemmas.{first_one, HasNone, IsFirst, first_found}
 use Rattle.pid_tables.proofs.RangeLemmas.{above, found_in, found_at}

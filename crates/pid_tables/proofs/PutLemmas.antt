@@ -1,5 +1,5 @@
 -- A name that is put at a path.
-use Rattle.std.proofs.Common.{◌≡◌, ◌≢◌, ℕ, Bool, T, true, false, cond, List, [], ◌∷◌, None, Some, Option, Ok, Err, Result, OnOk, IfOk, IsSome, refl, sym, ap, subst, ◌∙◌}
+use Rattle.std.proofs.Common.{◌≡◌, ℕ, Bool, T, true, false, cond, List, [], ◌∷◌, None, Some, Option, Ok, Err, Result, OnOk, IfOk, IsSome, refl, sym, ap, subst, ◌∙◌}
 use Rattle.std.specs.Prelude.{option_map, bytes_eq}
 use Rattle.std.specs.Ordering.{eq_by_cmp}
 use Rattle.std.specs.Cmp.Lexicographic.{nat_list_cmp_total}
@@ -14,7 +14,6 @@ use Rattle.sqlite.proofs.Callers.{IsPlain}
 use Rattle.pid_ident.specs.Trees.{text_cmp}
 use Rattle.pid_moderation.specs.Items.{Items, name_at}
 use Rattle.pid_moderation.specs.Views.{Views}
-use Rattle.pid_tables.specs.declared.putting.Put.{Put}
 use Rattle.pid_tables.specs.declared.putting.Put.TheVariants.{Added, Renamed, Same}
 use Rattle.pid_tables.specs.Answers.{name_row}
 use Rattle.pid_tables.specs.Puts.{put_over}

@@ -1,17 +1,15 @@
 -- What a statement that ran leaves, by its kind and its table.
-use Rattle.std.proofs.Common.{◌≡◌, ℕ, List, [], ◌∷◌, slice_get, None, Some, Option, Ok, refl, sym, ap, subst, ◌∙◌}
+use Rattle.std.proofs.Common.{◌≡◌, ℕ, List, [], slice_get, None, Some, Ok, refl, sym, ap, subst}
 use Rattle.sqlite.specs.Order.{Row}
-use Rattle.sqlite.specs.Tree.{Trees}
 use Rattle.sqlite.specs.Term.{Term}
 use Rattle.sqlite.specs.Table.{Table}
-use Rattle.sqlite.specs.Command.{Command}
 use Rattle.sqlite.specs.Command.TheVariants.{Insert, Update, Delete}
 use Rattle.sqlite.specs.Source.TheVariants.{Values}
-use Rattle.sqlite.specs.Edit.{Edit, edit_of, taken_by, Applies}
+use Rattle.sqlite.specs.Edit.{Edit, edit_of, Applies}
 use Rattle.sqlite.specs.Effect.{Database, IsDatabase, Answers, IsSource}
 use Rattle.sqlite.specs.Rows.{Task, Written}
 use Rattle.sqlite.specs.Does.{Does, AtPlace, OnRows}
-use Rattle.sqlite.specs.State.{State, mode_of, Writes, Runs, Executes}
+use Rattle.sqlite.specs.State.{State, mode_of, Executes}
 use Rattle.sqlite.specs.Listing.{understood}
 use Rattle.sqlite.proofs.Callers.{IsPlain, command_of, runs_as, statement_of}
 use Rattle.sqlite_rules.specs.declared.error.Rowids.TheVariants.{Chosen, Given}

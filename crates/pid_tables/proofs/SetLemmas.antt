@@ -1,5 +1,5 @@
 -- How the maps that tables keep change with the views.
-use Rattle.std.proofs.Common.{◌≡◌, ◌≢◌, ◌⊎◌, inl, inr, ℕ, zero, suc, ◌+◌, ◌≤◌, ◌<◌, Bool, T, List, [], ◌∷◌, ◌++◌, length, true, false, not, cond, None, Some, Option, IsSome, refl, sym, ap, subst, ◌∙◌, codes, arith, slice_get}
+use Rattle.std.proofs.Common.{◌≡◌, ◌≢◌, inl, inr, ℕ, zero, suc, ◌+◌, Bool, T, List, [], ◌∷◌, ◌++◌, length, true, false, not, cond, None, Some, Option, IsSome, refl, sym, ap, subst, ◌∙◌, codes, arith, slice_get}
 use Rattle.std.specs.Prelude.{bytes_eq, ◌==◌, ◌&&◌, option_map}
 use Rattle.std.specs.List.{AllByRecursion}
 use Rattle.std.specs.declared.cmp.Ordering.{Ordering}
@@ -9,7 +9,7 @@ use Rattle.std.specs.Cmp.Lexicographic.{nat_list_cmp_total}
 use Rattle.std.specs.FinMap.{nat_cmp-IsAntisymmetric, slice_cmp-IsAntisymmetric}
 use Rattle.std.specs.FinMap.Entries.{put, where_key, is_sorted, is_sorted-put, is_sorted-where_key, find-put, find-where_key}
 use Rattle.std.proofs.lemmas.Cmp.{tied_itself}
-use Rattle.std.proofs.lemmas.Bool.{cases_Bool, and_parts, false_from_ne_true, both_ways}
+use Rattle.std.proofs.lemmas.Bool.{cases_Bool, and_parts, false_from_ne_true}
 use Rattle.std.proofs.lemmas.Bool.Decides.{Decides-eqb}
 use Rattle.std.proofs.lemmas.Option.{slice_get_past}
 use Rattle.std.proofs.lemmas.Slice.Eq.{bytes_eq-Decides}
@@ -22,7 +22,7 @@ use Rattle.pid_moderation.specs.Views.{Views, Submitted, Remark, submission_at}
 use Rattle.pid_tables.specs.PairRows.{Map}
 use Rattle.pid_tables.specs.TableRows.{Standing, decider_of}
 use Rattle.pid_tables.specs.Shows.{Counts, meta_of, standing_in, counted_from_one, remark_in, receipt_in}
-use Rattle.pid_tables.specs.Writes.{with_rank, with_name, without_item, with_submission, with_state, with_remark, with_reply, NamesDecider}
+use Rattle.pid_tables.specs.Writes.{with_submission, with_state, with_remark, with_reply, NamesDecider}
 use Rattle.pid_tables.proofs.MapLemmas.{Sets}
 
 holds : (b : Bool) → T b → b ≡ true

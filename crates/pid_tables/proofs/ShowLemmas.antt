@@ -1,5 +1,5 @@
 -- What a write on one table leaves of what the tables show.
-use Rattle.std.proofs.Common.{◌≡◌, ◌≢◌, ℕ, ℤ, List, [], ◌∷◌, true, None, Some, Option, Ok, Err, Result, IfOk, OnOk, IsSome, refl, sym, ap, subst, ◌∙◌, arith, length}
+use Rattle.std.proofs.Common.{◌≡◌, ℕ, ℤ, List, true, None, Option, Ok, Err, Result, OnOk, sym, subst, arith}
 use Rattle.std.specs.List.{AllByRecursion}
 use Rattle.std.specs.FinMap.Entries.{is_sorted}
 use Rattle.sqlite.specs.Order.{Row}
@@ -15,7 +15,7 @@ use Rattle.pid_moderation.specs.Views.{Views, Submitted, Remark, submission_at}
 use Rattle.pid_tables.specs.Schema.{meta, account, item, submission, remark, receipt}
 use Rattle.pid_tables.specs.PairRows.{Map, RowsAre}
 use Rattle.pid_tables.specs.TableRows.{meta_row, account_row, item_row, submission_row, remark_row, receipt_row}
-use Rattle.pid_tables.specs.Shows.{Counts, AreViews, ShowsCounting, meta_of, standing_in, remark_in, receipt_in}
+use Rattle.pid_tables.specs.Shows.{Counts, ShowsCounting, meta_of, standing_in, remark_in, receipt_in}
 use Rattle.pid_tables.proofs.MapLemmas.{Wrote}
 
 still : {K V : Type 0} (row : ℤ → K → V → Row) (m : Map K V) (rows next : List Row) → next ≡ rows → RowsAre row m rows → RowsAre row m next

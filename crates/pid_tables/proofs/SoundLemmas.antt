@@ -1,16 +1,13 @@
 -- What tables ask of views holds of sound histories.
-use Rattle.std.proofs.Common.{◌≡◌, ℕ, T, Bool, true, false, List, [], ◌∷◌, None, Some, Option, refl, sym, ap, subst}
+use Rattle.std.proofs.Common.{◌≡◌, T, Bool, true, false, List, [], ◌∷◌, Option, refl, subst}
 use Rattle.std.specs.List.{AllByRecursion}
 use Rattle.std.specs.FinMap.{entries, entries_sorted}
 use Rattle.std.specs.FinMap.Entries.{is_sorted}
-use Rattle.std.specs.Cmp.Lexicographic.{nat_list_cmp_total}
 use Rattle.pid_ident.specs.PathTexts.{IsPath}
 use Rattle.pid_ident.specs.Trees.{text_cmp}
-use Rattle.pid_moderation.specs.declared.facts.State.{State}
-use Rattle.pid_moderation.specs.declared.facts.State.TheVariants.{Pending}
 use Rattle.pid_moderation.specs.History.{History}
 use Rattle.pid_moderation.specs.Sound.{IsSound, AreGoodSubmissions, IsDecidedWell}
-use Rattle.pid_moderation.specs.Views.{Submitted, views_of, items_of, submits_of, submission_at, state_of}
+use Rattle.pid_moderation.specs.Views.{Submitted, views_of, items_of, submits_of, state_of}
 use Rattle.pid_moderation.specs.Writes.{tree_of}
 use Rattle.pid_tables.specs.Shows.{AreViews}
 

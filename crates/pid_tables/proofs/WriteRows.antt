@@ -1,14 +1,12 @@
 -- What each statement that writes leaves of what the tables show.
-use Rattle.std.proofs.Common.{◌≡◌, ◌≢◌, ℕ, ◌+◌, ℤ, pos, List, [], ◌∷◌, ◌++◌, length, true, None, Some, Option, Ok, Err, Result, IsSome, refl, sym, ap, subst, ◌∙◌, codes, arith}
+use Rattle.std.proofs.Common.{◌≡◌, ℕ, ◌+◌, pos, List, [], ◌∷◌, ◌++◌, length, None, Some, Option, Ok, IsSome, refl, ap, ◌∙◌, codes}
 use Rattle.std.specs.Prelude.{option_map}
-use Rattle.std.specs.FinMap.Entries.{put, is_sorted}
 use Rattle.sqlite.specs.declared.types.Value.TheVariants.{Null, Int, Text}
 use Rattle.sqlite.specs.Order.{Row}
 use Rattle.sqlite.specs.Edit.{next_rowid, numbered}
 use Rattle.sqlite.specs.State.{State, Executes}
 use Rattle.sqlite_rules.specs.declared.error.Rowids.TheVariants.{Chosen}
 use Rattle.pid_ident.specs.PathTexts.{path_text, IsPath}
-use Rattle.pid_ident.specs.Trees.{text_cmp}
 use Rattle.pid_moderation.specs.declared.command.Reply.{Reply}
 use Rattle.pid_moderation.specs.declared.facts.State.{State as Standings}
 use Rattle.pid_moderation.specs.declared.facts.State.TheVariants.{Pending, Withdrawn}
@@ -24,8 +22,8 @@ use Rattle.pid_tables.proofs.WriteLemmas.{cast_null, cast_int}
 use Rattle.pid_tables.proofs.MapLemmas.{map_added, map_changed, map_removed}
 use Rattle.pid_tables.proofs.SetLemmas.{text_set, put_sorted, left_sorted, name_put, name_left, items_set, submissions_set, past_the_last, not_before, all_with, submission_set, state_set, not_there, any_author, past_all, remark_set, reply_set}
 use Rattle.pid_tables.proofs.Keys.{meta_found, account_found, item_found, submission_found, remark_found, receipt_found, meta_plain, account_plain, item_plain, submission_plain, remark_plain, receipt_plain, meta_cast, account_cast, item_cast, submission_cast, remark_cast, receipt_cast}
-use Rattle.pid_tables.proofs.KeyTexts.{by_first, by_rowid, by_both, pair_terms, pair_change, submission_terms, submission_change, withdrawal, remark_terms, receipt_terms, insert_meta_is, update_meta_is, insert_account_is, update_account_is, insert_item_is, update_item_is, delete_item_is, insert_submission_is, update_submission_is, withdraw_submission_is, insert_remark_is, insert_receipt_is}
-use Rattle.pid_tables.proofs.StatementTexts.{insert_meta, update_meta, insert_account, update_account, insert_item, update_item, delete_item, insert_submission, update_submission, withdraw_submission, insert_remark, insert_receipt}
+use Rattle.pid_tables.proofs.KeyTexts.{by_first, by_rowid, by_both, pair_terms, pair_change, submission_terms, submission_change, withdrawal, remark_terms, receipt_terms, update_meta_is, insert_account_is, update_account_is, insert_item_is, update_item_is, delete_item_is, insert_submission_is, update_submission_is, withdraw_submission_is, insert_remark_is, insert_receipt_is}
+use Rattle.pid_tables.proofs.StatementTexts.{update_meta, insert_account, update_account, insert_item, update_item, delete_item, insert_submission, update_submission, withdraw_submission, insert_remark, insert_receipt}
 use Rattle.pid_tables.proofs.ShowLemmas.{wrote_meta, wrote_account, wrote_item, wrote_submission, wrote_remark, wrote_receipt}
 
 -- it was carried out

@@ -4,6 +4,7 @@ use Rattle.sqlite.specs.Order.{Row}
 use Rattle.sqlite.specs.Tree.{IsTable}
 use Rattle.sqlite_rules.specs.Lists.{Has}
 
+-- a map by what it finds at a key
 abbrev pub Map : Type 0 → Type 0 → Type 0
 Map K V = K → Option V
 

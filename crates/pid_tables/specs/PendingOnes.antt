@@ -4,6 +4,7 @@ use Rattle.pid_moderation.specs.Views.{Views}
 use Rattle.pid_tables.specs.Shows.{standing_in}
 use Rattle.pid_tables.specs.TableRows.{Standing, state_number}
 
+-- there is such a submission, and nobody has decided it
 abbrev pub is_pending : Option Standing → Bool
 is_pending None = false
 is_pending (Some s) = state_number s.state == 0

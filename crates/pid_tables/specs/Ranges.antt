@@ -9,6 +9,7 @@ use Rattle.pid_moderation.specs.Items.{Items}
 abbrev pub is_between : List ℕ → List ℕ → List ℕ → Bool
 is_between low high path = is_lt (text_cmp low path) && is_lt (text_cmp path high)
 
+-- some item's path is
 abbrev pub holds_between : List ℕ → List ℕ → Items → Bool
 holds_between low high items = list_any (λ e. is_between low high e.0) items
 

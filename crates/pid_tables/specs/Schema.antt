@@ -1,5 +1,5 @@
 -- The six tables of schema 1, as SQLite keeps them: a choice of this project.
-use Rattle.std.specs.Prelude.{ℕ, pos, true, false, List, [], ◌∷◌, Option, Some, None, codes}
+use Rattle.std.specs.Prelude.{ℕ, pos, true, false, List, [], ◌∷◌, Some, None, codes}
 use Rattle.sqlite.specs.Collation.TheVariants.{Binary}
 use Rattle.sqlite.specs.declared.types.Value.TheVariants.{Null, Int}
 use Rattle.sqlite.specs.Table.{Table}
@@ -7,13 +7,12 @@ use Rattle.sqlite.specs.Schema.{Schema}
 use Rattle.sqlite.specs.Kind.{Kind}
 use Rattle.sqlite.specs.Kind.TheVariants.{Text, Integer}
 use Rattle.sqlite.specs.Term.{Term, lit, col, op2}
-use Rattle.sqlite_sql.specs.declared.ops.BinaryOp.TheVariants.{And, Or, Compare}
-use Rattle.sqlite_sql.specs.declared.ops.CompareOp.TheVariants.{Ge, Le, Eq}
+use Rattle.sqlite_sql.specs.declared.ops.BinaryOp.TheVariants.{And, Compare}
+use Rattle.sqlite_sql.specs.declared.ops.CompareOp.TheVariants.{Ge, Le}
 use Rattle.sqlite_schema.specs.declared.schema.Column.{Column}
 use Rattle.sqlite_schema.specs.declared.schema.Reference.{Reference}
 use Rattle.sqlite_schema.specs.declared.schema.Action.TheVariants.{NoAction}
 use Rattle.sqlite_value.specs.Keys.{plain}
-use Rattle.sqlite_value.specs.declared.keys.Order.{Order}
 use Rattle.sqlite_catalog.specs.Listing.{automatic}
 
 abbrev pub column_of : Kind → List ℕ → Column

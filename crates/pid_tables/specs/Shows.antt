@@ -1,5 +1,5 @@
 -- When a database shows what a history shows: its rows are exactly the views of the history, and no row tells a command.
-use Rattle.std.specs.Prelude.{◌≡◌, ℕ, zero, suc, true, List, [], ◌∷◌, length, slice_get, Option, Some, None, option_map, if◌then◌else◌, codes}
+use Rattle.std.specs.Prelude.{◌≡◌, ℕ, zero, suc, true, List, length, slice_get, Option, Some, None, option_map, if◌then◌else◌, codes}
 use Rattle.std.specs.Str.{bytes_eq}
 use Rattle.std.specs.List.{AllByRecursion}
 use Rattle.std.specs.FinMap.Entries.{is_sorted}
@@ -40,6 +40,7 @@ counted_from_one (suc n) xs = slice_get xs n
 abbrev pub remark_in : Views → Map (ℕ × ℕ) Remark
 remark_in v at = counted_from_one at.1 (v.remarks at.0)
 
+-- each kept reply, by its account and key
 abbrev pub receipt_in : Views → Map (List ℕ × List ℕ) Reply
 receipt_in v at = v.kept at.0 at.1
 
@@ -62,8 +63,10 @@ pub record ShowsCounting (counts : Counts) (db : Database) (v : Views) : Type 0 
   pub remarks : RowsAre remark_row (remark_in v) (db.trees 7)
   pub receipts : RowsAre receipt_row (receipt_in v) (db.trees 9)
 
+-- the counts that the views have
 abbrev pub counts_of : Views → Counts
 counts_of v = record { items = length v.items; submissions = length v.submits }
 
+-- the tables show the views, and meta has their counts
 abbrev pub Shows : Database → Views → Type 0
 Shows db v = ShowsCounting (counts_of v) db v

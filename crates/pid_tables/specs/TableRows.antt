@@ -14,6 +14,7 @@ use Rattle.pid_moderation.specs.declared.rank.Rank.{Rank}
 use Rattle.pid_moderation.specs.Ranks.{rank_number}
 use Rattle.pid_moderation.specs.Views.{Submitted, Remark}
 
+-- a whole number as a column has it
 abbrev pub number : ℕ → Value
 number n = Int (pos n)
 
@@ -39,10 +40,12 @@ abbrev pub form_of : Proposal → ℕ
 form_of (Name name) = 0
 form_of Removal = 1
 
+-- the name that is proposed
 abbrev pub name_of : Proposal → List ℕ
 name_of (Name name) = name
 name_of Removal = []
 
+-- 0 pending, 1 approved, 2 rejected, 3 withdrawn
 abbrev pub state_number : State → ℕ
 state_number Pending = 0
 state_number (Approved decider) = 1
@@ -72,11 +75,13 @@ submission_row id n s = number n ∷ Null ∷ Text s.submitted.author ∷ Text (
 abbrev pub remark_row : ℤ → ℕ × ℕ → Remark → Row
 remark_row id at remark = Int id ∷ number at.0 ∷ number at.1 ∷ Text remark.author ∷ Text remark.text ∷ []
 
+-- 0 done, 1 a number, 2 counts
 abbrev pub kind_of : Reply → ℕ
 kind_of Done = 0
 kind_of (Numbered n) = 1
 kind_of (Counts added renamed same) = 2
 
+-- the numbers of a reply, 0 where it has none
 abbrev pub first_of : Reply → ℕ
 first_of Done = 0
 first_of (Numbered n) = n

@@ -1,5 +1,5 @@
 //! One transaction on the tables, which writes a whole change.
-ghost use Rattle.std.specs.Prelude.{◌≡◌, ◌+◌, ℕ, true, false, length, is_none, is_some, IsSome, IsTrue, IfOk, OnOk};
+ghost use Rattle.std.specs.Prelude.{◌≡◌, ◌+◌, ℕ, true, false, length, is_none, is_some, IsSome, IsTrue, IfOk, OnOk, OnErr};
 ghost use Rattle.sqlite.specs.Held.{state as shown};
 ghost use Rattle.sqlite.specs.State.{HasCleanDisk, Survives};
 ghost use Rattle.pid_ident.specs.PathTexts.{path_text};
@@ -212,6 +212,7 @@ pub fn commit<S: Alter>(batch: Batch<'_, S>) -> Result<(), TableFault>
     ensures survives { Survives (shown S.Store batch.entry.conn.now) (shown S.Store batch.exit.0.now) (λ db. db ≡ (shown S.Store batch.entry.conn.now).now.trees) }
     ensures stands { (w : Views) → (IsTrue (shown S.Store batch.entry.conn.now).is_open → Shows (shown S.Store batch.entry.conn.now).now w) → OnOk result (AtRest (shown S.Store batch.exit.0.now) w) }
     ensures either { (v w : Views) → Written (counts_of w) (shown S.Store batch.entry.conn.now) v w → LeavesEither (shown S.Store batch.exit.0.now) v w }
+    ensures given_back { (v w : Views) → Written (counts_of w) (shown S.Store batch.entry.conn.now) v w → OnErr result (IsTrue (shown S.Store batch.exit.0.now).is_open → Shows (shown S.Store batch.exit.0.now).now v) }
 {
     batch.commit()?;
     Ok(())

@@ -1,6 +1,8 @@
 use Rattle.sqlite.specs.Held.{state}
 use Rattle.sqlite.proofs.StateLemmas.{clean_if_open}
-use Rattle.pid_tables.proofs.LeaveLemmas.{stands}
+use Rattle.pid_tables.proofs.LeaveLemmas.{stands, failed_back, on_err}
+use Rattle.pid_tables.proofs.GoingLemmas.{earlier}
+use Rattle.pid_tables.specs.Shows.{counts_of}
 use Rattle.pid_tables.proofs.batch.commit.Goals as goal
 
 pub returns-clause-stands : goal.returns-clause-stands
@@ -8,3 +10,9 @@ returns-clause-stands g c w shows =
     let end = c.commit.new.self.0 in
     stands g.S.Store (state g.S.Store c.args.batch.conn.now) end w (clean_if_open (g.S.Store.view end.store) (g.met.S.Store.shut_if_dirty end.store)) (g.met.S.Store.settled end.store) c.commit.ensures.ended
     (λ clean. (c.in_ok-commit.ensures.ok clean).1) shows
+
+pub returns-in_err-commit-clause-given_back : goal.returns-in_err-commit-clause-given_back
+returns-in_err-commit-clause-given_back g c v w written =
+    let end = c.commit.new.self.0 in
+    let old = state g.S.Store c.args.batch.conn.now in
+    on_err c.from_residual.result (failed_back old (state g.S.Store end) (counts_of w) v w _ (clean_if_open (g.S.Store.view end.store) (g.met.S.Store.shut_if_dirty end.store)) (earlier old (state g.S.Store end) c.commit.ensures.survives) c.in_err-commit.ensures.err written)

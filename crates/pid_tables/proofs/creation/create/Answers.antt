@@ -1,4 +1,4 @@
-use Rattle.std.proofs.Common.{◌≡◌, ◌∷◌, [], OnOk, refl, rules, subst}
+use Rattle.std.proofs.Common.{◌≡◌, [], OnOk, refl, rules, subst}
 use Rattle.sqlite.specs.Held.{state}
 use Rattle.sqlite.proofs.StateLemmas.{clean_if_open}
 use Rattle.pid_moderation.specs.Views.{views_of}

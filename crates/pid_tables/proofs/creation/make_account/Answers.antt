@@ -1,4 +1,4 @@
-use Rattle.std.proofs.Common.{List, [], ◌∷◌, refl}
+use Rattle.std.proofs.Common.{[], ◌∷◌, refl}
 use Rattle.sqlite.specs.Held.{state}
 use Rattle.pid_tables.specs.Schema.{meta, account}
 use Rattle.pid_tables.proofs.CreateTexts.{create_account, account_creates}

@@ -1,4 +1,4 @@
-use Rattle.std.proofs.Common.{List, [], ◌∷◌, refl}
+use Rattle.std.proofs.Common.{[], ◌∷◌, refl}
 use Rattle.sqlite.specs.Held.{state}
 use Rattle.pid_tables.specs.Schema.{meta, account, item, submission, remark, receipt}
 use Rattle.pid_tables.proofs.CreateTexts.{create_receipt, receipt_creates}

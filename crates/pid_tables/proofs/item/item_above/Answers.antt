@@ -1,4 +1,4 @@
-use Rattle.std.proofs.Common.{◌≡◌, ap, ◌∙◌, slice_get}
+use Rattle.std.proofs.Common.{ap, ◌∙◌, slice_get}
 use Rattle.pid_tables.specs.Ranges.{first_above}
 use Rattle.pid_tables.proofs.DecodeLemmas.{item_read}
 use Rattle.pid_tables.proofs.item.item_above.Goals as goal

@@ -1,7 +1,6 @@
-use Rattle.std.proofs.Common.{◌≡◌, ◌≤◌, length, sym, ap, subst}
+use Rattle.std.proofs.Common.{◌≤◌, length, sym, subst}
 use Rattle.pid_moderation.specs.CheckTables.{most_items}
-use Rattle.pid_moderation.specs.Views.{items_of}
-use Rattle.pid_moderation.specs.WellMade.{IsFile, AllItems, HoldsParents}
+use Rattle.pid_moderation.specs.WellMade.{AllItems, HoldsParents}
 use Rattle.pid_moderation.specs.Writes.{tree_of}
 use Rattle.pid_tables.proofs.SoundLemmas.{are_views}
 use Rattle.pid_tables.proofs.laws.views_of_sound_histories.Goals as goal

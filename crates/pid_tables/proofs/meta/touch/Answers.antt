@@ -1,5 +1,4 @@
 use Rattle.sqlite.specs.Held.{state}
-use Rattle.sqlite.specs.Values.{bound}
 use Rattle.pid_tables.proofs.KeyTexts.{select_meta_is}
 use Rattle.pid_tables.proofs.StatementTexts.{select_meta}
 use Rattle.pid_tables.proofs.ReadLemmas.{shows_still}

@@ -1,4 +1,4 @@
-use Rattle.std.proofs.Common.{◌≡◌, ap, ◌∙◌, slice_get}
+use Rattle.std.proofs.Common.{ap, ◌∙◌, slice_get}
 use Rattle.pid_moderation.specs.Items.{name_at}
 use Rattle.pid_tables.proofs.PutLemmas.{added_over, same_over, renamed_over}
 use Rattle.pid_tables.proofs.putting.compare.Goals as goal

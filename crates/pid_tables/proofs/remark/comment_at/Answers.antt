@@ -1,4 +1,4 @@
-use Rattle.std.proofs.Common.{◌≡◌, ap, ◌∙◌, slice_get}
+use Rattle.std.proofs.Common.{ap, ◌∙◌, slice_get}
 use Rattle.pid_tables.specs.Shows.{remark_in}
 use Rattle.pid_tables.proofs.DecodeLemmas.{remark_read}
 use Rattle.pid_tables.proofs.remark.comment_at.Goals as goal

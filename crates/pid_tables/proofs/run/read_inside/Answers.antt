@@ -1,6 +1,5 @@
-use Rattle.std.proofs.Common.{◌≡◌, rules, ◌∙◌}
+use Rattle.std.proofs.Common.{rules, ◌∙◌}
 use Rattle.sqlite.specs.Values.{bound}
-use Rattle.sqlite.specs.Held.{state}
 use Rattle.pid_tables.proofs.ReadLemmas.{shown_passes, fails_keeping}
 use Rattle.pid_tables.proofs.run.read_inside.Goals as goal
 

@@ -1,4 +1,3 @@
-use Rattle.sqlite.specs.Held.{state}
 use Rattle.pid_tables.specs.Shows.{counts_of}
 use Rattle.pid_tables.proofs.PendingLemmas.{select_pending, pending_found}
 use Rattle.pid_tables.proofs.FindLemmas.{at_rest}

@@ -1,4 +1,4 @@
-use Rattle.std.proofs.Common.{◌≡◌, ap, ◌∙◌, slice_get}
+use Rattle.std.proofs.Common.{ap, ◌∙◌, slice_get}
 use Rattle.pid_tables.proofs.DecodeLemmas.{standing_read}
 use Rattle.pid_tables.proofs.submission.standing.Goals as goal
 
