@@ -5,12 +5,13 @@ import lspci
 import memory
 import real_file
 import registry
+import stops
 import words
 import worked_rows
 from program import Cases
 
 cases = Cases()
-for part in (worked_rows, words, fault_gallery, limits, real_file, lspci, registry, memory):
+for part in (worked_rows, words, fault_gallery, limits, real_file, lspci, registry, stops, memory):
     before = cases.passed
     part.run(cases)
     print(f"{part.__name__}: {cases.passed - before} passed")
