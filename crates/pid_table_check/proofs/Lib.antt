@@ -1,0 +1,9 @@
+pub mod Lengths
+pub mod AccountsKept
+pub mod ItemsKept
+pub mod SubmissionsKept
+pub mod RemarksKept
+pub mod ReceiptsKept
+pub mod OneRowEach
+pub mod CountsKept
+pub mod Kept

@@ -1,0 +1,6 @@
+//! Whether the tables of a registry keep the conditions that every history keeps.
+#![tactic(auto)]
+
+mod laws;
+
+pub use laws::{shown_tables_are_registries, sound_histories_are_registries};
