@@ -9,6 +9,7 @@ use Rattle.std.proofs.lemmas.Bool.{and_parts}
 use Rattle.std.proofs.lemmas.Cmp.{tied_itself}
 use Rattle.std.proofs.lemmas.Slice.Eq.{bytes_eq-Decides}
 use Rattle.sqlite.specs.declared.types.Value.TheVariants.{Text}
+use Rattle.std.proofs.lemmas.List.{length-map}
 use Rattle.sqlite.specs.Order.{Row, column}
 use Rattle.sqlite.specs.Tree.{rowid}
 use Rattle.sqlite.specs.Effect.{Database}
@@ -20,8 +21,8 @@ use Rattle.pid_tables.proofs.Keys.{numbers_decided}
 use Rattle.pid_tables.proofs.SetLemmas.{tied}
 use Rattle.pid_tables.specs.Shows.{Shows, counts_of, meta_of}
 use Rattle.pid_tables.specs.TableRows.{Standing, meta_row, item_row, submission_row, number}
-use Rattle.pid_table_check.specs.Conditions.{columns, labels, label_values, HasRow, AreCounts}
-use Rattle.pid_table_check.proofs.Lengths.{IsDistinct, some_there, same_length, mapped}
+use Rattle.pid_table_check.specs.Conditions.{columns, rows_in, labels, label_row, AreCounts}
+use Rattle.pid_table_check.proofs.Lengths.{IsDistinct, some_there, same_length, mapped, unmapped}
 use Rattle.pid_table_check.proofs.OneRowEach.{rowids_apart, item_keys_apart}
 use Rattle.pid_table_check.proofs.SubmissionsKept.{submitted_at, there_at, stands_as}
 
@@ -119,9 +120,9 @@ module _ (db : Database) (v : Views) (shows : Shows db v) where
   told : List (List ℕ × ℕ)
   told = (codes "schema", 1) ∷ (codes "items", length v.items) ∷ (codes "submissions", length v.submits) ∷ []
 
-  told_same : told ≡ labels db.trees
+  told_same : told ≡ labels (length (rows_in db.trees).items) (length (rows_in db.trees).submissions)
   unfolding told
-  told_same = λ i. (codes "schema", 1) ∷ (codes "items", sym items_length i) ∷ (codes "submissions", sym submissions_length i) ∷ []
+  told_same = λ i. (codes "schema", 1) ∷ (codes "items", sym (length-map (db.trees 4) (columns (1 ∷ 2 ∷ [])) ∙ items_length) i) ∷ (codes "submissions", sym (length-map (db.trees 6) (columns (0 ∷ 2 ∷ 3 ∷ 4 ∷ 5 ∷ 6 ∷ 7 ∷ 8 ∷ 9 ∷ [])) ∙ submissions_length) i) ∷ []
 
   label_told : (key : List ℕ) (value : ℕ) → meta_of (counts_of v) key ≡ Some value → Has told (key, value)
   unfolding told
@@ -138,24 +139,27 @@ module _ (db : Database) (v : Views) (shows : Shows db v) where
       go false p false q true r same = inr (inr (inl (both (codes "submissions") (length v.submits) r same)))
       go false p false q false r same = absurd cc
 
-  told_there : (e : List ℕ × ℕ) → Has told e → HasRow (db.trees 0) (1 ∷ 2 ∷ []) (label_values e)
+  told_there : (e : List ℕ × ℕ) → Has told e → Has (rows_in db.trees).meta (label_row e)
   unfolding told
   told_there e (inl same) = at (codes "schema") 1 refl e same
     where
-      at : (label : List ℕ) (n : ℕ) → meta_of (counts_of v) label ≡ Some n → (e : List ℕ × ℕ) → e ≡ (label, n) → HasRow (db.trees 0) (1 ∷ 2 ∷ []) (label_values e)
-      at label n is e same = let row = shows.meta.complete label n is in (meta_row row.0 label n, row.1, ap label_values (sym same))
+      at : (label : List ℕ) (n : ℕ) → meta_of (counts_of v) label ≡ Some n → (e : List ℕ × ℕ) → e ≡ (label, n) → Has (rows_in db.trees).meta (label_row e)
+      at label n is e same = let row = shows.meta.complete label n is in subst (λ (x : List ℕ × ℕ). Has (rows_in db.trees).meta (label_row x)) (sym same) (mapped (columns (1 ∷ 2 ∷ [])) (db.trees 0) (meta_row row.0 label n) row.1)
   told_there e (inr (inl same)) = at (codes "items") (length v.items) refl e same
     where
-      at : (label : List ℕ) (n : ℕ) → meta_of (counts_of v) label ≡ Some n → (e : List ℕ × ℕ) → e ≡ (label, n) → HasRow (db.trees 0) (1 ∷ 2 ∷ []) (label_values e)
-      at label n is e same = let row = shows.meta.complete label n is in (meta_row row.0 label n, row.1, ap label_values (sym same))
+      at : (label : List ℕ) (n : ℕ) → meta_of (counts_of v) label ≡ Some n → (e : List ℕ × ℕ) → e ≡ (label, n) → Has (rows_in db.trees).meta (label_row e)
+      at label n is e same = let row = shows.meta.complete label n is in subst (λ (x : List ℕ × ℕ). Has (rows_in db.trees).meta (label_row x)) (sym same) (mapped (columns (1 ∷ 2 ∷ [])) (db.trees 0) (meta_row row.0 label n) row.1)
   told_there e (inr (inr (inl same))) = at (codes "submissions") (length v.submits) refl e same
     where
-      at : (label : List ℕ) (n : ℕ) → meta_of (counts_of v) label ≡ Some n → (e : List ℕ × ℕ) → e ≡ (label, n) → HasRow (db.trees 0) (1 ∷ 2 ∷ []) (label_values e)
-      at label n is e same = let row = shows.meta.complete label n is in (meta_row row.0 label n, row.1, ap label_values (sym same))
+      at : (label : List ℕ) (n : ℕ) → meta_of (counts_of v) label ≡ Some n → (e : List ℕ × ℕ) → e ≡ (label, n) → Has (rows_in db.trees).meta (label_row e)
+      at label n is e same = let row = shows.meta.complete label n is in subst (λ (x : List ℕ × ℕ). Has (rows_in db.trees).meta (label_row x)) (sym same) (mapped (columns (1 ∷ 2 ∷ [])) (db.trees 0) (meta_row row.0 label n) row.1)
   told_there e (inr (inr (inr none))) = absurd none
 
-  pub counts_kept : AreCounts db.trees
+  pub counts_kept : AreCounts (length (rows_in db.trees).items) (length (rows_in db.trees).submissions) (rows_in db.trees).meta
   counts_kept = record {
-    each = λ r h. let pair = shows.meta.sound r h in ((pair.key, pair.value), subst (λ l. Has l (pair.key, pair.value)) told_same (label_told pair.key pair.value pair.maps), ap (columns (1 ∷ 2 ∷ [])) pair.is);
+    each = λ r h.
+        let from = unmapped (columns (1 ∷ 2 ∷ [])) (db.trees 0) r h in
+        let pair = shows.meta.sound from.0 from.1 in
+        ((pair.key, pair.value), subst (λ l. Has l (pair.key, pair.value)) told_same (label_told pair.key pair.value pair.maps), from.2 ∙ ap (columns (1 ∷ 2 ∷ [])) pair.is);
     there = λ e h. told_there e (subst (λ l. Has l e) (sym told_same) h);
   }

@@ -1,5 +1,5 @@
 -- Tables that show a sound history have good remarks.
-use Rattle.std.proofs.Common.{◌≡◌, ℕ, zero, suc, ◌≤◌, ◌<◌, List, [], ◌∷◌, length, Option, Some, None, refl, ap, subst, arith, slice_get}
+use Rattle.std.proofs.Common.{◌≡◌, ℕ, zero, suc, ◌≤◌, ◌<◌, List, [], ◌∷◌, length, Option, Some, None, refl, ◌∙◌, ap, subst, arith, slice_get}
 use Rattle.std.proofs.lemmas.Option.{slice_get_within}
 use Rattle.sqlite.specs.Order.{Row}
 use Rattle.sqlite.specs.Effect.{Database}
@@ -10,7 +10,8 @@ use Rattle.pid_moderation.specs.Sound.{IsSound, IsGoodRemark, AreGoodRemarks, Is
 use Rattle.pid_moderation.specs.Views.{Submitted, Remark, submits_of, submission_at, remarks_of, views_of}
 use Rattle.pid_tables.specs.Shows.{Shows, counted_from_one}
 use Rattle.pid_tables.specs.TableRows.{remark_row}
-use Rattle.pid_table_check.specs.Conditions.{columns, IsRemarkRow, AreRemarks}
+use Rattle.pid_table_check.proofs.Lengths.{mapped, unmapped}
+use Rattle.pid_table_check.specs.Conditions.{columns, rows_in, HasRemark, IsRemarkRow, AreRemarks}
 
 good_at : (h : History) (rs : List Remark) (i : ℕ) (r : Remark) → AreGoodRemarks h rs → slice_get rs i ≡ Some r → IsGoodRemark h r
 good_at h [] i r all e = absurd cc
@@ -45,9 +46,10 @@ remarked h None rs place r none e = absurd (none_counted rs place r none e)
 remarked h (Some s) rs place r well e = well
 
 module _ (h : History) (sound : IsSound h) (db : Database) (shows : Shows db (views_of h)) where
-  remark_good : (r : Row) → Has (db.trees 7) r → IsRemarkRow db.trees r
+  remark_good : (r : Row) → Has (rows_in db.trees).remarks r → IsRemarkRow (rows_in db.trees).remarks r
   remark_good r has =
-      let pair = shows.remarks.sound r has in
+      let from = unmapped (columns (1 ∷ 2 ∷ 3 ∷ 4 ∷ [])) (db.trees 7) r has in
+      let pair = shows.remarks.sound from.0 from.1 in
       let n = pair.key.0 in
       let rs = remarks_of n h in
       let well = remarked h (submission_at n (submits_of h)) rs pair.key.1 pair.value (sound.remarks n) pair.maps in
@@ -57,15 +59,16 @@ module _ (h : History) (sound : IsSound h) (db : Database) (shows : Shows db (vi
         num = n;
         place = pair.key.1;
         body = pair.value.text;
-        is = ap (columns (1 ∷ 2 ∷ 4 ∷ [])) pair.is;
+        author = pair.value.author;
+        is = from.2 ∙ ap (columns (1 ∷ 2 ∷ 3 ∷ 4 ∷ [])) pair.is;
         within = (bounds.0, omega (arith, bounds.1, well.1));
         before = λ earlier low next.
             let it = earlier_there rs pair.key.1 pair.value earlier low next pair.maps in
             let row = shows.remarks.complete (n, earlier) it.0 it.1 in
-            (remark_row row.0 (n, earlier) it.0, row.1, refl);
+            (columns (1 ∷ 2 ∷ 3 ∷ 4 ∷ []) (remark_row row.0 (n, earlier) it.0), mapped (columns (1 ∷ 2 ∷ 3 ∷ 4 ∷ [])) (db.trees 7) (remark_row row.0 (n, earlier) it.0) row.1, refl, refl);
         text = good.text;
         filled = good.filled;
       }
 
-  pub remarks_kept : AreRemarks db.trees
-  remarks_kept = record { each = remark_good }
+  pub remarks_kept : AreRemarks (rows_in db.trees).remarks
+  remarks_kept = remark_good

@@ -1,6 +1,7 @@
 -- Tables that show a sound history have good submissions.
-use Rattle.std.proofs.Common.{◌≡◌, ◌≢◌, ℕ, zero, suc, ◌≤◌, ◌<◌, List, [], ◌∷◌, length, false, Option, Some, None, refl, ap, subst, arith, slice_get}
+use Rattle.std.proofs.Common.{◌≡◌, ◌≢◌, ℕ, zero, suc, ◌≤◌, ◌<◌, List, [], ◌∷◌, length, false, Option, Some, None, refl, ◌∙◌, ap, subst, arith, slice_get}
 use Rattle.std.specs.Prelude.{option_map, bytes_eq}
+use Rattle.std.proofs.lemmas.List.{length-map}
 use Rattle.std.proofs.lemmas.Option.{slice_get_within}
 use Rattle.std.proofs.lemmas.Bool.{both_ways}
 use Rattle.std.proofs.lemmas.Slice.Eq.{bytes_eq-Decides}
@@ -14,7 +15,8 @@ use Rattle.pid_moderation.specs.Sound.{IsSound, IsGoodSubmission, AreGoodSubmiss
 use Rattle.pid_moderation.specs.Views.{Submitted, submits_of, submission_at, state_of, views_of}
 use Rattle.pid_tables.specs.Shows.{Shows}
 use Rattle.pid_tables.specs.TableRows.{Standing, submission_row, number}
-use Rattle.pid_table_check.specs.Conditions.{columns, HasRow, IsDecided, IsSubmissionRow, AreSubmissions}
+use Rattle.pid_table_check.specs.Conditions.{columns, rows_in, HasValue, HasAccount, IsDecided, IsSubmissionRow, AreSubmissions}
+use Rattle.pid_table_check.proofs.Lengths.{mapped, unmapped}
 use Rattle.pid_table_check.proofs.AccountsKept.{account_known}
 
 pub good_at : (h : History) (ss : List Submitted) (i : ℕ) (s : Submitted) → AreGoodSubmissions h ss → slice_get ss i ≡ Some s → IsGoodSubmission h s
@@ -50,28 +52,32 @@ differs : (a b : List ℕ) → bytes_eq a b ≡ false → a ≢ b
 differs a b unlike same = both_ways _ unlike ((bytes_eq-Decides a b).1 same)
 
 module _ (h : History) (sound : IsSound h) (db : Database) (shows : Shows db (views_of h)) where
-  decided : (author : List ℕ) (state : State) → IsDecidedByOther h author state → IsDecided db.trees author state
+  decided : (author : List ℕ) (state : State) → IsDecidedByOther h author state → IsDecided (rows_in db.trees).accounts author state
   decided author Pending d = tt
   decided author (Approved decider) d = (differs decider author d.0, account_known h sound db shows decider d.1)
   decided author (Rejected decider reason) d = (differs decider author d.0, account_known h sound db shows decider d.1, d.2, d.3)
   decided author Withdrawn d = tt
 
   module _ (same : length (db.trees 6) ≡ length (submits_of h)) where
-    submission_good : (r : Row) → Has (db.trees 6) r → IsSubmissionRow db.trees r
+    count : length (rows_in db.trees).submissions ≡ length (submits_of h)
+    count = length-map (db.trees 6) (columns (0 ∷ 2 ∷ 3 ∷ 4 ∷ 5 ∷ 6 ∷ 7 ∷ 8 ∷ 9 ∷ [])) ∙ same
+
+    submission_good : (r : Row) → Has (rows_in db.trees).submissions r → IsSubmissionRow (rows_in db.trees).accounts (length (rows_in db.trees).submissions) r
     submission_good r has =
-        let pair = shows.submissions.sound r has in
+        let from = unmapped (columns (0 ∷ 2 ∷ 3 ∷ 4 ∷ 5 ∷ 6 ∷ 7 ∷ 8 ∷ 9 ∷ [])) (db.trees 6) r has in
+        let pair = shows.submissions.sound from.0 from.1 in
         let n = pair.key in
         let standing = pair.value in
         let it = stands_as (submission_at n (submits_of h)) (state_of n h) standing pair.maps in
         let good = good_path h n standing.submitted sound it.0 in
         let bounds = submitted_at (submits_of h) n standing.submitted it.0 in
-        let state : IsDecidedByOther h standing.submitted.author standing.state = subst (λ (s : State). IsDecidedByOther h standing.submitted.author s) it.1 (subst (λ (o : Option Submitted). IsDecidedWell h o (state_of n h)) it.0 (sound.deciders n)) in
+        let state : IsDecidedByOther h standing.submitted.author standing.state =
+        subst (λ (s : State). IsDecidedByOther h standing.submitted.author s) it.1 (subst (λ (o : Option Submitted). IsDecidedWell h o (state_of n h)) it.0 (sound.deciders n)) in
         record {
           num = n;
           standing = standing;
-          is_num = ap (λ (x : Row). column x 0) pair.is;
-          within = (bounds.0, omega (arith, bounds.1, same));
-          is = ap (columns (2 ∷ 3 ∷ 4 ∷ 5 ∷ 6 ∷ 7 ∷ 8 ∷ 9 ∷ [])) pair.is;
+          is = from.2 ∙ ap (columns (0 ∷ 2 ∷ 3 ∷ 4 ∷ 5 ∷ 6 ∷ 7 ∷ 8 ∷ 9 ∷ [])) pair.is;
+          within = (bounds.0, omega (arith, bounds.1, count));
           author = account_known h sound db shows standing.submitted.author good.author;
           path = good.path;
           proposal = good.proposal;
@@ -79,12 +85,12 @@ module _ (h : History) (sound : IsSound h) (db : Database) (shows : Shows db (vi
           state = decided standing.submitted.author standing.state state;
         }
 
-    numbered : (n : ℕ) → 1 ≤ n → n ≤ length (db.trees 6) → HasRow (db.trees 6) (0 ∷ []) (number n ∷ [])
+    numbered : (n : ℕ) → 1 ≤ n → n ≤ length (rows_in db.trees).submissions → HasValue (rows_in db.trees).submissions 0 (number n)
     numbered n low high =
-        let s = there_at (submits_of h) n low (omega (arith, high, same)) in
+        let s = there_at (submits_of h) n low (omega (arith, high, count)) in
         let standing : Standing = record { submitted = s.0; state = state_of n h } in
         let row = shows.submissions.complete n standing (ap (option_map (λ (s : Submitted). record { submitted = s; state = state_of n h })) s.1) in
-        (submission_row row.0 n standing, row.1, refl)
+        (columns (0 ∷ 2 ∷ 3 ∷ 4 ∷ 5 ∷ 6 ∷ 7 ∷ 8 ∷ 9 ∷ []) (submission_row row.0 n standing), mapped (columns (0 ∷ 2 ∷ 3 ∷ 4 ∷ 5 ∷ 6 ∷ 7 ∷ 8 ∷ 9 ∷ [])) (db.trees 6) (submission_row row.0 n standing) row.1, refl)
 
-    pub submissions_kept : AreSubmissions db.trees
+    pub submissions_kept : AreSubmissions (rows_in db.trees).accounts (rows_in db.trees).submissions
     submissions_kept = record { each = submission_good; counted = numbered }
