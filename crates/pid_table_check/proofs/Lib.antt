@@ -7,3 +7,5 @@ pub mod ReceiptsKept
 pub mod OneRowEach
 pub mod CountsKept
 pub mod Kept
+pub mod WholeTexts
+pub mod WholeReads

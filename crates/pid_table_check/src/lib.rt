@@ -2,5 +2,7 @@
 #![tactic(auto)]
 
 mod laws;
+mod read;
+mod value;
 
 pub use laws::{shown_tables_are_registries, sound_histories_are_registries};
