@@ -9,3 +9,7 @@ pub mod CountsKept
 pub mod Kept
 pub mod WholeTexts
 pub mod WholeReads
+pub mod Each
+pub mod Words
+pub mod AccountFacts
+pub mod Moved

@@ -16,6 +16,13 @@ IsUntold Store = Unit {0}
 IsUntold (NewerSchema n) = ⊥
 IsUntold Damaged = ⊥
 
+-- the rows are not those of a registry, or nothing is told of them
+abbrev pub Refutes : Type 0 → TableFault → Type 0
+Refutes Good Memory = Unit {0}
+Refutes Good Store = Unit {0}
+Refutes Good (NewerSchema n) = ⊥
+Refutes Good Damaged = ¬ Good
+
 -- Where the tables are those of the schema, a value says so of their rows, which stay as they are, and a fault says so too.
 abbrev pub Judges : {X : Type 0} → State → State → Result X TableFault → (Rows → X → Type 0) → (Rows → TableFault → Type 0) → Type 0
 Judges old new result Says Fails =
@@ -24,3 +31,7 @@ Judges old new result Says Fails =
 -- all rows of one table, in some order
 abbrev pub Answers : State → State → Result (Vec Row Global) TableFault → (Rows → List Row) → Type 0
 Answers old new result table = Judges old new result (λ t rows. IsPermutation (table t) rows.items) (λ t e. IsUntold e)
+
+-- all rows of one table, where they are good; Damaged where they are not
+abbrev pub Checks : State → State → Result (Vec Row Global) TableFault → (Rows → List Row) → (Rows → Type 0) → Type 0
+Checks old new result table Good = Judges old new result (λ t rows. IsPermutation (table t) rows.items × Good t) (λ t e. Refutes (Good t) e)

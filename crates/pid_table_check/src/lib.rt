@@ -1,6 +1,7 @@
 //! Whether the tables of a registry keep the conditions that every history keeps.
 #![tactic(auto)]
 
+mod account;
 mod laws;
 mod read;
 mod value;

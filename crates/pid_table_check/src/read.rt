@@ -54,7 +54,10 @@ pub(crate) fn submission_rows<S: Alter>(tx: &mut Transaction<'_, S>) -> Result<V
     ensures goes { GoesOn (state S.Store tx.old.conn.now) (state S.Store tx.new.conn.now) result }
     ensures answers { Answers (state S.Store tx.old.conn.now) (state S.Store tx.new.conn.now) result (λ t. t.submissions) }
 {
-    all_rows(tx, "SELECT num, author, path, form, name, note, state, decider, reason FROM submission")
+    all_rows(
+        tx,
+        "SELECT num, author, path, form, name, note, state, decider, reason FROM submission",
+    )
 }
 
 /// All rows of the table `remark`.

@@ -1,6 +1,5 @@
 //! The values of a row.
-ghost use Rattle.std.specs.Prelude.{◌≡◌, ℕ, List, false, IfSome, IfNone};
-ghost use Rattle.std.specs.Str.{is_utf8};
+ghost use Rattle.std.specs.Prelude.{◌≡◌, ℕ, List, IfSome, IfNone, IsUtf8};
 ghost use Rattle.sqlite.specs.declared.types.Value.TheVariants.{Text as TextValue};
 ghost use Rattle.sqlite.specs.Order.{column};
 ghost use Rattle.pid_tables.specs.TableRows.{number};
@@ -8,13 +7,23 @@ ghost use Rattle.pid_tables.specs.TableRows.{number};
 use sqlite::Row;
 use sqlite::types::ValueRef;
 
+fn text_of(bytes: &[u8]) -> Option<&str>
+    ensures found { IfSome result (λ text. text.now ≡ bytes.now) }
+    ensures none { IfNone result (¬ (IsUtf8 bytes.now)) }
+{
+    match std::str::from_utf8(bytes) {
+        Ok(text) => Some(text),
+        Err(_) => None,
+    }
+}
+
 /// The text in a column.
 pub(crate) fn text_at(row: &Row, at: usize) -> Option<&str>
     ensures found { IfSome result (λ text. column row.now at ≡ TextValue text.now) }
-    ensures none { IfNone result ((text : List ℕ) → column row.now at ≡ TextValue text → is_utf8 text ≡ false) }
+    ensures none { IfNone result ((text : List ℕ) → column row.now at ≡ TextValue text → ¬ (IsUtf8 text)) }
 {
     match row.get_ref(at) {
-        Ok(ValueRef::Text(bytes)) => std::str::from_utf8(bytes).ok(),
+        Ok(ValueRef::Text(bytes)) => text_of(bytes),
         _ => None,
     }
 }
