@@ -7,7 +7,7 @@ use Rattle.sqlite.specs.Order.{Row, column}
 use Rattle.pid_tables.specs.TableRows.{number}
 use Rattle.pid_table_check.specs.Conditions.{IsAccountRow, AreAccounts}
 use Rattle.pid_table_check.proofs.Each.{each_member, each_place, some_member, some_place}
-use Rattle.pid_table_check.proofs.Words.{account_utf8}
+use Rattle.pid_table_check.proofs.WordTexts.{account_utf8}
 
 pub account_named : (r : Row) → IsAccountRow r → (name : List ℕ) × (column r 0 ≡ Text name) × IsUtf8 name
 account_named r row = (row.name, ap (λ (x : Row). column x 0) row.is, account_utf8 row.name row.good)

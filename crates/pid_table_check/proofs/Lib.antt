@@ -10,6 +10,11 @@ pub mod Kept
 pub mod WholeTexts
 pub mod WholeReads
 pub mod Each
-pub mod Words
+pub mod WordTexts
 pub mod AccountFacts
 pub mod Moved
+pub mod PathWords
+pub mod ItemFacts
+pub mod LabelFacts
+pub mod NameFacts
+pub mod SubmissionFacts

@@ -1,2 +1,5 @@
 pub mod Conditions
 pub mod Reading
+pub mod PathSets
+pub mod Labels
+pub mod NameSets

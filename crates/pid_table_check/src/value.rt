@@ -9,6 +9,7 @@ use sqlite::types::ValueRef;
 
 fn text_of(bytes: &[u8]) -> Option<&str>
     ensures found { IfSome result (λ text. text.now ≡ bytes.now) }
+    ensures utf8 { IfSome result (λ text. IsUtf8 text.now) }
     ensures none { IfNone result (¬ (IsUtf8 bytes.now)) }
 {
     match std::str::from_utf8(bytes) {
@@ -20,6 +21,7 @@ fn text_of(bytes: &[u8]) -> Option<&str>
 /// The text in a column.
 pub(crate) fn text_at(row: &Row, at: usize) -> Option<&str>
     ensures found { IfSome result (λ text. column row.now at ≡ TextValue text.now) }
+    ensures utf8 { IfSome result (λ text. IsUtf8 text.now) }
     ensures none { IfNone result ((text : List ℕ) → column row.now at ≡ TextValue text → ¬ (IsUtf8 text)) }
 {
     match row.get_ref(at) {

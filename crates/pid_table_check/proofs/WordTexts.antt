@@ -3,9 +3,9 @@ use Rattle.std.proofs.Common.{◌≡◌, ◌⊎◌, inl, inr, ℕ, zero, suc, �
 use Rattle.std.specs.Prelude.{IsUtf8, ◌&&◌, ◌||◌}
 use Rattle.std.specs.List.{list_all}
 use Rattle.std.specs.Str.{IsAscii}
-use Rattle.std.proofs.lemmas.Str.{IsUtf8-from_ascii}
+use Rattle.std.proofs.lemmas.Str.{IsUtf8-from_ascii, IsUtf8-from_is_utf8}
 use Rattle.std.proofs.lemmas.Bool.{and_parts}
-use Rattle.pid_ident.specs.Words.{is_account, is_account_byte, is_key, is_key_byte}
+use Rattle.pid_ident.specs.Words.{is_account, is_account_byte, is_key, is_key_byte, is_name, is_text}
 
 pub all_ascii : (p : ℕ → Bool) (bytes : List ℕ) → ((b : ℕ) → p b ≡ true → b < 128) → list_all p bytes ≡ true → IsAscii bytes
 all_ascii p [] small all i = omega arith
@@ -23,3 +23,9 @@ key_byte b h = grind arith
 
 pub key_utf8 : (key : List ℕ) → is_key key ≡ true → IsUtf8 key
 key_utf8 key good = IsUtf8-from_ascii key (all_ascii is_key_byte key key_byte (and_parts _ _ good).1)
+
+pub name_utf8 : (name : List ℕ) → is_name name ≡ true → IsUtf8 name
+name_utf8 name good = IsUtf8-from_is_utf8 name (and_parts _ _ (and_parts _ _ (and_parts _ _ (and_parts _ _ good).0).0).0).0
+
+pub text_utf8 : (text : List ℕ) → is_text text ≡ true → IsUtf8 text
+text_utf8 text good = IsUtf8-from_is_utf8 text (and_parts _ _ (and_parts _ _ good).0).0
