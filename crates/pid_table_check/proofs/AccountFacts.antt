@@ -1,5 +1,5 @@
 -- What makes rows of accounts those of a registry.
-use Rattle.std.proofs.Common.{◌≡◌, ℕ, List, [], ◌∷◌, codes, ap, ◌∙◌}
+use Rattle.std.proofs.Common.{◌≡◌, ℕ, List, codes, ap}
 use Rattle.std.specs.Prelude.{IsUtf8}
 use Rattle.std.specs.List.{All, Any}
 use Rattle.sqlite.specs.declared.types.Value.TheVariants.{Text}

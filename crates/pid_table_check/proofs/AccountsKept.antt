@@ -1,7 +1,7 @@
 -- Tables that show a sound history have good accounts.
-use Rattle.std.proofs.Common.{◌≡◌, ℕ, ◌≤◌, List, [], ◌∷◌, map, true, Option, Some, None, refl, sym, ap, ◌∙◌, codes, arith}
+use Rattle.std.proofs.Common.{◌≡◌, ℕ, ◌≤◌, List, [], ◌∷◌, true, Option, Some, None, refl, ap, ◌∙◌, codes, arith}
 use Rattle.std.specs.Prelude.{is_some}
-use Rattle.sqlite.specs.Order.{Row, column}
+use Rattle.sqlite.specs.Order.{Row}
 use Rattle.sqlite.specs.Effect.{Database}
 use Rattle.sqlite_rules.specs.Lists.{Has}
 use Rattle.pid_moderation.specs.declared.rank.Rank.{Rank}

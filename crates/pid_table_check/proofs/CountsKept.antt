@@ -63,20 +63,20 @@ itself_there (i ∷ items) e h = chosen (eq_by_cmp text_cmp e.0 i.0) refl (itsel
 
 -- ---- submissions
 
-abbrev countdown : ℕ → List ℕ
+abbrev pub countdown : ℕ → List ℕ
 countdown zero = []
 countdown (suc n) = suc n ∷ countdown n
 
-down_length : (n : ℕ) → length (countdown n) ≡ n
+pub down_length : (n : ℕ) → length (countdown n) ≡ n
 down_length zero = refl
 down_length (suc n) = ap suc (down_length n)
 
-down_within : (n k : ℕ) → Has (countdown n) k → (1 ≤ k) × (k ≤ n)
+pub down_within : (n k : ℕ) → Has (countdown n) k → (1 ≤ k) × (k ≤ n)
 down_within zero k h = absurd h
 down_within (suc n) k (inl same) = (omega (arith, same), omega (arith, same))
 down_within (suc n) k (inr later) = let it = down_within n k later in (it.0, omega (arith, it.1))
 
-down_there : (n k : ℕ) → 1 ≤ k → k ≤ n → Has (countdown n) k
+pub down_there : (n k : ℕ) → 1 ≤ k → k ≤ n → Has (countdown n) k
 down_there zero k low high = absurd (omega (arith, low, high))
 down_there (suc n) k low high = elim (numbers_decided k (suc n)) [ inl same ↦ inl same | inr other ↦ inr (down_there n k low (omega (arith, high, other))) ]
 

@@ -1,5 +1,5 @@
 -- The set of the paths of items, and what makes rows of items those of a registry.
-use Rattle.std.proofs.Common.{◌≡◌, ◌⊎◌, inl, inr, ℕ, zero, suc, ◌+◌, ◌<◌, ◌≤◌, List, [], ◌∷◌, ◌++◌, length, get_or, take, Bool, true, false, cond, Some, None, Option, refl, sym, ap, subst, ◌∙◌, arith, ◌↔◌}
+use Rattle.std.proofs.Common.{◌≡◌, ◌⊎◌, inl, inr, ℕ, ◌+◌, ◌<◌, ◌≤◌, List, [], ◌∷◌, ◌++◌, length, get_or, take, Bool, true, false, cond, Some, refl, sym, ap, subst, ◌∙◌, arith}
 use Rattle.std.specs.List.{All, list_any}
 use Rattle.std.specs.Ordering.{is_eq}
 use Rattle.std.specs.BTreeSet.{BTreeSet, contains}
@@ -17,7 +17,7 @@ use Rattle.pid_ident.specs.Words.{is_name}
 use Rattle.pid_moderation.specs.CheckTables.{most_items}
 use Rattle.pid_tables.proofs.SetLemmas.{tied}
 use Rattle.pid_tree.proofs.Kin.{same_path, parent_in_range}
-use Rattle.pid_table_check.specs.Conditions.{HasValue, HasItem, IsItemRow, AreItems}
+use Rattle.pid_table_check.specs.Conditions.{HasValue, AreItems}
 use Rattle.pid_table_check.specs.PathSets.{ArePathsOf, IsItemAmong}
 use Rattle.pid_table_check.proofs.Each.{each_member, each_place}
 

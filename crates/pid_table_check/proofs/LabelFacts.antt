@@ -1,7 +1,6 @@
 -- What makes rows of meta those of a registry.
-use Rattle.std.proofs.Common.{◌≡◌, ◌⊎◌, inl, inr, ℕ, ◌<◌, ◌+◌, List, [], ◌∷◌, ◌++◌, length, take, get_or, refl, sym, ap, subst, ◌∙◌, codes, arith}
+use Rattle.std.proofs.Common.{◌≡◌, inl, inr, ℕ, ◌<◌, List, [], ◌∷◌, length, get_or, refl, sym, ap, subst, ◌∙◌, codes}
 use Rattle.std.specs.List.{All, Any}
-use Rattle.std.proofs.lemmas.List.{take_more, take_all}
 use Rattle.sqlite.specs.declared.types.Value.TheVariants.{Text}
 use Rattle.sqlite.specs.Order.{Row, column}
 use Rattle.sqlite_rules.specs.Lists.{Has}
@@ -9,7 +8,7 @@ use Rattle.pid_tables.specs.TableRows.{number}
 use Rattle.pid_table_check.specs.Conditions.{labels, label_row, IsNewer, AreCounts}
 use Rattle.pid_table_check.specs.Labels.{IsLabelled}
 use Rattle.pid_table_check.proofs.Each.{each_member, each_place, some_member, some_place, at_place}
-use Rattle.pid_table_check.proofs.ItemFacts.{two, split}
+use Rattle.pid_table_check.proofs.ItemFacts.{two}
 
 pub label_made : (r : Row) (label : List ℕ) (n : ℕ) → length r ≡ 2 → column r 0 ≡ Text label → column r 1 ≡ number n → r ≡ label_row (label, n)
 label_made r label n len p q = two r len ∙ (λ i. p i ∷ q i ∷ [])

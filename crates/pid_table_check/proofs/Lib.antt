@@ -18,3 +18,8 @@ pub mod ItemFacts
 pub mod LabelFacts
 pub mod NameFacts
 pub mod SubmissionFacts
+pub mod Numbered
+pub mod RemarkFacts
+pub mod AuthorFacts
+pub mod ReceiptFacts
+pub mod Judging

@@ -1,5 +1,5 @@
 -- The set of the names of accounts.
-use Rattle.std.proofs.Common.{◌≡◌, ◌⊎◌, inl, inr, ℕ, ◌+◌, ◌<◌, ◌≤◌, List, [], ◌∷◌, ◌++◌, length, get_or, take, Bool, true, false, cond, refl, sym, ap, subst, ◌∙◌, arith, ◌↔◌, Ordering, Less, Equal, Greater}
+use Rattle.std.proofs.Common.{◌≡◌, inl, inr, ℕ, ◌+◌, ◌<◌, List, [], ◌∷◌, ◌++◌, length, get_or, take, Bool, true, false, refl, sym, ap, subst, ◌∙◌, Ordering, Less, Equal, Greater}
 use Rattle.std.specs.Prelude.{◌||◌, IsUtf8, string_bytes, String, is_ok, OnOk, Result, Ok, Err}
 use Rattle.std.specs.List.{list_any}
 use Rattle.std.specs.Ordering.{is_eq, match_ordering}
@@ -9,15 +9,13 @@ use Rattle.std.specs.declared.alloc.Global.{Global}
 use Rattle.std.specs.Cmp.Lexicographic.{nat_list_cmp_total}
 use Rattle.std.proofs.lemmas.Bool.{or_cases, or_left, or_right}
 use Rattle.std.proofs.lemmas.Cmp.{tied_itself}
-use Rattle.std.proofs.lemmas.List.{take_more, take_all}
+use Rattle.std.proofs.lemmas.List.{take_more}
 use Rattle.sqlite.specs.declared.types.Value.TheVariants.{Text}
 use Rattle.sqlite.specs.Order.{Row, column}
-use Rattle.sqlite_rules.specs.Lists.{Has}
 use Rattle.pid_ident.specs.Trees.{text_cmp}
 use Rattle.pid_tables.proofs.SetLemmas.{tied}
-use Rattle.pid_table_check.specs.Conditions.{HasAccount}
 use Rattle.pid_table_check.specs.NameSets.{AreNamesOf}
-use Rattle.pid_table_check.proofs.ItemFacts.{split, before, last, value_before, texts_same}
+use Rattle.pid_table_check.proofs.ItemFacts.{split, last, value_before, texts_same}
 
 twice : (a b c : Bool) → a ≡ b → (b || c) ≡ (a || (b || c))
 twice true b c e = ap (λ x. x || c) (sym e)

@@ -11,7 +11,7 @@ use Rattle.pid_moderation.specs.History.{History}
 use Rattle.pid_moderation.specs.Sound.{IsSound, IsBy, IsOwnReply}
 use Rattle.pid_moderation.specs.Views.{Submitted, submits_of, submission_at, state_of, views_of}
 use Rattle.pid_tables.specs.Shows.{Shows}
-use Rattle.pid_tables.specs.TableRows.{Standing, submission_row, number}
+use Rattle.pid_tables.specs.TableRows.{Standing, submission_row}
 use Rattle.pid_table_check.proofs.Lengths.{mapped, unmapped}
 use Rattle.pid_table_check.specs.Conditions.{columns, rows_in, IsOwn, IsReceiptRow, AreReceipts}
 
@@ -39,6 +39,7 @@ module _ (h : History) (sound : IsSound h) (db : Database) (shows : Shows db (vi
         token = pair.key.1;
         reply = pair.value;
         is = from.2 ∙ ap (columns (1 ∷ 2 ∷ 3 ∷ 4 ∷ 5 ∷ 6 ∷ [])) pair.is;
+        good = sound.accounts pair.key.0 good.account;
         key = good.key;
         own = own pair.key.0 pair.value good.reply;
       }

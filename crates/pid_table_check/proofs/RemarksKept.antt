@@ -1,6 +1,7 @@
 -- Tables that show a sound history have good remarks.
 use Rattle.std.proofs.Common.{◌≡◌, ℕ, zero, suc, ◌≤◌, ◌<◌, List, [], ◌∷◌, length, Option, Some, None, refl, ◌∙◌, ap, subst, arith, slice_get}
 use Rattle.std.proofs.lemmas.Option.{slice_get_within}
+use Rattle.sqlite.specs.declared.types.Value.TheVariants.{Text}
 use Rattle.sqlite.specs.Order.{Row}
 use Rattle.sqlite.specs.Effect.{Database}
 use Rattle.sqlite_rules.specs.Lists.{Has}
@@ -11,7 +12,7 @@ use Rattle.pid_moderation.specs.Views.{Submitted, Remark, submits_of, submission
 use Rattle.pid_tables.specs.Shows.{Shows, counted_from_one}
 use Rattle.pid_tables.specs.TableRows.{remark_row}
 use Rattle.pid_table_check.proofs.Lengths.{mapped, unmapped}
-use Rattle.pid_table_check.specs.Conditions.{columns, rows_in, HasRemark, IsRemarkRow, AreRemarks}
+use Rattle.pid_table_check.specs.Conditions.{columns, rows_in, IsRemarkRow, AreRemarks}
 
 good_at : (h : History) (rs : List Remark) (i : ℕ) (r : Remark) → AreGoodRemarks h rs → slice_get rs i ≡ Some r → IsGoodRemark h r
 good_at h [] i r all e = absurd cc
@@ -59,7 +60,7 @@ module _ (h : History) (sound : IsSound h) (db : Database) (shows : Shows db (vi
         num = n;
         place = pair.key.1;
         body = pair.value.text;
-        author = pair.value.author;
+        author = Text pair.value.author;
         is = from.2 ∙ ap (columns (1 ∷ 2 ∷ 3 ∷ 4 ∷ [])) pair.is;
         within = (bounds.0, omega (arith, bounds.1, well.1));
         before = λ earlier low next.

@@ -1,12 +1,10 @@
 -- What makes rows of submissions those of a registry.
-use Rattle.std.proofs.Common.{◌≡◌, ◌≢◌, ◌⊎◌, inl, inr, ℕ, zero, suc, ◌+◌, ◌<◌, ◌≤◌, List, [], ◌∷◌, length, Bool, true, false, refl, sym, ap, subst, ◌∙◌, arith}
+use Rattle.std.proofs.Common.{◌≡◌, ◌≢◌, ℕ, ◌≤◌, List, [], ◌∷◌, length, true, false, refl, sym, ap, subst, ◌∙◌, arith}
 use Rattle.std.specs.Prelude.{IsUtf8, String}
-use Rattle.std.specs.List.{All}
-use Rattle.std.specs.BTreeSet.{BTreeSet, contains_text}
+use Rattle.std.specs.BTreeSet.{BTreeSet}
 use Rattle.std.specs.declared.alloc.Global.{Global}
 use Rattle.sqlite.specs.declared.types.Value.TheVariants.{Text}
 use Rattle.sqlite.specs.Order.{Row, column}
-use Rattle.sqlite_rules.specs.Lists.{Has}
 use Rattle.pid_ident.specs.Bytes.{is_empty}
 use Rattle.pid_ident.specs.PathTexts.{IsPath, path_text}
 use Rattle.pid_ident.specs.Words.{is_name, is_text}
@@ -16,10 +14,9 @@ use Rattle.pid_moderation.specs.declared.command.Proposal.TheVariants.{Name, Rem
 use Rattle.pid_moderation.specs.declared.facts.State.{State}
 use Rattle.pid_moderation.specs.declared.facts.State.TheVariants.{Pending, Approved, Rejected, Withdrawn}
 use Rattle.pid_moderation.specs.WellMade.{ProposesName}
-use Rattle.pid_tables.specs.TableRows.{number, Standing, form_of, name_of, state_number, decider_of, reason_of}
+use Rattle.pid_tables.specs.TableRows.{number, form_of, name_of}
 use Rattle.pid_table_check.specs.Conditions.{HasAccount, AreAccounts, IsDecided, IsSubmissionRow}
 use Rattle.pid_table_check.specs.NameSets.{AreNamesOf, IsAmong, IsDecidedAmong, IsSubmissionAmong, Stands}
-use Rattle.pid_table_check.proofs.Each.{each_member, each_place}
 use Rattle.pid_table_check.proofs.ItemFacts.{texts_same}
 use Rattle.pid_table_check.proofs.AccountFacts.{account_named}
 

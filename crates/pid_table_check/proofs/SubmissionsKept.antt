@@ -5,7 +5,7 @@ use Rattle.std.proofs.lemmas.List.{length-map}
 use Rattle.std.proofs.lemmas.Option.{slice_get_within}
 use Rattle.std.proofs.lemmas.Bool.{both_ways}
 use Rattle.std.proofs.lemmas.Slice.Eq.{bytes_eq-Decides}
-use Rattle.sqlite.specs.Order.{Row, column}
+use Rattle.sqlite.specs.Order.{Row}
 use Rattle.sqlite.specs.Effect.{Database}
 use Rattle.sqlite_rules.specs.Lists.{Has}
 use Rattle.pid_moderation.specs.declared.facts.State.{State}
@@ -15,7 +15,7 @@ use Rattle.pid_moderation.specs.Sound.{IsSound, IsGoodSubmission, AreGoodSubmiss
 use Rattle.pid_moderation.specs.Views.{Submitted, submits_of, submission_at, state_of, views_of}
 use Rattle.pid_tables.specs.Shows.{Shows}
 use Rattle.pid_tables.specs.TableRows.{Standing, submission_row, number}
-use Rattle.pid_table_check.specs.Conditions.{columns, rows_in, HasValue, HasAccount, IsDecided, IsSubmissionRow, AreSubmissions}
+use Rattle.pid_table_check.specs.Conditions.{columns, rows_in, HasValue, IsDecided, IsSubmissionRow, AreSubmissions}
 use Rattle.pid_table_check.proofs.Lengths.{mapped, unmapped}
 use Rattle.pid_table_check.proofs.AccountsKept.{account_known}
 

@@ -1,6 +1,6 @@
 -- What a query of a whole table answers, and which faults it may give.
 use Rattle.std.specs.Prelude.{nat_le, unwrap_or, ◌-◌, ◌^◌}
-use Rattle.std.proofs.Common.{slice_get, cond, ◌≡◌, ◌⊎◌, inl, inr, ℕ, List, [], ◌∷◌, map, filter, length, Bool, true, false, None, Some, Option, Ok, Err, Result, IfOk, IfErr, MatchResult, refl, sym, ap, subst, ◌∙◌}
+use Rattle.std.proofs.Common.{slice_get, cond, ◌≡◌, ◌⊎◌, inl, inr, ℕ, List, [], ◌∷◌, map, true, false, None, Option, Ok, Err, Result, IfOk, IfErr, MatchResult, refl, sym, ap, subst}
 use Rattle.std.specs.Prelude.{Vec}
 use Rattle.std.specs.declared.alloc.Global.{Global}
 use Rattle.std.specs.List.Sorted.{IsPermutation}
@@ -12,27 +12,26 @@ use Rattle.sqlite.specs.Program.{overlay}
 use Rattle.sqlite.specs.Listing.{understood}
 use Rattle.sqlite.specs.Command.{Command}
 use Rattle.sqlite.specs.Command.TheVariants.{Select, Rows}
-use Rattle.sqlite_schema.specs.declared.command.Returning.{Returning}
 use Rattle.sqlite_resolve.specs.declared.compiled.Compiled.{Compiled}
 use Rattle.sqlite_resolve.specs.declared.error.CompileError.{CompileError}
 use Rattle.sqlite_trees.specs.declared.error.StoreError.{StoreError}
 use Rattle.sqlite_trees.specs.declared.error.StoreError.TheVariants as store
 use Rattle.sqlite.specs.declared.error.Error.{Error}
-use Rattle.sqlite.specs.declared.error.Error.TheVariants.{SqliteFailure, SqlInputError, MultipleStatement, InvalidParameterCount, InvalidQuery}
+use Rattle.sqlite.specs.declared.error.Error.TheVariants.{SqliteFailure}
 use Rattle.sqlite.specs.declared.error.ErrorCode.{ErrorCode}
 use Rattle.sqlite.specs.declared.error.ErrorCode.TheVariants as code
 use Rattle.sqlite.specs.Effect.{Database, RefusesToRead}
-use Rattle.sqlite.specs.State.{State, HasCleanDisk, Shown, IsNotRun, IsNoStatement, Fails, FailsToShow, FailsToQuery, IsTooLate, store_error}
+use Rattle.sqlite.specs.State.{State, Shown, IsNotRun, FailsToShow, FailsToQuery, IsTooLate, store_error}
 use Rattle.sqlite.specs.Clock.{timed}
 use Rattle.sqlite.proofs.Callers.{IsPlain, reads_as}
 use Rattle.pid_tables.specs.declared.fault.TableFault.{TableFault}
 use Rattle.pid_tables.specs.Faults.{fault_of}
 use Rattle.pid_tables.specs.Schema.{pid_schema}
-use Rattle.pid_tables.proofs.Statements.{simple, IsSelect}
+use Rattle.pid_tables.proofs.Statements.{IsSelect}
 use Rattle.pid_tables.proofs.Select.{passing, shown, simple_rows}
 use Rattle.pid_tables.proofs.ReadLemmas.{shown_same}
 use Rattle.pid_table_check.specs.Conditions as conditions
-use Rattle.pid_table_check.specs.Reading.{IsUntold, Answers}
+use Rattle.pid_table_check.specs.Reading.{IsUntold}
 
 -- ---- rows
 

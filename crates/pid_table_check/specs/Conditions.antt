@@ -137,9 +137,9 @@ HasRemark remarks num place = (r : Row) × Has remarks r × (column r 0 ≡ numb
 pub record IsRemarkRow (remarks : List Row) (r : Row) : Type 0 where
   pub num : ℕ
   pub place : ℕ
-  pub author : List ℕ
+  pub author : Value
   pub body : List ℕ
-  pub is : r ≡ number num ∷ number place ∷ Text author ∷ Text body ∷ []
+  pub is : r ≡ number num ∷ number place ∷ author ∷ Text body ∷ []
   pub within : (1 ≤ place) × (place ≤ most_remarks)
   pub before : (earlier : ℕ) → 1 ≤ earlier → place ≡ suc earlier → HasRemark remarks num earlier
   pub text : is_text body ≡ true
@@ -163,6 +163,7 @@ pub record IsReceiptRow (submissions : List Row) (r : Row) : Type 0 where
   pub token : List ℕ
   pub reply : Reply
   pub is : r ≡ Text account ∷ Text token ∷ number (kind_of reply) ∷ number (first_of reply) ∷ number (second_of reply) ∷ number (third_of reply) ∷ []
+  pub good : is_account account ≡ true
   pub key : is_key token ≡ true
   pub own : IsOwn submissions account reply
 

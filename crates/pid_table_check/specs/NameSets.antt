@@ -1,9 +1,10 @@
 -- The names of accounts as a set, and rows of submissions judged by it.
-use Rattle.std.specs.Prelude.{◌≡◌, ◌≢◌, ◌↔◌, ◌≤◌, ℕ, true, false, ◌∷◌, List, IsUtf8, String}
+use Rattle.std.specs.Prelude.{◌≡◌, ◌≢◌, ◌↔◌, ◌≤◌, ℕ, true, false, ◌∷◌, map, List, IsUtf8, String}
 use Rattle.std.specs.BTreeSet.{BTreeSet, contains_text}
 use Rattle.std.specs.declared.alloc.Global.{Global}
 use Rattle.sqlite.specs.declared.types.Value.TheVariants.{Text}
 use Rattle.sqlite.specs.Order.{Row, column}
+use Rattle.sqlite.specs.Tree.{IsAscending}
 use Rattle.pid_ident.specs.Bytes.{is_empty}
 use Rattle.pid_ident.specs.PathTexts.{IsPath}
 use Rattle.pid_ident.specs.Words.{is_text}
@@ -12,7 +13,7 @@ use Rattle.pid_moderation.specs.declared.facts.State.{State}
 use Rattle.pid_moderation.specs.declared.facts.State.TheVariants.{Pending, Approved, Rejected, Withdrawn}
 use Rattle.pid_tables.specs.TableRows.{number, Standing, state_number, decider_of, reason_of}
 use Rattle.pid_tables.specs.Answers.{standing_row}
-use Rattle.pid_table_check.specs.Conditions.{HasAccount}
+use Rattle.pid_table_check.specs.Conditions.{Rows, HasAccount, AreAccounts}
 
 -- the set has exactly the texts in the first column of the rows
 abbrev pub AreNamesOf : BTreeSet (String Global) → List Row → Type 0
@@ -43,3 +44,9 @@ pub record IsSubmissionAmong (names : BTreeSet (String Global)) (count : ℕ) (r
   pub proposal : ProposesName standing.submitted.proposal
   pub note : is_text standing.submitted.note ≡ true
   pub state : IsDecidedAmong names standing.submitted.author standing.state
+
+-- the accounts are good, the set has their names, and no number of a submission comes twice
+pub record AreReady (names : BTreeSet (String Global)) (t : Rows) : Type 0 where
+  pub accounts : AreAccounts t.accounts
+  pub named : AreNamesOf names t.accounts
+  pub once : IsAscending ◌≢◌ (map (λ r. column r 0) t.submissions)

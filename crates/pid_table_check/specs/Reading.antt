@@ -1,5 +1,5 @@
 -- What a call in a transaction tells of the rows that the transaction shows.
-use Rattle.std.specs.Prelude.{◌≡◌, List, Result, MatchResult, IsTrue, Vec}
+use Rattle.std.specs.Prelude.{◌≡◌, List, Result, MatchResult, Vec}
 use Rattle.std.specs.List.Sorted.{IsPermutation}
 use Rattle.std.specs.declared.alloc.Global.{Global}
 use Rattle.sqlite.specs.Order.{Row}

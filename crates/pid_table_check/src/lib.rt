@@ -2,11 +2,14 @@
 #![tactic(auto)]
 
 mod account;
+mod authors;
 mod item;
 mod laws;
 mod meta;
 mod names;
 mod read;
+mod receipt;
+mod remark;
 mod submission;
 mod value;
 mod words;

@@ -5,12 +5,19 @@ ghost use Rattle.sqlite.specs.declared.types.Value.TheVariants.{Text as TextValu
 ghost use Rattle.sqlite.specs.Order.{column};
 ghost use Rattle.pid_moderation.specs.WellMade.{ProposesName};
 ghost use Rattle.pid_tables.specs.TableRows.{number, form_of, name_of, state_number, decider_of, reason_of};
-ghost use Rattle.pid_table_check.specs.NameSets.{IsAmong, IsDecidedAmong, IsSubmissionAmong, Stands};
+ghost use Rattle.pid_table_check.specs.NameSets.{IsAmong, IsDecidedAmong, IsSubmissionAmong, Stands, AreReady};
+ghost use Rattle.sqlite.specs.Held.{state};
+ghost use Rattle.std.specs.List.Sorted.{IsPermutation};
+ghost use Rattle.pid_tables.specs.Leaves.{GoesOn};
+ghost use Rattle.pid_table_check.specs.Conditions.{AreSubmissions};
+ghost use Rattle.pid_table_check.specs.Reading.{Judges, Refutes};
 
 use crate::names;
+use crate::read::submission_rows;
 use crate::value::{number_at, text_at};
 use crate::words::{has_filled_text, has_name, has_path, has_text, is_blank};
-use sqlite::Row;
+use pid_tables::TableFault;
+use sqlite::{Alter, Row, Transaction};
 use std::collections::BTreeSet;
 
 fn is_within(row: &Row, count: u64) -> bool
@@ -101,4 +108,24 @@ pub(crate) fn are_submission_rows(rows: &[Row], names: &BTreeSet<String>, count:
     ensures { IsTrue result ↔ All (IsSubmissionAmong names.now count) rows.now }
 {
     rows.iter().all(|row| is_submission_row(row, names, count))
+}
+
+/// Reads the submissions, which are those of a registry whose accounts have these names.
+pub(crate) fn checked_submissions<S: Alter>(
+    tx: &mut Transaction<'_, S>,
+    names: &BTreeSet<String>,
+) -> Result<Vec<Row>, TableFault>
+    ensures same_reference { tx.new.conn.ghost_name ≡ tx.old.conn.ghost_name }
+    ensures goes { GoesOn (state S.Store tx.old.conn.now) (state S.Store tx.new.conn.now) result }
+    ensures checks { Judges (state S.Store tx.old.conn.now) (state S.Store tx.new.conn.now) result
+        (λ t rows. IsPermutation t.submissions rows.items × (AreReady names.now t → AreSubmissions t.accounts t.submissions))
+        (λ t e. AreReady names.now t → Refutes (AreSubmissions t.accounts t.submissions) e) }
+{
+    let rows = submission_rows(tx)?;
+    let count = rows.len() as u64;
+    if are_submission_rows(rows.as_slice(), names, count) {
+        Ok(rows)
+    } else {
+        Err(TableFault::Damaged)
+    }
 }

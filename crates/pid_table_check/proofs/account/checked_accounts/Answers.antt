@@ -1,4 +1,4 @@
-use Rattle.std.proofs.Common.{refl, sym, subst, arith}
+use Rattle.std.proofs.Common.{refl, sym, subst}
 use Rattle.std.proofs.lemmas.List.Sorted.{IsPermutation-sym}
 use Rattle.pid_table_check.specs.Conditions.{AreAccounts}
 use Rattle.pid_table_check.proofs.Moved.{accounts_moved}

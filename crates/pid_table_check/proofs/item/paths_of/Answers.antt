@@ -1,4 +1,4 @@
-use Rattle.std.proofs.Common.{sym, arith, rules}
+use Rattle.std.proofs.Common.{sym, arith}
 use Rattle.pid_table_check.proofs.ItemFacts.{paths_step}
 use Rattle.pid_table_check.proofs.item.paths_of.Goals as goal
 

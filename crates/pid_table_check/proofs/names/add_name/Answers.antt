@@ -1,5 +1,3 @@
-use Rattle.std.proofs.Common.{sym, ap, ◌∙◌, rules}
-use Rattle.sqlite.specs.declared.types.Value.TheVariants.{Text}
 use Rattle.pid_table_check.proofs.NameFacts.{name_skipped}
 use Rattle.pid_table_check.proofs.names.add_name.Goals as goal
 
