@@ -23,3 +23,4 @@ pub mod RemarkFacts
 pub mod AuthorFacts
 pub mod ReceiptFacts
 pub mod Judging
+pub mod Whole

@@ -3,6 +3,7 @@
 
 mod account;
 mod authors;
+mod checking;
 mod item;
 mod laws;
 mod meta;
@@ -14,4 +15,5 @@ mod submission;
 mod value;
 mod words;
 
+pub use checking::check;
 pub use laws::{shown_tables_are_registries, sound_histories_are_registries};
