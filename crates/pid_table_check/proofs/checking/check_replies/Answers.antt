@@ -1,0 +1,8 @@
+use Rattle.sqlite.specs.Held.{state}
+use Rattle.pid_table_check.proofs.Judging.{replies}
+use Rattle.pid_table_check.proofs.checking.check_replies.Goals as goal
+
+pub returns-clause-checks : goal.returns-clause-checks
+returns-clause-checks g c =
+    replies (state g.S.Store c.args.tx.now.conn.now) (state g.S.Store c.checked_receipts.new.tx.conn.now) c.checked_receipts.result c.in_ok-authors.authors c.args.submissions.now c.in_ok-authors.ensures.authors
+    c.checked_receipts.ensures.checks

@@ -1,0 +1,22 @@
+use Rattle.std.proofs.Common.{ℕ, List, sym, subst, arith, ◌∙◌}
+use Rattle.std.proofs.lemmas.List.Sorted.{IsPermutation-sym}
+use Rattle.sqlite.specs.Held.{state}
+use Rattle.sqlite.specs.Order.{Row}
+use Rattle.sqlite.specs.State.{HasCleanDisk}
+use Rattle.pid_table_check.specs.Conditions.{IsNewer}
+use Rattle.pid_table_check.proofs.Whole.{newer_moved, rest_told}
+use Rattle.pid_table_check.proofs.checking.check_tables.Goals as goal
+
+pub returns-in-Some-clause-checks : goal.returns-in-Some-clause-checks
+returns-in-Some-clause-checks g c clean has single =
+    let it = c.in_ok-meta.ensures.answers clean has in
+    newer_moved c.in-Some.number c.in_ok-meta.meta.items _ (IsPermutation-sym _ _ it.0) (subst (IsNewer c.in-Some.number) c.as_slice.ensures.value c.in-Some.ensures.found)
+
+pub returns-clause-checks : goal.returns-clause-checks
+returns-clause-checks g c =
+    let a = state g.S.Store c.args.tx.now.conn.now in
+    let b = state g.S.Store c.meta_rows.new.tx.conn.now in
+    let d = state g.S.Store c.check_rows.new.tx.conn.now in
+    let back : HasCleanDisk d → HasCleanDisk b = λ late. omega (arith, late, c.check_rows.ensures.goes.survives.clean) in
+    let none = subst (λ (m : List Row). (n : ℕ) → IsNewer n m → ⊥) (c.as_slice.ensures.value ∙ sym c.as_slice-in-None.ensures.value) c.in-None.ensures.none in
+    rest_told a b d c.in_ok-meta.meta c.as_slice-in-None.result.now c.as_slice-in-None.ensures.value back c.in_ok-meta.ensures.answers none c.check_rows.result c.check_rows.ensures.checks

@@ -1,0 +1,18 @@
+use Rattle.std.proofs.Common.{sym, subst}
+use Rattle.std.proofs.lemmas.List.Sorted.{IsPermutation-sym}
+use Rattle.pid_table_check.specs.Conditions.{AreItems}
+use Rattle.pid_table_check.proofs.Moved.{items_moved}
+use Rattle.pid_table_check.proofs.item.checked_items.Goals as goal
+
+pub returns-then-good-clause-checks : goal.returns-then-good-clause-checks
+returns-then-good-clause-checks g c clean has =
+    let it = c.in_ok-rows.ensures.answers clean has in
+    let good = subst AreItems c.as_slice.ensures.value (c.in_ok-good.ensures.judged.0 c.if-good.true) in
+    ((it.0, items_moved _ _ (IsPermutation-sym _ _ it.0) good), it.1)
+
+pub returns-else-good-clause-checks : goal.returns-else-good-clause-checks
+returns-else-good-clause-checks g c clean has good =
+    let it = c.in_ok-rows.ensures.answers clean has in
+    let yes = c.in_ok-good.ensures.judged.1 (subst AreItems (sym c.as_slice.ensures.value) (items_moved _ _ it.0 good)) in
+    let no = c.if-good.false in
+    absurd cc

@@ -1,0 +1,32 @@
+use Rattle.std.proofs.Common.{rules, ◌∙◌, sym, subst, IfErr, []}
+use Rattle.std.proofs.lemmas.Result.{err_from_is_err_and}
+use Rattle.pid_tables.proofs.ReadLemmas.{shown_passes, fails_keeping}
+use Rattle.pid_table_check.specs.Reading.{IsUntold}
+use Rattle.pid_table_check.proofs.WholeReads.{untold}
+use Rattle.pid_table_check.proofs.read.all_rows.Goals as goal
+
+pub returns-in_err-query_all-clause-goes : goal.returns-in_err-query_all-clause-goes
+returns-in_err-query_all-clause-goes g c =
+    let fails = c.in_err-query_all.ensures.err in
+    record {
+      survives = c.query_all.ensures.survives;
+      was_open = λ clean opened. (fails_keeping c.args.sql.now [] _ _ _ (fails clean) opened).0;
+      committed = λ clean inside opened. (fails_keeping c.args.sql.now [] _ _ _ (fails clean) opened).1;
+      going = search rules;
+    }
+
+pub returns-in_err-query_all-clause-untold : goal.returns-in_err-query_all-clause-untold
+returns-in_err-query_all-clause-untold g c clean has plain =
+    let p = err_from_is_err_and c.from_residual.result c.from_residual.ensures.1 in
+    subst (λ r. IfErr r IsUntold) (sym p.1) (subst IsUntold (sym p.2) (untold c.args.sql.now [] _ _ has plain _ (c.in_err-query_all.ensures.err clean)))
+
+pub returns-clause-goes : goal.returns-clause-goes
+returns-clause-goes g c =
+    let shown = c.in_ok-query_all.ensures.ok in
+    let rows = c.in_ok-query_all.field-0.items in
+    record {
+      survives = c.query_all.ensures.survives;
+      was_open = λ clean opened. (shown_passes c.args.sql.now [] _ _ rows (shown clean)).was_open;
+      committed = λ clean inside opened. (shown_passes c.args.sql.now [] _ _ rows (shown clean)).committed inside;
+      going = λ clean inside. let passes = shown_passes c.args.sql.now [] _ _ rows (shown clean) in (passes.is_open, passes.mode ∙ inside);
+    }

@@ -1,0 +1,22 @@
+-- The paths of rows of items as a set, and rows of items judged by it.
+use Rattle.std.specs.Prelude.{◌≡◌, ◌↔◌, ℕ, true, List, [], ◌∷◌, Some}
+use Rattle.std.specs.BTreeSet.{BTreeSet, contains}
+use Rattle.sqlite.specs.declared.types.Value.TheVariants.{Text}
+use Rattle.sqlite.specs.Order.{Row}
+use Rattle.pid_ident.specs.declared.path.Path.{Path}
+use Rattle.pid_ident.specs.PathTexts.{IsPath, path_text, path_cmp, parent_of}
+use Rattle.pid_ident.specs.Words.{is_name}
+use Rattle.pid_table_check.specs.Conditions.{HasItem}
+
+-- the set has exactly the paths of the rows
+abbrev pub ArePathsOf : BTreeSet Path → List Row → Type 0
+ArePathsOf paths rows = (path : Path) → IsPath path → (contains path_cmp paths path ≡ true) ↔ HasItem rows path
+
+-- an item whose parent is in the set
+pub record IsItemAmong (paths : BTreeSet Path) (r : Row) : Type 0 where
+  pub path : Path
+  pub name : List ℕ
+  pub is : r ≡ Text (path_text path) ∷ Text name ∷ []
+  pub in_range : IsPath path
+  pub good : is_name name ≡ true
+  pub parent : (above : Path) → parent_of path ≡ Some above → contains path_cmp paths above ≡ true

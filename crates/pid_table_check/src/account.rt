@@ -1,0 +1,103 @@
+//! Accounts: each has a name and a rank, `root` is one, and some account is an administrator.
+ghost use Rattle.std.specs.Prelude.{◌≡◌, ◌≤◌, ◌↔◌, ℕ, IsTrue, codes};
+ghost use Rattle.std.specs.List.{All, Any};
+ghost use Rattle.sqlite.specs.declared.types.Value.TheVariants.{Text as TextValue};
+ghost use Rattle.sqlite.specs.Order.{column};
+ghost use Rattle.pid_tables.specs.TableRows.{number};
+ghost use Rattle.sqlite.specs.Held.{state};
+ghost use Rattle.pid_tables.specs.Leaves.{GoesOn};
+ghost use Rattle.pid_table_check.specs.Reading.{Checks};
+ghost use Rattle.pid_table_check.specs.Conditions.{IsAccountRow, AreAccounts};
+
+use crate::read::account_rows;
+use crate::value::{number_at, text_at};
+use pid_ident::is_account;
+use pid_tables::TableFault;
+use sqlite::{Alter, Row, Transaction};
+
+fn has_rank(row: &Row) -> bool
+    ensures { IsTrue result ↔ ((rank : ℕ) × (column row.now 1 ≡ number rank) × (rank ≤ 3)) }
+{
+    match number_at(row, 1) {
+        Some(rank) => rank <= 3,
+        None => false,
+    }
+}
+
+fn is_account_row(row: &Row) -> bool
+    ensures { IsTrue result ↔ IsAccountRow row.now }
+{
+    if row.column_count() != 2 {
+        return false;
+    }
+    match text_at(row, 0) {
+        Some(name) => is_account(name) && has_rank(row),
+        None => false,
+    }
+}
+
+fn are_account_rows(rows: &[Row]) -> bool
+    ensures { IsTrue result ↔ All IsAccountRow rows.now }
+{
+    rows.iter().all(is_account_row)
+}
+
+fn has_name(row: &Row, name: &str) -> bool
+    ensures { IsTrue result ↔ (column row.now 0 ≡ TextValue name.now) }
+{
+    match text_at(row, 0) {
+        Some(text) => text == name,
+        None => false,
+    }
+}
+
+fn is_administrator(row: &Row) -> bool
+    ensures { IsTrue result ↔ (column row.now 1 ≡ number 3) }
+{
+    match number_at(row, 1) {
+        Some(rank) => rank == 3,
+        None => false,
+    }
+}
+
+fn have_root(rows: &[Row]) -> bool
+    ensures { IsTrue result ↔ Any (λ r. column r 0 ≡ TextValue (codes "root")) rows.now }
+{
+    rows.iter().any(|row| has_name(row, "root"))
+}
+
+fn have_administrator(rows: &[Row]) -> bool
+    ensures { IsTrue result ↔ Any (λ r. column r 1 ≡ number 3) rows.now }
+{
+    rows.iter().any(is_administrator)
+}
+
+#[tactic(auto, using(crate::proofs::AccountFacts::accounts_made, crate::proofs::AccountFacts::rows_of, crate::proofs::AccountFacts::root_of, crate::proofs::AccountFacts::administrator_of))]
+/// Whether the rows of accounts are those of a registry.
+pub(crate) fn are_accounts(rows: &[Row]) -> bool
+    ensures { IsTrue result ↔ AreAccounts rows.now }
+{
+    if !are_account_rows(rows) {
+        return false;
+    }
+    if !have_root(rows) {
+        return false;
+    }
+    have_administrator(rows)
+}
+
+/// Reads the accounts, which are those of a registry.
+pub(crate) fn checked_accounts<S: Alter>(
+    tx: &mut Transaction<'_, S>,
+) -> Result<Vec<Row>, TableFault>
+    ensures same_reference { tx.new.conn.ghost_name ≡ tx.old.conn.ghost_name }
+    ensures goes { GoesOn (state S.Store tx.old.conn.now) (state S.Store tx.new.conn.now) result }
+    ensures checks { Checks (state S.Store tx.old.conn.now) (state S.Store tx.new.conn.now) result (λ t. t.accounts) (λ t. AreAccounts t.accounts) }
+{
+    let rows = account_rows(tx)?;
+    if are_accounts(rows.as_slice()) {
+        Ok(rows)
+    } else {
+        Err(TableFault::Damaged)
+    }
+}

@@ -1,0 +1,120 @@
+//! The check of all tables, in one transaction that is rolled back.
+ghost use Rattle.std.specs.Prelude.{◌≡◌, false, MatchResult};
+ghost use Rattle.std.specs.List.Sorted.{IsPermutation};
+ghost use Rattle.sqlite.specs.Held.{state};
+ghost use Rattle.sqlite.specs.State.{HasCleanDisk};
+ghost use Rattle.sqlite.specs.Tree.{IsTable};
+ghost use Rattle.pid_tables.specs.Leaves.{GoesOn, OnlyReads};
+ghost use Rattle.pid_tables.specs.Schema.{pid_schema};
+ghost use Rattle.pid_table_check.specs.Conditions.{AreAccounts, AreItems, AreSubmissions, AreRemarks, AreReceipts, AreOfRegistry, IsRegistry, rows_in};
+ghost use Rattle.pid_table_check.specs.Checking.{AreSingle, Explains};
+ghost use Rattle.pid_table_check.specs.Reading.{Judges, Refutes};
+
+use crate::account::checked_accounts;
+use crate::authors::authors_of;
+use crate::item::checked_items;
+use crate::meta::{are_counts, newer};
+use crate::names::names_of;
+use crate::read::meta_rows;
+use crate::receipt::checked_receipts;
+use crate::remark::checked_remarks;
+use crate::submission::checked_submissions;
+use pid_tables::TableFault;
+use sqlite::{Alter, Connection, Row, Transaction};
+use std::alloc::Global;
+
+fn check_replies<S: Alter>(
+    tx: &mut Transaction<'_, S>,
+    alloc: Global,
+    submissions: &[Row],
+) -> Result<(), TableFault>
+    ensures same_reference { tx.new.conn.ghost_name ≡ tx.old.conn.ghost_name }
+    ensures goes { GoesOn (state S.Store tx.old.conn.now) (state S.Store tx.new.conn.now) result }
+    ensures checks { Judges (state S.Store tx.old.conn.now) (state S.Store tx.new.conn.now) result
+        (λ t x. IsPermutation t.submissions submissions.now → AreReceipts t.submissions t.receipts)
+        (λ t e. IsPermutation t.submissions submissions.now → Refutes (AreReceipts t.submissions t.receipts) e) }
+{
+    let authors = authors_of(submissions, alloc)?;
+    checked_receipts(tx, &authors, alloc)
+}
+
+fn check_submitted<S: Alter>(
+    tx: &mut Transaction<'_, S>,
+    alloc: Global,
+    accounts: &[Row],
+) -> Result<Vec<Row>, TableFault>
+    ensures same_reference { tx.new.conn.ghost_name ≡ tx.old.conn.ghost_name }
+    ensures goes { GoesOn (state S.Store tx.old.conn.now) (state S.Store tx.new.conn.now) result }
+    ensures checks { Judges (state S.Store tx.old.conn.now) (state S.Store tx.new.conn.now) result
+        (λ t rows. IsPermutation t.submissions rows.items × ((IsPermutation t.accounts accounts.now × AreAccounts t.accounts × AreSingle t) → AreSubmissions t.accounts t.submissions × AreReceipts t.submissions t.receipts))
+        (λ t e. (IsPermutation t.accounts accounts.now × AreAccounts t.accounts × AreSingle t) → Refutes (AreSubmissions t.accounts t.submissions × AreReceipts t.submissions t.receipts) e) }
+{
+    let names = names_of(accounts, alloc)?;
+    let rows = checked_submissions(tx, &names)?;
+    check_replies(tx, alloc, rows.as_slice())?;
+    Ok(rows)
+}
+
+fn check_named<S: Alter>(tx: &mut Transaction<'_, S>, alloc: Global) -> Result<Vec<Row>, TableFault>
+    ensures same_reference { tx.new.conn.ghost_name ≡ tx.old.conn.ghost_name }
+    ensures goes { GoesOn (state S.Store tx.old.conn.now) (state S.Store tx.new.conn.now) result }
+    ensures checks { Judges (state S.Store tx.old.conn.now) (state S.Store tx.new.conn.now) result
+        (λ t rows. IsPermutation t.items rows.items × AreItems t.items × AreRemarks t.remarks)
+        (λ t e. Refutes (AreItems t.items × AreRemarks t.remarks) e) }
+{
+    let rows = checked_items(tx, alloc)?;
+    checked_remarks(tx, alloc)?;
+    Ok(rows)
+}
+
+fn check_rows<S: Alter>(
+    tx: &mut Transaction<'_, S>,
+    alloc: Global,
+    meta: &[Row],
+) -> Result<(), TableFault>
+    ensures same_reference { tx.new.conn.ghost_name ≡ tx.old.conn.ghost_name }
+    ensures goes { GoesOn (state S.Store tx.old.conn.now) (state S.Store tx.new.conn.now) result }
+    ensures checks { Judges (state S.Store tx.old.conn.now) (state S.Store tx.new.conn.now) result
+        (λ t x. IsPermutation t.meta meta.now → AreSingle t → AreOfRegistry t)
+        (λ t e. IsPermutation t.meta meta.now → AreSingle t → Refutes (AreOfRegistry t) e) }
+{
+    let accounts = checked_accounts(tx)?;
+    let submissions = check_submitted(tx, alloc, accounts.as_slice())?;
+    let items = check_named(tx, alloc)?;
+    let many = items.len() as u64;
+    let some = submissions.len() as u64;
+    if are_counts(meta, many, some) {
+        Ok(())
+    } else {
+        Err(TableFault::Damaged)
+    }
+}
+
+fn check_tables<S: Alter>(tx: &mut Transaction<'_, S>, alloc: Global) -> Result<(), TableFault>
+    ensures same_reference { tx.new.conn.ghost_name ≡ tx.old.conn.ghost_name }
+    ensures goes { GoesOn (state S.Store tx.old.conn.now) (state S.Store tx.new.conn.now) result }
+    ensures checks { Judges (state S.Store tx.old.conn.now) (state S.Store tx.new.conn.now) result
+        (λ t x. AreSingle t → AreOfRegistry t)
+        (λ t e. AreSingle t → Explains t e) }
+{
+    let meta = meta_rows(tx)?;
+    match newer(meta.as_slice()) {
+        Some(number) => Err(TableFault::NewerSchema(number)),
+        None => check_rows(tx, alloc, meta.as_slice()),
+    }
+}
+
+/// Whether the tables are those of some registry.
+///
+/// On tables with the shape of schema 1 it answers `Ok` only where all six conditions hold of their rows, `Damaged` only
+/// where one of them fails, and `NewerSchema` only where the row of the schema has that greater number, which is judged
+/// first; `Memory` and `Store` otherwise. It changes nothing. Of tables of another shape it says nothing.
+pub fn check<S: Alter>(conn: &mut Connection<S>, alloc: Global) -> Result<(), TableFault>
+    requires { (state S.Store conn.old).in_transaction ≡ false }
+    ensures rests { OnlyReads (state S.Store conn.old) (state S.Store conn.new) }
+    ensures told { HasCleanDisk (state S.Store conn.new) → (state S.Store conn.old).now.schema ≡ pid_schema → IsTable ((state S.Store conn.old).now.trees 6)
+        → MatchResult result (λ x. IsRegistry (state S.Store conn.old).now.trees) (Explains (rows_in (state S.Store conn.old).now.trees)) }
+{
+    let mut tx = conn.transaction();
+    check_tables(&mut tx, alloc)
+}

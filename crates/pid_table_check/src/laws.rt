@@ -1,0 +1,20 @@
+//! Laws of the definitions. Each is the contract of a function that does nothing.
+ghost use Rattle.std.specs.Prelude.{List, []};
+ghost use Rattle.sqlite.specs.Effect.{Database};
+ghost use Rattle.pid_moderation.specs.History.{Asked, History};
+ghost use Rattle.pid_moderation.specs.Judgement.{after_all};
+ghost use Rattle.pid_moderation.specs.Sound.{IsSound};
+ghost use Rattle.pid_moderation.specs.Views.{views_of};
+ghost use Rattle.pid_moderation.specs.WellMade.{AreWellMade};
+ghost use Rattle.pid_tables.specs.Shows.{Shows};
+ghost use Rattle.pid_table_check.specs.Conditions.{IsRegistry};
+
+/// Every database that shows a sound history meets all conditions on its rows.
+pub fn sound_histories_are_registries()
+    ensures { (h : History) → IsSound h → (db : Database) → Shows db (views_of h) → IsRegistry db.trees }
+{}
+
+/// So does every database that shows what well made commands lead to.
+pub fn shown_tables_are_registries()
+    ensures { (commands : List Asked) → AreWellMade commands → (db : Database) → Shows db (views_of (after_all [] commands)) → IsRegistry db.trees }
+{}

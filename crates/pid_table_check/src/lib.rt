@@ -1,0 +1,19 @@
+//! Whether the tables of a registry keep the conditions that every history keeps.
+#![tactic(auto)]
+
+mod account;
+mod authors;
+mod checking;
+mod item;
+mod laws;
+mod meta;
+mod names;
+mod read;
+mod receipt;
+mod remark;
+mod submission;
+mod value;
+mod words;
+
+pub use checking::check;
+pub use laws::{shown_tables_are_registries, sound_histories_are_registries};

@@ -1,0 +1,79 @@
+//! All rows of each table.
+ghost use Rattle.std.specs.Prelude.{◌≡◌, [], IfOk, IfErr};
+ghost use Rattle.sqlite.specs.Given.{IsPlain};
+ghost use Rattle.sqlite.specs.Listing.{understood};
+ghost use Rattle.sqlite.specs.State.{HasCleanDisk, Shown};
+ghost use Rattle.sqlite.specs.Held.{state};
+ghost use Rattle.pid_tables.specs.Leaves.{GoesOn};
+ghost use Rattle.pid_tables.specs.Schema.{pid_schema};
+ghost use Rattle.pid_table_check.specs.Reading.{IsUntold, Answers};
+
+use pid_tables::TableFault;
+use sqlite::{Alter, Row, Transaction};
+
+// The rows of one query without parameters.
+fn all_rows<S: Alter>(tx: &mut Transaction<'_, S>, sql: &str) -> Result<Vec<Row>, TableFault>
+    ensures same_reference { tx.new.conn.ghost_name ≡ tx.old.conn.ghost_name }
+    ensures goes { GoesOn (state S.Store tx.old.conn.now) (state S.Store tx.new.conn.now) result }
+    ensures shown { HasCleanDisk (state S.Store tx.new.conn.now) → IfOk result (λ rows. Shown sql.now [] (state S.Store tx.old.conn.now) (state S.Store tx.new.conn.now) rows.items) }
+    ensures untold { HasCleanDisk (state S.Store tx.new.conn.now) → (state S.Store tx.old.conn.now).now.schema ≡ pid_schema → IsPlain (understood pid_schema sql.now) → IfErr result IsUntold }
+{
+    Ok(tx.query_all(sql, &[])?)
+}
+
+/// All rows of the table `meta`.
+pub(crate) fn meta_rows<S: Alter>(tx: &mut Transaction<'_, S>) -> Result<Vec<Row>, TableFault>
+    ensures same_reference { tx.new.conn.ghost_name ≡ tx.old.conn.ghost_name }
+    ensures goes { GoesOn (state S.Store tx.old.conn.now) (state S.Store tx.new.conn.now) result }
+    ensures answers { Answers (state S.Store tx.old.conn.now) (state S.Store tx.new.conn.now) result (λ t. t.meta) }
+{
+    all_rows(tx, "SELECT label, value FROM meta")
+}
+
+/// All rows of the table `account`.
+pub(crate) fn account_rows<S: Alter>(tx: &mut Transaction<'_, S>) -> Result<Vec<Row>, TableFault>
+    ensures same_reference { tx.new.conn.ghost_name ≡ tx.old.conn.ghost_name }
+    ensures goes { GoesOn (state S.Store tx.old.conn.now) (state S.Store tx.new.conn.now) result }
+    ensures answers { Answers (state S.Store tx.old.conn.now) (state S.Store tx.new.conn.now) result (λ t. t.accounts) }
+{
+    all_rows(tx, "SELECT name, rank FROM account")
+}
+
+/// All rows of the table `item`.
+pub(crate) fn item_rows<S: Alter>(tx: &mut Transaction<'_, S>) -> Result<Vec<Row>, TableFault>
+    ensures same_reference { tx.new.conn.ghost_name ≡ tx.old.conn.ghost_name }
+    ensures goes { GoesOn (state S.Store tx.old.conn.now) (state S.Store tx.new.conn.now) result }
+    ensures answers { Answers (state S.Store tx.old.conn.now) (state S.Store tx.new.conn.now) result (λ t. t.items) }
+{
+    all_rows(tx, "SELECT path, name FROM item")
+}
+
+/// All rows of the table `submission`.
+pub(crate) fn submission_rows<S: Alter>(tx: &mut Transaction<'_, S>) -> Result<Vec<Row>, TableFault>
+    ensures same_reference { tx.new.conn.ghost_name ≡ tx.old.conn.ghost_name }
+    ensures goes { GoesOn (state S.Store tx.old.conn.now) (state S.Store tx.new.conn.now) result }
+    ensures answers { Answers (state S.Store tx.old.conn.now) (state S.Store tx.new.conn.now) result (λ t. t.submissions) }
+{
+    all_rows(
+        tx,
+        "SELECT num, author, path, form, name, note, state, decider, reason FROM submission",
+    )
+}
+
+/// All rows of the table `remark`.
+pub(crate) fn remark_rows<S: Alter>(tx: &mut Transaction<'_, S>) -> Result<Vec<Row>, TableFault>
+    ensures same_reference { tx.new.conn.ghost_name ≡ tx.old.conn.ghost_name }
+    ensures goes { GoesOn (state S.Store tx.old.conn.now) (state S.Store tx.new.conn.now) result }
+    ensures answers { Answers (state S.Store tx.old.conn.now) (state S.Store tx.new.conn.now) result (λ t. t.remarks) }
+{
+    all_rows(tx, "SELECT num, seq, author, body FROM remark")
+}
+
+/// All rows of the table `receipt`.
+pub(crate) fn receipt_rows<S: Alter>(tx: &mut Transaction<'_, S>) -> Result<Vec<Row>, TableFault>
+    ensures same_reference { tx.new.conn.ghost_name ≡ tx.old.conn.ghost_name }
+    ensures goes { GoesOn (state S.Store tx.old.conn.now) (state S.Store tx.new.conn.now) result }
+    ensures answers { Answers (state S.Store tx.old.conn.now) (state S.Store tx.new.conn.now) result (λ t. t.receipts) }
+{
+    all_rows(tx, "SELECT account, token, kind, a, b, c FROM receipt")
+}
