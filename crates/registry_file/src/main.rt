@@ -1,5 +1,5 @@
-//! Makes a registry's file from the PCI identifiers on standard input, and obeys some commands in it: what the tests
-//! against sqlite3 and the benchmarks run. It is no part of `pciids`.
+//! Makes a registry's file from the PCI identifiers on standard input, or goes on in one that is good, and obeys some
+//! commands in it: what the tests against sqlite3 and the benchmarks run. It is no part of `pciids`.
 #![tactic(auto)]
 
 ghost use Rattle.std.specs.Prelude.{◌≡◌, false, OnOk};
@@ -8,6 +8,7 @@ ghost use Rattle.sqlite.specs.Held.{state};
 use pid_ident::{Account, Name, Path, Text, WordFault};
 use pid_moderation::{Act, Change, Command, Effect, Proposal, Rank, Verdict, decide, needs};
 use pid_reader::Lines;
+use pid_table_check::check;
 use pid_tables::{Batch, Put, TableFault, Tables, apply, begin, commit, create, put};
 use sqlite::{Alter, Connection};
 use std::alloc::{AllocError, Global};
@@ -95,6 +96,8 @@ fn fill<S: Alter + Drop>(
                 rank: Rank::Moderator,
             },
         )?;
+    } else {
+        check(&mut tables.conn, alloc)?;
     }
     import(tables, alloc, text)?;
     for number in 0..commands {
