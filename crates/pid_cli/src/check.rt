@@ -1,11 +1,12 @@
 //! Whether a text is good, and how many entries it has.
-ghost use Rattle.std.specs.Prelude.{◌≡◌, ℕ, [], List, IsSome, IfSome, IfErr, Err, Some, None};
+ghost use Rattle.std.specs.Prelude.{◌≡◌, ◌+◌, ◌≤◌, ℕ, [], List, IsSome, IfSome, IfErr, Err, Some, None, length};
+ghost use Rattle.std.specs.Io.KnownBytes.{Consumes};
 ghost use Rattle.pid_ident.specs.Sending.{Sends};
 ghost use Rattle.pid_cli.specs.Checked.{IsChecked, HasEntries, ok_line};
 ghost use Rattle.pid_cli.specs.InputEnds.{IsRead};
 ghost use Rattle.pid_reader.specs.EntryCounters.{CountsText};
 
-use crate::pieces::{InputEnd, read_text};
+use crate::pieces::{BUFFER, InputEnd, LARGEST, read_text};
 use crate::text_end::TextEnd;
 use crate::told::tell_unread;
 use itoa::Buffer;
@@ -21,6 +22,7 @@ pub fn check<I: Input, O: Output>(alloc: Global, input: &mut I, output: &mut O) 
     ensures checked { IfSome (I.to_come input.old) (λ text. IsChecked result text (O.taken output.old) (O.taken output.new)) }
     ensures read_fault { result ≡ TextEnd.ReadFault → IsSome (I.read_fault input.new) }
     ensures write_fault { result ≡ TextEnd.WriteFault → IsSome (O.write_fault output.new) }
+    ensures stops { (front : List ℕ) × Consumes (I.to_come input.old) (I.to_come input.new) front × (length front ≤ LARGEST + BUFFER) }
 {
     let counted = read_text(input, EntryCounter::new(alloc));
     write_counted(counted, output)

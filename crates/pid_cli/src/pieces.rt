@@ -11,7 +11,8 @@ use pid_reader::ReadRefusal;
 /// The longest text that is read, in bytes.
 pub const LARGEST: usize = 4_194_304;
 
-const BUFFER: usize = 16_384;
+/// The most that one read asks for, in bytes.
+pub const BUFFER: usize = 16_384;
 
 /// What takes a text in pieces, and says at its end what it made of it.
 pub trait PieceReader: Drop {

@@ -1,10 +1,11 @@
 //! The canonical text of what an input gives.
-ghost use Rattle.std.specs.Prelude.{◌≡◌, ◌⊎◌, ℕ, List, IsSome, IfSome, Err};
+ghost use Rattle.std.specs.Prelude.{◌≡◌, ◌⊎◌, ◌+◌, ◌≤◌, ℕ, List, IsSome, IfSome, Err, length};
+ghost use Rattle.std.specs.Io.KnownBytes.{Consumes};
 ghost use Rattle.pid_reader.specs.Reading.{Reads};
 ghost use Rattle.pid_cli.specs.InputEnds.{IsRead};
 ghost use Rattle.pid_cli.specs.Tidied.{IsTidied, PrintsNothing};
 
-use crate::pieces::{InputEnd, read_text};
+use crate::pieces::{BUFFER, InputEnd, LARGEST, read_text};
 use crate::text_end::TextEnd;
 use crate::told::tell_unread;
 use pid_ident::{Input, Output};
@@ -27,6 +28,7 @@ pub fn tidy<I: Input, O: Output, F: Output>(
     ensures read_fault { result ≡ TextEnd.ReadFault → IsSome (I.read_fault input.new) }
     ensures write_fault { result ≡ TextEnd.WriteFault → IsSome (O.write_fault output.new) ⊎ IsSome (F.write_fault faults.new) }
     ensures nothing_printed { PrintsNothing result (O.taken output.old) (O.taken output.new) }
+    ensures stops { (front : List ℕ) × Consumes (I.to_come input.old) (I.to_come input.new) front × (length front ≤ LARGEST + BUFFER) }
 {
     let read = read_text(input, Feeder::new(alloc));
     print_read(read, output, faults)
