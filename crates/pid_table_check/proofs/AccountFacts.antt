@@ -4,7 +4,7 @@ use Rattle.std.specs.Prelude.{IsUtf8}
 use Rattle.std.specs.List.{All, Any}
 use Rattle.sqlite.specs.declared.types.Value.TheVariants.{Text}
 use Rattle.sqlite.specs.Order.{Row, column}
-use Rattle.pid_tables.specs.TableRows.{number}
+use Rattle.pid_rows.specs.TableRows.{number}
 use Rattle.pid_table_check.specs.Conditions.{IsAccountRow, AreAccounts}
 use Rattle.pid_table_check.proofs.Each.{each_member, each_place, some_member, some_place}
 use Rattle.pid_table_check.proofs.WordTexts.{account_utf8}

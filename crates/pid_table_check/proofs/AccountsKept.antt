@@ -10,8 +10,8 @@ use Rattle.pid_moderation.specs.History.{History}
 use Rattle.pid_moderation.specs.Ranks.{has_rank, rank_number}
 use Rattle.pid_moderation.specs.Sound.{IsSound}
 use Rattle.pid_moderation.specs.Views.{rank_of, views_of}
-use Rattle.pid_tables.specs.Shows.{Shows}
-use Rattle.pid_tables.specs.TableRows.{account_row}
+use Rattle.pid_rows.specs.Shows.{Shows}
+use Rattle.pid_rows.specs.TableRows.{account_row}
 use Rattle.pid_table_check.specs.Conditions.{columns, rows_in, HasAccount, IsAccountRow, AreAccounts}
 use Rattle.pid_table_check.proofs.Lengths.{some_there, mapped, unmapped}
 

@@ -11,8 +11,8 @@ use Rattle.std.proofs.lemmas.List.{take_more}
 use Rattle.sqlite.specs.declared.types.Value.TheVariants.{Text}
 use Rattle.sqlite.specs.Order.{Row, column}
 use Rattle.pid_ident.specs.Trees.{text_cmp}
-use Rattle.pid_tables.proofs.SetLemmas.{tied}
-use Rattle.pid_tables.specs.TableRows.{number}
+use Rattle.pid_rows.proofs.SetLemmas.{tied}
+use Rattle.pid_rows.specs.TableRows.{number}
 use Rattle.pid_table_check.specs.AuthorSets.{author_cmp, IsBy, AreAuthorsOf}
 use Rattle.pid_table_check.proofs.ItemFacts.{split, before, last, texts_same}
 use Rattle.pid_table_check.proofs.RemarkFacts.{chosen, either, numbers_same}

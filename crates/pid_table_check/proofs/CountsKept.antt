@@ -17,10 +17,10 @@ use Rattle.sqlite_rules.specs.Lists.{Has}
 use Rattle.pid_ident.specs.Trees.{text_cmp}
 use Rattle.pid_moderation.specs.Items.{Items, name_at}
 use Rattle.pid_moderation.specs.Views.{Views, Submitted, submission_at}
-use Rattle.pid_tables.proofs.Keys.{numbers_decided}
-use Rattle.pid_tables.proofs.SetLemmas.{tied}
-use Rattle.pid_tables.specs.Shows.{Shows, counts_of, meta_of}
-use Rattle.pid_tables.specs.TableRows.{Standing, meta_row, item_row, submission_row, number}
+use Rattle.pid_rows.proofs.Keys.{numbers_decided}
+use Rattle.pid_rows.proofs.SetLemmas.{tied}
+use Rattle.pid_rows.specs.Shows.{Shows, counts_of, meta_of}
+use Rattle.pid_rows.specs.TableRows.{Standing, meta_row, item_row, submission_row, number}
 use Rattle.pid_table_check.specs.Conditions.{columns, rows_in, labels, label_row, AreCounts}
 use Rattle.pid_table_check.proofs.Lengths.{IsDistinct, some_there, same_length, mapped, unmapped}
 use Rattle.pid_table_check.proofs.OneRowEach.{rowids_apart, item_keys_apart}

@@ -15,7 +15,7 @@ use Rattle.pid_ident.specs.PathTexts.{IsPath, path_text, path_cmp, parent_of}
 use Rattle.pid_ident.specs.Trees.{text_cmp}
 use Rattle.pid_ident.specs.Words.{is_name}
 use Rattle.pid_moderation.specs.CheckTables.{most_items}
-use Rattle.pid_tables.proofs.SetLemmas.{tied}
+use Rattle.pid_rows.proofs.SetLemmas.{tied}
 use Rattle.pid_tree.proofs.Kin.{same_path, parent_in_range}
 use Rattle.pid_table_check.specs.Conditions.{HasValue, AreItems}
 use Rattle.pid_table_check.specs.PathSets.{ArePathsOf, IsItemAmong}

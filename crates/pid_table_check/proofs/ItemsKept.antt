@@ -16,8 +16,8 @@ use Rattle.pid_moderation.specs.Sound.{IsSound}
 use Rattle.pid_moderation.specs.Views.{items_of, views_of}
 use Rattle.pid_moderation.specs.Writes.{tree_of}
 use Rattle.pid_moderation.proofs.WriteLemmas.{items_sorted}
-use Rattle.pid_tables.specs.Shows.{Shows}
-use Rattle.pid_tables.specs.TableRows.{item_row}
+use Rattle.pid_rows.specs.Shows.{Shows}
+use Rattle.pid_rows.specs.TableRows.{item_row}
 use Rattle.pid_table_check.specs.Conditions.{columns, rows_in, HasItem, IsItemRow, AreItems}
 use Rattle.pid_table_check.proofs.Lengths.{some_there, mapped, unmapped}
 

@@ -7,10 +7,10 @@ use Rattle.std.specs.declared.alloc.Global.{Global}
 use Rattle.std.proofs.lemmas.List.Sorted.{IsPermutation-sym}
 use Rattle.sqlite.specs.Order.{Row}
 use Rattle.sqlite.specs.State.{State, HasCleanDisk}
-use Rattle.pid_tables.proofs.TurnLemmas.{permuted}
-use Rattle.pid_tables.specs.declared.fault.TableFault.{TableFault}
-use Rattle.pid_tables.specs.declared.fault.TableFault.TheVariants.{Memory, Store, NewerSchema, Damaged}
-use Rattle.pid_tables.specs.Schema.{pid_schema}
+use Rattle.pid_rows.proofs.TurnLemmas.{permuted}
+use Rattle.pid_rows.specs.declared.fault.TableFault.{TableFault}
+use Rattle.pid_rows.specs.declared.fault.TableFault.TheVariants.{Memory, Store, NewerSchema, Damaged}
+use Rattle.pid_rows.specs.Schema.{pid_schema}
 use Rattle.pid_table_check.specs.Conditions.{Rows, rows_in, AreAccounts, AreSubmissions, AreReceipts}
 use Rattle.pid_table_check.specs.NameSets.{AreNamesOf, AreReady}
 use Rattle.pid_table_check.specs.Checking.{AreSingle}

@@ -3,7 +3,7 @@ use Rattle.sqlite.specs.Effect.{Database}
 use Rattle.pid_moderation.specs.History.{History}
 use Rattle.pid_moderation.specs.Sound.{IsSound}
 use Rattle.pid_moderation.specs.Views.{views_of}
-use Rattle.pid_tables.specs.Shows.{Shows}
+use Rattle.pid_rows.specs.Shows.{Shows}
 use Rattle.pid_table_check.specs.Conditions.{IsRegistry}
 use Rattle.pid_table_check.proofs.CountsKept.{counts_kept, items_length, submissions_length}
 use Rattle.pid_table_check.proofs.AccountsKept.{accounts_kept}

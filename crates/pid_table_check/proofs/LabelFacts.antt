@@ -4,7 +4,7 @@ use Rattle.std.specs.List.{All, Any}
 use Rattle.sqlite.specs.declared.types.Value.TheVariants.{Text}
 use Rattle.sqlite.specs.Order.{Row, column}
 use Rattle.sqlite_rules.specs.Lists.{Has}
-use Rattle.pid_tables.specs.TableRows.{number}
+use Rattle.pid_rows.specs.TableRows.{number}
 use Rattle.pid_table_check.specs.Conditions.{labels, label_row, IsNewer, AreCounts}
 use Rattle.pid_table_check.specs.Labels.{IsLabelled}
 use Rattle.pid_table_check.proofs.Each.{each_member, each_place, some_member, some_place, at_place}

@@ -4,7 +4,7 @@ use Rattle.std.specs.List.Sorted.{IsPermutation}
 use Rattle.std.proofs.lemmas.List.Sorted.{IsPermutation-sym, length_permutation}
 use Rattle.sqlite.specs.declared.types.Value.{Value}
 use Rattle.sqlite.specs.Order.{Row}
-use Rattle.pid_tables.proofs.TurnLemmas.{permuted}
+use Rattle.pid_rows.proofs.TurnLemmas.{permuted}
 use Rattle.pid_table_check.specs.Conditions.{HasValue, IsItemRow, AreAccounts, AreItems, HasRemark, AreRemarks}
 
 pub value_moved : (xs ys : List Row) → IsPermutation xs ys → (at : ℕ) (v : Value) → HasValue xs at v → HasValue ys at v

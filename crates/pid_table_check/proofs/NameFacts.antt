@@ -13,7 +13,7 @@ use Rattle.std.proofs.lemmas.List.{take_more}
 use Rattle.sqlite.specs.declared.types.Value.TheVariants.{Text}
 use Rattle.sqlite.specs.Order.{Row, column}
 use Rattle.pid_ident.specs.Trees.{text_cmp}
-use Rattle.pid_tables.proofs.SetLemmas.{tied}
+use Rattle.pid_rows.proofs.SetLemmas.{tied}
 use Rattle.pid_table_check.specs.NameSets.{AreNamesOf}
 use Rattle.pid_table_check.proofs.ItemFacts.{split, last, value_before, texts_same}
 

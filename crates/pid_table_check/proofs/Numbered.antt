@@ -10,9 +10,9 @@ use Rattle.std.proofs.lemmas.List.Sorted.{IsPermutation-sym, length_permutation}
 use Rattle.sqlite.specs.declared.types.Value.{Value}
 use Rattle.sqlite.specs.Order.{Row, column}
 use Rattle.sqlite_rules.specs.Lists.{Has}
-use Rattle.pid_tables.proofs.Keys.{numbers_decided}
-use Rattle.pid_tables.proofs.TurnLemmas.{permuted}
-use Rattle.pid_tables.specs.TableRows.{number}
+use Rattle.pid_rows.proofs.Keys.{numbers_decided}
+use Rattle.pid_rows.proofs.TurnLemmas.{permuted}
+use Rattle.pid_rows.specs.TableRows.{number}
 use Rattle.pid_table_check.specs.Conditions.{Rows, HasValue, IsSubmissionRow, AreSubmissions}
 use Rattle.pid_table_check.specs.NameSets.{IsSubmissionAmong, AreReady}
 use Rattle.pid_table_check.proofs.CountsKept.{countdown, down_length, down_there}

@@ -4,7 +4,7 @@ use Rattle.sqlite.specs.declared.types.Value.TheVariants.{Text}
 use Rattle.sqlite.specs.Order.{Row, column}
 use Rattle.pid_ident.specs.Words.{is_account, is_key}
 use Rattle.pid_moderation.specs.declared.command.Reply.TheVariants.{Done, Numbered, Counts}
-use Rattle.pid_tables.specs.TableRows.{number}
+use Rattle.pid_rows.specs.TableRows.{number}
 use Rattle.pid_table_check.specs.Conditions.{IsReceiptRow}
 use Rattle.pid_table_check.specs.AuthorSets.{IsNumbered, HasReply, HasCounts}
 use Rattle.pid_table_check.proofs.ItemFacts.{texts_same}

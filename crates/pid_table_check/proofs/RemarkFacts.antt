@@ -11,7 +11,7 @@ use Rattle.sqlite.specs.Order.{Row, column}
 use Rattle.pid_ident.specs.Bytes.{is_empty}
 use Rattle.pid_ident.specs.Words.{is_text}
 use Rattle.pid_moderation.specs.CheckTables.{most_remarks}
-use Rattle.pid_tables.specs.TableRows.{number}
+use Rattle.pid_rows.specs.TableRows.{number}
 use Rattle.pid_table_check.specs.Conditions.{HasRemark, AreRemarks}
 use Rattle.pid_table_check.specs.PlaceSets.{pair_cmp, ArePlacesOf, Follows, HasPlace, IsRemarkAmong}
 use Rattle.pid_table_check.proofs.Each.{each_member, each_place}

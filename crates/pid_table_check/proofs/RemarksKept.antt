@@ -9,8 +9,8 @@ use Rattle.pid_moderation.specs.CheckTables.{most_remarks}
 use Rattle.pid_moderation.specs.History.{History}
 use Rattle.pid_moderation.specs.Sound.{IsSound, IsGoodRemark, AreGoodRemarks, IsRemarkedWell}
 use Rattle.pid_moderation.specs.Views.{Submitted, Remark, submits_of, submission_at, remarks_of, views_of}
-use Rattle.pid_tables.specs.Shows.{Shows, counted_from_one}
-use Rattle.pid_tables.specs.TableRows.{remark_row}
+use Rattle.pid_rows.specs.Shows.{Shows, counted_from_one}
+use Rattle.pid_rows.specs.TableRows.{remark_row}
 use Rattle.pid_table_check.proofs.Lengths.{mapped, unmapped}
 use Rattle.pid_table_check.specs.Conditions.{columns, rows_in, IsRemarkRow, AreRemarks}
 

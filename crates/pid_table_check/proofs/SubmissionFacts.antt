@@ -14,7 +14,7 @@ use Rattle.pid_moderation.specs.declared.command.Proposal.TheVariants.{Name, Rem
 use Rattle.pid_moderation.specs.declared.facts.State.{State}
 use Rattle.pid_moderation.specs.declared.facts.State.TheVariants.{Pending, Approved, Rejected, Withdrawn}
 use Rattle.pid_moderation.specs.WellMade.{ProposesName}
-use Rattle.pid_tables.specs.TableRows.{number, form_of, name_of}
+use Rattle.pid_rows.specs.TableRows.{number, form_of, name_of}
 use Rattle.pid_table_check.specs.Conditions.{HasAccount, AreAccounts, IsDecided, IsSubmissionRow}
 use Rattle.pid_table_check.specs.NameSets.{AreNamesOf, IsAmong, IsDecidedAmong, IsSubmissionAmong, Stands}
 use Rattle.pid_table_check.proofs.ItemFacts.{texts_same}

@@ -13,8 +13,8 @@ use Rattle.pid_moderation.specs.declared.facts.State.TheVariants.{Pending, Appro
 use Rattle.pid_moderation.specs.History.{History}
 use Rattle.pid_moderation.specs.Sound.{IsSound, IsGoodSubmission, AreGoodSubmissions, IsDecidedByOther, IsDecidedWell}
 use Rattle.pid_moderation.specs.Views.{Submitted, submits_of, submission_at, state_of, views_of}
-use Rattle.pid_tables.specs.Shows.{Shows}
-use Rattle.pid_tables.specs.TableRows.{Standing, submission_row, number}
+use Rattle.pid_rows.specs.Shows.{Shows}
+use Rattle.pid_rows.specs.TableRows.{Standing, submission_row, number}
 use Rattle.pid_table_check.specs.Conditions.{columns, rows_in, HasValue, IsDecided, IsSubmissionRow, AreSubmissions}
 use Rattle.pid_table_check.proofs.Lengths.{mapped, unmapped}
 use Rattle.pid_table_check.proofs.AccountsKept.{account_known}

@@ -7,10 +7,10 @@ use Rattle.sqlite.specs.Tree.{Trees, IsTable, rowid}
 use Rattle.sqlite.specs.Order.{Row, column}
 use Rattle.sqlite.specs.State.{State, HasCleanDisk}
 use Rattle.sqlite_rules.specs.Lists.{Has}
-use Rattle.pid_tables.proofs.TurnLemmas.{permuted}
-use Rattle.pid_tables.specs.declared.fault.TableFault.{TableFault}
-use Rattle.pid_tables.specs.declared.fault.TableFault.TheVariants.{Memory, Store, NewerSchema, Damaged}
-use Rattle.pid_tables.specs.Schema.{pid_schema}
+use Rattle.pid_rows.proofs.TurnLemmas.{permuted}
+use Rattle.pid_rows.specs.declared.fault.TableFault.{TableFault}
+use Rattle.pid_rows.specs.declared.fault.TableFault.TheVariants.{Memory, Store, NewerSchema, Damaged}
+use Rattle.pid_rows.specs.Schema.{pid_schema}
 use Rattle.pid_table_check.specs.Conditions.{Rows, rows_in, columns, labels, label_row, IsNewer, IsRegistry, AreAccounts, AreItems, AreSubmissions, AreRemarks, AreReceipts, AreCounts, AreOfRegistry}
 use Rattle.pid_table_check.specs.Checking.{AreSingle, Explains}
 use Rattle.pid_table_check.specs.Reading.{Refutes, Judges, Answers}

@@ -24,12 +24,12 @@ use Rattle.sqlite.specs.Effect.{Database, RefusesToRead}
 use Rattle.sqlite.specs.State.{State, Shown, IsNotRun, FailsToShow, FailsToQuery, IsTooLate, store_error}
 use Rattle.sqlite.specs.Clock.{timed}
 use Rattle.sqlite.proofs.Callers.{IsPlain, reads_as}
-use Rattle.pid_tables.specs.declared.fault.TableFault.{TableFault}
-use Rattle.pid_tables.specs.Faults.{fault_of}
-use Rattle.pid_tables.specs.Schema.{pid_schema}
-use Rattle.pid_tables.proofs.Statements.{IsSelect}
-use Rattle.pid_tables.proofs.Select.{passing, shown, simple_rows}
-use Rattle.pid_tables.proofs.ReadLemmas.{shown_same}
+use Rattle.pid_rows.specs.declared.fault.TableFault.{TableFault}
+use Rattle.pid_rows.specs.Faults.{fault_of}
+use Rattle.pid_rows.specs.Schema.{pid_schema}
+use Rattle.pid_rows.proofs.Statements.{IsSelect}
+use Rattle.pid_rows.proofs.Select.{passing, shown, simple_rows}
+use Rattle.pid_rows.proofs.ReadLemmas.{shown_same}
 use Rattle.pid_table_check.specs.Conditions as conditions
 use Rattle.pid_table_check.specs.Reading.{IsUntold}
 

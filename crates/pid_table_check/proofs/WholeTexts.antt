@@ -3,7 +3,7 @@ use Rattle.std.proofs.Common.{ℕ, List, [], ◌∷◌, codes, refl}
 use Rattle.sqlite.specs.Term.{Term, col}
 use Rattle.sqlite.specs.Listing.{understood}
 use Rattle.sqlite_tied.specs.Compute.{everything}
-use Rattle.pid_tables.proofs.Statements.{IsSelect}
+use Rattle.pid_rows.proofs.Statements.{IsSelect}
 
 abbrev pub meta_text : List ℕ
 meta_text = codes "SELECT label, value FROM meta"

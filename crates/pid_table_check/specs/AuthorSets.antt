@@ -10,7 +10,7 @@ use Rattle.sqlite.specs.Order.{Row, column}
 use Rattle.sqlite_rules.specs.Lists.{Has}
 use Rattle.pid_moderation.specs.CheckTables.{most_items}
 use Rattle.pid_moderation.specs.declared.command.Reply.{Reply}
-use Rattle.pid_tables.specs.TableRows.{number, kind_of, first_of, second_of, third_of}
+use Rattle.pid_rows.specs.TableRows.{number, kind_of, first_of, second_of, third_of}
 use Rattle.pid_table_check.specs.Conditions.{IsOwn}
 
 -- by the number and then by the author

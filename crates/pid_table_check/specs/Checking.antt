@@ -2,8 +2,8 @@
 use Rattle.std.specs.Prelude.{◌≢◌, ℕ, map}
 use Rattle.sqlite.specs.Order.{column}
 use Rattle.sqlite.specs.Tree.{IsAscending}
-use Rattle.pid_tables.specs.declared.fault.TableFault.{TableFault}
-use Rattle.pid_tables.specs.declared.fault.TableFault.TheVariants.{Memory, Store, NewerSchema, Damaged}
+use Rattle.pid_rows.specs.declared.fault.TableFault.{TableFault}
+use Rattle.pid_rows.specs.declared.fault.TableFault.TheVariants.{Memory, Store, NewerSchema, Damaged}
 use Rattle.pid_table_check.specs.Conditions.{Rows, IsNewer, AreOfRegistry}
 
 -- no number of a submission comes twice: it is the key of its table

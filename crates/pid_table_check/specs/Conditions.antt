@@ -15,8 +15,8 @@ use Rattle.pid_moderation.specs.declared.facts.State.{State}
 use Rattle.pid_moderation.specs.declared.facts.State.TheVariants.{Pending, Approved, Rejected, Withdrawn}
 use Rattle.pid_moderation.specs.CheckTables.{most_items, most_remarks}
 use Rattle.pid_moderation.specs.WellMade.{ProposesName}
-use Rattle.pid_tables.specs.TableRows.{number, Standing, kind_of, first_of, second_of, third_of}
-use Rattle.pid_tables.specs.Answers.{standing_row}
+use Rattle.pid_rows.specs.TableRows.{number, Standing, kind_of, first_of, second_of, third_of}
+use Rattle.pid_rows.specs.Answers.{standing_row}
 
 -- the rows of the six tables, by the columns of the schema in their order
 pub record Rows : Type 0 where

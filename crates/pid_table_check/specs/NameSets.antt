@@ -11,8 +11,8 @@ use Rattle.pid_ident.specs.Words.{is_text}
 use Rattle.pid_moderation.specs.WellMade.{ProposesName}
 use Rattle.pid_moderation.specs.declared.facts.State.{State}
 use Rattle.pid_moderation.specs.declared.facts.State.TheVariants.{Pending, Approved, Rejected, Withdrawn}
-use Rattle.pid_tables.specs.TableRows.{number, Standing, state_number, decider_of, reason_of}
-use Rattle.pid_tables.specs.Answers.{standing_row}
+use Rattle.pid_rows.specs.TableRows.{number, Standing, state_number, decider_of, reason_of}
+use Rattle.pid_rows.specs.Answers.{standing_row}
 use Rattle.pid_table_check.specs.Conditions.{Rows, HasAccount, AreAccounts}
 
 -- the set has exactly the texts in the first column of the rows

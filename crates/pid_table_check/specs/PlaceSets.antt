@@ -9,7 +9,7 @@ use Rattle.sqlite.specs.Order.{Row, column}
 use Rattle.pid_ident.specs.Bytes.{is_empty}
 use Rattle.pid_ident.specs.Words.{is_text}
 use Rattle.pid_moderation.specs.CheckTables.{most_remarks}
-use Rattle.pid_tables.specs.TableRows.{number}
+use Rattle.pid_rows.specs.TableRows.{number}
 use Rattle.pid_table_check.specs.Conditions.{HasRemark}
 
 -- pairs of numbers, by the first and then by the second

@@ -4,9 +4,9 @@ use Rattle.std.specs.List.Sorted.{IsPermutation}
 use Rattle.std.specs.declared.alloc.Global.{Global}
 use Rattle.sqlite.specs.Order.{Row}
 use Rattle.sqlite.specs.State.{State, HasCleanDisk}
-use Rattle.pid_tables.specs.declared.fault.TableFault.{TableFault}
-use Rattle.pid_tables.specs.declared.fault.TableFault.TheVariants.{Memory, Store, NewerSchema, Damaged}
-use Rattle.pid_tables.specs.Schema.{pid_schema}
+use Rattle.pid_rows.specs.declared.fault.TableFault.{TableFault}
+use Rattle.pid_rows.specs.declared.fault.TableFault.TheVariants.{Memory, Store, NewerSchema, Damaged}
+use Rattle.pid_rows.specs.Schema.{pid_schema}
 use Rattle.pid_table_check.specs.Conditions.{Rows, rows_in}
 
 -- nothing is told of the rows: memory was short, or the store failed or refused

@@ -3,16 +3,16 @@ ghost use Rattle.std.specs.Prelude.{◌≡◌, ◌≤◌, ◌↔◌, ℕ, IsTrue
 ghost use Rattle.std.specs.List.{All, Any};
 ghost use Rattle.sqlite.specs.declared.types.Value.TheVariants.{Text as TextValue};
 ghost use Rattle.sqlite.specs.Order.{column};
-ghost use Rattle.pid_tables.specs.TableRows.{number};
+ghost use Rattle.pid_rows.specs.TableRows.{number};
 ghost use Rattle.sqlite.specs.Held.{state};
-ghost use Rattle.pid_tables.specs.Leaves.{GoesOn};
+ghost use Rattle.pid_rows.specs.Leaves.{GoesOn};
 ghost use Rattle.pid_table_check.specs.Reading.{Checks};
 ghost use Rattle.pid_table_check.specs.Conditions.{IsAccountRow, AreAccounts};
 
 use crate::read::account_rows;
 use crate::value::{number_at, text_at};
 use pid_ident::is_account;
-use pid_tables::TableFault;
+use pid_rows::TableFault;
 use sqlite::{Alter, Row, Transaction};
 
 fn has_rank(row: &Row) -> bool

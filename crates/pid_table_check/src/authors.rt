@@ -2,12 +2,12 @@
 ghost use Rattle.std.specs.Prelude.{◌≡◌, ◌↔◌, ◌++◌, ◌∷◌, List, [], IsTrue, IfOk, IfErr, OnOk, IsUtf8, string_bytes};
 ghost use Rattle.sqlite.specs.declared.types.Value.TheVariants.{Text as TextValue};
 ghost use Rattle.sqlite.specs.Order.{column, Row as Values};
-ghost use Rattle.pid_tables.specs.TableRows.{number};
+ghost use Rattle.pid_rows.specs.TableRows.{number};
 ghost use Rattle.pid_table_check.specs.AuthorSets.{AreAuthorsOf, IsBy};
 ghost use Rattle.pid_table_check.specs.Reading.{IsUntold};
 
 use crate::value::{number_at, text_at};
-use pid_tables::TableFault;
+use pid_rows::TableFault;
 use sqlite::Row;
 use std::alloc::Global;
 use std::collections::BTreeSet;

@@ -6,7 +6,7 @@ ghost use Rattle.sqlite.specs.declared.types.Value.TheVariants.{Text as TextValu
 ghost use Rattle.sqlite.specs.Held.{state};
 ghost use Rattle.sqlite.specs.Order.{column, Row as Values};
 ghost use Rattle.pid_ident.specs.PathTexts.{IsPath, path_text, path_cmp, parent_of};
-ghost use Rattle.pid_tables.specs.Leaves.{GoesOn};
+ghost use Rattle.pid_rows.specs.Leaves.{GoesOn};
 ghost use Rattle.pid_table_check.specs.Conditions.{AreItems};
 ghost use Rattle.pid_table_check.specs.PathSets.{ArePathsOf, IsItemAmong};
 ghost use Rattle.pid_table_check.specs.Reading.{Checks, IsUntold};
@@ -15,7 +15,7 @@ use crate::read::item_rows;
 use crate::words::{has_name, path_at};
 use pid_ident::Path;
 use pid_moderation::ITEMS;
-use pid_tables::TableFault;
+use pid_rows::TableFault;
 use sqlite::{Alter, Row, Transaction};
 use std::alloc::Global;
 use std::collections::BTreeSet;

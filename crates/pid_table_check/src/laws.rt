@@ -6,7 +6,7 @@ ghost use Rattle.pid_moderation.specs.Judgement.{after_all};
 ghost use Rattle.pid_moderation.specs.Sound.{IsSound};
 ghost use Rattle.pid_moderation.specs.Views.{views_of};
 ghost use Rattle.pid_moderation.specs.WellMade.{AreWellMade};
-ghost use Rattle.pid_tables.specs.Shows.{Shows};
+ghost use Rattle.pid_rows.specs.Shows.{Shows};
 ghost use Rattle.pid_table_check.specs.Conditions.{IsRegistry};
 
 /// Every database that shows a sound history meets all conditions on its rows.

@@ -8,7 +8,7 @@ ghost use Rattle.pid_table_check.specs.NameSets.{AreNamesOf};
 ghost use Rattle.pid_table_check.specs.Reading.{IsUntold};
 
 use crate::value::text_at;
-use pid_tables::TableFault;
+use pid_rows::TableFault;
 use sqlite::Row;
 use std::alloc::Global;
 use std::collections::BTreeSet;

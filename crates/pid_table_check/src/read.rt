@@ -4,11 +4,11 @@ ghost use Rattle.sqlite.specs.Given.{IsPlain};
 ghost use Rattle.sqlite.specs.Listing.{understood};
 ghost use Rattle.sqlite.specs.State.{HasCleanDisk, Shown};
 ghost use Rattle.sqlite.specs.Held.{state};
-ghost use Rattle.pid_tables.specs.Leaves.{GoesOn};
-ghost use Rattle.pid_tables.specs.Schema.{pid_schema};
+ghost use Rattle.pid_rows.specs.Leaves.{GoesOn};
+ghost use Rattle.pid_rows.specs.Schema.{pid_schema};
 ghost use Rattle.pid_table_check.specs.Reading.{IsUntold, Answers};
 
-use pid_tables::TableFault;
+use pid_rows::TableFault;
 use sqlite::{Alter, Row, Transaction};
 
 // The rows of one query without parameters.

@@ -4,11 +4,11 @@ ghost use Rattle.std.specs.List.{All};
 ghost use Rattle.sqlite.specs.declared.types.Value.TheVariants.{Text as TextValue};
 ghost use Rattle.sqlite.specs.Order.{column};
 ghost use Rattle.pid_moderation.specs.WellMade.{ProposesName};
-ghost use Rattle.pid_tables.specs.TableRows.{number, form_of, name_of, state_number, decider_of, reason_of};
+ghost use Rattle.pid_rows.specs.TableRows.{number, form_of, name_of, state_number, decider_of, reason_of};
 ghost use Rattle.pid_table_check.specs.NameSets.{IsAmong, IsDecidedAmong, IsSubmissionAmong, Stands, AreReady};
 ghost use Rattle.sqlite.specs.Held.{state};
 ghost use Rattle.std.specs.List.Sorted.{IsPermutation};
-ghost use Rattle.pid_tables.specs.Leaves.{GoesOn};
+ghost use Rattle.pid_rows.specs.Leaves.{GoesOn};
 ghost use Rattle.pid_table_check.specs.Conditions.{AreSubmissions};
 ghost use Rattle.pid_table_check.specs.Reading.{Judges, Refutes};
 
@@ -16,7 +16,7 @@ use crate::names;
 use crate::read::submission_rows;
 use crate::value::{number_at, text_at};
 use crate::words::{has_filled_text, has_name, has_path, has_text, is_blank};
-use pid_tables::TableFault;
+use pid_rows::TableFault;
 use sqlite::{Alter, Row, Transaction};
 use std::collections::BTreeSet;
 

@@ -2,7 +2,7 @@
 ghost use Rattle.std.specs.Prelude.{◌≡◌, ℕ, List, IfSome, IfNone, IsUtf8};
 ghost use Rattle.sqlite.specs.declared.types.Value.TheVariants.{Text as TextValue};
 ghost use Rattle.sqlite.specs.Order.{column};
-ghost use Rattle.pid_tables.specs.TableRows.{number};
+ghost use Rattle.pid_rows.specs.TableRows.{number};
 
 use sqlite::Row;
 use sqlite::types::ValueRef;

@@ -7,7 +7,7 @@ use Rattle.pid_moderation.specs.declared.change.Effect.TheVariants.{Nothing, Ran
 use Rattle.pid_moderation.specs.declared.change.Receipt.{Receipt}
 use Rattle.pid_moderation.specs.Changes.{affected, keeping, changed, FitsEffect, FitsReceipt}
 use Rattle.pid_moderation.specs.Views.{Views}
-use Rattle.pid_tables.specs.Shows.{Counts, ShowsCounting, Shows, counts_of}
+use Rattle.pid_rows.specs.Shows.{Counts, ShowsCounting, Shows, counts_of}
 use Rattle.pid_tables.specs.Applies.{IsCounted, recounted}
 
 -- meta has the counts of the changed views

@@ -15,21 +15,21 @@ use Rattle.sqlite.specs.Edit.{next_rowid, numbered}
 use Rattle.sqlite_rules.specs.declared.error.Rowids.TheVariants.{Chosen}
 use Rattle.pid_moderation.specs.declared.facts.State.TheVariants.{Pending}
 use Rattle.pid_moderation.specs.Views.{Views}
-use Rattle.pid_tables.specs.Schema.{no_schema, meta, account, item, submission, remark, receipt}
-use Rattle.pid_tables.specs.PairRows.{Map, RowsAre}
-use Rattle.pid_tables.specs.TableRows.{number, meta_row}
+use Rattle.pid_rows.specs.Schema.{no_schema, meta, account, item, submission, remark, receipt}
+use Rattle.pid_rows.specs.PairRows.{Map, RowsAre}
+use Rattle.pid_rows.specs.TableRows.{number, meta_row}
 use Rattle.sqlite.specs.Order.{Row}
-use Rattle.pid_tables.specs.Shows.{ShowsCounting, meta_of, standing_in, remark_in, counted_from_one}
-use Rattle.pid_tables.proofs.MapLemmas.{map_added}
-use Rattle.pid_tables.proofs.Keys.{meta_found, meta_plain, meta_cast}
-use Rattle.pid_tables.proofs.KeyTexts.{by_first, pair_terms, insert_meta_is}
-use Rattle.pid_tables.proofs.StatementTexts.{insert_meta}
-use Rattle.pid_tables.proofs.WriteLemmas.{cast_null}
-use Rattle.pid_tables.proofs.WriteRows.{Ran}
+use Rattle.pid_rows.specs.Shows.{ShowsCounting, meta_of, standing_in, remark_in, counted_from_one}
+use Rattle.pid_rows.proofs.MapLemmas.{map_added}
+use Rattle.pid_rows.proofs.Keys.{meta_found, meta_plain, meta_cast}
+use Rattle.pid_rows.proofs.KeyTexts.{by_first, pair_terms, insert_meta_is}
+use Rattle.pid_rows.proofs.StatementTexts.{insert_meta}
+use Rattle.pid_rows.proofs.WriteLemmas.{cast_null}
+use Rattle.pid_rows.proofs.WriteRows.{Ran}
 use Rattle.pid_tables.specs.Creation.{making, AreMade, HasOnlyMeta, with_label}
 use Rattle.pid_tables.proofs.CreateTexts.{Creates}
-use Rattle.pid_tables.proofs.SetLemmas.{all_with, text_set}
-use Rattle.pid_tables.proofs.WriteLemmas.{went, same_value}
+use Rattle.pid_rows.proofs.SetLemmas.{all_with, text_set}
+use Rattle.pid_rows.proofs.WriteLemmas.{went, same_value}
 
 abbrev Empty : Trees → Table → Type 0
 Empty db t = db t.tree ≡ []

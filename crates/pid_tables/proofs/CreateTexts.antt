@@ -8,7 +8,7 @@ use Rattle.sqlite.specs.Listing.{understood}
 use Rattle.sqlite.specs.Table.{Table}
 use Rattle.sqlite.proofs.Callers.{IsPlain, command_of, statement_of}
 use Rattle.sqlite_tied.specs.Compute.{everything}
-use Rattle.pid_tables.specs.Schema.{meta, account, item, submission, remark, receipt, pid_schema}
+use Rattle.pid_rows.specs.Schema.{meta, account, item, submission, remark, receipt, pid_schema}
 use Rattle.pid_tables.specs.Creation.{making}
 
 abbrev pub create_meta : List ℕ

@@ -15,13 +15,13 @@ use Rattle.pid_ident.specs.Trees.{text_cmp}
 use Rattle.pid_moderation.specs.Items.{Items, name_at}
 use Rattle.pid_moderation.specs.Views.{Views}
 use Rattle.pid_tables.specs.declared.putting.Put.TheVariants.{Added, Renamed, Same}
-use Rattle.pid_tables.specs.Answers.{name_row}
+use Rattle.pid_rows.specs.Answers.{name_row}
 use Rattle.pid_tables.specs.Puts.{put_over}
-use Rattle.pid_tables.specs.Schema.{pid_schema}
-use Rattle.pid_tables.specs.Shows.{Counts, ShowsCounting}
-use Rattle.pid_tables.specs.Writes.{with_name}
-use Rattle.pid_tables.proofs.SetLemmas.{tied}
-use Rattle.pid_tables.proofs.ReadLemmas.{shows_still}
+use Rattle.pid_rows.specs.Schema.{pid_schema}
+use Rattle.pid_rows.specs.Shows.{Counts, ShowsCounting}
+use Rattle.pid_rows.specs.Writes.{with_name}
+use Rattle.pid_rows.proofs.SetLemmas.{tied}
+use Rattle.pid_rows.proofs.ReadLemmas.{shows_still}
 
 pub on_read : {X E : Type 0} (sql : List ℕ) (params : Row) (old new : State) (r : Result X E) (rows : X → List Row) (c : Counts) (v : Views) → IsPlain (understood pid_schema sql) → ShowsCounting c old.now v
     → IfOk r (λ x. Shown sql params old new (rows x)) → OnOk r (ShowsCounting c new.now v)

@@ -3,7 +3,7 @@ use Rattle.std.specs.Prelude.{◌≡◌, length, Some, None}
 use Rattle.pid_moderation.specs.declared.change.Effect.{Effect}
 use Rattle.pid_moderation.specs.declared.change.Effect.TheVariants.{Nothing, Ranked, Submitted, Remarked, Decided, Imported}
 use Rattle.pid_moderation.specs.Views.{Views}
-use Rattle.pid_tables.specs.Shows.{Counts, counts_of}
+use Rattle.pid_rows.specs.Shows.{Counts, counts_of}
 
 -- meta has the counts of the views; of a file whose items are written one by one it has yet to learn how many there are
 abbrev pub IsCounted : Effect → Counts → Views → Type 0

@@ -9,11 +9,11 @@ use Rattle.sqlite.specs.State.{State, HasCleanDisk}
 use Rattle.sqlite.specs.Table.{Table}
 use Rattle.sqlite.specs.Tree.{Trees}
 use Rattle.pid_moderation.specs.Views.{views_of}
-use Rattle.pid_tables.specs.PairRows.{Map, RowsAre}
-use Rattle.pid_tables.specs.Schema.{no_schema, pid_schema}
-use Rattle.pid_tables.specs.Shows.{Shows}
-use Rattle.pid_tables.specs.TableRows.{meta_row}
-use Rattle.pid_tables.specs.Leaves.{as_found}
+use Rattle.pid_rows.specs.PairRows.{Map, RowsAre}
+use Rattle.pid_rows.specs.Schema.{no_schema, pid_schema}
+use Rattle.pid_rows.specs.Shows.{Shows}
+use Rattle.pid_rows.specs.TableRows.{meta_row}
+use Rattle.pid_rows.specs.Leaves.{as_found}
 
 -- the schema that the tables make, in this order
 abbrev pub making : List Table → Schema

@@ -3,17 +3,17 @@ ghost use Rattle.std.specs.Prelude.{◌≡◌, ℕ, [], ◌∷◌, false, None, 
 ghost use Rattle.sqlite.specs.Held.{state};
 ghost use Rattle.sqlite.specs.State.{HasCleanDisk};
 ghost use Rattle.pid_moderation.specs.Views.{views_of};
-ghost use Rattle.pid_tables.specs.Schema as tables;
-ghost use Rattle.pid_tables.specs.PairRows.{Map};
+ghost use Rattle.pid_rows.specs.Schema as tables;
+ghost use Rattle.pid_rows.specs.PairRows.{Map};
 ghost use Rattle.pid_tables.specs.Creation.{AreMade, HasOnlyMeta, with_label, IsBlank, LeavesBareOrNew};
-ghost use Rattle.pid_tables.specs.Leaves.{GoesOn, AtRest};
-ghost use Rattle.pid_tables.specs.Shows.{Shows, meta_of};
+ghost use Rattle.pid_rows.specs.Leaves.{GoesOn, AtRest};
+ghost use Rattle.pid_rows.specs.Shows.{Shows, meta_of};
 
-use crate::account::add_account;
 use crate::batch::commit;
-use crate::fault::TableFault;
-use crate::run::write_one;
 use pid_moderation::Rank;
+use pid_rows::TableFault;
+use pid_rows::account::add_account;
+use pid_rows::run::write_one;
 use sqlite::types::ToSql;
 use sqlite::{Alter, Connection, Transaction};
 

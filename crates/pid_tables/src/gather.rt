@@ -6,17 +6,17 @@ ghost use Rattle.pid_moderation.specs.FactsOfViews.{kept_in as kept_for, named a
 ghost use Rattle.pid_moderation.specs.Items.{name_at, parent_text, holds_parent, has_children as are_children};
 ghost use Rattle.pid_moderation.specs.Wants.{wanted_by};
 ghost use Rattle.pid_moderation.specs.WellMade.{AllItems, HoldsParents};
-ghost use Rattle.pid_tables.specs.Leaves.{OnlyReads, Tells};
+ghost use Rattle.pid_rows.specs.Leaves.{OnlyReads, Tells};
 
-use crate::account::rank;
-use crate::fault::TableFault;
-use crate::item::{has_children, item_name};
-use crate::meta::{items, submissions};
-use crate::receipt::kept_reply;
-use crate::remark::remark_count;
-use crate::submission::{Submission, standing};
 use pid_ident::{Account, Key, Name, Path};
 use pid_moderation::{Facts, Named, Rank, Reply, Rows, Verdict};
+use pid_rows::TableFault;
+use pid_rows::account::rank;
+use pid_rows::item::{has_children, item_name};
+use pid_rows::meta::{items, submissions};
+use pid_rows::receipt::kept_reply;
+use pid_rows::remark::remark_count;
+use pid_rows::submission::{Submission, standing};
 use sqlite::{Alter, Connection};
 use std::alloc::Global;
 

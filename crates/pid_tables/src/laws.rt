@@ -3,7 +3,7 @@ ghost use Rattle.pid_moderation.specs.History.{History};
 ghost use Rattle.pid_moderation.specs.Sound.{IsSound};
 ghost use Rattle.pid_moderation.specs.Views.{views_of, items_of};
 ghost use Rattle.pid_moderation.specs.WellMade.{AllItems, HoldsParents};
-ghost use Rattle.pid_tables.specs.Shows.{AreViews};
+ghost use Rattle.pid_rows.specs.Shows.{AreViews};
 
 use pid_moderation::{trees_are_files, trees_are_last_writes};
 

@@ -5,16 +5,16 @@ ghost use Rattle.sqlite.specs.Held.{state};
 ghost use Rattle.sqlite.specs.State.{HasCleanDisk};
 ghost use Rattle.pid_moderation.specs.Items.{name_at};
 ghost use Rattle.pid_moderation.specs.Views.{Views};
-ghost use Rattle.pid_tables.specs.Answers.{name_row};
-ghost use Rattle.pid_tables.specs.Leaves.{GoesOn, LeadsTo};
+ghost use Rattle.pid_rows.specs.Answers.{name_row};
+ghost use Rattle.pid_rows.specs.Leaves.{GoesOn, LeadsTo};
 ghost use Rattle.pid_tables.specs.Puts.{put_over};
-ghost use Rattle.pid_tables.specs.Shows.{Counts, ShowsCounting};
-ghost use Rattle.pid_tables.specs.Writes.{with_name};
+ghost use Rattle.pid_rows.specs.Shows.{Counts, ShowsCounting};
+ghost use Rattle.pid_rows.specs.Writes.{with_name};
 
-use crate::fault::TableFault;
-use crate::item::{add_item, rename_item};
-use crate::run::read_inside;
-use crate::value::is_text_at;
+use pid_rows::TableFault;
+use pid_rows::item::{add_item, rename_item};
+use pid_rows::run::read_inside;
+use pid_rows::value::is_text_at;
 use sqlite::types::ToSql;
 use sqlite::{Alter, Row, Transaction};
 

@@ -2,10 +2,10 @@ use Rattle.std.proofs.Common.{◌≡◌, true, rules, arith, subst}
 use Rattle.sqlite.specs.Held.{Held, state}
 use Rattle.sqlite.specs.State.{State, HasCleanDisk}
 use Rattle.sqlite.proofs.StateLemmas.{clean_if_open}
-use Rattle.pid_tables.specs.Shows.{counts_of}
-use Rattle.pid_tables.specs.Leaves.{OnlyReads}
-use Rattle.pid_tables.proofs.LeaveLemmas.{given_back, begun_within}
-use Rattle.pid_tables.proofs.GoingLemmas.{holds_on, earlier}
+use Rattle.pid_rows.specs.Shows.{counts_of}
+use Rattle.pid_rows.specs.Leaves.{OnlyReads}
+use Rattle.pid_rows.proofs.LeaveLemmas.{given_back, begun_within}
+use Rattle.pid_rows.proofs.GoingLemmas.{holds_on, earlier}
 use Rattle.pid_table_check.proofs.Whole.{numbers_single, told_whole}
 use Rattle.pid_table_check.proofs.checking.check.Goals as goal
 

@@ -1,6 +1,6 @@
 use Rattle.std.proofs.Common.{rules, ◌∙◌, sym, subst, IfErr, []}
 use Rattle.std.proofs.lemmas.Result.{err_from_is_err_and}
-use Rattle.pid_tables.proofs.ReadLemmas.{shown_passes, fails_keeping}
+use Rattle.pid_rows.proofs.ReadLemmas.{shown_passes, fails_keeping}
 use Rattle.pid_table_check.specs.Reading.{IsUntold}
 use Rattle.pid_table_check.proofs.WholeReads.{untold}
 use Rattle.pid_table_check.proofs.read.all_rows.Goals as goal

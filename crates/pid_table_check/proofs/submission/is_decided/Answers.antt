@@ -1,6 +1,6 @@
 use Rattle.std.proofs.Common.{◌≡◌, rules, refl}
 use Rattle.sqlite.specs.Order.{column}
-use Rattle.pid_tables.specs.TableRows.{number}
+use Rattle.pid_rows.specs.TableRows.{number}
 use Rattle.pid_table_check.proofs.SubmissionFacts.{approved, rejected, approved_reason, rejected_reason}
 use Rattle.pid_table_check.proofs.submission.is_decided.Goals as goal
 

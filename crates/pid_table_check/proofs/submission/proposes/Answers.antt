@@ -1,6 +1,6 @@
 use Rattle.std.proofs.Common.{◌≡◌, rules}
 use Rattle.sqlite.specs.Order.{column}
-use Rattle.pid_tables.specs.TableRows.{number}
+use Rattle.pid_rows.specs.TableRows.{number}
 use Rattle.pid_table_check.proofs.SubmissionFacts.{named, name_of_form}
 use Rattle.pid_table_check.proofs.submission.proposes.Goals as goal
 

@@ -1,8 +1,8 @@
 use Rattle.sqlite.specs.Held.{state}
 use Rattle.sqlite.proofs.StateLemmas.{clean_if_open}
-use Rattle.pid_tables.proofs.LeaveLemmas.{stands, failed_back, on_err}
-use Rattle.pid_tables.proofs.GoingLemmas.{earlier}
-use Rattle.pid_tables.specs.Shows.{counts_of}
+use Rattle.pid_rows.proofs.LeaveLemmas.{stands, failed_back, on_err}
+use Rattle.pid_rows.proofs.GoingLemmas.{earlier}
+use Rattle.pid_rows.specs.Shows.{counts_of}
 use Rattle.pid_tables.proofs.batch.commit.Goals as goal
 
 pub returns-clause-stands : goal.returns-clause-stands

@@ -2,7 +2,7 @@ use Rattle.std.proofs.Common.{Some, None, subst, arith}
 use Rattle.sqlite.specs.Held.{state}
 use Rattle.sqlite.specs.State.{HasCleanDisk}
 use Rattle.pid_moderation.specs.Changes.{FitsReceipt}
-use Rattle.pid_tables.proofs.ShowLemmas.{on_ok}
+use Rattle.pid_rows.proofs.ShowLemmas.{on_ok}
 use Rattle.pid_tables.proofs.ApplyLemmas.{receipt_still_fits, whole_with}
 use Rattle.pid_tables.proofs.batch.write_change.Goals as goal
 

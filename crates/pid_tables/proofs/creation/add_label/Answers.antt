@@ -1,6 +1,6 @@
 use Rattle.sqlite.specs.Held.{state}
 use Rattle.pid_tables.proofs.CreateLemmas.{label_added}
-use Rattle.pid_tables.proofs.ShowLemmas.{on_ok}
+use Rattle.pid_rows.proofs.ShowLemmas.{on_ok}
 use Rattle.pid_tables.proofs.creation.add_label.Goals as goal
 
 pub returns-clause-added : goal.returns-clause-added

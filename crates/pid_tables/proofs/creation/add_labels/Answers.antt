@@ -1,7 +1,7 @@
 use Rattle.std.proofs.Common.{None, refl, codes}
 use Rattle.sqlite.specs.Held.{state}
 use Rattle.pid_tables.specs.Creation.{with_label}
-use Rattle.pid_tables.proofs.GoingLemmas.{earlier}
+use Rattle.pid_rows.proofs.GoingLemmas.{earlier}
 use Rattle.pid_tables.proofs.creation.add_labels.Goals as goal
 
 pub returns-clause-added : goal.returns-clause-added

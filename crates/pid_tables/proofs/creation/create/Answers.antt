@@ -2,7 +2,7 @@ use Rattle.std.proofs.Common.{◌≡◌, [], OnOk, refl, rules, subst}
 use Rattle.sqlite.specs.Held.{state}
 use Rattle.sqlite.proofs.StateLemmas.{clean_if_open}
 use Rattle.pid_moderation.specs.Views.{views_of}
-use Rattle.pid_tables.specs.Leaves.{AtRest}
+use Rattle.pid_rows.specs.Leaves.{AtRest}
 use Rattle.pid_tables.proofs.creation.create.Goals as goal
 
 pub returns-clause-made : goal.returns-clause-made

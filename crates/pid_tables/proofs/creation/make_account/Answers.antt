@@ -1,9 +1,9 @@
 use Rattle.std.proofs.Common.{[], ◌∷◌, refl}
 use Rattle.sqlite.specs.Held.{state}
-use Rattle.pid_tables.specs.Schema.{meta, account}
+use Rattle.pid_rows.specs.Schema.{meta, account}
 use Rattle.pid_tables.proofs.CreateTexts.{create_account, account_creates}
 use Rattle.pid_tables.proofs.CreateLemmas.{one_more}
-use Rattle.pid_tables.proofs.ShowLemmas.{on_ok}
+use Rattle.pid_rows.proofs.ShowLemmas.{on_ok}
 use Rattle.pid_tables.proofs.creation.make_account.Goals as goal
 
 pub returns-clause-made : goal.returns-clause-made

@@ -1,5 +1,5 @@
 use Rattle.sqlite.specs.Held.{state}
-use Rattle.pid_tables.proofs.GoingLemmas.{earlier}
+use Rattle.pid_rows.proofs.GoingLemmas.{earlier}
 use Rattle.pid_tables.proofs.creation.make_first.Goals as goal
 
 pub returns-clause-made : goal.returns-clause-made

@@ -1,9 +1,9 @@
 use Rattle.std.proofs.Common.{[], refl}
 use Rattle.sqlite.specs.Held.{state}
-use Rattle.pid_tables.specs.Schema.{meta}
+use Rattle.pid_rows.specs.Schema.{meta}
 use Rattle.pid_tables.proofs.CreateTexts.{create_meta, meta_creates}
 use Rattle.pid_tables.proofs.CreateLemmas.{one_more}
-use Rattle.pid_tables.proofs.ShowLemmas.{on_ok}
+use Rattle.pid_rows.proofs.ShowLemmas.{on_ok}
 use Rattle.pid_tables.proofs.creation.make_meta.Goals as goal
 
 pub returns-clause-made : goal.returns-clause-made

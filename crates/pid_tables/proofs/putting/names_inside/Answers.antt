@@ -1,7 +1,7 @@
 use Rattle.sqlite.specs.Held.{state}
-use Rattle.pid_tables.proofs.KeyTexts.{select_item_is}
-use Rattle.pid_tables.proofs.StatementTexts.{select_item}
-use Rattle.pid_tables.proofs.FindLemmas.{name_found}
+use Rattle.pid_rows.proofs.KeyTexts.{select_item_is}
+use Rattle.pid_rows.proofs.StatementTexts.{select_item}
+use Rattle.pid_rows.proofs.FindLemmas.{name_found}
 use Rattle.pid_tables.proofs.PutLemmas.{on_read, if_read}
 use Rattle.pid_tables.proofs.putting.names_inside.Goals as goal
 

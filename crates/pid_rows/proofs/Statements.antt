@@ -1,0 +1,56 @@
+-- Queries and writes on one table, by its key.
+use Rattle.std.proofs.Common.{◌≡◌, ℕ, pos, negsuc, List, [], ◌∷◌, false, None}
+use Rattle.sqlite.specs.declared.types.Value.TheVariants.{Int}
+use Rattle.sqlite.specs.Term.{Term, lit, col, op2}
+use Rattle.sqlite.specs.Query.{Query, inner, end}
+use Rattle.sqlite.specs.Command.TheVariants.{Insert, Update, Delete, Select}
+use Rattle.sqlite.specs.Source.TheVariants.{Values}
+use Rattle.sqlite_sql.specs.declared.ops.BinaryOp.TheVariants.{Compare}
+use Rattle.sqlite_sql.specs.declared.ops.CompareOp.TheVariants.{Eq}
+use Rattle.sqlite.specs.Collation.TheVariants.{Binary}
+use Rattle.sqlite.specs.Listing.{understood, reads_listing}
+use Rattle.sqlite.proofs.Callers.{IsPlain, command_of}
+use Rattle.sqlite_schema.specs.declared.program.Program.{Program}
+use Rattle.pid_rows.specs.Schema.{pid_schema}
+
+-- the rows of one table that pass the tests
+abbrev pub simple : ℕ → List Term → List Term → Query
+simple tree filter project = record {
+  from = inner tree end;
+  filter = filter;
+  group = None;
+  project = project;
+  distinct = false;
+  collations = [];
+  order = [];
+  limit = lit (Int (negsuc 0));
+  offset = lit (Int (pos 0));
+}
+
+abbrev pub program : Query → Program
+program q = record { lets = []; body = q }
+
+-- the column at a place equals a parameter
+abbrev pub equals : ℕ → ℕ → Term
+equals at param = op2 (Compare Eq Binary) (col 1 at) (col 0 param)
+
+-- SELECT .. FROM .. WHERE ..
+pub record IsSelect (tree : ℕ) (tests project : List Term) (sql : List ℕ) (names : List (List ℕ)) : Type 0 where
+  pub is : command_of (understood pid_schema sql) ≡ Select (program (simple tree tests project)) names
+  pub plain : IsPlain (understood pid_schema sql)
+  pub unlisted : reads_listing pid_schema sql ≡ false
+
+-- INSERT INTO .. VALUES ..
+pub record IsInsert (at : ℕ) (terms : List Term) (width : ℕ) (sql : List ℕ) : Type 0 where
+  pub is : command_of (understood pid_schema sql) ≡ Insert at (Values terms width)
+  pub plain : IsPlain (understood pid_schema sql)
+
+-- UPDATE .. SET .. WHERE ..
+pub record IsUpdate (at tree : ℕ) (tests change : List Term) (sql : List ℕ) : Type 0 where
+  pub is : command_of (understood pid_schema sql) ≡ Update at (program (simple tree tests (col 1 0 ∷ change)))
+  pub plain : IsPlain (understood pid_schema sql)
+
+-- DELETE FROM .. WHERE ..
+pub record IsDelete (at tree : ℕ) (tests : List Term) (sql : List ℕ) : Type 0 where
+  pub is : command_of (understood pid_schema sql) ≡ Delete at (program (simple tree tests (col 1 0 ∷ [])))
+  pub plain : IsPlain (understood pid_schema sql)

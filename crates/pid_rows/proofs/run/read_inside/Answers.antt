@@ -1,0 +1,25 @@
+use Rattle.std.proofs.Common.{rules, ◌∙◌}
+use Rattle.sqlite.specs.Values.{bound}
+use Rattle.pid_rows.proofs.ReadLemmas.{shown_passes, fails_keeping}
+use Rattle.pid_rows.proofs.run.read_inside.Goals as goal
+
+pub returns-in_err-query_all-clause-goes : goal.returns-in_err-query_all-clause-goes
+returns-in_err-query_all-clause-goes g c =
+    let fails = c.in_err-query_all.ensures.err in
+    record {
+      survives = c.query_all.ensures.survives;
+      was_open = λ clean opened. (fails_keeping c.args.sql.now (bound c.args.params.now) _ _ _ (fails clean) opened).0;
+      committed = λ clean inside opened. (fails_keeping c.args.sql.now (bound c.args.params.now) _ _ _ (fails clean) opened).1;
+      going = search rules;
+    }
+
+pub returns-clause-goes : goal.returns-clause-goes
+returns-clause-goes g c =
+    let shown = c.in_ok-query_all.ensures.ok in
+    let rows = c.in_ok-query_all.field-0.items in
+    record {
+      survives = c.query_all.ensures.survives;
+      was_open = λ clean opened. (shown_passes c.args.sql.now (bound c.args.params.now) _ _ rows (shown clean)).was_open;
+      committed = λ clean inside opened. (shown_passes c.args.sql.now (bound c.args.params.now) _ _ rows (shown clean)).committed inside;
+      going = λ clean inside. let passes = shown_passes c.args.sql.now (bound c.args.params.now) _ _ rows (shown clean) in (passes.is_open, passes.mode ∙ inside);
+    }

@@ -1,0 +1,65 @@
+-- What a connection is left as by a call, and what a crash may then leave. All of it holds while the disk returns what was written.
+use Rattle.std.specs.Prelude.{◌≡◌, ◌⊎◌, false, Result, OnOk, IfOk, IsTrue}
+use Rattle.sqlite.specs.Tree.{Trees}
+use Rattle.sqlite.specs.State.{State, HasCleanDisk, Survives}
+use Rattle.sqlite.specs.Effect.{Database}
+use Rattle.pid_moderation.specs.Views.{Views}
+use Rattle.pid_rows.specs.Schema.{pid_schema}
+use Rattle.pid_rows.specs.Shows.{Counts, ShowsCounting, Shows}
+
+-- trees as an open finds them, with the schema that they list
+abbrev pub as_found : Trees → Database
+as_found db = record { schema = pid_schema; trees = db }
+
+-- everything that a crash may leave shows the views
+pub record Leaves (s : State) (v : Views) : Type 0 where
+  pub each : HasCleanDisk s → (db : Trees) → s.may_leave db → Shows (as_found db) v
+
+-- everything that a crash may leave shows the one or the other
+pub record LeavesEither (s : State) (first second : Views) : Type 0 where
+  pub each : HasCleanDisk s → (db : Trees) → s.may_leave db → Shows (as_found db) first ⊎ Shows (as_found db) second
+
+-- outside a transaction, while it is open, the connection shows the views, and so does each thing that a crash may leave
+pub record AtRest (s : State) (v : Views) : Type 0 where
+  pub settled : s.in_transaction ≡ false
+  pub same : IsTrue s.is_open → s.now ≡ s.committed
+  pub shows : IsTrue s.is_open → Shows s.now v
+  pub leaves : Leaves s v
+
+-- whatever a transaction does, what was committed before it shows the views, and so does each thing that a crash may leave
+pub record Holds (s : State) (v : Views) : Type 0 where
+  pub committed : IsTrue s.is_open → Shows s.committed v
+  pub leaves : Leaves s v
+
+-- a transaction is under way that holds the first views and shows the second, where meta has these counts
+pub record Within (c : Counts) (s : State) (held now : Views) : Type 0 where
+  pub inside : HasCleanDisk s → IsTrue s.in_transaction
+  pub holds : Holds s held
+  pub shows : IsTrue s.is_open → ShowsCounting c s.now now
+
+-- the same, once a statement was carried out: no fault has shut the connection
+pub record Written (c : Counts) (s : State) (held now : Views) : Type 0 where
+  pub within : Within c s held now
+  pub opened : HasCleanDisk s → IsTrue s.is_open
+
+-- A call inside a transaction commits nothing, whatever it answers; where it answers a value, the transaction goes on.
+pub record GoesOn {X E : Type 0} (old new : State) (result : Result X E) : Type 0 where
+  pub survives : Survives old new (λ _. ⊥)
+  pub was_open : HasCleanDisk new → IsTrue new.is_open → IsTrue old.is_open
+  pub committed : HasCleanDisk new → IsTrue old.in_transaction → IsTrue new.is_open → new.committed ≡ old.committed
+  pub going : HasCleanDisk new → IsTrue old.in_transaction → OnOk result (IsTrue new.is_open × IsTrue new.in_transaction)
+
+-- Where the transaction shows views that the call is for, it answers a value only with the transaction showing the next ones.
+abbrev pub LeadsTo : {X E : Type 0} → State → State → Result X E → (Counts → Views → Type 0) → (Counts → Counts) → (Views → Views) → Type 0
+LeadsTo old new result IsFor recount next =
+    HasCleanDisk new → IsTrue old.in_transaction → (c : Counts) (v : Views) → ShowsCounting c old.now v → IsFor c v → OnOk result (ShowsCounting (recount c) new.now (next v))
+
+-- a read leaves what was at rest at rest
+pub record OnlyReads (old new : State) : Type 0 where
+  pub settled : new.in_transaction ≡ false
+  pub clean : HasCleanDisk new → HasCleanDisk old
+  pub kept : (v : Views) → AtRest old v → AtRest new v
+
+-- and tells of the views that were at rest
+abbrev pub Tells : {X E : Type 0} → State → State → Result X E → (Views → X → Type 0) → Type 0
+Tells old new result Says = HasCleanDisk new → (v : Views) → AtRest old v → IfOk result (Says v)

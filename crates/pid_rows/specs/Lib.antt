@@ -1,0 +1,13 @@
+pub mod Faults
+pub mod Schema
+pub mod PairRows
+pub mod TableRows
+pub mod Answers
+pub mod Shows
+pub mod Leaves
+pub mod Standings
+pub mod ItemPairs
+pub mod PendingOnes
+pub mod Comments
+pub mod Ranges
+pub mod Writes

@@ -1,0 +1,73 @@
+//! The table of accounts and their ranks.
+ghost use Rattle.std.specs.Prelude.{◌≡◌, false, None, IsSome, option_map, slice_get};
+ghost use Rattle.sqlite.specs.Held.{state};
+ghost use Rattle.pid_rows.specs.Leaves.{GoesOn, LeadsTo, OnlyReads, Tells};
+ghost use Rattle.pid_rows.specs.Answers.{rank_row};
+ghost use Rattle.pid_rows.specs.Writes.{with_rank};
+
+use crate::fault::TableFault;
+use crate::run::{read_rows, write_one};
+use crate::value::rank_at;
+use pid_moderation::Rank;
+use sqlite::types::ToSql;
+use sqlite::{Alter, Connection, Row, Transaction};
+
+/// Adds an account that is not there yet.
+pub fn add_account<S: Alter>(
+    tx: &mut Transaction<'_, S>,
+    name: &str,
+    rank: Rank,
+) -> Result<(), TableFault>
+    ensures same_reference { tx.new.conn.ghost_name ≡ tx.old.conn.ghost_name }
+    ensures goes { GoesOn (state S.Store tx.old.conn.now) (state S.Store tx.new.conn.now) result }
+    ensures shows { LeadsTo (state S.Store tx.old.conn.now) (state S.Store tx.new.conn.now) result (λ c v. v.rank name.now ≡ None) (λ c. c) (with_rank name.now rank) }
+{
+    let name = name.to_sql();
+    let rank = u32::from(rank.number()).to_sql();
+    write_one(
+        tx,
+        "INSERT INTO account (name, rank) VALUES (?1, ?2)",
+        &[name, rank],
+    )
+}
+
+/// Gives an account that is there another rank.
+pub fn change_rank<S: Alter>(
+    tx: &mut Transaction<'_, S>,
+    name: &str,
+    rank: Rank,
+) -> Result<(), TableFault>
+    ensures same_reference { tx.new.conn.ghost_name ≡ tx.old.conn.ghost_name }
+    ensures goes { GoesOn (state S.Store tx.old.conn.now) (state S.Store tx.new.conn.now) result }
+    ensures shows { LeadsTo (state S.Store tx.old.conn.now) (state S.Store tx.new.conn.now) result (λ c v. IsSome (v.rank name.now)) (λ c. c) (with_rank name.now rank) }
+{
+    let name = name.to_sql();
+    let rank = u32::from(rank.number()).to_sql();
+    write_one(
+        tx,
+        "UPDATE account SET rank = ?2 WHERE name = ?1",
+        &[name, rank],
+    )
+}
+
+fn rank_rows<S: Alter>(conn: &mut Connection<S>, name: &str) -> Result<Vec<Row>, TableFault>
+    requires { (state S.Store conn.old).in_transaction ≡ false }
+    ensures rests { OnlyReads (state S.Store conn.old) (state S.Store conn.new) }
+    ensures found { Tells (state S.Store conn.old) (state S.Store conn.new) result (λ v rows. slice_get rows.items 0 ≡ option_map rank_row (v.rank name.now)) }
+{
+    let name = name.to_sql();
+    read_rows(conn, "SELECT rank FROM account WHERE name = ?1", &[name])
+}
+
+/// The rank of an account.
+pub fn rank<S: Alter>(conn: &mut Connection<S>, name: &str) -> Result<Option<Rank>, TableFault>
+    requires { (state S.Store conn.old).in_transaction ≡ false }
+    ensures rests { OnlyReads (state S.Store conn.old) (state S.Store conn.new) }
+    ensures found { Tells (state S.Store conn.old) (state S.Store conn.new) result (λ v rank. rank ≡ v.rank name.now) }
+{
+    let rows = rank_rows(conn, name)?;
+    match rows.first() {
+        Some(row) => Ok(Some(rank_at(row, 0)?)),
+        None => Ok(None),
+    }
+}

@@ -1,0 +1,245 @@
+//! The table of items: paths and their names.
+ghost use Rattle.std.specs.Prelude.{◌≡◌, ◌⊎◌, ◌||◌, ◌++◌, [], ◌∷◌, true, false, None, IfOk, IsSome, option_map, slice_get};
+ghost use Rattle.sqlite.specs.Held.{state};
+ghost use Rattle.pid_moderation.specs.Items.{name_at as item_at, has_children as are_children};
+ghost use Rattle.pid_rows.specs.Leaves.{GoesOn, LeadsTo, OnlyReads, Tells};
+ghost use Rattle.sqlite.specs.Order.{column};
+ghost use Rattle.sqlite.specs.declared.types.Value.TheVariants.{Text as TextValue};
+ghost use Rattle.pid_rows.specs.Answers.{name_row, item_shown};
+ghost use Rattle.pid_rows.specs.ItemPairs.{pair_of};
+ghost use Rattle.pid_rows.specs.Ranges.{holds_between, generics_of, first_above};
+ghost use Rattle.pid_ident.specs.PathTexts.{path_text};
+ghost use Rattle.pid_moderation.specs.WellMade.{AllItems, HoldsParents};
+ghost use Rattle.pid_rows.specs.Shows.{AreViews};
+ghost use Rattle.pid_rows.specs.Writes.{with_name, without_item};
+
+use crate::fault::TableFault;
+use crate::run::{read_rows, write_one};
+use crate::value::{name_at, path_at};
+use pid_ident::{Name, Path};
+use sqlite::types::{ToSql, ValueRef};
+use sqlite::{Alter, Connection, Row, Transaction};
+use std::alloc::{AllocError, Global};
+
+/// Adds an item at a path that has none.
+pub fn add_item<S: Alter>(
+    tx: &mut Transaction<'_, S>,
+    path: &str,
+    name: &str,
+) -> Result<(), TableFault>
+    ensures same_reference { tx.new.conn.ghost_name ≡ tx.old.conn.ghost_name }
+    ensures goes { GoesOn (state S.Store tx.old.conn.now) (state S.Store tx.new.conn.now) result }
+    ensures shows { LeadsTo (state S.Store tx.old.conn.now) (state S.Store tx.new.conn.now) result (λ c v. item_at path.now v.items ≡ None) (λ c. c) (with_name path.now name.now) }
+{
+    let path = path.to_sql();
+    let name = name.to_sql();
+    write_one(
+        tx,
+        "INSERT INTO item (path, name) VALUES (?1, ?2)",
+        &[path, name],
+    )
+}
+
+/// Gives the item at a path another name.
+pub fn rename_item<S: Alter>(
+    tx: &mut Transaction<'_, S>,
+    path: &str,
+    name: &str,
+) -> Result<(), TableFault>
+    ensures same_reference { tx.new.conn.ghost_name ≡ tx.old.conn.ghost_name }
+    ensures goes { GoesOn (state S.Store tx.old.conn.now) (state S.Store tx.new.conn.now) result }
+    ensures shows { LeadsTo (state S.Store tx.old.conn.now) (state S.Store tx.new.conn.now) result (λ c v. IsSome (item_at path.now v.items)) (λ c. c) (with_name path.now name.now) }
+{
+    let path = path.to_sql();
+    let name = name.to_sql();
+    write_one(
+        tx,
+        "UPDATE item SET name = ?2 WHERE path = ?1",
+        &[path, name],
+    )
+}
+
+/// Takes the item of a path away.
+pub fn remove_item<S: Alter>(tx: &mut Transaction<'_, S>, path: &str) -> Result<(), TableFault>
+    ensures same_reference { tx.new.conn.ghost_name ≡ tx.old.conn.ghost_name }
+    ensures goes { GoesOn (state S.Store tx.old.conn.now) (state S.Store tx.new.conn.now) result }
+    ensures shows { LeadsTo (state S.Store tx.old.conn.now) (state S.Store tx.new.conn.now) result (λ c v. Unit {0}) (λ c. c) (without_item path.now) }
+{
+    let path = path.to_sql();
+    write_one(tx, "DELETE FROM item WHERE path = ?1", &[path])
+}
+
+fn name_rows<S: Alter>(conn: &mut Connection<S>, path: &str) -> Result<Vec<Row>, TableFault>
+    requires { (state S.Store conn.old).in_transaction ≡ false }
+    ensures rests { OnlyReads (state S.Store conn.old) (state S.Store conn.new) }
+    ensures found { Tells (state S.Store conn.old) (state S.Store conn.new) result (λ v rows. slice_get rows.items 0 ≡ option_map name_row (item_at path.now v.items)) }
+{
+    let path = path.to_sql();
+    read_rows(conn, "SELECT name FROM item WHERE path = ?1", &[path])
+}
+
+/// The name of the item at a path.
+pub fn item_name<S: Alter>(
+    conn: &mut Connection<S>,
+    alloc: Global,
+    path: &str,
+) -> Result<Option<Name>, TableFault>
+    requires { (state S.Store conn.old).in_transaction ≡ false }
+    ensures rests { OnlyReads (state S.Store conn.old) (state S.Store conn.new) }
+    ensures found { Tells (state S.Store conn.old) (state S.Store conn.new) result (λ v name. name ≡ item_at path.now v.items) }
+{
+    let rows = name_rows(conn, path)?;
+    match rows.first() {
+        Some(row) => Ok(Some(name_at(row, alloc, 0)?)),
+        None => Ok(None),
+    }
+}
+
+fn range_rows<S: Alter>(
+    conn: &mut Connection<S>,
+    low: &[u8],
+    high: &[u8],
+) -> Result<Vec<Row>, TableFault>
+    requires { (state S.Store conn.old).in_transaction ≡ false }
+    ensures rests { OnlyReads (state S.Store conn.old) (state S.Store conn.new) }
+    ensures found { Tells (state S.Store conn.old) (state S.Store conn.new) result (λ v rows. AreViews v × (
+        ((rows.items ≡ []) × (holds_between low.now high.now v.items ≡ false)) ⊎ ((row : _) × (rows.items ≡ row ∷ []) × (holds_between low.now high.now v.items ≡ true)))) }
+{
+    let low = ValueRef::Text(low);
+    let high = ValueRef::Text(high);
+    read_rows(
+        conn,
+        "SELECT path FROM item WHERE path > ?1 AND path < ?2 LIMIT 1",
+        &[low, high],
+    )
+}
+
+fn any_between<S: Alter>(
+    conn: &mut Connection<S>,
+    low: &[u8],
+    high: &[u8],
+) -> Result<bool, TableFault>
+    requires { (state S.Store conn.old).in_transaction ≡ false }
+    ensures rests { OnlyReads (state S.Store conn.old) (state S.Store conn.new) }
+    ensures found { Tells (state S.Store conn.old) (state S.Store conn.new) result (λ v some. AreViews v × (some ≡ holds_between low.now high.now v.items)) }
+{
+    let rows = range_rows(conn, low, high)?;
+    match rows.first() {
+        Some(_) => Ok(true),
+        None => Ok(false),
+    }
+}
+
+// The two parts and a last byte, joined.
+fn edge(alloc: Global, front: &[u8], rest: &[u8], last: u8) -> Result<Vec<u8>, AllocError>
+    ensures { IfOk result (λ edge. edge.items ≡ (front.now ++ rest.now) ++ last ∷ []) }
+{
+    let mut edge = Vec::from_slice(alloc, front)?;
+    edge.extend_from_slice(rest)?;
+    edge.push(last)?;
+    Ok(edge)
+}
+
+// Whether an item's path goes on behind the text of the two parts and a slash.
+fn any_below<S: Alter>(
+    conn: &mut Connection<S>,
+    alloc: Global,
+    front: &[u8],
+    rest: &[u8],
+) -> Result<bool, TableFault>
+    requires { (state S.Store conn.old).in_transaction ≡ false }
+    ensures rests { OnlyReads (state S.Store conn.old) (state S.Store conn.new) }
+    ensures found { Tells (state S.Store conn.old) (state S.Store conn.new) result (λ v some. AreViews v × (some ≡ holds_between ((front.now ++ rest.now) ++ 47 ∷ []) ((front.now ++ rest.now) ++ 48 ∷ []) v.items)) }
+{
+    let low = edge(alloc, front, rest, b'/')?;
+    let high = edge(alloc, front, rest, b'0')?;
+    any_between(conn, low.as_slice(), high.as_slice())
+}
+
+fn any_generic<S: Alter>(
+    conn: &mut Connection<S>,
+    alloc: Global,
+    vendor: &[u8],
+) -> Result<bool, TableFault>
+    requires { (state S.Store conn.old).in_transaction ≡ false }
+    ensures rests { OnlyReads (state S.Store conn.old) (state S.Store conn.new) }
+    ensures found { Tells (state S.Store conn.old) (state S.Store conn.new) result (λ v some. AreViews v × (some ≡ holds_between (generics_of vendor.now ++ 47 ∷ []) (generics_of vendor.now ++ 48 ∷ []) v.items)) }
+{
+    match vendor.strip_prefix(b"PC") {
+        Some(digits) => any_below(conn, alloc, b"PS", digits),
+        None => Err(TableFault::Damaged),
+    }
+}
+
+fn either(one: bool, other: bool) -> bool
+    ensures { result ≡ (one || other) }
+{
+    one || other
+}
+
+/// Whether some item has the path as its parent.
+pub fn has_children<S: Alter>(
+    conn: &mut Connection<S>,
+    alloc: Global,
+    path: Path,
+) -> Result<bool, TableFault>
+    requires { (state S.Store conn.old).in_transaction ≡ false }
+    ensures rests { OnlyReads (state S.Store conn.old) (state S.Store conn.new) }
+    ensures found { Tells (state S.Store conn.old) (state S.Store conn.new) result (λ v some. AllItems v.items → HoldsParents v.items → some ≡ are_children (path_text path) v.items) }
+{
+    let text = path.path_text(alloc)?;
+    let below = any_below(conn, alloc, b"", text.as_bytes())?;
+    match path {
+        Path::Vendor { .. } => {
+            let generic = any_generic(conn, alloc, text.as_bytes())?;
+            Ok(either(below, generic))
+        }
+        _ => Ok(below),
+    }
+}
+
+/// A path and the name of the item there.
+#[derive(Debug, Drop)]
+pub struct Item {
+    pub path: Path,
+    pub name: Name,
+}
+
+fn next_rows<S: Alter>(conn: &mut Connection<S>, text: &str) -> Result<Vec<Row>, TableFault>
+    requires { (state S.Store conn.old).in_transaction ≡ false }
+    ensures rests { OnlyReads (state S.Store conn.old) (state S.Store conn.new) }
+    ensures found { Tells (state S.Store conn.old) (state S.Store conn.new) result (λ v rows. slice_get rows.items 0 ≡ option_map item_shown (first_above text.now v.items)) }
+{
+    let text = text.to_sql();
+    read_rows(
+        conn,
+        "SELECT path, name FROM item WHERE path > ?1 ORDER BY path LIMIT 1",
+        &[text],
+    )
+}
+
+fn item_of(row: &Row, alloc: Global) -> Result<Item, TableFault>
+    ensures path { IfOk result (λ item. column row.now 0 ≡ TextValue (path_text item.path)) }
+    ensures name { IfOk result (λ item. column row.now 1 ≡ TextValue item.name) }
+{
+    let path = path_at(row, 0)?;
+    let name = name_at(row, alloc, 1)?;
+    Ok(Item { path, name })
+}
+
+/// The first item, in the canonical order, whose path is above a text.
+pub fn item_above<S: Alter>(
+    conn: &mut Connection<S>,
+    alloc: Global,
+    text: &str,
+) -> Result<Option<Item>, TableFault>
+    requires { (state S.Store conn.old).in_transaction ≡ false }
+    ensures rests { OnlyReads (state S.Store conn.old) (state S.Store conn.new) }
+    ensures found { Tells (state S.Store conn.old) (state S.Store conn.new) result (λ v item. option_map pair_of item ≡ first_above text.now v.items) }
+{
+    let rows = next_rows(conn, text)?;
+    match rows.first() {
+        Some(row) => Ok(Some(item_of(row, alloc)?)),
+        None => Ok(None),
+    }
+}

@@ -1,0 +1,14 @@
+//! The rows of a registry's tables in a SQLite database: one statement at a time, each on one table.
+#![tactic(auto)]
+
+pub mod account;
+mod fault;
+pub mod item;
+pub mod meta;
+pub mod receipt;
+pub mod remark;
+pub mod run;
+pub mod submission;
+pub mod value;
+
+pub use fault::TableFault;

@@ -1,0 +1,104 @@
+//! The table of counts.
+ghost use Rattle.std.specs.Prelude.{◌≡◌, false, Some, length, option_map, slice_get, codes};
+ghost use Rattle.sqlite.specs.Held.{state};
+ghost use Rattle.pid_rows.specs.Leaves.{GoesOn, LeadsTo, OnlyReads, Tells};
+ghost use Rattle.pid_rows.specs.Answers.{value_row};
+ghost use Rattle.pid_rows.specs.Shows.{meta_of, counts_of};
+
+use crate::fault::TableFault;
+use crate::run::{read_inside, read_rows, write_one};
+use crate::value::number_at;
+use sqlite::types::ToSql;
+use sqlite::{Alter, Connection, Row, Transaction};
+
+/// Says how many items there are.
+pub fn count_items<S: Alter>(tx: &mut Transaction<'_, S>, count: u32) -> Result<(), TableFault>
+    ensures same_reference { tx.new.conn.ghost_name ≡ tx.old.conn.ghost_name }
+    ensures goes { GoesOn (state S.Store tx.old.conn.now) (state S.Store tx.new.conn.now) result }
+    ensures shows { LeadsTo (state S.Store tx.old.conn.now) (state S.Store tx.new.conn.now) result (λ c v. Unit {0}) (λ c. record c { items = count }) (λ v. v) }
+{
+    let label = "items".to_sql();
+    let value = count.to_sql();
+    write_one(
+        tx,
+        "UPDATE meta SET value = ?2 WHERE label = ?1",
+        &[label, value],
+    )
+}
+
+/// Says how many submissions there are.
+pub fn count_submissions<S: Alter>(
+    tx: &mut Transaction<'_, S>,
+    count: u32,
+) -> Result<(), TableFault>
+    ensures same_reference { tx.new.conn.ghost_name ≡ tx.old.conn.ghost_name }
+    ensures goes { GoesOn (state S.Store tx.old.conn.now) (state S.Store tx.new.conn.now) result }
+    ensures shows { LeadsTo (state S.Store tx.old.conn.now) (state S.Store tx.new.conn.now) result (λ c v. Unit {0}) (λ c. record c { submissions = count }) (λ v. v) }
+{
+    let label = "submissions".to_sql();
+    let value = count.to_sql();
+    write_one(
+        tx,
+        "UPDATE meta SET value = ?2 WHERE label = ?1",
+        &[label, value],
+    )
+}
+
+/// Finds out whether the connection still serves.
+pub fn touch<S: Alter>(tx: &mut Transaction<'_, S>) -> Result<(), TableFault>
+    ensures same_reference { tx.new.conn.ghost_name ≡ tx.old.conn.ghost_name }
+    ensures goes { GoesOn (state S.Store tx.old.conn.now) (state S.Store tx.new.conn.now) result }
+    ensures shows { LeadsTo (state S.Store tx.old.conn.now) (state S.Store tx.new.conn.now) result (λ c v. Unit {0}) (λ c. c) (λ v. v) }
+{
+    let label = "schema".to_sql();
+    read_inside(tx, "SELECT value FROM meta WHERE label = ?1", &[label])?;
+    Ok(())
+}
+
+fn value_rows<S: Alter>(conn: &mut Connection<S>, label: &str) -> Result<Vec<Row>, TableFault>
+    requires { (state S.Store conn.old).in_transaction ≡ false }
+    ensures rests { OnlyReads (state S.Store conn.old) (state S.Store conn.new) }
+    ensures found { Tells (state S.Store conn.old) (state S.Store conn.new) result (λ v rows. slice_get rows.items 0 ≡ option_map value_row (meta_of (counts_of v) label.now)) }
+{
+    let label = label.to_sql();
+    read_rows(conn, "SELECT value FROM meta WHERE label = ?1", &[label])
+}
+
+fn count<S: Alter>(conn: &mut Connection<S>, label: &str) -> Result<u32, TableFault>
+    requires { (state S.Store conn.old).in_transaction ≡ false }
+    ensures rests { OnlyReads (state S.Store conn.old) (state S.Store conn.new) }
+    ensures found { Tells (state S.Store conn.old) (state S.Store conn.new) result (λ v n. Some n ≡ meta_of (counts_of v) label.now) }
+{
+    let rows = value_rows(conn, label)?;
+    match rows.first() {
+        Some(row) => number_at(row, 0),
+        None => Err(TableFault::Damaged),
+    }
+}
+
+/// How many items there are.
+pub fn items<S: Alter>(conn: &mut Connection<S>) -> Result<u32, TableFault>
+    requires { (state S.Store conn.old).in_transaction ≡ false }
+    ensures rests { OnlyReads (state S.Store conn.old) (state S.Store conn.new) }
+    ensures found { Tells (state S.Store conn.old) (state S.Store conn.new) result (λ v n. n ≡ length v.items) }
+{
+    count(conn, "items")
+}
+
+/// How many submissions there are.
+pub fn submissions<S: Alter>(conn: &mut Connection<S>) -> Result<u32, TableFault>
+    requires { (state S.Store conn.old).in_transaction ≡ false }
+    ensures rests { OnlyReads (state S.Store conn.old) (state S.Store conn.new) }
+    ensures found { Tells (state S.Store conn.old) (state S.Store conn.new) result (λ v n. n ≡ length v.submits) }
+{
+    count(conn, "submissions")
+}
+
+/// The number of the schema.
+pub fn schema_number<S: Alter>(conn: &mut Connection<S>) -> Result<u32, TableFault>
+    requires { (state S.Store conn.old).in_transaction ≡ false }
+    ensures rests { OnlyReads (state S.Store conn.old) (state S.Store conn.new) }
+    ensures found { Tells (state S.Store conn.old) (state S.Store conn.new) result (λ v n. n ≡ 1) }
+{
+    count(conn, "schema")
+}

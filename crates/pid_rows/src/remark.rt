@@ -1,0 +1,120 @@
+//! The table of remarks on submissions.
+ghost use Rattle.std.specs.Prelude.{◌≡◌, ◌⊎◌, ◌+◌, [], ◌∷◌, false, length, IfOk, option_map, slice_get};
+ghost use Rattle.sqlite.specs.Order.{column};
+ghost use Rattle.sqlite.specs.declared.types.Value.TheVariants.{Text as TextValue};
+ghost use Rattle.pid_rows.specs.Comments.{remark_of};
+ghost use Rattle.pid_rows.specs.Shows.{remark_in};
+ghost use Rattle.sqlite.specs.Held.{state};
+ghost use Rattle.pid_rows.specs.Leaves.{GoesOn, LeadsTo, OnlyReads, Tells};
+ghost use Rattle.pid_rows.specs.Answers.{value_row, remark_shown};
+ghost use Rattle.pid_rows.specs.Writes.{with_remark};
+
+use crate::fault::TableFault;
+use crate::run::{read_rows, write_one};
+use crate::value::{account_at, number_at, words_at};
+use pid_ident::{Account, Text};
+use sqlite::types::ToSql;
+use sqlite::{Alter, Connection, Row, Transaction};
+use std::alloc::Global;
+
+/// Adds a remark behind the last one on its submission.
+pub fn add_remark<S: Alter>(
+    tx: &mut Transaction<'_, S>,
+    number: u32,
+    place: u32,
+    author: &Account,
+    text: &Text,
+) -> Result<(), TableFault>
+    ensures same_reference { tx.new.conn.ghost_name ≡ tx.old.conn.ghost_name }
+    ensures goes { GoesOn (state S.Store tx.old.conn.now) (state S.Store tx.new.conn.now) result }
+    ensures shows { LeadsTo (state S.Store tx.old.conn.now) (state S.Store tx.new.conn.now) result (λ c v. place ≡ length (v.remarks number) + 1) (λ c. c)
+        (with_remark number (record { author = author.now; text = text.now })) }
+{
+    let number = number.to_sql();
+    let place = place.to_sql();
+    let author = author.as_str().to_sql();
+    let text = text.as_str().to_sql();
+    write_one(
+        tx,
+        "INSERT INTO remark (num, seq, author, body) VALUES (?1, ?2, ?3, ?4)",
+        &[number, place, author, text],
+    )
+}
+
+fn place_rows<S: Alter>(conn: &mut Connection<S>, number: u32) -> Result<Vec<Row>, TableFault>
+    requires { (state S.Store conn.old).in_transaction ≡ false }
+    ensures rests { OnlyReads (state S.Store conn.old) (state S.Store conn.new) }
+    ensures found { Tells (state S.Store conn.old) (state S.Store conn.new) result (λ v rows. ((rows.items ≡ []) × (length (v.remarks number) ≡ 0)) ⊎ (rows.items ≡ value_row (length (v.remarks number)) ∷ [])) }
+{
+    let number = number.to_sql();
+    read_rows(
+        conn,
+        "SELECT seq FROM remark WHERE num = ?1 ORDER BY seq DESC LIMIT 1",
+        &[number],
+    )
+}
+
+/// How many remarks there are on a submission: the place of the last one.
+pub fn remark_count<S: Alter>(conn: &mut Connection<S>, number: u32) -> Result<u32, TableFault>
+    requires { (state S.Store conn.old).in_transaction ≡ false }
+    ensures rests { OnlyReads (state S.Store conn.old) (state S.Store conn.new) }
+    ensures found { Tells (state S.Store conn.old) (state S.Store conn.new) result (λ v count. count ≡ length (v.remarks number)) }
+{
+    let rows = place_rows(conn, number)?;
+    match rows.first() {
+        Some(row) => number_at(row, 0),
+        None => Ok(0),
+    }
+}
+
+/// A remark on a submission.
+#[derive(Debug, Drop)]
+pub struct Comment {
+    pub author: Account,
+    pub text: Text,
+}
+
+fn comment_rows<S: Alter>(
+    conn: &mut Connection<S>,
+    number: u32,
+    place: u32,
+) -> Result<Vec<Row>, TableFault>
+    requires { (state S.Store conn.old).in_transaction ≡ false }
+    ensures rests { OnlyReads (state S.Store conn.old) (state S.Store conn.new) }
+    ensures found { Tells (state S.Store conn.old) (state S.Store conn.new) result (λ v rows. slice_get rows.items 0 ≡ option_map remark_shown (remark_in v (number, place))) }
+{
+    let number = number.to_sql();
+    let seq = place.to_sql();
+    read_rows(
+        conn,
+        "SELECT author, body FROM remark WHERE num = ?1 AND seq = ?2",
+        &[number, seq],
+    )
+}
+
+fn comment_of(row: &Row, alloc: Global) -> Result<Comment, TableFault>
+    ensures author { IfOk result (λ comment. column row.now 0 ≡ TextValue comment.author) }
+    ensures text { IfOk result (λ comment. column row.now 1 ≡ TextValue comment.text) }
+{
+    let author = account_at(row, alloc, 0)?;
+    let text = words_at(row, alloc, 1)?;
+    Ok(Comment { author, text })
+}
+
+/// The remark at a place, counted from 1, on a submission.
+pub fn comment_at<S: Alter>(
+    conn: &mut Connection<S>,
+    alloc: Global,
+    number: u32,
+    place: u32,
+) -> Result<Option<Comment>, TableFault>
+    requires { (state S.Store conn.old).in_transaction ≡ false }
+    ensures rests { OnlyReads (state S.Store conn.old) (state S.Store conn.new) }
+    ensures found { Tells (state S.Store conn.old) (state S.Store conn.new) result (λ v comment. option_map remark_of comment ≡ remark_in v (number, place)) }
+{
+    let rows = comment_rows(conn, number, place)?;
+    match rows.first() {
+        Some(row) => Ok(Some(comment_of(row, alloc)?)),
+        None => Ok(None),
+    }
+}

@@ -1,0 +1,259 @@
+//! The table of submissions, each as it stands.
+ghost use Rattle.std.specs.Prelude.{◌≡◌, ◌+◌, ℕ, Option, false, length, [], IfOk, IsSome, option_map, slice_get};
+ghost use Rattle.sqlite.specs.Held.{state as shown};
+ghost use Rattle.pid_ident.specs.PathTexts.{path_text};
+ghost use Rattle.pid_moderation.specs.Views.{submission_at};
+ghost use Rattle.pid_moderation.specs.declared.facts.State.TheVariants as states;
+ghost use Rattle.pid_rows.specs.TableRows.{form_of, name_of, state_number, decider_of, reason_of};
+ghost use Rattle.pid_rows.specs.Leaves.{GoesOn, LeadsTo, OnlyReads, Tells};
+ghost use Rattle.pid_rows.specs.Answers.{standing_row, value_row};
+ghost use Rattle.pid_rows.specs.Shows.{AreViews, standing_in};
+ghost use Rattle.pid_rows.specs.PendingOnes.{IsFirstPending};
+ghost use Rattle.pid_rows.specs.Standings.{standing_of, ReadsTo};
+ghost use Rattle.pid_rows.specs.Writes.{with_submission, with_state, NamesDecider};
+
+use crate::fault::TableFault;
+use crate::run::{read_rows, write_one};
+use crate::value::{account_at, number_at, path_at, proposal_at, state_at, words_at};
+use pid_ident::{Account, Path, Text};
+use pid_moderation::{Proposal, State};
+use sqlite::types::ToSql;
+use sqlite::{Alter, Connection, Row, Transaction};
+use std::alloc::Global;
+
+/// A submission as it stands.
+#[derive(Debug, Drop)]
+pub struct Submission {
+    pub author: Account,
+    pub path: Path,
+    pub proposal: Proposal,
+    pub note: Text,
+    pub state: State,
+}
+
+fn form(proposal: &Proposal) -> u32
+    ensures { result ≡ form_of proposal.now }
+{
+    match proposal {
+        Proposal::Name(_) => 0,
+        Proposal::Removal => 1,
+    }
+}
+
+fn proposed_name(proposal: &Proposal) -> &str
+    ensures { result.now ≡ name_of proposal.now }
+{
+    match proposal {
+        Proposal::Name(name) => name.as_str(),
+        Proposal::Removal => "",
+    }
+}
+
+fn insert_submission<'x, S: Alter>(
+    tx: &mut Transaction<'_, S>,
+    number: u32,
+    author: &'x Account,
+    path: Path,
+    text: &'x str,
+    proposal: &'x Proposal,
+    note: &'x Text,
+) -> Result<(), TableFault>
+    requires { text.now ≡ path_text path }
+    ensures same_reference { tx.new.conn.ghost_name ≡ tx.old.conn.ghost_name }
+    ensures goes { GoesOn (shown S.Store tx.old.conn.now) (shown S.Store tx.new.conn.now) result }
+    ensures shows { LeadsTo (shown S.Store tx.old.conn.now) (shown S.Store tx.new.conn.now) result (λ c v. number ≡ length v.submits + 1) (λ c. c)
+        (with_submission (record { author = author.now; path = path; proposal = proposal.now; note = note.now })) }
+{
+    let number = number.to_sql();
+    let author = author.as_str().to_sql();
+    let text = text.to_sql();
+    let form = form(proposal).to_sql();
+    let name = proposed_name(proposal).to_sql();
+    let note = note.as_str().to_sql();
+    write_one(
+        tx,
+        "INSERT INTO submission (num, author, path, form, name, note, state, decider, reason) VALUES (?1, ?2, ?3, ?4, ?5, ?6, 0, '', '')",
+        &[number, author, text, form, name, note],
+    )
+}
+
+/// Adds a pending submission behind the last one.
+pub fn add_submission<S: Alter>(
+    tx: &mut Transaction<'_, S>,
+    alloc: Global,
+    number: u32,
+    author: &Account,
+    path: Path,
+    proposal: &Proposal,
+    note: &Text,
+) -> Result<(), TableFault>
+    ensures same_reference { tx.new.conn.ghost_name ≡ tx.old.conn.ghost_name }
+    ensures goes { GoesOn (shown S.Store tx.old.conn.now) (shown S.Store tx.new.conn.now) result }
+    ensures shows { LeadsTo (shown S.Store tx.old.conn.now) (shown S.Store tx.new.conn.now) result (λ c v. number ≡ length v.submits + 1) (λ c. c)
+        (with_submission (record { author = author.now; path = path; proposal = proposal.now; note = note.now })) }
+{
+    let text = path.path_text(alloc)?;
+    insert_submission(tx, number, author, path, text.as_str(), proposal, note)
+}
+
+fn number_of(state: &State) -> u32
+    ensures { result ≡ state_number state.now }
+{
+    match state {
+        State::Pending => 0,
+        State::Approved { .. } => 1,
+        State::Rejected { .. } => 2,
+        State::Withdrawn => 3,
+    }
+}
+
+fn decider(state: &State) -> &str
+    ensures { result.now ≡ decider_of [] state.now }
+{
+    match state {
+        State::Approved { decider } => decider.as_str(),
+        State::Rejected { decider, .. } => decider.as_str(),
+        State::Pending | State::Withdrawn => "",
+    }
+}
+
+fn reason(state: &State) -> &str
+    ensures { result.now ≡ reason_of state.now }
+{
+    match state {
+        State::Rejected { reason, .. } => reason.as_str(),
+        State::Pending | State::Approved { .. } | State::Withdrawn => "",
+    }
+}
+
+/// Gives a submission a state that names who decided.
+fn set_state<S: Alter>(
+    tx: &mut Transaction<'_, S>,
+    number: u32,
+    state: &State,
+) -> Result<(), TableFault>
+    ensures same_reference { tx.new.conn.ghost_name ≡ tx.old.conn.ghost_name }
+    ensures goes { GoesOn (shown S.Store tx.old.conn.now) (shown S.Store tx.new.conn.now) result }
+    ensures shows { LeadsTo (shown S.Store tx.old.conn.now) (shown S.Store tx.new.conn.now) result (λ c v. NamesDecider state.now × IsSome (submission_at number v.submits)) (λ c. c)
+        (with_state number state.now) }
+{
+    let number = number.to_sql();
+    let told = number_of(state).to_sql();
+    let decider = decider(state).to_sql();
+    let reason = reason(state).to_sql();
+    write_one(
+        tx,
+        "UPDATE submission SET state = ?2, decider = ?3, reason = ?4 WHERE num = ?1",
+        &[number, told, decider, reason],
+    )
+}
+
+/// Withdraws a submission in the name of its author.
+fn withdraw<S: Alter>(tx: &mut Transaction<'_, S>, number: u32) -> Result<(), TableFault>
+    ensures same_reference { tx.new.conn.ghost_name ≡ tx.old.conn.ghost_name }
+    ensures goes { GoesOn (shown S.Store tx.old.conn.now) (shown S.Store tx.new.conn.now) result }
+    ensures shows { LeadsTo (shown S.Store tx.old.conn.now) (shown S.Store tx.new.conn.now) result (λ c v. IsSome (submission_at number v.submits)) (λ c. c)
+        (with_state number states.Withdrawn) }
+{
+    let number = number.to_sql();
+    write_one(
+        tx,
+        "UPDATE submission SET state = 3, decider = author, reason = '' WHERE num = ?1",
+        &[number],
+    )
+}
+
+/// Gives a submission a state.
+pub fn decide<S: Alter>(
+    tx: &mut Transaction<'_, S>,
+    number: u32,
+    state: &State,
+) -> Result<(), TableFault>
+    ensures same_reference { tx.new.conn.ghost_name ≡ tx.old.conn.ghost_name }
+    ensures goes { GoesOn (shown S.Store tx.old.conn.now) (shown S.Store tx.new.conn.now) result }
+    ensures shows { LeadsTo (shown S.Store tx.old.conn.now) (shown S.Store tx.new.conn.now) result (λ c v. IsSome (submission_at number v.submits)) (λ c. c)
+        (with_state number state.now) }
+{
+    match state {
+        State::Withdrawn => withdraw(tx, number),
+        State::Pending => set_state(tx, number, state),
+        State::Approved { .. } => set_state(tx, number, state),
+        State::Rejected { .. } => set_state(tx, number, state),
+    }
+}
+
+fn submission_of(row: &Row, alloc: Global) -> Result<Submission, TableFault>
+    ensures { IfOk result (ReadsTo row.now) }
+{
+    let author = account_at(row, alloc, 0)?;
+    let path = path_at(row, 1)?;
+    let proposal = proposal_at(row, alloc, 2, 3)?;
+    let note = words_at(row, alloc, 4)?;
+    let state = state_at(row, alloc, &author)?;
+    Ok(Submission {
+        author,
+        path,
+        proposal,
+        note,
+        state,
+    })
+}
+
+fn submission_rows<S: Alter>(conn: &mut Connection<S>, number: u32) -> Result<Vec<Row>, TableFault>
+    requires { (shown S.Store conn.old).in_transaction ≡ false }
+    ensures rests { OnlyReads (shown S.Store conn.old) (shown S.Store conn.new) }
+    ensures found { Tells (shown S.Store conn.old) (shown S.Store conn.new) result (λ v rows. (slice_get rows.items 0 ≡ option_map standing_row (standing_in v number)) × AreViews v) }
+{
+    let number = number.to_sql();
+    read_rows(
+        conn,
+        "SELECT author, path, form, name, note, state, decider, reason FROM submission WHERE num = ?1",
+        &[number],
+    )
+}
+
+/// The submission with the number, as it stands.
+pub fn standing<S: Alter>(
+    conn: &mut Connection<S>,
+    alloc: Global,
+    number: u32,
+) -> Result<Option<Submission>, TableFault>
+    requires { (shown S.Store conn.old).in_transaction ≡ false }
+    ensures rests { OnlyReads (shown S.Store conn.old) (shown S.Store conn.new) }
+    ensures found { Tells (shown S.Store conn.old) (shown S.Store conn.new) result (λ v s. option_map standing_of s ≡ standing_in v number) }
+{
+    let rows = submission_rows(conn, number)?;
+    match rows.first() {
+        Some(row) => Ok(Some(submission_of(row, alloc)?)),
+        None => Ok(None),
+    }
+}
+
+fn pending_rows<S: Alter>(conn: &mut Connection<S>, after: u32) -> Result<Vec<Row>, TableFault>
+    requires { (shown S.Store conn.old).in_transaction ≡ false }
+    ensures rests { OnlyReads (shown S.Store conn.old) (shown S.Store conn.new) }
+    ensures found { Tells (shown S.Store conn.old) (shown S.Store conn.new) result (λ v rows. (o : Option ℕ) × (slice_get rows.items 0 ≡ option_map value_row o) × IsFirstPending v after o) }
+{
+    let after = after.to_sql();
+    read_rows(
+        conn,
+        "SELECT num FROM submission WHERE state = 0 AND num > ?1 ORDER BY num LIMIT 1",
+        &[after],
+    )
+}
+
+/// The number of the first pending submission above a number.
+pub fn pending_above<S: Alter>(
+    conn: &mut Connection<S>,
+    after: u32,
+) -> Result<Option<u32>, TableFault>
+    requires { (shown S.Store conn.old).in_transaction ≡ false }
+    ensures rests { OnlyReads (shown S.Store conn.old) (shown S.Store conn.new) }
+    ensures found { Tells (shown S.Store conn.old) (shown S.Store conn.new) result (λ v number. IsFirstPending v after number) }
+{
+    let rows = pending_rows(conn, after)?;
+    match rows.first() {
+        Some(row) => Ok(Some(number_at(row, 0)?)),
+        None => Ok(None),
+    }
+}

@@ -1,0 +1,197 @@
+//! The values of a row as what they stand for. What breaks its rule is damage.
+ghost use Rattle.std.specs.Prelude.{◌≡◌, ℕ, List, [], OnOk, IfOk, string_bytes};
+ghost use Rattle.std.specs.Str.{bytes_eq};
+ghost use Rattle.sqlite.specs.declared.types.Value.TheVariants.{Text as TextValue};
+ghost use Rattle.sqlite.specs.Order.{column};
+ghost use Rattle.pid_ident.specs.PathTexts.{IsTextOf, IsPath, path_text};
+ghost use Rattle.pid_moderation.specs.Ranks.{rank_number};
+ghost use Rattle.pid_rows.specs.TableRows.{number, form_of, name_of, state_number, decider_of, reason_of, kind_of, first_of, second_of, third_of};
+
+use crate::fault::TableFault;
+use pid_ident::{Account, Name, Path, Text};
+use pid_moderation::{Proposal, Rank, Reply, State};
+use sqlite::Row;
+use sqlite::types::ValueRef;
+use std::alloc::Global;
+
+pub fn number_at(row: &Row, at: usize) -> Result<u32, TableFault>
+    ensures { IfOk result (λ n. column row.now at ≡ number n) }
+{
+    Ok(row.get(at)?)
+}
+
+fn text_at(row: &Row, at: usize) -> Result<String, TableFault>
+    ensures { IfOk result (λ text. column row.now at ≡ TextValue (string_bytes text)) }
+{
+    Ok(row.get(at)?)
+}
+
+/// Whether the value, which is a text, is this one.
+pub fn is_text_at(row: &Row, at: usize, text: &str) -> Result<bool, TableFault>
+    ensures { IfOk result (λ is_it. (stored : List ℕ) × (column row.now at ≡ TextValue stored) × (is_it ≡ bytes_eq stored text.now)) }
+{
+    match row.get_ref(at)? {
+        ValueRef::Text(bytes) => Ok(bytes == text.as_bytes()),
+        _ => Err(TableFault::Damaged),
+    }
+}
+
+pub fn name_at(row: &Row, alloc: Global, at: usize) -> Result<Name, TableFault>
+    ensures { IfOk result (λ name. column row.now at ≡ TextValue name) }
+{
+    let text = text_at(row, at)?;
+    Ok(Name::of(alloc, text.as_str())?)
+}
+
+pub fn account_at(row: &Row, alloc: Global, at: usize) -> Result<Account, TableFault>
+    ensures { IfOk result (λ account. column row.now at ≡ TextValue account) }
+{
+    let text = text_at(row, at)?;
+    Ok(Account::of(alloc, text.as_str())?)
+}
+
+pub fn words_at(row: &Row, alloc: Global, at: usize) -> Result<Text, TableFault>
+    ensures { IfOk result (λ words. column row.now at ≡ TextValue words) }
+{
+    let text = text_at(row, at)?;
+    Ok(Text::of(alloc, text.as_str())?)
+}
+
+fn parsed(text: &str) -> Result<Path, TableFault>
+    ensures { IfOk result (IsTextOf text.now) }
+{
+    match Path::parse(text) {
+        Some(path) => Ok(path),
+        None => Err(TableFault::Damaged),
+    }
+}
+
+pub fn path_at(row: &Row, at: usize) -> Result<Path, TableFault>
+    ensures { IfOk result (λ path. IsPath path × (column row.now at ≡ TextValue (path_text path))) }
+{
+    let text = text_at(row, at)?;
+    parsed(text.as_str())
+}
+
+fn rank_of(number: u32) -> Result<Rank, TableFault>
+    ensures { IfOk result (λ rank. rank_number rank ≡ number) }
+{
+    match number {
+        0 => Ok(Rank::Contributor),
+        1 => Ok(Rank::Moderator),
+        2 => Ok(Rank::Senior),
+        3 => Ok(Rank::Administrator),
+        _ => Err(TableFault::Damaged),
+    }
+}
+
+pub fn rank_at(row: &Row, at: usize) -> Result<Rank, TableFault>
+    ensures { IfOk result (λ rank. column row.now at ≡ number (rank_number rank)) }
+{
+    let number = number_at(row, at)?;
+    rank_of(number)
+}
+
+// The value is the empty text.
+fn check_empty(row: &Row, at: usize) -> Result<(), TableFault>
+    ensures { OnOk result (column row.now at ≡ TextValue []) }
+{
+    let text = text_at(row, at)?;
+    match text.as_str().as_bytes() {
+        [] => Ok(()),
+        _ => Err(TableFault::Damaged),
+    }
+}
+
+/// A proposal by its form and its name.
+pub fn proposal_at(
+    row: &Row,
+    alloc: Global,
+    form: usize,
+    name: usize,
+) -> Result<Proposal, TableFault>
+    ensures form { IfOk result (λ proposal. column row.now form ≡ number (form_of proposal)) }
+    ensures name { IfOk result (λ proposal. column row.now name ≡ TextValue (name_of proposal)) }
+{
+    match number_at(row, form)? {
+        0 => Ok(Proposal::Name(name_at(row, alloc, name)?)),
+        1 => {
+            check_empty(row, name)?;
+            Ok(Proposal::Removal)
+        }
+        _ => Err(TableFault::Damaged),
+    }
+}
+
+// The value is the name of the account.
+fn check_account(row: &Row, at: usize, account: &Account) -> Result<(), TableFault>
+    ensures { OnOk result (column row.now at ≡ TextValue account.now) }
+{
+    let text = text_at(row, at)?;
+    if text.as_str().as_bytes() == account.as_str().as_bytes() {
+        Ok(())
+    } else {
+        Err(TableFault::Damaged)
+    }
+}
+
+/// A state by its number in the first column, its decider in the next and its reason in the one after.
+pub fn state_at(row: &Row, alloc: Global, author: &Account) -> Result<State, TableFault>
+    ensures number { IfOk result (λ state. column row.now 5 ≡ number (state_number state)) }
+    ensures decider { IfOk result (λ state. column row.now 6 ≡ TextValue (decider_of author.now state)) }
+    ensures reason { IfOk result (λ state. column row.now 7 ≡ TextValue (reason_of state)) }
+{
+    match number_at(row, 5)? {
+        0 => {
+            check_empty(row, 6)?;
+            check_empty(row, 7)?;
+            Ok(State::Pending)
+        }
+        1 => {
+            check_empty(row, 7)?;
+            Ok(State::Approved {
+                decider: account_at(row, alloc, 6)?,
+            })
+        }
+        2 => {
+            let decider = account_at(row, alloc, 6)?;
+            let reason = words_at(row, alloc, 7)?;
+            Ok(State::Rejected { decider, reason })
+        }
+        3 => {
+            check_account(row, 6, author)?;
+            check_empty(row, 7)?;
+            Ok(State::Withdrawn)
+        }
+        _ => Err(TableFault::Damaged),
+    }
+}
+
+fn reply_of(kind: u32, a: u32, b: u32, c: u32) -> Result<Reply, TableFault>
+    ensures { IfOk result (λ reply. (kind ≡ kind_of reply) × (a ≡ first_of reply) × (b ≡ second_of reply) × (c ≡ third_of reply)) }
+{
+    match (kind, a, b, c) {
+        (0, 0, 0, 0) => Ok(Reply::Done),
+        (1, number, 0, 0) => Ok(Reply::Numbered(number)),
+        (2, added, renamed, same) => Ok(Reply::Counts {
+            added,
+            renamed,
+            same,
+        }),
+        _ => Err(TableFault::Damaged),
+    }
+}
+
+/// A reply by its kind and its three numbers.
+pub fn reply_at(row: &Row) -> Result<Reply, TableFault>
+    ensures kind { IfOk result (λ reply. column row.now 0 ≡ number (kind_of reply)) }
+    ensures first { IfOk result (λ reply. column row.now 1 ≡ number (first_of reply)) }
+    ensures second { IfOk result (λ reply. column row.now 2 ≡ number (second_of reply)) }
+    ensures third { IfOk result (λ reply. column row.now 3 ≡ number (third_of reply)) }
+{
+    let kind = number_at(row, 0)?;
+    let a = number_at(row, 1)?;
+    let b = number_at(row, 2)?;
+    let c = number_at(row, 3)?;
+    reply_of(kind, a, b, c)
+}

@@ -1,9 +1,0 @@
-use Rattle.sqlite.specs.Held.{state}
-use Rattle.pid_tables.proofs.KeyTexts.{select_meta_is}
-use Rattle.pid_tables.proofs.StatementTexts.{select_meta}
-use Rattle.pid_tables.proofs.ReadLemmas.{shows_still}
-use Rattle.pid_tables.proofs.meta.touch.Goals as goal
-
-pub returns-clause-shows : goal.returns-clause-shows
-returns-clause-shows g c clean inside counts v shows _ =
-    shows_still select_meta _ (state g.S.Store c.args.tx.now.conn.now) (state g.S.Store c.read_inside.new.tx.conn.now) c.in_ok-read_inside.field-0.items counts v select_meta_is.plain shows (c.in_ok-read_inside.ensures.shown clean)

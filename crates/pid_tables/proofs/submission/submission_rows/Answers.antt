@@ -1,9 +1,0 @@
-use Rattle.pid_tables.specs.Shows.{counts_of}
-use Rattle.pid_tables.proofs.StatementTexts.{select_submission}
-use Rattle.pid_tables.proofs.FindLemmas.{at_rest, standing_found}
-use Rattle.pid_tables.proofs.submission.submission_rows.Goals as goal
-
-pub returns-clause-found : goal.returns-clause-found
-returns-clause-found g c clean v rest =
-    at_rest g.S.Store c.args.conn.now v select_submission _ c.read_rows.result (λ rows. rows.items) _ rest (λ new rows shows h. (standing_found _ new (counts_of v) v shows rows.items c.args.number h, shows.views))
-    (rw (c.to_sql-number.ensures) at (c.read_rows.ensures.shown clean))
