@@ -21,3 +21,5 @@ pub mod RangeLemmas
 pub mod ChildLemmas
 pub mod NextLemmas
 pub mod PendingLemmas
+pub mod Lengths
+pub mod OneRowEach

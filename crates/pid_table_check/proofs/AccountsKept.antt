@@ -13,7 +13,7 @@ use Rattle.pid_moderation.specs.Views.{rank_of, views_of}
 use Rattle.pid_rows.specs.Shows.{Shows}
 use Rattle.pid_rows.specs.TableRows.{account_row}
 use Rattle.pid_table_check.specs.Conditions.{columns, rows_in, HasAccount, IsAccountRow, AreAccounts}
-use Rattle.pid_table_check.proofs.Lengths.{some_there, mapped, unmapped}
+use Rattle.pid_rows.proofs.Lengths.{some_there, mapped, unmapped}
 
 highest : (o : Option Rank) → has_rank Administrator o ≡ true → o ≡ Some Administrator
 highest None h = absurd cc

@@ -22,8 +22,8 @@ use Rattle.pid_rows.proofs.SetLemmas.{tied}
 use Rattle.pid_rows.specs.Shows.{Shows, counts_of, meta_of}
 use Rattle.pid_rows.specs.TableRows.{Standing, meta_row, item_row, submission_row, number}
 use Rattle.pid_table_check.specs.Conditions.{columns, rows_in, labels, label_row, AreCounts}
-use Rattle.pid_table_check.proofs.Lengths.{IsDistinct, some_there, same_length, mapped, unmapped}
-use Rattle.pid_table_check.proofs.OneRowEach.{rowids_apart, item_keys_apart}
+use Rattle.pid_rows.proofs.Lengths.{IsDistinct, some_there, same_length, mapped, unmapped}
+use Rattle.pid_rows.proofs.OneRowEach.{rowids_apart, item_keys_apart}
 use Rattle.pid_table_check.proofs.SubmissionsKept.{submitted_at, there_at, stands_as}
 
 -- ---- items

@@ -19,7 +19,7 @@ use Rattle.pid_moderation.proofs.WriteLemmas.{items_sorted}
 use Rattle.pid_rows.specs.Shows.{Shows}
 use Rattle.pid_rows.specs.TableRows.{item_row}
 use Rattle.pid_table_check.specs.Conditions.{columns, rows_in, HasItem, IsItemRow, AreItems}
-use Rattle.pid_table_check.proofs.Lengths.{some_there, mapped, unmapped}
+use Rattle.pid_rows.proofs.Lengths.{some_there, mapped, unmapped}
 
 module _ (h : History) (sound : IsSound h) (db : Database) (shows : Shows db (views_of h)) where
   got : (k : List ℕ) → get (tree_of h) k ≡ name_at k (items_of h)

@@ -1,10 +1,8 @@
-pub mod Lengths
 pub mod AccountsKept
 pub mod ItemsKept
 pub mod SubmissionsKept
 pub mod RemarksKept
 pub mod ReceiptsKept
-pub mod OneRowEach
 pub mod CountsKept
 pub mod Kept
 pub mod WholeTexts

@@ -17,7 +17,7 @@ use Rattle.pid_table_check.specs.Conditions.{Rows, HasValue, IsSubmissionRow, Ar
 use Rattle.pid_table_check.specs.NameSets.{IsSubmissionAmong, AreReady}
 use Rattle.pid_table_check.proofs.CountsKept.{countdown, down_length, down_there}
 use Rattle.pid_table_check.proofs.Each.{each_member, each_place}
-use Rattle.pid_table_check.proofs.Lengths.{IsDistinct, taken, shorter, mapped, unmapped}
+use Rattle.pid_rows.proofs.Lengths.{IsDistinct, taken, shorter, mapped, unmapped}
 use Rattle.pid_table_check.proofs.SubmissionFacts.{row_of, row_among}
 
 abbrev AreNumbered : List Row → ℕ → Type 0

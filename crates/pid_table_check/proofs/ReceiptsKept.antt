@@ -12,7 +12,7 @@ use Rattle.pid_moderation.specs.Sound.{IsSound, IsBy, IsOwnReply}
 use Rattle.pid_moderation.specs.Views.{Submitted, submits_of, submission_at, state_of, views_of}
 use Rattle.pid_rows.specs.Shows.{Shows}
 use Rattle.pid_rows.specs.TableRows.{Standing, submission_row}
-use Rattle.pid_table_check.proofs.Lengths.{mapped, unmapped}
+use Rattle.pid_rows.proofs.Lengths.{mapped, unmapped}
 use Rattle.pid_table_check.specs.Conditions.{columns, rows_in, IsOwn, IsReceiptRow, AreReceipts}
 
 by : (account : List ℕ) (o : Option Submitted) → IsBy account o → (s : Submitted) × (o ≡ Some s) × (s.author ≡ account)

@@ -11,7 +11,7 @@ use Rattle.pid_moderation.specs.Sound.{IsSound, IsGoodRemark, AreGoodRemarks, Is
 use Rattle.pid_moderation.specs.Views.{Submitted, Remark, submits_of, submission_at, remarks_of, views_of}
 use Rattle.pid_rows.specs.Shows.{Shows, counted_from_one}
 use Rattle.pid_rows.specs.TableRows.{remark_row}
-use Rattle.pid_table_check.proofs.Lengths.{mapped, unmapped}
+use Rattle.pid_rows.proofs.Lengths.{mapped, unmapped}
 use Rattle.pid_table_check.specs.Conditions.{columns, rows_in, IsRemarkRow, AreRemarks}
 
 good_at : (h : History) (rs : List Remark) (i : ℕ) (r : Remark) → AreGoodRemarks h rs → slice_get rs i ≡ Some r → IsGoodRemark h r

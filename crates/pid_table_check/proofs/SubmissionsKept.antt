@@ -16,7 +16,7 @@ use Rattle.pid_moderation.specs.Views.{Submitted, submits_of, submission_at, sta
 use Rattle.pid_rows.specs.Shows.{Shows}
 use Rattle.pid_rows.specs.TableRows.{Standing, submission_row, number}
 use Rattle.pid_table_check.specs.Conditions.{columns, rows_in, HasValue, IsDecided, IsSubmissionRow, AreSubmissions}
-use Rattle.pid_table_check.proofs.Lengths.{mapped, unmapped}
+use Rattle.pid_rows.proofs.Lengths.{mapped, unmapped}
 use Rattle.pid_table_check.proofs.AccountsKept.{account_known}
 
 pub good_at : (h : History) (ss : List Submitted) (i : ℕ) (s : Submitted) → AreGoodSubmissions h ss → slice_get ss i ≡ Some s → IsGoodSubmission h s

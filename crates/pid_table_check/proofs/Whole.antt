@@ -16,8 +16,8 @@ use Rattle.pid_table_check.specs.Checking.{AreSingle, Explains}
 use Rattle.pid_table_check.specs.Reading.{Refutes, Judges, Answers}
 use Rattle.pid_table_check.proofs.ItemFacts.{texts_same}
 use Rattle.pid_table_check.proofs.RemarkFacts.{numbers_same}
-use Rattle.pid_table_check.proofs.Lengths.{IsDistinct}
-use Rattle.pid_table_check.proofs.OneRowEach.{rowids_apart}
+use Rattle.pid_rows.proofs.Lengths.{IsDistinct}
+use Rattle.pid_rows.proofs.OneRowEach.{rowids_apart}
 use Rattle.pid_table_check.proofs.Judging.{part_refutes, Ready, Both}
 
 pub counts_moved : (items submissions : ℕ) (xs ys : List Row) → IsPermutation xs ys → AreCounts items submissions xs → AreCounts items submissions ys

@@ -19,7 +19,7 @@ use Rattle.sqlite_schema.specs.Rules.{agree, clashes, differ, equal, passes, Obe
 use Rattle.sqlite_schema.specs.declared.schema.Constraint.TheVariants.{Unique}
 use Rattle.pid_rows.specs.Schema.{pid_schema, item}
 use Rattle.pid_rows.proofs.Select.{text_equal}
-use Rattle.pid_table_check.proofs.Lengths.{IsDistinct}
+use Rattle.pid_rows.proofs.Lengths.{IsDistinct}
 
 all_apart : {X K : Type 0} (R : X → X → Type 0) (f : X → K) (x : X) (ys : List X) → AllByRecursion (R x) ys → ((y : X) → Has ys y → R x y → f x ≢ f y) → AllByRecursion (λ k. f x ≢ k) (map f ys)
 all_apart R f x [] all apart = tt
