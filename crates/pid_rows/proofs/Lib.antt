@@ -23,3 +23,4 @@ pub mod NextLemmas
 pub mod PendingLemmas
 pub mod Lengths
 pub mod OneRowEach
+pub mod FaultLemmas

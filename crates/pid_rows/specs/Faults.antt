@@ -6,7 +6,7 @@ use Rattle.sqlite_resolve.specs.declared.error.CompileError.TheVariants as compi
 use Rattle.pid_ident.specs.declared.word_fault.WordFault.{WordFault}
 use Rattle.pid_ident.specs.declared.word_fault.WordFault.TheVariants as words
 use Rattle.pid_rows.specs.declared.fault.TableFault.{TableFault}
-use Rattle.pid_rows.specs.declared.fault.TableFault.TheVariants.{Memory, Store, Damaged}
+use Rattle.pid_rows.specs.declared.fault.TableFault.TheVariants.{Memory, Store, NewerSchema, Damaged}
 
 -- Memory was short; or the tables or their values are not those of the schema; else the store failed or refused.
 abbrev pub fault_of : Error → TableFault
@@ -23,3 +23,10 @@ fault_of e = Store
 abbrev pub fault_of_word : WordFault → TableFault
 fault_of_word words.Bad = Damaged
 fault_of_word words.Memory = Memory
+
+-- nothing is told of the rows: memory was short, or the store failed or refused
+abbrev pub IsUntold : TableFault → Type 0
+IsUntold Memory = Unit {0}
+IsUntold Store = Unit {0}
+IsUntold (NewerSchema n) = ⊥
+IsUntold Damaged = ⊥

@@ -15,7 +15,8 @@ use Rattle.pid_table_check.specs.Conditions.{Rows, rows_in, AreAccounts, AreSubm
 use Rattle.pid_table_check.specs.NameSets.{AreNamesOf, AreReady}
 use Rattle.pid_table_check.specs.Checking.{AreSingle}
 use Rattle.pid_table_check.specs.AuthorSets.{AreAuthorsOf}
-use Rattle.pid_table_check.specs.Reading.{IsUntold, Refutes, Judges}
+use Rattle.pid_rows.specs.Faults.{IsUntold}
+use Rattle.pid_table_check.specs.Reading.{Refutes, Judges}
 use Rattle.pid_table_check.proofs.Moved.{value_moved}
 
 pub if_ok : {X E : Type 0} {P Q : X → Type 0} (r : Result X E) → ((x : X) → P x → Q x) → IfOk r P → IfOk r Q

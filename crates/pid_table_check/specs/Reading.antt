@@ -6,15 +6,9 @@ use Rattle.sqlite.specs.Order.{Row}
 use Rattle.sqlite.specs.State.{State, HasCleanDisk}
 use Rattle.pid_rows.specs.declared.fault.TableFault.{TableFault}
 use Rattle.pid_rows.specs.declared.fault.TableFault.TheVariants.{Memory, Store, NewerSchema, Damaged}
+use Rattle.pid_rows.specs.Faults.{IsUntold}
 use Rattle.pid_rows.specs.Schema.{pid_schema}
 use Rattle.pid_table_check.specs.Conditions.{Rows, rows_in}
-
--- nothing is told of the rows: memory was short, or the store failed or refused
-abbrev pub IsUntold : TableFault → Type 0
-IsUntold Memory = Unit {0}
-IsUntold Store = Unit {0}
-IsUntold (NewerSchema n) = ⊥
-IsUntold Damaged = ⊥
 
 -- the rows are not those of a registry, or nothing is told of them
 abbrev pub Refutes : Type 0 → TableFault → Type 0

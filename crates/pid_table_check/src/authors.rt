@@ -4,7 +4,7 @@ ghost use Rattle.sqlite.specs.declared.types.Value.TheVariants.{Text as TextValu
 ghost use Rattle.sqlite.specs.Order.{column, Row as Values};
 ghost use Rattle.pid_rows.specs.TableRows.{number};
 ghost use Rattle.pid_table_check.specs.AuthorSets.{AreAuthorsOf, IsBy};
-ghost use Rattle.pid_table_check.specs.Reading.{IsUntold};
+ghost use Rattle.pid_rows.specs.Faults.{IsUntold};
 
 use crate::value::{number_at, text_at};
 use pid_rows::TableFault;

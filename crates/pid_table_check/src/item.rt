@@ -9,7 +9,8 @@ ghost use Rattle.pid_ident.specs.PathTexts.{IsPath, path_text, path_cmp, parent_
 ghost use Rattle.pid_rows.specs.Leaves.{GoesOn};
 ghost use Rattle.pid_table_check.specs.Conditions.{AreItems};
 ghost use Rattle.pid_table_check.specs.PathSets.{ArePathsOf, IsItemAmong};
-ghost use Rattle.pid_table_check.specs.Reading.{Checks, IsUntold};
+ghost use Rattle.pid_rows.specs.Faults.{IsUntold};
+ghost use Rattle.pid_table_check.specs.Reading.{Checks};
 
 use crate::read::item_rows;
 use crate::words::{has_name, path_at};

@@ -5,7 +5,7 @@ ghost use Rattle.sqlite.specs.declared.types.Value.TheVariants.{Text as TextValu
 ghost use Rattle.std.specs.BTreeSet.{contains_text};
 ghost use Rattle.sqlite.specs.Order.{column, Row as Values};
 ghost use Rattle.pid_table_check.specs.NameSets.{AreNamesOf};
-ghost use Rattle.pid_table_check.specs.Reading.{IsUntold};
+ghost use Rattle.pid_rows.specs.Faults.{IsUntold};
 
 use crate::value::text_at;
 use pid_rows::TableFault;

@@ -6,9 +6,11 @@ ghost use Rattle.sqlite.specs.State.{HasCleanDisk, Shown};
 ghost use Rattle.sqlite.specs.Held.{state};
 ghost use Rattle.pid_rows.specs.Leaves.{GoesOn};
 ghost use Rattle.pid_rows.specs.Schema.{pid_schema};
-ghost use Rattle.pid_table_check.specs.Reading.{IsUntold, Answers};
+ghost use Rattle.pid_rows.specs.Faults.{IsUntold};
+ghost use Rattle.pid_table_check.specs.Reading.{Answers};
 
 use pid_rows::TableFault;
+use pid_rows::run::read_inside;
 use sqlite::{Alter, Row, Transaction};
 
 // The rows of one query without parameters.
@@ -18,7 +20,7 @@ fn all_rows<S: Alter>(tx: &mut Transaction<'_, S>, sql: &str) -> Result<Vec<Row>
     ensures shown { HasCleanDisk (state S.Store tx.new.conn.now) → IfOk result (λ rows. Shown sql.now [] (state S.Store tx.old.conn.now) (state S.Store tx.new.conn.now) rows.items) }
     ensures untold { HasCleanDisk (state S.Store tx.new.conn.now) → (state S.Store tx.old.conn.now).now.schema ≡ pid_schema → IsPlain (understood pid_schema sql.now) → IfErr result IsUntold }
 {
-    Ok(tx.query_all(sql, &[])?)
+    read_inside(tx, sql, &[])
 }
 
 /// All rows of the table `meta`.

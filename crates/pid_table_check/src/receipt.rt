@@ -10,7 +10,8 @@ ghost use Rattle.pid_rows.specs.Leaves.{GoesOn};
 ghost use Rattle.pid_rows.specs.TableRows.{number};
 ghost use Rattle.pid_table_check.specs.Conditions.{IsReceiptRow, AreReceipts};
 ghost use Rattle.pid_table_check.specs.AuthorSets.{AreAuthorsOf, HasReply, HasCounts, IsNumbered};
-ghost use Rattle.pid_table_check.specs.Reading.{Judges, Refutes, IsUntold};
+ghost use Rattle.pid_rows.specs.Faults.{IsUntold};
+ghost use Rattle.pid_table_check.specs.Reading.{Judges, Refutes};
 
 use crate::authors::is_by;
 use crate::read::receipt_rows;

@@ -7,7 +7,8 @@ ghost use Rattle.pid_rows.specs.Leaves.{GoesOn};
 ghost use Rattle.pid_rows.specs.TableRows.{number};
 ghost use Rattle.pid_table_check.specs.Conditions.{AreRemarks};
 ghost use Rattle.pid_table_check.specs.PlaceSets.{ArePlacesOf, Follows, HasPlace, IsRemarkAmong};
-ghost use Rattle.pid_table_check.specs.Reading.{Checks, IsUntold};
+ghost use Rattle.pid_rows.specs.Faults.{IsUntold};
+ghost use Rattle.pid_table_check.specs.Reading.{Checks};
 
 use crate::read::remark_rows;
 use crate::value::number_at;

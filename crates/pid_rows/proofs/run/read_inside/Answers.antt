@@ -1,6 +1,9 @@
-use Rattle.std.proofs.Common.{rules, ◌∙◌}
+use Rattle.std.proofs.Common.{rules, ◌∙◌, sym, subst, IfErr}
+use Rattle.std.proofs.lemmas.Result.{err_from_is_err_and}
 use Rattle.sqlite.specs.Values.{bound}
 use Rattle.pid_rows.proofs.ReadLemmas.{shown_passes, fails_keeping}
+use Rattle.pid_rows.specs.Faults.{IsUntold}
+use Rattle.pid_rows.proofs.FaultLemmas.{untold}
 use Rattle.pid_rows.proofs.run.read_inside.Goals as goal
 
 pub returns-in_err-query_all-clause-goes : goal.returns-in_err-query_all-clause-goes
@@ -23,3 +26,8 @@ returns-clause-goes g c =
       committed = λ clean inside opened. (shown_passes c.args.sql.now (bound c.args.params.now) _ _ rows (shown clean)).committed inside;
       going = λ clean inside. let passes = shown_passes c.args.sql.now (bound c.args.params.now) _ _ rows (shown clean) in (passes.is_open, passes.mode ∙ inside);
     }
+
+pub returns-in_err-query_all-clause-untold : goal.returns-in_err-query_all-clause-untold
+returns-in_err-query_all-clause-untold g c clean has plain =
+    let p = err_from_is_err_and c.from_residual.result c.from_residual.ensures.1 in
+    subst (λ r. IfErr r IsUntold) (sym p.1) (subst IsUntold (sym p.2) (untold c.args.sql.now (bound c.args.params.now) _ _ has plain _ (c.in_err-query_all.ensures.err clean)))
