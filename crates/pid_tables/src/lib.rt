@@ -19,4 +19,6 @@ pub use putting::Put;
 pub use tables::{Tables, new_in_memory};
 
 #[cfg(test)]
+mod stops;
+#[cfg(test)]
 mod tests;
