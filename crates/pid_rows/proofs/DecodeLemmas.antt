@@ -24,13 +24,13 @@ use Rattle.pid_rows.specs.declared.item.Item.{Item}
 use Rattle.pid_rows.specs.Shows.{AreViews, standing_in}
 use Rattle.pid_rows.specs.Standings.{standing_of, ReadsTo}
 
-number_same : (m n : ℕ) → number m ≡ number n → m ≡ n
+pub number_same : (m n : ℕ) → number m ≡ number n → m ≡ n
 number_same m n e = cc
 
 text_same : (s t : List ℕ) → Text s ≡ Text t → s ≡ t
 text_same s t e = cc
 
-some_row : {X : Type 0} (row_of : X → Row) (o : Option X) (row : Row) → Some row ≡ option_map row_of o → (x : X) × (o ≡ Some x) × (row ≡ row_of x)
+pub some_row : {X : Type 0} (row_of : X → Row) (o : Option X) (row : Row) → Some row ≡ option_map row_of o → (x : X) × (o ≡ Some x) × (row ≡ row_of x)
 some_row row_of None row e = absurd (let bad : ⊥ = cc in bad)
 some_row row_of (Some x) row e = (x, refl, cc)
 
@@ -100,7 +100,7 @@ row_is s t reads in_range =
     let state = states_same s.author s.state t.state (number_same _ _ (sym reads.state)) decider (text_same _ _ (sym reads.reason)) in
     λ i. record { submitted = record { author = author i; path = path i; proposal = proposal i; note = note i }; state = state i }
 
-all_at : {X : Type 0} (P : X → Type 0) (xs : List X) (i : ℕ) (x : X) → AllByRecursion P xs → slice_get xs i ≡ Some x → P x
+pub all_at : {X : Type 0} (P : X → Type 0) (xs : List X) (i : ℕ) (x : X) → AllByRecursion P xs → slice_get xs i ≡ Some x → P x
 all_at P [] i x all e = absurd (let bad : ⊥ = cc in bad)
 all_at P (y ∷ xs) zero x all e = let same : y ≡ x = cc in subst P same all.0
 all_at P (y ∷ xs) (suc i) x all e = all_at P xs i x all.1 e
@@ -109,7 +109,7 @@ submitted_path : (v : Views) (n : ℕ) (s : Submitted) → AreViews v → submis
 submitted_path v zero s views e = absurd (let bad : ⊥ = cc in bad)
 submitted_path v (suc n) s views e = all_at (λ (s : Submitted). IsPath s.path) v.submits n s views.paths e
 
-mapped_some : {X Y : Type 0} (f : X → Y) (o : Option X) (y : Y) → option_map f o ≡ Some y → (x : X) × (o ≡ Some x) × (f x ≡ y)
+pub mapped_some : {X Y : Type 0} (f : X → Y) (o : Option X) (y : Y) → option_map f o ≡ Some y → (x : X) × (o ≡ Some x) × (f x ≡ y)
 mapped_some f None y e = absurd (let bad : ⊥ = cc in bad)
 mapped_some f (Some x) y e = (x, refl, cc)
 

@@ -19,11 +19,11 @@ use Rattle.sqlite.proofs.Callers.{IsPlain}
 use Rattle.pid_rows.specs.Faults.{fault_of, IsUntold}
 use Rattle.pid_rows.specs.Schema.{pid_schema}
 
-failed : (c : ErrorCode) → IsUntold (fault_of (SqliteFailure c))
+pub failed : (c : ErrorCode) → IsUntold (fault_of (SqliteFailure c))
 failed code.OutOfMemory = tt
 failed _ = tt
 
-of_store : (cause : StoreError) → IsUntold (fault_of (store_error cause))
+pub of_store : (cause : StoreError) → IsUntold (fault_of (store_error cause))
 of_store store.OutOfMemory = tt
 of_store store.Io = tt
 of_store store.Corrupt = tt
@@ -31,7 +31,7 @@ of_store store.Full = tt
 of_store store.Broken = tt
 of_store store.Unstorable = tt
 
-moved : (e f : Error) → e ≡ f → IsUntold (fault_of f) → IsUntold (fault_of e)
+pub moved : (e f : Error) → e ≡ f → IsUntold (fault_of f) → IsUntold (fault_of e)
 moved e f same h = subst (λ x. IsUntold (fault_of x)) (sym same) h
 
 never_bad : (r : Result Compiled CompileError) (fault : CompileError) → IsPlain r → r ≡ Err fault → ⊥
@@ -45,22 +45,22 @@ read_refused limit (Select q names) db params e (inr (inr h)) = moved e _ h.0 (f
 read_refused limit (Rows values width names) db params e h = moved e _ h.0 (failed code.OperationInterrupted)
 read_refused limit _ db params e h = moved e _ h tt
 
+pub not_run : (sql : List ℕ) (params : Row) (old new : State) (e : Error) → ((fault : CompileError) → understood old.now.schema sql ≡ Err fault → ⊥) → IsNotRun old new sql params e → IsUntold (fault_of e)
+unfolding IsNotRun
+not_run sql params old new e never (inl (inl h, same)) = absurd (never h.0 h.1)
+not_run sql params old new e never (inl (inr h, same)) = elim h.2 [
+  | inl many ↦ moved e _ many.1 tt
+  | inr other ↦ elim other [ inl count ↦ moved e _ count.1 tt | inr clock ↦ moved e _ clock.1 (failed code.NoClock) ]
+]
+not_run sql params old new e never (inr h) = moved e _ h.1 (of_store h.0)
+
 module _ (sql : List ℕ) (params : Row) (old new : State) (has : old.now.schema ≡ pid_schema) (plain : IsPlain (understood pid_schema sql)) (e : Error) where
   known : IsPlain (understood old.now.schema sql)
   known = subst (λ x. IsPlain (understood x sql)) (sym has) plain
 
-  not_run : IsNotRun old new sql params e → IsUntold (fault_of e)
-  unfolding IsNotRun
-  not_run (inl (inl h, same)) = absurd (never_bad _ h.0 known h.1)
-  not_run (inl (inr h, same)) = elim h.2 [
-    | inl many ↦ moved e _ many.1 tt
-    | inr other ↦ elim other [ inl count ↦ moved e _ count.1 tt | inr clock ↦ moved e _ clock.1 (failed code.NoClock) ]
-  ]
-  not_run (inr h) = moved e _ h.1 (of_store h.0)
-
   pub untold : FailsToQuery sql params old new e ⊎ IsTooLate sql params old new e → IsUntold (fault_of e)
   unfolding FailsToQuery
-  untold (inl (inl h)) = not_run h
+  untold (inl (inl h)) = not_run sql params old new e (λ fault is. never_bad _ fault known is) h
   untold (inl (inr h)) =
       let none = (subst IsPlain h.1.is known).0 in
       let it = subst (FailsToShow old new sql h.0 (timed params h.0.formats h.1.now) e) none h.2 in

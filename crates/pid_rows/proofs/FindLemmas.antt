@@ -1,5 +1,5 @@
 -- What queries by keys answer.
-use Rattle.std.proofs.Common.{◌≡◌, ℕ, true, List, [], ◌∷◌, Ok, Err, Result, IfOk, slice_get, refl}
+use Rattle.std.proofs.Common.{◌≡◌, ℕ, true, List, [], ◌∷◌, Ok, Err, Result, IfOk, IfErr, MatchResult, slice_get, refl}
 use Rattle.std.specs.Prelude.{option_map}
 use Rattle.sqlite.specs.declared.types.Value.TheVariants.{Text}
 use Rattle.sqlite.specs.Order.{Row}
@@ -8,15 +8,17 @@ use Rattle.sqlite.specs.Held.{Held, state}
 use Rattle.sqlite_trees.specs.declared.store.Store.{Ghosts}
 use Rattle.pid_moderation.specs.Items.{name_at}
 use Rattle.pid_moderation.specs.Views.{Views}
-use Rattle.pid_rows.specs.Schema.{meta, account, item, submission, remark, receipt}
-use Rattle.pid_rows.specs.TableRows.{number, meta_row, account_row, item_row, submission_row, remark_row, receipt_row}
-use Rattle.pid_rows.specs.Answers.{value_row, rank_row, name_row, standing_row, reply_row, remark_shown}
-use Rattle.pid_rows.specs.Shows.{Counts, ShowsCounting, Shows, meta_of, standing_in, remark_in, receipt_in}
+use Rattle.pid_rows.specs.Schema.{meta, account, item, submission, receipt}
+use Rattle.pid_rows.specs.TableRows.{number, meta_row, account_row, item_row, submission_row, receipt_row}
+use Rattle.pid_rows.specs.Answers.{value_row, rank_row, name_row, standing_row, reply_row}
+use Rattle.pid_rows.specs.Shows.{Counts, ShowsCounting, Shows, meta_of, standing_in, receipt_in}
+use Rattle.pid_rows.specs.declared.fault.TableFault.{TableFault}
+use Rattle.pid_rows.specs.Causes.{IsCaused, IsReadable}
 use Rattle.pid_rows.specs.Leaves.{AtRest}
 use Rattle.pid_rows.proofs.MapLemmas.{map_found}
-use Rattle.pid_rows.proofs.Keys.{meta_found, account_found, item_found, submission_found, remark_found, receipt_found, meta_plain, account_plain, item_plain, submission_plain, remark_plain, receipt_plain}
-use Rattle.pid_rows.proofs.KeyTexts.{by_first, by_rowid, by_both, select_meta_is, select_account_is, select_item_is, select_submission_is, select_remark_is, select_receipt_is}
-use Rattle.pid_rows.proofs.StatementTexts.{select_meta, select_account, select_item, select_submission, select_remark, select_receipt}
+use Rattle.pid_rows.proofs.Keys.{meta_found, account_found, item_found, submission_found, receipt_found, meta_plain, account_plain, item_plain, submission_plain, receipt_plain}
+use Rattle.pid_rows.proofs.KeyTexts.{by_first, by_rowid, by_both, select_meta_is, select_account_is, select_item_is, select_submission_is, select_receipt_is}
+use Rattle.pid_rows.proofs.StatementTexts.{select_meta, select_account, select_item, select_submission, select_receipt}
 use Rattle.pid_rows.proofs.ReadLemmas.{shown_passes}
 
 module _ (old new : State) (c : Counts) (v : Views) (shows : ShowsCounting c old.now v) (answer : List Row) where
@@ -35,14 +37,12 @@ module _ (old new : State) (c : Counts) (v : Views) (shows : ShowsCounting c old
   pub reply_found : (who token : List ℕ) → Shown select_receipt (Text who ∷ Text token ∷ []) old new answer → slice_get answer 0 ≡ option_map reply_row (v.kept who token)
   reply_found who token h = map_found receipt_row by_both _ receipt_found (receipt_in v) (who, token) receipt 5 refl receipt_plain old new shows.schema shows.receipts select_receipt _ _ select_receipt_is reply_row (λ id v. refl) answer h
 
-  pub remark_at_found : (n place : ℕ) → Shown select_remark (number n ∷ number place ∷ []) old new answer → slice_get answer 0 ≡ option_map remark_shown (remark_in v (n, place))
-  remark_at_found n place h = map_found remark_row by_both _ remark_found (remark_in v) (n, place) remark 4 refl remark_plain old new shows.schema shows.remarks select_remark _ _ select_remark_is remark_shown (λ id v. refl) answer h
-
 -- the same, read in a transaction of its own on tables at rest
-pub at_rest : {S X E : Type 0} (g : Ghosts S) (old : Held S) (v : Views) (sql : List ℕ) (params : Row) (r : Result X E) (rows : X → List Row) (P : X → Type 0) → AtRest (state g old) v
-    → ((new : State) (x : X) → Shows (state g (record old { in_transaction = true })).now v → Shown sql params (state g (record old { in_transaction = true })) new (rows x) → P x)
-    → IfOk r (λ x. (mid : Held S) × Shown sql params (state g (record old { in_transaction = true })) (state g mid) (rows x)) → IfOk r P
-at_rest g old v sql params (Ok x) rows P rest told h =
+pub at_rest : {S X : Type 0} (g : Ghosts S) (old : Held S) (new : State) (v : Views) (sql : List ℕ) (params : Row) (r : Result X TableFault) (rows : X → List Row) (P : X → Type 0) → AtRest (state g old) v
+    → ((mid : State) (x : X) → Shows (state g (record old { in_transaction = true })).now v → Shown sql params (state g (record old { in_transaction = true })) mid (rows x) → P x)
+    → IfOk r (λ x. (mid : Held S) × Shown sql params (state g (record old { in_transaction = true })) (state g mid) (rows x)) → IfErr r (IsCaused (state g old) new)
+    → MatchResult r P (λ fault. IsReadable v → IsCaused (state g old) new fault)
+at_rest g old new v sql params (Ok x) rows P rest told h caused =
     let begun = state g (record old { in_transaction = true }) in
     told (state g h.0) x (rest.shows (shown_passes sql params begun (state g h.0) (rows x) h.1).was_open) h.1
-at_rest g old v sql params (Err e) rows P rest told h = tt
+at_rest g old new v sql params (Err e) rows P rest told h caused = λ readable. caused

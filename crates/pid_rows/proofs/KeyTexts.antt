@@ -5,7 +5,7 @@ use Rattle.sqlite.specs.Term.{Term, lit, col}
 use Rattle.sqlite.specs.Listing.{understood}
 use Rattle.sqlite_tied.specs.Compute.{everything}
 use Rattle.pid_rows.proofs.Statements.{equals, IsSelect, IsInsert, IsUpdate, IsDelete}
-use Rattle.pid_rows.proofs.StatementTexts.{select_meta, insert_meta, update_meta, select_account, insert_account, update_account, select_item, insert_item, update_item, delete_item, select_submission, insert_submission, update_submission, withdraw_submission, insert_remark, select_receipt, insert_receipt, select_remark}
+use Rattle.pid_rows.proofs.StatementTexts.{select_meta, insert_meta, update_meta, select_account, insert_account, update_account, select_item, insert_item, update_item, delete_item, select_submission, insert_submission, update_submission, withdraw_submission, insert_remark, select_receipt, insert_receipt}
 
 -- the key in the first column behind the rowid, in the rowid, and in the first two columns
 abbrev pub by_first : List Term
@@ -114,10 +114,3 @@ select_receipt_is = record { is = refl; plain = (refl, refl); unlisted = refl }
 pub insert_receipt_is : IsInsert 5 receipt_terms 7 insert_receipt
 unfolding understood everything
 insert_receipt_is = record { is = refl; plain = (refl, refl) }
-
-abbrev pub remark_columns : List Term
-remark_columns = col 1 3 ∷ col 1 4 ∷ []
-
-pub select_remark_is : IsSelect 7 by_both remark_columns select_remark (codes "author" ∷ codes "body" ∷ [])
-unfolding understood everything
-select_remark_is = record { is = refl; plain = (refl, refl); unlisted = refl }

@@ -19,8 +19,12 @@ pub mod FirstLemmas
 pub mod LastRemark
 pub mod RangeLemmas
 pub mod ChildLemmas
-pub mod NextLemmas
-pub mod PendingLemmas
 pub mod Lengths
 pub mod OneRowEach
 pub mod FaultLemmas
+pub mod CauseLemmas
+pub mod QueryTexts
+pub mod WriteFaults
+pub mod UnreadLemmas
+pub mod ReadBack
+pub mod SoundReads

@@ -51,6 +51,3 @@ select_receipt = codes "SELECT kind, a, b, c FROM receipt WHERE account = ?1 AND
 
 abbrev pub insert_receipt : List ℕ
 insert_receipt = codes "INSERT INTO receipt (account, token, kind, a, b, c) VALUES (?1, ?2, ?3, ?4, ?5, ?6)"
-
-abbrev pub select_remark : List ℕ
-select_remark = codes "SELECT author, body FROM remark WHERE num = ?1 AND seq = ?2"

@@ -1,9 +1,12 @@
 -- What a connection is left as by a call, and what a crash may then leave. All of it holds while the disk returns what was written.
-use Rattle.std.specs.Prelude.{◌≡◌, ◌⊎◌, false, Result, OnOk, IfOk, IsTrue}
+use Rattle.std.specs.Prelude.{◌≡◌, ◌⊎◌, false, Result, OnOk, MatchResult, IsTrue, IfOk}
 use Rattle.sqlite.specs.Tree.{Trees}
 use Rattle.sqlite.specs.State.{State, HasCleanDisk, Survives}
 use Rattle.sqlite.specs.Effect.{Database}
 use Rattle.pid_moderation.specs.Views.{Views}
+use Rattle.pid_rows.specs.declared.fault.TableFault.{TableFault}
+use Rattle.pid_rows.specs.Faults.{IsUntold}
+use Rattle.pid_rows.specs.Causes.{IsCaused, IsReadable}
 use Rattle.pid_rows.specs.Schema.{pid_schema}
 use Rattle.pid_rows.specs.Shows.{Counts, ShowsCounting, Shows}
 
@@ -49,17 +52,24 @@ pub record GoesOn {X E : Type 0} (old new : State) (result : Result X E) : Type 
   pub committed : HasCleanDisk new → IsTrue old.in_transaction → IsTrue new.is_open → new.committed ≡ old.committed
   pub going : HasCleanDisk new → IsTrue old.in_transaction → OnOk result (IsTrue new.is_open × IsTrue new.in_transaction)
 
--- Where the transaction shows views that the call is for, it answers a value only with the transaction showing the next ones.
-abbrev pub LeadsTo : {X E : Type 0} → State → State → Result X E → (Counts → Views → Type 0) → (Counts → Counts) → (Views → Views) → Type 0
+-- Where the transaction shows views that the call is for, it answers a value only with the transaction showing the next ones,
+-- and a fault only for want of memory, or where the store failed or refused.
+abbrev pub LeadsTo : {X : Type 0} → State → State → Result X TableFault → (Counts → Views → Type 0) → (Counts → Counts) → (Views → Views) → Type 0
 LeadsTo old new result IsFor recount next =
-    HasCleanDisk new → IsTrue old.in_transaction → (c : Counts) (v : Views) → ShowsCounting c old.now v → IsFor c v → OnOk result (ShowsCounting (recount c) new.now (next v))
+    HasCleanDisk new → IsTrue old.in_transaction → (c : Counts) (v : Views) → ShowsCounting c old.now v → IsFor c v
+    → MatchResult result (λ _. ShowsCounting (recount c) new.now (next v)) IsUntold
 
--- a read leaves what was at rest at rest
+-- a read leaves what was at rest at rest, and forgets no fault
 pub record OnlyReads (old new : State) : Type 0 where
+  pub survives : Survives old new (λ _. ⊥)
   pub settled : new.in_transaction ≡ false
   pub clean : HasCleanDisk new → HasCleanDisk old
   pub kept : (v : Views) → AtRest old v → AtRest new v
 
--- and tells of the views that were at rest
-abbrev pub Tells : {X E : Type 0} → State → State → Result X E → (Views → X → Type 0) → Type 0
-Tells old new result Says = HasCleanDisk new → (v : Views) → AtRest old v → IfOk result (Says v)
+-- and tells of the views that were at rest; a fault has a cause where what they hold can be read
+abbrev pub Tells : {X : Type 0} → State → State → Result X TableFault → (Views → X → Type 0) → Type 0
+Tells old new result Says = HasCleanDisk new → (v : Views) → AtRest old v → MatchResult result (Says v) (λ fault. IsReadable v → IsCaused old new fault)
+
+-- the same, where nothing is said of why a fault came
+abbrev pub TellsIfOk : {X : Type 0} → State → State → Result X TableFault → (Views → X → Type 0) → Type 0
+TellsIfOk old new result Says = HasCleanDisk new → (v : Views) → AtRest old v → IfOk result (Says v)

@@ -4,6 +4,9 @@ pub mod PairRows
 pub mod TableRows
 pub mod Answers
 pub mod Shows
+pub mod Causes
+pub mod Queries
+pub mod Unread
 pub mod Leaves
 pub mod Standings
 pub mod ItemPairs

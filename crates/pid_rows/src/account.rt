@@ -12,7 +12,8 @@ use pid_moderation::Rank;
 use sqlite::types::ToSql;
 use sqlite::{Alter, Connection, Row, Transaction};
 
-/// Adds an account that is not there yet.
+/// Adds an account that is not there yet. The name is taken as it is: the caller has tested it.
+/// An account that is there is refused with `Store`.
 pub fn add_account<S: Alter>(
     tx: &mut Transaction<'_, S>,
     name: &str,
@@ -31,7 +32,7 @@ pub fn add_account<S: Alter>(
     )
 }
 
-/// Gives an account that is there another rank.
+/// Gives an account that is there another rank. Where there is no such account it writes nothing and answers `Ok`.
 pub fn change_rank<S: Alter>(
     tx: &mut Transaction<'_, S>,
     name: &str,
@@ -59,7 +60,7 @@ fn rank_rows<S: Alter>(conn: &mut Connection<S>, name: &str) -> Result<Vec<Row>,
     read_rows(conn, "SELECT rank FROM account WHERE name = ?1", &[name])
 }
 
-/// The rank of an account.
+/// The rank of an account, and none where there is no such account. A number that is no rank's is `Damaged`.
 pub fn rank<S: Alter>(conn: &mut Connection<S>, name: &str) -> Result<Option<Rank>, TableFault>
     requires { (state S.Store conn.old).in_transaction ≡ false }
     ensures rests { OnlyReads (state S.Store conn.old) (state S.Store conn.new) }

@@ -1,27 +1,29 @@
 //! The table of items: paths and their names.
-ghost use Rattle.std.specs.Prelude.{◌≡◌, ◌⊎◌, ◌||◌, ◌++◌, [], ◌∷◌, true, false, None, IfOk, IsSome, option_map, slice_get};
+ghost use Rattle.std.specs.Prelude.{◌≡◌, ◌⊎◌, ◌||◌, ◌++◌, [], ◌∷◌, true, false, None, IfOk, IfErr, IsSome, option_map, slice_get, codes};
 ghost use Rattle.sqlite.specs.Held.{state};
 ghost use Rattle.pid_moderation.specs.Items.{name_at as item_at, has_children as are_children};
 ghost use Rattle.pid_rows.specs.Leaves.{GoesOn, LeadsTo, OnlyReads, Tells};
 ghost use Rattle.sqlite.specs.Order.{column};
 ghost use Rattle.sqlite.specs.declared.types.Value.TheVariants.{Text as TextValue};
-ghost use Rattle.pid_rows.specs.Answers.{name_row, item_shown};
-ghost use Rattle.pid_rows.specs.ItemPairs.{pair_of};
-ghost use Rattle.pid_rows.specs.Ranges.{holds_between, generics_of, first_above};
+ghost use Rattle.pid_rows.specs.Answers.{name_row};
+ghost use Rattle.pid_rows.specs.Ranges.{holds_between};
+ghost use Rattle.pid_ident.specs.Identifiers.{hex4 as hex4_text};
 ghost use Rattle.pid_ident.specs.PathTexts.{path_text};
 ghost use Rattle.pid_moderation.specs.WellMade.{AllItems, HoldsParents};
 ghost use Rattle.pid_rows.specs.Shows.{AreViews};
+ghost use Rattle.pid_rows.specs.Unread.{IsUnread, IsItemRow};
 ghost use Rattle.pid_rows.specs.Writes.{with_name, without_item};
 
 use crate::fault::TableFault;
 use crate::run::{read_rows, write_one};
 use crate::value::{name_at, path_at};
-use pid_ident::{Name, Path};
+use pid_ident::{Id16, Name, Path, hex4};
 use sqlite::types::{ToSql, ValueRef};
 use sqlite::{Alter, Connection, Row, Transaction};
 use std::alloc::{AllocError, Global};
 
-/// Adds an item at a path that has none.
+/// Adds an item at a path that has none. The path is the text of a path, as `PC/8086/1237`; neither it nor the name is
+/// tested, and nor is whether the path's parent is there. A path that has an item is refused with `Store`.
 pub fn add_item<S: Alter>(
     tx: &mut Transaction<'_, S>,
     path: &str,
@@ -40,7 +42,7 @@ pub fn add_item<S: Alter>(
     )
 }
 
-/// Gives the item at a path another name.
+/// Gives the item at a path another name, which is not tested. Where the path has no item it writes nothing and answers `Ok`.
 pub fn rename_item<S: Alter>(
     tx: &mut Transaction<'_, S>,
     path: &str,
@@ -59,7 +61,7 @@ pub fn rename_item<S: Alter>(
     )
 }
 
-/// Takes the item of a path away.
+/// Takes the item of a path away, if there is one. Items below it stay.
 pub fn remove_item<S: Alter>(tx: &mut Transaction<'_, S>, path: &str) -> Result<(), TableFault>
     ensures same_reference { tx.new.conn.ghost_name ≡ tx.old.conn.ghost_name }
     ensures goes { GoesOn (state S.Store tx.old.conn.now) (state S.Store tx.new.conn.now) result }
@@ -78,7 +80,8 @@ fn name_rows<S: Alter>(conn: &mut Connection<S>, path: &str) -> Result<Vec<Row>,
     read_rows(conn, "SELECT name FROM item WHERE path = ?1", &[path])
 }
 
-/// The name of the item at a path.
+/// The name of the item at a path, and none where the path has no item or the text is no path's.
+/// A stored text that is no name is `Damaged`.
 pub fn item_name<S: Alter>(
     conn: &mut Connection<S>,
     alloc: Global,
@@ -156,19 +159,18 @@ fn any_below<S: Alter>(
     any_between(conn, low.as_slice(), high.as_slice())
 }
 
+// Whether some item is a generic subsystem of the vendor.
 fn any_generic<S: Alter>(
     conn: &mut Connection<S>,
     alloc: Global,
-    vendor: &[u8],
+    vendor: Id16,
 ) -> Result<bool, TableFault>
     requires { (state S.Store conn.old).in_transaction ≡ false }
     ensures rests { OnlyReads (state S.Store conn.old) (state S.Store conn.new) }
-    ensures found { Tells (state S.Store conn.old) (state S.Store conn.new) result (λ v some. AreViews v × (some ≡ holds_between (generics_of vendor.now ++ 47 ∷ []) (generics_of vendor.now ++ 48 ∷ []) v.items)) }
+    ensures found { Tells (state S.Store conn.old) (state S.Store conn.new) result (λ v some. AreViews v × (some ≡ holds_between ((codes "PS/" ++ hex4_text vendor) ++ 47 ∷ []) ((codes "PS/" ++ hex4_text vendor) ++ 48 ∷ []) v.items)) }
 {
-    match vendor.strip_prefix(b"PC") {
-        Some(digits) => any_below(conn, alloc, b"PS", digits),
-        None => Err(TableFault::Damaged),
-    }
+    let digits = hex4(vendor);
+    any_below(conn, alloc, b"PS/", digits.as_slice())
 }
 
 fn either(one: bool, other: bool) -> bool
@@ -177,7 +179,7 @@ fn either(one: bool, other: bool) -> bool
     one || other
 }
 
-/// Whether some item has the path as its parent.
+/// Whether some item has the path as its parent. A generic subsystem counts for its vendor.
 pub fn has_children<S: Alter>(
     conn: &mut Connection<S>,
     alloc: Global,
@@ -190,8 +192,8 @@ pub fn has_children<S: Alter>(
     let text = path.path_text(alloc)?;
     let below = any_below(conn, alloc, b"", text.as_bytes())?;
     match path {
-        Path::Vendor { .. } => {
-            let generic = any_generic(conn, alloc, text.as_bytes())?;
+        Path::Vendor { vendor } => {
+            let generic = any_generic(conn, alloc, vendor)?;
             Ok(either(below, generic))
         }
         _ => Ok(below),
@@ -205,41 +207,14 @@ pub struct Item {
     pub name: Name,
 }
 
-fn next_rows<S: Alter>(conn: &mut Connection<S>, text: &str) -> Result<Vec<Row>, TableFault>
-    requires { (state S.Store conn.old).in_transaction ≡ false }
-    ensures rests { OnlyReads (state S.Store conn.old) (state S.Store conn.new) }
-    ensures found { Tells (state S.Store conn.old) (state S.Store conn.new) result (λ v rows. slice_get rows.items 0 ≡ option_map item_shown (first_above text.now v.items)) }
-{
-    let text = text.to_sql();
-    read_rows(
-        conn,
-        "SELECT path, name FROM item WHERE path > ?1 ORDER BY path LIMIT 1",
-        &[text],
-    )
-}
-
-fn item_of(row: &Row, alloc: Global) -> Result<Item, TableFault>
+/// The item of a row that has the text of its path in the first column and its name in the second; further columns are not
+/// looked at. Where a column is missing or breaks its rule, the row is `Damaged`.
+pub fn item_of(row: &Row, alloc: Global) -> Result<Item, TableFault>
     ensures path { IfOk result (λ item. column row.now 0 ≡ TextValue (path_text item.path)) }
     ensures name { IfOk result (λ item. column row.now 1 ≡ TextValue item.name) }
+    ensures unread { IfErr result (IsUnread (IsItemRow row.now)) }
 {
     let path = path_at(row, 0)?;
     let name = name_at(row, alloc, 1)?;
     Ok(Item { path, name })
-}
-
-/// The first item, in the canonical order, whose path is above a text.
-pub fn item_above<S: Alter>(
-    conn: &mut Connection<S>,
-    alloc: Global,
-    text: &str,
-) -> Result<Option<Item>, TableFault>
-    requires { (state S.Store conn.old).in_transaction ≡ false }
-    ensures rests { OnlyReads (state S.Store conn.old) (state S.Store conn.new) }
-    ensures found { Tells (state S.Store conn.old) (state S.Store conn.new) result (λ v item. option_map pair_of item ≡ first_above text.now v.items) }
-{
-    let rows = next_rows(conn, text)?;
-    match rows.first() {
-        Some(row) => Ok(Some(item_of(row, alloc)?)),
-        None => Ok(None),
-    }
 }

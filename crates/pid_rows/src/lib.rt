@@ -1,4 +1,7 @@
 //! The rows of a registry's tables in a SQLite database: one statement at a time, each on one table.
+//!
+//! A read runs in a transaction of its own, which it rolls back; a write runs in its caller's.
+//! `TableFault` says what each fault means.
 #![tactic(auto)]
 
 pub mod account;

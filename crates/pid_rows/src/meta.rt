@@ -1,9 +1,9 @@
 //! The table of counts.
-ghost use Rattle.std.specs.Prelude.{◌≡◌, false, Some, length, option_map, slice_get, codes};
+ghost use Rattle.std.specs.Prelude.{◌≡◌, false, Some, IsSome, length, option_map, slice_get, codes};
 ghost use Rattle.sqlite.specs.Held.{state};
 ghost use Rattle.pid_rows.specs.Leaves.{GoesOn, LeadsTo, OnlyReads, Tells};
 ghost use Rattle.pid_rows.specs.Answers.{value_row};
-ghost use Rattle.pid_rows.specs.Shows.{meta_of, counts_of};
+ghost use Rattle.pid_rows.specs.Shows.{Counts, meta_of, counts_of};
 
 use crate::fault::TableFault;
 use crate::run::{read_inside, read_rows, write_one};
@@ -11,7 +11,7 @@ use crate::value::number_at;
 use sqlite::types::ToSql;
 use sqlite::{Alter, Connection, Row, Transaction};
 
-/// Says how many items there are.
+/// Writes how many items there are into the table of counts. It does not count them.
 pub fn count_items<S: Alter>(tx: &mut Transaction<'_, S>, count: u32) -> Result<(), TableFault>
     ensures same_reference { tx.new.conn.ghost_name ≡ tx.old.conn.ghost_name }
     ensures goes { GoesOn (state S.Store tx.old.conn.now) (state S.Store tx.new.conn.now) result }
@@ -26,7 +26,7 @@ pub fn count_items<S: Alter>(tx: &mut Transaction<'_, S>, count: u32) -> Result<
     )
 }
 
-/// Says how many submissions there are.
+/// Writes how many submissions there are into the table of counts. It does not count them.
 pub fn count_submissions<S: Alter>(
     tx: &mut Transaction<'_, S>,
     count: u32,
@@ -44,7 +44,7 @@ pub fn count_submissions<S: Alter>(
     )
 }
 
-/// Finds out whether the connection still serves.
+/// Reads one row and drops it: an answer of `Ok` means that the connection is open and the transaction goes on.
 pub fn touch<S: Alter>(tx: &mut Transaction<'_, S>) -> Result<(), TableFault>
     ensures same_reference { tx.new.conn.ghost_name ≡ tx.old.conn.ghost_name }
     ensures goes { GoesOn (state S.Store tx.old.conn.now) (state S.Store tx.new.conn.now) result }
@@ -64,10 +64,11 @@ fn value_rows<S: Alter>(conn: &mut Connection<S>, label: &str) -> Result<Vec<Row
     read_rows(conn, "SELECT value FROM meta WHERE label = ?1", &[label])
 }
 
+// The number of one of the three labels.
 fn count<S: Alter>(conn: &mut Connection<S>, label: &str) -> Result<u32, TableFault>
     requires { (state S.Store conn.old).in_transaction ≡ false }
     ensures rests { OnlyReads (state S.Store conn.old) (state S.Store conn.new) }
-    ensures found { Tells (state S.Store conn.old) (state S.Store conn.new) result (λ v n. Some n ≡ meta_of (counts_of v) label.now) }
+    ensures found { ((c : Counts) → IsSome (meta_of c label.now)) → Tells (state S.Store conn.old) (state S.Store conn.new) result (λ v n. Some n ≡ meta_of (counts_of v) label.now) }
 {
     let rows = value_rows(conn, label)?;
     match rows.first() {
@@ -76,7 +77,7 @@ fn count<S: Alter>(conn: &mut Connection<S>, label: &str) -> Result<u32, TableFa
     }
 }
 
-/// How many items there are.
+/// How many items there are, by the table of counts. A count that is missing, or that 32 bits do not hold, is `Damaged`.
 pub fn items<S: Alter>(conn: &mut Connection<S>) -> Result<u32, TableFault>
     requires { (state S.Store conn.old).in_transaction ≡ false }
     ensures rests { OnlyReads (state S.Store conn.old) (state S.Store conn.new) }
@@ -85,7 +86,7 @@ pub fn items<S: Alter>(conn: &mut Connection<S>) -> Result<u32, TableFault>
     count(conn, "items")
 }
 
-/// How many submissions there are.
+/// How many submissions there are, by the table of counts. A count that is missing, or that 32 bits do not hold, is `Damaged`.
 pub fn submissions<S: Alter>(conn: &mut Connection<S>) -> Result<u32, TableFault>
     requires { (state S.Store conn.old).in_transaction ≡ false }
     ensures rests { OnlyReads (state S.Store conn.old) (state S.Store conn.new) }
@@ -94,7 +95,7 @@ pub fn submissions<S: Alter>(conn: &mut Connection<S>) -> Result<u32, TableFault
     count(conn, "submissions")
 }
 
-/// The number of the schema.
+/// The number of the schema, by the table of counts. A number that is missing, or that 32 bits do not hold, is `Damaged`.
 pub fn schema_number<S: Alter>(conn: &mut Connection<S>) -> Result<u32, TableFault>
     requires { (state S.Store conn.old).in_transaction ≡ false }
     ensures rests { OnlyReads (state S.Store conn.old) (state S.Store conn.new) }

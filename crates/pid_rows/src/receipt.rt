@@ -52,7 +52,8 @@ fn third(reply: Reply) -> u32
     }
 }
 
-/// Keeps a reply under an account and a key that have none yet.
+/// Keeps a reply under an account and a key that have none yet. One that is kept already is refused with `Store`,
+/// and so is an account that is not there.
 pub fn keep_reply<S: Alter>(
     tx: &mut Transaction<'_, S>,
     account: &Account,
@@ -95,7 +96,7 @@ fn reply_rows<S: Alter>(
     )
 }
 
-/// The reply that is kept under an account and a key.
+/// The reply that is kept under an account and a key, and none where there is none. Numbers that are no reply's are `Damaged`.
 pub fn kept_reply<S: Alter>(
     conn: &mut Connection<S>,
     account: &str,

@@ -1,12 +1,11 @@
 //! The table of remarks on submissions.
-ghost use Rattle.std.specs.Prelude.{◌≡◌, ◌⊎◌, ◌+◌, [], ◌∷◌, false, length, IfOk, option_map, slice_get};
+ghost use Rattle.std.specs.Prelude.{◌≡◌, ◌⊎◌, ◌+◌, [], ◌∷◌, false, length, IfOk, IfErr};
 ghost use Rattle.sqlite.specs.Order.{column};
 ghost use Rattle.sqlite.specs.declared.types.Value.TheVariants.{Text as TextValue};
-ghost use Rattle.pid_rows.specs.Comments.{remark_of};
-ghost use Rattle.pid_rows.specs.Shows.{remark_in};
 ghost use Rattle.sqlite.specs.Held.{state};
 ghost use Rattle.pid_rows.specs.Leaves.{GoesOn, LeadsTo, OnlyReads, Tells};
-ghost use Rattle.pid_rows.specs.Answers.{value_row, remark_shown};
+ghost use Rattle.pid_rows.specs.Answers.{value_row};
+ghost use Rattle.pid_rows.specs.Unread.{IsUnread, IsRemarkRow};
 ghost use Rattle.pid_rows.specs.Writes.{with_remark};
 
 use crate::fault::TableFault;
@@ -17,7 +16,8 @@ use sqlite::types::ToSql;
 use sqlite::{Alter, Connection, Row, Transaction};
 use std::alloc::Global;
 
-/// Adds a remark behind the last one on its submission.
+/// Adds a remark behind the last one on its submission. `number` is the submission's, and `place` one more than its remarks
+/// are so far: they count from 1. A submission or an author that is not there is refused with `Store`.
 pub fn add_remark<S: Alter>(
     tx: &mut Transaction<'_, S>,
     number: u32,
@@ -54,7 +54,7 @@ fn place_rows<S: Alter>(conn: &mut Connection<S>, number: u32) -> Result<Vec<Row
     )
 }
 
-/// How many remarks there are on a submission: the place of the last one.
+/// How many remarks there are on the submission with a number: the place of the last one. No such submission has 0.
 pub fn remark_count<S: Alter>(conn: &mut Connection<S>, number: u32) -> Result<u32, TableFault>
     requires { (state S.Store conn.old).in_transaction ≡ false }
     ensures rests { OnlyReads (state S.Store conn.old) (state S.Store conn.new) }
@@ -74,47 +74,14 @@ pub struct Comment {
     pub text: Text,
 }
 
-fn comment_rows<S: Alter>(
-    conn: &mut Connection<S>,
-    number: u32,
-    place: u32,
-) -> Result<Vec<Row>, TableFault>
-    requires { (state S.Store conn.old).in_transaction ≡ false }
-    ensures rests { OnlyReads (state S.Store conn.old) (state S.Store conn.new) }
-    ensures found { Tells (state S.Store conn.old) (state S.Store conn.new) result (λ v rows. slice_get rows.items 0 ≡ option_map remark_shown (remark_in v (number, place))) }
-{
-    let number = number.to_sql();
-    let seq = place.to_sql();
-    read_rows(
-        conn,
-        "SELECT author, body FROM remark WHERE num = ?1 AND seq = ?2",
-        &[number, seq],
-    )
-}
-
-fn comment_of(row: &Row, alloc: Global) -> Result<Comment, TableFault>
+/// The remark of a row that has its author in the first column and its text in the second; further columns are not looked at.
+/// Where a column is missing or breaks its rule, the row is `Damaged`.
+pub fn comment_of(row: &Row, alloc: Global) -> Result<Comment, TableFault>
     ensures author { IfOk result (λ comment. column row.now 0 ≡ TextValue comment.author) }
     ensures text { IfOk result (λ comment. column row.now 1 ≡ TextValue comment.text) }
+    ensures unread { IfErr result (IsUnread (IsRemarkRow row.now)) }
 {
     let author = account_at(row, alloc, 0)?;
     let text = words_at(row, alloc, 1)?;
     Ok(Comment { author, text })
-}
-
-/// The remark at a place, counted from 1, on a submission.
-pub fn comment_at<S: Alter>(
-    conn: &mut Connection<S>,
-    alloc: Global,
-    number: u32,
-    place: u32,
-) -> Result<Option<Comment>, TableFault>
-    requires { (state S.Store conn.old).in_transaction ≡ false }
-    ensures rests { OnlyReads (state S.Store conn.old) (state S.Store conn.new) }
-    ensures found { Tells (state S.Store conn.old) (state S.Store conn.new) result (λ v comment. option_map remark_of comment ≡ remark_in v (number, place)) }
-{
-    let rows = comment_rows(conn, number, place)?;
-    match rows.first() {
-        Some(row) => Ok(Some(comment_of(row, alloc)?)),
-        None => Ok(None),
-    }
 }

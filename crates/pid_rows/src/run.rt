@@ -6,14 +6,18 @@ ghost use Rattle.sqlite.specs.Values.{bound};
 ghost use Rattle.sqlite.specs.State.{HasCleanDisk, Executes, Shown};
 ghost use Rattle.sqlite.specs.Held.{state, Held};
 ghost use Rattle.pid_rows.specs.Faults.{IsUntold};
-ghost use Rattle.pid_rows.specs.Leaves.{OnlyReads, GoesOn};
+ghost use Rattle.pid_moderation.specs.Views.{Views};
+ghost use Rattle.pid_rows.specs.Causes.{IsCaused};
+ghost use Rattle.pid_rows.specs.Leaves.{AtRest, OnlyReads, GoesOn, Tells};
+ghost use Rattle.pid_rows.specs.Queries.{IsQuery, IsWriteAs};
 ghost use Rattle.pid_rows.specs.Schema.{pid_schema};
 
 use crate::fault::TableFault;
 use sqlite::types::ValueRef;
 use sqlite::{Alter, Connection, Row, Transaction};
 
-/// Runs one statement that writes, inside a transaction.
+/// Runs one statement that writes, inside a transaction. The parameters are those of the text, `?1` first.
+/// A text that the schema does not know is `Damaged`; what the database refuses is `Store`.
 pub fn write_one<S: Alter>(
     tx: &mut Transaction<'_, S>,
     sql: &str,
@@ -22,12 +26,14 @@ pub fn write_one<S: Alter>(
     ensures same_reference { tx.new.conn.ghost_name ≡ tx.old.conn.ghost_name }
     ensures goes { GoesOn (state S.Store tx.old.conn.now) (state S.Store tx.new.conn.now) result }
     ensures ran { HasCleanDisk (state S.Store tx.new.conn.now) → IsTrue (state S.Store tx.old.conn.now).in_transaction → OnOk result ((count : ℕ) × Executes sql.now (bound params.now) (state S.Store tx.old.conn.now) (state S.Store tx.new.conn.now) (Ok count)) }
+    ensures untold { HasCleanDisk (state S.Store tx.new.conn.now) → (state S.Store tx.old.conn.now).now.schema ≡ pid_schema → IsWriteAs (understood pid_schema sql.now) → IfErr result IsUntold }
 {
     tx.execute(sql, params)?;
     Ok(())
 }
 
-/// The rows of one query, inside a transaction.
+/// The rows of one query, inside a transaction, all held in memory at once. The parameters are those of the text, `?1` first.
+/// A text that the schema does not know is `Damaged`.
 pub fn read_inside<S: Alter>(
     tx: &mut Transaction<'_, S>,
     sql: &str,
@@ -37,11 +43,13 @@ pub fn read_inside<S: Alter>(
     ensures goes { GoesOn (state S.Store tx.old.conn.now) (state S.Store tx.new.conn.now) result }
     ensures shown { HasCleanDisk (state S.Store tx.new.conn.now) → IfOk result (λ rows. Shown sql.now (bound params.now) (state S.Store tx.old.conn.now) (state S.Store tx.new.conn.now) rows.items) }
     ensures untold { HasCleanDisk (state S.Store tx.new.conn.now) → (state S.Store tx.old.conn.now).now.schema ≡ pid_schema → IsPlain (understood pid_schema sql.now) → IfErr result IsUntold }
+    ensures caused { HasCleanDisk (state S.Store tx.new.conn.now) → (IsTrue (state S.Store tx.old.conn.now).is_open → (state S.Store tx.old.conn.now).now.schema ≡ pid_schema) → IsQuery sql.now (bound params.now) → IfErr result (IsCaused (state S.Store tx.old.conn.now) (state S.Store tx.new.conn.now)) }
 {
     Ok(tx.query_all(sql, params)?)
 }
 
-/// The rows of one query, in a transaction of its own, which is rolled back.
+/// The rows of one query, in a transaction of its own, which is rolled back; all are held in memory at once.
+/// The parameters are those of the text, `?1` first. A text that the schema does not know is `Damaged`.
 pub fn read_rows<S: Alter>(
     conn: &mut Connection<S>,
     sql: &str,
@@ -50,16 +58,18 @@ pub fn read_rows<S: Alter>(
     requires { (state S.Store conn.old).in_transaction ≡ false }
     ensures rests { OnlyReads (state S.Store conn.old) (state S.Store conn.new) }
     ensures shown { HasCleanDisk (state S.Store conn.new) → IfOk result (λ rows. (mid : Held S) × Shown sql.now (bound params.now) (state S.Store (record conn.old { in_transaction = true })) (state S.Store mid) rows.items) }
+    ensures caused { HasCleanDisk (state S.Store conn.new) → (v : Views) → AtRest (state S.Store conn.old) v → IsQuery sql.now (bound params.now) → IfErr result (IsCaused (state S.Store conn.old) (state S.Store conn.new)) }
 {
     let mut tx = conn.transaction();
     read_inside(&mut tx, sql, params)
 }
 
-/// Finds out whether the connection serves.
+/// Runs a query that reads no table: an answer of `Ok` means that the connection is open.
 pub fn look<S: Alter>(conn: &mut Connection<S>) -> Result<(), TableFault>
     requires { (state S.Store conn.old).in_transaction ≡ false }
     ensures rests { OnlyReads (state S.Store conn.old) (state S.Store conn.new) }
     ensures was_open { HasCleanDisk (state S.Store conn.new) → OnOk result (IsTrue (state S.Store conn.old).is_open) }
+    ensures found { Tells (state S.Store conn.old) (state S.Store conn.new) result (λ v _. Unit {0}) }
 {
     read_rows(conn, "SELECT 1", &[])?;
     Ok(())

@@ -1,27 +1,27 @@
 //! The table of submissions, each as it stands.
-ghost use Rattle.std.specs.Prelude.{◌≡◌, ◌+◌, ℕ, Option, false, length, [], IfOk, IsSome, option_map, slice_get};
+ghost use Rattle.std.specs.Prelude.{◌≡◌, ◌+◌, false, length, [], IfOk, IfErr, IsSome, option_map, slice_get};
 ghost use Rattle.sqlite.specs.Held.{state as shown};
 ghost use Rattle.pid_ident.specs.PathTexts.{path_text};
 ghost use Rattle.pid_moderation.specs.Views.{submission_at};
 ghost use Rattle.pid_moderation.specs.declared.facts.State.TheVariants as states;
 ghost use Rattle.pid_rows.specs.TableRows.{form_of, name_of, state_number, decider_of, reason_of};
 ghost use Rattle.pid_rows.specs.Leaves.{GoesOn, LeadsTo, OnlyReads, Tells};
-ghost use Rattle.pid_rows.specs.Answers.{standing_row, value_row};
+ghost use Rattle.pid_rows.specs.Answers.{standing_row};
 ghost use Rattle.pid_rows.specs.Shows.{AreViews, standing_in};
-ghost use Rattle.pid_rows.specs.PendingOnes.{IsFirstPending};
 ghost use Rattle.pid_rows.specs.Standings.{standing_of, ReadsTo};
+ghost use Rattle.pid_rows.specs.Unread.{IsUnread, IsStandingRow};
 ghost use Rattle.pid_rows.specs.Writes.{with_submission, with_state, NamesDecider};
 
 use crate::fault::TableFault;
 use crate::run::{read_rows, write_one};
-use crate::value::{account_at, number_at, path_at, proposal_at, state_at, words_at};
+use crate::value::{account_at, path_at, proposal_at, state_at, words_at};
 use pid_ident::{Account, Path, Text};
 use pid_moderation::{Proposal, State};
 use sqlite::types::ToSql;
 use sqlite::{Alter, Connection, Row, Transaction};
 use std::alloc::Global;
 
-/// A submission as it stands.
+/// A submission as it stands. `author` proposed for `path` what `proposal` says.
 #[derive(Debug, Drop)]
 pub struct Submission {
     pub author: Account,
@@ -77,7 +77,8 @@ fn insert_submission<'x, S: Alter>(
     )
 }
 
-/// Adds a pending submission behind the last one.
+/// Adds a pending submission behind the last one. `number` is one more than the submissions are so far: they count from 1.
+/// A number that is taken, or an author that is not there, is refused with `Store`.
 pub fn add_submission<S: Alter>(
     tx: &mut Transaction<'_, S>,
     alloc: Global,
@@ -163,7 +164,8 @@ fn withdraw<S: Alter>(tx: &mut Transaction<'_, S>, number: u32) -> Result<(), Ta
     )
 }
 
-/// Gives a submission a state.
+/// Gives the submission with a number a state, whatever its state is. Where there is no such submission it writes nothing
+/// and answers `Ok`.
 pub fn decide<S: Alter>(
     tx: &mut Transaction<'_, S>,
     number: u32,
@@ -182,8 +184,11 @@ pub fn decide<S: Alter>(
     }
 }
 
-fn submission_of(row: &Row, alloc: Global) -> Result<Submission, TableFault>
-    ensures { IfOk result (ReadsTo row.now) }
+/// The submission of a row that has its author, path, form, name, note, state, decider and reason in the first eight columns;
+/// further columns are not looked at. Where a column is missing or breaks its rule, the row is `Damaged`.
+pub fn submission_of(row: &Row, alloc: Global) -> Result<Submission, TableFault>
+    ensures read { IfOk result (ReadsTo row.now) }
+    ensures unread { IfErr result (IsUnread (IsStandingRow row.now)) }
 {
     let author = account_at(row, alloc, 0)?;
     let path = path_at(row, 1)?;
@@ -212,7 +217,7 @@ fn submission_rows<S: Alter>(conn: &mut Connection<S>, number: u32) -> Result<Ve
     )
 }
 
-/// The submission with the number, as it stands.
+/// The submission with a number, as it stands, and none where there is none. A row that is no submission's is `Damaged`.
 pub fn standing<S: Alter>(
     conn: &mut Connection<S>,
     alloc: Global,
@@ -225,35 +230,6 @@ pub fn standing<S: Alter>(
     let rows = submission_rows(conn, number)?;
     match rows.first() {
         Some(row) => Ok(Some(submission_of(row, alloc)?)),
-        None => Ok(None),
-    }
-}
-
-fn pending_rows<S: Alter>(conn: &mut Connection<S>, after: u32) -> Result<Vec<Row>, TableFault>
-    requires { (shown S.Store conn.old).in_transaction ≡ false }
-    ensures rests { OnlyReads (shown S.Store conn.old) (shown S.Store conn.new) }
-    ensures found { Tells (shown S.Store conn.old) (shown S.Store conn.new) result (λ v rows. (o : Option ℕ) × (slice_get rows.items 0 ≡ option_map value_row o) × IsFirstPending v after o) }
-{
-    let after = after.to_sql();
-    read_rows(
-        conn,
-        "SELECT num FROM submission WHERE state = 0 AND num > ?1 ORDER BY num LIMIT 1",
-        &[after],
-    )
-}
-
-/// The number of the first pending submission above a number.
-pub fn pending_above<S: Alter>(
-    conn: &mut Connection<S>,
-    after: u32,
-) -> Result<Option<u32>, TableFault>
-    requires { (shown S.Store conn.old).in_transaction ≡ false }
-    ensures rests { OnlyReads (shown S.Store conn.old) (shown S.Store conn.new) }
-    ensures found { Tells (shown S.Store conn.old) (shown S.Store conn.new) result (λ v number. IsFirstPending v after number) }
-{
-    let rows = pending_rows(conn, after)?;
-    match rows.first() {
-        Some(row) => Ok(Some(number_at(row, 0)?)),
         None => Ok(None),
     }
 }

@@ -13,7 +13,6 @@ use Rattle.pid_rows.specs.declared.fault.TableFault.TheVariants.{Memory, Store, 
 use Rattle.pid_rows.specs.Schema.{pid_schema}
 use Rattle.pid_table_check.specs.Conditions.{Rows, rows_in, AreAccounts, AreSubmissions, AreReceipts}
 use Rattle.pid_table_check.specs.NameSets.{AreNamesOf, AreReady}
-use Rattle.pid_table_check.specs.Checking.{AreSingle}
 use Rattle.pid_table_check.specs.AuthorSets.{AreAuthorsOf}
 use Rattle.pid_rows.specs.Faults.{IsUntold}
 use Rattle.pid_table_check.specs.Reading.{Refutes, Judges}
@@ -73,10 +72,10 @@ pub match_err : {X E : Type 0} (r : Result X E) (e : E) (P : X → Type 0) (Q : 
 match_err r e P Q is h = subst (λ x. MatchResult x P Q) (sym is) h
 
 abbrev pub Ready : Rows → List Row → Type 0
-Ready t accounts = IsPermutation t.accounts accounts × AreAccounts t.accounts × AreSingle t
+Ready t accounts = IsPermutation t.accounts accounts × AreAccounts t.accounts
 
 pub ready_with : (names : BTreeSet (String Global)) (t : Rows) (accounts : List Row) → AreNamesOf names accounts → Ready t accounts → AreReady names t
-ready_with names t accounts are ready = record { accounts = ready.1; named = names_moved names accounts t.accounts (IsPermutation-sym _ _ ready.0) are; once = ready.2 }
+ready_with names t accounts are ready = record { accounts = ready.1; named = names_moved names accounts t.accounts (IsPermutation-sym _ _ ready.0) are }
 
 -- receipts, where the submissions are these
 pub replies : (a b : State) (r : Result (Unit {0}) TableFault) (authors : BTreeSet (ℕ × String Global)) (rows : List Row) → AreAuthorsOf authors rows

@@ -16,6 +16,10 @@ pub mod ItemFacts
 pub mod LabelFacts
 pub mod NameFacts
 pub mod SubmissionFacts
+pub mod InOrder
+pub mod Asking
+pub mod Labels
+pub mod Complete
 pub mod Numbered
 pub mod RemarkFacts
 pub mod AuthorFacts

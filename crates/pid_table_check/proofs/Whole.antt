@@ -1,9 +1,8 @@
 -- All conditions, one after the other.
-use Rattle.std.proofs.Common.{◌≡◌, ℕ, List, [], ◌∷◌, map, refl, codes, MatchResult, length, Vec, Ok, Err, Result, sym, ap, subst, subst₂, ◌∙◌, ◌<◌, arith, inl, inr, ◌⊎◌}
+use Rattle.std.proofs.Common.{◌≡◌, ℕ, List, codes, MatchResult, length, Vec, Ok, Err, Result, sym, ap, subst, subst₂, ◌∙◌, arith, inl, inr}
 use Rattle.std.specs.List.Sorted.{IsPermutation}
 use Rattle.std.specs.declared.alloc.Global.{Global}
 use Rattle.std.proofs.lemmas.List.Sorted.{IsPermutation-sym, length_permutation}
-use Rattle.sqlite.specs.Tree.{Trees, IsTable, rowid}
 use Rattle.sqlite.specs.Order.{Row, column}
 use Rattle.sqlite.specs.State.{State, HasCleanDisk}
 use Rattle.sqlite_rules.specs.Lists.{Has}
@@ -11,13 +10,11 @@ use Rattle.pid_rows.proofs.TurnLemmas.{permuted}
 use Rattle.pid_rows.specs.declared.fault.TableFault.{TableFault}
 use Rattle.pid_rows.specs.declared.fault.TableFault.TheVariants.{Memory, Store, NewerSchema, Damaged}
 use Rattle.pid_rows.specs.Schema.{pid_schema}
-use Rattle.pid_table_check.specs.Conditions.{Rows, rows_in, columns, labels, label_row, IsNewer, IsRegistry, AreAccounts, AreItems, AreSubmissions, AreRemarks, AreReceipts, AreCounts, AreOfRegistry}
-use Rattle.pid_table_check.specs.Checking.{AreSingle, Explains}
+use Rattle.pid_table_check.specs.Conditions.{Rows, rows_in, labels, label_row, IsNewer, IsRegistry, AreAccounts, AreItems, AreRemarks, AreCounts, AreOfRegistry}
+use Rattle.pid_table_check.specs.Checking.{Explains}
 use Rattle.pid_table_check.specs.Reading.{Refutes, Judges, Answers}
 use Rattle.pid_table_check.proofs.ItemFacts.{texts_same}
 use Rattle.pid_table_check.proofs.RemarkFacts.{numbers_same}
-use Rattle.pid_rows.proofs.Lengths.{IsDistinct}
-use Rattle.pid_rows.proofs.OneRowEach.{rowids_apart}
 use Rattle.pid_table_check.proofs.Judging.{part_refutes, Ready, Both}
 
 pub counts_moved : (items submissions : ℕ) (xs ys : List Row) → IsPermutation xs ys → AreCounts items submissions xs → AreCounts items submissions ys
@@ -46,11 +43,11 @@ module _ (a b : State) where
   one_fails e first clean has = part_refutes _ _ e (λ (w : AreOfRegistry (rows_in a.now.trees)). w.accounts) (first clean has)
 
   module _ (accounts : Vec Row Global) (list : List Row) (is : list ≡ accounts.items) (first : Judges a b (Ok accounts) AccountsRead AccountsFail) (c : State) (to_b : HasCleanDisk c → HasCleanDisk b) where
-    pub two_fails : (e : TableFault) → Judges {X = Vec Row Global} b c (Err e) (SubmittedRead list) (SubmittedFail list) → HasCleanDisk c → a.now.schema ≡ pid_schema → AreSingle (rows_in a.now.trees) → Refutes (AreOfRegistry (rows_in a.now.trees)) e
-    two_fails e second clean has single =
+    pub two_fails : (e : TableFault) → Judges {X = Vec Row Global} b c (Err e) (SubmittedRead list) (SubmittedFail list) → HasCleanDisk c → a.now.schema ≡ pid_schema → Refutes (AreOfRegistry (rows_in a.now.trees)) e
+    two_fails e second clean has =
         let one = first (to_b clean) has in
         let two = subst (λ d. SubmittedFail list (rows_in d.trees) e) one.1 (second clean (ap (λ d. d.schema) one.1 ∙ has)) in
-        part_refutes _ _ e (λ (w : AreOfRegistry (rows_in a.now.trees)). (w.submissions, w.receipts)) (two (subst (IsPermutation _) (sym is) one.0.0, one.0.1, single))
+        part_refutes _ _ e (λ (w : AreOfRegistry (rows_in a.now.trees)). (w.submissions, w.receipts)) (two (subst (IsPermutation _) (sym is) one.0.0, one.0.1))
 
     module _ (submissions : Vec Row Global) (second : Judges b c (Ok submissions) (SubmittedRead list) (SubmittedFail list)) (d : State) (to_c : HasCleanDisk d → HasCleanDisk c) where
       same_c : HasCleanDisk d → a.now.schema ≡ pid_schema → c.now ≡ a.now
@@ -89,10 +86,10 @@ module _ (a b : State) where
                 λ h. counts_moved m n _ meta p (subst₂ (λ x y. AreCounts x y (rows_in a.now.trees).meta) (sym i) (sym s) h),
               )
 
-          pub whole_good : AreCounts m n meta → AreSingle (rows_in a.now.trees) → AreOfRegistry (rows_in a.now.trees)
-          whole_good counts single =
+          pub whole_good : AreCounts m n meta → AreOfRegistry (rows_in a.now.trees)
+          whole_good counts =
               let one = first (to_b (to_c clean)) has in
-              let both = submitted_a.1 (subst (IsPermutation _) (sym is) one.0.0, one.0.1, single) in
+              let both = submitted_a.1 (subst (IsPermutation _) (sym is) one.0.0, one.0.1) in
               record { counts = lengths.0 counts; accounts = one.0.1; items = named_a.1; submissions = both.0; remarks = named_a.2; receipts = both.1 }
 
           pub whole_counts : AreOfRegistry (rows_in a.now.trees) → AreCounts m n meta
@@ -124,28 +121,19 @@ explained t Damaged none h = (none, h)
 
 -- what was read of meta, and then the rest
 pub rest_told : (a b c : State) (rows : Vec Row Global) (meta : List Row) → meta ≡ rows.items → (HasCleanDisk c → HasCleanDisk b) → Answers a b (Ok rows) (λ t. t.meta) → ((n : ℕ) → IsNewer n meta → ⊥) → (r : Result (Unit {0}) TableFault)
-    → Judges b c r (λ t x. IsPermutation t.meta meta → AreSingle t → AreOfRegistry t) (λ t e. IsPermutation t.meta meta → AreSingle t → Refutes (AreOfRegistry t) e)
-    → Judges a c r (λ t x. AreSingle t → AreOfRegistry t) (λ t e. AreSingle t → Explains t e)
+    → Judges b c r (λ t x. IsPermutation t.meta meta → AreOfRegistry t) (λ t e. IsPermutation t.meta meta → Refutes (AreOfRegistry t) e)
+    → Judges a c r (λ t x. AreOfRegistry t) (λ t e. Explains t e)
 rest_told a b c rows meta is back first none (Ok x) second clean has =
     let one = first (back clean) has in
     let it = second clean (ap (λ d. d.schema) one.1 ∙ has) in
-    let two = subst (λ d. IsPermutation (rows_in d.trees).meta meta → AreSingle (rows_in d.trees) → AreOfRegistry (rows_in d.trees)) one.1 it.0 in
+    let two = subst (λ d. IsPermutation (rows_in d.trees).meta meta → AreOfRegistry (rows_in d.trees)) one.1 it.0 in
     (two (subst (IsPermutation _) (sym is) one.0), it.1 ∙ one.1)
 rest_told a b c rows meta is back first none (Err e) second clean has =
     let one = first (back clean) has in
     let same = subst (IsPermutation _) (sym is) one.0 in
-    let two = subst (λ d. IsPermutation (rows_in d.trees).meta meta → AreSingle (rows_in d.trees) → Refutes (AreOfRegistry (rows_in d.trees)) e) one.1 (second clean (ap (λ d. d.schema) one.1 ∙ has)) in
-    λ single. explained (rows_in a.now.trees) e (λ n later. none n (newer_moved n _ meta same later)) (two same single)
+    let two = subst (λ d. IsPermutation (rows_in d.trees).meta meta → Refutes (AreOfRegistry (rows_in d.trees)) e) one.1 (second clean (ap (λ d. d.schema) one.1 ∙ has)) in
+    explained (rows_in a.now.trees) e (λ n later. none n (newer_moved n _ meta same later)) (two same)
 
-pub numbers_single : (db : Trees) → IsTable (db 6) → AreSingle (rows_in db)
-numbers_single db up = subst IsDistinct (sym (same (db 6))) (rowids_apart (db 6) up)
-  where
-    same : (rows : List Row) → map (λ r. column r 0) (map (columns (0 ∷ 2 ∷ 3 ∷ 4 ∷ 5 ∷ 6 ∷ 7 ∷ 8 ∷ 9 ∷ [])) rows) ≡ map rowid rows
-    same [] = refl
-    same (r ∷ rows) = ap (λ xs. rowid r ∷ xs) (same rows)
-
-pub told_whole : (a b : State) (r : Result (Unit {0}) TableFault) → AreSingle (rows_in a.now.trees)
-    → MatchResult r (λ x. (AreSingle (rows_in a.now.trees) → AreOfRegistry (rows_in a.now.trees)) × (b.now ≡ a.now)) (λ e. AreSingle (rows_in a.now.trees) → Explains (rows_in a.now.trees) e)
-    → MatchResult r (λ x. IsRegistry a.now.trees) (Explains (rows_in a.now.trees))
-told_whole a b (Ok x) single h = h.0 single
-told_whole a b (Err e) single h = h single
+pub told_whole : (a b : State) (r : Result (Unit {0}) TableFault) → MatchResult r (λ x. AreOfRegistry (rows_in a.now.trees) × (b.now ≡ a.now)) (Explains (rows_in a.now.trees)) → MatchResult r (λ x. IsRegistry a.now.trees) (Explains (rows_in a.now.trees))
+told_whole a b (Ok x) h = h.0
+told_whole a b (Err e) h = h

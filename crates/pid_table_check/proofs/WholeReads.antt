@@ -1,6 +1,6 @@
 -- What a query of a whole table answers, and which faults it may give.
 use Rattle.std.specs.Prelude.{nat_le, unwrap_or, ◌-◌, ◌^◌}
-use Rattle.std.proofs.Common.{slice_get, cond, ◌≡◌, ◌⊎◌, inl, inr, ℕ, List, [], ◌∷◌, map, true, false, None, Option, Ok, Err, Result, IfOk, IfErr, MatchResult, refl, sym, ap, subst}
+use Rattle.std.proofs.Common.{slice_get, cond, ◌≡◌, ℕ, List, [], ◌∷◌, map, true, false, None, Ok, Err, Result, IfOk, IfErr, MatchResult, refl, sym, ap, subst}
 use Rattle.std.specs.Prelude.{Vec}
 use Rattle.std.specs.declared.alloc.Global.{Global}
 use Rattle.std.specs.List.Sorted.{IsPermutation}
@@ -10,22 +10,9 @@ use Rattle.sqlite.specs.Term.{Term}
 use Rattle.sqlite.specs.Tree.{Trees}
 use Rattle.sqlite.specs.Program.{overlay}
 use Rattle.sqlite.specs.Listing.{understood}
-use Rattle.sqlite.specs.Command.{Command}
-use Rattle.sqlite.specs.Command.TheVariants.{Select, Rows}
-use Rattle.sqlite_resolve.specs.declared.compiled.Compiled.{Compiled}
-use Rattle.sqlite_resolve.specs.declared.error.CompileError.{CompileError}
-use Rattle.sqlite_trees.specs.declared.error.StoreError.{StoreError}
-use Rattle.sqlite_trees.specs.declared.error.StoreError.TheVariants as store
-use Rattle.sqlite.specs.declared.error.Error.{Error}
-use Rattle.sqlite.specs.declared.error.Error.TheVariants.{SqliteFailure}
-use Rattle.sqlite.specs.declared.error.ErrorCode.{ErrorCode}
-use Rattle.sqlite.specs.declared.error.ErrorCode.TheVariants as code
-use Rattle.sqlite.specs.Effect.{Database, RefusesToRead}
-use Rattle.sqlite.specs.State.{State, Shown, IsNotRun, FailsToShow, FailsToQuery, IsTooLate, store_error}
-use Rattle.sqlite.specs.Clock.{timed}
+use Rattle.sqlite.specs.State.{State, Shown}
 use Rattle.sqlite.proofs.Callers.{IsPlain, reads_as}
 use Rattle.pid_rows.specs.declared.fault.TableFault.{TableFault}
-use Rattle.pid_rows.specs.Faults.{fault_of}
 use Rattle.pid_rows.specs.Schema.{pid_schema}
 use Rattle.pid_rows.proofs.Statements.{IsSelect}
 use Rattle.pid_rows.proofs.Select.{passing, shown, simple_rows}

@@ -35,16 +35,6 @@ pub item_is : IsSelect 4 [] item_columns item_text (codes "path" ∷ codes "name
 unfolding understood everything
 item_is = record { is = refl; plain = (refl, refl); unlisted = refl }
 
-abbrev pub submission_text : List ℕ
-submission_text = codes "SELECT num, author, path, form, name, note, state, decider, reason FROM submission"
-
-abbrev pub submission_columns : List Term
-submission_columns = col 1 0 ∷ col 1 2 ∷ col 1 3 ∷ col 1 4 ∷ col 1 5 ∷ col 1 6 ∷ col 1 7 ∷ col 1 8 ∷ col 1 9 ∷ []
-
-pub submission_is : IsSelect 6 [] submission_columns submission_text (codes "num" ∷ codes "author" ∷ codes "path" ∷ codes "form" ∷ codes "name" ∷ codes "note" ∷ codes "state" ∷ codes "decider" ∷ codes "reason" ∷ [])
-unfolding understood everything
-submission_is = record { is = refl; plain = (refl, refl); unlisted = refl }
-
 abbrev pub remark_text : List ℕ
 remark_text = codes "SELECT num, seq, author, body FROM remark"
 

@@ -6,3 +6,5 @@ pub mod NameSets
 pub mod PlaceSets
 pub mod AuthorSets
 pub mod Checking
+pub mod Shapes
+pub mod Queries

@@ -1,23 +1,26 @@
-//! The check of all tables, in one transaction that is rolled back.
-ghost use Rattle.std.specs.Prelude.{◌≡◌, false, MatchResult};
+//! The check of all tables: first which are there, and then their rows in one transaction that is rolled back.
+ghost use Rattle.std.specs.Prelude.{◌≡◌, false, IfErr, MatchResult};
 ghost use Rattle.std.specs.List.Sorted.{IsPermutation};
 ghost use Rattle.sqlite.specs.Held.{state};
 ghost use Rattle.sqlite.specs.State.{HasCleanDisk};
-ghost use Rattle.sqlite.specs.Tree.{IsTable};
+ghost use Rattle.pid_rows.specs.Faults.{IsUntold};
 ghost use Rattle.pid_rows.specs.Leaves.{GoesOn, OnlyReads};
 ghost use Rattle.pid_rows.specs.Schema.{pid_schema};
 ghost use Rattle.pid_table_check.specs.Conditions.{AreAccounts, AreItems, AreSubmissions, AreRemarks, AreReceipts, AreOfRegistry, IsRegistry, rows_in};
-ghost use Rattle.pid_table_check.specs.Checking.{AreSingle, Explains};
+ghost use Rattle.pid_table_check.specs.Checking.{Explains};
 ghost use Rattle.pid_table_check.specs.Reading.{Judges, Refutes};
+ghost use Rattle.pid_table_check.specs.Shapes.{ExplainsLack, HasNoTable, LacksATable};
 
 use crate::account::checked_accounts;
 use crate::authors::authors_of;
 use crate::item::checked_items;
+use crate::lacking::check_lacking;
 use crate::meta::{are_counts, newer};
 use crate::names::names_of;
 use crate::read::meta_rows;
 use crate::receipt::checked_receipts;
 use crate::remark::checked_remarks;
+use crate::shape::{has_each_table, has_some_table};
 use crate::submission::checked_submissions;
 use pid_rows::TableFault;
 use sqlite::{Alter, Connection, Row, Transaction};
@@ -46,8 +49,8 @@ fn check_submitted<S: Alter>(
     ensures same_reference { tx.new.conn.ghost_name ≡ tx.old.conn.ghost_name }
     ensures goes { GoesOn (state S.Store tx.old.conn.now) (state S.Store tx.new.conn.now) result }
     ensures checks { Judges (state S.Store tx.old.conn.now) (state S.Store tx.new.conn.now) result
-        (λ t rows. IsPermutation t.submissions rows.items × ((IsPermutation t.accounts accounts.now × AreAccounts t.accounts × AreSingle t) → AreSubmissions t.accounts t.submissions × AreReceipts t.submissions t.receipts))
-        (λ t e. (IsPermutation t.accounts accounts.now × AreAccounts t.accounts × AreSingle t) → Refutes (AreSubmissions t.accounts t.submissions × AreReceipts t.submissions t.receipts) e) }
+        (λ t rows. IsPermutation t.submissions rows.items × ((IsPermutation t.accounts accounts.now × AreAccounts t.accounts) → AreSubmissions t.accounts t.submissions × AreReceipts t.submissions t.receipts))
+        (λ t e. (IsPermutation t.accounts accounts.now × AreAccounts t.accounts) → Refutes (AreSubmissions t.accounts t.submissions × AreReceipts t.submissions t.receipts) e) }
 {
     let names = names_of(accounts, alloc)?;
     let rows = checked_submissions(tx, &names)?;
@@ -75,8 +78,8 @@ fn check_rows<S: Alter>(
     ensures same_reference { tx.new.conn.ghost_name ≡ tx.old.conn.ghost_name }
     ensures goes { GoesOn (state S.Store tx.old.conn.now) (state S.Store tx.new.conn.now) result }
     ensures checks { Judges (state S.Store tx.old.conn.now) (state S.Store tx.new.conn.now) result
-        (λ t x. IsPermutation t.meta meta.now → AreSingle t → AreOfRegistry t)
-        (λ t e. IsPermutation t.meta meta.now → AreSingle t → Refutes (AreOfRegistry t) e) }
+        (λ t x. IsPermutation t.meta meta.now → AreOfRegistry t)
+        (λ t e. IsPermutation t.meta meta.now → Refutes (AreOfRegistry t) e) }
 {
     let accounts = checked_accounts(tx)?;
     let submissions = check_submitted(tx, alloc, accounts.as_slice())?;
@@ -94,8 +97,8 @@ fn check_tables<S: Alter>(tx: &mut Transaction<'_, S>, alloc: Global) -> Result<
     ensures same_reference { tx.new.conn.ghost_name ≡ tx.old.conn.ghost_name }
     ensures goes { GoesOn (state S.Store tx.old.conn.now) (state S.Store tx.new.conn.now) result }
     ensures checks { Judges (state S.Store tx.old.conn.now) (state S.Store tx.new.conn.now) result
-        (λ t x. AreSingle t → AreOfRegistry t)
-        (λ t e. AreSingle t → Explains t e) }
+        (λ t x. AreOfRegistry t)
+        Explains }
 {
     let meta = meta_rows(tx)?;
     match newer(meta.as_slice()) {
@@ -104,17 +107,36 @@ fn check_tables<S: Alter>(tx: &mut Transaction<'_, S>, alloc: Global) -> Result<
     }
 }
 
-/// Whether the tables are those of some registry.
-///
-/// On tables with the shape of schema 1 it answers `Ok` only where all six conditions hold of their rows, `Damaged` only
-/// where one of them fails, and `NewerSchema` only where the row of the schema has that greater number, which is judged
-/// first; `Memory` and `Store` otherwise. It changes nothing. Of tables of another shape it says nothing.
-pub fn check<S: Alter>(conn: &mut Connection<S>, alloc: Global) -> Result<(), TableFault>
+// The check where each table is there.
+fn check_whole<S: Alter>(conn: &mut Connection<S>, alloc: Global) -> Result<(), TableFault>
     requires { (state S.Store conn.old).in_transaction ≡ false }
     ensures rests { OnlyReads (state S.Store conn.old) (state S.Store conn.new) }
-    ensures told { HasCleanDisk (state S.Store conn.new) → (state S.Store conn.old).now.schema ≡ pid_schema → IsTable ((state S.Store conn.old).now.trees 6)
-        → MatchResult result (λ x. IsRegistry (state S.Store conn.old).now.trees) (Explains (rows_in (state S.Store conn.old).now.trees)) }
+    ensures told { HasCleanDisk (state S.Store conn.new) → (state S.Store conn.old).now.schema ≡ pid_schema → MatchResult result (λ x. IsRegistry (state S.Store conn.old).now.trees) (Explains (rows_in (state S.Store conn.old).now.trees)) }
 {
     let mut tx = conn.transaction();
     check_tables(&mut tx, alloc)
+}
+
+/// Whether the tables are those of some registry.
+///
+/// Which tables are there, it finds out by preparing a query of each table's columns by their names. Where none can be
+/// prepared it answers `Ok`: there is nothing to be damaged. Where some can, and not each, it answers `Damaged`; on tables
+/// with the shape of schema 1 it answers `Ok` only where all six conditions hold of their rows, and `Damaged` only where one
+/// of them fails. A later schema is judged before either: `NewerSchema` only where the labels have that greater number. It
+/// answers `Memory` and `Store` otherwise, and changes nothing. Of six tables with these columns but other keys, types or
+/// rules it says nothing.
+pub fn check<S: Alter>(conn: &mut Connection<S>, alloc: Global) -> Result<(), TableFault>
+    requires { (state S.Store conn.old).in_transaction ≡ false }
+    ensures rests { OnlyReads (state S.Store conn.old) (state S.Store conn.new) }
+    ensures bare { HasCleanDisk (state S.Store conn.new) → HasNoTable (state S.Store conn.old).now.schema → IfErr result IsUntold }
+    ensures lacking { HasCleanDisk (state S.Store conn.new) → LacksATable (state S.Store conn.old).now.schema → MatchResult result (λ x. ⊥) (ExplainsLack (state S.Store conn.old).now) }
+    ensures told { HasCleanDisk (state S.Store conn.new) → (state S.Store conn.old).now.schema ≡ pid_schema → MatchResult result (λ x. IsRegistry (state S.Store conn.old).now.trees) (Explains (rows_in (state S.Store conn.old).now.trees)) }
+{
+    if has_each_table(conn)? {
+        return check_whole(conn, alloc);
+    }
+    if has_some_table(conn)? {
+        return check_lacking(conn);
+    }
+    Ok(())
 }

@@ -5,15 +5,20 @@ mod account;
 mod authors;
 mod checking;
 mod item;
+mod lacking;
 mod laws;
 mod meta;
 mod names;
 mod read;
 mod receipt;
 mod remark;
+mod shape;
 mod submission;
 mod value;
 mod words;
 
 pub use checking::check;
 pub use laws::{shown_tables_are_registries, sound_histories_are_registries};
+
+#[cfg(test)]
+mod tests;

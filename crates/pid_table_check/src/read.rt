@@ -1,5 +1,6 @@
 //! All rows of each table.
 ghost use Rattle.std.specs.Prelude.{◌≡◌, [], IfOk, IfErr};
+ghost use Rattle.std.specs.List.Sorted.{IsPermutation};
 ghost use Rattle.sqlite.specs.Given.{IsPlain};
 ghost use Rattle.sqlite.specs.Listing.{understood};
 ghost use Rattle.sqlite.specs.State.{HasCleanDisk, Shown};
@@ -7,8 +8,10 @@ ghost use Rattle.sqlite.specs.Held.{state};
 ghost use Rattle.pid_rows.specs.Leaves.{GoesOn};
 ghost use Rattle.pid_rows.specs.Schema.{pid_schema};
 ghost use Rattle.pid_rows.specs.Faults.{IsUntold};
-ghost use Rattle.pid_table_check.specs.Reading.{Answers};
+ghost use Rattle.pid_table_check.specs.Reading.{Answers, Judges, IsInOrder};
+ghost use Rattle.pid_table_check.specs.Shapes.{ShowsLabels};
 
+use crate::shape::{ACCOUNTS, ITEMS, META, RECEIPTS, REMARKS, SUBMISSIONS};
 use pid_rows::TableFault;
 use pid_rows::run::read_inside;
 use sqlite::{Alter, Row, Transaction};
@@ -28,8 +31,9 @@ pub(crate) fn meta_rows<S: Alter>(tx: &mut Transaction<'_, S>) -> Result<Vec<Row
     ensures same_reference { tx.new.conn.ghost_name ≡ tx.old.conn.ghost_name }
     ensures goes { GoesOn (state S.Store tx.old.conn.now) (state S.Store tx.new.conn.now) result }
     ensures answers { Answers (state S.Store tx.old.conn.now) (state S.Store tx.new.conn.now) result (λ t. t.meta) }
+    ensures labels { HasCleanDisk (state S.Store tx.new.conn.now) → IfOk result (λ rows. ShowsLabels (state S.Store tx.old.conn.now).now rows.items) }
 {
-    all_rows(tx, "SELECT label, value FROM meta")
+    all_rows(tx, META)
 }
 
 /// All rows of the table `account`.
@@ -38,7 +42,7 @@ pub(crate) fn account_rows<S: Alter>(tx: &mut Transaction<'_, S>) -> Result<Vec<
     ensures goes { GoesOn (state S.Store tx.old.conn.now) (state S.Store tx.new.conn.now) result }
     ensures answers { Answers (state S.Store tx.old.conn.now) (state S.Store tx.new.conn.now) result (λ t. t.accounts) }
 {
-    all_rows(tx, "SELECT name, rank FROM account")
+    all_rows(tx, ACCOUNTS)
 }
 
 /// All rows of the table `item`.
@@ -47,19 +51,16 @@ pub(crate) fn item_rows<S: Alter>(tx: &mut Transaction<'_, S>) -> Result<Vec<Row
     ensures goes { GoesOn (state S.Store tx.old.conn.now) (state S.Store tx.new.conn.now) result }
     ensures answers { Answers (state S.Store tx.old.conn.now) (state S.Store tx.new.conn.now) result (λ t. t.items) }
 {
-    all_rows(tx, "SELECT path, name FROM item")
+    all_rows(tx, ITEMS)
 }
 
-/// All rows of the table `submission`.
+/// All rows of the table `submission`, by their numbers.
 pub(crate) fn submission_rows<S: Alter>(tx: &mut Transaction<'_, S>) -> Result<Vec<Row>, TableFault>
     ensures same_reference { tx.new.conn.ghost_name ≡ tx.old.conn.ghost_name }
     ensures goes { GoesOn (state S.Store tx.old.conn.now) (state S.Store tx.new.conn.now) result }
-    ensures answers { Answers (state S.Store tx.old.conn.now) (state S.Store tx.new.conn.now) result (λ t. t.submissions) }
+    ensures answers { Judges (state S.Store tx.old.conn.now) (state S.Store tx.new.conn.now) result (λ t rows. IsPermutation t.submissions rows.items × IsInOrder rows.items) (λ t e. IsUntold e) }
 {
-    all_rows(
-        tx,
-        "SELECT num, author, path, form, name, note, state, decider, reason FROM submission",
-    )
+    all_rows(tx, SUBMISSIONS)
 }
 
 /// All rows of the table `remark`.
@@ -68,7 +69,7 @@ pub(crate) fn remark_rows<S: Alter>(tx: &mut Transaction<'_, S>) -> Result<Vec<R
     ensures goes { GoesOn (state S.Store tx.old.conn.now) (state S.Store tx.new.conn.now) result }
     ensures answers { Answers (state S.Store tx.old.conn.now) (state S.Store tx.new.conn.now) result (λ t. t.remarks) }
 {
-    all_rows(tx, "SELECT num, seq, author, body FROM remark")
+    all_rows(tx, REMARKS)
 }
 
 /// All rows of the table `receipt`.
@@ -77,5 +78,5 @@ pub(crate) fn receipt_rows<S: Alter>(tx: &mut Transaction<'_, S>) -> Result<Vec<
     ensures goes { GoesOn (state S.Store tx.old.conn.now) (state S.Store tx.new.conn.now) result }
     ensures answers { Answers (state S.Store tx.old.conn.now) (state S.Store tx.new.conn.now) result (λ t. t.receipts) }
 {
-    all_rows(tx, "SELECT account, token, kind, a, b, c FROM receipt")
+    all_rows(tx, RECEIPTS)
 }

@@ -5,7 +5,7 @@ ghost use Rattle.sqlite.specs.declared.types.Value.TheVariants.{Text as TextValu
 ghost use Rattle.sqlite.specs.Order.{column};
 ghost use Rattle.pid_moderation.specs.WellMade.{ProposesName};
 ghost use Rattle.pid_rows.specs.TableRows.{number, form_of, name_of, state_number, decider_of, reason_of};
-ghost use Rattle.pid_table_check.specs.NameSets.{IsAmong, IsDecidedAmong, IsSubmissionAmong, Stands, AreReady};
+ghost use Rattle.pid_table_check.specs.NameSets.{IsAmong, IsDecidedAmong, IsSubmissionAmong, AreSubmissionsAmong, Stands, AreReady};
 ghost use Rattle.sqlite.specs.Held.{state};
 ghost use Rattle.std.specs.List.Sorted.{IsPermutation};
 ghost use Rattle.pid_rows.specs.Leaves.{GoesOn};
@@ -20,11 +20,11 @@ use pid_rows::TableFault;
 use sqlite::{Alter, Row, Transaction};
 use std::collections::BTreeSet;
 
-fn is_within(row: &Row, count: u64) -> bool
-    ensures { IsTrue result ↔ ((n : ℕ) × (column row.now 0 ≡ number n) × (1 ≤ n) × (n ≤ count)) }
+fn is_numbered(row: &Row, num: u64) -> bool
+    ensures { IsTrue result ↔ (column row.now 0 ≡ number num) }
 {
     match number_at(row, 0) {
-        Some(number) => 1 <= number && number <= count,
+        Some(told) => told == num,
         None => false,
     }
 }
@@ -79,13 +79,13 @@ fn is_of_author(row: &Row, names: &BTreeSet<String>, author: &str) -> bool
 }
 
 #[tactic(auto, using(crate::proofs::SubmissionFacts::num_of, crate::proofs::SubmissionFacts::path_of, crate::proofs::SubmissionFacts::proposal_of, crate::proofs::SubmissionFacts::note_of))]
-fn is_submission_row(row: &Row, names: &BTreeSet<String>, count: u64) -> bool
-    ensures { IsTrue result ↔ IsSubmissionAmong names.now count row.now }
+fn is_submission_row(row: &Row, names: &BTreeSet<String>, num: u64) -> bool
+    ensures { IsTrue result ↔ IsSubmissionAmong names.now num row.now }
 {
     if row.column_count() != 9 {
         return false;
     }
-    if !is_within(row, count) {
+    if !is_numbered(row, num) {
         return false;
     }
     if !has_path(row, 2) {
@@ -103,11 +103,16 @@ fn is_submission_row(row: &Row, names: &BTreeSet<String>, count: u64) -> bool
     }
 }
 
-/// Whether each row of submissions is one of a registry.
-pub(crate) fn are_submission_rows(rows: &[Row], names: &BTreeSet<String>, count: u64) -> bool
-    ensures { IsTrue result ↔ All (IsSubmissionAmong names.now count) rows.now }
+/// Whether the rows are submissions of a registry, numbered from 1 in their order.
+pub(crate) fn are_submission_rows(rows: &[Row], names: &BTreeSet<String>) -> bool
+    ensures { IsTrue result ↔ AreSubmissionsAmong names.now rows.now }
 {
-    rows.iter().all(|row| is_submission_row(row, names, count))
+    for (at, row) in rows.iter().enumerate() {
+        if !is_submission_row(row, names, at as u64 + 1) {
+            return false;
+        }
+    }
+    true
 }
 
 /// Reads the submissions, which are those of a registry whose accounts have these names.
@@ -122,8 +127,7 @@ pub(crate) fn checked_submissions<S: Alter>(
         (λ t e. AreReady names.now t → Refutes (AreSubmissions t.accounts t.submissions) e) }
 {
     let rows = submission_rows(tx)?;
-    let count = rows.len() as u64;
-    if are_submission_rows(rows.as_slice(), names, count) {
+    if are_submission_rows(rows.as_slice(), names) {
         Ok(rows)
     } else {
         Err(TableFault::Damaged)

@@ -1,5 +1,6 @@
 -- What a whole change leaves of counts and receipts.
-use Rattle.std.proofs.Common.{◌≡◌, [], ◌∷◌, length, None, Some, Option, refl, sym, ap, subst, ◌∙◌, length-append}
+use Rattle.std.proofs.Common.{◌≡◌, true, [], ◌∷◌, length, None, Some, Option, Ok, Err, Result, OnOk, IfErr, MatchResult, refl, sym, ap, subst, ◌∙◌, length-append}
+use Rattle.std.specs.Prelude.{is_none}
 use Rattle.sqlite.specs.Effect.{Database}
 use Rattle.pid_moderation.specs.declared.change.Change.{Change}
 use Rattle.pid_moderation.specs.declared.change.Effect.{Effect}
@@ -47,3 +48,21 @@ shows_whole change c v db is fits = subst (λ counts. ShowsCounting counts db (c
 pub whole_with : (change : Change) (r : Option Receipt) (c : Counts) (v : Views) (db : Database) → change.receipt ≡ r → IsCounted change.effect c v → FitsEffect change.effect v
     → ShowsCounting (recounted change.effect c) db (keeping r (affected change.effect v)) → Shows db (changed change v)
 whole_with change r c v db is counted fits h = shows_whole change c v db counted fits (subst (λ r. ShowsCounting (recounted change.effect c) db (keeping r (affected change.effect v))) (sym is) h)
+
+pub none_there : {X : Type 0} (o : Option X) → is_none o ≡ true → o ≡ None
+none_there None h = refl
+none_there (Some x) h = absurd cc
+
+-- ---- the two sides of what a call leads to
+
+pub succeeds : {X E : Type 0} (P : Type 0) (Q : E → Type 0) (r : Result X E) → MatchResult r (λ _. P) Q → OnOk r P
+succeeds P Q (Ok x) h = h
+succeeds P Q (Err e) h = tt
+
+pub faults : {X E : Type 0} (P : X → Type 0) (Q : E → Type 0) (r : Result X E) → MatchResult r P Q → IfErr r Q
+faults P Q (Ok x) h = tt
+faults P Q (Err e) h = h
+
+pub either_side : {X E P Q : Type 0} (F : E → Type 0) (r : Result X E) → (P → Q) → MatchResult r (λ _. P) F → MatchResult r (λ _. Q) F
+either_side F (Ok x) f h = f h
+either_side F (Err e) f h = h

@@ -1,5 +1,5 @@
 -- A name that is put at a path.
-use Rattle.std.proofs.Common.{◌≡◌, ℕ, Bool, T, true, false, cond, List, [], ◌∷◌, None, Some, Option, Ok, Err, Result, OnOk, IfOk, IsSome, refl, sym, ap, subst, ◌∙◌}
+use Rattle.std.proofs.Common.{◌≡◌, ℕ, Bool, T, true, false, cond, List, [], ◌∷◌, None, Some, Option, Ok, Err, Result, OnOk, IfOk, IfErr, MatchResult, IsSome, refl, sym, ap, subst, ◌∙◌}
 use Rattle.std.specs.Prelude.{option_map, bytes_eq}
 use Rattle.std.specs.Ordering.{eq_by_cmp}
 use Rattle.std.specs.Cmp.Lexicographic.{nat_list_cmp_total}
@@ -28,6 +28,10 @@ pub on_read : {X E : Type 0} (sql : List ℕ) (params : Row) (old new : State) (
 on_read sql params old new (Ok x) rows c v plain shows h = shows_still sql params old new (rows x) c v plain shows h
 on_read sql params old new (Err e) rows c v plain shows h = tt
 
+pub both_sides : {X E : Type 0} (P : Type 0) (Q : E → Type 0) (r : Result X E) → IfErr r Q → OnOk r P → MatchResult r (λ _. P) Q
+both_sides P Q (Ok x) faults h = h
+both_sides P Q (Err e) faults h = faults
+
 pub if_read : {X E : Type 0} {P Q : X → Type 0} (r : Result X E) → ((x : X) → P x → Q x) → IfOk r P → IfOk r Q
 if_read (Ok x) f h = f x h
 if_read (Err e) f h = tt
@@ -44,6 +48,10 @@ over name (Some old) row stored is_it first there is =
     let as_text : Text old ≡ Text stored = ap (λ r. column r 0) (sym is_row) ∙ there in
     let same : old ≡ stored = cc in
     ap (λ (o : List ℕ). cond (bytes_eq o name) Same Renamed) same ∙ ap (λ b. cond b Same Renamed) (sym is)
+
+pub text_there : (o : Option (List ℕ)) (row : Row) → Some row ≡ option_map name_row o → (stored : List ℕ) × (column row 0 ≡ Text stored)
+text_there None row h = absurd (let bad : ⊥ = cc in bad)
+text_there (Some name) row h = let is_row : row ≡ Text name ∷ [] = cc in (name, ap (λ r. column r 0) is_row)
 
 pub same_over : (name : List ℕ) (o : Option (List ℕ)) (row : Row) (stored : List ℕ) (is_it : Bool) → Some row ≡ option_map name_row o → column row 0 ≡ Text stored → is_it ≡ bytes_eq stored name → is_it ≡ true
     → Same ≡ put_over name o

@@ -1,3 +1,8 @@
+pub mod PendingRows
+pub mod Discussions
+pub mod PendingPages
+pub mod Children
+pub mod EachItem
 pub mod Creation
 pub mod Puts
 pub mod Applies

@@ -1,11 +1,13 @@
 //! One transaction on the tables, which writes a whole change.
-ghost use Rattle.std.specs.Prelude.{◌≡◌, ◌+◌, ℕ, true, false, length, is_none, is_some, IsSome, IsTrue, IfOk, OnOk, OnErr};
+ghost use Rattle.std.specs.Prelude.{◌≡◌, ◌+◌, ℕ, true, false, length, is_none, is_some, IsSome, IsTrue, IfOk, IfErr, OnOk, OnErr, MatchResult};
 ghost use Rattle.sqlite.specs.Held.{state as shown};
 ghost use Rattle.sqlite.specs.State.{HasCleanDisk, Survives};
 ghost use Rattle.pid_ident.specs.PathTexts.{path_text};
 ghost use Rattle.pid_moderation.specs.Items.{name_at};
 ghost use Rattle.pid_moderation.specs.Views.{Views, submission_at};
 ghost use Rattle.pid_moderation.specs.Changes.{edited, affected, changed, write as written, FitsEdit, FitsEffect, FitsWrite, FitsReceipt, keeping, Fits};
+ghost use Rattle.pid_rows.specs.Causes.{IsCaused};
+ghost use Rattle.pid_rows.specs.Faults.{IsUntold};
 ghost use Rattle.pid_rows.specs.Shows.{Counts, ShowsCounting, Shows, counts_of};
 ghost use Rattle.pid_rows.specs.Leaves.{AtRest, Holds, Within, Written, LeavesEither, GoesOn, LeadsTo};
 ghost use Rattle.pid_rows.specs.Writes.{with_rank, with_name, with_submission, with_state};
@@ -152,7 +154,7 @@ fn write_change<S: Alter>(
     ensures same_reference { batch.new.conn.ghost_name ≡ batch.old.conn.ghost_name }
     ensures goes { GoesOn (shown S.Store batch.old.conn.now) (shown S.Store batch.new.conn.now) result }
     ensures shows { HasCleanDisk (shown S.Store batch.new.conn.now) → IsTrue (shown S.Store batch.old.conn.now).in_transaction → (counts : Counts) (v : Views) → ShowsCounting counts (shown S.Store batch.old.conn.now).now v
-        → IsCounted change.now.effect counts v → Fits change.now v → OnOk result (Shows (shown S.Store batch.new.conn.now).now (changed change.now v)) }
+        → IsCounted change.now.effect counts v → Fits change.now v → MatchResult result (λ _. Shows (shown S.Store batch.new.conn.now).now (changed change.now v)) IsUntold }
 {
     write_effect(batch, alloc, &change.effect)?;
     match &change.receipt {
@@ -183,6 +185,7 @@ pub fn put<S: Alter>(
     ensures holds { (c : Counts) (v w : Views) → Within c (shown S.Store batch.old.conn.now) v w → Holds (shown S.Store batch.new.conn.now) v }
     ensures written { (c : Counts) (v w : Views) → Within c (shown S.Store batch.old.conn.now) v w → OnOk result (Written c (shown S.Store batch.new.conn.now) v (with_name (path_text path.now) name.now w)) }
     ensures told { HasCleanDisk (shown S.Store batch.new.conn.now) → (c : Counts) (v w : Views) → Within c (shown S.Store batch.old.conn.now) v w → IfOk result (λ put. put ≡ put_over name.now (name_at (path_text path.now) w.items)) }
+    ensures untold { HasCleanDisk (shown S.Store batch.new.conn.now) → IsTrue (shown S.Store batch.old.conn.now).is_open → (c : Counts) (v w : Views) → Within c (shown S.Store batch.old.conn.now) v w → IfErr result IsUntold }
 {
     let path = path.path_text(alloc)?;
     put_text(batch, path.as_str(), name)
@@ -202,6 +205,8 @@ pub fn apply<S: Alter>(
     ensures holds { (c : Counts) (v w : Views) → Within c (shown S.Store batch.old.conn.now) v w → Holds (shown S.Store batch.new.conn.now) v }
     ensures applied { (c : Counts) (v w : Views) → Within c (shown S.Store batch.old.conn.now) v w → IsCounted change.now.effect c w → Fits change.now w
         → OnOk result (Written (counts_of (changed change.now w)) (shown S.Store batch.new.conn.now) v (changed change.now w)) }
+    ensures untold { HasCleanDisk (shown S.Store batch.new.conn.now) → IsTrue (shown S.Store batch.old.conn.now).is_open → (c : Counts) (v w : Views) → Within c (shown S.Store batch.old.conn.now) v w
+        → IsCounted change.now.effect c w → Fits change.now w → IfErr result IsUntold }
 {
     write_change(batch, alloc, change)
 }
@@ -212,6 +217,7 @@ pub fn commit<S: Alter>(batch: Batch<'_, S>) -> Result<(), TableFault>
     ensures survives { Survives (shown S.Store batch.entry.conn.now) (shown S.Store batch.exit.0.now) (λ db. db ≡ (shown S.Store batch.entry.conn.now).now.trees) }
     ensures stands { (w : Views) → (IsTrue (shown S.Store batch.entry.conn.now).is_open → Shows (shown S.Store batch.entry.conn.now).now w) → OnOk result (AtRest (shown S.Store batch.exit.0.now) w) }
     ensures either { (v w : Views) → Written (counts_of w) (shown S.Store batch.entry.conn.now) v w → LeavesEither (shown S.Store batch.exit.0.now) v w }
+    ensures caused { HasCleanDisk (shown S.Store batch.exit.0.now) → IsTrue (shown S.Store batch.entry.conn.now).in_transaction → IfErr result (IsCaused (shown S.Store batch.entry.conn.now) (shown S.Store batch.exit.0.now)) }
     ensures given_back { (v w : Views) → Written (counts_of w) (shown S.Store batch.entry.conn.now) v w → OnErr result (IsTrue (shown S.Store batch.exit.0.now).is_open → Shows (shown S.Store batch.exit.0.now).now v) }
 {
     batch.commit()?;

@@ -3,6 +3,7 @@ ghost use Rattle.pid_moderation.specs.History.{History};
 ghost use Rattle.pid_moderation.specs.Sound.{IsSound};
 ghost use Rattle.pid_moderation.specs.Views.{views_of, items_of};
 ghost use Rattle.pid_moderation.specs.WellMade.{AllItems, HoldsParents};
+ghost use Rattle.pid_rows.specs.Causes.{IsReadable};
 ghost use Rattle.pid_rows.specs.Shows.{AreViews};
 
 use pid_moderation::{trees_are_files, trees_are_last_writes};
@@ -11,6 +12,7 @@ use pid_moderation::{trees_are_files, trees_are_last_writes};
 /// tree, as `gather` asks.
 pub fn views_of_sound_histories()
     ensures views { (h : History) → IsSound h → AreViews (views_of h) }
+    ensures readable { (h : History) → IsSound h → IsReadable (views_of h) }
     ensures items { (h : History) → IsSound h → AllItems (items_of h) }
     ensures parents { (h : History) → IsSound h → HoldsParents (items_of h) }
 {

@@ -1,35 +1,44 @@
 //! The tables of a registry, over a connection.
-ghost use Rattle.std.specs.Prelude.{◌≡◌, ◌↔◌, [], false, length, IfOk, IsTrue, option_map};
+ghost use Rattle.std.specs.Prelude.{◌≡◌, ◌↔◌, [], false, length, map, IfOk, IsTrue, option_map, IfErr, MatchResult};
 ghost use Rattle.sqlite.specs.Held.{state};
 ghost use Rattle.sqlite.specs.State.{HasCleanDisk};
 ghost use Rattle.sqlite.specs.Steps.{over_memory};
-ghost use Rattle.pid_moderation.specs.Views.{views_of};
+ghost use Rattle.pid_moderation.specs.Views.{Views, views_of};
 ghost use Rattle.pid_ident.specs.PathTexts.{path_text};
 ghost use Rattle.pid_moderation.specs.FactsOfViews.{facts_at};
 ghost use Rattle.pid_moderation.specs.Items.{name_at};
 ghost use Rattle.pid_moderation.specs.Wants.{wanted_by};
 ghost use Rattle.pid_moderation.specs.WellMade.{AllItems, HoldsParents};
+ghost use Rattle.pid_table_check.specs.Checking.{Explains};
+ghost use Rattle.pid_table_check.specs.Conditions.{IsRegistry, rows_in};
+ghost use Rattle.pid_table_check.specs.Shapes.{ExplainsLack, HasNoTable, LacksATable};
+ghost use Rattle.pid_rows.specs.Faults.{IsUntold};
+ghost use Rattle.pid_rows.specs.Schema.{pid_schema};
 ghost use Rattle.pid_tables.specs.Creation.{IsBlank};
 ghost use Rattle.pid_rows.specs.ItemPairs.{pair_of};
-ghost use Rattle.pid_rows.specs.Leaves.{AtRest, OnlyReads, Tells};
-ghost use Rattle.pid_rows.specs.PendingOnes.{IsFirstPending};
-ghost use Rattle.pid_rows.specs.Ranges.{first_above};
-ghost use Rattle.pid_rows.specs.Comments.{remark_of};
-ghost use Rattle.pid_rows.specs.Shows.{standing_in, remark_in};
-ghost use Rattle.pid_rows.specs.Standings.{standing_of};
+ghost use Rattle.pid_rows.specs.Leaves.{AtRest, OnlyReads, Tells, TellsIfOk};
+ghost use Rattle.pid_tables.specs.Children.{children_of};
+ghost use Rattle.pid_tables.specs.Discussions.{discussion_in, shown_of};
+ghost use Rattle.pid_tables.specs.EachItem.{TakesEach};
+ghost use Rattle.pid_tables.specs.PendingPages.{pending_in, told_of};
 
+use crate::below::children;
 use crate::creation::create;
 use crate::gather::gather_facts;
+use crate::pages::{PAGE, Pending, pending_page};
+use crate::remarks::{Discussion, discussed};
+use crate::walk::{EachEnd, each_item};
 use pid_ident::{Account, Key, Name, Path};
 use pid_moderation::{Facts, Rank, Reply, Rows, Verdict};
+use pid_reader::Sink;
 use pid_rows::TableFault;
 use pid_rows::account::rank;
-use pid_rows::item::{Item, item_above, item_name};
+use pid_rows::item::{Item, item_name};
 use pid_rows::meta::{items, schema_number, submissions};
 use pid_rows::receipt::kept_reply;
-use pid_rows::remark::{Comment, comment_at, remark_count};
+use pid_rows::remark::remark_count;
 use pid_rows::run::look;
-use pid_rows::submission::{Submission, pending_above, standing};
+use pid_table_check::check;
 use sqlite::{Alter, Connection, MemStore};
 use std::alloc::Global;
 
@@ -83,37 +92,51 @@ impl<S: Alter + Drop> Tables<S> {
         item_name(&mut self.conn, alloc, path.as_str())
     }
 
-    /// The first item, in the canonical order, whose path is above a text. From the empty text on, and then from the text of
-    /// each path that was told, it goes through all items; nothing is held between the calls.
-    pub fn item_above(&mut self, alloc: Global, text: &str) -> Result<Option<Item>, TableFault>
+    /// Hands all items to a sink, in the canonical order, one at a time: no list of them is made. The line of an entry is its
+    /// place among them, counted from 1.
+    ///
+    /// Where it fails, the sink keeps what it took until then.
+    pub fn each_item<K: Sink>(&mut self, sink: &mut K) -> Result<(), EachEnd<K::Fault>>
         requires { (state S.Store self.old.conn).in_transaction ≡ false }
         ensures rests { OnlyReads (state S.Store self.old.conn) (state S.Store self.new.conn) }
-        ensures told { Tells (state S.Store self.old.conn) (state S.Store self.new.conn) result (λ v item. option_map pair_of item ≡ first_above text.now v.items) }
+        ensures told { HasCleanDisk (state S.Store self.new.conn) → (v : Views) → AtRest (state S.Store self.old.conn) v → TakesEach K.takes K.faults result v.items sink.old sink.new }
     {
-        item_above(&mut self.conn, alloc, text)
+        each_item(&mut self.conn, sink)
     }
 
-    /// The submission with the number, as it stands.
+    /// The items directly below a path, in the canonical order, which puts the generic subsystems of a vendor behind its devices.
+    /// Without a path, the vendors and the classes.
+    ///
+    /// Vendors and classes are found by a walk over all items.
+    pub fn children(&mut self, alloc: Global, above: Option<Path>) -> Result<Vec<Item>, TableFault>
+        requires { (state S.Store self.old.conn).in_transaction ≡ false }
+        ensures rests { OnlyReads (state S.Store self.old.conn) (state S.Store self.new.conn) }
+        ensures told { TellsIfOk (state S.Store self.old.conn) (state S.Store self.new.conn) result (λ v items. AllItems v.items → map pair_of items.items ≡ children_of (option_map path_text above) v.items) }
+    {
+        children(&mut self.conn, alloc, above)
+    }
+
+    /// The submission with the number, as it stands, and the remarks on it in their order.
     pub fn submission(
         &mut self,
         alloc: Global,
         number: u32,
-    ) -> Result<Option<Submission>, TableFault>
+    ) -> Result<Option<Discussion>, TableFault>
         requires { (state S.Store self.old.conn).in_transaction ≡ false }
         ensures rests { OnlyReads (state S.Store self.old.conn) (state S.Store self.new.conn) }
-        ensures told { Tells (state S.Store self.old.conn) (state S.Store self.new.conn) result (λ v s. option_map standing_of s ≡ standing_in v number) }
+        ensures told { TellsIfOk (state S.Store self.old.conn) (state S.Store self.new.conn) result (λ v d. option_map shown_of d ≡ discussion_in v number) }
     {
-        standing(&mut self.conn, alloc, number)
+        discussed(&mut self.conn, alloc, number)
     }
 
-    /// The number of the first pending submission above a number. From 0 on, and then from each number that was told, it goes
-    /// through all that are pending.
-    pub fn pending_above(&mut self, after: u32) -> Result<Option<u32>, TableFault>
+    /// The first pending submissions whose numbers are above a number, `PAGE` at most. From 0 on, and then from the last number
+    /// that was told, pages go through all that are pending.
+    pub fn pending_page(&mut self, alloc: Global, after: u32) -> Result<Vec<Pending>, TableFault>
         requires { (state S.Store self.old.conn).in_transaction ≡ false }
         ensures rests { OnlyReads (state S.Store self.old.conn) (state S.Store self.new.conn) }
-        ensures told { Tells (state S.Store self.old.conn) (state S.Store self.new.conn) result (λ v number. IsFirstPending v after number) }
+        ensures told { TellsIfOk (state S.Store self.old.conn) (state S.Store self.new.conn) result (λ v page. map told_of page.items ≡ pending_in PAGE after v) }
     {
-        pending_above(&mut self.conn, after)
+        pending_page(&mut self.conn, alloc, after)
     }
 
     /// How many remarks there are on a submission.
@@ -123,20 +146,6 @@ impl<S: Alter + Drop> Tables<S> {
         ensures told { Tells (state S.Store self.old.conn) (state S.Store self.new.conn) result (λ v n. n ≡ length (v.remarks number)) }
     {
         remark_count(&mut self.conn, number)
-    }
-
-    /// The remark at a place, counted from 1, on a submission.
-    pub fn remark(
-        &mut self,
-        alloc: Global,
-        number: u32,
-        place: u32,
-    ) -> Result<Option<Comment>, TableFault>
-        requires { (state S.Store self.old.conn).in_transaction ≡ false }
-        ensures rests { OnlyReads (state S.Store self.old.conn) (state S.Store self.new.conn) }
-        ensures told { Tells (state S.Store self.old.conn) (state S.Store self.new.conn) result (λ v comment. option_map remark_of comment ≡ remark_in v (number, place)) }
-    {
-        comment_at(&mut self.conn, alloc, number, place)
     }
 
     /// How many items there are.
@@ -174,6 +183,21 @@ impl<S: Alter + Drop> Tables<S> {
         ensures told { Tells (state S.Store self.old.conn) (state S.Store self.new.conn) result (λ v facts. AllItems v.items → HoldsParents v.items → facts ≡ facts_at v file account.now key.now (wanted_by rows.entry)) }
     {
         gather_facts(&mut self.conn, alloc, account, key, rows, file)
+    }
+
+    /// Whether the tables are those of some registry, or there is none: every row is read and judged.
+    ///
+    /// `Damaged` where a table or a column lacks, or a row breaks a condition of a registry; `NewerSchema` where the labels
+    /// have a later schema, which is judged before. `docs/STORAGE.md` has the conditions. Of tables with other keys, types or
+    /// rules nothing is said.
+    pub fn check(&mut self, alloc: Global) -> Result<(), TableFault>
+        requires { (state S.Store self.old.conn).in_transaction ≡ false }
+        ensures rests { OnlyReads (state S.Store self.old.conn) (state S.Store self.new.conn) }
+        ensures bare { HasCleanDisk (state S.Store self.new.conn) → HasNoTable (state S.Store self.old.conn).now.schema → IfErr result IsUntold }
+        ensures lacking { HasCleanDisk (state S.Store self.new.conn) → LacksATable (state S.Store self.old.conn).now.schema → MatchResult result (λ x. ⊥) (ExplainsLack (state S.Store self.old.conn).now) }
+        ensures told { HasCleanDisk (state S.Store self.new.conn) → (state S.Store self.old.conn).now.schema ≡ pid_schema → MatchResult result (λ x. IsRegistry (state S.Store self.old.conn).now.trees) (Explains (rows_in (state S.Store self.old.conn).now.trees)) }
+    {
+        check(&mut self.conn, alloc)
     }
 
     /// The number of the schema, and 0 where there is no table.

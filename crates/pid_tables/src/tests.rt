@@ -1,8 +1,11 @@
 //! A registry written and read back. What each call means is in its contract: the tests show that the calls succeed where
 //! there is memory, and that the texts of rows are those of SQLite.
-use crate::{Put, TableFault, Tables, apply, begin, commit, new_in_memory, put, roll_back};
+use crate::{
+    EachEnd, Put, TableFault, Tables, apply, begin, commit, new_in_memory, put, roll_back,
+};
 use pid_ident::Path;
 use pid_moderation::{Change, Command, Verb, Verdict, command_of, decide, needs, reply_line};
+use pid_reader::{Entry, Sink};
 use sqlite::MemStore;
 use std::alloc::Global;
 use std::test::Fail;
@@ -150,5 +153,182 @@ fn commands_are_carried_out(rt: HostRuntime) -> Result<(), Fail> {
     assert!(rt; puts == (Put::Renamed, Put::Same));
     let kept = name(&mut tables, alloc, "PC/8086")?;
     assert!(rt; kept.as_str() == "Intel");
+    Ok(())
+}
+
+const ITEMS: &str = "account root who=bob rank=1
+submit bob path=PC/8086 name=Intel
+approve root num=1
+submit bob path=PC/8086/1237 name=440FX
+approve root num=2
+submit bob path=PC/8086/1237/1af41100 name=Machine
+approve root num=3
+submit bob path=PS/8086/1100 name=Board
+approve root num=4
+submit bob path=PD/01 name=Storage
+approve root num=5
+submit bob path=PD/02 name=Network
+submit bob path=PD/03 name=Display
+submit bob path=PD/04 name=Media
+withdraw bob num=7
+comment bob num=8 text=one
+comment root num=8 text=two
+comment bob num=6 text=other";
+
+// Writes items down until it has taken so many; then it refuses, and tells where.
+#[derive(Drop)]
+struct Writer {
+    told: String,
+    alloc: Global,
+    most: usize,
+}
+
+impl Sink for Writer {
+    type Fault = usize;
+
+    ghost takes = { λ s e t. Unit {0} };
+
+    ghost faults = { λ s e f t. Unit {0} };
+
+    fn entry(&mut self, entry: &Entry<'_>) -> Result<(), usize> {
+        if entry.line > self.most {
+            return Err(entry.line);
+        }
+        match write_down(&mut self.told, self.alloc, entry.path, entry.name) {
+            Ok(()) => Ok(()),
+            Err(_) => Err(0),
+        }
+    }
+}
+
+fn write_down(told: &mut String, alloc: Global, path: Path, name: &str) -> Result<(), TableFault> {
+    told.push_str(path.path_text(alloc)?.as_str())?;
+    told.push_str("=")?;
+    told.push_str(name)?;
+    told.push_str("\n")?;
+    Ok(())
+}
+
+// What a sink that takes so many items was told, and where it refused, 0 for nowhere.
+fn walk(
+    tables: &mut Tables<MemStore>,
+    alloc: Global,
+    most: usize,
+) -> Result<(String, usize), TableFault> {
+    if !tables.conn.is_autocommit() {
+        return Err(TableFault::Store);
+    }
+    let mut writer = Writer {
+        told: String::new(alloc),
+        alloc,
+        most,
+    };
+    let line = match tables.each_item(&mut writer) {
+        Ok(()) => 0,
+        Err(EachEnd::Fault(line)) => line,
+        Err(EachEnd::Tables(fault)) => return Err(fault),
+    };
+    let Writer { told, .. } = writer;
+    Ok((told, line))
+}
+
+fn below(
+    tables: &mut Tables<MemStore>,
+    alloc: Global,
+    above: Option<Path>,
+) -> Result<String, TableFault> {
+    if !tables.conn.is_autocommit() {
+        return Err(TableFault::Store);
+    }
+    let mut told = String::new(alloc);
+    for item in &tables.children(alloc, above)? {
+        write_down(&mut told, alloc, item.path, item.name.as_str())?;
+    }
+    Ok(told)
+}
+
+fn page(tables: &mut Tables<MemStore>, alloc: Global, after: u32) -> Result<String, TableFault> {
+    if !tables.conn.is_autocommit() {
+        return Err(TableFault::Store);
+    }
+    let mut told = String::new(alloc);
+    for pending in &tables.pending_page(alloc, after)? {
+        let number = if pending.number == 6 { "six" } else { "eight" };
+        write_down(&mut told, alloc, pending.submission.path, number)?;
+    }
+    Ok(told)
+}
+
+fn remarks(
+    tables: &mut Tables<MemStore>,
+    alloc: Global,
+    number: u32,
+) -> Result<String, TableFault> {
+    if !tables.conn.is_autocommit() {
+        return Err(TableFault::Store);
+    }
+    let mut told = String::new(alloc);
+    let Some(found) = tables.submission(alloc, number)? else {
+        return Ok(told);
+    };
+    for remark in &found.remarks {
+        told.push_str(remark.author.as_str())?;
+        told.push_str(": ")?;
+        told.push_str(remark.text.as_str())?;
+        told.push_str("\n")?;
+    }
+    Ok(told)
+}
+
+#[test]
+fn lists_are_told_in_order(rt: HostRuntime) -> Result<(), Fail> {
+    let alloc = rt.alloc();
+    let mut tables = new_in_memory(alloc)?;
+    replies(&mut tables, alloc, ITEMS)?;
+    let whole = walk(&mut tables, alloc, 9)?;
+    assert!(rt;
+        whole.0.as_str()
+            == "PC/8086=Intel\nPC/8086/1237=440FX\nPC/8086/1237/1af41100=Machine\nPD/01=Storage\nPS/8086/1100=Board\n"
+    );
+    assert!(rt; whole.1 == 0);
+    let refused = walk(&mut tables, alloc, 1)?;
+    assert!(rt; refused.0.as_str() == "PC/8086=Intel\n");
+    assert!(rt; refused.1 == 2);
+    Ok(())
+}
+
+#[test]
+fn children_stand_below(rt: HostRuntime) -> Result<(), Fail> {
+    let alloc = rt.alloc();
+    let mut tables = new_in_memory(alloc)?;
+    replies(&mut tables, alloc, ITEMS)?;
+    let vendor = below(&mut tables, alloc, Path::parse("PC/8086"))?;
+    assert!(rt; vendor.as_str() == "PC/8086/1237=440FX\nPS/8086/1100=Board\n");
+    let device = below(&mut tables, alloc, Path::parse("PC/8086/1237"))?;
+    assert!(rt; device.as_str() == "PC/8086/1237/1af41100=Machine\n");
+    let absent = below(&mut tables, alloc, Path::parse("PC/10ec"))?;
+    assert!(rt; absent.as_str() == "");
+    let top = below(&mut tables, alloc, None)?;
+    assert!(rt; top.as_str() == "PC/8086=Intel\nPD/01=Storage\n");
+    Ok(())
+}
+
+#[test]
+fn pending_ones_and_remarks(rt: HostRuntime) -> Result<(), Fail> {
+    let alloc = rt.alloc();
+    let mut tables = new_in_memory(alloc)?;
+    replies(&mut tables, alloc, ITEMS)?;
+    let all = page(&mut tables, alloc, 0)?;
+    assert!(rt; all.as_str() == "PD/02=six\nPD/04=eight\n");
+    let later = page(&mut tables, alloc, 6)?;
+    assert!(rt; later.as_str() == "PD/04=eight\n");
+    let none = page(&mut tables, alloc, 8)?;
+    assert!(rt; none.as_str() == "");
+    let two = remarks(&mut tables, alloc, 8)?;
+    assert!(rt; two.as_str() == "bob: one\nroot: two\n");
+    let one = remarks(&mut tables, alloc, 6)?;
+    assert!(rt; one.as_str() == "bob: other\n");
+    let absent = remarks(&mut tables, alloc, 9)?;
+    assert!(rt; absent.as_str() == "");
     Ok(())
 }

@@ -13,12 +13,10 @@ returns-in-Vendor-clause-found g c clean v rest all parents =
     let second = c.in_ok-generic-in-Vendor.ensures in
     let first = c.in_ok-below.ensures in
     let one = rw (c.as_bytes.ensures.value, c.in_ok-text.ensures) at (first.found (second.rests.clean clean) v rest) in
-    let bytes : c.as_bytes-in-Vendor.result.now ≡ path_text c.args.path = c.as_bytes-in-Vendor.ensures.value ∙ c.in_ok-text.ensures in
-    let two : c.in_ok-generic-in-Vendor.generic ≡ holds_between (generics_of (path_text c.args.path) ++ 47 ∷ []) (generics_of (path_text c.args.path) ++ 48 ∷ []) v.items =
-    subst (λ t. c.in_ok-generic-in-Vendor.generic ≡ holds_between (generics_of t ++ 47 ∷ []) (generics_of t ++ 48 ∷ []) v.items) bytes (second.found clean v (first.rests.kept v rest)).1 in
+    let two = (second.found clean v (first.rests.kept v rest)).1 in
     let vendor : c.args.path ≡ Vendor c.in-Vendor.vendor = c.in-Vendor.is in
     c.either.ensures ∙ ap (λ b. b || c.in_ok-generic-in-Vendor.generic) one.1 ∙ ap (λ b. holds_between (path_text c.args.path ++ 47 ∷ []) (path_text c.args.path ++ 48 ∷ []) v.items || b) two
-    ∙ subst (λ (p : Path). (holds_between (path_text p ++ 47 ∷ []) (path_text p ++ 48 ∷ []) v.items || holds_between (generics_of (path_text p) ++ 47 ∷ []) (generics_of (path_text p) ++ 48 ∷ []) v.items) ≡ has_children (path_text p) v.items) (sym vendor)
+    ∙ subst (λ (p : Path). (holds_between (path_text p ++ 47 ∷ []) (path_text p ++ 48 ∷ []) v.items || holds_between (generics_of (path_text (Vendor c.in-Vendor.vendor)) ++ 47 ∷ []) (generics_of (path_text (Vendor c.in-Vendor.vendor)) ++ 48 ∷ []) v.items) ≡ has_children (path_text p) v.items) (sym vendor)
     (vendor_children v.items one.0.sorted all parents c.in-Vendor.vendor)
 
 pub returns-clause-found : goal.returns-clause-found

@@ -1,9 +1,11 @@
 use Rattle.pid_rows.specs.Shows.{counts_of}
 use Rattle.pid_rows.proofs.StatementTexts.{select_item}
+use Rattle.sqlite.specs.Held.{state}
+use Rattle.pid_rows.proofs.QueryTexts.{item_query}
 use Rattle.pid_rows.proofs.FindLemmas.{at_rest, name_found}
 use Rattle.pid_rows.proofs.item.name_rows.Goals as goal
 
 pub returns-clause-found : goal.returns-clause-found
 returns-clause-found g c clean v rest =
-    at_rest g.S.Store c.args.conn.now v select_item _ c.read_rows.result (λ rows. rows.items) _ rest (λ new rows shows h. name_found _ new (counts_of v) v shows rows.items c.args.path.now h)
-    (rw c.to_sql-path.ensures at (c.read_rows.ensures.shown clean))
+    at_rest g.S.Store c.args.conn.now (state g.S.Store c.read_rows.new.conn) v select_item _ c.read_rows.result (λ rows. rows.items) _ rest (λ new rows shows h. name_found _ new (counts_of v) v shows rows.items c.args.path.now h)
+    (rw c.to_sql-path.ensures at (c.read_rows.ensures.shown clean)) ((rw c.to_sql-path.ensures at (c.read_rows.ensures.caused clean v rest)) (item_query c.args.path.now))

@@ -1,9 +1,11 @@
 use Rattle.pid_rows.specs.Shows.{counts_of}
 use Rattle.pid_rows.proofs.RangeLemmas.{select_between, between_found}
+use Rattle.sqlite.specs.Held.{state}
+use Rattle.pid_rows.proofs.QueryTexts.{between_query}
 use Rattle.pid_rows.proofs.FindLemmas.{at_rest}
 use Rattle.pid_rows.proofs.item.range_rows.Goals as goal
 
 pub returns-clause-found : goal.returns-clause-found
 returns-clause-found g c clean v rest =
-    at_rest g.S.Store c.args.conn.now v select_between _ c.read_rows.result (λ rows. rows.items) _ rest (λ new rows shows h. (shows.views, between_found _ new (counts_of v) v shows c.args.low.now c.args.high.now rows.items h))
-    (c.read_rows.ensures.shown clean)
+    at_rest g.S.Store c.args.conn.now (state g.S.Store c.read_rows.new.conn) v select_between _ c.read_rows.result (λ rows. rows.items) _ rest (λ new rows shows h. (shows.views, between_found _ new (counts_of v) v shows c.args.low.now c.args.high.now rows.items h))
+    (c.read_rows.ensures.shown clean) (c.read_rows.ensures.caused clean v rest (between_query c.args.low.now c.args.high.now))

@@ -3,6 +3,9 @@ use Rattle.std.proofs.lemmas.Result.{err_from_is_err_and}
 use Rattle.sqlite.specs.Values.{bound}
 use Rattle.pid_rows.proofs.ReadLemmas.{shown_passes, fails_keeping}
 use Rattle.pid_rows.specs.Faults.{IsUntold}
+use Rattle.sqlite.specs.Held.{state}
+use Rattle.pid_rows.specs.Causes.{IsCaused}
+use Rattle.pid_rows.proofs.CauseLemmas.{caused}
 use Rattle.pid_rows.proofs.FaultLemmas.{untold}
 use Rattle.pid_rows.proofs.run.read_inside.Goals as goal
 
@@ -31,3 +34,10 @@ pub returns-in_err-query_all-clause-untold : goal.returns-in_err-query_all-claus
 returns-in_err-query_all-clause-untold g c clean has plain =
     let p = err_from_is_err_and c.from_residual.result c.from_residual.ensures.1 in
     subst (λ r. IfErr r IsUntold) (sym p.1) (subst IsUntold (sym p.2) (untold c.args.sql.now (bound c.args.params.now) _ _ has plain _ (c.in_err-query_all.ensures.err clean)))
+
+pub returns-in_err-query_all-clause-caused : goal.returns-in_err-query_all-clause-caused
+returns-in_err-query_all-clause-caused g c clean has query =
+    let p = err_from_is_err_and c.from_residual.result c.from_residual.ensures.1 in
+    let old = state g.S.Store c.args.tx.now.conn.now in
+    let new = state g.S.Store c.query_all.new.self.conn.now in
+    subst (λ r. IfErr r (IsCaused old new)) (sym p.1) (subst (IsCaused old new) (sym p.2) (caused c.args.sql.now (bound c.args.params.now) old new has query _ (c.in_err-query_all.ensures.err clean)))

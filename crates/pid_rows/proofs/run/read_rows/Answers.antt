@@ -1,4 +1,4 @@
-use Rattle.std.proofs.Common.{◌≡◌, true, rules, arith, subst, Ok, Err, Result, IfOk, List}
+use Rattle.std.proofs.Common.{◌≡◌, true, rules, arith, subst, Ok, Err, Result, IfOk, IfErr, List, ◌≤◌}
 use Rattle.sqlite.specs.Order.{Row}
 use Rattle.sqlite.specs.Values.{bound}
 use Rattle.sqlite.specs.Held.{Held, state}
@@ -7,6 +7,12 @@ use Rattle.sqlite_trees.specs.declared.store.Store.{Ghosts}
 use Rattle.sqlite.proofs.StateLemmas.{clean_if_open}
 use Rattle.pid_rows.specs.Shows.{counts_of}
 use Rattle.pid_rows.specs.Leaves.{OnlyReads}
+use Rattle.sqlite.proofs.StateLemmas.{survives_then}
+use Rattle.sqlite.proofs.Callers.{survives_begin}
+use Rattle.pid_rows.specs.Causes.{IsCaused}
+use Rattle.pid_rows.specs.declared.fault.TableFault.{TableFault}
+use Rattle.pid_rows.specs.declared.fault.TableFault.TheVariants.{Memory, Store, NewerSchema, Damaged}
+use Rattle.pid_rows.proofs.CauseLemmas.{caused_first}
 use Rattle.pid_rows.proofs.LeaveLemmas.{given_back, begun_within}
 use Rattle.pid_rows.proofs.GoingLemmas.{holds_on, earlier}
 use Rattle.pid_rows.proofs.run.read_rows.Goals as goal
@@ -25,6 +31,7 @@ returns-clause-rests g c =
     let goes = rw c.transaction-tx.ensures.begun at c.read_inside.ensures.goes in
     let begun = state g.S.Store (record c.args.conn.now { in_transaction = true }) in
     subst (λ h. OnlyReads (state g.S.Store c.args.conn.now) (state g.S.Store h)) same (record {
+      survives = survives_begin g.S.Store c.args.conn.now (state g.S.Store end) (λ _. ⊥) (survives_then begun mid (state g.S.Store end) (λ _. ⊥) (λ _. ⊥) (λ _. ⊥) (λ clean db none. none) (λ clean db none. none) goes.survives c.drop-tx.ensures.survives);
       settled = c.drop-tx.ensures.ended;
       clean = λ clean. earlier begun mid goes.survives (earlier mid (state g.S.Store end) c.drop-tx.ensures.survives clean);
       kept = λ v rest.
@@ -39,3 +46,24 @@ returns-clause-shown g c clean =
     let late : HasCleanDisk (state g.S.Store end) = search rules in
     let mid : HasCleanDisk (state g.S.Store c.read_inside.new.tx.conn.now) = omega (arith, c.drop-tx.ensures.survives.clean) in
     there g.S.Store c.args.sql.now (bound c.args.params.now) _ c.read_inside.new.tx.conn.now c.read_inside.result (λ v. v.items) (rw c.transaction-tx.ensures.begun at (c.read_inside.ensures.shown mid))
+
+later : {S : Type 0} (g : Ghosts S) {X : Type 0} (old : Held S) (mid end : State) (r : Result X TableFault) → mid.faults ≤ end.faults → IfErr r (IsCaused (state g (record old { in_transaction = true })) mid) → IfErr r (IsCaused (state g old) end)
+later g old mid end (Ok x) more h = tt
+later g old mid end (Err e) more h = caused_first (state g old) mid end e more (same e h)
+  where
+    same : (e : TableFault) → IsCaused (state g (record old { in_transaction = true })) mid e → IsCaused (state g old) mid e
+    same Memory h = h
+    same Store h = h
+    same (NewerSchema n) h = h
+    same Damaged h = h
+
+pub returns-clause-caused : goal.returns-clause-caused
+returns-clause-caused g c clean v rest query =
+    let end = c.drop-tx.new.self.0 in
+    let same : end ≡ c.conn-1.given.0 = search rules in
+    let late : HasCleanDisk (state g.S.Store end) = search rules in
+    let mid : HasCleanDisk (state g.S.Store c.read_inside.new.tx.conn.now) = omega (arith, c.drop-tx.ensures.survives.clean) in
+    let begun = state g.S.Store (record c.args.conn.now { in_transaction = true }) in
+    let told : IfErr c.read_inside.result (IsCaused begun (state g.S.Store c.read_inside.new.tx.conn.now)) = rw c.transaction-tx.ensures.begun at (c.read_inside.ensures.caused mid) (λ opened. (rest.shows opened).schema) query in
+    subst (λ h. IfErr c.read_inside.result (IsCaused (state g.S.Store c.args.conn.now) (state g.S.Store h))) same
+    (later g.S.Store c.args.conn.now (state g.S.Store c.read_inside.new.tx.conn.now) (state g.S.Store end) c.read_inside.result c.drop-tx.ensures.survives.counts told)

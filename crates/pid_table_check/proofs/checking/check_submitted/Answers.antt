@@ -1,10 +1,10 @@
-use Rattle.std.proofs.Common.{◌≡◌, sym, subst, arith, ◌∙◌}
+use Rattle.std.proofs.Common.{sym, subst, arith}
 use Rattle.std.proofs.lemmas.Result.{err_from_is_err_and}
 use Rattle.sqlite.specs.Held.{state}
 use Rattle.sqlite.specs.State.{HasCleanDisk}
 use Rattle.pid_table_check.specs.Conditions.{rows_in}
 use Rattle.pid_table_check.specs.Reading.{Refutes}
-use Rattle.pid_table_check.proofs.Judging.{match_err, Ready, Both, first_fails, then_fails, then_good}
+use Rattle.pid_table_check.proofs.Judging.{match_err, Both, first_fails, then_fails, then_good}
 use Rattle.pid_table_check.proofs.checking.check_submitted.Goals as goal
 
 pub returns-in_err-rows-clause-checks : goal.returns-in_err-rows-clause-checks

@@ -8,7 +8,7 @@ use Rattle.pid_table_check.proofs.Whole.{newer_moved, rest_told}
 use Rattle.pid_table_check.proofs.checking.check_tables.Goals as goal
 
 pub returns-in-Some-clause-checks : goal.returns-in-Some-clause-checks
-returns-in-Some-clause-checks g c clean has single =
+returns-in-Some-clause-checks g c clean has =
     let it = c.in_ok-meta.ensures.answers clean has in
     newer_moved c.in-Some.number c.in_ok-meta.meta.items _ (IsPermutation-sym _ _ it.0) (subst (IsNewer c.in-Some.number) c.as_slice.ensures.value c.in-Some.ensures.found)
 

@@ -1,7 +1,5 @@
-use Rattle.std.proofs.Common.{refl}
-use Rattle.pid_table_check.proofs.WholeTexts.{submission_is}
-use Rattle.pid_table_check.proofs.WholeReads.{answers}
+use Rattle.pid_table_check.proofs.InOrder.{submissions_answer}
 use Rattle.pid_table_check.proofs.read.submission_rows.Goals as goal
 
 pub returns-clause-answers : goal.returns-clause-answers
-returns-clause-answers g c clean has = answers _ _ _ _ submission_is _ _ has c.all_rows.result (λ t. t.submissions) refl (c.all_rows.ensures.shown clean) (c.all_rows.ensures.untold clean has)
+returns-clause-answers g c clean has = submissions_answer _ _ has c.all_rows.result (c.all_rows.ensures.shown clean) (c.all_rows.ensures.untold clean has)

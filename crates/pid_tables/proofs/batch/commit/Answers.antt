@@ -3,6 +3,9 @@ use Rattle.sqlite.proofs.StateLemmas.{clean_if_open}
 use Rattle.pid_rows.proofs.LeaveLemmas.{stands, failed_back, on_err}
 use Rattle.pid_rows.proofs.GoingLemmas.{earlier}
 use Rattle.pid_rows.specs.Shows.{counts_of}
+use Rattle.pid_rows.specs.Causes.{IsCaused}
+use Rattle.pid_rows.proofs.CauseLemmas.{passed_from}
+use Rattle.pid_tables.proofs.CommitLemmas.{commit_caused}
 use Rattle.pid_tables.proofs.batch.commit.Goals as goal
 
 pub returns-clause-stands : goal.returns-clause-stands
@@ -16,3 +19,9 @@ returns-in_err-commit-clause-given_back g c v w written =
     let end = c.commit.new.self.0 in
     let old = state g.S.Store c.args.batch.conn.now in
     on_err c.from_residual.result (failed_back old (state g.S.Store end) (counts_of w) v w _ (clean_if_open (g.S.Store.view end.store) (g.met.S.Store.shut_if_dirty end.store)) (earlier old (state g.S.Store end) c.commit.ensures.survives) c.in_err-commit.ensures.err written)
+
+pub returns-in_err-commit-clause-caused : goal.returns-in_err-commit-clause-caused
+returns-in_err-commit-clause-caused g c clean inside =
+    let old = state g.S.Store c.args.batch.conn.now in
+    let new = state g.S.Store c.commit.new.self.0 in
+    passed_from c.from_residual.result _ (IsCaused old new) c.from_residual.ensures.1 (commit_caused old new c.in_err-commit.field-0.0 inside (c.in_err-commit.ensures.err clean))

@@ -1,6 +1,8 @@
 use Rattle.std.proofs.Common.{arith}
 use Rattle.sqlite.specs.Held.{state}
 use Rattle.sqlite.specs.State.{HasCleanDisk}
+use Rattle.pid_rows.specs.Faults.{IsUntold}
+use Rattle.pid_rows.proofs.CauseLemmas.{passed_on}
 use Rattle.pid_tables.proofs.batch.decision.Goals as goal
 
 pub returns-in-None-clause-shows : goal.returns-in-None-clause-shows
@@ -11,3 +13,7 @@ returns-in-Some-clause-shows g c = rw c.in-Some.is (λ clean inside counts v sho
     let early : HasCleanDisk (state g.S.Store c.decide.new.tx.conn.now) = omega (arith, c.write_item.ensures.goes.survives.clean) in
     let first = c.in_ok-decide.ensures in
     c.write_item.ensures.shows clean (first.goes.going early inside).1 counts _ (first.shows early inside counts v shows fits.0) fits.1.1)
+
+pub returns-in_err-decide-clause-shows : goal.returns-in_err-decide-clause-shows
+returns-in_err-decide-clause-shows g c clean inside counts v shows fits =
+    passed_on c.from_residual.result _ _ IsUntold c.from_residual.ensures.1 (c.in_err-decide.ensures.shows clean inside counts v shows fits.0)

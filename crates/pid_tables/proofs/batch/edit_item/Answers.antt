@@ -1,4 +1,12 @@
+use Rattle.pid_moderation.specs.Items.{name_at}
+use Rattle.pid_tables.proofs.ApplyLemmas.{none_there}
 use Rattle.pid_tables.proofs.batch.edit_item.Goals as goal
 
 pub returns-in-Remove-clause-shows : goal.returns-in-Remove-clause-shows
 returns-in-Remove-clause-shows g c = rw c.in-Remove.is (λ clean inside counts v shows fits. c.remove_item.ensures.shows clean inside counts v shows tt)
+
+pub returns-in-Add-clause-shows : goal.returns-in-Add-clause-shows
+returns-in-Add-clause-shows g c = rw c.in-Add.is (λ clean inside counts v shows fits. (rw c.as_str.ensures.text at c.add_item.ensures.shows) clean inside counts v shows (none_there (name_at c.args.path.now v.items) fits))
+
+pub returns-in-Rename-clause-shows : goal.returns-in-Rename-clause-shows
+returns-in-Rename-clause-shows g c = rw c.in-Rename.is (λ clean inside counts v shows fits. (rw c.as_str-in-Rename.ensures.text at c.rename_item.ensures.shows) clean inside counts v shows fits)

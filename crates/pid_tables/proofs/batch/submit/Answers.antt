@@ -1,6 +1,8 @@
 use Rattle.std.proofs.Common.{arith}
 use Rattle.sqlite.specs.Held.{state}
 use Rattle.sqlite.specs.State.{HasCleanDisk}
+use Rattle.pid_rows.specs.Faults.{IsUntold}
+use Rattle.pid_rows.proofs.CauseLemmas.{passed_on}
 use Rattle.pid_tables.proofs.batch.submit.Goals as goal
 
 pub returns-clause-shows : goal.returns-clause-shows
@@ -8,3 +10,7 @@ returns-clause-shows g c clean inside counts v shows last =
     let early : HasCleanDisk (state g.S.Store c.add_submission.new.tx.conn.now) = omega (arith, c.count_submissions.ensures.goes.survives.clean) in
     let first = c.in_ok-add_submission.ensures in
     c.count_submissions.ensures.shows clean (first.goes.going early inside).1 counts _ (first.shows early inside counts v shows last) tt
+
+pub returns-in_err-add_submission-clause-shows : goal.returns-in_err-add_submission-clause-shows
+returns-in_err-add_submission-clause-shows g c clean inside counts v shows last =
+    passed_on c.from_residual.result _ _ IsUntold c.from_residual.ensures.1 (c.in_err-add_submission.ensures.shows clean inside counts v shows last)

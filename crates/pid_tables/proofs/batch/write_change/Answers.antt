@@ -2,9 +2,14 @@ use Rattle.std.proofs.Common.{Some, None, subst, arith}
 use Rattle.sqlite.specs.Held.{state}
 use Rattle.sqlite.specs.State.{HasCleanDisk}
 use Rattle.pid_moderation.specs.Changes.{FitsReceipt}
-use Rattle.pid_rows.proofs.ShowLemmas.{on_ok}
-use Rattle.pid_tables.proofs.ApplyLemmas.{receipt_still_fits, whole_with}
+use Rattle.pid_rows.specs.Faults.{IsUntold}
+use Rattle.pid_rows.proofs.CauseLemmas.{passed_on}
+use Rattle.pid_tables.proofs.ApplyLemmas.{receipt_still_fits, whole_with, either_side}
 use Rattle.pid_tables.proofs.batch.write_change.Goals as goal
+
+pub returns-in_err-write_effect-clause-shows : goal.returns-in_err-write_effect-clause-shows
+returns-in_err-write_effect-clause-shows g c clean inside counts v shows counted fits =
+    passed_on c.from_residual.result _ _ IsUntold c.from_residual.ensures.1 (c.in_err-write_effect.ensures.shows clean inside counts v shows fits.0)
 
 pub returns-in-None-clause-shows : goal.returns-in-None-clause-shows
 returns-in-None-clause-shows g c clean inside counts v shows counted fits =
@@ -18,5 +23,5 @@ returns-in-Some-clause-shows g c clean inside counts v shows counted fits =
     let change = c.args.change.now in
     let r = c.in-Some.receipt in
     let free : FitsReceipt (Some r) v = subst (λ r. FitsReceipt r v) c.in-Some.is fits.1 in
-    on_ok c.keep_reply.result (whole_with change (Some r) counts v (state g.S.Store c.keep_reply.new.tx.conn.now).now c.in-Some.is counted fits.0)
+    either_side _ c.keep_reply.result (whole_with change (Some r) counts v (state g.S.Store c.keep_reply.new.tx.conn.now).now c.in-Some.is counted fits.0)
     (c.keep_reply.ensures.shows clean (first.goes.going early inside).1 _ _ (first.shows early inside counts v shows fits.0) (receipt_still_fits change.effect (Some r) v free))

@@ -1,0 +1,210 @@
+-- Which faults a write of rows may give on tables of the schema.
+use Rattle.std.proofs.Common.{◌≡◌, inl, inr, ℕ, ℤ, List, [], fold, Bool, true, false, slice_get, Option, Some, None, Ok, Err, Result, IfErr, MatchResult, OnOk, sym, subst}
+use Rattle.std.proofs.lemmas.Bool.{cases_Bool}
+use Rattle.std.specs.Prelude.{MatchBool, option_map, if◌then◌else◌}
+use Rattle.std.specs.Ordering.{is_lt, int_cmp}
+use Rattle.sqlite.specs.Order.{Row}
+use Rattle.sqlite.specs.Tree.{Trees}
+use Rattle.sqlite.specs.Table.{Table}
+use Rattle.sqlite.specs.Listing.{understood}
+use Rattle.sqlite.specs.Clock.{timed}
+use Rattle.sqlite.specs.Command.{Command}
+use Rattle.sqlite.specs.Command.TheVariants.{Insert, Update, Delete}
+use Rattle.sqlite.specs.Source.{Source}
+use Rattle.sqlite.specs.Source.TheVariants.{Values, Query}
+use Rattle.sqlite.specs.Edit.{Edit, edit_of}
+use Rattle.sqlite_rules.specs.Calls.{ids_of}
+use Rattle.sqlite_rules.specs.declared.error.Rowids.TheVariants.{Given}
+use Rattle.sqlite.specs.declared.run.Mode.{Mode}
+use Rattle.sqlite.specs.declared.error.Error.{Error}
+use Rattle.sqlite.specs.declared.error.Error.TheVariants.{SqliteFailure, InvalidQuery, ExecuteReturnedResults}
+use Rattle.sqlite.specs.declared.error.ErrorCode.TheVariants as code
+use Rattle.sqlite.specs.Effect.{Database, RefusesQuery, RefusesSource, edit_error}
+use Rattle.sqlite.specs.Rows.{Outcome, Gives, Then, Queried, Sourced, Edited, Counter, CounterIn, Counts, CountsIn, Inserts, Updates, Deletes, Task, Written, sequence, stamped, rowids_for, count_of, higher}
+use Rattle.sqlite.specs.Does.{Does, AtPlace, OnRows, Concludes, Tally}
+use Rattle.sqlite.specs.State.{State, RunsCommand, shows_rows, ExecutesInside, ExecutesIn, text_of, mode_of}
+use Rattle.sqlite.proofs.Callers.{IsPlain, command_of}
+use Rattle.sqlite_resolve.specs.declared.compiled.Compiled.{Compiled}
+use Rattle.sqlite_resolve.specs.declared.error.CompileError.{CompileError}
+use Rattle.sqlite_rules.specs.declared.error.Refusal.{Refusal}
+use Rattle.sqlite_rules.specs.declared.error.Refusal.TheVariants.{Violates, Mismatch, NoRowid, BadReference, TooDeep}
+use Rattle.sqlite_schema.specs.declared.program.Program.{Program}
+use Rattle.sqlite_schema.specs.declared.schema.Constraint.TheVariants.{ForeignKey}
+use Rattle.sqlite_schema.specs.declared.schema.Keys.{Keys}
+use Rattle.sqlite_schema.specs.declared.schema.Schema.{Schema}
+use Rattle.pid_rows.specs.declared.fault.TableFault.{TableFault}
+use Rattle.pid_rows.specs.Faults.{fault_of, IsUntold}
+use Rattle.pid_rows.specs.Queries.{WritesRows, IsWriteAs}
+use Rattle.pid_rows.specs.Schema.{pid_schema}
+use Rattle.pid_rows.proofs.FaultLemmas.{failed, of_store, moved, not_run}
+use Rattle.pid_rows.proofs.Statements.{IsInsert, IsUpdate, IsDelete}
+use Rattle.sqlite.specs.Term.{Term}
+
+-- a part that stops where the whole refuses has refused so
+stopped : {A : Type 0} (e : Error) (P : Option Error → Type 0) (stop : Option Error) → ((x : Error) → P (Some x) → IsUntold (fault_of x)) → P stop → ◌≡◌ {A = Result A (Option Error)} (Err (Some e)) (Err stop) → IsUntold (fault_of e)
+stopped e P stop told h same = let is : stop ≡ Some e = cc in told e (subst P is h)
+
+no_value : {A : Type 0} {Q : Type 0} (stop : Option Error) (a : A) → ◌≡◌ {A = Result A (Option Error)} (Err stop) (Ok a) → Q
+no_value stop a h = absurd (let bad : ⊥ = cc in bad)
+
+refused : {A : Type 0} (e f : Error) → ◌≡◌ {A = Result A (Option Error)} (Err (Some e)) (Err (Some f)) → IsUntold (fault_of f) → IsUntold (fault_of e)
+refused e f h untold = let same : e ≡ f = cc in moved e f same untold
+
+either : {P Q U : Type 0} (b : Bool) → (P → U) → (Q → U) → MatchBool b P Q → U
+either true p q h = p h
+either false p q h = q h
+
+query_told : (limit : Option ℕ) (db : Database) (q : Program) (params : Row) (e : Error) → RefusesQuery limit db q params e → IsUntold (fault_of e)
+query_told limit db q params e (inl h) = moved e _ h.0 (failed code.TypeMismatch)
+query_told limit db q params e (inr (inl h)) = moved e _ h.0 (failed code.IntegerOverflow)
+query_told limit db q params e (inr (inr h)) = moved e _ h.0 (failed code.OperationInterrupted)
+
+source_told : (limit : Option ℕ) (db : Database) (params : Row) (from : Source) (e : Error) → RefusesSource limit db params from e → IsUntold (fault_of e)
+source_told limit db params (Values terms width) e (inl h) = moved e _ h.0 (failed code.TypeMismatch)
+source_told limit db params (Values terms width) e (inr h) = moved e _ h.0 (failed code.OperationInterrupted)
+source_told limit db params (Query q) e h = query_told limit db q params e h
+
+refusal_told : (r : Refusal) → IsUntold (fault_of (edit_error r))
+refusal_told (Violates rule) = failed (code.ConstraintViolation rule)
+refusal_told Mismatch = failed code.TypeMismatch
+refusal_told BadReference = failed code.ForeignKeyMismatch
+refusal_told NoRowid = failed code.NoRowid
+refusal_told TooDeep = failed code.TooDeep
+
+why_told : (why : Option Refusal) (e : Error) → Some e ≡ option_map edit_error why → IsUntold (fault_of e)
+why_told None e same = absurd (let bad : ⊥ = cc in bad)
+why_told (Some r) e same = let is : e ≡ edit_error r = cc in moved e _ is (refusal_told r)
+
+edit_told : (schema : Schema) (keys : Keys) (db : Trees) (edit : Edit) (e : Error) → Edited schema keys db edit (Err (Some e)) → IsUntold (fault_of e)
+edit_told schema keys db edit e h = why_told h.0 e h.2
+
+module _ (task : Task) where
+  open task use {limit, keys, schema, table, params}
+
+  at : Trees → Database
+  at db = record { schema = task.schema; trees = db }
+
+  counter_in_told : (db : Trees) (o : Option Table) (e : Error) → CounterIn task db o (Err (Some e)) → IsUntold (fault_of e)
+  counter_in_told db None e h = refused e InvalidQuery h tt
+  counter_in_told db (Some counters) e h = no_value _ _ h
+
+  counter_told : (db : Trees) (e : Error) → Counter task db (Err (Some e)) → IsUntold (fault_of e)
+  counter_told db e h = either table.is_counted (counter_in_told db (sequence schema) e) (λ k. no_value _ _ k) h
+
+  counts_in_told : (db : Trees) (counter : Option Row) (top : ℤ) (o : Option Table) (e : Error) → CountsIn task db counter top o (Err (Some e)) → IsUntold (fault_of e)
+  counts_in_told db counter top None e h = refused e InvalidQuery h tt
+  counts_in_told db counter top (Some counters) e h = edit_told _ _ _ _ e h
+
+  counts_told : (db : Trees) (counter : Option Row) (top : ℤ) (e : Error) → Counts task db counter top (Err (Some e)) → IsUntold (fault_of e)
+  counts_told db counter top e h = either (if table.is_counted then is_lt (int_cmp (count_of counter) top) else false) (counts_in_told db counter top (sequence schema) e) (unchanged db e) h
+    where
+      unchanged : (db : Trees) (e : Error) → Gives db (Err (Some e)) → IsUntold (fault_of e)
+      unchanged db e k = no_value _ _ k
+
+  inserts_told : (from : Source) (db : Trees) (e : Error) → Inserts task from db (Err (Some e)) → IsUntold (fault_of e)
+  unfolding at
+  inserts_told from db e (inl h) = stopped e (λ s. Sourced limit (at db) (stamped table params) from (Err s)) h.0 (source_told limit (at db) (stamped table params) from) h.1 h.2
+  inserts_told from db e (inr (rows, given, inl h)) = stopped e (λ s. Counter task db (Err s)) h.0 (counter_told db) h.1 h.2
+  inserts_told from db e (inr (rows, given, inr (counter, counted, inl h))) =
+      let edit = edit_of db table [] (rowids_for table (count_of counter)) 0 rows in
+      stopped e (λ s. Edited schema keys db edit (Err s)) h.0 (edit_told schema keys db edit) h.1 h.2
+  inserts_told from db e (inr (rows, given, inr (counter, counted, inr (mid, made, inl h)))) =
+      let top = fold higher (count_of counter) (edit_of db table [] (rowids_for table (count_of counter)) 0 rows).news in
+      stopped e (λ s. Counts task mid counter top (Err s)) h.0 (counts_told mid counter top) h.1 h.2
+  inserts_told from db e (inr (rows, given, inr (counter, counted, inr (mid, made, inr (next, noted, h))))) = no_value _ _ h
+
+  updates_told : (q : Program) (given : Row) (db : Trees) (e : Error) → Updates task q given db (Err (Some e)) → IsUntold (fault_of e)
+  unfolding at
+  updates_told q given db e (inl h) = stopped e (λ s. Queried limit (at db) q given (Err s)) h.0 (query_told limit (at db) q given) h.1 h.2
+  updates_told q given db e (inr (rows, found, inl h)) =
+      let edit = edit_of db table (ids_of rows) Given 1 rows in
+      stopped e (λ s. Edited schema keys db edit (Err s)) h.0 (edit_told schema keys db edit) h.1 h.2
+  updates_told q given db e (inr (rows, found, inr (next, made, h))) = no_value _ _ h
+
+  deletes_told : (q : Program) (db : Trees) (e : Error) → Deletes task q db (Err (Some e)) → IsUntold (fault_of e)
+  unfolding at
+  deletes_told q db e (inl h) = stopped e (λ s. Queried limit (at db) q params (Err s)) h.0 (query_told limit (at db) q params) h.1 h.2
+  deletes_told q db e (inr (rows, found, inl h)) =
+      let edit = edit_of db table (ids_of rows) Given 0 [] in
+      stopped e (λ s. Edited schema keys db edit (Err s)) h.0 (edit_told schema keys db edit) h.1 h.2
+  deletes_told q db e (inr (rows, found, inr (next, made, h))) = no_value _ _ h
+
+  concludes_told : (mode : Mode) (w : Written) (e : Error) → Concludes task mode None w (Err (Some e)) → IsUntold (fault_of e)
+  concludes_told mode w e (inl h) =
+      let broken = SqliteFailure (code.ConstraintViolation ForeignKey) in
+      let is : h.0 ≡ Some e = (let same = h.2 in cc) in
+      let same : e ≡ broken = (let why = h.1.1 in cc) in
+      moved e broken same (failed (code.ConstraintViolation ForeignKey))
+  concludes_told mode w e (inr (doubt, tested, inl h)) = no_value _ _ h.1
+  concludes_told mode w e (inr (doubt, tested, inr (rows, none, h))) = no_value _ _ h
+
+  rows_told : (mode : Mode) (P : Outcome Written → Type 0) → ((e : Error) → P (Err (Some e)) → IsUntold (fault_of e)) → (e : Error) → Then P (Concludes task mode None) (Err (Some e)) → IsUntold (fault_of e)
+  rows_told mode P told e (inl h) = stopped e (λ s. P (Err s)) h.0 told h.1 h.2
+  rows_told mode P told e (inr h) = concludes_told mode h.0 e h.2
+
+at_place : (P : Table → Outcome (Tally × Database) → Type 0) (o : Option Table) (e : Error) → ((t : Table) → P t (Err (Some e)) → IsUntold (fault_of e)) → AtPlace P o (Err (Some e)) → IsUntold (fault_of e)
+at_place P None e told h = refused e InvalidQuery h tt
+at_place P (Some t) e told h = told t h
+
+module _ (limit : Option ℕ) (mode : Mode) (params : Row) (db : Database) (text : List ℕ) where
+  abbrev job : Table → Task
+  job table = record { limit = limit; keys = mode.keys; schema = db.schema; table = table; params = params }
+
+  does_told : (command : Command) → WritesRows command → (e : Error) → Does limit mode params db text None command (Err (Some e)) → IsUntold (fault_of e)
+  does_told (Insert at from) w e h =
+      at_place (λ t. OnRows (job t) mode None (Insert at from) db.trees) (slice_get db.schema.tables at) e (λ t. rows_told (job t) mode (Inserts (job t) from db.trees) (inserts_told (job t) from db.trees) e) h
+  does_told (Update at q) w e h =
+      at_place (λ t. OnRows (job t) mode None (Update at q) db.trees) (slice_get db.schema.tables at) e (λ t. rows_told (job t) mode (Updates (job t) q params db.trees) (updates_told (job t) q params db.trees) e) h
+  does_told (Delete at q) w e h =
+      at_place (λ t. OnRows (job t) mode None (Delete at q) db.trees) (slice_get db.schema.tables at) e (λ t. rows_told (job t) mode (Deletes (job t) q db.trees) (deletes_told (job t) q db.trees) e) h
+  does_told _ w e h = absurd w
+
+known_write : (r : Result Compiled CompileError) (c : Compiled) → r ≡ Ok c → IsWriteAs r → (c.returning ≡ None) × WritesRows c.command
+known_write (Ok d) c is h = let same : d ≡ c = cc in subst (λ x. (x.returning ≡ None) × WritesRows x.command) same h
+known_write (Err e) c is h = absurd h
+
+never_bad : (r : Result Compiled CompileError) (fault : CompileError) → IsWriteAs r → r ≡ Err fault → ⊥
+never_bad (Ok c) fault h e = cc
+never_bad (Err x) fault h e = h
+
+module _ (sql : List ℕ) (params : Row) (old new : State) (has : old.now.schema ≡ pid_schema) (write : IsWriteAs (understood pid_schema sql)) (e : Error) where
+  known : IsWriteAs (understood old.now.schema sql)
+  known = subst (λ x. IsWriteAs (understood x sql)) (sym has) write
+
+  ran : (c : Compiled) (given : Row) → (c.returning ≡ None) × WritesRows c.command → RunsCommand old new sql c given (Err e) → IsUntold (fault_of e)
+  ran c given it (inl (inl (inl misplaced), same)) = moved e _ misplaced.0 (failed code.TransactionState)
+  ran c given it (inl (inl (inr unnamed), same)) = moved e _ unnamed.0 (failed code.NoSuchSavepoint)
+  ran c given it (inl (inr refused, same)) = does_told old.step_limit (mode_of old) given old.now (text_of sql c) c.command it.1 e (subst (λ r. Does old.step_limit (mode_of old) given old.now (text_of sql c) r c.command (Err (Some e))) it.0 refused.1)
+  ran c given it (inr fails) = moved e _ fails.1 (of_store fails.0)
+
+  runs : ExecutesIn false sql params old new (Err e) → IsUntold (fault_of e)
+  unfolding ExecutesIn
+  runs (inl h) = not_run sql params old new e (λ fault is. never_bad _ fault known is) h
+  runs (inr h) = elim (cases_Bool (shows_rows false h.0)) [
+    | inl shows ↦ let odd = (rw shows at h.2).0 in let same : e ≡ ExecuteReturnedResults = cc in moved e _ same tt
+    | inr writes ↦ ran h.0 (timed params h.0.formats h.1.now) (known_write _ h.0 h.1.is known) (rw writes at h.2)
+  ]
+
+  pub write_untold : ExecutesInside 0 sql params old new (Err e) → IsUntold (fault_of e)
+  write_untold (inl h) = runs h.0
+  write_untold (inr h) = moved e _ h.1 (failed code.TransactionState)
+
+-- ---- which texts write rows
+
+known_text : (r : Result Compiled CompileError) (command : Command) → command_of r ≡ command → WritesRows command → IsPlain r → IsWriteAs r
+known_text (Ok c) command is writes plain = (plain.0, subst WritesRows (sym is) writes)
+known_text (Err e) command is writes plain = plain
+
+pub insert_writes : {at : ℕ} {terms : List Term} {width : ℕ} {sql : List ℕ} → IsInsert at terms width sql → IsWriteAs (understood pid_schema sql)
+insert_writes h = known_text _ _ h.is tt h.plain
+
+pub update_writes : {at tree : ℕ} {tests change : List Term} {sql : List ℕ} → IsUpdate at tree tests change sql → IsWriteAs (understood pid_schema sql)
+update_writes h = known_text _ _ h.is tt h.plain
+
+pub delete_writes : {at tree : ℕ} {tests : List Term} {sql : List ℕ} → IsDelete at tree tests sql → IsWriteAs (understood pid_schema sql)
+delete_writes h = known_text _ _ h.is tt h.plain
+
+-- the write leads on, or its fault tells nothing
+pub led : {X : Type 0} {P Q : Type 0} (r : Result X TableFault) → (P → Q) → OnOk r P → IfErr r IsUntold → MatchResult r (λ _. Q) IsUntold
+led (Ok x) f h untold = f h
+led (Err e) f h untold = untold

@@ -1,0 +1,46 @@
+-- Texts that are queries on the six tables, or writes of rows.
+use Rattle.std.specs.Prelude.{◌≡◌, ℕ, ◌≤◌, true, false, List, [], length, None, Result, Ok, Err}
+use Rattle.sqlite.specs.Order.{Row}
+use Rattle.sqlite.specs.Tree.{Trees}
+use Rattle.sqlite.specs.Listing.{understood, reads_listing}
+use Rattle.sqlite.specs.Command.{Command}
+use Rattle.sqlite.specs.Command.TheVariants.{Select, Insert, Update, Delete}
+use Rattle.sqlite_resolve.specs.declared.compiled.Compiled.{Compiled}
+use Rattle.sqlite_resolve.specs.declared.error.CompileError.{CompileError}
+use Rattle.sqlite_schema.specs.Program.{lets_of}
+use Rattle.sqlite_sql.specs.Program.{ProgramOverflows}
+use Rattle.sqlite_typing.specs.Types.{accepts_program}
+use Rattle.pid_rows.specs.Schema.{pid_schema}
+
+-- a query whose types accept the parameters, and whose sums never overflow
+abbrev pub Asks : Row → Command → Type 0
+Asks params (Select q names) = (accepts_program pid_schema (lets_of q) q.body params ≡ true) × ((db : Trees) → ProgramOverflows db params [] (lets_of q) q.body → ⊥)
+Asks params _ = ⊥
+
+-- one statement alone, with as many parameters as are given, without RETURNING, that does not read the time
+pub record IsOneStatement (sql : List ℕ) (params : Row) (c : Compiled) : Type 0 where
+  pub whole : length sql ≤ c.tail
+  pub given : length params ≡ length c.names
+  pub bare : c.returning ≡ None
+  pub timeless : c.formats ≡ []
+
+abbrev pub IsQueryAs : List ℕ → Row → Result Compiled CompileError → Type 0
+IsQueryAs sql params (Ok c) = IsOneStatement sql params c × Asks params c.command
+IsQueryAs sql params (Err e) = ⊥
+
+-- the text is one query on the tables, and nothing about it is refused
+pub record IsQuery (sql : List ℕ) (params : Row) : Type 0 where
+  pub known : IsQueryAs sql params (understood pid_schema sql)
+  pub unlisted : reads_listing pid_schema sql ≡ false
+
+-- INSERT, UPDATE and DELETE
+abbrev pub WritesRows : Command → Type 0
+WritesRows (Insert at from) = Unit {0}
+WritesRows (Update at q) = Unit {0}
+WritesRows (Delete at q) = Unit {0}
+WritesRows _ = ⊥
+
+-- the text writes rows of the tables, without RETURNING
+abbrev pub IsWriteAs : Result Compiled CompileError → Type 0
+IsWriteAs (Ok c) = (c.returning ≡ None) × WritesRows c.command
+IsWriteAs (Err e) = ⊥

@@ -1,0 +1,158 @@
+-- What it leaves, and what it tells, to prepare the text of a query.
+use Rattle.std.proofs.Common.{◌≡◌, ◌⊎◌, inl, inr, ℕ, List, [], ◌∷◌, Bool, true, false, Some, Ok, Err, Result, IfOk, IfErr, IsTrue, refl, sym, ap, subst, ◌∙◌, ◌+◌, ◌<◌, length, get_or, arith}
+use Rattle.sqlite.proofs.StateLemmas.{survives_then}
+use Rattle.std.specs.Result.{result_err}
+use Rattle.std.specs.List.{All, Any}
+use Rattle.std.specs.Prelude.{◌↔◌}
+use Rattle.sqlite.specs.Order.{Row}
+use Rattle.sqlite.specs.Listing.{understood}
+use Rattle.sqlite.specs.Schema.{Schema}
+use Rattle.sqlite.specs.State.{State, HasCleanDisk, Survives, IsUnchanged, IsRolledBack, IsNotRun, store_error}
+use Rattle.sqlite.specs.declared.error.Error.{Error}
+use Rattle.sqlite_resolve.specs.declared.error.CompileError.{CompileError}
+use Rattle.sqlite_trees.specs.declared.error.StoreError.{StoreError}
+use Rattle.sqlite_trees.specs.declared.error.StoreError.TheVariants as store
+use Rattle.sqlite_rules.specs.Lists as members
+use Rattle.pid_moderation.specs.Views.{Views}
+use Rattle.pid_rows.specs.declared.fault.TableFault.TheVariants.{Damaged}
+use Rattle.pid_rows.specs.Faults.{fault_of}
+use Rattle.pid_rows.specs.Leaves.{AtRest, OnlyReads}
+use Rattle.pid_rows.specs.Shows.{Shows}
+use Rattle.pid_rows.proofs.LeaveLemmas.{leaves_on}
+use Rattle.pid_rows.proofs.Lengths.{mapped, unmapped}
+use Rattle.pid_rows.proofs.GoingLemmas.{earlier}
+use Rattle.pid_table_check.specs.declared.shape.Table.{Table}
+use Rattle.pid_table_check.specs.declared.shape.Table.TheVariants.{Meta, Account, Item, Submission, Remark, Receipt}
+use Rattle.pid_table_check.specs.Queries.{query_of}
+use Rattle.pid_table_check.specs.Shapes.{table_texts, IsAsked, HasEachTable, HasSomeTable}
+use Rattle.pid_table_check.proofs.Each.{same_there, one_more, each_member, each_place, some_member, some_place}
+
+pub err_of : {X E : Type 0} (r : Result X E) (e : E) → result_err r ≡ Some e → r ≡ Err e
+err_of (Ok x) e h = cc
+err_of (Err f) e h = cc
+
+not_run : (old new : State) (sql : List ℕ) (params : Row) (e : Error) → IsNotRun old new sql params e → IsUnchanged old new ⊎ IsRolledBack old new
+unfolding IsNotRun
+not_run old new sql params e (inl refused) = inl refused.1
+not_run old new sql params e (inr fails) = inr fails.3
+
+left_by : {X : Type 0} (P : X → Type 0) (r : Result X Error) (old new : State) (sql : List ℕ) → IfOk r (λ s. P s × IsUnchanged old new) → IfErr r (λ e. (params : Row) → IsNotRun old new sql params e)
+    → IsUnchanged old new ⊎ IsRolledBack old new
+left_by P (Ok x) old new sql good bad = inl good.1
+left_by P (Err e) old new sql good bad = not_run old new sql [] e (bad [])
+
+at_rest : (old new : State) (v : Views) → AtRest old v → IsUnchanged old new ⊎ IsRolledBack old new → IsTrue new.is_open → (new.now ≡ new.committed) × Shows new.now v
+at_rest old new v rest (inl same) opened = (same.0.now_is ∙ rest.same same.0.was_open ∙ sym same.0.committed_is, subst (λ d. Shows d v) (sym same.0.now_is) (rest.shows same.0.was_open))
+at_rest old new v rest (inr back) opened =
+    let was = back.was_open opened in
+    let undone = back.undone opened in
+    (undone.0 ∙ sym undone.1, subst (λ d. Shows d v) (rest.same was ∙ sym undone.0) (rest.shows was))
+
+pub rests : {X : Type 0} (P : X → Type 0) (r : Result X Error) (old new : State) (sql : List ℕ) → (IsTrue new.is_open → HasCleanDisk new) → new.in_transaction ≡ false → Survives old new (λ _. ⊥)
+    → (HasCleanDisk new → IfOk r (λ s. P s × IsUnchanged old new)) → (HasCleanDisk new → IfErr r (λ e. (params : Row) → IsNotRun old new sql params e)) → OnlyReads old new
+rests P r old new sql law ended survives good bad = record {
+  survives = survives;
+  settled = ended;
+  clean = earlier old new survives;
+  kept = λ v rest.
+      let now = λ (opened : IsTrue new.is_open). at_rest old new v rest (left_by P r old new sql (good (law opened)) (bad (law opened))) opened in
+      record { settled = ended; same = λ opened. (now opened).0; shows = λ opened. (now opened).1; leaves = leaves_on old new v survives rest.leaves };
+}
+
+of_store : (cause : StoreError) → fault_of (store_error cause) ≡ Damaged → ⊥
+of_store store.OutOfMemory h = cc
+of_store store.Io h = cc
+of_store store.Corrupt h = cc
+of_store store.Full h = cc
+of_store store.Broken h = cc
+of_store store.Unstorable h = cc
+
+-- only a text that is not understood is refused as damage
+pub refused : (old new : State) (sql : List ℕ) (e : Error) → IsNotRun old new sql [] e → fault_of e ≡ Damaged → ((f : CompileError) × (understood old.now.schema sql ≡ Err f)) × IsUnchanged old new
+unfolding IsNotRun
+refused old new sql e (inl (inl h, same)) damaged = ((h.0, h.1), same)
+refused old new sql e (inl (inr h, same)) damaged = absurd (elim h.2 [
+  | inl many ↦ let bad = sym (ap fault_of many.1) ∙ damaged in cc
+  | inr other ↦ elim other [ inl count ↦ let bad = sym (ap fault_of count.1) ∙ damaged in cc | inr clock ↦ let bad = sym (ap fault_of clock.1) ∙ damaged in cc ]
+])
+refused old new sql e (inr fails) damaged = absurd (of_store fails.0 (sym (ap fault_of fails.1) ∙ damaged))
+
+pub unasked : (schema : Schema) (sql : List ℕ) (f : CompileError) → understood schema sql ≡ Err f → IsAsked schema sql → ⊥
+unasked schema sql f is asked = let both = sym is ∙ asked.1 in cc
+
+-- ---- one after the other
+
+pub nothing_read : (s : State) → s.in_transaction ≡ false → OnlyReads s s
+nothing_read s settled = record { survives = record { clean = omega arith; shield = λ h. h; counts = omega arith; limit = refl; closes = λ clean opened. inl opened; crash = λ clean db may. inl may }; settled = settled; clean = λ clean. clean; kept = λ v rest. rest }
+
+pub reads_then : (a b c : State) → OnlyReads a b → OnlyReads b c → OnlyReads a c
+reads_then a b c one two = record { survives = survives_then a b c (λ _. ⊥) (λ _. ⊥) (λ _. ⊥) (λ clean db none. none) (λ clean db none. none) one.survives two.survives; settled = two.settled; clean = λ clean. one.clean (two.clean clean); kept = λ v rest. two.kept v (one.kept v rest) }
+
+-- it only read so far, and the database is the same
+abbrev pub IsSame : State → State → Type 0
+IsSame old now = OnlyReads old now × (HasCleanDisk now → now.now ≡ old.now)
+
+pub same_first : (s : State) → s.in_transaction ≡ false → IsSame s s
+same_first s settled = (nothing_read s settled, λ clean. refl)
+
+pub same_then : (a b c : State) → IsSame a b → OnlyReads b c → (HasCleanDisk c → c.now ≡ b.now) → IsSame a c
+same_then a b c one rests same = (reads_then a b c one.0 rests, λ clean. same clean ∙ one.1 (rests.clean clean))
+
+-- what is said of the schema in between is said of the first
+pub said_first : (a b c : State) (P : Schema → Type 0) → IsSame a b → OnlyReads b c → HasCleanDisk c → P b.now.schema → P a.now.schema
+said_first a b c P one rests clean h = subst (λ d. P d.schema) (one.1 (rests.clean clean)) h
+
+module _ (a b c : State) (tables : List Table) (at : ℕ) (t : Table) (sql : List ℕ) (is : sql ≡ query_of (get_or tables at t)) (asked : Bool) (less : at < length tables) (one : IsSame a b) (rests : OnlyReads b c)
+    (judged : HasCleanDisk c → IsTrue asked ↔ IsAsked b.now.schema sql) where
+  abbrev Has : Table → Type 0
+  Has x = IsAsked a.now.schema (query_of x)
+
+  here : HasCleanDisk c → IsTrue asked ↔ Has (get_or tables at t)
+  here clean = subst (λ text. IsTrue asked ↔ IsAsked a.now.schema text) is (said_first a b c (λ s. IsTrue asked ↔ IsAsked s sql) one rests clean (judged clean))
+
+  more : (P : Table → Type 0) → P (get_or tables at t) → ((k : ℕ) (d : Table) → k < at → P (get_or tables k d)) → (k : ℕ) (d : Table) → k < at + 1 → P (get_or tables k d)
+  more P = one_more (λ _ x. P x) tables at (get_or tables at t) less (same_there tables at t (get_or tables at t) less)
+
+  pub none_yet : asked ≡ false → (HasCleanDisk b → (k : ℕ) (d : Table) → k < at → ¬ (Has (get_or tables k d))) → HasCleanDisk c → (k : ℕ) (d : Table) → k < at + 1 → ¬ (Has (get_or tables k d))
+  none_yet off before clean = more (λ x. ¬ (Has x)) (λ has. let on = (here clean).1 has in cc) (before (rests.clean clean))
+
+  pub all_so_far : asked ≡ true → (HasCleanDisk b → (k : ℕ) (d : Table) → k < at → Has (get_or tables k d)) → HasCleanDisk c → (k : ℕ) (d : Table) → k < at + 1 → Has (get_or tables k d)
+  all_so_far on before clean = more Has ((here clean).0 on) (before (rests.clean clean))
+
+  pub missed : asked ≡ false → HasCleanDisk c → ¬ (All Has tables)
+  missed off clean all = let on = (here clean).1 (all at t less) in cc
+
+-- ---- the six tables
+
+abbrev six : List Table
+six = Meta ∷ Account ∷ Item ∷ Submission ∷ Remark ∷ Receipt ∷ []
+
+in_six : (t : Table) → members.Has six t
+in_six Meta = inl refl
+in_six Account = inr (inl refl)
+in_six Item = inr (inr (inl refl))
+in_six Submission = inr (inr (inr (inl refl)))
+in_six Remark = inr (inr (inr (inr (inl refl))))
+in_six Receipt = inr (inr (inr (inr (inr (inl refl)))))
+
+module _ (schema : Schema) (asked : Bool) where
+  abbrev Is : Table → Type 0
+  Is t = IsAsked schema (query_of t)
+
+  from : (text : List ℕ) → members.Has table_texts text → (t : Table) × (text ≡ query_of t)
+  from text has = let it = unmapped query_of six text has in (it.0, it.2)
+
+  to : (t : Table) → members.Has table_texts (query_of t)
+  to t = mapped query_of six t (in_six t)
+
+  pub each_table : (IsTrue asked ↔ All Is six) → IsTrue asked ↔ HasEachTable schema
+  each_table judged = (
+    λ on text has. let t = from text has in subst (IsAsked schema) (sym t.1) (each_member Is six (judged.0 on) t.0 (in_six t.0)),
+    λ each. judged.1 (each_place Is six (λ t has. each (query_of t) (to t))),
+  )
+
+  pub some_table : (IsTrue asked ↔ Any Is six) → IsTrue asked ↔ HasSomeTable schema
+  some_table judged = (
+    λ on. let t = some_member Is six (judged.0 on) in (query_of t.0, to t.0, t.2),
+    λ some. let t = from some.0 some.1 in judged.1 (some_place Is six t.0 (in_six t.0) (subst (IsAsked schema) t.1 some.2)),
+  )

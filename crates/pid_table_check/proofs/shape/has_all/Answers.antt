@@ -1,0 +1,20 @@
+use Rattle.sqlite.specs.Held.{state}
+use Rattle.pid_table_check.proofs.Asking.{same_then, all_so_far, missed}
+use Rattle.pid_table_check.proofs.shape.has_all.Goals as goal
+
+pub returns-then-not-branch-clause-asked : goal.returns-then-not-branch-clause-asked
+returns-then-not-branch-clause-asked g c clean =
+    let a = state g.S.Store c.args.conn.now in
+    let b = state g.S.Store c.loop-table.conn in
+    let d = state g.S.Store c.can_ask.new.conn in
+    let rests = c.in_ok-can_ask.ensures.rests in
+    let not_each = missed a b d c.args.tables.now c.loop-table.table-index _ c.query.result.now c.query.ensures c.in_ok-can_ask.field-0 c.loop-table-test.true c.loop-table.invariant.0 rests c.in_ok-can_ask.ensures.asked c.if-not-branch.true clean in
+    (λ off. absurd cc, λ all. absurd (not_each all))
+
+pub loop-table-preserved : goal.loop-table-preserved
+loop-table-preserved g c =
+    let a = state g.S.Store c.args.conn.now in
+    let b = state g.S.Store c.loop-table.conn in
+    let d = state g.S.Store c.can_ask.new.conn in
+    let rests = c.in_ok-can_ask.ensures.rests in
+    (same_then a b d c.loop-table.invariant.0 rests c.in_ok-can_ask.ensures.same, all_so_far a b d c.args.tables.now c.loop-table.table-index _ c.query.result.now c.query.ensures c.in_ok-can_ask.field-0 c.loop-table-test.true c.loop-table.invariant.0 rests c.in_ok-can_ask.ensures.asked c.if-not-branch.false c.loop-table.invariant.1)

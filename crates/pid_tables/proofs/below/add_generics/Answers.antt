@@ -1,0 +1,11 @@
+use Rattle.std.proofs.Common.{◌≡◌, map, filter, subst, ◌∙◌}
+use Rattle.pid_rows.specs.Answers.{item_shown}
+use Rattle.pid_rows.specs.Ranges.{generics_of}
+use Rattle.pid_tables.proofs.BelowLemmas.{just_ok, behind}
+use Rattle.pid_tables.proofs.below.add_generics.Goals as goal
+
+pub returns-clause-found : goal.returns-clause-found
+returns-clause-found g c clean v rest =
+    let found = c.in_ok-rows.ensures.found clean v rest in
+    let told = subst (λ t. c.in_ok-rows.rows.items ≡ map item_shown (filter (behind (generics_of t)) v.items)) c.as_bytes.ensures.value found.1 in
+    just_ok _ c.add_children.result (c.add_children.ensures (filter (behind (generics_of c.args.text.now)) v.items) (c.as_slice.ensures.value ∙ told))

@@ -1,0 +1,15 @@
+use Rattle.std.proofs.Common.{refl}
+use Rattle.pid_rows.specs.Shows.{counts_of}
+use Rattle.pid_tables.proofs.RowLists.{at_rest}
+use Rattle.pid_tables.proofs.PendingLists.{select_page, page_found, page_in}
+use Rattle.pid_tables.proofs.pages.page_rows.Goals as goal
+
+pub returns-clause-found : goal.returns-clause-found
+returns-clause-found g c clean v rest =
+    at_rest g.S.Store c.args.conn.now v select_page _ c.read_rows.result (λ rows. rows.items) _ rest (λ new rows shows h. page_found _ (counts_of v) v shows c.args.after _ new refl rows.items h)
+    (rw c.to_sql-after.ensures at (c.read_rows.ensures.shown clean))
+
+pub returns-clause-views : goal.returns-clause-views
+returns-clause-views g c clean v rest =
+    at_rest g.S.Store c.args.conn.now v select_page _ c.read_rows.result (λ rows. rows.items) _ rest (λ new rows shows h. (shows.views, page_in v c.args.after 100))
+    (rw c.to_sql-after.ensures at (c.read_rows.ensures.shown clean))
