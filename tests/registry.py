@@ -28,7 +28,7 @@ def texts_of_schema():
     return sorted(re.sub(r"\s+", " ", text).strip() for text in block.split(";") if text.strip())
 
 
-# What another program did to a good file, and what the check of the file says of it: one broken condition each, or none.
+# What another program did to a good file, and what the tool says of it: one broken condition each, or none.
 CHANGED = {
     "nothing is changed": ("", None),
     "a wrong count of items": ("UPDATE meta SET value = 99 WHERE label = 'items'", "damaged"),
@@ -38,6 +38,10 @@ CHANGED = {
     "schema 0": ("UPDATE meta SET value = 0 WHERE label = 'schema'", "damaged"),
     "a later schema": ("UPDATE meta SET value = 2 WHERE label = 'schema'", "newer"),
     "a later schema before all else": ("UPDATE meta SET value = 2 WHERE label = 'schema'; DELETE FROM item", "newer"),
+    "a later schema before a missing table": ("UPDATE meta SET value = 2 WHERE label = 'schema'; DROP TABLE receipt", "newer"),
+    "a missing table": ("DROP TABLE receipt", "damaged"),
+    "a missing column": ("DROP TABLE item; CREATE TABLE item (path TEXT NOT NULL PRIMARY KEY) STRICT", "damaged"),
+    "missing labels": ("DROP TABLE meta", "damaged"),
     "one more account": ("INSERT INTO account VALUES ('carol', 0)", None),
     "no administrator": ("UPDATE account SET rank = 2 WHERE name = 'root'", "damaged"),
     "no account's name": ("INSERT INTO account VALUES ('Carol', 0)", "damaged"),

@@ -7,7 +7,7 @@ use Rattle.pid_ident.specs.PathTexts.{IsPath}
 use Rattle.pid_ident.specs.Words.{is_account, is_text}
 use Rattle.pid_moderation.specs.declared.command.Reply.{Reply}
 use Rattle.pid_moderation.specs.declared.command.Reply.TheVariants.{Done, Numbered, Counts}
-use Rattle.pid_moderation.specs.declared.facts.State.{State as Standing}
+use Rattle.pid_moderation.specs.declared.facts.State.{State as Decision}
 use Rattle.pid_moderation.specs.declared.facts.State.TheVariants.{Pending, Approved, Rejected, Withdrawn}
 use Rattle.pid_moderation.specs.Views.{Views, Submitted, Remark}
 use Rattle.pid_moderation.specs.WellMade.{AllItems, ProposesName}
@@ -30,7 +30,7 @@ pub record IsReadableSubmission (s : Submitted) : Type 0 where
   pub note : is_text s.note ≡ true
 
 -- who decided is an account, and a reason is a text
-abbrev pub IsReadableState : Standing → Type 0
+abbrev pub IsReadableState : Decision → Type 0
 IsReadableState Pending = Unit {0}
 IsReadableState (Approved decider) = is_account decider ≡ true
 IsReadableState (Rejected decider reason) = (is_account decider ≡ true) × (is_text reason ≡ true)

@@ -10,19 +10,20 @@ use std::alloc::AllocError;
 use thiserror::Error;
 
 /// Why a call on the tables gives no answer. Whatever it is, the tables keep what was committed.
+///
+/// - `Memory`: memory was short. The same call may succeed later.
+/// - `Store`: the disk failed or refused, an earlier fault has shut the connection, the connection's limit of steps was met,
+///   or the database refused the statement: a key that is there twice, or a row that another needs.
+/// - `NewerSchema`: the tables are of a later schema, of this number.
+/// - `Damaged`: a table, a row or a value is not one that this program writes.
 #[derive(Clone, Copy, Debug, PartialEq, Eq, Error)]
 pub enum TableFault {
-    /// Memory was short. The same call may succeed later.
     #[error("no memory")]
     Memory,
-    /// The disk failed or refused, an earlier fault has shut the connection, the connection's limit of steps was met,
-    /// or the database refused the statement: a key that is there twice, or a row that another needs.
     #[error("the store failed or refused")]
     Store,
-    /// The tables are of a later schema, of this number.
     #[error("the tables are of schema {0}")]
     NewerSchema(u64),
-    /// A table, a row or a value is not one that this program writes.
     #[error("the tables do not keep their conditions")]
     Damaged,
 }

@@ -95,7 +95,8 @@ pub fn submissions<S: Alter>(conn: &mut Connection<S>) -> Result<u32, TableFault
     count(conn, "submissions")
 }
 
-/// The number of the schema, by the table of counts. A number that is missing, or that 32 bits do not hold, is `Damaged`.
+/// The number of the schema, by the table of counts: 1 in tables that this program made, another in those of a later one.
+/// A number that is missing, or that 32 bits do not hold, is `Damaged`.
 pub fn schema_number<S: Alter>(conn: &mut Connection<S>) -> Result<u32, TableFault>
     requires { (state S.Store conn.old).in_transaction ≡ false }
     ensures rests { OnlyReads (state S.Store conn.old) (state S.Store conn.new) }

@@ -24,7 +24,7 @@ table_texts =
     ∷ codes "SELECT account, token, kind, a, b, c FROM receipt"
     ∷ []
 
--- the text is a statement under the schema
+-- the text can be prepared: it is understood as a statement under the schema
 abbrev pub IsAsked : Schema → List ℕ → Type 0
 IsAsked schema text = (c : Compiled) × (understood schema text ≡ Ok c)
 

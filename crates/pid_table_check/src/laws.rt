@@ -7,7 +7,9 @@ ghost use Rattle.pid_moderation.specs.Sound.{IsSound};
 ghost use Rattle.pid_moderation.specs.Views.{views_of};
 ghost use Rattle.pid_moderation.specs.WellMade.{AreWellMade};
 ghost use Rattle.pid_rows.specs.Shows.{Shows};
+ghost use Rattle.pid_rows.specs.Schema.{no_schema, pid_schema};
 ghost use Rattle.pid_table_check.specs.Conditions.{IsRegistry};
+ghost use Rattle.pid_table_check.specs.Shapes.{HasNoTable, HasEachTable};
 
 /// Every database that shows a sound history meets all conditions on its rows.
 pub fn sound_histories_are_registries()
@@ -17,4 +19,10 @@ pub fn sound_histories_are_registries()
 /// So does every database that shows what well made commands lead to.
 pub fn shown_tables_are_registries()
     ensures { (commands : List Asked) → AreWellMade commands → (db : Database) → Shows db (views_of (after_all [] commands)) → IsRegistry db.trees }
+{}
+
+/// A database without any table has none of the six, and one of schema 1 has each.
+pub fn schemas_have_tables()
+    ensures none { HasNoTable no_schema }
+    ensures each { HasEachTable pid_schema }
 {}

@@ -18,7 +18,7 @@ mod value;
 mod words;
 
 pub use checking::check;
-pub use laws::{shown_tables_are_registries, sound_histories_are_registries};
+pub use laws::{schemas_have_tables, shown_tables_are_registries, sound_histories_are_registries};
 
 #[cfg(test)]
 mod tests;

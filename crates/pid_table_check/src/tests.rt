@@ -2,7 +2,7 @@
 //! tests show that it answers so where there is memory.
 use crate::check;
 use pid_rows::TableFault;
-use sqlite::{Connection, Error, MemStore};
+use sqlite::{Connection, MemStore};
 use std::alloc::Global;
 use std::test::Fail;
 
@@ -43,16 +43,16 @@ const DAMAGES: [&str; 14] = [
     "UPDATE receipt SET account = 'root'",
 ];
 
-fn made(alloc: Global, first: &str, then: &str) -> Result<Connection<MemStore>, Error> {
+fn made(alloc: Global, first: &str, then: &str) -> Result<Connection<MemStore>, TableFault> {
     let mut conn = Connection::open_in_memory(alloc)?;
     conn.execute_batch(first)?;
     conn.execute_batch(then)?;
     Ok(conn)
 }
 
-// What the check tells of a database, or a fault that tells nothing of it.
+// What the check tells of a database; or a fault that tells nothing of it, or came before the check.
 fn told(alloc: Global, first: &str, then: &str) -> Result<Option<TableFault>, TableFault> {
-    let mut conn = made(alloc, first, then).map_err(|_| TableFault::Store)?;
+    let mut conn = made(alloc, first, then)?;
     if !conn.is_autocommit() {
         return Err(TableFault::Store);
     }

@@ -1,12 +1,14 @@
 //! A registry written and read back. What each call means is in its contract: the tests show that the calls succeed where
 //! there is memory, and that the texts of rows are those of SQLite.
 use crate::{
-    EachEnd, Put, TableFault, Tables, apply, begin, commit, new_in_memory, put, roll_back,
+    EachEnd, Put, TableFault, Tables, apply, begin, commit, create, new_in_memory, put, roll_back,
 };
-use pid_ident::Path;
-use pid_moderation::{Change, Command, Verb, Verdict, command_of, decide, needs, reply_line};
+use pid_ident::{Account, Key, Path};
+use pid_moderation::{
+    Change, Command, Rank, Reply, Verb, Verdict, command_of, decide, needs, reply_line,
+};
 use pid_reader::{Entry, Sink};
-use sqlite::MemStore;
+use sqlite::{Connection, MemStore};
 use std::alloc::Global;
 use std::test::Fail;
 
@@ -141,6 +143,50 @@ fn name(tables: &mut Tables<MemStore>, alloc: Global, text: &str) -> Result<Stri
     }
 }
 
+// The number of the schema, where the tables are those of a registry.
+fn judged(tables: &mut Tables<MemStore>, alloc: Global) -> Result<u32, TableFault> {
+    if !tables.conn.is_autocommit() {
+        return Err(TableFault::Store);
+    }
+    tables.check(alloc)?;
+    tables.version()
+}
+
+// What is judged of a database without tables, and of the new registry in it.
+fn made_anew(alloc: Global) -> Result<(u32, u32), TableFault> {
+    let mut tables = Tables::new(Connection::open_in_memory(alloc)?);
+    let bare = judged(&mut tables, alloc)?;
+    if !tables.conn.is_autocommit() {
+        return Err(TableFault::Store);
+    }
+    create(&mut tables.conn)?;
+    Ok((bare, judged(&mut tables, alloc)?))
+}
+
+// How many items and submissions there are, and remarks on the third of these.
+fn counts(tables: &mut Tables<MemStore>) -> Result<(u32, u32, u32), TableFault> {
+    if !tables.conn.is_autocommit() {
+        return Err(TableFault::Store);
+    }
+    let items = tables.items()?;
+    let submissions = tables.submissions()?;
+    Ok((items, submissions, tables.remarks(3)?))
+}
+
+// The rank of bob, and the reply that is kept for him.
+fn bob(
+    tables: &mut Tables<MemStore>,
+    alloc: Global,
+) -> Result<(Option<Rank>, Option<Reply>), TableFault> {
+    let bob = Account::of(alloc, "bob")?;
+    let key = Key::of(alloc, "k1")?;
+    if !tables.conn.is_autocommit() {
+        return Err(TableFault::Store);
+    }
+    let rank = tables.rank(&bob)?;
+    Ok((rank, tables.kept(&bob, &key)?))
+}
+
 #[test]
 fn commands_are_carried_out(rt: HostRuntime) -> Result<(), Fail> {
     let alloc = rt.alloc();
@@ -153,6 +199,11 @@ fn commands_are_carried_out(rt: HostRuntime) -> Result<(), Fail> {
     assert!(rt; puts == (Put::Renamed, Put::Same));
     let kept = name(&mut tables, alloc, "PC/8086")?;
     assert!(rt; kept.as_str() == "Intel");
+    assert!(rt; counts(&mut tables)? == (2, 4, 1));
+    let found = bob(&mut tables, alloc)?;
+    assert!(rt; matches!(found, (Some(Rank::Moderator), Some(Reply::Numbered(4)))));
+    assert!(rt; judged(&mut tables, alloc)? == 1);
+    assert!(rt; made_anew(alloc)? == (0, 1));
     Ok(())
 }
 
