@@ -1,26 +1,30 @@
 //! Makes a registry's file from the PCI identifiers on standard input, or goes on in one that is good, and obeys some
-//! commands in it: what the tests against sqlite3 and the benchmarks run. It is no part of `pciids`.
+//! commands in it; or asks a file something again and again. The tests against sqlite3 and the benchmarks run it; it is no
+//! part of `pciids`.
 #![tactic(auto)]
 
-ghost use Rattle.std.specs.Prelude.{◌≡◌, false, OnOk};
+ghost use Rattle.std.specs.Prelude.{◌≡◌, false, IfOk, OnOk};
 ghost use Rattle.sqlite.specs.Held.{state};
 
 use pid_ident::{Account, Name, Path, Text, WordFault};
 use pid_moderation::{Act, Change, Command, Effect, Proposal, Rank, Verdict, decide, needs};
 use pid_reader::Lines;
-use pid_table_check::check;
 use pid_tables::{Batch, Put, TableFault, Tables, apply, begin, commit, create, put};
-use sqlite::{Alter, Connection};
+use sqlite::{Alter, Connection, File, FileStore};
 use std::alloc::{AllocError, Global};
 use std::io::Read;
 use std::process::ExitCode;
 use std::{env, io};
 use thiserror::Error;
 
-/// Why no file was made.
+mod jobs;
+
+use jobs::{Job, repeat};
+
+/// Why nothing came of it.
 #[derive(Debug, Drop, Error)]
 enum Fault {
-    #[error("usage: registry_file FILE COMMANDS < pci.ids")]
+    #[error("usage: registry_file FILE COMMANDS < pci.ids, or registry_file FILE JOB TIMES")]
     Words,
     #[error("the text has a fault")]
     Text,
@@ -45,7 +49,7 @@ impl From<WordFault> for Fault {
 }
 
 fn main(rt: HostRuntime) -> ExitCode {
-    match make(&rt) {
+    match obey_words(&rt) {
         Ok(items) => {
             let _ = println!(rt; "{items} items");
             ExitCode::SUCCESS
@@ -57,21 +61,47 @@ fn main(rt: HostRuntime) -> ExitCode {
     }
 }
 
-fn make(rt: &HostRuntime) -> Result<u32, Fault> {
+fn obey_words(rt: &HostRuntime) -> Result<u32, Fault> {
+    let words: Vec<String> = env::args(rt)
+        .map_err(|_| Fault::Words)?
+        .collect(rt.alloc())?;
+    match words.as_slice() {
+        [_, file, commands] => {
+            let commands = commands.parse::<u16>().map_err(|_| Fault::Words)?;
+            make(rt, file, commands)
+        }
+        [_, file, job, times] => {
+            let job = Job::of_word(job).ok_or(Fault::Words)?;
+            let times = times.parse::<u32>().map_err(|_| Fault::Words)?;
+            ask_again(rt, file, job, times)
+        }
+        _ => Err(Fault::Words),
+    }
+}
+
+fn open(rt: &HostRuntime, file: &str) -> Result<Tables<FileStore<File>>, Fault>
+    ensures { IfOk result (λ tables. tables.conn.in_transaction ≡ false) }
+{
+    let conn = Connection::open(rt, file).map_err(TableFault::from)?;
+    if conn.is_autocommit() {
+        Ok(Tables::new(conn))
+    } else {
+        Err(Fault::Tables(TableFault::Store))
+    }
+}
+
+fn make(rt: &HostRuntime, file: &str, commands: u16) -> Result<u32, Fault> {
     let alloc = rt.alloc();
-    let words: Vec<String> = env::args(rt).map_err(|_| Fault::Words)?.collect(alloc)?;
-    let [_, file, commands] = words.as_slice() else {
-        return Err(Fault::Words);
-    };
-    let commands = commands.parse::<u16>().map_err(|_| Fault::Words)?;
     let mut text = Vec::new(alloc);
     rt.stdin().read_to_end(&mut text).map_err(|_| Fault::Input)?;
-    let conn = Connection::open(rt, file.as_str()).map_err(TableFault::from)?;
-    let mut tables = Tables::new(conn);
-    if !tables.conn.is_autocommit() {
-        return Err(Fault::Tables(TableFault::Store));
-    }
+    let mut tables = open(rt, file)?;
     fill(&mut tables, alloc, &text, commands)?;
+    Ok(tables.items()?)
+}
+
+fn ask_again(rt: &HostRuntime, file: &str, job: Job, times: u32) -> Result<u32, Fault> {
+    let mut tables = open(rt, file)?;
+    repeat(&mut tables, rt.alloc(), job, times)?;
     Ok(tables.items()?)
 }
 
@@ -97,7 +127,7 @@ fn fill<S: Alter + Drop>(
             },
         )?;
     } else {
-        check(&mut tables.conn, alloc)?;
+        tables.check(alloc)?;
     }
     import(tables, alloc, text)?;
     for number in 0..commands {

@@ -1,0 +1,246 @@
+/* What the tool registry_file does to a registry's file, done by C SQLite: the same statements, in the same order, over a
+ * file with a write-ahead log that is synced at each commit.
+ *
+ *   registry FILE make < LINES     a new registry; each line is a path, a tab and a name; one transaction
+ *   registry FILE rows COUNT       a new registry with COUNT rows in each table
+ *   registry FILE JOB TIMES        JOB: nothing, item, each, children, pending, check, command
+ */
+#include <sqlite3.h>
+#include <stdio.h>
+#include <stdlib.h>
+#include <string.h>
+
+static sqlite3 *db;
+
+static void stop(const char *what)
+{
+    fprintf(stderr, "%s: %s\n", what, sqlite3_errmsg(db));
+    exit(2);
+}
+
+static void run(const char *sql)
+{
+    if (sqlite3_exec(db, sql, NULL, NULL, NULL) != SQLITE_OK)
+        stop(sql);
+}
+
+static sqlite3_stmt *prepared(const char *sql)
+{
+    sqlite3_stmt *statement;
+    if (sqlite3_prepare_v2(db, sql, -1, &statement, NULL) != SQLITE_OK)
+        stop(sql);
+    return statement;
+}
+
+static void text(sqlite3_stmt *statement, int at, const char *value)
+{
+    sqlite3_bind_text(statement, at, value, -1, SQLITE_TRANSIENT);
+}
+
+/* Runs a statement to its end, and answers how many rows it gave. */
+static int rows(sqlite3_stmt *statement)
+{
+    int count = 0, step;
+    while ((step = sqlite3_step(statement)) == SQLITE_ROW) {
+        for (int at = 0; at < sqlite3_column_count(statement); at++)
+            sqlite3_column_bytes(statement, at);
+        count++;
+    }
+    if (step != SQLITE_DONE)
+        stop("step");
+    sqlite3_reset(statement);
+    return count;
+}
+
+static void create(void)
+{
+    run("CREATE TABLE meta (label TEXT NOT NULL PRIMARY KEY, value INTEGER NOT NULL) STRICT;"
+        "CREATE TABLE account (name TEXT NOT NULL PRIMARY KEY, rank INTEGER NOT NULL CHECK (rank BETWEEN 0 AND 3)) STRICT;"
+        "CREATE TABLE item (path TEXT NOT NULL PRIMARY KEY, name TEXT NOT NULL) STRICT;"
+        "CREATE TABLE submission (num INTEGER NOT NULL PRIMARY KEY, author TEXT NOT NULL REFERENCES account(name), "
+        "path TEXT NOT NULL, form INTEGER NOT NULL CHECK (form BETWEEN 0 AND 1), name TEXT NOT NULL, note TEXT NOT NULL, "
+        "state INTEGER NOT NULL CHECK (state BETWEEN 0 AND 3), decider TEXT NOT NULL, reason TEXT NOT NULL) STRICT;"
+        "CREATE TABLE remark (num INTEGER NOT NULL REFERENCES submission(num), seq INTEGER NOT NULL, "
+        "author TEXT NOT NULL REFERENCES account(name), body TEXT NOT NULL, PRIMARY KEY (num, seq)) STRICT;"
+        "CREATE TABLE receipt (account TEXT NOT NULL REFERENCES account(name), token TEXT NOT NULL, kind INTEGER NOT NULL, "
+        "a INTEGER NOT NULL, b INTEGER NOT NULL, c INTEGER NOT NULL, PRIMARY KEY (account, token)) STRICT;"
+        "INSERT INTO meta VALUES ('schema', 1), ('items', 0), ('submissions', 0);"
+        "INSERT INTO account VALUES ('root', 3), ('bob', 1)");
+}
+
+/* Each line is looked for and, where it is new, added; the count of items follows. */
+static void make(void)
+{
+    char line[512];
+    int added = 0;
+    run("BEGIN");
+    create();
+    run("COMMIT");
+    run("BEGIN IMMEDIATE");
+    sqlite3_stmt *find = prepared("SELECT name FROM item WHERE path = ?1");
+    sqlite3_stmt *add = prepared("INSERT INTO item (path, name) VALUES (?1, ?2)");
+    sqlite3_stmt *count = prepared("UPDATE meta SET value = ?1 WHERE label = 'items'");
+    while (fgets(line, sizeof line, stdin)) {
+        char *name = strchr(line, '\t');
+        *name++ = 0;
+        name[strcspn(name, "\n")] = 0;
+        text(find, 1, line);
+        if (rows(find) == 0) {
+            text(add, 1, line);
+            text(add, 2, name);
+            rows(add);
+            added++;
+        }
+    }
+    sqlite3_bind_int(count, 1, added);
+    rows(count);
+    run("COMMIT");
+}
+
+/* Accounts a0, a1, ..; a vendor or a device each; decided submissions; a remark on each; a receipt for each. */
+static void fill(int count)
+{
+    char word[64];
+    run("BEGIN");
+    create();
+    sqlite3_stmt *account = prepared("INSERT INTO account VALUES (?1, 0)");
+    sqlite3_stmt *item = prepared("INSERT INTO item VALUES (?1, 'a')");
+    sqlite3_stmt *submission = prepared("INSERT INTO submission VALUES (?1, 'bob', 'PC/0001', 0, 'a', '', 1, 'root', '')");
+    sqlite3_stmt *remark = prepared("INSERT INTO remark VALUES (?1, 1, 'root', 'seen')");
+    sqlite3_stmt *receipt = prepared("INSERT INTO receipt VALUES ('bob', ?1, 1, ?2, 0, 0)");
+    for (int at = 0; at < count; at++) {
+        snprintf(word, sizeof word, "a%d", at);
+        if (at >= 2) {
+            text(account, 1, word);
+            rows(account);
+        }
+        text(receipt, 1, word);
+        sqlite3_bind_int(submission, 1, at + 1);
+        sqlite3_bind_int(remark, 1, at + 1);
+        sqlite3_bind_int(receipt, 2, at + 1);
+        snprintf(word, sizeof word, at < 65536 ? "PC/%04x" : "PC/ffff/%04x", at & 0xffff);
+        text(item, 1, word);
+        rows(item);
+        rows(submission);
+        rows(remark);
+        rows(receipt);
+    }
+    sqlite3_stmt *counts = prepared("UPDATE meta SET value = ?1 WHERE label <> 'schema'");
+    sqlite3_bind_int(counts, 1, count);
+    rows(counts);
+    run("COMMIT");
+}
+
+/* A submission of a name and its approval: two transactions, with the selects by which each is judged. */
+static void commands(int times)
+{
+    char path[16];
+    sqlite3_stmt *rank = prepared("SELECT rank FROM account WHERE name = ?1");
+    sqlite3_stmt *label = prepared("SELECT value FROM meta WHERE label = ?1");
+    sqlite3_stmt *named = prepared("SELECT author, path, form, name, note, state, decider, reason FROM submission WHERE num = ?1");
+    sqlite3_stmt *places = prepared("SELECT seq FROM remark WHERE num = ?1 ORDER BY seq DESC LIMIT 1");
+    sqlite3_stmt *item = prepared("SELECT name FROM item WHERE path = ?1");
+    sqlite3_stmt *below = prepared("SELECT path FROM item WHERE path > ?1 AND path < ?2 LIMIT 1");
+    sqlite3_stmt *submit = prepared("INSERT INTO submission (num, author, path, form, name, note, state, decider, reason) VALUES (?1, ?2, ?3, ?4, ?5, ?6, 0, '', '')");
+    sqlite3_stmt *count = prepared("UPDATE meta SET value = ?2 WHERE label = ?1");
+    sqlite3_stmt *decide = prepared("UPDATE submission SET state = ?2, decider = ?3, reason = ?4 WHERE num = ?1");
+    sqlite3_stmt *rename = prepared("UPDATE item SET name = ?2 WHERE path = ?1");
+    text(label, 1, "submissions");
+    if (sqlite3_step(label) != SQLITE_ROW)
+        stop("label");
+    int number = sqlite3_column_int(label, 0);
+    sqlite3_reset(label);
+    for (int at = 0; at < times; at++) {
+        char low[32], high[32];
+        number++;
+        snprintf(path, sizeof path, "PC/%04x", at & 0xffff);
+        text(rank, 1, "bob");
+        rows(rank);
+        text(label, 1, "submissions");
+        rows(label);
+        run("BEGIN IMMEDIATE");
+        sqlite3_bind_int(submit, 1, number);
+        text(submit, 2, "bob");
+        text(submit, 3, path);
+        sqlite3_bind_int(submit, 4, 0);
+        text(submit, 5, "renamed");
+        text(submit, 6, "");
+        rows(submit);
+        text(count, 1, "submissions");
+        sqlite3_bind_int(count, 2, number);
+        rows(count);
+        run("COMMIT");
+
+        text(rank, 1, "root");
+        rows(rank);
+        sqlite3_bind_int(named, 1, number);
+        rows(named);
+        sqlite3_bind_int(places, 1, number);
+        rows(places);
+        text(label, 1, "items");
+        rows(label);
+        text(item, 1, path);
+        rows(item);
+        for (int front = 0; front < 2; front++) {
+            snprintf(low, sizeof low, "P%c%s/", front ? 'S' : 'C', path + 2);
+            snprintf(high, sizeof high, "P%c%s0", front ? 'S' : 'C', path + 2);
+            text(below, 1, low);
+            text(below, 2, high);
+            rows(below);
+        }
+        run("BEGIN IMMEDIATE");
+        sqlite3_bind_int(decide, 1, number);
+        sqlite3_bind_int(decide, 2, 1);
+        text(decide, 3, "root");
+        text(decide, 4, "");
+        rows(decide);
+        text(rename, 1, path);
+        text(rename, 2, "renamed");
+        rows(rename);
+        sqlite3_bind_int(count, 2, 0);
+        text(count, 1, "none");
+        rows(count);
+        run("COMMIT");
+    }
+}
+
+static int job(const char *name, int times)
+{
+    char path[16];
+    if (strcmp(name, "nothing") == 0)
+        return 0;
+    if (strcmp(name, "command") == 0) {
+        commands(times);
+        return 0;
+    }
+    const char *sql = strcmp(name, "item") == 0 ? "SELECT name FROM item WHERE path = ?1"
+        : strcmp(name, "each") == 0 ? "SELECT path, name FROM item ORDER BY path"
+        : strcmp(name, "children") == 0 ? "SELECT path, name FROM item WHERE path > 'PC/ffff/' AND path < 'PC/ffff0' ORDER BY path"
+        : strcmp(name, "pending") == 0 ? "SELECT num, author, path, form, name, note, state, decider, reason FROM submission WHERE state = 0 AND num > 0 ORDER BY num LIMIT 100"
+        : strcmp(name, "check") == 0 ? "PRAGMA integrity_check" : NULL;
+    if (sql == NULL)
+        return 1;
+    sqlite3_stmt *statement = prepared(sql);
+    for (int at = 0; at < times; at++) {
+        snprintf(path, sizeof path, "PC/%04x", at & 0xffff);
+        if (strcmp(name, "item") == 0)
+            text(statement, 1, path);
+        rows(statement);
+    }
+    sqlite3_finalize(statement);
+    return 0;
+}
+
+int main(int count, char **words)
+{
+    if (count < 3 || sqlite3_open(words[1], &db) != SQLITE_OK)
+        return 2;
+    run("PRAGMA journal_mode = WAL; PRAGMA synchronous = FULL; PRAGMA foreign_keys = ON");
+    if (strcmp(words[2], "make") == 0)
+        make();
+    else if (count == 4 && strcmp(words[2], "rows") == 0)
+        fill(atoi(words[3]));
+    else if (count != 4 || job(words[2], atoi(words[3])) != 0)
+        return 2;
+    return 0;
+}
