@@ -122,21 +122,3 @@ pub standing_read : (v : Views) (n : ℕ) (row : Row) (s : Submission) → AreVi
 standing_read v n row s views first reads =
     let it = some_row standing_row (standing_in v n) row first in
     ap Some (row_is s it.0 (subst (λ r. ReadsTo r s) it.2 reads) (standing_path v n it.0 views it.1)) ∙ sym it.1
-
--- ---- items
-
-pub item_read : (o : Option (List ℕ × List ℕ)) (row : Row) (item : Item) → Some row ≡ option_map item_shown o → column row 0 ≡ Text (path_text item.path) → column row 1 ≡ Text item.name → Some (pair_of item) ≡ o
-item_read o row item first path name =
-    let it = some_row item_shown o row first in
-    let a : path_text item.path ≡ it.0.0 = text_same _ _ (sym path ∙ ap (λ r. column r 0) it.2) in
-    let b : item.name ≡ it.0.1 = text_same _ _ (sym name ∙ ap (λ r. column r 1) it.2) in
-    ap Some (λ i. (a i, b i)) ∙ sym it.1
-
--- ---- remarks
-
-pub remark_read : (o : Option Remark) (row : Row) (note : Comment) → Some row ≡ option_map remark_shown o → column row 0 ≡ Text note.author → column row 1 ≡ Text note.text → Some (remark_of note) ≡ o
-remark_read o row note first author text =
-    let it = some_row remark_shown o row first in
-    let a : note.author ≡ it.0.author = text_same _ _ (sym author ∙ ap (λ r. column r 0) it.2) in
-    let b : note.text ≡ it.0.text = text_same _ _ (sym text ∙ ap (λ r. column r 1) it.2) in
-    ap Some (λ i. record { author = a i; text = b i }) ∙ sym it.1

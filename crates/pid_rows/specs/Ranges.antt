@@ -1,5 +1,5 @@
 -- Items by ranges of their paths.
-use Rattle.std.specs.Prelude.{ℕ, Bool, ◌&&◌, ◌++◌, List, Option, drop, find, codes}
+use Rattle.std.specs.Prelude.{ℕ, Bool, ◌&&◌, ◌++◌, List, drop, codes}
 use Rattle.std.specs.List.{list_any}
 use Rattle.std.specs.Ordering.{is_lt}
 use Rattle.pid_ident.specs.Trees.{text_cmp}
@@ -16,7 +16,3 @@ holds_between low high items = list_any (λ e. is_between low high e.0) items
 -- the text behind which the generic subsystems of a vendor stand: PS/8086 for PC/8086
 abbrev pub generics_of : List ℕ → List ℕ
 generics_of text = codes "PS" ++ drop 2 text
-
--- the first item, in the order of paths, whose path is above a text
-abbrev pub first_above : List ℕ → Items → Option (List ℕ × List ℕ)
-first_above text items = find (λ e. is_lt (text_cmp text e.0)) items

@@ -107,7 +107,8 @@ impl<S: Alter + Drop> Tables<S> {
     /// The items directly below a path, in the canonical order, which puts the generic subsystems of a vendor behind its devices.
     /// Without a path, the vendors and the classes.
     ///
-    /// Vendors and classes are found by a walk over all items.
+    /// Vendors and classes are found by a walk over all items. It holds of views whose paths are paths, as those of every
+    /// history are.
     pub fn children(&mut self, alloc: Global, above: Option<Path>) -> Result<Vec<Item>, TableFault>
         requires { (state S.Store self.old.conn).in_transaction ≡ false }
         ensures rests { OnlyReads (state S.Store self.old.conn) (state S.Store self.new.conn) }
