@@ -187,7 +187,7 @@ lies_between p t x xs is = subst (λ t. is_between (p ++ 47 ∷ []) (p ++ 48 ∷
 self_parent : (p : List ℕ) → is_parent p (Some p) ≡ true
 self_parent p = (bytes_eq-Decides p p).1 refl
 
-item_path : (items : Items) (e : List ℕ × List ℕ) → AllItems items → Has items e → (q : Path) × IsTextOf e.0 q
+pub item_path : (items : Items) (e : List ℕ × List ℕ) → AllItems items → Has items e → (q : Path) × IsTextOf e.0 q
 item_path [] e all h = absurd h
 item_path (x ∷ items) e all (inl same) = subst (λ (y : List ℕ × List ℕ). (q : Path) × IsTextOf y.0 q) (sym same) all.0.0
 item_path (x ∷ items) e all (inr later) = item_path items e all.1 later
@@ -226,7 +226,7 @@ module _ (items : Items) (sorted : is_sorted text_cmp items ≡ true) (all : All
       by_child (path_text (Vendor a)) e found.1 (below_generics a q.0 e.0 q.1.same split.0 split.1 split.2)
 
 -- a child stands behind its parent, or is a generic subsystem of a vendor
-stands : (p q : Path) (t : List ℕ) → t ≡ path_text q → is_parent (path_text p) (parent_text t) ≡ true
+pub stands : (p q : Path) (t : List ℕ) → t ≡ path_text q → is_parent (path_text p) (parent_text t) ≡ true
     → (is_between (path_text p ++ 47 ∷ []) (path_text p ++ 48 ∷ []) t ≡ true)
     ⊎ ((v : ℕ) × (path_text p ≡ path_text (Vendor v)) × (is_between (generics_of (path_text p) ++ 47 ∷ []) (generics_of (path_text p) ++ 48 ∷ []) t ≡ true))
 stands p q t = at q
@@ -246,6 +246,16 @@ stands p q t = at q
         inl (lies_between (path_text p) t _ _ (is ∙ ap (λ s. s ++ 47 ∷ hex2 g) (sym same)))
     at (Generic e f) is told = let same = (bytes_eq-Decides (path_text p) (path_text (Vendor e))).0 (sym (ap (λ t. is_parent (path_text p) (parent_text t)) is) ∙ told) in
         inr (e, same, lies_between (generics_of (path_text p)) t _ _ (is ∙ ap (λ s. generics_of s ++ 47 ∷ hex4 f) (sym same)))
+
+-- the text of a path that is no vendor is of another length than a vendor's
+pub is_no_vendor : (p : Path) → ((v : ℕ) → p ≡ Vendor v → ⊥) → length (path_text p) ≡ 7 → ⊥
+is_no_vendor (Vendor v) no_vendor len = no_vendor v refl
+is_no_vendor (Device a b) no_vendor len = omega (arith, len)
+is_no_vendor (Subsystem a b c d) no_vendor len = omega (arith, len)
+is_no_vendor (Class a) no_vendor len = omega (arith, len)
+is_no_vendor (Subclass a b) no_vendor len = omega (arith, len)
+is_no_vendor (ProgIf a b c) no_vendor len = omega (arith, len)
+is_no_vendor (Generic a b) no_vendor len = omega (arith, len)
 
 module _ (items : Items) (sorted : is_sorted text_cmp items ≡ true) (all : AllItems items) (parents : HoldsParents items) where
   stand_of : (p : Path) → has_children (path_text p) items ≡ true
@@ -285,12 +295,3 @@ module _ (items : Items) (sorted : is_sorted text_cmp items ≡ true) (all : All
   pub other_children : (p : Path) → (length (path_text p) ≡ 7 → ⊥) → holds_between (path_text p ++ 47 ∷ []) (path_text p ++ 48 ∷ []) items ≡ has_children (path_text p) items
   other_children p other = same_truth _ _ (child_below items sorted all parents p)
       (λ h. elim (stand_of p h) [ inl one ↦ one | inr generic ↦ absurd (other (ap length generic.1)) ])
-
-  pub is_no_vendor : (p : Path) → ((v : ℕ) → p ≡ Vendor v → ⊥) → length (path_text p) ≡ 7 → ⊥
-  is_no_vendor (Vendor v) no_vendor len = no_vendor v refl
-  is_no_vendor (Device a b) no_vendor len = omega (arith, len)
-  is_no_vendor (Subsystem a b c d) no_vendor len = omega (arith, len)
-  is_no_vendor (Class a) no_vendor len = omega (arith, len)
-  is_no_vendor (Subclass a b) no_vendor len = omega (arith, len)
-  is_no_vendor (ProgIf a b c) no_vendor len = omega (arith, len)
-  is_no_vendor (Generic a b) no_vendor len = omega (arith, len)

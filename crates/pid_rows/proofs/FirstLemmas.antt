@@ -15,22 +15,9 @@ use Rattle.sqlite_sql.proofs.QueryLemmas.{output_cmp_total}
 use Rattle.sqlite_rules.specs.Lists.{Has}
 use Rattle.sqlite_rules.proofs.ListLemmas.{all_has}
 use Rattle.sqlite_rules.proofs.ProbeLemmas.{mapped_has}
-use Rattle.pid_rows.proofs.Select.{passing, shown}
+use Rattle.pid_rows.proofs.Statements.{first_one}
+use Rattle.pid_rows.proofs.Select.{passing, shown, out, kept_outs}
 use Rattle.pid_rows.proofs.TurnLemmas.{has_mapped, permuted}
-
--- the first of the rows of one table that pass the tests, in an order
-abbrev pub first_one : ℕ → List Term → List Term → List (Term × Key) → Query
-first_one tree tests project order = record {
-  from = inner tree end;
-  filter = tests;
-  group = None;
-  project = project;
-  distinct = false;
-  collations = [];
-  order = order;
-  limit = lit (Int (pos 1));
-  offset = lit (Int (pos 0));
-}
 
 module _ {X : Type 0} (cmp : X → X → Ordering) (total : IsTotalOrder cmp) where
   abbrev AtMost : X → X → Type 0
@@ -63,39 +50,31 @@ module _ (tree : ℕ) (tests project : List Term) (order : List (Term × Key)) (
   abbrev q : Query
   q = first_one tree tests project order
 
-  abbrev pub out : Row → Output
-  out r = output q (params ∷ r ∷ [])
-
-  outs_are : (rows : List Row) → map (output q) (flat_map (λ r. cond (list_all (holds (params ∷ r ∷ [])) tests) ((params ∷ r ∷ []) ∷ []) []) rows) ≡ map out (passing tests params rows)
-  outs_are [] = refl
-  outs_are (r ∷ rows) =
-      elim (list_all (holds (params ∷ r ∷ [])) tests) as (λ b. map (output q) (cond b ((params ∷ r ∷ []) ∷ []) [] ++ flat_map (λ r. cond (list_all (holds (params ∷ r ∷ [])) tests) ((params ∷ r ∷ []) ∷ []) []) rows)
-      ≡ map out (cond b (r ∷ passing tests params rows) (passing tests params rows)))
-      [ true ↦ ap (λ xs. out r ∷ xs) (outs_are rows) | false ↦ outs_are rows ]
+  abbrev outcome : Row → Output
+  outcome = out tree tests project order (lit (Int (pos 1))) params
 
   -- there is none, or it is one that no other comes before
   pub record IsFirst (rows answer : List Row) : Type 0 where
     pub row : Row
     pub there : Has (passing tests params rows) row
     pub is : answer ≡ shown project params row ∷ []
-    pub least : (r : Row) → Has (passing tests params rows) r → is_gt (output_cmp q (out row) (out r)) ≡ false
+    pub least : (r : Row) → Has (passing tests params rows) r → is_gt (output_cmp q (outcome row) (outcome r)) ≡ false
 
   abbrev pub HasNone : List Row → List Row → Type 0
   HasNone rows answer = (answer ≡ []) × ((r : Row) → Has (passing tests params rows) r → ⊥)
 
   pub first_found : (db : Trees) (answer : List Row) → IsAnswer q db params answer → HasNone (db tree) answer ⊎ IsFirst (db tree) answer
   first_found db answer a =
-      let all = map out (passing tests params (db tree)) in
-      let kept : a.kept ≡ all = a.distinct ∙ ap (map (output q)) a.grouped ∙ outs_are (db tree) in
+      let kept = kept_outs tree tests project order (lit (Int (pos 1))) params db answer a in
       go a.ordered (subst (λ k. IsPermutation k a.ordered) kept a.same) a.sorted a.shown
     where
-      go : (ordered : List Output) → IsPermutation (map out (passing tests params (db tree))) ordered → IsSorted (output_cmp q) ordered → answer ≡ take 1 (map (λ o. o.1) ordered) → HasNone (db tree) answer ⊎ IsFirst (db tree) answer
-      go [] same sorted is = inl (is, λ r h. permuted _ [] (out r) same (mapped_has out _ r h))
+      go : (ordered : List Output) → IsPermutation (map outcome (passing tests params (db tree))) ordered → IsSorted (output_cmp q) ordered → answer ≡ take 1 (map (λ o. o.1) ordered) → HasNone (db tree) answer ⊎ IsFirst (db tree) answer
+      go [] same sorted is = inl (is, λ r h. permuted _ [] (outcome r) same (mapped_has outcome _ r h))
       go (o ∷ os) same sorted is =
-          let back = has_mapped out (passing tests params (db tree)) o (permuted (o ∷ os) _ o (IsPermutation-sym _ _ same) (inl refl)) in
+          let back = has_mapped outcome (passing tests params (db tree)) o (permuted (o ∷ os) _ o (IsPermutation-sym _ _ same) (inl refl)) in
           inr (record {
             row = back.0;
             there = back.1;
             is = is ∙ ap (λ (p : Output). p.1 ∷ []) back.2;
-            least = λ r h. subst (λ p. is_gt (output_cmp q p (out r)) ≡ false) back.2 (least_of_all (output_cmp q) (output_cmp_total q) o os sorted (out r) (permuted _ (o ∷ os) (out r) same (mapped_has out _ r h)));
+            least = λ r h. subst (λ p. is_gt (output_cmp q p (outcome r)) ≡ false) back.2 (least_of_all (output_cmp q) (output_cmp_total q) o os sorted (outcome r) (permuted _ (o ∷ os) (outcome r) same (mapped_has outcome _ r h)));
           })

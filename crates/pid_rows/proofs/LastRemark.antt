@@ -30,9 +30,9 @@ use Rattle.pid_rows.proofs.MapLemmas.{none_over}
 use Rattle.pid_rows.proofs.Keys.{pos_same}
 use Rattle.pid_rows.proofs.Select.{passing, shown, integers_equal, integer_equal}
 use Rattle.pid_rows.specs.Schema.{pid_schema}
-use Rattle.pid_rows.proofs.Statements.{program}
+use Rattle.pid_rows.proofs.Statements.{program, first_one}
 use Rattle.pid_rows.proofs.KeyTexts.{by_first}
-use Rattle.pid_rows.proofs.FirstLemmas.{first_one, HasNone, IsFirst, first_found}
+use Rattle.pid_rows.proofs.FirstLemmas.{HasNone, IsFirst, first_found}
 
 abbrev pub select_last : List ℕ
 select_last = codes "SELECT seq FROM remark WHERE num = ?1 ORDER BY seq DESC LIMIT 1"

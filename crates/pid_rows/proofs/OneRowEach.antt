@@ -3,7 +3,7 @@ use Rattle.std.proofs.Common.{◌≡◌, ◌≢◌, inl, inr, ℕ, ℤ, List, []
 use Rattle.std.specs.Prelude.{◌&&◌}
 use Rattle.std.specs.Ordering.{is_ne}
 use Rattle.std.specs.List.{AllByRecursion, list_any}
-use Rattle.std.proofs.lemmas.Bool.{and_parts, or_parts, both_ways, not-true}
+use Rattle.std.proofs.lemmas.Bool.{and_parts, and_from, or_parts, both_ways, not-true}
 use Rattle.std.proofs.lemmas.Cmp.{tied_itself}
 use Rattle.sqlite.specs.declared.types.Value.{Value}
 use Rattle.sqlite.specs.declared.types.Value.TheVariants.{Int, Text}
@@ -15,10 +15,11 @@ use Rattle.sqlite.specs.Ops.{is_true, from_truth, binary}
 use Rattle.sqlite.specs.Collation.TheVariants.{Binary}
 use Rattle.sqlite.specs.Effect.{Database, IsDatabase}
 use Rattle.sqlite_rules.specs.Lists.{Has}
+use Rattle.sqlite_rules.proofs.ListLemmas.{all_has}
 use Rattle.sqlite_schema.specs.Rules.{agree, clashes, differ, equal, passes, Obeys}
 use Rattle.sqlite_schema.specs.declared.schema.Constraint.TheVariants.{Unique}
 use Rattle.pid_rows.specs.Schema.{pid_schema, item}
-use Rattle.pid_rows.proofs.Select.{text_equal}
+use Rattle.pid_rows.proofs.Select.{said, text_equal}
 use Rattle.pid_rows.proofs.Lengths.{IsDistinct}
 
 all_apart : {X K : Type 0} (R : X → X → Type 0) (f : X → K) (x : X) (ys : List X) → AllByRecursion (R x) ys → ((y : X) → Has ys y → R x y → f x ≢ f y) → AllByRecursion (λ k. f x ≢ k) (map f ys)
@@ -37,33 +38,21 @@ not_below_itself v less = let bad : ◌≡◌ {A = Ordering} Equal Less = sym (t
 pub rowids_apart : (rows : List Row) → IsTable rows → IsDistinct (map rowid rows)
 rowids_apart rows up = rising_apart (λ a b. value_cmp (rowid a) (rowid b) ≡ Less) rowid rows up (λ a b p q less same. not_below_itself (rowid b) (subst (λ v. value_cmp v (rowid b) ≡ Less) same less))
 
-said : (b : Bool) → is_true (from_truth (Some b)) ≡ b
-said true = refl
-said false = refl
-
 -- what is below is another number
-below_differs : (a b : Value) (m n : ℤ) → a ≡ Int m → b ≡ Int n → value_cmp a b ≡ Less → differ a b ≡ true
+pub below_differs : (a b : Value) (m n : ℤ) → a ≡ Int m → b ≡ Int n → value_cmp a b ≡ Less → differ a b ≡ true
 unfolding binary
 below_differs a b m n p q less =
     let here : value_cmp (Int m) (Int n) ≡ Less = (λ i. value_cmp (sym p i) (sym q i)) ∙ less in
     (λ i. differ (p i) (q i)) ∙ (said _ ∙ ap is_ne here)
 
-none_among : {X : Type 0} (p : X → Bool) (xs : List X) (x : X) → list_any p xs ≡ false → Has xs x → p x ≡ false
+pub none_among : {X : Type 0} (p : X → Bool) (xs : List X) (x : X) → list_any p xs ≡ false → Has xs x → p x ≡ false
 none_among p [] x none h = absurd h
 none_among p (y ∷ xs) x none (inl same) = ap p same ∙ (or_parts _ _ none).0
 none_among p (y ∷ xs) x none (inr later) = none_among p xs x (or_parts _ _ none).1 later
 
-each_among : {X : Type 0} (P : X → Type 0) (xs : List X) (x : X) → AllByRecursion P xs → Has xs x → P x
-each_among P [] x all h = absurd h
-each_among P (y ∷ xs) x all (inl same) = subst P (sym same) all.0
-each_among P (y ∷ xs) x all (inr later) = each_among P xs x all.1 later
-
 agrees : (a b : Row) (k : List ℕ) → column a 1 ≡ Text k → column b 1 ≡ Text k → agree plain (1 ∷ []) a (1 ∷ []) b ≡ true
 unfolding first_key
 agrees a b k p q = (λ i. equal Binary (p i) (q i) && true) ∙ ap (λ t. t && true) (text_equal k)
-
-both_true : (a b : Bool) → a ≡ true → b ≡ true → (a && b) ≡ true
-both_true a b p q = ap (λ t. t && b) p ∙ q
 
 pub item_keys_apart : (db : Database) → IsDatabase db → db.schema ≡ pid_schema → IsTable (db.trees 4) → ((r : Row) → Has (db.trees 4) r → (id : ℤ) × (k : List ℕ) × (rowid r ≡ Int id) × (column r 1 ≡ Text k))
     → IsDistinct (map (λ r. column r 1) (db.trees 4))
@@ -73,6 +62,6 @@ item_keys_apart db sound has up keyed =
     rising_apart (λ a b. value_cmp (rowid a) (rowid b) ≡ Less) (λ r. column r 1) (db.trees 4) up (λ a b p q less same.
     let ka = keyed a p in
     let kb = keyed b q in
-    let clean : not (clashes plain (1 ∷ []) (db.trees 4) b) ≡ true = (and_parts _ _ (each_among _ (db.trees 4) b passed q)).0 in
+    let clean : not (clashes plain (1 ∷ []) (db.trees 4) b) ≡ true = (and_parts _ _ (all_has _ (db.trees 4) b passed q)).0 in
     let none = none_among _ (db.trees 4) a (not-true _ clean) p in
-    both_ways _ none (both_true _ _ (agrees a b kb.1 (same ∙ kb.3) kb.3) (below_differs (rowid a) (rowid b) ka.0 kb.0 ka.2 kb.2 less)))
+    both_ways _ none (and_from _ _ (agrees a b kb.1 (same ∙ kb.3) kb.3) (below_differs (rowid a) (rowid b) ka.0 kb.0 ka.2 kb.2 less)))

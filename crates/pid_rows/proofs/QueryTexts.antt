@@ -1,9 +1,9 @@
 -- The queries on the tables are refused in no way.
-use Rattle.std.proofs.Common.{◌≡◌, ℕ, List, [], ◌∷◌, codes, true, false, inl, inr, Ok, Err, Result, refl, sym, subst, arith}
-use Rattle.sqlite.specs.declared.types.Value.TheVariants.{Text}
+use Rattle.std.proofs.Common.{◌≡◌, ℕ, pos, List, [], ◌∷◌, codes, true, false, inl, inr, Ok, Err, Result, refl, sym, subst, arith}
+use Rattle.sqlite.specs.declared.types.Value.TheVariants.{Int, Text}
 use Rattle.sqlite.specs.Order.{Row}
 use Rattle.sqlite.specs.Tree.{Trees}
-use Rattle.sqlite.specs.Term.{Term, col}
+use Rattle.sqlite.specs.Term.{Term, lit, col}
 use Rattle.sqlite.specs.Command.TheVariants.{Select}
 use Rattle.sqlite.specs.Listing.{understood, reads_listing}
 use Rattle.sqlite.proofs.Callers.{command_of}
@@ -17,14 +17,13 @@ use Rattle.pid_rows.specs.TableRows.{number}
 use Rattle.pid_rows.specs.Queries.{Asks, IsOneStatement, IsQueryAs, IsQuery}
 use Rattle.sqlite_typing.specs.Types.{accepts_program}
 use Rattle.pid_rows.specs.Schema.{pid_schema}
-use Rattle.pid_rows.proofs.Statements.{simple, program, IsSelect}
-use Rattle.pid_rows.proofs.FirstLemmas.{first_one}
+use Rattle.pid_rows.proofs.Statements.{listing, whole, simple, program, IsSelect}
 use Rattle.pid_rows.proofs.StatementTexts.{select_meta, select_account, select_item, select_submission, select_receipt}
 use Rattle.pid_rows.proofs.KeyTexts.{by_first, by_rowid, by_both, submission_columns, submission_names, receipt_columns, select_meta_is, select_account_is, select_item_is, select_submission_is, select_receipt_is}
 use Rattle.pid_rows.proofs.LastRemark.{falling, select_last, select_last_is, select_last_unlisted}
 use Rattle.pid_rows.proofs.RangeLemmas.{in_range, select_between, select_between_is, select_between_unlisted}
 
-abbrev IsOneAs : List ℕ → Row → Result Compiled CompileError → Type 0
+abbrev pub IsOneAs : List ℕ → Row → Result Compiled CompileError → Type 0
 IsOneAs sql params (Ok c) = IsOneStatement sql params c
 IsOneAs sql params (Err e) = ⊥
 
@@ -32,23 +31,23 @@ whole_query : (sql : List ℕ) (params : Row) (r : Result Compiled CompileError)
 whole_query sql params (Ok c) p names one is asks = (one, subst (Asks params) (sym is) asks)
 whole_query sql params (Err e) p names one is asks = absurd one
 
--- neither kind sums anything
+-- a listing sums nothing
 module _ (sql : List ℕ) (params : Row) (tree : ℕ) (tests project : List Term) (names : List (List ℕ)) (one : IsOneAs sql params (understood pid_schema sql)) where
-  simple_fits : (db : Trees) → ProgramOverflows db params [] [] (simple tree tests project) → ⊥
-  simple_fits db (inl grouped) = grouped
-  simple_fits db (inr folded) = folded.4
+  module _ (order : List (Term × Key)) (limit : Term) where
+    fits : (db : Trees) → ProgramOverflows db params [] [] (listing tree tests project order limit) → ⊥
+    fits db (inl grouped) = grouped
+    fits db (inr folded) = folded.4
+
+    pub in_order : command_of (understood pid_schema sql) ≡ Select (program (listing tree tests project order limit)) names → reads_listing pid_schema sql ≡ false
+        → accepts_program pid_schema [] (listing tree tests project order limit) params ≡ true → IsQuery sql params
+    in_order is unlisted accepted = record { known = whole_query sql params (understood pid_schema sql) (program (listing tree tests project order limit)) names one is (accepted, fits); unlisted = unlisted }
 
   pub by_key : IsSelect tree tests project sql names → accepts_program pid_schema [] (simple tree tests project) params ≡ true → IsQuery sql params
-  by_key is accepted = record { known = whole_query sql params (understood pid_schema sql) (program (simple tree tests project)) names one is.is (accepted, simple_fits); unlisted = is.unlisted }
+  by_key is accepted = in_order [] whole is.is is.unlisted accepted
 
-  module _ (order : List (Term × Key)) where
-    first_fits : (db : Trees) → ProgramOverflows db params [] [] (first_one tree tests project order) → ⊥
-    first_fits db (inl grouped) = grouped
-    first_fits db (inr folded) = folded.4
-
-    pub in_order : command_of (understood pid_schema sql) ≡ Select (program (first_one tree tests project order)) names → reads_listing pid_schema sql ≡ false
-        → accepts_program pid_schema [] (first_one tree tests project order) params ≡ true → IsQuery sql params
-    in_order is unlisted accepted = record { known = whole_query sql params (understood pid_schema sql) (program (first_one tree tests project order)) names one is (accepted, first_fits); unlisted = unlisted }
+-- at most one
+abbrev one_row : Term
+one_row = lit (Int (pos 1))
 
 meta_one : (label : List ℕ) → IsOneAs select_meta (Text label ∷ []) (understood pid_schema select_meta)
 unfolding understood everything
@@ -90,14 +89,14 @@ unfolding understood everything
 last_one n = record { whole = omega arith; given = refl; bare = refl; timeless = refl }
 
 pub last_query : (n : ℕ) → IsQuery select_last (number n ∷ [])
-last_query n = in_order select_last (number n ∷ []) 7 by_first (col 1 2 ∷ []) (codes "seq" ∷ []) (last_one n) falling select_last_is select_last_unlisted refl
+last_query n = in_order select_last (number n ∷ []) 7 by_first (col 1 2 ∷ []) (codes "seq" ∷ []) (last_one n) falling one_row select_last_is select_last_unlisted refl
 
 between_one : (low high : List ℕ) → IsOneAs select_between (Text low ∷ Text high ∷ []) (understood pid_schema select_between)
 unfolding understood everything
 between_one low high = record { whole = omega arith; given = refl; bare = refl; timeless = refl }
 
 pub between_query : (low high : List ℕ) → IsQuery select_between (Text low ∷ Text high ∷ [])
-between_query low high = in_order select_between (Text low ∷ Text high ∷ []) 4 in_range (col 1 1 ∷ []) (codes "path" ∷ []) (between_one low high) [] select_between_is select_between_unlisted refl
+between_query low high = in_order select_between (Text low ∷ Text high ∷ []) 4 in_range (col 1 1 ∷ []) (codes "path" ∷ []) (between_one low high) [] one_row select_between_is select_between_unlisted refl
 
 pub one_query : IsQuery (codes "SELECT 1") []
 unfolding understood everything

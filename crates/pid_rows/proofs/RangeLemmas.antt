@@ -30,12 +30,12 @@ use Rattle.pid_rows.specs.Schema.{pid_schema}
 use Rattle.pid_rows.specs.TableRows.{item_row}
 use Rattle.pid_rows.specs.Shows.{Counts, ShowsCounting}
 use Rattle.pid_rows.specs.Ranges.{is_between, holds_between}
-use Rattle.pid_rows.proofs.Statements.{program}
+use Rattle.pid_rows.proofs.Statements.{program, first_one}
 use Rattle.pid_rows.proofs.MapLemmas.{none_over}
 use Rattle.pid_rows.proofs.SetLemmas.{tied}
-use Rattle.pid_rows.proofs.Select.{passing}
+use Rattle.pid_rows.proofs.Select.{passing, said}
 use Rattle.pid_rows.proofs.TurnLemmas.{hits}
-use Rattle.pid_rows.proofs.FirstLemmas.{first_one, HasNone, IsFirst, first_found}
+use Rattle.pid_rows.proofs.FirstLemmas.{HasNone, IsFirst, first_found}
 
 abbrev pub select_between : List ℕ
 select_between = codes "SELECT path FROM item WHERE path > ?1 AND path < ?2 LIMIT 1"
@@ -54,10 +54,6 @@ select_between_plain = (refl, refl)
 pub select_between_unlisted : reads_listing pid_schema select_between ≡ false
 unfolding understood everything
 select_between_unlisted = refl
-
-said : (b : Bool) → is_true (from_truth (Some b)) ≡ b
-said true = refl
-said false = refl
 
 turned : (o : Ordering) → is_gt o ≡ is_lt (ordering_reverse o)
 turned Less = refl
@@ -81,7 +77,7 @@ module _ (low high : List ℕ) where
   abbrev params : Row
   params = Text low ∷ Text high ∷ []
 
-  hits_between : (id : ℤ) (path name : List ℕ) → hits in_range params (item_row id path name) ≡ is_between low high path
+  pub hits_between : (id : ℤ) (path name : List ℕ) → hits in_range params (item_row id path name) ≡ is_between low high path
   hits_between id path name = ap (λ b. b && (is_true (binary (Compare Lt Binary) (Text path) (Text high)) && true)) (above path low) ∙ ap (λ b. is_lt (text_cmp low path) && (b && true)) (below path high) ∙ two_tests _ _
 
 -- ---- lists of items

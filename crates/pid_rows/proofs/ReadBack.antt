@@ -58,7 +58,7 @@ meta_fits v label readable n = schema (bytes_eq label (codes "schema")) (bytes_e
 
 -- ---- items
 
-among : (items : Items) (e : List ℕ × List ℕ) → AllItems items → Has items e → IsItem e.0 e.1
+pub among : (items : Items) (e : List ℕ × List ℕ) → AllItems items → Has items e → IsItem e.0 e.1
 among [] e all h = absurd h
 among (x ∷ items) e all (inl same) = subst (λ (p : List ℕ × List ℕ). IsItem p.0 p.1) (sym same) all.0
 among (x ∷ items) e all (inr later) = among items e all.1 later
@@ -74,12 +74,13 @@ readable_at : (v : Views) (n : ℕ) (s : Submitted) → IsReadable v → submiss
 readable_at v zero s readable e = absurd (let bad : ⊥ = cc in bad)
 readable_at v (suc n) s readable e = all_at IsReadableSubmission v.submits n s readable.submissions e
 
+pub standing_readable : (v : Views) (n : ℕ) (s : Standing) → IsReadable v → standing_in v n ≡ Some s → IsReadableSubmission s.submitted × IsReadableState s.state
+standing_readable v n s readable is =
+    let from = mapped_some _ (submission_at n v.submits) s is in
+    (subst (λ (x : Standing). IsReadableSubmission x.submitted) from.2 (readable_at v n from.0 readable from.1), subst (λ (x : Standing). IsReadableState x.state) from.2 (readable.states n))
+
 pub standing_written : (v : Views) (n : ℕ) (row : Row) → IsReadable v → Some row ≡ option_map standing_row (standing_in v n) → IsStandingRow row
 standing_written v n row readable first =
     let it = some_row standing_row (standing_in v n) row first in
-    let from = mapped_some _ (submission_at n v.submits) it.0 it.1 in (
-      it.0,
-      subst (λ (x : Standing). IsReadableSubmission x.submitted) from.2 (readable_at v n from.0 readable from.1),
-      subst (λ (x : Standing). IsReadableState x.state) from.2 (readable.states n),
-      it.2,
-    )
+    let good = standing_readable v n it.0 readable it.1 in
+    (it.0, good.0, good.1, [], it.2)

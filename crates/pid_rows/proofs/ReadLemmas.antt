@@ -11,12 +11,12 @@ use Rattle.pid_moderation.specs.Views.{Views}
 use Rattle.pid_rows.specs.Schema.{pid_schema}
 use Rattle.pid_rows.specs.Shows.{Counts, ShowsCounting}
 
-not_run : (old new : State) (sql : List ℕ) (params : Row) (e : Error) → IsNotRun old new sql params e → IsUnchanged old new ⊎ IsRolledBack old new
+pub not_run : (old new : State) (sql : List ℕ) (params : Row) (e : Error) → IsNotRun old new sql params e → IsUnchanged old new ⊎ IsRolledBack old new
 unfolding IsNotRun
 not_run old new sql params e (inl refused) = inl refused.1
 not_run old new sql params e (inr fails) = inr fails.3
 
-fails_to_query : (sql : List ℕ) (params : Row) (old new : State) (e : Error) → FailsToQuery sql params old new e → IsUnchanged old new ⊎ IsRolledBack old new
+pub fails_to_query : (sql : List ℕ) (params : Row) (old new : State) (e : Error) → FailsToQuery sql params old new e → IsUnchanged old new ⊎ IsRolledBack old new
 unfolding FailsToQuery
 fails_to_query sql params old new e (inl not_it) = not_run old new sql params e not_it
 fails_to_query sql params old new e (inr it) = go it.0.returning it.2

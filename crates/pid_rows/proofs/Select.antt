@@ -15,7 +15,8 @@ use Rattle.sqlite_schema.specs.Rules.{equal}
 use Rattle.sqlite.specs.Collation.TheVariants.{Binary}
 use Rattle.sqlite_value.proofs.OrderLemmas.{value_cmp-Text, value_cmp-Int, value_cmp_total}
 use Rattle.std.proofs.lemmas.Cmp.{tied_itself}
-use Rattle.pid_rows.proofs.Statements.{simple}
+use Rattle.sqlite_value.specs.declared.keys.Key.{Key}
+use Rattle.pid_rows.proofs.Statements.{listing, whole, simple}
 
 -- the rows that pass, as the query shows them
 abbrev pub passing : List Term → Row → List Row → List Row
@@ -27,13 +28,24 @@ shown project params r = eval_all project (params ∷ r ∷ [])
 abbrev env : Row → Row → Env
 env params r = params ∷ r ∷ []
 
-outputs_are : (params : Row) (tests project : List Term) (q : Query) → q.project ≡ project → q.order ≡ [] → (rows : List Row)
-    → map (output q) (flat_map (λ r. cond (list_all (holds (env params r)) tests) (env params r ∷ []) []) rows) ≡ map (λ r. ([], shown project params r)) (passing tests params rows)
-outputs_are params tests project q same none [] = refl
-outputs_are params tests project q same none (r ∷ rows) =
-    elim (list_all (holds (env params r)) tests) as (λ b. map (output q) (cond b (env params r ∷ []) [] ++ flat_map (λ r. cond (list_all (holds (env params r)) tests) (env params r ∷ []) []) rows)
-    ≡ map (λ r. ([], shown project params r)) (cond b (r ∷ passing tests params rows) (passing tests params rows)))
-    [ true ↦ rw (same, none, outputs_are params tests project q same none rows) | false ↦ outputs_are params tests project q same none rows ]
+module _ (tree : ℕ) (tests project : List Term) (order : List (Term × Key)) (limit : Term) (params : Row) where
+  abbrev q : Query
+  q = listing tree tests project order limit
+
+  -- what a row is sorted by, and what it is shown as
+  abbrev pub out : Row → Output
+  out r = output q (env params r)
+
+  pub outs_are : (rows : List Row) → map (output q) (flat_map (λ r. cond (list_all (holds (env params r)) tests) (env params r ∷ []) []) rows) ≡ map out (passing tests params rows)
+  outs_are [] = refl
+  outs_are (r ∷ rows) =
+      elim (list_all (holds (env params r)) tests) as (λ b. map (output q) (cond b (env params r ∷ []) [] ++ flat_map (λ r. cond (list_all (holds (env params r)) tests) (env params r ∷ []) []) rows)
+      ≡ map out (cond b (r ∷ passing tests params rows) (passing tests params rows)))
+      [ true ↦ ap (λ xs. out r ∷ xs) (outs_are rows) | false ↦ outs_are rows ]
+
+  -- what an answer keeps of the rows of the table
+  pub kept_outs : (db : Trees) (answer : List Row) → (a : IsAnswer q db params answer) → a.kept ≡ map out (passing tests params (db tree))
+  kept_outs db answer a = a.distinct ∙ ap (map (output q)) a.grouped ∙ outs_are (db tree)
 
 shown_again : (project : List Term) (params : Row) (rows : List Row) → map (λ (o : Output). o.1) (map (λ r. ([], shown project params r)) rows) ≡ map (shown project params) rows
 shown_again project params [] = refl
@@ -42,16 +54,15 @@ shown_again project params (r ∷ rows) = ap (λ xs. shown project params r ∷ 
 pub simple_rows : (tree : ℕ) (tests project : List Term) (db : Trees) (params : Row) (rows : List Row) → IsAnswer (simple tree tests project) db params rows
     → IsPermutation (map (shown project params) (passing tests params (db tree))) rows
 simple_rows tree tests project db params rows a =
-    let q = simple tree tests project in
     let passed = passing tests params (db tree) in
-    let kept : a.kept ≡ map (λ r. ([], shown project params r)) passed = a.distinct ∙ ap (map (output q)) a.grouped ∙ outputs_are params tests project q refl refl (db tree) in
+    let kept : a.kept ≡ map (λ r. ([], shown project params r)) passed = kept_outs tree tests project [] whole params db rows a in
     let moved = IsPermutation-map (λ (o : Output). o.1) _ _ (subst (λ k. IsPermutation k a.ordered) kept a.same) in
     let same : map (λ (o : Output). o.1) (map (λ r. ([], shown project params r)) passed) ≡ map (shown project params) passed = shown_again project params passed in
     subst (λ xs. IsPermutation xs rows) same (subst (IsPermutation _) (sym a.shown) moved)
 
 -- ---- tests on a column
 
-said : (b : Bool) → is_true (from_truth (Some b)) ≡ b
+pub said : (b : Bool) → is_true (from_truth (Some b)) ≡ b
 said true = refl
 said false = refl
 

@@ -11,21 +11,34 @@ use Rattle.sqlite.specs.Collation.TheVariants.{Binary}
 use Rattle.sqlite.specs.Listing.{understood, reads_listing}
 use Rattle.sqlite.proofs.Callers.{IsPlain, command_of}
 use Rattle.sqlite_schema.specs.declared.program.Program.{Program}
+use Rattle.sqlite_value.specs.declared.keys.Key.{Key}
 use Rattle.pid_rows.specs.Schema.{pid_schema}
 
--- the rows of one table that pass the tests
-abbrev pub simple : ℕ → List Term → List Term → Query
-simple tree filter project = record {
+-- the rows of one table that pass the tests, in an order, at most so many
+abbrev pub listing : ℕ → List Term → List Term → List (Term × Key) → Term → Query
+listing tree tests project order limit = record {
   from = inner tree end;
-  filter = filter;
+  filter = tests;
   group = None;
   project = project;
   distinct = false;
   collations = [];
-  order = [];
-  limit = lit (Int (negsuc 0));
+  order = order;
+  limit = limit;
   offset = lit (Int (pos 0));
 }
+
+-- no limit
+abbrev pub whole : Term
+whole = lit (Int (negsuc 0))
+
+-- all that pass, in no order
+abbrev pub simple : ℕ → List Term → List Term → Query
+simple tree tests project = listing tree tests project [] whole
+
+-- the first that passes, in an order
+abbrev pub first_one : ℕ → List Term → List Term → List (Term × Key) → Query
+first_one tree tests project order = listing tree tests project order (lit (Int (pos 1)))
 
 abbrev pub program : Query → Program
 program q = record { lets = []; body = q }

@@ -1,5 +1,5 @@
 -- What a connection is left as by a call, and what a crash may then leave. All of it holds while the disk returns what was written.
-use Rattle.std.specs.Prelude.{◌≡◌, ◌⊎◌, false, Result, OnOk, MatchResult, IsTrue, IfOk}
+use Rattle.std.specs.Prelude.{◌≡◌, ◌⊎◌, false, Result, OnOk, MatchResult, IsTrue}
 use Rattle.sqlite.specs.Tree.{Trees}
 use Rattle.sqlite.specs.State.{State, HasCleanDisk, Survives}
 use Rattle.sqlite.specs.Effect.{Database}
@@ -69,7 +69,3 @@ pub record OnlyReads (old new : State) : Type 0 where
 -- and tells of the views that were at rest; a fault has a cause where what they hold can be read
 abbrev pub Tells : {X : Type 0} → State → State → Result X TableFault → (Views → X → Type 0) → Type 0
 Tells old new result Says = HasCleanDisk new → (v : Views) → AtRest old v → MatchResult result (Says v) (λ fault. IsReadable v → IsCaused old new fault)
-
--- the same, where nothing is said of why a fault came
-abbrev pub TellsIfOk : {X : Type 0} → State → State → Result X TableFault → (Views → X → Type 0) → Type 0
-TellsIfOk old new result Says = HasCleanDisk new → (v : Views) → AtRest old v → IfOk result (Says v)

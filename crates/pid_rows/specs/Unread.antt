@@ -1,5 +1,5 @@
 -- When a row does not read to a value: choices of this project.
-use Rattle.std.specs.Prelude.{◌≡◌, ℕ, ◌<◌, ◌^◌, Bool, true, List}
+use Rattle.std.specs.Prelude.{◌≡◌, ℕ, ◌<◌, ◌^◌, Bool, true, List, ◌++◌}
 use Rattle.sqlite.specs.declared.types.Value.{Value}
 use Rattle.sqlite.specs.declared.types.Value.TheVariants.{Text}
 use Rattle.sqlite.specs.Order.{Row, column}
@@ -52,9 +52,9 @@ abbrev pub IsReplyRow : Row → Type 0
 IsReplyRow row =
     (reply : Reply) × IsReadableReply reply × (column row 0 ≡ number (kind_of reply)) × (column row 1 ≡ number (first_of reply)) × (column row 2 ≡ number (second_of reply)) × (column row 3 ≡ number (third_of reply))
 
--- the row of a submission as it stands
+-- the row of a submission as it stands, and what follows
 abbrev pub IsStandingRow : Row → Type 0
-IsStandingRow row = (s : Standing) × IsReadableSubmission s.submitted × IsReadableState s.state × (row ≡ standing_row s)
+IsStandingRow row = (s : Standing) × IsReadableSubmission s.submitted × IsReadableState s.state × (rest : Row) × (row ≡ standing_row s ++ rest)
 
 -- the row of an item
 abbrev pub IsItemRow : Row → Type 0

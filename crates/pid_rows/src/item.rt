@@ -133,8 +133,8 @@ fn any_between<S: Alter>(
     }
 }
 
-// The two parts and a last byte, joined.
-fn edge(alloc: Global, front: &[u8], rest: &[u8], last: u8) -> Result<Vec<u8>, AllocError>
+/// The two parts and a last byte, joined: an end of a range of paths. Behind `PC/8086` they lie between `PC/8086/` and `PC/80860`.
+pub fn edge(alloc: Global, front: &[u8], rest: &[u8], last: u8) -> Result<Vec<u8>, AllocError>
     ensures { IfOk result (λ edge. edge.items ≡ (front.now ++ rest.now) ++ last ∷ []) }
 {
     let mut edge = Vec::from_slice(alloc, front)?;

@@ -21,6 +21,7 @@ use Rattle.pid_rows.specs.Shows.{Shows}
 use Rattle.pid_rows.proofs.LeaveLemmas.{leaves_on}
 use Rattle.pid_rows.proofs.Lengths.{mapped, unmapped}
 use Rattle.pid_rows.proofs.GoingLemmas.{earlier}
+use Rattle.pid_rows.proofs.ReadLemmas.{not_run}
 use Rattle.pid_table_check.specs.declared.shape.Table.{Table}
 use Rattle.pid_table_check.specs.declared.shape.Table.TheVariants.{Meta, Account, Item, Submission, Remark, Receipt}
 use Rattle.pid_table_check.specs.Queries.{query_of}
@@ -30,11 +31,6 @@ use Rattle.pid_table_check.proofs.Each.{same_there, one_more, each_member, each_
 pub err_of : {X E : Type 0} (r : Result X E) (e : E) → result_err r ≡ Some e → r ≡ Err e
 err_of (Ok x) e h = cc
 err_of (Err f) e h = cc
-
-not_run : (old new : State) (sql : List ℕ) (params : Row) (e : Error) → IsNotRun old new sql params e → IsUnchanged old new ⊎ IsRolledBack old new
-unfolding IsNotRun
-not_run old new sql params e (inl refused) = inl refused.1
-not_run old new sql params e (inr fails) = inr fails.3
 
 left_by : {X : Type 0} (P : X → Type 0) (r : Result X Error) (old new : State) (sql : List ℕ) → IfOk r (λ s. P s × IsUnchanged old new) → IfErr r (λ e. (params : Row) → IsNotRun old new sql params e)
     → IsUnchanged old new ⊎ IsRolledBack old new

@@ -1,5 +1,5 @@
 -- Why a commit fails.
-use Rattle.std.proofs.Common.{◌≡◌, inl, inr, IsTrue, sym, ◌∙◌}
+use Rattle.std.proofs.Common.{inl, inr, IsTrue, sym, ◌∙◌}
 use Rattle.sqlite.specs.State.{State}
 use Rattle.sqlite.specs.Steps.{FailsToCommit}
 use Rattle.sqlite.specs.declared.error.Error.{Error}

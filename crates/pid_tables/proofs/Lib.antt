@@ -1,12 +1,3 @@
-pub mod WorkedRows
-pub mod BelowLemmas
-pub mod PendingLists
-pub mod RowLists
-pub mod RemarkLists
-pub mod WalkLemmas
-pub mod ItemLists
-pub mod PlainTexts
-pub mod OrderedLemmas
 pub mod CreateTexts
 pub mod ApplyLemmas
 pub mod PutLemmas

@@ -1,8 +1,3 @@
-pub mod PendingRows
-pub mod Discussions
-pub mod PendingPages
-pub mod Children
-pub mod EachItem
 pub mod Creation
 pub mod Puts
 pub mod Applies

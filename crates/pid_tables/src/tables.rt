@@ -12,22 +12,19 @@ ghost use Rattle.pid_moderation.specs.WellMade.{AllItems, HoldsParents};
 ghost use Rattle.pid_table_check.specs.Checking.{Explains};
 ghost use Rattle.pid_table_check.specs.Conditions.{IsRegistry, rows_in};
 ghost use Rattle.pid_table_check.specs.Shapes.{ExplainsLack, HasNoTable, LacksATable};
+ghost use Rattle.pid_rows.specs.Causes.{IsReadable};
 ghost use Rattle.pid_rows.specs.Faults.{IsUntold};
 ghost use Rattle.pid_rows.specs.Schema.{pid_schema};
 ghost use Rattle.pid_tables.specs.Creation.{IsBlank};
 ghost use Rattle.pid_rows.specs.ItemPairs.{pair_of};
-ghost use Rattle.pid_rows.specs.Leaves.{AtRest, OnlyReads, Tells, TellsIfOk};
-ghost use Rattle.pid_tables.specs.Children.{children_of};
-ghost use Rattle.pid_tables.specs.Discussions.{discussion_in, shown_of};
-ghost use Rattle.pid_tables.specs.EachItem.{TakesEach};
-ghost use Rattle.pid_tables.specs.PendingPages.{pending_in, told_of};
+ghost use Rattle.pid_rows.specs.Leaves.{AtRest, OnlyReads, Tells};
+ghost use Rattle.pid_table_lists.specs.Children.{children_of};
+ghost use Rattle.pid_table_lists.specs.Discussions.{discussion_in, shown_of};
+ghost use Rattle.pid_table_lists.specs.EachItem.{TakesEach, IsCausedEnd};
+ghost use Rattle.pid_table_lists.specs.PendingPages.{pending_in, told_of};
 
-use crate::below::children;
 use crate::creation::create;
 use crate::gather::gather_facts;
-use crate::pages::{PAGE, Pending, pending_page};
-use crate::remarks::{Discussion, discussed};
-use crate::walk::{EachEnd, each_item};
 use pid_ident::{Account, Key, Name, Path};
 use pid_moderation::{Facts, Rank, Reply, Rows, Verdict};
 use pid_reader::Sink;
@@ -39,6 +36,7 @@ use pid_rows::receipt::kept_reply;
 use pid_rows::remark::remark_count;
 use pid_rows::run::look;
 use pid_table_check::check;
+use pid_table_lists::{Discussion, EachEnd, PAGE, Pending, children, discussed, each_item, pending_page};
 use sqlite::{Alter, Connection, MemStore};
 use std::alloc::Global;
 
@@ -100,6 +98,7 @@ impl<S: Alter + Drop> Tables<S> {
         requires { (state S.Store self.old.conn).in_transaction ≡ false }
         ensures rests { OnlyReads (state S.Store self.old.conn) (state S.Store self.new.conn) }
         ensures told { HasCleanDisk (state S.Store self.new.conn) → (v : Views) → AtRest (state S.Store self.old.conn) v → TakesEach K.takes K.faults result v.items sink.old sink.new }
+        ensures caused { HasCleanDisk (state S.Store self.new.conn) → (v : Views) → AtRest (state S.Store self.old.conn) v → IsReadable v → IfErr result (IsCausedEnd (state S.Store self.old.conn) (state S.Store self.new.conn)) }
     {
         each_item(&mut self.conn, sink)
     }
@@ -112,7 +111,7 @@ impl<S: Alter + Drop> Tables<S> {
     pub fn children(&mut self, alloc: Global, above: Option<Path>) -> Result<Vec<Item>, TableFault>
         requires { (state S.Store self.old.conn).in_transaction ≡ false }
         ensures rests { OnlyReads (state S.Store self.old.conn) (state S.Store self.new.conn) }
-        ensures told { TellsIfOk (state S.Store self.old.conn) (state S.Store self.new.conn) result (λ v items. AllItems v.items → map pair_of items.items ≡ children_of (option_map path_text above) v.items) }
+        ensures told { Tells (state S.Store self.old.conn) (state S.Store self.new.conn) result (λ v items. AllItems v.items → map pair_of items.items ≡ children_of (option_map path_text above) v.items) }
     {
         children(&mut self.conn, alloc, above)
     }
@@ -125,7 +124,7 @@ impl<S: Alter + Drop> Tables<S> {
     ) -> Result<Option<Discussion>, TableFault>
         requires { (state S.Store self.old.conn).in_transaction ≡ false }
         ensures rests { OnlyReads (state S.Store self.old.conn) (state S.Store self.new.conn) }
-        ensures told { TellsIfOk (state S.Store self.old.conn) (state S.Store self.new.conn) result (λ v d. option_map shown_of d ≡ discussion_in v number) }
+        ensures told { Tells (state S.Store self.old.conn) (state S.Store self.new.conn) result (λ v d. option_map shown_of d ≡ discussion_in v number) }
     {
         discussed(&mut self.conn, alloc, number)
     }
@@ -135,7 +134,7 @@ impl<S: Alter + Drop> Tables<S> {
     pub fn pending_page(&mut self, alloc: Global, after: u32) -> Result<Vec<Pending>, TableFault>
         requires { (state S.Store self.old.conn).in_transaction ≡ false }
         ensures rests { OnlyReads (state S.Store self.old.conn) (state S.Store self.new.conn) }
-        ensures told { TellsIfOk (state S.Store self.old.conn) (state S.Store self.new.conn) result (λ v page. map told_of page.items ≡ pending_in PAGE after v) }
+        ensures told { Tells (state S.Store self.old.conn) (state S.Store self.new.conn) result (λ v page. map told_of page.items ≡ pending_in PAGE after v) }
     {
         pending_page(&mut self.conn, alloc, after)
     }

@@ -22,4 +22,4 @@ returns-in-Vendor-clause-found g c clean v rest all parents =
 pub returns-clause-found : goal.returns-clause-found
 returns-clause-found g c clean v rest all parents =
     let one = rw (c.as_bytes.ensures.value, c.in_ok-text.ensures) at (c.in_ok-below.ensures.found clean v rest) in
-    one.1 ∙ other_children v.items one.0.sorted all parents c.args.path (is_no_vendor v.items one.0.sorted all parents c.args.path (λ a is. c.in_default.not-Vendor a is))
+    one.1 ∙ other_children v.items one.0.sorted all parents c.args.path (is_no_vendor c.args.path (λ a is. c.in_default.not-Vendor a is))

@@ -1,0 +1,9 @@
+pub mod WorkedRows
+pub mod BelowLemmas
+pub mod PendingLists
+pub mod RowLists
+pub mod RemarkLists
+pub mod WalkLemmas
+pub mod ItemLists
+pub mod PlainTexts
+pub mod OrderedLemmas

@@ -1,0 +1,280 @@
+-- A walk over the items, row by row.
+use Rattle.std.proofs.Common.{◌≡◌, ◌⊎◌, inl, inr, ℕ, suc, ◌+◌, ◌^◌, ◌≤◌, List, [], ◌∷◌, ◌++◌, length, map, take, drop, true, false, IsTrue, Ok, Err, Result, IfErr, OnErr, None, Some, Option, length-append, reverse, refl, sym, ap, subst, ◌∙◌, arith, take-append-drop}
+use Rattle.std.proofs.lemmas.List.{reverse-append, length-map}
+use Rattle.std.proofs.Math.Seq.{take-length}
+use Rattle.sqlite.specs.Order.{Row}
+use Rattle.sqlite.specs.Tree.{Trees}
+use Rattle.sqlite.specs.State.{State, HasCleanDisk, IsUnchanged, IsRolledBack, Survives, Fails, FailsToQuery, FailsToShow, IsNotRun, CommitsShowing, Shown}
+use Rattle.sqlite.specs.Held.{Held, state}
+use Rattle.sqlite.specs.Given.{HasGiven, HasBegun, IsRefused, FailsToAdvance}
+use Rattle.sqlite.specs.declared.error.Error.{Error}
+use Rattle.sqlite.specs.Clock.{timed}
+use Rattle.sqlite_schema.specs.declared.command.Returning.{Returning}
+use Rattle.sqlite.proofs.StateLemmas.{survives_then, survives_weaker}
+use Rattle.sqlite.proofs.Callers.{given_begin, unchanged_then}
+use Rattle.sqlite_trees.specs.declared.store.Store.{Ghosts}
+use Rattle.pid_moderation.specs.Items.{Items}
+use Rattle.pid_moderation.specs.Views.{Views}
+use Rattle.pid_reader.specs.LookingBack.{Item}
+use Rattle.pid_reader.specs.Sinks.{Took}
+use Rattle.pid_rows.specs.Answers.{item_shown}
+use Rattle.sqlite.specs.Effect.{Database}
+use Rattle.sqlite.specs.Order.{column}
+use Rattle.sqlite_rules.specs.Lists.{Has}
+use Rattle.pid_rows.specs.declared.fault.TableFault.{TableFault}
+use Rattle.pid_rows.specs.Causes.{IsCaused, IsReadable}
+use Rattle.pid_rows.specs.Faults.{fault_of}
+use Rattle.pid_rows.specs.Leaves.{AtRest, OnlyReads}
+use Rattle.pid_rows.specs.Schema.{pid_schema}
+use Rattle.pid_rows.specs.Unread.{IsItemRow, IsWord}
+use Rattle.pid_rows.proofs.CauseLemmas.{caused, caused_later}
+use Rattle.pid_rows.proofs.ReadBack.{among}
+use Rattle.pid_rows.proofs.UnreadLemmas.{caused_unread, path_utf8, name_utf8}
+use Rattle.std.specs.Str.{is_utf8}
+use Rattle.pid_rows.specs.Shows.{Shows, counts_of}
+use Rattle.pid_rows.proofs.GoingLemmas.{earlier}
+use Rattle.pid_rows.proofs.ReadLemmas.{fails_to_query}
+use Rattle.pid_rows.proofs.LeaveLemmas.{leaves_on}
+use Rattle.pid_table_lists.specs.EachItem.{TakesOne, TakesEach, IsCausedEnd, IsUnreadEnd}
+use Rattle.pid_table_lists.specs.declared.walk.EachEnd.{EachEnd}
+use Rattle.pid_table_lists.specs.declared.walk.EachEnd.TheVariants.{Tables, Fault}
+use Rattle.pid_table_lists.proofs.ItemLists.{select_all, select_all_shows, all_query, all_found, front_found}
+use Rattle.pid_table_lists.proofs.PlainTexts.{commits_nothing, returns_nothing}
+
+-- ---- what reads leave
+
+-- while it is open, it was open, sees what it saw or what was committed, and has that committed
+abbrev pub Keeps : State → State → Type 0
+Keeps old new = IsTrue new.is_open → IsTrue old.is_open × ((new.now ≡ old.now) ⊎ (new.now ≡ old.committed)) × (new.committed ≡ old.committed)
+
+pub keeps_same : (old new : State) → IsUnchanged old new → Keeps old new
+keeps_same old new same opened = (same.0.was_open, inl same.0.now_is, same.0.committed_is)
+
+pub keeps_back : (old new : State) → IsRolledBack old new → Keeps old new
+keeps_back old new back opened = (back.was_open opened, inr (back.undone opened).0, (back.undone opened).1)
+
+pub keeps_then : (old mid new : State) → IsUnchanged old mid → Keeps mid new → Keeps old new
+keeps_then old mid new same keeps opened =
+    let k = keeps opened in
+    (same.0.was_open, elim k.1 [ inl now ↦ inl (now ∙ same.0.now_is) | inr back ↦ inr (back ∙ same.0.committed_is) ], k.2 ∙ same.0.committed_is)
+
+pub keeps_either : (old new : State) (e : Error) → Fails old new ⊥ e ⊎ IsUnchanged old new → Keeps old new
+keeps_either old new e (inl fails) = keeps_back old new fails.3
+keeps_either old new e (inr same) = keeps_same old new same
+
+pub rests_on : (old new : State) → (IsTrue new.is_open → HasCleanDisk new) → Survives old new (λ _. ⊥) → new.in_transaction ≡ false → (HasCleanDisk new → Keeps old new) → OnlyReads old new
+rests_on old new law survives settled keeps = record {
+  survives = survives;
+  settled = settled;
+  clean = earlier old new survives;
+  kept = λ v rest. record {
+    settled = settled;
+    same = λ opened. let k = keeps (law opened) opened in elim k.1 [ inl now ↦ now ∙ rest.same k.0 ∙ sym k.2 | inr back ↦ back ∙ sym k.2 ];
+    shows = λ opened.
+        let k = keeps (law opened) opened in
+        let now : new.now ≡ old.now = elim k.1 [ inl now ↦ now | inr back ↦ back ∙ sym (rest.same k.0) ] in
+        subst (λ d. Shows d v) (sym now) (rest.shows k.0);
+    leaves = leaves_on old new v survives rest.leaves;
+  };
+}
+
+-- a text that shows nothing of a write commits nothing
+pub survives_query : (sql : List ℕ) (params : Row) (old new : State) → Survives old new (CommitsShowing sql params old) → ((db : Trees) → CommitsShowing sql params old db → ⊥) → Survives old new (λ _. ⊥)
+survives_query sql params old new survives none = survives_weaker old new _ _ (λ _ db h. none db h) survives
+
+keeps_failed : (sql : List ℕ) (params : Row) (old new : State) (e : Error) → FailsToQuery sql params old new e → Keeps old new
+keeps_failed sql params old new e h = elim (fails_to_query sql params old new e h) [ inl same ↦ keeps_same old new same | inr back ↦ keeps_back old new back ]
+
+-- a query that did not begin
+pub refused : {S X : Type 0} (g : Ghosts S) (old new : Held S) (r : Result X Error) (e : Error) → r ≡ Err e → (IsTrue (state g new).is_open → HasCleanDisk (state g new)) → old.in_transaction ≡ false → OnErr r (IsRefused g select_all [] old r new)
+    → OnlyReads (state g old) (state g new)
+refused g old new r e is law settled told =
+    let h = subst (λ x. OnErr x (IsRefused g select_all [] old r new)) is told in
+    rests_on (state g old) (state g new) law (survives_query select_all [] (state g old) (state g new) h.survives (λ db. commits_nothing select_all [] (state g old) db select_all_shows)) (h.mode settled)
+    (λ clean. keeps_failed select_all [] (state g old) (state g new) e (subst (λ r. IfErr r (FailsToQuery select_all [] (state g old) (state g new))) is (h.err clean)))
+
+-- and why it did not
+pub refused_caused : {S X : Type 0} (g : Ghosts S) (old new : Held S) (v : Views) → AtRest (state g old) v → (r : Result X Error) (e : Error) → r ≡ Err e → HasCleanDisk (state g new) → OnErr r (IsRefused g select_all [] old r new)
+    → IsCaused (state g old) (state g new) (fault_of e)
+refused_caused g old new v rest r e is clean told =
+    let h = subst (λ x. OnErr x (IsRefused g select_all [] old x new)) is told in
+    caused select_all [] (state g old) (state g new) (λ opened. (rest.shows opened).schema) all_query e (inl (h.err clean))
+
+-- an end that is passed on
+pub end_caused : {X F : Type 0} (old new : State) (r : Result X (EachEnd F)) (y end : EachEnd F) → r ≡ Err y → y ≡ end → IsCausedEnd old new end → IfErr r (IsCausedEnd old new)
+end_caused old new r y end is same h = subst (λ r. IfErr r (IsCausedEnd old new)) (sym (is ∙ ap Err same)) h
+
+pub tables_caused : {X F : Type 0} (old new : State) (r : Result X (EachEnd F)) (y : EachEnd F) (fault : TableFault) → r ≡ Err y → y ≡ Tables fault → IsCaused old new fault → IfErr r (IsCausedEnd old new)
+tables_caused old new r y fault is same h = end_caused old new r y (Tables fault) is same h
+
+-- ---- the texts of an item's row
+
+pub path_word : (row : Row) → IsItemRow row → IsWord is_utf8 (column row 0)
+path_word row good = (good.0, subst (λ t. is_utf8 t ≡ true) (sym good.2.0.1.same) (path_utf8 good.2.0.0), good.3)
+
+pub name_word : (row : Row) → IsItemRow row → IsWord is_utf8 (column row 1)
+name_word row good = (good.1, name_utf8 good.1 good.2.1, good.4)
+
+-- ---- lists
+
+head : (a b : Row) (xs ys : List Row) → a ∷ xs ≡ b ∷ ys → a ≡ b
+head a b xs ys e = cc
+
+behind_head : (a b : Row) (xs ys : List Row) → a ∷ xs ≡ b ∷ ys → xs ≡ ys
+behind_head a b xs ys e = cc
+
+-- the item of one more row
+pub next_item : (given : List Row) (row : Row) (tail : List Row) (items : Items) → (given ++ row ∷ []) ++ tail ≡ map item_shown items
+    → (item : Item) × (row ≡ item_shown item) × (behind : Items) × (items ≡ take (length given) items ++ item ∷ behind) × (take (suc (length given)) items ≡ take (length given) items ++ item ∷ [])
+next_item given row tail [] is = absurd (let long = ap length is in omega (arith, length-append (given ++ row ∷ []) tail, length-append given (row ∷ [])))
+next_item [] row tail (i ∷ items) is = (i, head row (item_shown i) tail (map item_shown items) is, items, refl, refl)
+next_item (r ∷ given) row tail (i ∷ items) is =
+    let more = next_item given row tail items (behind_head r (item_shown i) ((given ++ row ∷ []) ++ tail) (map item_shown items) is) in
+    (more.0, more.1, more.2, ap (λ l. i ∷ l) more.3, ap (λ l. i ∷ l) more.4)
+
+-- ---- the walk
+
+-- so many rows were given, and the sink took the items that they are
+pub record HasWalked {S K : Type 0} (g : Ghosts S) (takes : K → Item → K → Type 0) (old now : Held S) (before sink : K) (n : ℕ) : Type 0 where
+  pub settled : now.in_transaction ≡ false
+  pub survives : Survives (state g old) (state g now) (λ _. ⊥)
+  pub given : HasCleanDisk (state g now) → (rows : List Row) × (length rows ≡ n) × HasGiven g select_all [] now rows × IsUnchanged (state g old) (state g now)
+  pub took : HasCleanDisk (state g now) → (v : Views) → AtRest (state g old) v → Took takes before (reverse (take n v.items)) sink
+
+module _ {S K F : Type 0} (g : Ghosts S) (takes : K → Item → K → Type 0) (faults : K → Item → F → K → Type 0) (old : Held S) (before : K) where
+  -- a step on
+  pub stepped : (mid new : Held S) (sink : K) (n : ℕ) → HasWalked g takes old mid before sink n → Survives (state g mid) (state g new) (λ _. ⊥) → Survives (state g old) (state g new) (λ _. ⊥)
+  stepped mid new sink n w s = survives_then (state g old) (state g mid) (state g new) _ _ (λ _. ⊥) (λ _ db none. none) (λ _ db none. none) w.survives s
+
+  -- and what it leaves
+  pub walked_rests : (mid new : Held S) (sink : K) (n : ℕ) → HasWalked g takes old mid before sink n → (IsTrue (state g new).is_open → HasCleanDisk (state g new)) → Survives (state g mid) (state g new) (λ _. ⊥)
+      → new.in_transaction ≡ false → (HasCleanDisk (state g new) → Keeps (state g mid) (state g new)) → OnlyReads (state g old) (state g new)
+  walked_rests mid new sink n w law s settled keeps = rests_on (state g old) (state g new) law (stepped mid new sink n w s) settled
+      (λ clean. keeps_then (state g old) (state g mid) (state g new) (w.given (earlier (state g mid) (state g new) s clean)).3 (keeps clean))
+
+  pub walk_rests : (mid : Held S) (sink : K) (n : ℕ) → HasWalked g takes old mid before sink n → (IsTrue (state g mid).is_open → HasCleanDisk (state g mid)) → OnlyReads (state g old) (state g mid)
+  walk_rests mid sink n w law = rests_on (state g old) (state g mid) law w.survives w.settled (λ clean. keeps_same (state g old) (state g mid) (w.given clean).3)
+
+  -- the tables faulted behind some items
+  pub faulted : {X : Type 0} (mid new : Held S) (sink : K) (n : ℕ) → HasWalked g takes old mid before sink n → Survives (state g mid) (state g new) (λ _. ⊥) → HasCleanDisk (state g new) → (v : Views) → AtRest (state g old) v
+      → (r : Result X (EachEnd F)) (t : _) → r ≡ Err (Tables t) → TakesEach takes faults r v.items before sink
+  faulted mid new sink n w s clean v rest r t is = subst (λ r. TakesEach takes faults r v.items before sink) (sym is)
+      (take n v.items, drop n v.items, sym (take-append-drop n v.items), w.took (earlier (state g mid) (state g new) s clean) v rest)
+
+  -- the query began
+  pub begun : (new : Held S) → old.in_transaction ≡ false → new.in_transaction ≡ false → Survives (state g old) (state g new) (CommitsShowing select_all [] (state g old)) → (HasCleanDisk (state g new) → HasBegun g select_all [] old new)
+      → HasWalked g takes old new before before 0
+  begun new settled ended survives begins = record {
+    settled = ended;
+    survives = survives_query select_all [] (state g old) (state g new) survives (λ db. commits_nothing select_all [] (state g old) db select_all_shows);
+    given = λ clean. elim (begins clean) [
+      | inl h ↦ ([], refl, h.0, h.1)
+      | inr h ↦ absurd (returns_nothing select_all old.schema select_all_shows h.0)
+    ];
+    took = λ clean v rest. refl;
+  }
+
+  -- one more row is given
+  pub record OneMore (now : Held S) (row : Row) (n : ℕ) : Type 0 where
+    pub rows : List Row
+    pub count : length rows ≡ n
+    pub given : HasGiven g select_all [] now (rows ++ row ∷ [])
+    pub same : IsUnchanged (state g old) (state g now)
+
+  -- it is the next item's
+  pub its_item : (now : Held S) (row : Row) (n : ℕ) (v : Views) → AtRest (state g old) v → OneMore now row n
+      → (item : Item) × (row ≡ item_shown item) × (behind : Items) × (v.items ≡ take n v.items ++ item ∷ behind) × (take (suc n) v.items ≡ take n v.items ++ item ∷ [])
+  its_item now row n v rest more =
+      let same = more.same.0 in
+      let front = front_found (state g old).now (counts_of v) v (rest.shows same.was_open) (state g now) same.now_is (more.rows ++ row ∷ []) (given_begin g select_all [] now (more.rows ++ row ∷ []) more.given) in
+      subst (λ k. (item : Item) × (row ≡ item_shown item) × (behind : Items) × (v.items ≡ take k v.items ++ item ∷ behind) × (take (suc k) v.items ≡ take k v.items ++ item ∷ [])) more.count
+      (next_item more.rows row front.0 v.items front.1)
+
+  one_more : (mid new : Held S) (sink : K) (n : ℕ) (row : Row) → HasWalked g takes old mid before sink n → Survives (state g mid) (state g new) (λ _. ⊥) → (HasCleanDisk (state g new) → IsUnchanged (state g mid) (state g new))
+      → (HasCleanDisk (state g new) → (rows : List Row) → HasGiven g select_all [] mid rows → HasGiven g select_all [] new (rows ++ row ∷ [])) → HasCleanDisk (state g new) → OneMore new row n
+  one_more mid new sink n row w s same gives clean =
+      let was = w.given (earlier (state g mid) (state g new) s clean) in
+      record { rows = was.0; count = was.1; given = gives clean was.0 was.2; same = unchanged_then (state g old) (state g mid) (state g new) was.3 (same clean) }
+
+  -- and the sink took it
+  pub taken : {X : Type 0} (mid new : Held S) (sink after : K) (n : ℕ) (row : Row) (r : Result X (EachEnd F)) (x : X) → HasWalked g takes old mid before sink n → Survives (state g mid) (state g new) (λ _. ⊥) → new.in_transaction ≡ false
+      → (HasCleanDisk (state g new) → IsUnchanged (state g mid) (state g new))
+      → (HasCleanDisk (state g new) → (rows : List Row) → HasGiven g select_all [] mid rows → HasGiven g select_all [] new (rows ++ row ∷ []))
+      → r ≡ Ok x → ((item : Item) → row ≡ item_shown item → TakesOne takes faults r item sink after) → HasWalked g takes old new before after (n + 1)
+  taken mid new sink after n row r x w s settled same gives is takes_it = record {
+    settled = settled;
+    survives = stepped mid new sink n w s;
+    given = λ clean. let more = one_more mid new sink n row w s same gives clean in (more.rows ++ row ∷ [], length-append more.rows (row ∷ []) ∙ ap (λ k. k + 1) more.count, more.given, more.same);
+    took = λ clean v rest.
+        let it = its_item new row n v rest (one_more mid new sink n row w s same gives clean) in
+        let back : reverse (take (n + 1) v.items) ≡ it.0 ∷ reverse (take n v.items) = ap (λ k. reverse (take k v.items)) (Rattle.std.proofs.Common.add-one n) ∙ ap reverse it.4 ∙ reverse-append (take n v.items) (it.0 ∷ []) in
+        subst (λ l. Took takes before l after) (sym back)
+        (sink, w.took (earlier (state g mid) (state g new) s clean) v rest, subst (λ r. TakesOne takes faults r it.0 sink after) is (takes_it it.0 it.1));
+  }
+
+  -- or it faulted at it, or the tables did
+  pub not_taken : {X Y : Type 0} (mid new : Held S) (sink after : K) (n : ℕ) (row : Row) (r : Result X (EachEnd F)) (e : EachEnd F) (end : Result Y (EachEnd F)) → HasWalked g takes old mid before sink n → Survives (state g mid) (state g new) (λ _. ⊥)
+      → (HasCleanDisk (state g new) → IsUnchanged (state g mid) (state g new))
+      → (HasCleanDisk (state g new) → (rows : List Row) → HasGiven g select_all [] mid rows → HasGiven g select_all [] new (rows ++ row ∷ []))
+      → r ≡ Err e → end ≡ Err e → ((item : Item) → row ≡ item_shown item → TakesOne takes faults r item sink after) → HasCleanDisk (state g new) → (v : Views) → AtRest (state g old) v
+      → TakesEach takes faults end v.items before after
+  not_taken {X = X} {Y = Y} mid new sink after n row r e end w s same gives is ended takes_it clean v rest =
+      let it = its_item new row n v rest (one_more mid new sink n row w s same gives clean) in
+      let took = w.took (earlier (state g mid) (state g new) s clean) v rest in
+      subst (λ r. TakesEach takes faults r v.items before after) (sym ended) (by_end e it.0 it.2 it.3 took (subst (λ r. TakesOne takes faults r it.0 sink after) is (takes_it it.0 it.1)))
+    where
+      by_end : (e : EachEnd F) (item : Item) (behind : Items) → v.items ≡ take n v.items ++ item ∷ behind → Took takes before (reverse (take n v.items)) sink → TakesOne {X = X} takes faults (Err e) item sink after
+          → TakesEach {X = Y} takes faults (Err e) v.items before after
+      by_end (Fault f) item behind split took h = (take n v.items, item, behind, sink, split, took, h)
+      by_end (Tables t) item behind split took h = (take n v.items, item ∷ behind, split, subst (Took takes before (reverse (take n v.items))) (sym h) took)
+
+  -- no row is left
+  pub all_taken : (mid new : Held S) (sink : K) (n : ℕ) → HasWalked g takes old mid before sink n → Survives (state g mid) (state g new) (λ _. ⊥)
+      → (HasCleanDisk (state g new) → (rows : List Row) → HasGiven g select_all [] mid rows → Shown select_all [] (state g mid) (state g new) rows) → HasCleanDisk (state g new) → (v : Views) → AtRest (state g old) v
+      → Took takes before (reverse v.items) sink
+  all_taken mid new sink n w s gives clean v rest =
+      let early = earlier (state g mid) (state g new) s clean in
+      let was = w.given early in
+      let same = was.3.0 in
+      let whole = all_found (state g old).now (counts_of v) v (rest.shows same.was_open) (state g mid) (state g new) same.now_is was.0 (gives clean was.0 was.2) in
+      let long : length v.items ≡ n = sym (length-map v.items item_shown) ∙ ap length (sym whole) ∙ was.1 in
+      subst (λ l. Took takes before (reverse l) sink) (ap (λ k. take k v.items) (sym long) ∙ take-length v.items) (w.took early v rest)
+
+  -- ---- why it ended early
+
+  -- the next row did not come
+  pub step_caused : (mid new : Held S) (sink : K) (n : ℕ) → HasWalked g takes old mid before sink n → Survives (state g mid) (state g new) (λ _. ⊥) → HasCleanDisk (state g new) → (v : Views) → AtRest (state g old) v
+      → (e : Error) → FailsToAdvance g mid new e → IsCaused (state g old) (state g new) (fault_of e)
+  step_caused mid new sink n w s clean v rest e fails =
+      let early = earlier (state g mid) (state g new) s clean in
+      let was = w.given early in
+      let same = was.3.0 in
+      let has : IsTrue (state g mid).is_open → (state g mid).now.schema ≡ pid_schema = λ opened. ap (λ (d : Database). d.schema) same.now_is ∙ (rest.shows same.was_open).schema in
+      caused_later (state g old) (state g mid) (state g new) (λ _. ⊥) (fault_of e) w.survives s.counts early (caused select_all [] (state g mid) (state g new) has all_query e (inl (fails select_all [] was.0 was.2)))
+
+  -- an item was not read
+  pub unread_caused : (mid new : Held S) (sink : K) (n : ℕ) (row : Row) → HasWalked g takes old mid before sink n → Survives (state g mid) (state g new) (λ _. ⊥)
+      → (HasCleanDisk (state g new) → IsUnchanged (state g mid) (state g new))
+      → (HasCleanDisk (state g new) → (rows : List Row) → HasGiven g select_all [] mid rows → HasGiven g select_all [] new (rows ++ row ∷ []))
+      → HasCleanDisk (state g new) → (v : Views) → AtRest (state g old) v → IsReadable v → (end : EachEnd F) → IsUnreadEnd (IsItemRow row) end → IsCausedEnd (state g old) (state g new) end
+  unread_caused mid new sink n row w s same gives clean v rest readable end =
+      let it = its_item new row n v rest (one_more mid new sink n row w s same gives clean) in
+      by_end end (it.0.0, it.0.1, among v.items it.0 readable.items (subst (λ l. Has l it.0) (sym it.3) (has_middle (take n v.items) it.0 it.2)), ap (λ r. column r 0) it.1, ap (λ r. column r 1) it.1)
+    where
+      has_middle : (xs : Items) (x : Item) (ys : Items) → Has (xs ++ x ∷ ys) x
+      has_middle [] x ys = inl refl
+      has_middle (y ∷ xs) x ys = inr (has_middle xs x ys)
+
+      by_end : (end : EachEnd F) → IsItemRow row → IsUnreadEnd (IsItemRow row) end → IsCausedEnd (state g old) (state g new) end
+      by_end (Tables t) good h = caused_unread (state g old) (state g new) t good h
+      by_end (Fault f) good h = tt
+
+  -- there are not so many items
+  pub never_so_many : (mid : Held S) (sink : K) (n : ℕ) → HasWalked g takes old mid before sink n → HasCleanDisk (state g mid) → (v : Views) → AtRest (state g old) v → IsReadable v → 2 ^ 32 ≤ n → ⊥
+  never_so_many mid sink n w clean v rest readable many =
+      let was = w.given clean in
+      let same = was.3.0 in
+      let front = front_found (state g old).now (counts_of v) v (rest.shows same.was_open) (state g mid) same.now_is was.0 (given_begin g select_all [] mid was.0 was.2) in
+      let long : length (was.0 ++ front.0) ≡ length v.items = ap length front.1 ∙ length-map v.items item_shown in
+      let count = was.1 in
+      omega (arith, long, length-append was.0 front.0, count, many, readable.item_count)

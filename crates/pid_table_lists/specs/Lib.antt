@@ -1,0 +1,5 @@
+pub mod PendingRows
+pub mod Discussions
+pub mod PendingPages
+pub mod Children
+pub mod EachItem

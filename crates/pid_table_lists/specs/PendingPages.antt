@@ -1,0 +1,25 @@
+-- Pages of pending submissions.
+use Rattle.std.specs.Prelude.{ℕ, ◌+◌, Bool, ◌&&◌, nat_lt, List, [], ◌∷◌, Some, filter, take}
+use Rattle.pid_moderation.specs.declared.facts.State.{State}
+use Rattle.pid_moderation.specs.Views.{Views, Submitted}
+use Rattle.pid_rows.specs.PendingOnes.{is_pending}
+use Rattle.pid_rows.specs.Standings.{standing_of}
+use Rattle.pid_rows.specs.TableRows.{Standing}
+use Rattle.pid_table_lists.specs.declared.pages.Pending.{Pending}
+
+-- submissions as they stand, with their numbers, which count on from this one
+abbrev pub standings_from : ℕ → List Submitted → (ℕ → State) → List (ℕ × Standing)
+standings_from n [] state = []
+standings_from n (s ∷ submits) state = (n, record { submitted = s; state = state n }) ∷ standings_from (n + 1) submits state
+
+-- pending, with a number above this one
+abbrev pub waits_above : ℕ → ℕ × Standing → Bool
+waits_above after s = nat_lt after s.0 && is_pending (Some s.1)
+
+-- the first of them, at most so many: numbers count from 1
+abbrev pub pending_in : ℕ → ℕ → Views → List (ℕ × Standing)
+pending_in most after v = take most (filter (waits_above after) (standings_from 1 v.submits v.state))
+
+-- a pending submission as it is told
+abbrev pub told_of : Pending → ℕ × Standing
+told_of pending = (pending.number, standing_of pending.submission)

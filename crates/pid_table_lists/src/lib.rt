@@ -1,0 +1,12 @@
+//! Lists of what the tables of a registry hold, each by one statement.
+#![tactic(auto)]
+
+mod below;
+mod pages;
+mod remarks;
+mod walk;
+
+pub use below::children;
+pub use pages::{PAGE, Pending, pending_page};
+pub use remarks::{Discussion, discussed};
+pub use walk::{EachEnd, each_item};

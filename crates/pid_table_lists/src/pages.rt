@@ -1,0 +1,84 @@
+//! Pages of pending submissions.
+ghost use Rattle.std.specs.Prelude.{◌≡◌, ◌∷◌, ◌++◌, [], ℕ, List, false, map, MatchResult};
+ghost use Rattle.std.specs.List.{AllByRecursion};
+ghost use Rattle.sqlite.specs.Held.{state};
+ghost use Rattle.pid_moderation.specs.Views.{Views};
+ghost use Rattle.pid_rows.specs.Leaves.{OnlyReads, Tells};
+ghost use Rattle.pid_rows.specs.Unread.{IsUnread};
+ghost use Rattle.pid_rows.specs.Shows.{AreViews};
+ghost use Rattle.pid_rows.specs.TableRows.{Standing};
+ghost use Rattle.pid_table_lists.specs.PendingPages.{pending_in, told_of};
+ghost use Rattle.pid_table_lists.specs.PendingRows.{pending_row, IsReadablePending, AreIn};
+
+use pid_rows::TableFault;
+use pid_rows::run::read_rows;
+use pid_rows::submission::{Submission, submission_of};
+use pid_rows::value::number_at;
+use sqlite::types::ToSql;
+use sqlite::{Alter, Connection, Row};
+use std::alloc::Global;
+
+/// How many submissions a page holds.
+pub const PAGE: usize = 100;
+
+/// A pending submission and its number.
+#[derive(Debug, Drop)]
+pub struct Pending {
+    pub number: u32,
+    pub submission: Submission,
+}
+
+fn page_rows<S: Alter>(conn: &mut Connection<S>, after: u32) -> Result<Vec<Row>, TableFault>
+    requires { (state S.Store conn.old).in_transaction ≡ false }
+    ensures rests { OnlyReads (state S.Store conn.old) (state S.Store conn.new) }
+    ensures found { Tells (state S.Store conn.old) (state S.Store conn.new) result (λ v rows. AreViews v × AreIn v (pending_in PAGE after v) × (rows.items ≡ map pending_row (pending_in PAGE after v))) }
+{
+    let after = after.to_sql();
+    read_rows(
+        conn,
+        "SELECT author, path, form, name, note, state, decider, reason, num FROM submission WHERE state = 0 AND num > ?1 ORDER BY num LIMIT 100",
+        &[after],
+    )
+}
+
+fn pending_of(row: &Row, alloc: Global) -> Result<Pending, TableFault>
+    ensures { (v : Views) (s : ℕ × Standing) → AreViews v → AreIn v (s ∷ []) → row.now ≡ pending_row s → MatchResult result (λ pending. told_of pending ≡ s) (IsUnread (IsReadablePending s)) }
+{
+    let submission = submission_of(row, alloc)?;
+    let number = number_at(row, 8)?;
+    Ok(Pending { number, submission })
+}
+
+fn add_pending(page: &mut Vec<Pending>, row: &Row, alloc: Global) -> Result<(), TableFault>
+    ensures { (v : Views) (s : ℕ × Standing) → AreViews v → AreIn v (s ∷ []) → row.now ≡ pending_row s → MatchResult result (λ _. map told_of page.new.items ≡ map told_of page.old.items ++ s ∷ []) (IsUnread (IsReadablePending s)) }
+{
+    let pending = pending_of(row, alloc)?;
+    match page.push(pending) {
+        Ok(()) => Ok(()),
+        Err(_) => Err(TableFault::Memory),
+    }
+}
+
+fn page_of(rows: &[Row], alloc: Global) -> Result<Vec<Pending>, TableFault>
+    ensures { (v : Views) (all : List (ℕ × Standing)) → AreViews v → AreIn v all → rows.now ≡ map pending_row all → MatchResult result (λ page. map told_of page.items ≡ all) (IsUnread (AllByRecursion IsReadablePending all)) }
+{
+    let mut page = Vec::new(alloc);
+    for row in rows {
+        add_pending(&mut page, row, alloc)?;
+    }
+    Ok(page)
+}
+
+/// The pending submissions above a number, at most a page of them.
+pub fn pending_page<S: Alter>(
+    conn: &mut Connection<S>,
+    alloc: Global,
+    after: u32,
+) -> Result<Vec<Pending>, TableFault>
+    requires { (state S.Store conn.old).in_transaction ≡ false }
+    ensures rests { OnlyReads (state S.Store conn.old) (state S.Store conn.new) }
+    ensures found { Tells (state S.Store conn.old) (state S.Store conn.new) result (λ v page. map told_of page.items ≡ pending_in PAGE after v) }
+{
+    let rows = page_rows(conn, after)?;
+    page_of(rows.as_slice(), alloc)
+}
