@@ -66,10 +66,10 @@ module _ (sql : List ℕ) (params : Row) where
           | inr other ↦ elim other [ inl count ↦ count.0 it.0.given | inr clock ↦ clock.0 it.0.timeless ]
         ]
 
-    not_run : IsNotRun old new sql params e → IsCaused old new (fault_of e)
+    pub not_run_caused : IsNotRun old new sql params e → IsCaused old new (fault_of e)
     unfolding IsNotRun
-    not_run (inl h) = absurd (no_statement h.1.0.was_open h.0)
-    not_run (inr h) = moved old new e _ h.1 (of_store old new h.0 h.2)
+    not_run_caused (inl h) = absurd (no_statement h.1.0.was_open h.0)
+    not_run_caused (inr h) = moved old new e _ h.1 (of_store old new h.0 h.2)
 
     shut : old.is_open ≡ false → IsTrue old.is_open → ⊥
     shut closed opened = let bad = sym opened ∙ closed in let no : ⊥ = cc in no
@@ -106,7 +106,7 @@ module _ (sql : List ℕ) (params : Row) where
 
     pub caused : FailsToQuery sql params old new e ⊎ IsTooLate sql params old new e → IsCaused old new (fault_of e)
     unfolding FailsToQuery
-    caused (inl (inl h)) = not_run h
+    caused (inl (inl h)) = not_run_caused h
     caused (inl (inr h)) = elim (cases_Bool old.is_open) [ inl opened ↦ show_opened h.0 h.1 opened h.2 | inr closed ↦ show_closed h.0 (timed params h.0.formats h.1.now) h.0.returning closed h.2 ]
     caused (inr late) = absurd (too_late late)
 

@@ -13,14 +13,10 @@ use Rattle.pid_moderation.specs.declared.command.Reply.{Reply}
 use Rattle.pid_moderation.specs.declared.command.Reply.TheVariants.{Done, Numbered, Counts}
 use Rattle.pid_moderation.specs.declared.facts.State.{State}
 use Rattle.pid_moderation.specs.declared.facts.State.TheVariants.{Pending, Approved, Rejected, Withdrawn}
-use Rattle.pid_moderation.specs.Views.{Views, Submitted, Remark, submission_at}
+use Rattle.pid_moderation.specs.Views.{Views, Submitted, submission_at}
 use Rattle.pid_rows.specs.declared.submission.Submission.{Submission}
 use Rattle.pid_rows.specs.TableRows.{number, Standing, form_of, name_of, state_number, decider_of, reason_of, kind_of, first_of, second_of, third_of}
-use Rattle.pid_rows.specs.Answers.{standing_row, reply_row, item_shown, remark_shown}
-use Rattle.pid_rows.specs.Comments.{remark_of}
-use Rattle.pid_rows.specs.declared.remark.Comment.{Comment}
-use Rattle.pid_rows.specs.ItemPairs.{pair_of}
-use Rattle.pid_rows.specs.declared.item.Item.{Item}
+use Rattle.pid_rows.specs.Answers.{standing_row, reply_row}
 use Rattle.pid_rows.specs.Shows.{AreViews, standing_in}
 use Rattle.pid_rows.specs.Standings.{standing_of, ReadsTo}
 

@@ -1,5 +1,5 @@
 -- Which faults a query of a fixed text may give on tables of the schema.
-use Rattle.std.proofs.Common.{◌≡◌, ◌⊎◌, inl, inr, ℕ, List, Option, Ok, Err, Result, sym, subst}
+use Rattle.std.proofs.Common.{◌≡◌, ◌⊎◌, inl, inr, ℕ, List, Option, Ok, Err, Result, IsTrue, sym, subst}
 use Rattle.sqlite.specs.Order.{Row}
 use Rattle.sqlite.specs.Listing.{understood}
 use Rattle.sqlite.specs.Command.{Command}
@@ -45,9 +45,9 @@ read_refused limit (Select q names) db params e (inr (inr h)) = moved e _ h.0 (f
 read_refused limit (Rows values width names) db params e h = moved e _ h.0 (failed code.OperationInterrupted)
 read_refused limit _ db params e h = moved e _ h tt
 
-pub not_run : (sql : List ℕ) (params : Row) (old new : State) (e : Error) → ((fault : CompileError) → understood old.now.schema sql ≡ Err fault → ⊥) → IsNotRun old new sql params e → IsUntold (fault_of e)
+pub not_run : (sql : List ℕ) (params : Row) (old new : State) (e : Error) → (IsTrue old.is_open → (fault : CompileError) → understood old.now.schema sql ≡ Err fault → ⊥) → IsNotRun old new sql params e → IsUntold (fault_of e)
 unfolding IsNotRun
-not_run sql params old new e never (inl (inl h, same)) = absurd (never h.0 h.1)
+not_run sql params old new e never (inl (inl h, same)) = absurd (never same.0.was_open h.0 h.1)
 not_run sql params old new e never (inl (inr h, same)) = elim h.2 [
   | inl many ↦ moved e _ many.1 tt
   | inr other ↦ elim other [ inl count ↦ moved e _ count.1 tt | inr clock ↦ moved e _ clock.1 (failed code.NoClock) ]
@@ -60,7 +60,7 @@ module _ (sql : List ℕ) (params : Row) (old new : State) (has : old.now.schema
 
   pub untold : FailsToQuery sql params old new e ⊎ IsTooLate sql params old new e → IsUntold (fault_of e)
   unfolding FailsToQuery
-  untold (inl (inl h)) = not_run sql params old new e (λ fault is. never_bad _ fault known is) h
+  untold (inl (inl h)) = not_run sql params old new e (λ opened fault is. never_bad _ fault known is) h
   untold (inl (inr h)) =
       let none = (subst IsPlain h.1.is known).0 in
       let it = subst (FailsToShow old new sql h.0 (timed params h.0.formats h.1.now) e) none h.2 in

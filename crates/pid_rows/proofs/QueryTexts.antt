@@ -97,10 +97,3 @@ between_one low high = record { whole = omega arith; given = refl; bare = refl; 
 
 pub between_query : (low high : List ℕ) → IsQuery select_between (Text low ∷ Text high ∷ [])
 between_query low high = in_order select_between (Text low ∷ Text high ∷ []) 4 in_range (col 1 1 ∷ []) (codes "path" ∷ []) (between_one low high) [] one_row select_between_is select_between_unlisted refl
-
-pub one_query : IsQuery (codes "SELECT 1") []
-unfolding understood everything
-one_query = record {
-  known = (record { whole = omega arith; given = refl; bare = refl; timeless = refl }, (refl, λ db h. elim h [ inl grouped ↦ grouped | inr summed ↦ summed ]));
-  unlisted = refl;
-}

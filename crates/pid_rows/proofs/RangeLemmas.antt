@@ -9,7 +9,7 @@ use Rattle.std.proofs.lemmas.Cmp.{tied_itself}
 use Rattle.sqlite.specs.declared.types.Value.TheVariants.{Null, Text}
 use Rattle.sqlite.specs.Order.{Row}
 use Rattle.sqlite_value.proofs.OrderLemmas.{value_cmp-Text}
-use Rattle.sqlite.specs.Ops.{is_true, from_truth, binary}
+use Rattle.sqlite.specs.Ops.{is_true, binary}
 use Rattle.sqlite.specs.Term.{Term, col, op2}
 use Rattle.sqlite.specs.Query.{IsAnswer}
 use Rattle.sqlite.specs.Program.{overlay}

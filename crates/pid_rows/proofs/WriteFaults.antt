@@ -1,5 +1,5 @@
--- Which faults a write of rows may give on tables of the schema.
-use Rattle.std.proofs.Common.{◌≡◌, inl, inr, ℕ, ℤ, List, [], fold, Bool, true, false, slice_get, Option, Some, None, Ok, Err, Result, IfErr, MatchResult, OnOk, sym, subst}
+-- Which faults a write may give on tables of a schema.
+use Rattle.std.proofs.Common.{◌≡◌, inl, inr, ℕ, ℤ, List, [], fold, Bool, true, false, slice_get, Option, Some, None, Ok, Err, Result, IfErr, MatchResult, OnOk, IsTrue, refl, sym, subst, ◌∙◌}
 use Rattle.std.proofs.lemmas.Bool.{cases_Bool}
 use Rattle.std.specs.Prelude.{MatchBool, option_map, if◌then◌else◌}
 use Rattle.std.specs.Ordering.{is_lt, int_cmp}
@@ -8,8 +8,11 @@ use Rattle.sqlite.specs.Tree.{Trees}
 use Rattle.sqlite.specs.Table.{Table}
 use Rattle.sqlite.specs.Listing.{understood}
 use Rattle.sqlite.specs.Clock.{timed}
+use Rattle.sqlite.specs.Compile.{table_defined_by}
+use Rattle.sqlite_tied.specs.Compute.{everything}
+use Rattle.sqlite_catalog.specs.declared.error.Refusal.TheVariants as why
 use Rattle.sqlite.specs.Command.{Command}
-use Rattle.sqlite.specs.Command.TheVariants.{Insert, Update, Delete}
+use Rattle.sqlite.specs.Command.TheVariants.{Insert, Update, Delete, CreateTable}
 use Rattle.sqlite.specs.Source.{Source}
 use Rattle.sqlite.specs.Source.TheVariants.{Values, Query}
 use Rattle.sqlite.specs.Edit.{Edit, edit_of}
@@ -21,9 +24,9 @@ use Rattle.sqlite.specs.declared.error.Error.TheVariants.{SqliteFailure, Invalid
 use Rattle.sqlite.specs.declared.error.ErrorCode.TheVariants as code
 use Rattle.sqlite.specs.Effect.{Database, RefusesQuery, RefusesSource, edit_error}
 use Rattle.sqlite.specs.Rows.{Outcome, Gives, Then, Queried, Sourced, Edited, Counter, CounterIn, Counts, CountsIn, Inserts, Updates, Deletes, Task, Written, sequence, stamped, rowids_for, count_of, higher}
-use Rattle.sqlite.specs.Does.{Does, AtPlace, OnRows, Concludes, Tally}
+use Rattle.sqlite.specs.Does.{Does, AtPlace, OnRows, Concludes, Tally, MakesTable, MakesSequence, Defines, sequence_text, lacks_sequence}
 use Rattle.sqlite.specs.State.{State, RunsCommand, shows_rows, ExecutesInside, ExecutesIn, text_of, mode_of}
-use Rattle.sqlite.proofs.Callers.{IsPlain, command_of}
+use Rattle.sqlite.proofs.Callers.{IsPlain, command_of, statement_of}
 use Rattle.sqlite_resolve.specs.declared.compiled.Compiled.{Compiled}
 use Rattle.sqlite_resolve.specs.declared.error.CompileError.{CompileError}
 use Rattle.sqlite_rules.specs.declared.error.Refusal.{Refusal}
@@ -34,7 +37,7 @@ use Rattle.sqlite_schema.specs.declared.schema.Keys.{Keys}
 use Rattle.sqlite_schema.specs.declared.schema.Schema.{Schema}
 use Rattle.pid_rows.specs.declared.fault.TableFault.{TableFault}
 use Rattle.pid_rows.specs.Faults.{fault_of, IsUntold}
-use Rattle.pid_rows.specs.Queries.{WritesRows, IsWriteAs}
+use Rattle.pid_rows.specs.Queries.{IsWrite, IsWriteAs}
 use Rattle.pid_rows.specs.Schema.{pid_schema}
 use Rattle.pid_rows.proofs.FaultLemmas.{failed, of_store, moved, not_run}
 use Rattle.pid_rows.proofs.Statements.{IsInsert, IsUpdate, IsDelete}
@@ -146,63 +149,97 @@ at_place : (P : Table → Outcome (Tally × Database) → Type 0) (o : Option Ta
 at_place P None e told h = refused e InvalidQuery h tt
 at_place P (Some t) e told h = told t h
 
+-- ---- a table that is made
+
+made_told : (text : List ℕ) (db : Database) (e : Error) → (table : Table) × (table_defined_by text ≡ Ok table) → MakesTable text db (Err (Some e)) → IsUntold (fault_of e)
+made_told text db e defined (inl h) = moved e _ h.1 (failed code.BadName)
+made_told text db e defined (inr (why.Invalid x, refuses, is)) = absurd (let both = sym defined.1 ∙ refuses in let bad : ⊥ = cc in bad)
+made_told text db e defined (inr (why.NameTaken, refuses, is)) = moved e _ is (failed code.NameTaken)
+made_told text db e defined (inr (why.BadName, refuses, is)) = moved e _ is (failed code.BadName)
+made_told text db e defined (inr (why.BadKey, refuses, is)) = moved e _ is (failed code.BadKey)
+made_told text db e defined (inr (why.BadText, refuses, is)) = moved e _ is (failed code.BadText)
+made_told text db e defined (inr (why.TooBig, refuses, is)) = moved e _ is (failed code.SchemaTooBig)
+made_told text db e defined (inr (why.Violates rule, refuses, is)) = absurd refuses
+
+sequence_defined : (table : Table) × (table_defined_by sequence_text ≡ Ok table)
+unfolding everything
+sequence_defined = (_, refl)
+
+sequence_told : (db : Database) (e : Error) → MakesSequence db (Err (Some e)) → IsUntold (fault_of e)
+sequence_told db e h = either (lacks_sequence db.schema) (made_told sequence_text db e sequence_defined) (λ k. no_value _ _ k) h
+
 module _ (limit : Option ℕ) (mode : Mode) (params : Row) (db : Database) (text : List ℕ) where
   abbrev job : Table → Task
   job table = record { limit = limit; keys = mode.keys; schema = db.schema; table = table; params = params }
 
-  does_told : (command : Command) → WritesRows command → (e : Error) → Does limit mode params db text None command (Err (Some e)) → IsUntold (fault_of e)
+  both_told : (table : Table) × (table_defined_by text ≡ Ok table) → (e : Error) → Then (MakesTable text db) MakesSequence (Err (Some e)) → IsUntold (fault_of e)
+  both_told defined e (inl h) = stopped e (λ s. MakesTable text db (Err s)) h.0 (λ x. made_told text db x defined) h.1 h.2
+  both_told defined e (inr h) = sequence_told h.0 e h.2
+
+  creates_told : (table : Table) × (table_defined_by text ≡ Ok table) → (e : Error) → Defines mode (Then (MakesTable text db) MakesSequence) (Err (Some e)) → IsUntold (fault_of e)
+  creates_told defined e (inl h) = stopped e (λ s. Then (MakesTable text db) MakesSequence (Err s)) h.0 (both_told defined) h.1 h.2
+  creates_told defined e (inr h) = no_value _ _ h.2
+
+  does_told : (command : Command) → IsWrite text command → (e : Error) → Does limit mode params db text None command (Err (Some e)) → IsUntold (fault_of e)
   does_told (Insert at from) w e h =
       at_place (λ t. OnRows (job t) mode None (Insert at from) db.trees) (slice_get db.schema.tables at) e (λ t. rows_told (job t) mode (Inserts (job t) from db.trees) (inserts_told (job t) from db.trees) e) h
   does_told (Update at q) w e h =
       at_place (λ t. OnRows (job t) mode None (Update at q) db.trees) (slice_get db.schema.tables at) e (λ t. rows_told (job t) mode (Updates (job t) q params db.trees) (updates_told (job t) q params db.trees) e) h
   does_told (Delete at q) w e h =
       at_place (λ t. OnRows (job t) mode None (Delete at q) db.trees) (slice_get db.schema.tables at) e (λ t. rows_told (job t) mode (Deletes (job t) q db.trees) (deletes_told (job t) q db.trees) e) h
+  does_told CreateTable w e h = creates_told w e h
   does_told _ w e h = absurd w
 
-known_write : (r : Result Compiled CompileError) (c : Compiled) → r ≡ Ok c → IsWriteAs r → (c.returning ≡ None) × WritesRows c.command
-known_write (Ok d) c is h = let same : d ≡ c = cc in subst (λ x. (x.returning ≡ None) × WritesRows x.command) same h
-known_write (Err e) c is h = absurd h
+known_write : (sql : List ℕ) (r : Result Compiled CompileError) (c : Compiled) → r ≡ Ok c → IsWriteAs sql r → (c.returning ≡ None) × IsWrite (text_of sql c) c.command
+known_write sql (Ok d) c is h = let same : d ≡ c = cc in subst (λ x. (x.returning ≡ None) × IsWrite (text_of sql x) x.command) same h
+known_write sql (Err e) c is h = absurd h
 
-never_bad : (r : Result Compiled CompileError) (fault : CompileError) → IsWriteAs r → r ≡ Err fault → ⊥
-never_bad (Ok c) fault h e = cc
-never_bad (Err x) fault h e = h
+never_bad : (sql : List ℕ) (r : Result Compiled CompileError) (fault : CompileError) → IsWriteAs sql r → r ≡ Err fault → ⊥
+never_bad sql (Ok c) fault h e = cc
+never_bad sql (Err x) fault h e = h
 
-module _ (sql : List ℕ) (params : Row) (old new : State) (has : old.now.schema ≡ pid_schema) (write : IsWriteAs (understood pid_schema sql)) (e : Error) where
-  known : IsWriteAs (understood old.now.schema sql)
-  known = subst (λ x. IsWriteAs (understood x sql)) (sym has) write
+module _ (schema : Schema) (sql : List ℕ) (params : Row) (old new : State) (has : IsTrue old.is_open → old.now.schema ≡ schema) (write : IsWriteAs sql (understood schema sql)) (e : Error) where
+  known : IsTrue old.is_open → IsWriteAs sql (understood old.now.schema sql)
+  known opened = subst (λ x. IsWriteAs sql (understood x sql)) (sym (has opened)) write
 
-  ran : (c : Compiled) (given : Row) → (c.returning ≡ None) × WritesRows c.command → RunsCommand old new sql c given (Err e) → IsUntold (fault_of e)
-  ran c given it (inl (inl (inl misplaced), same)) = moved e _ misplaced.0 (failed code.TransactionState)
-  ran c given it (inl (inl (inr unnamed), same)) = moved e _ unnamed.0 (failed code.NoSuchSavepoint)
-  ran c given it (inl (inr refused, same)) = does_told old.step_limit (mode_of old) given old.now (text_of sql c) c.command it.1 e (subst (λ r. Does old.step_limit (mode_of old) given old.now (text_of sql c) r c.command (Err (Some e))) it.0 refused.1)
-  ran c given it (inr fails) = moved e _ fails.1 (of_store fails.0)
+  ran : (c : Compiled) (given : Row) → understood old.now.schema sql ≡ Ok c → RunsCommand old new sql c given (Err e) → IsUntold (fault_of e)
+  ran c given is (inl (inl (inl misplaced), same)) = moved e _ misplaced.0 (failed code.TransactionState)
+  ran c given is (inl (inl (inr unnamed), same)) = moved e _ unnamed.0 (failed code.NoSuchSavepoint)
+  ran c given is (inl (inr refused, same)) =
+      let it = known_write sql _ c is (known same.0.was_open) in
+      does_told old.step_limit (mode_of old) given old.now (text_of sql c) c.command it.1 e (subst (λ r. Does old.step_limit (mode_of old) given old.now (text_of sql c) r c.command (Err (Some e))) it.0 refused.1)
+  ran c given is (inr fails) = moved e _ fails.1 (of_store fails.0)
 
   runs : ExecutesIn false sql params old new (Err e) → IsUntold (fault_of e)
   unfolding ExecutesIn
-  runs (inl h) = not_run sql params old new e (λ fault is. never_bad _ fault known is) h
+  runs (inl h) = not_run sql params old new e (λ opened fault is. never_bad sql _ fault (known opened) is) h
   runs (inr h) = elim (cases_Bool (shows_rows false h.0)) [
     | inl shows ↦ let odd = (rw shows at h.2).0 in let same : e ≡ ExecuteReturnedResults = cc in moved e _ same tt
-    | inr writes ↦ ran h.0 (timed params h.0.formats h.1.now) (known_write _ h.0 h.1.is known) (rw writes at h.2)
+    | inr writes ↦ ran h.0 (timed params h.0.formats h.1.now) h.1.is (rw writes at h.2)
   ]
 
   pub write_untold : ExecutesInside 0 sql params old new (Err e) → IsUntold (fault_of e)
   write_untold (inl h) = runs h.0
   write_untold (inr h) = moved e _ h.1 (failed code.TransactionState)
 
--- ---- which texts write rows
+-- ---- which texts write
 
-known_text : (r : Result Compiled CompileError) (command : Command) → command_of r ≡ command → WritesRows command → IsPlain r → IsWriteAs r
-known_text (Ok c) command is writes plain = (plain.0, subst WritesRows (sym is) writes)
-known_text (Err e) command is writes plain = plain
+known_text : (sql : List ℕ) (r : Result Compiled CompileError) (command : Command) → command_of r ≡ command → IsPlain r → IsWrite (statement_of sql r) command → IsWriteAs sql r
+known_text sql (Ok c) command is plain writes = (plain.0, subst (IsWrite (text_of sql c)) (sym is) writes)
+known_text sql (Err e) command is plain writes = plain
 
-pub insert_writes : {at : ℕ} {terms : List Term} {width : ℕ} {sql : List ℕ} → IsInsert at terms width sql → IsWriteAs (understood pid_schema sql)
-insert_writes h = known_text _ _ h.is tt h.plain
+pub insert_writes : {at : ℕ} {terms : List Term} {width : ℕ} {sql : List ℕ} → IsInsert at terms width sql → IsWriteAs sql (understood pid_schema sql)
+insert_writes {sql = sql} h = known_text sql _ _ h.is h.plain tt
 
-pub update_writes : {at tree : ℕ} {tests change : List Term} {sql : List ℕ} → IsUpdate at tree tests change sql → IsWriteAs (understood pid_schema sql)
-update_writes h = known_text _ _ h.is tt h.plain
+pub update_writes : {at tree : ℕ} {tests change : List Term} {sql : List ℕ} → IsUpdate at tree tests change sql → IsWriteAs sql (understood pid_schema sql)
+update_writes {sql = sql} h = known_text sql _ _ h.is h.plain tt
 
-pub delete_writes : {at tree : ℕ} {tests : List Term} {sql : List ℕ} → IsDelete at tree tests sql → IsWriteAs (understood pid_schema sql)
-delete_writes h = known_text _ _ h.is tt h.plain
+pub delete_writes : {at tree : ℕ} {tests : List Term} {sql : List ℕ} → IsDelete at tree tests sql → IsWriteAs sql (understood pid_schema sql)
+delete_writes {sql = sql} h = known_text sql _ _ h.is h.plain tt
+
+pub create_writes : (schema : Schema) (sql : List ℕ) (table : Table) → command_of (understood schema sql) ≡ CreateTable → IsPlain (understood schema sql) → statement_of sql (understood schema sql) ≡ sql → table_defined_by sql ≡ Ok table
+    → IsWriteAs sql (understood schema sql)
+create_writes schema sql table is plain whole defined = known_text sql _ _ is plain (subst (λ t. IsWrite t CreateTable) (sym whole) (table, defined))
 
 -- the write leads on, or its fault tells nothing
 pub led : {X : Type 0} {P Q : Type 0} (r : Result X TableFault) → (P → Q) → OnOk r P → IfErr r IsUntold → MatchResult r (λ _. Q) IsUntold

@@ -1,10 +1,13 @@
--- Texts that are queries on the six tables, or writes of rows.
+-- Texts that are queries on the six tables, or writes.
 use Rattle.std.specs.Prelude.{◌≡◌, ℕ, ◌≤◌, true, false, List, [], length, None, Result, Ok, Err}
 use Rattle.sqlite.specs.Order.{Row}
 use Rattle.sqlite.specs.Tree.{Trees}
 use Rattle.sqlite.specs.Listing.{understood, reads_listing}
 use Rattle.sqlite.specs.Command.{Command}
-use Rattle.sqlite.specs.Command.TheVariants.{Select, Insert, Update, Delete}
+use Rattle.sqlite.specs.Compile.{table_defined_by}
+use Rattle.sqlite.specs.State.{text_of}
+use Rattle.sqlite.specs.Table.{Table}
+use Rattle.sqlite.specs.Command.TheVariants.{Select, Insert, Update, Delete, CreateTable}
 use Rattle.sqlite_resolve.specs.declared.compiled.Compiled.{Compiled}
 use Rattle.sqlite_resolve.specs.declared.error.CompileError.{CompileError}
 use Rattle.sqlite_schema.specs.Program.{lets_of}
@@ -33,14 +36,15 @@ pub record IsQuery (sql : List ℕ) (params : Row) : Type 0 where
   pub known : IsQueryAs sql params (understood pid_schema sql)
   pub unlisted : reads_listing pid_schema sql ≡ false
 
--- INSERT, UPDATE and DELETE
-abbrev pub WritesRows : Command → Type 0
-WritesRows (Insert at from) = Unit {0}
-WritesRows (Update at q) = Unit {0}
-WritesRows (Delete at q) = Unit {0}
-WritesRows _ = ⊥
+-- INSERT, UPDATE and DELETE, and CREATE TABLE of a text that defines a table
+abbrev pub IsWrite : List ℕ → Command → Type 0
+IsWrite text (Insert at from) = Unit {0}
+IsWrite text (Update at q) = Unit {0}
+IsWrite text (Delete at q) = Unit {0}
+IsWrite text CreateTable = (table : Table) × (table_defined_by text ≡ Ok table)
+IsWrite text _ = ⊥
 
--- the text writes rows of the tables, without RETURNING
-abbrev pub IsWriteAs : Result Compiled CompileError → Type 0
-IsWriteAs (Ok c) = (c.returning ≡ None) × WritesRows c.command
-IsWriteAs (Err e) = ⊥
+-- the text writes rows or makes a table, without RETURNING
+abbrev pub IsWriteAs : List ℕ → Result Compiled CompileError → Type 0
+IsWriteAs sql (Ok c) = (c.returning ≡ None) × IsWrite (text_of sql c) c.command
+IsWriteAs sql (Err e) = ⊥

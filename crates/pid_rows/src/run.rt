@@ -2,6 +2,7 @@
 ghost use Rattle.std.specs.Prelude.{◌≡◌, ℕ, false, true, IfOk, IfErr, OnOk, IsTrue, Ok};
 ghost use Rattle.sqlite.specs.Given.{IsPlain};
 ghost use Rattle.sqlite.specs.Listing.{understood};
+ghost use Rattle.sqlite.specs.Schema.{Schema};
 ghost use Rattle.sqlite.specs.Values.{bound};
 ghost use Rattle.sqlite.specs.State.{HasCleanDisk, Executes, Shown};
 ghost use Rattle.sqlite.specs.Held.{state, Held};
@@ -26,7 +27,7 @@ pub fn write_one<S: Alter>(
     ensures same_reference { tx.new.conn.ghost_name ≡ tx.old.conn.ghost_name }
     ensures goes { GoesOn (state S.Store tx.old.conn.now) (state S.Store tx.new.conn.now) result }
     ensures ran { HasCleanDisk (state S.Store tx.new.conn.now) → IsTrue (state S.Store tx.old.conn.now).in_transaction → OnOk result ((count : ℕ) × Executes sql.now (bound params.now) (state S.Store tx.old.conn.now) (state S.Store tx.new.conn.now) (Ok count)) }
-    ensures untold { HasCleanDisk (state S.Store tx.new.conn.now) → (state S.Store tx.old.conn.now).now.schema ≡ pid_schema → IsWriteAs (understood pid_schema sql.now) → IfErr result IsUntold }
+    ensures untold { HasCleanDisk (state S.Store tx.new.conn.now) → (schema : Schema) → (IsTrue (state S.Store tx.old.conn.now).is_open → (state S.Store tx.old.conn.now).now.schema ≡ schema) → IsWriteAs sql.now (understood schema sql.now) → IfErr result IsUntold }
 {
     tx.execute(sql, params)?;
     Ok(())
@@ -62,15 +63,4 @@ pub fn read_rows<S: Alter>(
 {
     let mut tx = conn.transaction();
     read_inside(&mut tx, sql, params)
-}
-
-/// Runs a query that reads no table: an answer of `Ok` means that the connection is open.
-pub fn look<S: Alter>(conn: &mut Connection<S>) -> Result<(), TableFault>
-    requires { (state S.Store conn.old).in_transaction ≡ false }
-    ensures rests { OnlyReads (state S.Store conn.old) (state S.Store conn.new) }
-    ensures was_open { HasCleanDisk (state S.Store conn.new) → OnOk result (IsTrue (state S.Store conn.old).is_open) }
-    ensures found { Tells (state S.Store conn.old) (state S.Store conn.new) result (λ v _. Unit {0}) }
-{
-    read_rows(conn, "SELECT 1", &[])?;
-    Ok(())
 }

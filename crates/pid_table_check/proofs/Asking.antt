@@ -1,5 +1,5 @@
 -- What it leaves, and what it tells, to prepare the text of a query.
-use Rattle.std.proofs.Common.{◌≡◌, ◌⊎◌, inl, inr, ℕ, List, [], ◌∷◌, Bool, true, false, Some, Ok, Err, Result, IfOk, IfErr, IsTrue, refl, sym, ap, subst, ◌∙◌, ◌+◌, ◌<◌, length, get_or, arith}
+use Rattle.std.proofs.Common.{◌≡◌, ◌⊎◌, inl, inr, ℕ, zero, suc, List, [], ◌∷◌, Bool, true, false, Some, Ok, Err, Result, IfOk, IfErr, OnOk, IsTrue, refl, sym, ap, subst, ◌∙◌, ◌+◌, ◌<◌, length, get_or, arith}
 use Rattle.sqlite.proofs.StateLemmas.{survives_then}
 use Rattle.std.specs.Result.{result_err}
 use Rattle.std.specs.List.{All, Any}
@@ -8,15 +8,21 @@ use Rattle.sqlite.specs.Order.{Row}
 use Rattle.sqlite.specs.Listing.{understood}
 use Rattle.sqlite.specs.Schema.{Schema}
 use Rattle.sqlite.specs.State.{State, HasCleanDisk, Survives, IsUnchanged, IsRolledBack, IsNotRun, store_error}
+use Rattle.sqlite.specs.Held.{Held, state}
+use Rattle.sqlite_trees.specs.declared.store.Store.{Ghosts}
 use Rattle.sqlite.specs.declared.error.Error.{Error}
 use Rattle.sqlite_resolve.specs.declared.error.CompileError.{CompileError}
 use Rattle.sqlite_trees.specs.declared.error.StoreError.{StoreError}
 use Rattle.sqlite_trees.specs.declared.error.StoreError.TheVariants as store
 use Rattle.sqlite_rules.specs.Lists as members
 use Rattle.pid_moderation.specs.Views.{Views}
+use Rattle.pid_rows.specs.declared.fault.TableFault.{TableFault}
 use Rattle.pid_rows.specs.declared.fault.TableFault.TheVariants.{Damaged}
 use Rattle.pid_rows.specs.Faults.{fault_of}
+use Rattle.pid_rows.specs.Causes.{IsCaused}
 use Rattle.pid_rows.specs.Leaves.{AtRest, OnlyReads}
+use Rattle.pid_rows.specs.Queries.{IsQuery}
+use Rattle.pid_rows.proofs.CauseLemmas.{not_run_caused, caused_later}
 use Rattle.pid_rows.specs.Shows.{Shows}
 use Rattle.pid_rows.proofs.LeaveLemmas.{leaves_on}
 use Rattle.pid_rows.proofs.Lengths.{mapped, unmapped}
@@ -73,8 +79,20 @@ refused old new sql e (inl (inr h, same)) damaged = absurd (elim h.2 [
 ])
 refused old new sql e (inr fails) damaged = absurd (of_store fails.0 (sym (ap fault_of fails.1) ∙ damaged))
 
+-- on tables of the schema what keeps a query from being prepared has a cause
+pub unasked_caused : (old new : State) (v : Views) (sql : List ℕ) (e : Error) → AtRest old v → IsQuery sql [] → IsNotRun old new sql [] e → IsCaused old new (fault_of e)
+unasked_caused old new v sql e rest query h = not_run_caused sql [] old new (λ opened. (rest.shows opened).schema) query e h
+
 pub unasked : (schema : Schema) (sql : List ℕ) (f : CompileError) → understood schema sql ≡ Err f → IsAsked schema sql → ⊥
 unasked schema sql f is asked = let both = sym is ∙ asked.1 in cc
+
+pub on_if_ok : {X E Q : Type 0} {P : X → Type 0} (r : Result X E) → ((x : X) → P x → Q) → IfOk r P → OnOk r Q
+on_if_ok (Ok x) f h = f x h
+on_if_ok (Err e) f h = tt
+
+pub told_caused : {X : Type 0} (old new : State) (r : Result X TableFault) (e : TableFault) → IfErr r (λ fault. fault ≡ e) → IsCaused old new e → IfErr r (IsCaused old new)
+told_caused old new (Ok x) e is h = tt
+told_caused old new (Err f) e is h = subst (IsCaused old new) (sym is) h
 
 -- ---- one after the other
 
@@ -93,6 +111,16 @@ same_first s settled = (nothing_read s settled, λ clean. refl)
 
 pub same_then : (a b c : State) → IsSame a b → OnlyReads b c → (HasCleanDisk c → c.now ≡ b.now) → IsSame a c
 same_then a b c one rests same = (reads_then a b c one.0 rests, λ clean. same clean ∙ one.1 (rests.clean clean))
+
+-- what was asked on from the first on was open from the first on
+pub still_open : {S : Type 0} (g : Ghosts S) (a b : Held S) (c : State) (n : ℕ) → OnlyReads (state g b) c → (n ≡ 0 → b ≡ a) → (HasCleanDisk (state g b) → 0 < n → IsTrue (state g a).is_open) → IsTrue (state g b).is_open → HasCleanDisk c
+    → IsTrue (state g a).is_open
+still_open g a b c zero rests first later opened clean = subst (λ h. IsTrue (state g h).is_open) (first refl) opened
+still_open g a b c (suc n) rests first later opened clean = later (rests.clean clean) (omega arith)
+
+-- a cause in what came later
+pub caused_then : (a b c : State) (e : TableFault) → IsSame a b → OnlyReads b c → HasCleanDisk c → IsCaused b c e → IsCaused a c e
+caused_then a b c e one rests clean h = caused_later a b c (λ _. ⊥) e one.0.survives rests.survives.counts (rests.clean clean) h
 
 -- what is said of the schema in between is said of the first
 pub said_first : (a b c : State) (P : Schema → Type 0) → IsSame a b → OnlyReads b c → HasCleanDisk c → P b.now.schema → P a.now.schema

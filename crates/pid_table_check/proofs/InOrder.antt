@@ -38,13 +38,13 @@ use Rattle.pid_table_check.specs.Reading.{IsInOrder}
 abbrev pub submission_text : List ℕ
 submission_text = codes "SELECT num, author, path, form, name, note, state, decider, reason FROM submission ORDER BY num"
 
-abbrev submission_columns : List Term
+abbrev pub submission_columns : List Term
 submission_columns = col 1 0 ∷ col 1 2 ∷ col 1 3 ∷ col 1 4 ∷ col 1 5 ∷ col 1 6 ∷ col 1 7 ∷ col 1 8 ∷ col 1 9 ∷ []
 
 abbrev by_number : Query
 by_number = record (simple 6 [] submission_columns) { order = (col 1 0, ascending Binary) ∷ [] }
 
-submission_is : command_of (understood pid_schema submission_text) ≡ Select (program by_number) (codes "num" ∷ codes "author" ∷ codes "path" ∷ codes "form" ∷ codes "name" ∷ codes "note" ∷ codes "state" ∷ codes "decider" ∷ codes "reason" ∷ [])
+pub submission_is : command_of (understood pid_schema submission_text) ≡ Select (program by_number) (codes "num" ∷ codes "author" ∷ codes "path" ∷ codes "form" ∷ codes "name" ∷ codes "note" ∷ codes "state" ∷ codes "decider" ∷ codes "reason" ∷ [])
 unfolding understood everything
 submission_is = refl
 
@@ -52,7 +52,7 @@ pub submission_plain : IsPlain (understood pid_schema submission_text)
 unfolding understood everything
 submission_plain = (refl, refl)
 
-submission_unlisted : reads_listing pid_schema submission_text ≡ false
+pub submission_unlisted : reads_listing pid_schema submission_text ≡ false
 unfolding understood everything
 submission_unlisted = refl
 

@@ -18,6 +18,7 @@ pub mod NameFacts
 pub mod SubmissionFacts
 pub mod InOrder
 pub mod Asking
+pub mod AskedTexts
 pub mod Labels
 pub mod Complete
 pub mod Numbered

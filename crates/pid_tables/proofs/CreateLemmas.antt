@@ -1,5 +1,5 @@
 -- What one CREATE TABLE leaves, and the first rows.
-use Rattle.std.proofs.Common.{◌≡◌, ℕ, zero, suc, ℤ, arith, List, [], ◌∷◌, ◌++◌, fold, false, None, Some, Ok, refl, sym, ap, subst, ◌∙◌}
+use Rattle.std.proofs.Common.{◌≡◌, ℕ, zero, suc, ℤ, arith, List, [], ◌∷◌, ◌++◌, fold, false, None, Some, Ok, Err, Result, IfErr, OnOk, IsTrue, refl, sym, ap, subst, ◌∙◌}
 use Rattle.std.specs.List.{AllByRecursion}
 use Rattle.sqlite.specs.Schema.{Schema}
 use Rattle.sqlite.specs.Table.{Table}
@@ -8,7 +8,8 @@ use Rattle.sqlite.specs.Command.TheVariants.{CreateTable}
 use Rattle.sqlite.specs.Change.{created, next_tree, KeepsRows}
 use Rattle.sqlite.specs.Does.{Tally, lacks_sequence}
 use Rattle.sqlite.specs.Effect.{Database, IsDatabase}
-use Rattle.sqlite.specs.State.{State, Writes, Executes}
+use Rattle.sqlite.specs.Listing.{understood}
+use Rattle.sqlite.specs.State.{State, HasCleanDisk, Writes, Executes}
 use Rattle.sqlite.proofs.Callers.{runs_as}
 use Rattle.sqlite.specs.declared.types.Value.TheVariants.{Null, Text}
 use Rattle.sqlite.specs.Edit.{next_rowid, numbered}
@@ -26,7 +27,12 @@ use Rattle.pid_rows.proofs.KeyTexts.{by_first, pair_terms, insert_meta_is}
 use Rattle.pid_rows.proofs.StatementTexts.{insert_meta}
 use Rattle.pid_rows.proofs.WriteLemmas.{cast_null}
 use Rattle.pid_rows.proofs.WriteRows.{Ran}
-use Rattle.pid_tables.specs.Creation.{making, AreMade, HasOnlyMeta, with_label}
+use Rattle.pid_rows.proofs.WriteFaults.{create_writes}
+use Rattle.pid_rows.specs.declared.fault.TableFault.{TableFault}
+use Rattle.pid_rows.specs.Faults.{IsUntold}
+use Rattle.pid_rows.specs.Leaves.{GoesOn}
+use Rattle.pid_rows.specs.Queries.{IsWriteAs}
+use Rattle.pid_tables.specs.Creation.{making, AreMade, Makes, HasOnlyMeta, with_label}
 use Rattle.pid_tables.proofs.CreateTexts.{Creates}
 use Rattle.pid_rows.proofs.SetLemmas.{all_with, text_set}
 use Rattle.pid_rows.proofs.WriteLemmas.{went, same_value}
@@ -61,6 +67,13 @@ one_more ts text table it tables old new count made h =
       sound = subst IsDatabase now w.sound;
       empty = all_with (Empty first.0.trees) ts table (kept_empty ts old.now.trees first.0.trees keeps made.empty) empty;
     })
+
+-- one CREATE TABLE inside a transaction
+pub made_one : {X : Type 0} (ts : List Table) (text : List ℕ) (table : Table) (r : Result X TableFault) (old new : State) → Creates ts text table → (making ts).tables ≡ ts → GoesOn old new r
+    → (HasCleanDisk new → IsTrue old.in_transaction → OnOk r ((count : ℕ) × Executes text [] old new (Ok count)))
+    → (HasCleanDisk new → (schema : Schema) → (IsTrue old.is_open → old.now.schema ≡ schema) → IsWriteAs text (understood schema text) → IfErr r IsUntold) → Makes old new r ts (ts ++ table ∷ [])
+made_one ts text table (Ok x) old new it tables goes ran untold clean inside made = let h = ran clean inside in one_more ts text table it tables old new h.0 (made (goes.was_open clean (goes.going clean inside).0)) h.1
+made_one ts text table (Err e) old new it tables goes ran untold clean inside made = untold clean (making ts) (λ opened. (made opened).schema) (create_writes (making ts) text _ it.is it.plain it.whole it.defined)
 
 -- ---- the first rows
 

@@ -1,5 +1,5 @@
 -- Tables on their way: the first of the six are made, and have no rows.
-use Rattle.std.specs.Prelude.{◌≡◌, ◌⊎◌, ℕ, false, List, [], fold, IsTrue, Some, if◌then◌else◌}
+use Rattle.std.specs.Prelude.{◌≡◌, ◌⊎◌, ℕ, false, List, [], fold, IsTrue, Some, if◌then◌else◌, Result, MatchResult}
 use Rattle.std.specs.Str.{bytes_eq}
 use Rattle.std.specs.List.{AllByRecursion}
 use Rattle.sqlite.specs.Change.{created}
@@ -9,6 +9,8 @@ use Rattle.sqlite.specs.State.{State, HasCleanDisk}
 use Rattle.sqlite.specs.Table.{Table}
 use Rattle.sqlite.specs.Tree.{Trees}
 use Rattle.pid_moderation.specs.Views.{views_of}
+use Rattle.pid_rows.specs.declared.fault.TableFault.{TableFault}
+use Rattle.pid_rows.specs.Faults.{IsUntold}
 use Rattle.pid_rows.specs.PairRows.{Map, RowsAre}
 use Rattle.pid_rows.specs.Schema.{no_schema, pid_schema}
 use Rattle.pid_rows.specs.Shows.{Shows}
@@ -23,6 +25,11 @@ pub record AreMade (tables : List Table) (db : Database) : Type 0 where
   pub schema : db.schema ≡ making tables
   pub sound : IsDatabase db
   pub empty : AllByRecursion (λ (t : Table). db.trees t.tree ≡ []) tables
+
+-- A step of the making, inside a transaction: where the first of these are made it answers a value only with the others made,
+-- and a fault only for want of memory, or where the store failed or refused.
+abbrev pub Makes : {X : Type 0} → State → State → Result X TableFault → List Table → List Table → Type 0
+Makes old new result before after = HasCleanDisk new → IsTrue old.in_transaction → (IsTrue old.is_open → AreMade before old.now) → MatchResult result (λ _. AreMade after new.now) IsUntold
 
 -- all six, where meta has some rows and the others have none
 pub record HasOnlyMeta (m : Map (List ℕ) ℕ) (db : Database) : Type 0 where

@@ -1,11 +1,12 @@
 //! Makes the tables in a database that has none.
-ghost use Rattle.std.specs.Prelude.{◌≡◌, ℕ, [], ◌∷◌, false, None, List, OnOk, IsTrue};
+ghost use Rattle.std.specs.Prelude.{◌≡◌, ℕ, [], ◌∷◌, false, None, List, IfErr, MatchResult, OnOk, IsTrue};
 ghost use Rattle.sqlite.specs.Held.{state};
 ghost use Rattle.sqlite.specs.State.{HasCleanDisk};
 ghost use Rattle.pid_moderation.specs.Views.{views_of};
 ghost use Rattle.pid_rows.specs.Schema as tables;
+ghost use Rattle.pid_rows.specs.Faults.{IsUntold};
 ghost use Rattle.pid_rows.specs.PairRows.{Map};
-ghost use Rattle.pid_tables.specs.Creation.{AreMade, HasOnlyMeta, with_label, IsBlank, LeavesBareOrNew};
+ghost use Rattle.pid_tables.specs.Creation.{AreMade, Makes, HasOnlyMeta, with_label, IsBlank, LeavesBareOrNew};
 ghost use Rattle.pid_rows.specs.Leaves.{GoesOn, AtRest};
 ghost use Rattle.pid_rows.specs.Shows.{Shows, meta_of};
 
@@ -20,7 +21,7 @@ use sqlite::{Alter, Connection, Transaction};
 fn make_meta<S: Alter>(tx: &mut Transaction<'_, S>) -> Result<(), TableFault>
     ensures same_reference { tx.new.conn.ghost_name ≡ tx.old.conn.ghost_name }
     ensures goes { GoesOn (state S.Store tx.old.conn.now) (state S.Store tx.new.conn.now) result }
-    ensures made { HasCleanDisk (state S.Store tx.new.conn.now) → IsTrue (state S.Store tx.old.conn.now).in_transaction → AreMade ([]) (state S.Store tx.old.conn.now).now → OnOk result (AreMade (tables.meta ∷ []) (state S.Store tx.new.conn.now).now) }
+    ensures made { Makes (state S.Store tx.old.conn.now) (state S.Store tx.new.conn.now) result ([]) (tables.meta ∷ []) }
 {
     write_one(
         tx,
@@ -32,7 +33,7 @@ fn make_meta<S: Alter>(tx: &mut Transaction<'_, S>) -> Result<(), TableFault>
 fn make_account<S: Alter>(tx: &mut Transaction<'_, S>) -> Result<(), TableFault>
     ensures same_reference { tx.new.conn.ghost_name ≡ tx.old.conn.ghost_name }
     ensures goes { GoesOn (state S.Store tx.old.conn.now) (state S.Store tx.new.conn.now) result }
-    ensures made { HasCleanDisk (state S.Store tx.new.conn.now) → IsTrue (state S.Store tx.old.conn.now).in_transaction → AreMade (tables.meta ∷ []) (state S.Store tx.old.conn.now).now → OnOk result (AreMade (tables.meta ∷ tables.account ∷ []) (state S.Store tx.new.conn.now).now) }
+    ensures made { Makes (state S.Store tx.old.conn.now) (state S.Store tx.new.conn.now) result (tables.meta ∷ []) (tables.meta ∷ tables.account ∷ []) }
 {
     write_one(
         tx,
@@ -44,7 +45,7 @@ fn make_account<S: Alter>(tx: &mut Transaction<'_, S>) -> Result<(), TableFault>
 fn make_item<S: Alter>(tx: &mut Transaction<'_, S>) -> Result<(), TableFault>
     ensures same_reference { tx.new.conn.ghost_name ≡ tx.old.conn.ghost_name }
     ensures goes { GoesOn (state S.Store tx.old.conn.now) (state S.Store tx.new.conn.now) result }
-    ensures made { HasCleanDisk (state S.Store tx.new.conn.now) → IsTrue (state S.Store tx.old.conn.now).in_transaction → AreMade (tables.meta ∷ tables.account ∷ []) (state S.Store tx.old.conn.now).now → OnOk result (AreMade (tables.meta ∷ tables.account ∷ tables.item ∷ []) (state S.Store tx.new.conn.now).now) }
+    ensures made { Makes (state S.Store tx.old.conn.now) (state S.Store tx.new.conn.now) result (tables.meta ∷ tables.account ∷ []) (tables.meta ∷ tables.account ∷ tables.item ∷ []) }
 {
     write_one(
         tx,
@@ -56,7 +57,7 @@ fn make_item<S: Alter>(tx: &mut Transaction<'_, S>) -> Result<(), TableFault>
 fn make_submission<S: Alter>(tx: &mut Transaction<'_, S>) -> Result<(), TableFault>
     ensures same_reference { tx.new.conn.ghost_name ≡ tx.old.conn.ghost_name }
     ensures goes { GoesOn (state S.Store tx.old.conn.now) (state S.Store tx.new.conn.now) result }
-    ensures made { HasCleanDisk (state S.Store tx.new.conn.now) → IsTrue (state S.Store tx.old.conn.now).in_transaction → AreMade (tables.meta ∷ tables.account ∷ tables.item ∷ []) (state S.Store tx.old.conn.now).now → OnOk result (AreMade (tables.meta ∷ tables.account ∷ tables.item ∷ tables.submission ∷ []) (state S.Store tx.new.conn.now).now) }
+    ensures made { Makes (state S.Store tx.old.conn.now) (state S.Store tx.new.conn.now) result (tables.meta ∷ tables.account ∷ tables.item ∷ []) (tables.meta ∷ tables.account ∷ tables.item ∷ tables.submission ∷ []) }
 {
     write_one(
         tx,
@@ -68,7 +69,7 @@ fn make_submission<S: Alter>(tx: &mut Transaction<'_, S>) -> Result<(), TableFau
 fn make_remark<S: Alter>(tx: &mut Transaction<'_, S>) -> Result<(), TableFault>
     ensures same_reference { tx.new.conn.ghost_name ≡ tx.old.conn.ghost_name }
     ensures goes { GoesOn (state S.Store tx.old.conn.now) (state S.Store tx.new.conn.now) result }
-    ensures made { HasCleanDisk (state S.Store tx.new.conn.now) → IsTrue (state S.Store tx.old.conn.now).in_transaction → AreMade (tables.meta ∷ tables.account ∷ tables.item ∷ tables.submission ∷ []) (state S.Store tx.old.conn.now).now → OnOk result (AreMade (tables.meta ∷ tables.account ∷ tables.item ∷ tables.submission ∷ tables.remark ∷ []) (state S.Store tx.new.conn.now).now) }
+    ensures made { Makes (state S.Store tx.old.conn.now) (state S.Store tx.new.conn.now) result (tables.meta ∷ tables.account ∷ tables.item ∷ tables.submission ∷ []) (tables.meta ∷ tables.account ∷ tables.item ∷ tables.submission ∷ tables.remark ∷ []) }
 {
     write_one(
         tx,
@@ -80,7 +81,7 @@ fn make_remark<S: Alter>(tx: &mut Transaction<'_, S>) -> Result<(), TableFault>
 fn make_receipt<S: Alter>(tx: &mut Transaction<'_, S>) -> Result<(), TableFault>
     ensures same_reference { tx.new.conn.ghost_name ≡ tx.old.conn.ghost_name }
     ensures goes { GoesOn (state S.Store tx.old.conn.now) (state S.Store tx.new.conn.now) result }
-    ensures made { HasCleanDisk (state S.Store tx.new.conn.now) → IsTrue (state S.Store tx.old.conn.now).in_transaction → AreMade (tables.meta ∷ tables.account ∷ tables.item ∷ tables.submission ∷ tables.remark ∷ []) (state S.Store tx.old.conn.now).now → OnOk result (AreMade (tables.meta ∷ tables.account ∷ tables.item ∷ tables.submission ∷ tables.remark ∷ tables.receipt ∷ []) (state S.Store tx.new.conn.now).now) }
+    ensures made { Makes (state S.Store tx.old.conn.now) (state S.Store tx.new.conn.now) result (tables.meta ∷ tables.account ∷ tables.item ∷ tables.submission ∷ tables.remark ∷ []) (tables.meta ∷ tables.account ∷ tables.item ∷ tables.submission ∷ tables.remark ∷ tables.receipt ∷ []) }
 {
     write_one(
         tx,
@@ -92,7 +93,7 @@ fn make_receipt<S: Alter>(tx: &mut Transaction<'_, S>) -> Result<(), TableFault>
 fn make_first<S: Alter>(tx: &mut Transaction<'_, S>) -> Result<(), TableFault>
     ensures same_reference { tx.new.conn.ghost_name ≡ tx.old.conn.ghost_name }
     ensures goes { GoesOn (state S.Store tx.old.conn.now) (state S.Store tx.new.conn.now) result }
-    ensures made { HasCleanDisk (state S.Store tx.new.conn.now) → IsTrue (state S.Store tx.old.conn.now).in_transaction → AreMade [] (state S.Store tx.old.conn.now).now → OnOk result (AreMade (tables.meta ∷ tables.account ∷ tables.item ∷ []) (state S.Store tx.new.conn.now).now) }
+    ensures made { Makes (state S.Store tx.old.conn.now) (state S.Store tx.new.conn.now) result [] (tables.meta ∷ tables.account ∷ tables.item ∷ []) }
 {
     make_meta(tx)?;
     make_account(tx)?;
@@ -102,7 +103,7 @@ fn make_first<S: Alter>(tx: &mut Transaction<'_, S>) -> Result<(), TableFault>
 fn make_rest<S: Alter>(tx: &mut Transaction<'_, S>) -> Result<(), TableFault>
     ensures same_reference { tx.new.conn.ghost_name ≡ tx.old.conn.ghost_name }
     ensures goes { GoesOn (state S.Store tx.old.conn.now) (state S.Store tx.new.conn.now) result }
-    ensures made { HasCleanDisk (state S.Store tx.new.conn.now) → IsTrue (state S.Store tx.old.conn.now).in_transaction → AreMade (tables.meta ∷ tables.account ∷ tables.item ∷ []) (state S.Store tx.old.conn.now).now → OnOk result (AreMade (tables.meta ∷ tables.account ∷ tables.item ∷ tables.submission ∷ tables.remark ∷ tables.receipt ∷ []) (state S.Store tx.new.conn.now).now) }
+    ensures made { Makes (state S.Store tx.old.conn.now) (state S.Store tx.new.conn.now) result (tables.meta ∷ tables.account ∷ tables.item ∷ []) (tables.meta ∷ tables.account ∷ tables.item ∷ tables.submission ∷ tables.remark ∷ tables.receipt ∷ []) }
 {
     make_submission(tx)?;
     make_remark(tx)?;
@@ -117,7 +118,7 @@ fn add_label<S: Alter>(
     ensures same_reference { tx.new.conn.ghost_name ≡ tx.old.conn.ghost_name }
     ensures goes { GoesOn (state S.Store tx.old.conn.now) (state S.Store tx.new.conn.now) result }
     ensures added { HasCleanDisk (state S.Store tx.new.conn.now) → IsTrue (state S.Store tx.old.conn.now).in_transaction → (m : Map (List ℕ) ℕ) → HasOnlyMeta m (state S.Store tx.old.conn.now).now → m label.now ≡ None
-        → OnOk result (HasOnlyMeta (with_label label.now value m) (state S.Store tx.new.conn.now).now) }
+        → MatchResult result (λ _. HasOnlyMeta (with_label label.now value m) (state S.Store tx.new.conn.now).now) IsUntold }
 {
     let label = label.to_sql();
     let value = value.to_sql();
@@ -132,7 +133,7 @@ fn add_labels<S: Alter>(tx: &mut Transaction<'_, S>) -> Result<(), TableFault>
     ensures same_reference { tx.new.conn.ghost_name ≡ tx.old.conn.ghost_name }
     ensures goes { GoesOn (state S.Store tx.old.conn.now) (state S.Store tx.new.conn.now) result }
     ensures added { HasCleanDisk (state S.Store tx.new.conn.now) → IsTrue (state S.Store tx.old.conn.now).in_transaction → HasOnlyMeta (λ _. None) (state S.Store tx.old.conn.now).now
-        → OnOk result (HasOnlyMeta (meta_of (record { items = 0; submissions = 0 })) (state S.Store tx.new.conn.now).now) }
+        → MatchResult result (λ _. HasOnlyMeta (meta_of (record { items = 0; submissions = 0 })) (state S.Store tx.new.conn.now).now) IsUntold }
 {
     add_label(tx, "submissions", 0)?;
     add_label(tx, "items", 0)?;
@@ -142,7 +143,7 @@ fn add_labels<S: Alter>(tx: &mut Transaction<'_, S>) -> Result<(), TableFault>
 fn fill<S: Alter>(tx: &mut Transaction<'_, S>) -> Result<(), TableFault>
     ensures same_reference { tx.new.conn.ghost_name ≡ tx.old.conn.ghost_name }
     ensures goes { GoesOn (state S.Store tx.old.conn.now) (state S.Store tx.new.conn.now) result }
-    ensures filled { HasCleanDisk (state S.Store tx.new.conn.now) → IsTrue (state S.Store tx.old.conn.now).in_transaction → AreMade [] (state S.Store tx.old.conn.now).now → OnOk result (Shows (state S.Store tx.new.conn.now).now (views_of [])) }
+    ensures filled { HasCleanDisk (state S.Store tx.new.conn.now) → IsTrue (state S.Store tx.old.conn.now).in_transaction → (IsTrue (state S.Store tx.old.conn.now).is_open → AreMade [] (state S.Store tx.old.conn.now).now) → MatchResult result (λ _. Shows (state S.Store tx.new.conn.now).now (views_of [])) IsUntold }
 {
     make_first(tx)?;
     make_rest(tx)?;
@@ -158,6 +159,7 @@ pub fn create<S: Alter>(conn: &mut Connection<S>) -> Result<(), TableFault>
     requires { (state S.Store conn.old).in_transaction ≡ false }
     ensures settled { (state S.Store conn.new).in_transaction ≡ false }
     ensures made { IsBlank (state S.Store conn.old) → OnOk result (AtRest (state S.Store conn.new) (views_of [])) }
+    ensures untold { HasCleanDisk (state S.Store conn.new) → IsBlank (state S.Store conn.old) → IfErr result IsUntold }
     ensures crash { IsBlank (state S.Store conn.old) → LeavesBareOrNew (state S.Store conn.new) }
 {
     let mut batch = conn.transaction();

@@ -15,7 +15,6 @@ ghost use Rattle.pid_table_check.specs.Shapes.{ExplainsLack, HasNoTable, LacksAT
 ghost use Rattle.pid_rows.specs.Causes.{IsReadable};
 ghost use Rattle.pid_rows.specs.Faults.{IsUntold};
 ghost use Rattle.pid_rows.specs.Schema.{pid_schema};
-ghost use Rattle.pid_tables.specs.Creation.{IsBlank};
 ghost use Rattle.pid_rows.specs.ItemPairs.{pair_of};
 ghost use Rattle.pid_rows.specs.Leaves.{AtRest, OnlyReads, Tells};
 ghost use Rattle.pid_table_lists.specs.Children.{children_of};
@@ -34,9 +33,10 @@ use pid_rows::item::{Item, item_name};
 use pid_rows::meta::{items, schema_number, submissions};
 use pid_rows::receipt::kept_reply;
 use pid_rows::remark::remark_count;
-use pid_rows::run::look;
-use pid_table_check::check;
-use pid_table_lists::{Discussion, EachEnd, PAGE, Pending, children, discussed, each_item, pending_page};
+use pid_table_check::{check, has_some_table};
+use pid_table_lists::{
+    Discussion, EachEnd, PAGE, Pending, children, discussed, each_item, pending_page,
+};
 use sqlite::{Alter, Connection, MemStore};
 use std::alloc::Global;
 
@@ -200,27 +200,19 @@ impl<S: Alter + Drop> Tables<S> {
         check(&mut self.conn, alloc)
     }
 
-    /// The number of the schema, and 0 where there is no table.
+    /// The number of the schema, and 0 where none of its tables is there. Other tables do not count.
     pub fn version(&mut self) -> Result<u32, TableFault>
         requires { (state S.Store self.old.conn).in_transaction ≡ false }
         ensures rests { OnlyReads (state S.Store self.old.conn) (state S.Store self.new.conn) }
         ensures told { Tells (state S.Store self.old.conn) (state S.Store self.new.conn) result (λ v n. n ≡ 1) }
-        ensures none { HasCleanDisk (state S.Store self.new.conn) → IsBlank (state S.Store self.old.conn) → IfOk result (λ n. n ≡ 0) }
+        ensures none { HasCleanDisk (state S.Store self.new.conn) → HasNoTable (state S.Store self.old.conn).now.schema → MatchResult result (λ n. n ≡ 0) IsUntold }
     {
-        let bare = is_bare(&self.conn);
-        look(&mut self.conn)?;
-        if bare {
-            Ok(0)
-        } else {
+        if has_some_table(&mut self.conn)? {
             schema_number(&mut self.conn)
+        } else {
+            Ok(0)
         }
     }
-}
-
-fn is_bare<S: Alter>(conn: &Connection<S>) -> bool
-    ensures { IsTrue result ↔ ((state S.Store conn.now).now.schema.tables ≡ []) }
-{
-    conn.schema().tables.is_empty()
 }
 
 /// A new registry in memory.

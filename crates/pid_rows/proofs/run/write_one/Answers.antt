@@ -11,11 +11,11 @@ use Rattle.pid_rows.proofs.WriteFaults.{write_untold}
 use Rattle.pid_rows.proofs.run.write_one.Goals as goal
 
 pub returns-in_err-execute-clause-untold : goal.returns-in_err-execute-clause-untold
-returns-in_err-execute-clause-untold g c clean has write =
+returns-in_err-execute-clause-untold g c clean schema has write =
     let p = err_from_is_err_and c.from_residual.result c.from_residual.ensures.1 in
     let old = state g.S.Store c.args.tx.now.conn.now in
     let told : IsUntold (fault_of c.in_err-execute.field-0.0) = elim (cases_Bool old.in_transaction) [
-      | inl inside ↦ write_untold c.args.sql.now (bound c.args.params.now) old _ has write _ (c.in_err-execute.ensures.runs clean inside)
+      | inl inside ↦ write_untold schema c.args.sql.now (bound c.args.params.now) old _ has write _ (c.in_err-execute.ensures.runs clean inside)
       | inr ended ↦ moved c.in_err-execute.field-0.0 (SqliteFailure code.TransactionState) (let is = (c.in_err-execute.ensures.ended ended).0 in cc) (failed code.TransactionState)
     ] in
     subst (λ r. IfErr r IsUntold) (sym p.1) (subst IsUntold (sym p.2) told)

@@ -1,6 +1,8 @@
 use Rattle.std.proofs.Common.{None, refl, codes}
 use Rattle.sqlite.specs.Held.{state}
 use Rattle.pid_tables.specs.Creation.{with_label}
+use Rattle.pid_rows.specs.Faults.{IsUntold}
+use Rattle.pid_rows.proofs.CauseLemmas.{passed_on}
 use Rattle.pid_rows.proofs.GoingLemmas.{earlier}
 use Rattle.pid_tables.proofs.creation.add_labels.Goals as goal
 
@@ -13,3 +15,14 @@ returns-clause-added g c clean inside has =
     let within = (one.goes.going first inside).1 in
     let m = with_label (codes "submissions") 0 (λ _. None) in
     c.add_label-3.ensures.added clean (two.goes.going second within).1 (with_label (codes "items") 0 m) (two.added second within m (one.added first inside (λ _. None) has refl) refl) refl
+
+pub returns-in_err-add_label-clause-added : goal.returns-in_err-add_label-clause-added
+returns-in_err-add_label-clause-added g c clean inside has = passed_on c.from_residual.result _ _ IsUntold c.from_residual.ensures.1 (c.in_err-add_label.ensures.added clean inside (λ _. None) has refl)
+
+pub returns-in_err-add_label-2-clause-added : goal.returns-in_err-add_label-2-clause-added
+returns-in_err-add_label-2-clause-added g c clean inside has =
+    let first = earlier (state g.S.Store c.add_label.new.tx.conn.now) (state g.S.Store c.add_label-2.new.tx.conn.now) c.add_label-2.ensures.goes.survives clean in
+    let one = c.in_ok-add_label.ensures in
+    let m = with_label (codes "submissions") 0 (λ _. None) in
+    passed_on c.from_residual-in_err-add_label-2.result _ _ IsUntold c.from_residual-in_err-add_label-2.ensures.1
+    (c.in_err-add_label-2.ensures.added clean (one.goes.going first inside).1 m (one.added first inside (λ _. None) has refl) refl)

@@ -14,4 +14,4 @@ returns-clause-made g c blank =
     let end = c.commit.new.batch.0 in
     let same : end ≡ c.conn-2-1.given.0 = search rules in
     subst (λ h. OnOk c.commit.result (AtRest (state g.S.Store h) (views_of []))) same
-    (c.commit.ensures.stands (views_of []) (λ opened. shows (law opened) refl (blank.empty (goes.was_open (law opened) opened))))
+    (c.commit.ensures.stands (views_of []) (λ opened. shows (law opened) refl blank.empty))

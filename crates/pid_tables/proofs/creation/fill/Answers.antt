@@ -2,7 +2,6 @@ use Rattle.std.proofs.Common.{refl}
 use Rattle.sqlite.specs.Held.{state}
 use Rattle.pid_rows.proofs.GoingLemmas.{earlier}
 use Rattle.pid_tables.proofs.CreateLemmas.{all_made, shows_nothing, nothing_yet}
-use Rattle.pid_tables.proofs.ApplyLemmas.{succeeds}
 use Rattle.pid_tables.proofs.creation.fill.Goals as goal
 
 pub returns-clause-filled : goal.returns-clause-filled
@@ -18,5 +17,5 @@ returns-clause-filled g c clean inside made =
     let three = c.in_ok-add_labels.ensures in
     let in_one = (one.goes.going first inside).1 in
     let in_two = (two.goes.going second in_one).1 in
-    let has = three.added third in_two (all_made b.now (two.made second in_one (one.made first inside made))) in
-    succeeds _ _ c.add_account.result (c.add_account.ensures.shows clean (three.goes.going third in_two).1 _ nothing_yet (shows_nothing d.now has) refl)
+    let has = three.added third in_two (all_made b.now (two.made second in_one (λ opened. one.made first inside made))) in
+    c.add_account.ensures.shows clean (three.goes.going third in_two).1 _ nothing_yet (shows_nothing d.now has) refl

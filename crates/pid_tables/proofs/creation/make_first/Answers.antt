@@ -1,6 +1,14 @@
 use Rattle.sqlite.specs.Held.{state}
+use Rattle.pid_rows.specs.Faults.{IsUntold}
+use Rattle.pid_rows.proofs.CauseLemmas.{passed_on}
 use Rattle.pid_rows.proofs.GoingLemmas.{earlier}
 use Rattle.pid_tables.proofs.creation.make_first.Goals as goal
+
+pub returns-in_err-make_account-clause-made : goal.returns-in_err-make_account-clause-made
+returns-in_err-make_account-clause-made g c clean inside made =
+    let first = earlier (state g.S.Store c.make_meta.new.tx.conn.now) (state g.S.Store c.make_account.new.tx.conn.now) c.make_account.ensures.goes.survives clean in
+    let one = c.in_ok-make_meta.ensures in
+    passed_on c.from_residual-in_err-make_account.result _ _ IsUntold c.from_residual-in_err-make_account.ensures.1 (c.in_err-make_account.ensures.made clean (one.goes.going first inside).1 (λ opened. one.made first inside made))
 
 pub returns-clause-made : goal.returns-clause-made
 returns-clause-made g c clean inside made =
@@ -9,4 +17,4 @@ returns-clause-made g c clean inside made =
     let one = c.in_ok-make_meta.ensures in
     let two = c.in_ok-make_account.ensures in
     let within = (one.goes.going first inside).1 in
-    c.make_item.ensures.made clean (two.goes.going second within).1 (two.made second within (one.made first inside made))
+    c.make_item.ensures.made clean (two.goes.going second within).1 (λ opened. two.made second within (λ opened. one.made first inside made))

@@ -2,10 +2,9 @@ use Rattle.std.proofs.Common.{[], ◌∷◌, refl}
 use Rattle.sqlite.specs.Held.{state}
 use Rattle.pid_rows.specs.Schema.{meta, account, item, submission}
 use Rattle.pid_tables.proofs.CreateTexts.{create_submission, submission_creates}
-use Rattle.pid_tables.proofs.CreateLemmas.{one_more}
-use Rattle.pid_rows.proofs.ShowLemmas.{on_ok}
+use Rattle.pid_tables.proofs.CreateLemmas.{made_one}
 use Rattle.pid_tables.proofs.creation.make_submission.Goals as goal
 
 pub returns-clause-made : goal.returns-clause-made
-returns-clause-made g c clean inside made =
-    on_ok c.write_one.result (λ ran. one_more (meta ∷ account ∷ item ∷ []) create_submission submission submission_creates refl (state g.S.Store c.args.tx.now.conn.now) (state g.S.Store c.write_one.new.tx.conn.now) ran.0 made ran.1) (c.write_one.ensures.ran clean inside)
+returns-clause-made g c =
+    made_one (meta ∷ account ∷ item ∷ []) create_submission submission c.write_one.result (state g.S.Store c.args.tx.now.conn.now) (state g.S.Store c.write_one.new.tx.conn.now) submission_creates refl c.write_one.ensures.goes c.write_one.ensures.ran c.write_one.ensures.untold
