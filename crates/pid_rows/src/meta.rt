@@ -1,5 +1,5 @@
 //! The table of counts.
-ghost use Rattle.std.specs.Prelude.{◌≡◌, false, Some, IsSome, length, option_map, slice_get, codes};
+ghost use Rattle.std.specs.Prelude.{◌≡◌, false, Some, IsSome, length, option_map, slice_get};
 ghost use Rattle.sqlite.specs.Held.{state};
 ghost use Rattle.pid_rows.specs.Leaves.{GoesOn, LeadsTo, OnlyReads, Tells};
 ghost use Rattle.pid_rows.specs.Answers.{value_row};

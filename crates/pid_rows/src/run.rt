@@ -9,7 +9,7 @@ ghost use Rattle.sqlite.specs.Held.{state, Held};
 ghost use Rattle.pid_rows.specs.Faults.{IsUntold};
 ghost use Rattle.pid_moderation.specs.Views.{Views};
 ghost use Rattle.pid_rows.specs.Causes.{IsCaused};
-ghost use Rattle.pid_rows.specs.Leaves.{AtRest, OnlyReads, GoesOn, Tells};
+ghost use Rattle.pid_rows.specs.Leaves.{AtRest, OnlyReads, GoesOn};
 ghost use Rattle.pid_rows.specs.Queries.{IsQuery, IsWriteAs};
 ghost use Rattle.pid_rows.specs.Schema.{pid_schema};
 

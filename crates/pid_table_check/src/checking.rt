@@ -128,6 +128,7 @@ fn check_whole<S: Alter>(conn: &mut Connection<S>, alloc: Global) -> Result<(), 
 pub fn check<S: Alter>(conn: &mut Connection<S>, alloc: Global) -> Result<(), TableFault>
     requires { (state S.Store conn.old).in_transaction ≡ false }
     ensures rests { OnlyReads (state S.Store conn.old) (state S.Store conn.new) }
+    ensures shut { HasCleanDisk (state S.Store conn.new) → (state S.Store conn.old).is_open ≡ false → MatchResult result (λ x. ⊥) IsUntold }
     ensures bare { HasCleanDisk (state S.Store conn.new) → HasNoTable (state S.Store conn.old).now.schema → IfErr result IsUntold }
     ensures lacking { HasCleanDisk (state S.Store conn.new) → LacksATable (state S.Store conn.old).now.schema → MatchResult result (λ x. ⊥) (ExplainsLack (state S.Store conn.old).now) }
     ensures told { HasCleanDisk (state S.Store conn.new) → (state S.Store conn.old).now.schema ≡ pid_schema → MatchResult result (λ x. IsRegistry (state S.Store conn.old).now.trees) (Explains (rows_in (state S.Store conn.old).now.trees)) }

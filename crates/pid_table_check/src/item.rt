@@ -1,11 +1,10 @@
 //! Items: each is a name at a path whose parent is there too, and there are at most 100,000.
-ghost use Rattle.std.specs.Prelude.{◌≡◌, ◌↔◌, ◌++◌, ◌∷◌, ℕ, List, [], true, Some, IsTrue, IfSome, IfNone, IfOk, IfErr, OnOk};
+ghost use Rattle.std.specs.Prelude.{◌≡◌, ◌↔◌, ◌++◌, ◌∷◌, List, [], true, Some, IsTrue, IfOk, IfErr, OnOk};
 ghost use Rattle.std.specs.List.{All};
 ghost use Rattle.std.specs.BTreeSet.{contains};
-ghost use Rattle.sqlite.specs.declared.types.Value.TheVariants.{Text as TextValue};
 ghost use Rattle.sqlite.specs.Held.{state};
-ghost use Rattle.sqlite.specs.Order.{column, Row as Values};
-ghost use Rattle.pid_ident.specs.PathTexts.{IsPath, path_text, path_cmp, parent_of};
+ghost use Rattle.sqlite.specs.Order.{Row as Values};
+ghost use Rattle.pid_ident.specs.PathTexts.{path_cmp, parent_of};
 ghost use Rattle.pid_rows.specs.Leaves.{GoesOn};
 ghost use Rattle.pid_table_check.specs.Conditions.{AreItems};
 ghost use Rattle.pid_table_check.specs.PathSets.{ArePathsOf, IsItemAmong};

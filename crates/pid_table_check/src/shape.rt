@@ -94,6 +94,7 @@ fn has_all<S: Alter>(conn: &mut Connection<S>, tables: &[Table]) -> Result<bool,
     ensures rests { OnlyReads (state S.Store conn.old) (state S.Store conn.new) }
     ensures same { HasCleanDisk (state S.Store conn.new) → IfOk result (λ all. (state S.Store conn.new).now ≡ (state S.Store conn.old).now) }
     ensures asked { HasCleanDisk (state S.Store conn.new) → IfOk result (λ all. IsTrue all ↔ All (λ t. IsAsked (state S.Store conn.old).now.schema (query_of t)) tables.now) }
+    ensures was_open { HasCleanDisk (state S.Store conn.new) → 0 < length tables.now → OnOk result (IsTrue (state S.Store conn.old).is_open) }
     ensures untold { IfErr result IsUntold }
 {
     for table in tables {
@@ -127,6 +128,7 @@ pub(crate) fn has_each_table<S: Alter>(conn: &mut Connection<S>) -> Result<bool,
     ensures rests { OnlyReads (state S.Store conn.old) (state S.Store conn.new) }
     ensures same { HasCleanDisk (state S.Store conn.new) → IfOk result (λ each. (state S.Store conn.new).now ≡ (state S.Store conn.old).now) }
     ensures asked { HasCleanDisk (state S.Store conn.new) → IfOk result (λ each. IsTrue each ↔ HasEachTable (state S.Store conn.old).now.schema) }
+    ensures was_open { HasCleanDisk (state S.Store conn.new) → OnOk result (IsTrue (state S.Store conn.old).is_open) }
     ensures untold { IfErr result IsUntold }
 {
     has_all(conn, &TABLES)
@@ -139,6 +141,7 @@ pub fn has_some_table<S: Alter>(conn: &mut Connection<S>) -> Result<bool, TableF
     ensures rests { OnlyReads (state S.Store conn.old) (state S.Store conn.new) }
     ensures same { HasCleanDisk (state S.Store conn.new) → IfOk result (λ some. (state S.Store conn.new).now ≡ (state S.Store conn.old).now) }
     ensures asked { HasCleanDisk (state S.Store conn.new) → IfOk result (λ some. IsTrue some ↔ HasSomeTable (state S.Store conn.old).now.schema) }
+    ensures was_open { HasCleanDisk (state S.Store conn.new) → OnOk result (IsTrue (state S.Store conn.old).is_open) }
     ensures untold { IfErr result IsUntold }
     ensures found { Tells (state S.Store conn.old) (state S.Store conn.new) result (λ v some. some ≡ true) }
 {

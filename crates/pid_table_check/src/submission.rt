@@ -1,6 +1,5 @@
 //! Submissions: each is one of an account, stands as it may, and they count from 1.
-ghost use Rattle.std.specs.Prelude.{◌≡◌, ◌≢◌, ◌≤◌, ◌↔◌, List, ℕ, true, length, IsTrue};
-ghost use Rattle.std.specs.List.{All};
+ghost use Rattle.std.specs.Prelude.{◌≡◌, ◌≢◌, ◌↔◌, List, ℕ, true, IsTrue};
 ghost use Rattle.sqlite.specs.declared.types.Value.TheVariants.{Text as TextValue};
 ghost use Rattle.sqlite.specs.Order.{column};
 ghost use Rattle.pid_moderation.specs.WellMade.{ProposesName};

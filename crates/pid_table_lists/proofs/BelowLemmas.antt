@@ -1,14 +1,11 @@
 -- The items below a path, by the ranges in which they stand.
-use Rattle.std.proofs.Common.{◌≡◌, ◌⊎◌, inl, inr, ℕ, List, [], ◌∷◌, ◌++◌, length, filter, codes, Bool, true, false, cond, Some, Ordering, Less, Equal, Greater, is_lt, refl, sym, ap, subst, ◌∙◌, arith, reverse, append-nil, append_assoc, Err}
-use Rattle.std.specs.Prelude.{option_map, ◌/◌, ◌%◌}
+use Rattle.std.proofs.Common.{◌≡◌, ◌⊎◌, inl, inr, ℕ, List, [], ◌∷◌, ◌++◌, length, filter, codes, Bool, true, false, cond, Some, Ordering, Less, Equal, Greater, is_lt, refl, sym, ap, subst, ◌∙◌, reverse, append-nil, append_assoc, Err}
+use Rattle.std.specs.Prelude.{option_map}
 use Rattle.std.specs.FinMap.Entries.{is_sorted, below_all}
 use Rattle.std.specs.Cmp.Lexicographic.{nat_list_cmp_total}
 use Rattle.std.proofs.lemmas.Bool.{and_parts, cases_Bool, false_from_ne_true}
 use Rattle.std.proofs.lemmas.List.{reverse-append, reverse-reverse}
 use Rattle.std.proofs.lemmas.List.Elements.{filter-append}
-use Rattle.std.proofs.lemmas.Slice.Eq.{bytes_eq-Decides}
-use Rattle.std.specs.Char.{digit_char}
-use Rattle.pid_ident.specs.Identifiers.{hex4, hex2}
 use Rattle.pid_reader.specs.LookingBack.{Item}
 use Rattle.pid_reader.specs.Sinks.{Took}
 use Rattle.sqlite.specs.State.{State}
@@ -26,7 +23,7 @@ use Rattle.pid_ident.specs.Trees.{text_cmp}
 use Rattle.pid_ident.specs.PathTexts.{path_text, parent_of}
 use Rattle.pid_ident.specs.declared.path.Path.{Path}
 use Rattle.pid_ident.specs.declared.path.Path.TheVariants.{Vendor, Device, Subsystem, Class, Subclass, ProgIf, Generic}
-use Rattle.pid_moderation.specs.Items.{Items, parent_text, is_parent}
+use Rattle.pid_moderation.specs.Items.{Items, parent_text}
 use Rattle.pid_moderation.specs.WellMade.{AllItems}
 use Rattle.pid_rows.specs.Ranges.{is_between, generics_of}
 use Rattle.pid_table_lists.specs.Children.{stands_below, children_of}

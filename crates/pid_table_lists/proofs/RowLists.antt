@@ -1,9 +1,8 @@
 -- Rows that are read one after the other.
-use Rattle.std.proofs.Common.{◌≡◌, inl, inr, ℕ, zero, suc, ◌+◌, ◌<◌, List, [], ◌∷◌, ◌++◌, length, map, take, get_or, true, Ok, Err, Result, MatchResult, refl, sym, subst, ap, ◌∙◌, arith, add-one}
+use Rattle.std.proofs.Common.{◌≡◌, inl, inr, ℕ, zero, suc, ◌+◌, ◌<◌, List, [], ◌∷◌, ◌++◌, length, map, take, get_or, Ok, Err, Result, MatchResult, refl, ap, ◌∙◌, arith, add-one}
 use Rattle.sqlite.specs.State.{State}
 use Rattle.pid_moderation.specs.Views.{Views}
 use Rattle.pid_rows.specs.declared.fault.TableFault.{TableFault}
-use Rattle.pid_rows.specs.declared.fault.TableFault.TheVariants.{Memory}
 use Rattle.pid_rows.specs.Causes.{IsCaused, IsReadable}
 use Rattle.pid_rows.specs.Unread.{IsUnread}
 use Rattle.pid_rows.proofs.UnreadLemmas.{caused_unread}

@@ -4,12 +4,10 @@ use Rattle.std.proofs.lemmas.List.{reverse-append, length-map}
 use Rattle.std.proofs.Math.Seq.{take-length}
 use Rattle.sqlite.specs.Order.{Row}
 use Rattle.sqlite.specs.Tree.{Trees}
-use Rattle.sqlite.specs.State.{State, HasCleanDisk, IsUnchanged, IsRolledBack, Survives, Fails, FailsToQuery, FailsToShow, IsNotRun, CommitsShowing, Shown}
+use Rattle.sqlite.specs.State.{State, HasCleanDisk, IsUnchanged, IsRolledBack, Survives, Fails, FailsToQuery, CommitsShowing, Shown}
 use Rattle.sqlite.specs.Held.{Held, state}
 use Rattle.sqlite.specs.Given.{HasGiven, HasBegun, IsRefused, FailsToAdvance}
 use Rattle.sqlite.specs.declared.error.Error.{Error}
-use Rattle.sqlite.specs.Clock.{timed}
-use Rattle.sqlite_schema.specs.declared.command.Returning.{Returning}
 use Rattle.sqlite.proofs.StateLemmas.{survives_then, survives_weaker}
 use Rattle.sqlite.proofs.Callers.{given_begin, unchanged_then}
 use Rattle.sqlite_trees.specs.declared.store.Store.{Ghosts}

@@ -232,7 +232,8 @@ fn at_the_top<S: Alter>(conn: &mut Connection<S>, alloc: Global) -> Result<Vec<I
     }
 }
 
-/// The items directly below a path, or without one those at the top.
+/// The items directly below a path, in the canonical order, which puts the generic subsystems of a vendor behind its devices.
+/// Without a path, the vendors and the classes: they have no range of their own, so all items are walked over.
 pub fn children<S: Alter>(
     conn: &mut Connection<S>,
     alloc: Global,

@@ -1,4 +1,4 @@
-//! Lists of what the tables of a registry hold, each by one statement.
+//! Lists of what the tables of a registry hold, each in its order.
 #![tactic(auto)]
 
 mod below;

@@ -69,7 +69,8 @@ fn page_of(rows: &[Row], alloc: Global) -> Result<Vec<Pending>, TableFault>
     Ok(page)
 }
 
-/// The pending submissions above a number, at most a page of them.
+/// The first pending submissions whose numbers are above a number, at most a page of them. Decided ones are passed over,
+/// row by row.
 pub fn pending_page<S: Alter>(
     conn: &mut Connection<S>,
     alloc: Global,

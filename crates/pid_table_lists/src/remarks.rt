@@ -1,5 +1,5 @@
 //! A submission with the remarks on it.
-ghost use Rattle.std.specs.Prelude.{◌≡◌, ◌∷◌, ◌++◌, [], ℕ, List, false, map, option_map, MatchResult};
+ghost use Rattle.std.specs.Prelude.{◌≡◌, ◌∷◌, ◌++◌, [], List, false, map, option_map, MatchResult};
 ghost use Rattle.std.specs.List.{AllByRecursion};
 ghost use Rattle.sqlite.specs.Held.{state};
 ghost use Rattle.pid_moderation.specs.Views.{Remark};
@@ -71,7 +71,7 @@ fn comments<S: Alter>(
     comments_of(rows.as_slice(), alloc)
 }
 
-/// The submission with the number, as it stands, and the remarks on it.
+/// The submission with the number, as it stands, and the remarks on it in their order. None where there is none.
 pub fn discussed<S: Alter>(
     conn: &mut Connection<S>,
     alloc: Global,

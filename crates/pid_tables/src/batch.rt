@@ -1,16 +1,16 @@
 //! One transaction on the tables, which writes a whole change.
-ghost use Rattle.std.specs.Prelude.{◌≡◌, ◌+◌, ℕ, true, false, length, is_none, is_some, IsSome, IsTrue, IfOk, IfErr, OnOk, OnErr, MatchResult};
+ghost use Rattle.std.specs.Prelude.{◌≡◌, ◌+◌, true, false, length, is_none, IsSome, IsTrue, IfOk, IfErr, OnOk, OnErr, MatchResult};
 ghost use Rattle.sqlite.specs.Held.{state as shown};
 ghost use Rattle.sqlite.specs.State.{HasCleanDisk, Survives};
 ghost use Rattle.pid_ident.specs.PathTexts.{path_text};
 ghost use Rattle.pid_moderation.specs.Items.{name_at};
 ghost use Rattle.pid_moderation.specs.Views.{Views, submission_at};
-ghost use Rattle.pid_moderation.specs.Changes.{edited, affected, changed, write as written, FitsEdit, FitsEffect, FitsWrite, FitsReceipt, keeping, Fits};
+ghost use Rattle.pid_moderation.specs.Changes.{edited, affected, changed, write as written, FitsEdit, FitsEffect, FitsWrite, Fits};
 ghost use Rattle.pid_rows.specs.Causes.{IsCaused};
 ghost use Rattle.pid_rows.specs.Faults.{IsUntold};
 ghost use Rattle.pid_rows.specs.Shows.{Counts, ShowsCounting, Shows, counts_of};
 ghost use Rattle.pid_rows.specs.Leaves.{AtRest, Holds, Within, Written, LeavesEither, GoesOn, LeadsTo};
-ghost use Rattle.pid_rows.specs.Writes.{with_rank, with_name, with_submission, with_state};
+ghost use Rattle.pid_rows.specs.Writes.{with_rank, with_name, with_submission};
 ghost use Rattle.pid_tables.specs.Puts.{put_over};
 ghost use Rattle.pid_tables.specs.Applies.{IsCounted, recounted};
 

@@ -1,5 +1,5 @@
 //! The tables of a registry, over a connection.
-ghost use Rattle.std.specs.Prelude.{◌≡◌, ◌↔◌, [], false, length, map, IfOk, IsTrue, option_map, IfErr, MatchResult};
+ghost use Rattle.std.specs.Prelude.{◌≡◌, [], false, length, map, IfOk, IsTrue, option_map, IfErr, MatchResult, OnOk};
 ghost use Rattle.sqlite.specs.Held.{state};
 ghost use Rattle.sqlite.specs.State.{HasCleanDisk};
 ghost use Rattle.sqlite.specs.Steps.{over_memory};
@@ -193,6 +193,7 @@ impl<S: Alter + Drop> Tables<S> {
     pub fn check(&mut self, alloc: Global) -> Result<(), TableFault>
         requires { (state S.Store self.old.conn).in_transaction ≡ false }
         ensures rests { OnlyReads (state S.Store self.old.conn) (state S.Store self.new.conn) }
+        ensures shut { HasCleanDisk (state S.Store self.new.conn) → (state S.Store self.old.conn).is_open ≡ false → MatchResult result (λ x. ⊥) IsUntold }
         ensures bare { HasCleanDisk (state S.Store self.new.conn) → HasNoTable (state S.Store self.old.conn).now.schema → IfErr result IsUntold }
         ensures lacking { HasCleanDisk (state S.Store self.new.conn) → LacksATable (state S.Store self.old.conn).now.schema → MatchResult result (λ x. ⊥) (ExplainsLack (state S.Store self.old.conn).now) }
         ensures told { HasCleanDisk (state S.Store self.new.conn) → (state S.Store self.old.conn).now.schema ≡ pid_schema → MatchResult result (λ x. IsRegistry (state S.Store self.old.conn).now.trees) (Explains (rows_in (state S.Store self.old.conn).now.trees)) }
@@ -205,6 +206,7 @@ impl<S: Alter + Drop> Tables<S> {
         requires { (state S.Store self.old.conn).in_transaction ≡ false }
         ensures rests { OnlyReads (state S.Store self.old.conn) (state S.Store self.new.conn) }
         ensures told { Tells (state S.Store self.old.conn) (state S.Store self.new.conn) result (λ v n. n ≡ 1) }
+        ensures was_open { HasCleanDisk (state S.Store self.new.conn) → OnOk result (IsTrue (state S.Store self.old.conn).is_open) }
         ensures none { HasCleanDisk (state S.Store self.new.conn) → HasNoTable (state S.Store self.old.conn).now.schema → MatchResult result (λ n. n ≡ 0) IsUntold }
     {
         if has_some_table(&mut self.conn)? {

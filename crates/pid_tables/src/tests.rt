@@ -152,9 +152,14 @@ fn judged(tables: &mut Tables<MemStore>, alloc: Global) -> Result<u32, TableFaul
     tables.version()
 }
 
-// What is judged of a database without tables, and of the new registry in it.
+// What is judged of a database without a table of a registry, and of the new registry in it.
 fn made_anew(alloc: Global) -> Result<(u32, u32), TableFault> {
-    let mut tables = Tables::new(Connection::open_in_memory(alloc)?);
+    let mut conn = Connection::open_in_memory(alloc)?;
+    conn.execute("CREATE TABLE note (body TEXT)", &[])?;
+    let mut tables = Tables::new(conn);
+    if !tables.conn.is_autocommit() {
+        return Err(TableFault::Store);
+    }
     let bare = judged(&mut tables, alloc)?;
     if !tables.conn.is_autocommit() {
         return Err(TableFault::Store);

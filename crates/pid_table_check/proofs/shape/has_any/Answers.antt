@@ -15,9 +15,12 @@ loop-table-preserved g c =
     let a = state g.S.Store c.args.conn.now in
     let b = state g.S.Store c.loop-table.conn in
     let d = state g.S.Store c.can_ask.new.conn in
-    let rests = c.in_ok-can_ask.ensures.rests in
-    (same_then a b d c.loop-table.invariant.0 rests c.in_ok-can_ask.ensures.same, none_yet a b d c.args.tables.now c.loop-table.table-index _ c.query.result.now c.query.ensures c.in_ok-can_ask.field-0 c.loop-table-test.true c.loop-table.invariant.0 rests c.in_ok-can_ask.ensures.asked c.if-branch.false c.loop-table.invariant.1,
-        λ zero. absurd (omega (arith, zero)), λ clean more. still_open g.S.Store c.args.conn.now c.loop-table.conn d c.loop-table.table-index rests c.loop-table.invariant.2 c.loop-table.invariant.3 (c.in_ok-can_ask.ensures.was_open clean) clean)
+    let rests = c.in_ok-can_ask.ensures.rests in (
+      same_then a b d c.loop-table.invariant.0 rests c.in_ok-can_ask.ensures.same,
+      none_yet a b d c.args.tables.now c.loop-table.table-index _ c.query.result.now c.query.ensures c.in_ok-can_ask.field-0 c.loop-table-test.true c.loop-table.invariant.0 rests c.in_ok-can_ask.ensures.asked c.if-branch.false c.loop-table.invariant.1,
+      λ zero. absurd (omega (arith, zero)),
+      λ clean more. still_open g.S.Store c.args.conn.now c.loop-table.conn d c.loop-table.table-index rests c.loop-table.invariant.2 c.loop-table.invariant.3 (c.in_ok-can_ask.ensures.was_open clean) clean,
+    )
 
 pub returns-then-branch-clause-was_open : goal.returns-then-branch-clause-was_open
 returns-then-branch-clause-was_open g c clean some =
