@@ -220,6 +220,7 @@ impl<S: Alter + Drop> Tables<S> {
 /// A new registry in memory.
 pub fn new_in_memory(alloc: Global) -> Result<Tables<MemStore>, TableFault>
     ensures settled { IfOk result (λ tables. tables.conn.in_transaction ≡ false) }
+    ensures untold { IfErr result IsUntold }
     ensures made { IfOk result (λ tables. AtRest (state over_memory tables.conn) (views_of [])) }
 {
     let mut conn = Connection::open_in_memory(alloc)?;
