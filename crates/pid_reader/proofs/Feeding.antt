@@ -10,7 +10,7 @@ use Rattle.pid_reader.specs.Lines.{lines_of, drop_cr}
 use Rattle.std.specs.FinMap.{empty, insert, from_entries}
 use Rattle.pid_ident.specs.Trees.{TreeMap}
 use Rattle.pid_reader.specs.declared.tree_sink.TreeSink.{TreeSink}
-use Rattle.pid_reader.specs.TreeSinks.{SetsItem}
+use Rattle.pid_reader.specs.TreeSinks.{SetsItem, tree_so_far}
 use Rattle.pid_reader.specs.Reading.{Reads, AreGood, refused, refused_from, refused_at, or_else, read_from, entries_of, refusal_of}
 use Rattle.pid_reader.specs.Faults.{fault_of}
 use Rattle.pid_reader.specs.LookingBack.{entries_back, entry_of, Item}
@@ -177,8 +177,8 @@ extended (Err x) v a b h e = absurd (true≢false e)
 pub good_at : (earlier : List (List ℕ)) (line : List ℕ) → refusal_at earlier line ≡ None → fault_of earlier line ≡ None
 good_at earlier line h = elim (fault_of earlier line) as (λ o. refused_at earlier line o ≡ None → o ≡ None) [ None ↦ λ _. refl | Some k ↦ λ e. absurd (true≢false (ap is_some e)) ] h
 
-pub took_tree : (start sink : TreeSink) (items : List Item) → start.tree ≡ empty → Took SetsItem start items sink → sink.tree ≡ from_entries items
-took_tree start sink [] none t = ap (λ (s : TreeSink). s.tree) t ∙ none
+pub took_tree : (start sink : TreeSink) (items : List Item) → tree_so_far start ≡ empty → Took SetsItem start items sink → tree_so_far sink ≡ from_entries items
+took_tree start sink [] none t = ap (λ (s : TreeSink). tree_so_far s) t ∙ none
 took_tree start sink (x ∷ xs) none t = t.2 ∙ ap (λ (m : TreeMap). insert m x.0 x.1) (took_tree start t.0 xs none t.1)
 
 -- what a text reads to, once nothing of it is refused
@@ -188,7 +188,7 @@ good_lines earlier (x ∷ xs) good h =
     let p = good_cases (refusal_at earlier x) (refused_from (x ∷ earlier) xs) h in
     good_lines (x ∷ earlier) xs (good_at earlier x p.0, good) p.1
 
-pub Reads-from_sink : (text : List ℕ) (start sink : TreeSink) → start.tree ≡ empty → (refused text ≡ None) × Took SetsItem start (entries_of (lines_of text)) sink → Reads text sink.tree
+pub Reads-from_sink : (text : List ℕ) (start sink : TreeSink) → tree_so_far start ≡ empty → (refused text ≡ None) × Took SetsItem start (entries_of (lines_of text)) sink → Reads text (tree_so_far sink)
 Reads-from_sink text start sink none h = record {
   good = good_lines [] (lines_of text) tt h.0;
   tree = took_tree start sink (entries_of (lines_of text)) none h.1 ∙ ap from_entries (entries-good (lines_of text) h.0);

@@ -19,3 +19,4 @@ pub mod NoMissing
 pub mod Counting
 pub mod LinesTold
 pub mod LookingBack
+mod Rising

@@ -21,7 +21,7 @@ use Rattle.pid_reader.specs.Reading.{AreGood, refusal_of}
 use Rattle.pid_reader.specs.WholeLines.{whole_lines}
 use Rattle.pid_reader.specs.Sinks.{FaultedAt, Ends}
 use Rattle.pid_reader.specs.Cutters.{Holds}
-use Rattle.pid_reader.specs.TreeSinks.{SetsItem, IsTreeFault}
+use Rattle.pid_reader.specs.TreeSinks.{SetsItem, IsTreeFault, tree_so_far}
 use Rattle.pid_reader.specs.Feeders.{Feeds, IsTreeEnd}
 use Rattle.pid_reader.proofs.Clean.{IsToldBy}
 use Rattle.pid_reader.proofs.ReadTrees.{kept, parent_text, to_text, from_text}
@@ -67,19 +67,19 @@ parent_there earlier line item p t good fault entry tree path lacks =
     let text : IfSome (parent_text (path_text p)) (IsToldBy earlier) = subst (λ (l : List ℕ). IfSome (parent_text l) (IsToldBy earlier)) same (to_text earlier k.p k.parent) in
     not_lacking (parent_of p) t earlier (λ q. ap (λ (m : TreeMap). get m q) tree ∙ get-from_entries nat_list_cmp_total (entries_back earlier) q) (from_text earlier p text) lacks
 
-pub never_missing : (start new : TreeSink) (lines : List (List ℕ)) → start.tree ≡ empty → FaultedAt SetsItem (λ s item f t. IsTreeFault s.tree item.0 f) start lines ParentMissing new → ⊥
+pub never_missing : (start new : TreeSink) (lines : List (List ℕ)) → tree_so_far start ≡ empty → FaultedAt SetsItem (λ s item f t. IsTreeFault (tree_so_far s) item.0 f) start lines ParentMissing new → ⊥
 never_missing start new lines none (front, line, behind, item, between, lines_are, ok, entry, took, missing) =
     let good = good_front front line ok in
-    parent_there (reverse front) line item missing.0 between.tree (good_lines [] front tt good.0) (good_at (reverse front) line good.1) entry
+    parent_there (reverse front) line item missing.0 (tree_so_far between) (good_lines [] front tt good.0) (good_at (reverse front) line good.1) entry
     (took_tree start between _ none took ∙ ap from_entries (entries-good front good.0)) missing.1 missing.2
 
-pub tree_ends : (r : Result (Unit {0}) (CutEnd TreeFault)) (start new : TreeSink) (lines : List (List ℕ)) → start.tree ≡ empty → Ends {X = Unit {0}} SetsItem (λ s item f t. IsTreeFault s.tree item.0 f) r start lines new → IfErr r (λ e. IsTreeEnd e (refusal_of lines))
+pub tree_ends : (r : Result (Unit {0}) (CutEnd TreeFault)) (start new : TreeSink) (lines : List (List ℕ)) → tree_so_far start ≡ empty → Ends {X = Unit {0}} SetsItem (λ s item f t. IsTreeFault (tree_so_far s) item.0 f) r start lines new → IfErr r (λ e. IsTreeEnd e (refusal_of lines))
 tree_ends (Ok x) start new lines none ends = tt
 tree_ends (Err (Refused r)) start new lines none (inl is) = inr is.0
 tree_ends (Err (Refused r)) start new lines none (inr is) = inl is.0
 tree_ends (Err (Fault ParentMissing)) start new lines none ends = never_missing start new lines none ends
 tree_ends (Err (Fault Memory)) start new lines none ends = tt
 
-pub tree_feeds : (r : Result (Unit {0}) (CutEnd TreeFault)) (f g : Feeder) (text piece : List ℕ) (h : Feeds f text) → OnOk r (Holds g.cutter (text ++ piece)) → Ends {X = Unit {0}} SetsItem (λ s item e t. IsTreeFault s.tree item.0 e) r h.start (whole_lines (text ++ piece)) g.sink → OnOk r (Feeds g (text ++ piece) × (refusal_of (whole_lines (text ++ piece)) ≡ None))
+pub tree_feeds : (r : Result (Unit {0}) (CutEnd TreeFault)) (f g : Feeder) (text piece : List ℕ) (h : Feeds f text) → OnOk r (Holds g.cutter (text ++ piece)) → Ends {X = Unit {0}} SetsItem (λ s item e t. IsTreeFault (tree_so_far s) item.0 e) r h.start (whole_lines (text ++ piece)) g.sink → OnOk r (Feeds g (text ++ piece) × (refusal_of (whole_lines (text ++ piece)) ≡ None))
 tree_feeds (Ok x) f g text piece h holds ends = (record { holds = holds; start = h.start; empty_tree = h.empty_tree; took = ends.1 }, ends.0)
 tree_feeds (Err e) f g text piece h holds ends = tt

@@ -25,7 +25,8 @@ use Rattle.pid_reader.specs.Faults.{has, fault_of, line_fault_of}
 use Rattle.pid_reader.specs.Reading.{refused_at, ENTRIES}
 use Rattle.pid_reader.specs.OpenLevels.{IsOpenAt}
 use Rattle.pid_reader.specs.Refusals.{refusal_at}
-use Rattle.pid_reader.specs.Progress.{IsShown, has_path}
+use Rattle.pid_reader.specs.Progress.{IsShown}
+use Rattle.pid_reader.specs.SeenPaths.{has_path, IsOneMore}
 
 abbrev pub or_kind : Option LineKind → Option LineKind → Option LineKind
 or_kind (Some k) o = Some k
@@ -172,10 +173,6 @@ many_refused now seen lines earlier line name p shown own entry block absent man
     let e = an_entry earlier line (path_text p) name entry in
     let full : leb ENTRIES (length (entries_back earlier)) ≡ true = subst (λ n. leb 100000 n ≡ true) shown.count (is_full (length seen) many) in
     ap (refused_at earlier line) (new_good now seen lines earlier line name p shown own entry block absent) ∙ (λ i. cond (e.is_one i && full i) (Some TooManyEntries) None)
-
--- the set with one more path
-abbrev pub IsOneMore : List Path → Path → List Path → Type 0
-IsOneMore old p new = (q : Path) → has_path new q ≡ cond (is_eq (path_cmp p q)) true (has_path old q)
 
 path_symm : (p q : Path) → is_eq (path_cmp p q) ≡ is_eq (path_cmp q p)
 path_symm p q = (eq_by_cmp_equiv (on_total path_text nat_list_cmp_total)).symm p q

@@ -13,13 +13,13 @@ use Rattle.pid_reader.specs.WholeLines.{whole_lines}
 use Rattle.pid_reader.specs.Refusals.{IsRefusal}
 use Rattle.pid_reader.specs.Sinks.{Took}
 use Rattle.pid_reader.specs.Cutters.{Holds, IsStopped}
-use Rattle.pid_reader.specs.TreeSinks.{SetsItem}
+use Rattle.pid_reader.specs.TreeSinks.{SetsItem, tree_so_far}
 
 -- the feeder was fed this text, whose whole lines weren't refused
 pub record Feeds (f : Feeder) (text : List ℕ) : Type 0 where
   pub holds : Holds f.cutter text
   pub start : TreeSink
-  pub empty_tree : start.tree ≡ empty
+  pub empty_tree : tree_so_far start ≡ empty
   pub took : Took SetsItem start (entries_of (whole_lines text)) f.sink
 
 -- the feeder gives this refusal ever after

@@ -10,6 +10,7 @@ pub mod OpenLevels
 pub mod WholeLines
 pub mod Refusals
 pub mod Progress
+pub mod SeenPaths
 pub mod Sinks
 pub mod Cutters
 pub mod TreeSinks

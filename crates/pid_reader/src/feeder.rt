@@ -72,7 +72,10 @@ impl Feeder {
     {
         let Feeder { cutter, mut sink } = self;
         match cutter.finish(&mut sink) {
-            Ok(()) => Ok(sink.into_tree()),
+            Ok(()) => match sink.into_tree() {
+                Ok(tree) => Ok(tree),
+                Err(_) => Err(ReadRefusal::Memory),
+            },
             Err(CutEnd::Refused(refusal)) => Err(refusal),
             Err(CutEnd::Fault(_)) => Err(ReadRefusal::Memory),
         }

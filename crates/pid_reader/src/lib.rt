@@ -14,6 +14,7 @@ mod open_levels;
 mod pieces;
 mod progress;
 mod refusal;
+mod seen;
 mod sink;
 #[cfg(test)]
 mod tests;

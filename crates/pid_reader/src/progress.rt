@@ -4,14 +4,14 @@ ghost use Rattle.pid_ident.specs.Words.{is_name};
 ghost use Rattle.pid_reader.specs.LookingBack.{entry_of};
 ghost use Rattle.pid_reader.specs.OpenLevels.{Says, IsNamed, open_behind};
 ghost use Rattle.pid_reader.specs.Refusals.{refusal_at, IsRefusal};
-ghost use Rattle.pid_reader.specs.Progress.{Shows, given, has_path};
+ghost use Rattle.pid_reader.specs.Progress.{Shows, given};
 
 use crate::open_levels::{OpenLevels, Said, read_line};
 use crate::refusal::ReadRefusal;
+use crate::seen::Seen;
 use crate::sink::Entry;
 use pid_ident::{LineKind, Path};
 use std::alloc::Global;
-use std::collections::BTreeSet;
 
 // How many entries a text may have: a choice of this project.
 const ENTRIES: usize = 100_000;
@@ -21,7 +21,7 @@ const ENTRIES: usize = 100_000;
 pub struct Progress {
     pub levels: OpenLevels,
     pub lines: usize,
-    pub seen: BTreeSet<Path>,
+    pub seen: Seen,
 }
 
 impl Progress {
@@ -31,7 +31,7 @@ impl Progress {
         Progress {
             levels: OpenLevels::Nothing,
             lines: 0,
-            seen: BTreeSet::new(alloc),
+            seen: Seen::new(alloc),
         }
     }
 

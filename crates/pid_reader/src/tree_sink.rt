@@ -1,9 +1,11 @@
 //! Entries into a tree.
-ghost use Rattle.std.specs.Prelude.{◌≡◌};
+ghost use Rattle.std.specs.Prelude.{◌≡◌, IfOk, IsErrOf};
 ghost use Rattle.std.specs.FinMap.{empty};
+ghost use Rattle.pid_ident.specs.Trees.{IsTree};
+ghost use Rattle.pid_reader.specs.TreeSinks.{tree_so_far};
 
 use crate::sink::{Entry, Sink};
-use pid_ident::Name;
+use pid_ident::{Name, Path};
 use pid_tree::{Tree, TreeRefusal};
 use std::alloc::Global;
 
@@ -14,27 +16,32 @@ pub enum TreeFault {
     Memory,
 }
 
-/// Sets the names of a tree.
+/// Keeps the names of a tree, which is built at the end.
 #[derive(Drop)]
 pub struct TreeSink {
-    pub tree: Tree,
+    pub items: Vec<(Path, Name)>,
     alloc: Global,
 }
 
 impl TreeSink {
     pub fn new(alloc: Global) -> TreeSink
-        ensures { result.tree ≡ empty }
+        ensures { tree_so_far result ≡ empty }
     {
         TreeSink {
-            tree: Tree::new(alloc),
+            items: Vec::new(alloc),
             alloc,
         }
     }
 
-    pub fn into_tree(self) -> Tree
-        ensures { result ≡ self.tree }
+    pub fn into_tree(self) -> Result<Tree, TreeFault>
+        ensures ok { IfOk result (λ t. t ≡ tree_so_far self) }
+        ensures parent_missing { IsErrOf result TreeFault.ParentMissing → IsTree (tree_so_far self) → ⊥ }
     {
-        self.tree
+        match Tree::of_items(self.alloc, self.items) {
+            Ok(tree) => Ok(tree),
+            Err(TreeRefusal::ParentMissing) => Err(TreeFault::ParentMissing),
+            Err(_) => Err(TreeFault::Memory),
+        }
     }
 }
 
@@ -45,16 +52,15 @@ impl Sink for TreeSink {
 
     ghost takes = { SetsItem };
 
-    ghost faults = { λ s item f t. IsTreeFault s.tree item.0 f };
+    ghost faults = { λ s item f t. IsTreeFault (tree_so_far s) item.0 f };
 
     fn entry(&mut self, entry: &Entry<'_>) -> Result<(), TreeFault> {
         let Ok(name) = Name::of(self.alloc, entry.name) else {
             return Err(TreeFault::Memory);
         };
-        match self.tree.set(entry.path, name) {
-            Ok(()) => Ok(()),
-            Err(TreeRefusal::ParentMissing) => Err(TreeFault::ParentMissing),
-            Err(_) => Err(TreeFault::Memory),
+        if self.items.push((entry.path, name)).is_err() {
+            return Err(TreeFault::Memory);
         }
+        Ok(())
     }
 }

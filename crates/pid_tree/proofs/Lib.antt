@@ -5,3 +5,4 @@ pub mod Childless
 pub mod Removed
 pub mod Written
 mod Rows
+mod WholeLemmas

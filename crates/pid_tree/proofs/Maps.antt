@@ -23,7 +23,7 @@ use Rattle.pid_tree.proofs.Kin.{same_path}
 pub same_texts : (a b : List ℕ) → text_cmp a b ≡ Equal → a ≡ b
 same_texts = slice_cmp-IsAntisymmetric nat_cmp-IsAntisymmetric
 
-value-texts : (es : List (Path × List ℕ)) (q : Path) → value_at text_cmp (path_text q) (map item_of es) ≡ lookup (λ k. is_eq (path_cmp q k)) es
+pub value-texts : (es : List (Path × List ℕ)) (q : Path) → value_at text_cmp (path_text q) (map item_of es) ≡ lookup (λ k. is_eq (path_cmp q k)) es
 value-texts [] q = refl
 value-texts (e ∷ es) q = ap (cond (is_eq (path_cmp q e.0)) (Some e.1)) (value-texts es q)
 
@@ -86,7 +86,7 @@ there : (t : TreeMap) (o : Option Path) → (IsSomeAnd o (λ r. IsNone (get t (p
 there t None h = tt
 there t (Some r) h = some_or_none (get t (path_text r)) h
 
-if_some_weaker : {A : Type 0} (o : Option A) (P Q : A → Type 0) → ((x : A) → P x → Q x) → IfSome o P → IfSome o Q
+pub if_some_weaker : {A : Type 0} (o : Option A) (P Q : A → Type 0) → ((x : A) → P x → Q x) → IfSome o P → IfSome o Q
 if_some_weaker None P Q f h = tt
 if_some_weaker (Some x) P Q f h = f x h
 

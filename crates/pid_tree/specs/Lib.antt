@@ -2,3 +2,4 @@ pub mod Items
 pub mod Parents
 pub mod Between
 pub mod Printing
+pub mod Whole

@@ -5,6 +5,7 @@ mod print;
 #[cfg(test)]
 mod tests;
 mod tree;
+mod whole;
 
 pub use print::{
     opened_block, write_behind, write_block, write_canonical, write_header, write_item,

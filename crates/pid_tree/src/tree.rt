@@ -1,14 +1,15 @@
 //! A map from paths to names that holds the parent of each of its paths.
-ghost use Rattle.std.specs.Prelude.{◌≡◌, ◌≢◌, ◌↔◌, Err, Some, false, IsTrue, IsNone, OnOk, OnErr, IsErrOf, map};
+ghost use Rattle.std.specs.Prelude.{◌≡◌, ◌≢◌, ◌↔◌, Err, Some, false, IsTrue, IsNone, IfOk, OnOk, OnErr, IsErrOf, map, reverse};
 ghost use Rattle.std.specs.BTreeMap.Range.{IsLeBy, IsInRange};
 ghost use Rattle.std.specs.FinMap as finite;
 ghost use Rattle.std.specs.Option.{option_copied};
 ghost use Rattle.pid_ident.specs.PathTexts.{path_text, path_cmp, parent_of, IsPath};
 ghost use Rattle.pid_ident.specs.Trees.{IsTree};
-ghost use Rattle.pid_tree.specs.Items.{item_of};
+ghost use Rattle.pid_tree.specs.Items.{item_of, tree_of};
 ghost use Rattle.pid_tree.specs.Parents.{LacksParent, HasChild};
 ghost use Rattle.pid_tree.specs.Between.{HasNoneBetween};
 
+use crate::whole::is_whole;
 use pid_ident::{Id8, Id16, Name, Path};
 use std::alloc::Global;
 use std::collections::BTreeMap;
@@ -58,6 +59,22 @@ impl Tree {
         Tree {
             items: BTreeMap::new(alloc),
         }
+    }
+
+    /// The tree of these items, built in one pass where they come in order. Of items with one path the last stays.
+    pub fn of_items(alloc: Global, items: Vec<(Path, Name)>) -> Result<Tree, TreeRefusal>
+        ensures ok { IfOk result (λ t. t ≡ tree_of (reverse items.items)) }
+        ensures parent_missing { IsErrOf result TreeRefusal.ParentMissing → IsTree (tree_of (reverse items.items)) → ⊥ }
+        ensures no_has_children { result ≢ Err TreeRefusal.HasChildren }
+        ensures no_absent { result ≢ Err TreeRefusal.Absent }
+    {
+        let Ok(items) = BTreeMap::from_iter(alloc, items) else {
+            return Err(TreeRefusal::Memory);
+        };
+        if !is_whole(&items) {
+            return Err(TreeRefusal::ParentMissing);
+        }
+        Ok(Tree { items })
     }
 
     /// How many items there are.
