@@ -1,5 +1,5 @@
 -- What a reader or a writer for tests does that is made to fail behind some calls: how many calls are still good, `None`
--- where none fails. A choice of this project.
+-- where none fails.
 use Rattle.std.specs.Prelude.{ℕ, zero, suc, Bool, true, false, Option, Some, None}
 
 -- whether the next call fails: a fault is kept, or no good call is left

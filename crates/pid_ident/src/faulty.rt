@@ -114,6 +114,7 @@ fn is_spent(good_calls: &mut Option<u64>) -> bool
 }
 
 /// A writer that keeps what it takes, for tests: each call takes at most some bytes, and from one call on each fails.
+/// Where it has no memory for the bytes, that is the fault `Device`.
 #[derive(Drop)]
 pub struct FaultyOutput {
     /// The bytes that were taken.

@@ -10,7 +10,8 @@ use std::io::{ErrorKind, Read, Write};
 
 /// A reader or a writer of std, with the fault that it gave.
 ///
-/// A call that a signal interrupts is made again, and counts as one.
+/// A call that a signal interrupts is made again, and counts as one. Every other error is the fault `Device`, and a
+/// write that takes none of some bytes is the fault `Zero`.
 #[derive(Drop)]
 pub struct Plain<T> {
     inner: T,
