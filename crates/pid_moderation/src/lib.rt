@@ -30,6 +30,3 @@ pub use refusal::{FileFault, Refusal};
 pub use reply_lines::reply_line;
 pub use verb::Verb;
 pub use wants::{Rows, needs};
-
-#[cfg(test)]
-mod tests;

@@ -10,6 +10,3 @@ mod verdict;
 
 pub use past::FileReading;
 pub use registry::PlainRegistry;
-
-#[cfg(test)]
-mod tests;
