@@ -10,6 +10,7 @@ mod fields;
 mod find;
 mod flags;
 mod ide;
+pub mod laws;
 mod layout;
 mod names;
 mod tree_names;

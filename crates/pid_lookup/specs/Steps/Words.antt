@@ -1,3 +1,4 @@
+-- Serves private functions alone; no promise rests on it.
 -- Words that grow one by one.
 use Rattle.std.specs.Prelude.{ℕ, Bool, true, false, List, [], ◌∷◌, ◌++◌}
 

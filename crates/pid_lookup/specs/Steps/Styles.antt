@@ -1,3 +1,4 @@
+-- Serves private functions alone; no promise rests on it.
 -- What each style switches on.
 use Rattle.std.specs.Prelude.{true, false}
 use Rattle.pid_lookup.specs.Flags.{Switches}
