@@ -21,6 +21,3 @@ pub use args::Args;
 pub use fields::{BadField, args_of};
 pub use names::Names;
 pub use tree_names::TreeNames;
-
-#[cfg(test)]
-mod tests;

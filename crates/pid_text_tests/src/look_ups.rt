@@ -1,11 +1,6 @@
 //! Worked look-ups over trees, every request in every style, cuts, bad fields, and a holder that fails.
-use crate::answer::Answer;
-use crate::answering::{LookupRefusal, lookup};
-use crate::args::Args;
-use crate::fields::args_of;
-use crate::names::Names;
-use crate::tree_names::TreeNames;
 use pid_ident::{Name, Path};
+use pid_lookup::{Answer, Args, LookupRefusal, Names, TreeNames, args_of, lookup};
 use pid_tree::Tree;
 use std::alloc::Global;
 use std::process::Abort;
@@ -374,6 +369,35 @@ fn cuts_to_each_size(rt: HostRuntime) -> Result<(), Fail> {
         return Err(Fail::from("a text"));
     };
     assert_eq!(rt; text.into_bytes().as_slice(), b"Soci\xc3...".as_slice());
+    Ok(())
+}
+
+// What buffers hold of a name of 1,000 bytes: whole where its closing 0 byte fits too, and no buffer is larger than its text.
+#[test]
+fn fits_long_names_and_large_buffers(rt: HostRuntime) -> Result<(), Fail> {
+    let alloc = rt.alloc();
+    let longest = "a".repeat(alloc, 1000)?;
+    let tree = made(alloc, &[("PC/8086", longest.as_str())])?;
+    for (size, length) in [
+        (4, 3),
+        (999, 998),
+        (1000, 999),
+        (1001, 1000),
+        (1024, 1000),
+        (65_535, 1000),
+        (65_536, 1000),
+        (999_999_999, 1000),
+        (u32::MAX, 1000),
+    ] {
+        let Answer::Text(text) = lookup(alloc, &mut TreeNames::new(&tree), 1, &KNOWN, size)? else {
+            return Err(Fail::from("a text"));
+        };
+        let bytes = text.into_bytes();
+        assert_eq!(rt; bytes.len(), length, "at {size}");
+        assert!(rt; bytes.capacity() <= 1024, "at {size}");
+        let is_whole = bytes.as_slice() == longest.as_str().as_bytes();
+        assert_eq!(rt; is_whole, length == 1000, "at {size}");
+    }
     Ok(())
 }
 
