@@ -2,3 +2,4 @@ pub mod PathOrder
 pub mod Parsing
 pub mod WordTests
 pub mod SendingLemmas
+pub mod PathReadingLemmas

@@ -1,5 +1,6 @@
 //! Readers and writers that keep their faults.
 ghost use Rattle.std.specs.Prelude.{◌≡◌, ℕ, ◌+◌, ◌-◌, ◌^◌, ◌<◌, ◌≤◌, min, length, List, Option, None, Some, IfOk, IfErr, IfSome, MatchResult, OnOk, drop};
+ghost use Rattle.std.specs.List.{flat_map};
 ghost use Rattle.std.specs.Io.KnownBytes.{ReadConsumes, WriteAppends, Appends, Keeps};
 ghost use Rattle.pid_ident.specs.Sending.{Sends};
 
@@ -34,13 +35,27 @@ pub trait Input {
     /// How many reads were made, up to the greatest count.
     ghost reads: { Self → ℕ };
 
+    /// What calls of `read`, however many, may make of a reader: the reader before them, and the reader after.
+    ///
+    /// Each function that is given `&mut I` for any reader `I` ensures `I.goes` of what it was given and what it
+    /// leaves. So a caller who lends a reader of a kind that it knows learns what it has back: one that gives at most
+    /// some bytes of another reader, for instance, is still over that other one, and used no more of it than it may.
+    ghost goes: { Self → Self → Type 0 };
+
     /// Reads some bytes. None into a buffer with room is the end.
     fn read(&mut self, buffer: &mut [u8]) -> Result<usize, ReadFault>
         ensures room { IfOk result (λ n. n ≤ length buffer.new) }
         ensures bytes { ReadConsumes (to_come self.old) (to_come self.new) result buffer.new }
         ensures fault { MatchResult result (λ _. read_fault self.new ≡ None) (λ f. read_fault self.new ≡ Some f) }
         ensures kept { IfSome (read_fault self.old) (λ f. result ≡ Err f) }
-        ensures count { reads self.new ≡ min (reads self.old + 1) (2 ^ 64 - 1) };
+        ensures count { reads self.new ≡ min (reads self.old + 1) (2 ^ 64 - 1) }
+        ensures goes { goes self.old self.new };
+
+    /// No call leaves the reader as it is.
+    ghost stays: { (a : Self) → goes a a };
+
+    /// Some calls and then others are calls.
+    ghost joins: { (a b c : Self) → goes a b → goes b c → goes a c };
 }
 
 /// A writer.
@@ -75,8 +90,6 @@ pub fn write_all<W: Output>(out: &mut W, bytes: &[u8]) -> Result<(), WriteFault>
     }
     Ok(())
 }
-
-ghost use Rattle.std.specs.List.{flat_map};
 
 /// Writes the parts one after another.
 pub fn write_parts<W: Output>(out: &mut W, parts: &[&[u8]]) -> Result<(), WriteFault>
