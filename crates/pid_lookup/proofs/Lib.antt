@@ -1,3 +1,4 @@
+pub mod AnswerLaws
 pub mod FoundTexts
 pub mod Numerals
 mod Rows

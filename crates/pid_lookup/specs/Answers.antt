@@ -1,5 +1,5 @@
 -- The answer of a look-up: libpci's pci_lookup_name over a map of names.
-use Rattle.std.specs.Prelude.{ℕ, not, ◌||◌, List, ◌++◌, Option, Some, None, codes}
+use Rattle.std.specs.Prelude.{◌≡◌, ℕ, not, ◌||◌, List, ◌++◌, Option, Some, None, codes}
 use Rattle.pid_ident.specs.declared.path.Path.{Path}
 use Rattle.pid_ident.specs.declared.path.Path.TheVariants.{Vendor, Device}
 use Rattle.pid_ident.specs.Identifiers.{hex4, hex2}
@@ -11,7 +11,7 @@ use Rattle.pid_lookup.specs.declared.answer.Answer.{Answer}
 use Rattle.pid_lookup.specs.declared.answer.Answer.TheVariants.{Text, NoAnswer}
 use Rattle.pid_lookup.specs.Flags.{Switches, switches_of, request_of}
 use Rattle.pid_lookup.specs.Found.{name_in, subsystem_name, subclass_name, class_name, progif_name}
-use Rattle.pid_lookup.specs.Layouts.{one_text, pair_text}
+use Rattle.pid_lookup.specs.Layouts.{bracketed, one_text, pair_text}
 use Rattle.pid_lookup.specs.Cut.{cut}
 
 -- two numbers of a pair
@@ -29,26 +29,47 @@ number_of requests.SubvendorAndSubsystem a = joined a.subvendor a.subdevice
 number_of requests.Class a = hex4 a.class
 number_of requests.ProgIf a = hex2 a.progif
 
+-- the word that stands for an unknown name; in a pair the device's
+abbrev pub word_of : Request → List ℕ
+word_of requests.Vendor = codes "Vendor"
+word_of requests.Device = codes "Device"
+word_of requests.VendorAndDevice = codes "Device"
+word_of requests.Subvendor = codes "Unknown vendor"
+word_of requests.Subsystem = codes "Device"
+word_of requests.SubvendorAndSubsystem = codes "Device"
+word_of requests.Class = codes "Class"
+word_of requests.ProgIf = codes "ProgIf"
+
+-- one name with the number and the word of its request
+abbrev pub one_shown : Switches → Request → Args → Option (List ℕ) → Option (List ℕ)
+one_shown s request a name = one_text s (number_of request a) (word_of request) name
+
+-- two names with the number of their request
+abbrev pub pair_shown : Switches → Request → Args → Option (List ℕ) → Option (List ℕ) → Option (List ℕ)
+pair_shown s request a v d = pair_text s (number_of request a) v d
+
 -- MIXED, but where numbers stand alone
 abbrev pub with_numbers : Switches → Switches
 with_numbers s = record s { mixed = s.mixed || not s.numeric }
 
 -- a class without the subclass's name shows that of the class, and then the number too
-abbrev pub class_text : Switches → List ℕ → Option (List ℕ) → Option (List ℕ) → Option (List ℕ)
-class_text s number (Some subclass) class = one_text s number (codes "Class") (Some subclass)
-class_text s number None None = one_text s number (codes "Class") None
-class_text s number None (Some class) = one_text (with_numbers s) number (codes "Class") (Some class)
+abbrev pub class_shown : Switches → Args → Option (List ℕ) → Option (List ℕ) → Option (List ℕ)
+class_shown s a (Some subclass) class = one_shown s requests.Class a (Some subclass)
+class_shown s a None None = one_shown s requests.Class a None
+class_shown s a None (Some class) = one_shown (with_numbers s) requests.Class a (Some class)
 
 -- what a request shows of the names that are looked for
 abbrev pub text_of : (Path → Option (List ℕ)) → Switches → Request → Args → Option (List ℕ)
-text_of named s requests.Vendor a = one_text s (hex4 a.vendor) (codes "Vendor") (named (Vendor a.vendor))
-text_of named s requests.Device a = one_text s (hex4 a.device) (codes "Device") (named (Device a.vendor a.device))
-text_of named s requests.Subvendor a = one_text s (hex4 a.subvendor) (codes "Unknown vendor") (named (Vendor a.subvendor))
-text_of named s requests.Subsystem a = one_text s (hex4 a.subdevice) (codes "Device") (subsystem_name named a)
-text_of named s requests.Class a = class_text s (hex4 a.class) (subclass_name named a) (class_name named a)
-text_of named s requests.ProgIf a = one_text s (hex2 a.progif) (codes "ProgIf") (progif_name named a)
-text_of named s requests.VendorAndDevice a = pair_text s (joined a.vendor a.device) (named (Vendor a.vendor)) (named (Device a.vendor a.device))
-text_of named s requests.SubvendorAndSubsystem a = pair_text s (joined a.subvendor a.subdevice) (named (Vendor a.subvendor)) (subsystem_name named a)
+text_of named s requests.Vendor a = one_shown s requests.Vendor a (named (Vendor a.vendor))
+text_of named s requests.Device a = one_shown s requests.Device a (named (Device a.vendor a.device))
+text_of named s requests.Subvendor a = one_shown s requests.Subvendor a (named (Vendor a.subvendor))
+text_of named s requests.Subsystem a = one_shown s requests.Subsystem a (subsystem_name named a)
+text_of named s requests.Class a = class_shown s a (subclass_name named a) (class_name named a)
+text_of named s requests.ProgIf a = one_shown s requests.ProgIf a (progif_name named a)
+text_of named s requests.VendorAndDevice a =
+    pair_shown s requests.VendorAndDevice a (named (Vendor a.vendor)) (named (Device a.vendor a.device))
+text_of named s requests.SubvendorAndSubsystem a =
+    pair_shown s requests.SubvendorAndSubsystem a (named (Vendor a.subvendor)) (subsystem_name named a)
 
 abbrev pub invalid_request : List ℕ
 invalid_request = codes "<pci_lookup_name: invalid request>"
@@ -65,3 +86,8 @@ requested named s (Some request) a size = cut_answer (text_of named s request a)
 -- the answer to flags that are not bad
 abbrev pub answer_of : TreeMap → ℕ → Args → ℕ → Answer
 answer_of t flags a size = requested (name_in t) (switches_of flags) (request_of flags) a size
+
+-- a text is something before the number in brackets, cut to a buffer
+pub record EndsWithNumber (number : List ℕ) (size : ℕ) (text : List ℕ) : Type 0 where
+  pub front : List ℕ
+  pub shown : text ≡ cut (front ++ bracketed number) size

@@ -1,11 +1,10 @@
 pub mod Flags
-pub mod Styles
 pub mod Found
 pub mod Layouts
 pub mod Cut
 pub mod Answers
+pub mod Asked
 pub mod TreeNames
 pub mod Fields
 pub mod Holders
-pub mod Words
-pub mod Searching
+pub mod Steps

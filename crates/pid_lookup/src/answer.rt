@@ -19,7 +19,7 @@ impl Model for AnswerText {
 
 impl AnswerText {
     /// The bytes as a text, with no copy.
-    pub fn of(text: Vec<u8>) -> AnswerText
+    pub(crate) fn of(text: Vec<u8>) -> AnswerText
         ensures { result ≡ text.items }
     {
         AnswerText { bytes: text }

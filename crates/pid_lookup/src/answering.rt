@@ -1,14 +1,14 @@
 //! The texts that libpci's `pci_lookup_name` gives.
-ghost use Rattle.std.specs.Prelude.{◌≡◌, ◌≢◌, ◌↔◌, true, Err, IfOk, IfErr, IsErrOf};
+ghost use Rattle.std.specs.Prelude.{◌≡◌, ◌≢◌, ◌↔◌, true, Err, IfOk, IfErr, IsErrOf, IsNone};
 ghost use Rattle.std.specs.List.{flat_map};
 ghost use Rattle.pid_lookup.specs.declared.answering.LookupRefusal.TheVariants.{Memory};
-ghost use Rattle.pid_lookup.specs.Answers.{answer_of, cut_answer, number_of, text_of};
+ghost use Rattle.pid_lookup.specs.Answers.{answer_of, cut_answer, number_of, text_of, word_of};
 ghost use Rattle.pid_lookup.specs.Cut.{cut as cut_text};
-ghost use Rattle.pid_lookup.specs.Flags.{is_bad};
+ghost use Rattle.pid_lookup.specs.Flags.{is_bad, switches_of, request_of};
 ghost use Rattle.pid_lookup.specs.Found.{name_in};
 ghost use Rattle.pid_lookup.specs.Holders.{Keeps};
-ghost use Rattle.pid_lookup.specs.Searching.{found_text, word_of};
-ghost use Rattle.pid_lookup.specs.Styles.{switches};
+ghost use Rattle.pid_lookup.specs.Steps.FoundTexts.{found_text};
+ghost use Rattle.pid_lookup.specs.Steps.Styles.{switches};
 
 use crate::answer::{Answer, AnswerText};
 use crate::args::Args;
@@ -56,6 +56,8 @@ pub fn lookup<N: Names>(
         → IfOk result (λ answer. answer ≡ answer_of (N.map_of s) flags args.now size) }
     ensures bad_flags { IsErrOf result LookupRefusal.BadFlags ↔ (is_bad flags ≡ true) }
     ensures fault { (f : _) → IsErrOf result (LookupRefusal.Names f) → N.may_give names.old f }
+    ensures unasked { (switches_of flags).numeric ≡ true → (f : _) → result ≢ Err (LookupRefusal.Names f) }
+    ensures unrequested { IsNone (request_of flags) → (f : _) → result ≢ Err (LookupRefusal.Names f) }
     ensures kept { Keeps N.shows N.is_honest N.may_give names.old names.new }
 {
     let Some(flags) = read_flags(flags) else {
@@ -85,13 +87,14 @@ fn answer_request<N: Names>(
     ensures answer { N.is_honest names.new → (s : N.Shown) → N.shows names.old s
         → IfOk result (λ answer. answer ≡ cut_answer (text_of (name_in (N.map_of s)) (switches style) request args.now) size) }
     ensures good_flags { result ≢ Err LookupRefusal.BadFlags }
+    ensures unasked { (switches style).numeric ≡ true → (f : _) → result ≢ Err (LookupRefusal.Names f) }
     ensures fault { (f : _) → IsErrOf result (LookupRefusal.Names f) → N.may_give names.old f }
     ensures kept { Keeps N.shows N.is_honest N.may_give names.old names.new }
 {
     match style {
         Style::Numeric => Ok(show_number(alloc, request, args, size)?),
         _ => match find(names, request, args) {
-            Ok(found) => Ok(show(alloc, style, request, args, found, size)?),
+            Ok(found) => Ok(show_found(alloc, style, request, args, &found, size)?),
             Err(fault) => Err(LookupRefusal::Names(fault)),
         },
     }
@@ -111,20 +114,6 @@ fn show_number(
 }
 
 // What was found.
-fn show(
-    alloc: Global,
-    style: Style,
-    request: Request,
-    args: &Args,
-    found: Found,
-    size: u32,
-) -> Result<Answer, AllocError>
-    ensures { IfOk result (λ answer. answer ≡ cut_answer
-        (found_text (switches style) (number_of request args.now) (word_of request) found) size) }
-{
-    show_found(alloc, style, request, args, &found, size)
-}
-
 fn show_found(
     alloc: Global,
     style: Style,

@@ -1,10 +1,10 @@
 //! The names that a request is about.
 ghost use Rattle.std.specs.Prelude.{◌≡◌, ◌&&◌, ◌==◌, not, nat_lt, IfOk, IfErr};
 ghost use Rattle.pid_ident.specs.declared.path.Path.TheVariants as paths;
-ghost use Rattle.pid_lookup.specs.Found.{name_in, where_true, subsystem_name, subclass_name, class_name, class_byte as class_half, subclass_byte as subclass_half};
+ghost use Rattle.pid_lookup.specs.Found.{name_in, where_true, subsystem_name, class_byte as class_half, subclass_byte as subclass_half};
 ghost use Rattle.pid_lookup.specs.Flags.{has};
 ghost use Rattle.pid_lookup.specs.Holders.{Keeps};
-ghost use Rattle.pid_lookup.specs.Searching.{found_for, class_found, nameless, progif_found};
+ghost use Rattle.pid_lookup.specs.Steps.FoundTexts.{IsFor, nameless};
 
 use crate::args::Args;
 use crate::flags::Request;
@@ -27,7 +27,7 @@ pub enum Found {
 /// The names that a request is about.
 pub fn find<N: Names>(names: &mut N, request: Request, args: &Args) -> Result<Found, N::Fault>
     ensures found { N.is_honest names.new → (s : N.Shown) → N.shows names.old s
-        → IfOk result (λ found. found ≡ found_for (name_in (N.map_of s)) request args.now) }
+        → IfOk result (λ found. IsFor found (name_in (N.map_of s)) request args.now) }
     ensures fault { IfErr result (λ f. N.may_give names.old f) }
     ensures kept { Keeps N.shows N.is_honest N.may_give names.old names.new }
 {
@@ -66,9 +66,7 @@ fn find_device<N: Names>(names: &mut N, args: &Args) -> Result<Option<Name>, N::
 
 fn find_device_pair<N: Names>(names: &mut N, args: &Args) -> Result<Found, N::Fault>
     ensures found { N.is_honest names.new → (s : N.Shown) → N.shows names.old s
-        → IfOk result (λ found. found ≡ Found.Pair
-        (name_in (N.map_of s) (paths.Vendor args.now.vendor))
-        (name_in (N.map_of s) (paths.Device args.now.vendor args.now.device))) }
+        → IfOk result (λ found. IsFor found (name_in (N.map_of s)) Request.VendorAndDevice args.now) }
     ensures fault { IfErr result (λ f. N.may_give names.old f) }
     ensures kept { Keeps N.shows N.is_honest N.may_give names.old names.new }
 {
@@ -79,9 +77,7 @@ fn find_device_pair<N: Names>(names: &mut N, args: &Args) -> Result<Found, N::Fa
 
 fn find_subsystem_pair<N: Names>(names: &mut N, args: &Args) -> Result<Found, N::Fault>
     ensures found { N.is_honest names.new → (s : N.Shown) → N.shows names.old s
-        → IfOk result (λ found. found ≡ Found.Pair
-        (name_in (N.map_of s) (paths.Vendor args.now.subvendor))
-        (subsystem_name (name_in (N.map_of s)) args.now)) }
+        → IfOk result (λ found. IsFor found (name_in (N.map_of s)) Request.SubvendorAndSubsystem args.now) }
     ensures fault { IfErr result (λ f. N.may_give names.old f) }
     ensures kept { Keeps N.shows N.is_honest N.may_give names.old names.new }
 {
@@ -159,9 +155,7 @@ fn is_own_subsystem(args: &Args) -> bool
 
 fn find_class<N: Names>(names: &mut N, args: &Args) -> Result<Found, N::Fault>
     ensures found { N.is_honest names.new → (s : N.Shown) → N.shows names.old s
-        → IfOk result (λ found. found ≡ class_found
-        (subclass_name (name_in (N.map_of s)) args.now)
-        (class_name (name_in (N.map_of s)) args.now)) }
+        → IfOk result (λ found. IsFor found (name_in (N.map_of s)) Request.Class args.now) }
     ensures fault { IfErr result (λ f. N.may_give names.old f) }
     ensures kept { Keeps N.shows N.is_honest N.may_give names.old names.new }
 {
@@ -178,9 +172,7 @@ fn find_class<N: Names>(names: &mut N, args: &Args) -> Result<Found, N::Fault>
 
 fn find_progif<N: Names>(names: &mut N, args: &Args) -> Result<Found, N::Fault>
     ensures found { N.is_honest names.new → (s : N.Shown) → N.shows names.old s
-        → IfOk result (λ found. found ≡ progif_found
-        (name_in (N.map_of s) (paths.ProgIf (class_half args.now) (subclass_half args.now) args.now.progif))
-        (args.now.class == 0x101 && not (has args.now.progif 0x70)) args.now.progif) }
+        → IfOk result (λ found. IsFor found (name_in (N.map_of s)) Request.ProgIf args.now) }
     ensures fault { IfErr result (λ f. N.may_give names.old f) }
     ensures kept { Keeps N.shows N.is_honest N.may_give names.old names.new }
 {

@@ -1,9 +1,8 @@
 //! The flags of a look-up.
 ghost use Rattle.std.specs.Prelude.{◌≡◌, ◌↔◌, ◌&&◌, ◌==◌, not, true, find, IfSome, IsNone};
 ghost use Rattle.pid_lookup.specs.Flags.{Switches, bits_of, all_requests, request_of, switches_of, is_bad};
-ghost use Rattle.pid_lookup.specs.Styles.{switches};
-ghost use Rattle.pid_lookup.specs.Answers.{with_numbers};
-ghost use Rattle.pid_lookup.specs.Searching.{word_of};
+ghost use Rattle.pid_lookup.specs.Steps.Styles.{switches};
+ghost use Rattle.pid_lookup.specs.Answers.{with_numbers, word_of};
 
 /// What a look-up asks for.
 #[derive(Clone, Copy, PartialEq, Eq)]

@@ -1,7 +1,7 @@
 //! The programming interface of an IDE controller in words.
 ghost use Rattle.std.specs.Prelude.{◌≡◌, ◌+◌, ◌≤◌, [], ◌∷◌, ◌++◌, length, if◌then◌else◌};
 ghost use Rattle.pid_lookup.specs.Found.{ide_words};
-ghost use Rattle.pid_lookup.specs.Words.{with_word};
+ghost use Rattle.pid_lookup.specs.Steps.Words.{with_word};
 
 use std::marker::Model;
 

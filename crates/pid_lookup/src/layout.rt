@@ -3,8 +3,8 @@ ghost use Rattle.std.specs.Prelude.{◌≡◌};
 ghost use Rattle.std.specs.List.{flat_map};
 ghost use Rattle.std.specs.Option.{option_copied, option_map};
 ghost use Rattle.pid_lookup.specs.Layouts.{one_text, pair_text, second_half as second_half_of};
-ghost use Rattle.pid_lookup.specs.Searching.{found_text};
-ghost use Rattle.pid_lookup.specs.Styles.{switches};
+ghost use Rattle.pid_lookup.specs.Steps.FoundTexts.{found_text};
+ghost use Rattle.pid_lookup.specs.Steps.Styles.{switches};
 
 use crate::find::Found;
 use crate::flags::Style;

@@ -10,6 +10,7 @@ mod fields;
 mod find;
 mod flags;
 mod ide;
+pub mod laws;
 mod layout;
 mod names;
 mod tree_names;
@@ -20,6 +21,3 @@ pub use args::Args;
 pub use fields::{BadField, args_of};
 pub use names::Names;
 pub use tree_names::TreeNames;
-
-#[cfg(test)]
-mod tests;

@@ -1,0 +1,4 @@
+-- Serve private functions alone; no promise rests on these.
+pub mod FoundTexts
+pub mod Styles
+pub mod Words

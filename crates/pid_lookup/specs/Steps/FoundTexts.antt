@@ -1,0 +1,27 @@
+-- Serves private functions alone; no promise rests on it.
+-- What the names that were found show.
+use Rattle.std.specs.Prelude.{◌≡◌, ℕ, Bool, true, false, List, Option, Some, None}
+use Rattle.pid_ident.specs.declared.path.Path.{Path}
+use Rattle.pid_lookup.specs.declared.args.Args.{Args}
+use Rattle.pid_lookup.specs.declared.find.Found.{Found}
+use Rattle.pid_lookup.specs.declared.find.Found.TheVariants as found
+use Rattle.pid_lookup.specs.declared.flags.Request.{Request}
+use Rattle.pid_lookup.specs.Flags.{Switches}
+use Rattle.pid_lookup.specs.Found.{ide_words}
+use Rattle.pid_lookup.specs.Layouts.{one_text, pair_text}
+use Rattle.pid_lookup.specs.Answers.{number_of, text_of, with_numbers, word_of}
+
+abbrev pub found_text : Switches → List ℕ → List ℕ → Found → Option (List ℕ)
+found_text s number word (found.One name) = one_text s number word name
+found_text s number word (found.Ide words) = one_text s number word (Some words)
+found_text s number word (found.ClassOnly name) = one_text (with_numbers s) number word (Some name)
+found_text s number word (found.Pair v d) = pair_text s number v d
+
+-- an interface that has no name: words for an IDE controller's
+abbrev pub nameless : Bool → ℕ → Found
+nameless true progif = found.Ide (ide_words progif)
+nameless false progif = found.One None
+
+-- it is what the request is about: however it is shown, its text is that of the request
+pub record IsFor (found : Found) (named : Path → Option (List ℕ)) (request : Request) (a : Args) : Type 0 where
+  pub shown : (s : Switches) → found_text s (number_of request a) (word_of request) found ≡ text_of named s request a
