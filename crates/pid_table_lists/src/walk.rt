@@ -1,9 +1,7 @@
 //! All items, one at a time.
 ghost use Rattle.std.specs.Prelude.{◌≡◌, false, IfOk, IfErr, IsTrue};
 ghost use Rattle.std.specs.Str.{is_utf8};
-ghost use Rattle.sqlite.specs.Held.{state};
 ghost use Rattle.sqlite.specs.Order.{column};
-ghost use Rattle.sqlite.specs.State.{HasCleanDisk};
 ghost use Rattle.sqlite.specs.declared.types.Value.TheVariants.{Text as TextValue};
 ghost use Rattle.pid_ident.specs.PathTexts.{path_text};
 ghost use Rattle.pid_ident.specs.Words.{is_name as name_test};
@@ -12,10 +10,11 @@ ghost use Rattle.pid_reader.specs.LookingBack.{Item};
 ghost use Rattle.pid_rows.specs.Answers.{item_shown};
 ghost use Rattle.pid_rows.specs.Causes.{IsReadable};
 ghost use Rattle.pid_rows.specs.Faults.{fault_of};
-ghost use Rattle.pid_rows.specs.Leaves.{AtRest, OnlyReads};
 ghost use Rattle.pid_rows.specs.Unread.{IsUnread, IsItemRow, IsWord};
-ghost use Rattle.pid_table_lists.specs.EachItem.{TakesOne, TakesEach, IsCausedEnd, IsUnreadEnd};
+ghost use Rattle.pid_table_lists.specs.EachItem.{TakesOne, TakesEach, IsUnreadEnd};
 ghost use Rattle.pid_table_lists.specs.declared.walk.EachEnd.TheVariants as ends;
+ghost use Rattle.pid_rows.specs.Clauses.{AtRest, HasCleanDisk, OnlyReads};
+ghost use Rattle.pid_table_lists.specs.Clauses.{IsCausedEnd};
 
 use pid_ident::{Path, is_name};
 use pid_reader::{Entry, Sink};
@@ -92,10 +91,10 @@ pub fn each_item<S: Alter, K: Sink>(
     conn: &mut Connection<S>,
     sink: &mut K,
 ) -> Result<(), EachEnd<K::Fault>>
-    requires { (state S.Store conn.old).in_transaction ≡ false }
-    ensures rests { OnlyReads (state S.Store conn.old) (state S.Store conn.new) }
-    ensures told { HasCleanDisk (state S.Store conn.new) → (v : Views) → AtRest (state S.Store conn.old) v → TakesEach K.takes K.faults result v.items sink.old sink.new }
-    ensures caused { HasCleanDisk (state S.Store conn.new) → (v : Views) → AtRest (state S.Store conn.old) v → IsReadable v → IfErr result (IsCausedEnd (state S.Store conn.old) (state S.Store conn.new)) }
+    requires { conn.old.in_transaction ≡ false }
+    ensures rests { OnlyReads S.Store conn.old conn.new }
+    ensures told { HasCleanDisk S.Store conn.new → (v : Views) → AtRest S.Store conn.old v → TakesEach K.takes K.faults result v.items sink.old sink.new }
+    ensures caused { HasCleanDisk S.Store conn.new → (v : Views) → AtRest S.Store conn.old v → IsReadable v → IfErr result (IsCausedEnd S.Store conn.old conn.new) }
 {
     let mut rows = conn.query("SELECT path, name FROM item ORDER BY path", &[])?;
     'rows: for at in 0..usize::MAX {
