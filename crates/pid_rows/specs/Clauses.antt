@@ -50,6 +50,10 @@ module _ {S : Type 0} (store : Ghosts S) where
   abbrev pub Executes : List ℕ → Row → Held S → Held S → Result ℕ Error → Type 0
   Executes sql params old new result = states.Executes sql params (state store old) (state store new) result
 
+  -- inside a `Transaction`, which holds so many of the oldest savepoints
+  abbrev pub ExecutesInside : ℕ → List ℕ → Row → Held S → Held S → Result ℕ Error → Type 0
+  ExecutesInside held sql params old new result = states.ExecutesInside held sql params (state store old) (state store new) result
+
   abbrev pub Shown : List ℕ → Row → Held S → Held S → List Row → Type 0
   Shown sql params old new rows = states.Shown sql params (state store old) (state store new) rows
 

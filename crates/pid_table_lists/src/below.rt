@@ -178,13 +178,14 @@ struct Tops {
 
 impl Sink for Tops {
     ghost use Rattle.std.specs.Prelude.{◌≡◌, ◌∷◌, ◌++◌, [], None, filter, map};
+    ghost use Rattle.pid_reader.specs.Numbered.{item_in};
     ghost use Rattle.pid_rows.specs.ItemPairs.{pair_of};
     ghost use Rattle.pid_rows.specs.declared.fault.TableFault.TheVariants.{Memory};
     ghost use Rattle.pid_table_lists.specs.Children.{stands_below};
 
     type Fault = TableFault;
 
-    ghost takes = { λ s e t. map pair_of t.kept.items ≡ map pair_of s.kept.items ++ filter (λ e. stands_below None e.0) (e ∷ []) };
+    ghost takes = { λ s e t. map pair_of t.kept.items ≡ map pair_of s.kept.items ++ filter (λ e. stands_below None e.0) (item_in e ∷ []) };
 
     ghost faults = { λ s e f t. f ≡ Memory };
 

@@ -11,7 +11,7 @@ ghost use Rattle.pid_rows.specs.Answers.{item_shown};
 ghost use Rattle.pid_rows.specs.Causes.{IsReadable};
 ghost use Rattle.pid_rows.specs.Faults.{fault_of};
 ghost use Rattle.pid_rows.specs.Unread.{IsUnread, IsItemRow, IsWord};
-ghost use Rattle.pid_table_lists.specs.EachItem.{TakesOne, TakesEach, IsUnreadEnd};
+ghost use Rattle.pid_table_lists.specs.EachItem.{TakesOne, TakesEach, IsUnreadEnd, placed_from};
 ghost use Rattle.pid_table_lists.specs.declared.walk.EachEnd.TheVariants as ends;
 ghost use Rattle.pid_rows.specs.Clauses.{AtRest, HasCleanDisk, OnlyReads};
 ghost use Rattle.pid_table_lists.specs.Clauses.{IsCausedEnd};
@@ -61,6 +61,7 @@ fn lent(row: &Row, at: usize) -> Result<&str, TableFault>
 
 // The item of a row, lent.
 fn entry_of(row: &Row, line: usize) -> Result<Entry<'_>, TableFault>
+    ensures line { IfOk result (λ entry. entry.line ≡ line) }
     ensures path { IfOk result (λ entry. column row.now 0 ≡ TextValue (path_text entry.path)) }
     ensures name { IfOk result (λ entry. column row.now 1 ≡ TextValue entry.name.now) }
     ensures checked { IfOk result (λ entry. IsTrue (name_test entry.name.now)) }
@@ -75,7 +76,7 @@ fn entry_of(row: &Row, line: usize) -> Result<Entry<'_>, TableFault>
 }
 
 fn hand_on<K: Sink>(row: &Row, line: usize, sink: &mut K) -> Result<(), EachEnd<K::Fault>>
-    ensures takes { (item : Item) → row.now ≡ item_shown item → TakesOne K.takes K.faults result item sink.old sink.new }
+    ensures takes { (item : Item) → row.now ≡ item_shown item → TakesOne K.takes K.faults result (line, item) sink.old sink.new }
     ensures unread { IfErr result (IsUnreadEnd (IsItemRow row.now)) }
 {
     let entry = entry_of(row, line)?;
@@ -93,7 +94,7 @@ pub fn each_item<S: Alter, K: Sink>(
 ) -> Result<(), EachEnd<K::Fault>>
     requires { conn.old.in_transaction ≡ false }
     ensures rests { OnlyReads S.Store conn.old conn.new }
-    ensures told { HasCleanDisk S.Store conn.new → (v : Views) → AtRest S.Store conn.old v → TakesEach K.takes K.faults result v.items sink.old sink.new }
+    ensures told { HasCleanDisk S.Store conn.new → (v : Views) → AtRest S.Store conn.old v → TakesEach K.takes K.faults result (placed_from 1 v.items) sink.old sink.new }
     ensures caused { HasCleanDisk S.Store conn.new → (v : Views) → AtRest S.Store conn.old v → IsReadable v → IfErr result (IsCausedEnd S.Store conn.old conn.new) }
 {
     let mut rows = conn.query("SELECT path, name FROM item ORDER BY path", &[])?;

@@ -4,8 +4,8 @@ use Rattle.pid_ident.specs.declared.path.Path.{Path}
 use Rattle.pid_ident.specs.declared.path.Path.TheVariants.{Vendor}
 use Rattle.pid_ident.specs.PathTexts.{path_text}
 use Rattle.pid_moderation.specs.Items.{has_children}
-use Rattle.pid_rows.specs.Ranges.{holds_between, generics_of}
-use Rattle.pid_rows.proofs.ChildLemmas.{vendor_children, other_children, is_no_vendor}
+use Rattle.pid_rows.specs.Ranges.{holds_between}
+use Rattle.pid_rows.proofs.ChildLemmas.{vendor_children, other_children, is_no_vendor, generics_of}
 use Rattle.pid_rows.proofs.OnlyReading.{reads_then}
 use Rattle.pid_rows.proofs.item.has_children.Goals as goal
 
