@@ -3,7 +3,6 @@ pub mod Changing
 pub mod Deciding
 pub mod Passing
 pub mod FieldLemmas
-pub mod PathReadingLemmas
 pub mod FormLemmas
 pub mod ItemLemmas
 pub mod WriteLemmas
@@ -12,6 +11,7 @@ pub mod Knowing
 pub mod TreeStays
 pub mod SubmissionsStay
 pub mod ReceiptsStay
+pub mod KeysOnce
 pub mod Soundness
 pub mod Fitting
 pub mod TreesAreFiles

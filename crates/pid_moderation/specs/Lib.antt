@@ -8,12 +8,15 @@ pub mod CheckTables
 pub mod Judgement
 pub mod Changes
 pub mod Effects
+pub mod Following
+pub mod BeforeFile
 pub mod Sound
+pub mod Keys
 pub mod Wants
 pub mod Writes
 pub mod WellMade
 pub mod Fields
-pub mod PathReading
 pub mod Forms
 pub mod Verbs
 pub mod ReplyLines
+pub mod Laws

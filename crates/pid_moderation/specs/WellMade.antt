@@ -6,7 +6,8 @@ use Rattle.pid_ident.specs.declared.path.Path.{Path}
 use Rattle.pid_moderation.specs.declared.command.Proposal.{Proposal}
 use Rattle.pid_moderation.specs.declared.command.Proposal.TheVariants.{Name, Removal}
 use Rattle.pid_moderation.specs.History.{Reading, Deed, Ranks, Submits, Comments, Withdraws, Approves, Rejects, Imports, Asked}
-use Rattle.pid_moderation.specs.Items.{Items, name_at, parent_text, holds_parent}
+use Rattle.pid_ident.specs.PathReading.{parent_text}
+use Rattle.pid_moderation.specs.Items.{Items, name_at, holds_parent}
 use Rattle.pid_moderation.specs.Views.{pairs_of}
 use Rattle.pid_moderation.specs.CheckTables.{most_items}
 
@@ -22,9 +23,15 @@ AllItems (e ∷ items) = IsItem e.0 e.1 × AllItems items
 pub record HoldsParents (items : Items) : Type 0 where
   pub parents : (path : List ℕ) → is_some (name_at path items) ≡ true → holds_parent (parent_text path) items ≡ true
 
--- what a file reads to: names at paths, with the parent of each path, and not too many
+-- no path stands twice
+abbrev pub AreApart : Items → Type 0
+AreApart [] = Unit {0}
+AreApart (e ∷ pairs) = (name_at e.0 pairs ≡ None) × AreApart pairs
+
+-- what a file reads to: names at paths, each path once, with the parent of each path, and not too many
 pub record IsFile (pairs : Items) : Type 0 where
   pub items : AllItems pairs
+  pub apart : AreApart pairs
   pub tree : HoldsParents pairs
   pub limit : length pairs ≤ most_items
 

@@ -1,19 +1,19 @@
 //! The tests that commands are checked by.
 ghost use Rattle.std.specs.Prelude.{◌≡◌, true, find, is_none};
-ghost use Rattle.pid_moderation.specs.CheckTables.{is_pending as stands_pending, is_removal as removal, is_so as so_already, lacks_parent as parent_lacking, leaves_children as children_left, overflows as one_too_many, is_ill_formed as ill_formed, is_broken as broken_act, is_too_long as too_long, TellsLength};
+ghost use Rattle.pid_ident.specs.Bytes.{is_empty as no_bytes};
+ghost use Rattle.pid_moderation.specs.CheckTables.{first_failing as first_that_fails, is_pending as stands_pending, is_removal as removal, is_so as so_already, lacks_parent as parent_lacking, leaves_children as children_left, overflows as one_too_many, is_ill_formed as ill_formed, is_broken as broken_act, TellsLength};
 ghost use Rattle.pid_moderation.specs.Ranks.{has_rank as rank_reaches, is_rank as rank_equals};
 ghost use Rattle.pid_moderation.specs.History.{Reading, asked, deed_of};
 ghost use Rattle.pid_moderation.specs.Judgement.{judge, Refused};
 ghost use Rattle.pid_moderation.specs.Views.{Views};
 ghost use Rattle.pid_moderation.specs.Items.{has_name as names_so};
-ghost use Rattle.pid_moderation.specs.Effects.{Follows};
+ghost use Rattle.pid_moderation.specs.Following.{Follows};
 
 use crate::command::{Act, Command, Proposal};
 use crate::facts::{Facts, State, Verdict};
 use crate::rank::Rank;
 use crate::refusal::Refusal;
-use crate::words::{is_empty_text, is_name_of};
-use pid_ident::Name;
+use pid_ident::{Name, Text};
 
 /// Items that a registry holds at most, and entries of a file.
 pub const ITEMS: u32 = 100_000;
@@ -31,6 +31,15 @@ fn failing(checks: &[(bool, Refusal)]) -> Option<(bool, Refusal)>
     ensures { result ≡ find (λ c. c.0) checks.now }
 {
     checks.iter().copied().find(|check| check.0)
+}
+
+pub fn first_failing(checks: &[(bool, Refusal)]) -> Option<Refusal>
+    ensures { result ≡ first_that_fails checks.now }
+{
+    match failing(checks) {
+        Some((_, refusal)) => Some(refusal),
+        None => None,
+    }
 }
 
 // The first check that fails is the refusal.
@@ -62,7 +71,7 @@ pub fn is_rank(wanted: Rank, rank: Option<Rank>) -> bool
     ensures { result ≡ rank_equals wanted rank }
 {
     match rank {
-        Some(rank) => wanted.number() == rank.number(),
+        Some(rank) => wanted == rank,
         None => false,
     }
 }
@@ -91,7 +100,7 @@ fn is_named_so(name: &Name, present: &Option<Name>) -> bool
     ensures { result ≡ names_so name.now present.now }
 {
     match present {
-        Some(present) => is_name_of(name, present),
+        Some(present) => name == present,
         None => false,
     }
 }
@@ -132,15 +141,16 @@ pub fn overflows(proposal: &Proposal, present: &Option<Name>, items: u32) -> boo
     }
 }
 
-fn is_too_long(file: Verdict) -> bool
-    ensures { result ≡ too_long file }
+pub fn is_empty_text(text: &Text) -> bool
+    ensures { result ≡ no_bytes text.now }
 {
-    match file {
-        Verdict::TooLong => true,
-        Verdict::NoFile => false,
-        Verdict::Faulty(_) => false,
-        Verdict::Good { .. } => false,
-    }
+    matches!(text.as_str().as_bytes(), [])
+}
+
+pub fn is_missing(file: Option<Verdict>) -> bool
+    ensures { result ≡ is_none file }
+{
+    file.is_none()
 }
 
 /// Whether a command breaks a rule that its type does not keep: an empty comment or reason, or a file too long.
@@ -150,7 +160,7 @@ pub fn is_ill_formed(facts: &Facts, act: &Act) -> bool
     match act {
         Act::Comment { text, .. } => is_empty_text(text),
         Act::Reject { reason, .. } => is_empty_text(reason),
-        Act::Import { .. } => is_too_long(facts.file),
+        Act::Import { .. } => is_missing(facts.file),
         Act::Account { .. } => false,
         Act::Submit { .. } => false,
         Act::Withdraw { .. } => false,

@@ -14,20 +14,19 @@ mod refusal;
 mod reply_lines;
 mod verb;
 mod wants;
-mod words;
 
 pub use change::{Change, Edit, Effect, Receipt, Write};
-pub use checks::{FILE_BYTES, ITEMS, REMARKS, SUBMISSIONS, breaks_form};
+pub use checks::{ITEMS, REMARKS, SUBMISSIONS, breaks_form};
 pub use command::{Act, Command, File, Proposal, Reply};
 pub use facts::{Facts, Named, State, Verdict};
 pub use form::command_of;
-pub use laws::{command_is_well_made, histories_are_sound, trees_are_files, trees_are_last_writes};
-pub use policy::decide;
+pub use laws::{
+    command_is_well_made, histories_are_sound, items_are_sorted, keys_stand_once, trees_are_files,
+    trees_are_last_writes,
+};
+pub use policy::{before_file, decide};
 pub use rank::{Rank, needed_rank};
 pub use refusal::{FileFault, Refusal};
 pub use reply_lines::reply_line;
 pub use verb::Verb;
 pub use wants::{Rows, needs};
-
-#[cfg(test)]
-mod tests;

@@ -1,5 +1,5 @@
 //! What a file comes to over the items.
-ghost use Rattle.std.specs.Prelude.{◌≡◌, ◌&&◌, not, map, option_copied, is_none, is_some, IfOk};
+ghost use Rattle.std.specs.Prelude.{◌≡◌, ◌&&◌, not, map, option_copied, is_none, is_some, IfOk, Some};
 ghost use Rattle.pid_ident.specs.PathTexts.{path_text};
 ghost use Rattle.pid_moderation.specs.Items.{name_at as name_in, has_name as names_so, count_new as count_of_new, count_renamed as count_of_renamed, count_same as count_of_same};
 ghost use Rattle.pid_moderation.specs.History.{Good};
@@ -8,7 +8,6 @@ ghost use Rattle.pid_plain_registry.specs.Shown.{item_of, texts, reading_of};
 
 use crate::items::{import, name_at};
 use crate::past::FileReading;
-use crate::words::is_name_of;
 use pid_ident::{Name, Path};
 use pid_moderation::Verdict;
 use std::alloc::AllocError;
@@ -35,7 +34,7 @@ fn is_same(items: &BTreeMap<Path, Name>, pair: &(Path, Name)) -> bool
     ensures { result ≡ names_so (item_of pair.now).1 (name_in (item_of pair.now).0 (texts items.now)) }
 {
     match name_at(items, pair.0) {
-        Some(name) => is_name_of(&pair.1, name),
+        Some(name) => pair.1 == *name,
         None => false,
     }
 }
@@ -67,7 +66,7 @@ fn count_same(items: &BTreeMap<Path, Name>, pairs: &[(Path, Name)]) -> usize
 
 // What these pairs come to, which are written over the items.
 fn good(mut items: BTreeMap<Path, Name>, pairs: &[(Path, Name)]) -> Result<Verdict, AllocError>
-    ensures { IfOk result (λ v. v ≡ verdict_over (texts items) (Good (map item_of pairs.now))) }
+    ensures { IfOk result (λ v. Some v ≡ verdict_over (texts items) (Good (map item_of pairs.now))) }
 {
     let added = number(count_new(&items, pairs))?;
     let renamed = number(count_renamed(&items, pairs))?;
@@ -84,14 +83,13 @@ fn good(mut items: BTreeMap<Path, Name>, pairs: &[(Path, Name)]) -> Result<Verdi
 /// What a file comes to over the items.
 pub fn verdict(
     items: BTreeMap<Path, Name>,
-    file: &Option<FileReading>,
-) -> Result<Verdict, AllocError>
+    file: &FileReading,
+) -> Result<Option<Verdict>, AllocError>
     ensures { IfOk result (λ v. v ≡ verdict_over (texts items) (reading_of file.now)) }
 {
     match file {
-        None => Ok(Verdict::NoFile),
-        Some(FileReading::TooLong) => Ok(Verdict::TooLong),
-        Some(FileReading::Faulty(fault)) => Ok(Verdict::Faulty(*fault)),
-        Some(FileReading::Good(pairs)) => good(items, pairs.as_slice()),
+        FileReading::TooLong => Ok(None),
+        FileReading::Faulty(fault) => Ok(Some(Verdict::Faulty(*fault))),
+        FileReading::Good(pairs) => Ok(Some(good(items, pairs.as_slice())?)),
     }
 }

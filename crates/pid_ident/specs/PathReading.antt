@@ -1,5 +1,6 @@
--- The path that a text reads to: the one of the text's length and front with its numbers, if it has this very text.
-use Rattle.std.specs.Prelude.{ℕ, ◌+◌, ◌-◌, ◌*◌, ◌%◌, ◌==◌, nat_le, if◌then◌else◌, List, length, slice_index, Option, Some, None}
+-- The path of a text, and the text of its parent, as functions that compute. A stranger need not read them: laws.rt
+-- says that `path_of` gives the one path whose text it is, and `parent_text` the text of that path's parent.
+use Rattle.std.specs.Prelude.{ℕ, ◌+◌, ◌-◌, ◌*◌, ◌%◌, ◌==◌, ◌++◌, nat_le, if◌then◌else◌, List, length, take, drop, slice_index, Option, Some, None, codes}
 use Rattle.std.specs.Str.{bytes_eq}
 use Rattle.pid_ident.specs.declared.path.Path.{Path}
 use Rattle.pid_ident.specs.declared.path.Path.TheVariants.{Vendor, Device, Subsystem, Class, Subclass, ProgIf, Generic}
@@ -20,7 +21,7 @@ two_at i text = 16 * digit_at i text + digit_at (i + 1) text
 abbrev pub four_at : ℕ → List ℕ → ℕ
 four_at i text = 256 * two_at i text + two_at (i + 2) text
 
--- by the length of the text; the second letter tells PC/8086/1237 from PS/8086/1237
+-- the only path that a text of this length and front may have: the second letter tells PC/8086/1237 from PS/8086/1237
 abbrev pub candidate : List ℕ → Option Path
 candidate text =
     if length text == 7 then Some (Vendor (four_at 3 text))
@@ -35,5 +36,15 @@ abbrev pub if_its_text : List ℕ → Option Path → Option Path
 if_its_text text None = None
 if_its_text text (Some path) = if bytes_eq (path_text path) text then Some path else None
 
+-- the path whose text it is, if there is one
 abbrev pub path_of : List ℕ → Option Path
 path_of text = if_its_text text (candidate text)
+
+-- the text of the parent of the path with this text, by its length: that of PC/8086/1237 and of PS/8086/1237 is PC/8086
+abbrev pub parent_text : List ℕ → Option (List ℕ)
+parent_text text =
+    if length text == 12 then Some (codes "PC" ++ take 5 (drop 2 text))
+    else if length text == 21 then Some (take 12 text)
+    else if length text == 8 then Some (take 5 text)
+    else if length text == 11 then Some (take 8 text)
+    else None

@@ -1,23 +1,11 @@
-//! Worked runs. A row is a line of a text: a command with its reply, or `items` with what the registry holds.
-use crate::past::FileReading;
-use crate::registry::PlainRegistry;
+//! Worked runs of the plain registry. A row is a command with its reply, or `items` with what the registry holds.
+use crate::rows::{command_by, command_in, fields_of};
 use pid_ident::{Account, LineKind, Name, Path};
-use pid_moderation::{Command, FileFault, Rank, Refusal, Reply, Verb, command_of, reply_line};
+use pid_moderation::{Command, FileFault, Rank, Refusal, Reply, Verb, reply_line};
+use pid_plain_registry::{FileReading, PlainRegistry};
 use std::alloc::Global;
 use std::process::Abort;
 use std::test::Fail;
-
-fn fields_of(alloc: Global, row: &str) -> Result<Vec<(String, String)>, Fail> {
-    let mut fields = Vec::new(alloc);
-    for pair in row.split('&') {
-        let (name, value) = pair.split_once('=').ok_or("a field")?;
-        fields.push((
-            String::from_str(alloc, name)?,
-            String::from_str(alloc, value)?,
-        ))?;
-    }
-    Ok(fields)
-}
 
 // The pairs of a file such as `PC/8086=Intel&PC/8086/1237=440FX`.
 fn pairs_of(alloc: Global, row: &str) -> Result<Vec<(Path, Name)>, Fail> {
@@ -44,26 +32,16 @@ fn file_of(alloc: Global, row: &str) -> Result<FileReading, Fail> {
     }
 }
 
-// The command of a row such as `comment alice num=1&text=seen`, and the reading of its file, which stands in place of
-// the fields of an import. A key stands before a slash, as in `k1/alice`.
-fn command_in(alloc: Global, row: &str) -> Result<(Command, Option<FileReading>), Fail> {
+// The command of a row, and the reading of its file, which stands in place of the fields of an import.
+fn order_in(alloc: Global, row: &str) -> Result<(Command, FileReading), Fail> {
     let (verb, rest) = row.split_once(' ').ok_or("a verb")?;
-    let (caller, rest) = rest.split_once(' ').ok_or("an account")?;
-    let (key, account) = match caller.split_once('/') {
-        Some((key, account)) => (Some(key), account),
-        None => (None, caller),
-    };
-    let verb = Verb::of_word(verb).ok_or("a verb")?;
-    if verb == Verb::Import {
-        let fields = fields_of(alloc, "file=")?;
-        let command = command_of(alloc, verb, account, key, fields.as_slice())?;
-        return Ok((command, Some(file_of(alloc, rest)?)));
+    if verb != "import" {
+        return Ok((command_in(alloc, row)??, FileReading::TooLong));
     }
-    let fields = fields_of(alloc, rest)?;
-    Ok((
-        command_of(alloc, verb, account, key, fields.as_slice())?,
-        None,
-    ))
+    let (caller, file) = rest.split_once(' ').ok_or("an account")?;
+    let fields = fields_of(alloc, "file=")?;
+    let command = command_by(alloc, Verb::Import, caller, fields.as_slice())??;
+    Ok((command, file_of(alloc, file)?))
 }
 
 // The items of a registry, as `PC/8086 Intel;PC/8086/1237 440FX;`.
@@ -83,7 +61,7 @@ fn told(alloc: Global, registry: &mut PlainRegistry, row: &str) -> Result<String
     if row == "items" {
         return items_in(alloc, registry);
     }
-    let (command, file) = command_in(alloc, row)?;
+    let (command, file) = order_in(alloc, row)?;
     Ok(reply_line(alloc, registry.obey(command, file))?)
 }
 
@@ -207,6 +185,53 @@ fn keeps_replies_under_keys(rt: HostRuntime) -> Result<(), Fail> {
     expect_run(&rt, rt.alloc(), KEYS)
 }
 
+const KINDS: &str = "\
+import root PC/8086=a&PC/8086/1237=b&PC/8086/1237/1af41100=c&PS/8086/0001=d&PD/01=e&PD/01/01=f&PD/01/01/80=g | ok added=7 renamed=0 same=0
+account root who=bob&rank=0 | ok
+submit bob path=PC/8086&remove=yes | ok 1
+submit bob path=PC/8086/1237&remove=yes | ok 2
+submit bob path=PC/8086/1237/1af41100&remove=yes | ok 3
+submit bob path=PS/8086/0001&remove=yes | ok 4
+submit bob path=PD/01&remove=yes | ok 5
+submit bob path=PD/01/01&remove=yes | ok 6
+submit bob path=PD/01/01/80&remove=yes | ok 7
+approve root num=2 | refused 12 HasChildren
+approve root num=3 | ok
+approve root num=2 | ok
+approve root num=1 | refused 12 HasChildren
+approve root num=4 | ok
+approve root num=1 | ok
+approve root num=5 | refused 12 HasChildren
+approve root num=6 | refused 12 HasChildren
+approve root num=7 | ok
+approve root num=6 | ok
+approve root num=5 | ok
+items | 
+";
+
+#[test]
+fn removes_each_kind_of_path(rt: HostRuntime) -> Result<(), Fail> {
+    expect_run(&rt, rt.alloc(), KINDS)
+}
+
+const LIMITS: &str = "\
+account *64/root who=*32&rank=2 | ok
+submit *64/*32 path=PC/8086&name=*1000&note=*4000 | ok 1
+comment root num=1&text=*4000 | ok
+reject root num=1&reason=*4000 | ok
+reject root num=1&reason=*4000 | refused 8 NotPending
+submit root path=PC/8086&name=*1000&note=*4000 | ok 2
+approve *32 num=2 | ok
+submit *32 path=PC/8086&name=*1000&note=*4000 | ok 3
+approve root num=3 | refused 13 NothingToDo
+withdraw *32 num=3 | ok
+";
+
+#[test]
+fn takes_the_longest_texts(rt: HostRuntime) -> Result<(), Fail> {
+    expect_run(&rt, rt.alloc(), LIMITS)
+}
+
 // The example of docs/REGISTRY.md.
 const EXAMPLE: &str = "\
 account root who=alice&rank=0 | ok
@@ -238,7 +263,7 @@ fn tells_ranks_and_counts(rt: HostRuntime) -> Result<(), Fail> {
     told(alloc, &mut registry, "submit bob path=PC/8086&name=Intel")?;
     assert_eq!(rt; registry.rank(&bob), Some(Rank::Moderator));
     assert_eq!(rt; registry.submissions(), 1);
-    let (command, file) = command_in(alloc, "approve root num=1")?;
+    let (command, file) = order_in(alloc, "approve root num=1")?;
     let facts = registry.facts(&command, &file)?;
     assert_eq!(rt; facts.rank, Some(Rank::Administrator));
     assert_eq!(rt; facts.items, 0);
@@ -263,8 +288,8 @@ import bob PC/8086/1237=440FX | ok added=1 renamed=0 same=0
 // What a command is answered, sent again where memory was refused.
 fn obeyed(
     registry: &mut PlainRegistry,
-    first: (Command, Option<FileReading>),
-    again: (Command, Option<FileReading>),
+    first: (Command, FileReading),
+    again: (Command, FileReading),
 ) -> Result<Reply, Refusal> {
     let (command, file) = first;
     match registry.obey(command, file) {
@@ -285,11 +310,7 @@ fn stays_where_memory_is_refused(rt: HostRuntime) -> Result<(), Fail> {
     let mut sent = Vec::new(alloc);
     for row in MEMORY.lines() {
         let (asked, expected) = row.split_once(" | ").ok_or("a row")?;
-        sent.push((
-            command_in(alloc, asked)?,
-            command_in(alloc, asked)?,
-            expected,
-        ))?;
+        sent.push((order_in(alloc, asked)?, order_in(alloc, asked)?, expected))?;
     }
     let mut registry = PlainRegistry::new(alloc);
     for (first, again, expected) in sent {

@@ -1,169 +1,13 @@
-//! Forms of commands, and the checks of each command over facts. A row is a line of a text.
-use crate::checks::breaks_form;
-use crate::command::{Act, Command, Proposal, Reply};
-use crate::facts::{Facts, Named, State, Verdict};
-use crate::fields::{rank_said, text_at, value};
-use crate::form::command_of;
-use crate::policy::decide;
-use crate::rank::Rank;
-use crate::refusal::{FileFault, Refusal};
-use crate::reply_lines::reply_line;
-use crate::verb::Verb;
+//! What each command is answered over facts, row by row.
+use crate::rows::{command_in, fields_of, text_at, value};
 use pid_ident::{Account, LineKind, Name, Path, Text};
+use pid_moderation::{
+    Act, Facts, FileFault, Named, Proposal, Rank, Refusal, Reply, State, Verdict, before_file,
+    breaks_form, decide, reply_line,
+};
 use std::alloc::Global;
 use std::process::Abort;
 use std::test::Fail;
-
-// The text that a word stands for: `*N` is N times `a`.
-fn text_of(alloc: Global, word: &str) -> Result<String, Fail> {
-    let Some(count) = word.strip_prefix('*') else {
-        return Ok(String::from_str(alloc, word)?);
-    };
-    let mut text = String::new(alloc);
-    for _ in 0..count.parse::<usize>()? {
-        text.push('a')?;
-    }
-    Ok(text)
-}
-
-// The fields of a row such as `num=1&text=seen`, which may be empty.
-fn fields_of(alloc: Global, row: &str) -> Result<Vec<(String, String)>, Fail> {
-    let mut fields = Vec::new(alloc);
-    for pair in row.split('&') {
-        if let Some((name, value)) = pair.split_once('=') {
-            fields.push((String::from_str(alloc, name)?, text_of(alloc, value)?))?;
-        }
-    }
-    Ok(fields)
-}
-
-// The command of a row such as `comment alice num=1&text=seen`; the key stands before a slash, as in `k1/alice`.
-fn command_in(alloc: Global, row: &str) -> Result<Result<Command, Refusal>, Fail> {
-    let (verb, rest) = row.split_once(' ').ok_or("a verb")?;
-    let (caller, fields) = rest.split_once(' ').ok_or("an account")?;
-    let verb = Verb::of_word(verb).ok_or("a verb")?;
-    let fields = fields_of(alloc, fields)?;
-    let Some((key, account)) = caller.split_once('/') else {
-        return Ok(command_of(alloc, verb, caller, None, fields.as_slice()));
-    };
-    let key = text_of(alloc, key)?;
-    Ok(command_of(alloc, verb, account, Some(key.as_str()), fields.as_slice()))
-}
-
-// Asserts what the form of each row is answered, `ok` where it is a command.
-fn expect_forms(rt: &impl Abort, alloc: Global, rows: &str) -> Result<(), Fail> {
-    for row in rows.lines() {
-        let (form, expected) = row.split_once(" | ").ok_or("a row")?;
-        let outcome = command_in(alloc, form)?.map(|_| Reply::Done);
-        let line = reply_line(alloc, outcome)?;
-        assert_eq!(rt; line.as_str().trim_end(), expected, "at {row}");
-    }
-    Ok(())
-}
-
-const ACCOUNT_AND_IMPORT_FORMS: &str = "\
-account root who=bob&rank=0 | ok
-account root rank=3&who=bob | ok
-account root who=bob&rank=4 | refused 3 BadText
-account root who=bob&rank=01 | refused 3 BadText
-account root who=bob | refused 3 BadText
-account root rank=1 | refused 3 BadText
-account root who=bob&rank=1&rank=1 | refused 3 BadText
-account root who=bob&rank=1&note=x | refused 3 BadText
-account root who=Bob&rank=1 | refused 3 BadText
-account root who=&rank=1 | refused 3 BadText
-account root who=*32&rank=1 | ok
-account root who=*33&rank=1 | refused 3 BadText
-account Root who=bob&rank=1 | refused 3 BadText
-account  who=bob&rank=1 | refused 3 BadText
-account k1/root who=bob&rank=1 | ok
-account /root who=bob&rank=1 | refused 3 BadText
-account *64/root who=bob&rank=1 | ok
-account *65/root who=bob&rank=1 | refused 3 BadText
-account kä/root who=bob&rank=1 | refused 3 BadText
-import root file=8086  I | ok
-import root file= | ok
-import root file=*4194304 | ok
-import root file=*4194305 | refused 3 BadText
-import root  | refused 3 BadText
-import root file=a&file=a | refused 3 BadText
-import root file=a&key=k1 | refused 3 BadText
-";
-
-#[test]
-fn reads_accounts_keys_and_files(rt: HostRuntime) -> Result<(), Fail> {
-    expect_forms(&rt, rt.alloc(), ACCOUNT_AND_IMPORT_FORMS)
-}
-
-const SUBMIT_FORMS: &str = "\
-submit root path=PC/8086&name=Intel | ok
-submit root remove=yes&path=PC/8086/1237 | ok
-submit root path=PC/8086/1237/1af41100&name=x&note= | ok
-submit root path=PD/01&name=x | ok
-submit root path=PD/01/01&name=x | ok
-submit root path=PD/01/01/80&name=x | ok
-submit root path=PS/1af4/1100&name=x | ok
-submit root path=PC/80A6&name=x | refused 1 BadPath
-submit root path=PC/8086/1237/1af4/1100&name=x | refused 1 BadPath
-submit root path=PD/0101&name=x | refused 1 BadPath
-submit root path=&name=x | refused 1 BadPath
-submit root path=PC/8086&name=*1000 | ok
-submit root path=PC/8086&name=*1001 | refused 2 BadName
-submit root path=PC/8086&name= | refused 2 BadName
-submit root path=PC/8086&name= x | refused 2 BadName
-submit root path=PC/8086&name=x  | ok
-submit root path=PC/8086&remove=no | refused 3 BadText
-submit root path=PC/8086 | refused 3 BadText
-submit root name=x | refused 3 BadText
-submit root path=PC/8086&name=x&remove=yes | refused 3 BadText
-submit root path=PC/8086&name=x&name=x | refused 3 BadText
-submit root path=PC/8086&path=PC/8086&name=x | refused 3 BadText
-submit root path=PC/8086&name=x&note=*4000 | ok
-submit root path=PC/8086&name=x&note=*4001 | refused 3 BadText
-submit root path=PC/8086&name=x&note=a&note=a | refused 3 BadText
-submit root path=PC/80A6&name=x&text=x | refused 3 BadText
-submit Root path=PC/80A6&name= | refused 1 BadPath
-submit Root path=PC/8086&name= | refused 2 BadName
-submit Root path=PC/8086&remove=no | refused 3 BadText
-submit /root path=PC/80A6&remove=no | refused 1 BadPath
-";
-
-#[test]
-fn reads_submissions(rt: HostRuntime) -> Result<(), Fail> {
-    expect_forms(&rt, rt.alloc(), SUBMIT_FORMS)
-}
-
-const NUMBERED_FORMS: &str = "\
-comment alice num=1&text=seen | ok
-comment alice num=1&text= | refused 3 BadText
-comment alice num=1&text=*4000 | ok
-comment alice num=1&text=*4001 | refused 3 BadText
-comment alice num=1 | refused 3 BadText
-comment alice text=seen | refused 3 BadText
-comment alice num=1&text=a&text=a | refused 3 BadText
-withdraw alice num=1 | ok
-withdraw alice num=2000000000 | ok
-withdraw alice num=2000000001 | refused 3 BadText
-withdraw alice num=10000000000 | refused 3 BadText
-withdraw alice num=0 | refused 3 BadText
-withdraw alice num=01 | refused 3 BadText
-withdraw alice num=+1 | refused 3 BadText
-withdraw alice num= | refused 3 BadText
-withdraw alice num=1&num=1 | refused 3 BadText
-withdraw alice num=1&text=a | refused 3 BadText
-approve alice num=1 | ok
-approve alice num=x | refused 3 BadText
-approve alice path=PC/8086 | refused 3 BadText
-reject alice num=1&reason=no | ok
-reject alice num=1&reason= | refused 3 BadText
-reject alice num=1&reason=*4001 | refused 3 BadText
-reject alice num=1&text=no | refused 3 BadText
-";
-
-#[test]
-fn reads_numbers_and_remarks(rt: HostRuntime) -> Result<(), Fail> {
-    expect_forms(&rt, rt.alloc(), NUMBERED_FORMS)
-}
 
 fn number_at(fields: &[(String, String)], name: &str) -> u32 {
     match value(fields, name) {
@@ -173,7 +17,13 @@ fn number_at(fields: &[(String, String)], name: &str) -> u32 {
 }
 
 fn rank_at(fields: &[(String, String)], name: &str) -> Option<Rank> {
-    rank_said(text_at(fields, name))
+    match text_at(fields, name) {
+        "0" => Some(Rank::Contributor),
+        "1" => Some(Rank::Moderator),
+        "2" => Some(Rank::Senior),
+        "3" => Some(Rank::Administrator),
+        _ => None,
+    }
 }
 
 fn name_at(alloc: Global, fields: &[(String, String)], name: &str) -> Result<Option<Name>, Fail> {
@@ -214,21 +64,20 @@ fn named_at(alloc: Global, fields: &[(String, String)]) -> Result<Option<Named>,
     }))
 }
 
-fn file_at(fields: &[(String, String)]) -> Verdict {
+fn file_at(fields: &[(String, String)]) -> Option<Verdict> {
     match text_at(fields, "file") {
-        "faulty" => Verdict::Faulty(FileFault::Line {
+        "faulty" => Some(Verdict::Faulty(FileFault::Line {
             line: 3,
             kind: LineKind::Duplicate,
-        }),
-        "many" => Verdict::Faulty(FileFault::TooMany),
-        "long" => Verdict::TooLong,
-        "good" => Verdict::Good {
+        })),
+        "many" => Some(Verdict::Faulty(FileFault::TooMany)),
+        "good" => Some(Verdict::Good {
             added: 1,
             renamed: 2,
             same: 3,
             items: number_at(fields, "items"),
-        },
-        _ => Verdict::NoFile,
+        }),
+        _ => None,
     }
 }
 
@@ -367,6 +216,56 @@ reject root num=1&reason=no | rank=1&author=bob&path=PC/8086/1237&name=a&present
 reject root num=1&reason=no | rank=2&author=bob&path=PC/8086 | ok
 ";
 
+// Each kind of path once at the rank that it needs, and one rank below.
+const KINDS: &str = "\
+approve root num=1 | rank=2&author=bob&path=PC/8086&name=a&parent=yes | ok
+approve root num=1 | rank=2&author=bob&path=PD/01&name=a&parent=yes | ok
+approve root num=1 | rank=1&author=bob&path=PC/8086/1237&name=a&parent=yes | ok
+approve root num=1 | rank=1&author=bob&path=PC/8086/1237/1af41100&name=a&parent=yes | ok
+approve root num=1 | rank=1&author=bob&path=PD/01/01&name=a&parent=yes | ok
+approve root num=1 | rank=1&author=bob&path=PD/01/01/80&name=a&parent=yes | ok
+approve root num=1 | rank=1&author=bob&path=PS/1af4/1100&name=a&parent=yes | ok
+approve root num=1 | rank=0&author=bob&path=PC/8086/1237/1af41100&name=a&parent=yes | refused 5 RankTooLow
+approve root num=1 | rank=0&author=bob&path=PD/01/01&name=a&parent=yes | refused 5 RankTooLow
+approve root num=1 | rank=0&author=bob&path=PD/01/01/80&name=a&parent=yes | refused 5 RankTooLow
+approve root num=1 | rank=0&author=bob&path=PS/1af4/1100&name=a&parent=yes | refused 5 RankTooLow
+approve root num=1 | rank=2&author=bob&path=PC/8086&present=a | ok
+approve root num=1 | rank=2&author=bob&path=PD/01&present=a | ok
+approve root num=1 | rank=2&author=bob&path=PC/8086/1237&present=a | ok
+approve root num=1 | rank=2&author=bob&path=PC/8086/1237/1af41100&present=a | ok
+approve root num=1 | rank=2&author=bob&path=PD/01/01&present=a | ok
+approve root num=1 | rank=2&author=bob&path=PD/01/01/80&present=a | ok
+approve root num=1 | rank=2&author=bob&path=PS/1af4/1100&present=a | ok
+approve root num=1 | rank=1&author=bob&path=PC/8086/1237/1af41100&present=a | refused 5 RankTooLow
+approve root num=1 | rank=1&author=bob&path=PD/01/01&present=a | refused 5 RankTooLow
+approve root num=1 | rank=1&author=bob&path=PD/01/01/80&present=a | refused 5 RankTooLow
+approve root num=1 | rank=1&author=bob&path=PS/1af4/1100&present=a | refused 5 RankTooLow
+reject root num=1&reason=no | rank=2&author=bob&path=PD/01&name=a | ok
+reject root num=1&reason=no | rank=1&author=bob&path=PD/01/01/80&name=a | ok
+reject root num=1&reason=no | rank=1&author=bob&path=PS/1af4/1100&name=a | ok
+";
+
+#[test]
+fn decides_on_each_kind_of_path(rt: HostRuntime) -> Result<(), Fail> {
+    expect_answers(&rt, rt.alloc(), KINDS)
+}
+
+// Each word and text as long as it may be.
+const LIMITS: &str = "\
+account *64/root who=*32&rank=1 | rank=3 | ok
+submit *64/*32 path=PC/8086&name=*1000&note=*4000 | rank=0 | ok 1
+comment *64/*32 num=2000000000&text=*4000 | rank=0&author=bob&path=PC/8086 | ok
+withdraw *64/*32 num=2000000000 | rank=0&author=*32&path=PC/8086&name=*1000 | ok
+approve *64/*32 num=2000000000 | rank=2&author=bob&path=PC/8086&name=*1000&present=*999&parent=yes&items=100000 | ok
+reject *64/*32 num=2000000000&reason=*4000 | rank=2&author=bob&path=PC/8086&name=*1000 | ok
+import *64/*32 file=*4194304 | rank=2&file=good&items=100000 | ok added=1 renamed=2 same=3
+";
+
+#[test]
+fn takes_the_longest_texts(rt: HostRuntime) -> Result<(), Fail> {
+    expect_answers(&rt, rt.alloc(), LIMITS)
+}
+
 #[test]
 fn checks_decisions(rt: HostRuntime) -> Result<(), Fail> {
     expect_answers(&rt, rt.alloc(), DECISIONS)
@@ -391,6 +290,31 @@ fn checks_imports(rt: HostRuntime) -> Result<(), Fail> {
     expect_answers(&rt, rt.alloc(), IMPORT_CHECKS)
 }
 
+const EARLY_IMPORTS: &str = "\
+- | refused 4 NoAccount
+rank=0 | refused 5 RankTooLow
+rank=1 | refused 5 RankTooLow
+rank=2 | waits
+rank=3 | waits
+kept=yes | ok 7
+kept=yes&rank=1 | ok 7
+kept=yes&rank=3 | ok 7
+";
+
+#[test]
+fn settles_imports_before_their_files(rt: HostRuntime) -> Result<(), Fail> {
+    let alloc = rt.alloc();
+    for row in EARLY_IMPORTS.lines() {
+        let (facts, expected) = row.split_once(" | ").ok_or("facts")?;
+        let told = match before_file(&facts_in(alloc, facts)?) {
+            Some(outcome) => reply_line(alloc, outcome)?,
+            None => String::from_str(alloc, "waits")?,
+        };
+        assert_eq!(rt; told.as_str().trim_end(), expected, "at {row}");
+    }
+    Ok(())
+}
+
 // What only a caller that makes a command by hand can ask.
 #[test]
 fn refuses_empty_words_before_kept_replies(rt: HostRuntime) -> Result<(), Fail> {
@@ -410,68 +334,6 @@ fn refuses_empty_words_before_kept_replies(rt: HostRuntime) -> Result<(), Fail> 
     };
     assert!(rt; breaks_form(&command));
     assert!(rt; matches!(&decide(&facts, &command), Err(Refusal::BadText)));
-    Ok(())
-}
-
-const REFUSALS: &str = "\
-refused 1 BadPath
-refused 2 BadName
-refused 3 BadText
-refused 4 NoAccount
-refused 5 RankTooLow
-refused 7 NoSubmission
-refused 8 NotPending
-refused 9 NotAuthor
-refused 10 OwnDecision
-refused 11 ParentMissing
-refused 12 HasChildren
-refused 13 NothingToDo
-refused 14 FileFault line=18446744073709551615 kind=1 NotUtf8
-refused 14 FileFault too many entries
-refused 15 Full
-refused 16 Memory
-refused 17 Store
-refused 18 Failed
-";
-
-#[test]
-fn tells_refusals_and_replies(rt: HostRuntime) -> Result<(), Fail> {
-    let alloc = rt.alloc();
-    let mut lines = String::new(alloc);
-    for refusal in [
-        Refusal::BadPath,
-        Refusal::BadName,
-        Refusal::BadText,
-        Refusal::NoAccount,
-        Refusal::RankTooLow,
-        Refusal::NoSubmission,
-        Refusal::NotPending,
-        Refusal::NotAuthor,
-        Refusal::OwnDecision,
-        Refusal::ParentMissing,
-        Refusal::HasChildren,
-        Refusal::NothingToDo,
-        Refusal::FileFault(FileFault::Line {
-            line: u64::MAX,
-            kind: LineKind::NotUtf8,
-        }),
-        Refusal::FileFault(FileFault::TooMany),
-        Refusal::Full,
-        Refusal::Memory,
-        Refusal::Store,
-        Refusal::Failed,
-    ] {
-        lines.push_str(reply_line(alloc, Err(refusal))?.as_str())?;
-    }
-    assert_eq!(rt; lines.as_str(), REFUSALS);
-    let counts = Reply::Counts {
-        added: u32::MAX,
-        renamed: 0,
-        same: 10,
-    };
-    let line = reply_line(alloc, Ok(counts))?;
-    assert_eq!(rt; line.as_str(), "ok added=4294967295 renamed=0 same=10\n");
-    assert_eq!(rt; reply_line(alloc, Ok(Reply::Done))?.as_str(), "ok\n");
     Ok(())
 }
 

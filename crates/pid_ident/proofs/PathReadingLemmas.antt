@@ -1,15 +1,15 @@
--- The path that a text reads to is the one whose text it is.
+-- The path that a text reads to is the one whose text it is; the text of its parent by the length of its own.
 use Rattle.std.proofs.Common.{◌≡◌, ℕ, ◌+◌, ◌*◌, ◌/◌, ◌%◌, ◌<◌, ◌^◌, Bool, true, false, cond, List, Option, Some, None, refl, sym, ap, subst, ◌∙◌, arith}
 use Rattle.std.specs.Prelude.{nat_lt, ◌==◌, length, slice_index}
 use Rattle.std.specs.Char.{digit_char}
-use Rattle.std.specs.Option.{IfSome, IfNone}
+use Rattle.std.specs.Option.{IfSome, IfNone, option_map}
 use Rattle.std.specs.Str.{bytes_eq}
 use Rattle.std.proofs.lemmas.Bool.Decides.{nat_tests}
 use Rattle.std.proofs.lemmas.Slice.Eq.{bytes_eq-Decides}
 use Rattle.pid_ident.specs.declared.path.Path.{Path}
 use Rattle.pid_ident.specs.declared.path.Path.TheVariants.{Vendor, Device, Subsystem, Class, Subclass, ProgIf, Generic}
-use Rattle.pid_ident.specs.PathTexts.{IsPath, IsTextOf, path_text}
-use Rattle.pid_moderation.specs.PathReading.{hex_value, two_at, four_at, candidate, if_its_text, path_of}
+use Rattle.pid_ident.specs.PathTexts.{IsPath, IsTextOf, path_text, parent_of}
+use Rattle.pid_ident.specs.PathReading.{hex_value, two_at, four_at, candidate, if_its_text, path_of, parent_text}
 
 hex_value-digit_char : (x : ℕ) → x < 16 → hex_value (digit_char x) ≡ x
 hex_value-digit_char x h = chosen (nat_lt x 10) refl
@@ -87,3 +87,12 @@ read_path text None found none = nothing (path_of text) refl
     nothing : (o : Option Path) → path_of text ≡ o → None ≡ o
     nothing None e = refl
     nothing (Some p) e = absurd (none p (text_of_path text p e))
+
+pub text_of_parent : (path : Path) → parent_text (path_text path) ≡ option_map path_text (parent_of path)
+text_of_parent (Vendor v) = refl
+text_of_parent (Device v d) = refl
+text_of_parent (Subsystem v d s e) = refl
+text_of_parent (Class c) = refl
+text_of_parent (Subclass c s) = refl
+text_of_parent (ProgIf c s p) = refl
+text_of_parent (Generic v d) = refl
