@@ -1,4 +1,19 @@
 -- What a connection is left as by a call, and what a crash may then leave. All of it holds while the disk returns what was written.
+--
+-- The states, where the tables showed v at the start, and w once the change is made:
+--
+--     at rest          begun               written             committed
+--     AtRest v ──────▶ Within c v v ─────▶ Written c v w ────▶ AtRest w
+--        ▲     begin       │       writes      │       commit
+--        │                 │ a call fails      │ the commit fails
+--        │ roll_back       ▼                   ▼
+--        └─────────────  Holds v           LeavesEither v w
+--                        failed
+--
+-- A crash at rest leaves v (at the end w), so does one in a transaction (each of the three is a `Holds v`), and one after a failed
+-- commit the one or the other. `Written` says more than `Within`: the connection is open. A read goes from at rest to at rest
+-- (`OnlyReads`), a call in a transaction stays in it (`GoesOn`) and leads on to the next views (`LeadsTo`). A connection that a
+-- fault has shut shows nothing, but what a crash leaves is as good as it was.
 use Rattle.std.specs.Prelude.{◌≡◌, ◌⊎◌, false, Result, OnOk, MatchResult, IsTrue}
 use Rattle.sqlite.specs.Tree.{Trees}
 use Rattle.sqlite.specs.State.{State, HasCleanDisk, Survives}
@@ -59,11 +74,18 @@ LeadsTo old new result IsFor recount next =
     HasCleanDisk new → IsTrue old.in_transaction → (c : Counts) (v : Views) → ShowsCounting c old.now v → IsFor c v
     → MatchResult result (λ _. ShowsCounting (recount c) new.now (next v)) IsUntold
 
--- a read leaves what was at rest at rest, and forgets no fault
+-- while it is open, the connection sees this database, and it is committed
+pub record RestsOn (s : State) (d : Database) : Type 0 where
+  pub sees : IsTrue s.is_open → s.now ≡ d
+  pub committed : IsTrue s.is_open → s.committed ≡ d
+
+-- A read opens no connection and forgets no fault. The database stays the same, whatever it is: what was at rest stays at rest.
 pub record OnlyReads (old new : State) : Type 0 where
   pub survives : Survives old new (λ _. ⊥)
   pub settled : new.in_transaction ≡ false
   pub clean : HasCleanDisk new → HasCleanDisk old
+  pub was_open : IsTrue new.is_open → IsTrue old.is_open
+  pub same : (d : Database) → RestsOn old d → RestsOn new d
   pub kept : (v : Views) → AtRest old v → AtRest new v
 
 -- and tells of the views that were at rest; a fault has a cause where what they hold can be read
