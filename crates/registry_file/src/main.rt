@@ -7,7 +7,7 @@ ghost use Rattle.std.specs.Prelude.{◌≡◌, false, IfOk, OnOk};
 ghost use Rattle.sqlite.specs.Held.{state};
 
 use pid_ident::{Account, Name, Path, Text, WordFault};
-use pid_moderation::{Act, Change, Command, Effect, Proposal, Rank, Verdict, decide, needs};
+use pid_moderation::{Act, Change, Command, Effect, Facts, Proposal, Rank, Verdict, decide, needs};
 use pid_reader::Lines;
 use pid_tables::{Batch, Put, TableFault, Tables, apply, begin, commit, create, put};
 use sqlite::{Alter, Connection, File, FileStore};
@@ -116,16 +116,7 @@ fn fill<S: Alter + Drop>(
 {
     if tables.version()? == 0 {
         create(&mut tables.conn)?;
-        let who = Account::of(alloc, "bob")?;
-        obey(
-            tables,
-            alloc,
-            "root",
-            Act::Account {
-                who,
-                rank: Rank::Moderator,
-            },
-        )?;
+        obey(tables, alloc, moderator(alloc))?;
     } else {
         tables.check(alloc)?;
     }
@@ -195,37 +186,113 @@ fn submit_and_approve<S: Alter + Drop>(
     requires { (state S.Store tables.old.conn).in_transaction ≡ false }
     ensures { OnOk result ((state S.Store tables.new.conn).in_transaction ≡ false) }
 {
-    let submit = Act::Submit {
-        path: Path::Vendor { vendor: number },
-        proposal: Proposal::Name(Name::of(alloc, "renamed")?),
-        note: Text::of(alloc, "")?,
-    };
-    obey(tables, alloc, "bob", submit)?;
+    obey(tables, alloc, submission(alloc, number))?;
     let number = tables.submissions()?;
-    obey(tables, alloc, "root", Act::Approve { number })
+    obey(
+        tables,
+        alloc,
+        command(alloc, "root", Act::Approve { number }),
+    )
 }
 
-// One command is one transaction.
+// The administrator makes bob a moderator.
+fn moderator(alloc: Global) -> Result<Command, WordFault> {
+    let rank = Rank::Moderator;
+    match Account::of(alloc, "bob") {
+        Ok(who) => command(alloc, "root", Act::Account { who, rank }),
+        Err(fault) => Err(fault),
+    }
+}
+
+fn submission(alloc: Global, vendor: u16) -> Result<Command, WordFault> {
+    match Name::of(alloc, "renamed") {
+        Ok(name) => noted(alloc, Path::Vendor { vendor }, Proposal::Name(name)),
+        Err(fault) => Err(fault),
+    }
+}
+
+fn noted(alloc: Global, path: Path, proposal: Proposal) -> Result<Command, WordFault> {
+    match Text::of(alloc, "") {
+        Ok(note) => command(
+            alloc,
+            "bob",
+            Act::Submit {
+                path,
+                proposal,
+                note,
+            },
+        ),
+        Err(fault) => Err(fault),
+    }
+}
+
+fn command(alloc: Global, account: &str, act: Act) -> Result<Command, WordFault> {
+    match Account::of(alloc, account) {
+        Ok(account) => Ok(Command {
+            account,
+            key: None,
+            act,
+        }),
+        Err(fault) => Err(fault),
+    }
+}
+
+// One command is one transaction. (No body here holds a command or facts across a `?`: each of its exits would be a
+// proof of its own, with all the cases of what is dropped.)
 fn obey<S: Alter + Drop>(
     tables: &mut Tables<S>,
     alloc: Global,
-    account: &str,
-    act: Act,
+    command: Result<Command, WordFault>,
 ) -> Result<(), Fault>
     requires { (state S.Store tables.old.conn).in_transaction ≡ false }
     ensures { OnOk result ((state S.Store tables.new.conn).in_transaction ≡ false) }
 {
-    let account = Account::of(alloc, account)?;
-    let command = Command {
-        account,
-        key: None,
-        act,
-    };
-    let rows = needs(&command);
-    let facts = tables.gather(alloc, &command.account, &command.key, rows, Verdict::NoFile)?;
-    let (change, _) = decide(&facts, &command).map_err(|_| Fault::Refused)?;
+    match command {
+        Ok(command) => gather_and_write(tables, alloc, &command),
+        Err(fault) => Err(Fault::from(fault)),
+    }
+}
+
+fn gather_and_write<S: Alter + Drop>(
+    tables: &mut Tables<S>,
+    alloc: Global,
+    command: &Command,
+) -> Result<(), Fault>
+    requires { (state S.Store tables.old.conn).in_transaction ≡ false }
+    ensures { OnOk result ((state S.Store tables.new.conn).in_transaction ≡ false) }
+{
+    let rows = needs(command);
+    match tables.gather(alloc, &command.account, &command.key, rows, Verdict::NoFile) {
+        Ok(facts) => decide_and_write(tables, alloc, &facts, command),
+        Err(fault) => Err(Fault::Tables(fault)),
+    }
+}
+
+fn decide_and_write<S: Alter + Drop>(
+    tables: &mut Tables<S>,
+    alloc: Global,
+    facts: &Facts,
+    command: &Command,
+) -> Result<(), Fault>
+    requires { (state S.Store tables.old.conn).in_transaction ≡ false }
+    ensures { OnOk result ((state S.Store tables.new.conn).in_transaction ≡ false) }
+{
+    match decide(facts, command) {
+        Ok((change, _)) => write(tables, alloc, &change),
+        Err(_) => Err(Fault::Refused),
+    }
+}
+
+fn write<S: Alter + Drop>(
+    tables: &mut Tables<S>,
+    alloc: Global,
+    change: &Change,
+) -> Result<(), Fault>
+    requires { (state S.Store tables.old.conn).in_transaction ≡ false }
+    ensures { OnOk result ((state S.Store tables.new.conn).in_transaction ≡ false) }
+{
     let mut batch = begin(&mut tables.conn);
-    apply(&mut batch, alloc, &change)?;
+    apply(&mut batch, alloc, change)?;
     commit(batch)?;
     Ok(())
 }
