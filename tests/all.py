@@ -1,4 +1,7 @@
-"""All cases of the built program."""
+"""All cases of the built program. The words name parts; without words all are tried."""
+import resource
+import sys
+
 import fault_gallery
 import limits
 import lspci
@@ -10,10 +13,18 @@ import words
 import worked_rows
 from program import Cases
 
+PARTS = {it.__name__: it for it in (worked_rows, words, fault_gallery, limits, real_file, lspci, registry, stops, memory)}
+
+
+def processor_seconds():
+    used = [resource.getrusage(it) for it in (resource.RUSAGE_SELF, resource.RUSAGE_CHILDREN)]
+    return sum(it.ru_utime + it.ru_stime for it in used)
+
+
 cases = Cases()
-for part in (worked_rows, words, fault_gallery, limits, real_file, lspci, registry, stops, memory):
-    before = cases.passed
-    part.run(cases)
-    print(f"{part.__name__}: {cases.passed - before} passed")
+for name in sys.argv[1:] or PARTS:
+    passed, before = cases.passed, processor_seconds()
+    PARTS[name].run(cases)
+    print(f"{name}: {cases.passed - passed} passed, {processor_seconds() - before:.1f} processor seconds", flush=True)
 print(f"{cases.passed} passed, {cases.failed} failed")
 raise SystemExit(cases.failed != 0)

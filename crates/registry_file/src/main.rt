@@ -3,14 +3,14 @@
 //! part of `pciids`.
 #![tactic(auto)]
 
-ghost use Rattle.std.specs.Prelude.{◌≡◌, false, IfOk, OnOk};
+ghost use Rattle.std.specs.Prelude.{◌≡◌, false, OnOk};
 ghost use Rattle.sqlite.specs.Held.{state};
 
 use pid_ident::{Account, Name, Path, Text, WordFault};
-use pid_moderation::{Act, Change, Command, Effect, Proposal, Rank, Verdict, decide, needs};
+use pid_moderation::{Act, Change, Command, Effect, Facts, Proposal, Rank, Verdict, decide, needs};
 use pid_reader::Lines;
-use pid_tables::{Batch, Put, TableFault, Tables, apply, begin, commit, create, put};
-use sqlite::{Alter, Connection, File, FileStore};
+use pid_tables::{Batch, Put, TableFault, Tables, apply, begin, commit, create, put, roll_back};
+use sqlite::{Alter, Connection};
 use std::alloc::{AllocError, Global};
 use std::io::Read;
 use std::process::ExitCode;
@@ -62,46 +62,84 @@ fn main(rt: HostRuntime) -> ExitCode {
 }
 
 fn obey_words(rt: &HostRuntime) -> Result<u32, Fault> {
-    let words: Vec<String> = env::args(rt)
-        .map_err(|_| Fault::Words)?
-        .collect(rt.alloc())?;
-    match words.as_slice() {
-        [_, file, commands] => {
-            let commands = commands.parse::<u16>().map_err(|_| Fault::Words)?;
-            make(rt, file, commands)
-        }
-        [_, file, job, times] => {
-            let job = Job::of_word(job).ok_or(Fault::Words)?;
-            let times = times.parse::<u32>().map_err(|_| Fault::Words)?;
-            ask_again(rt, file, job, times)
-        }
+    match env::args(rt) {
+        Ok(words) => match words.collect::<Vec<String>>(rt.alloc()) {
+            Ok(words) => obey(rt, words.as_slice()),
+            Err(_) => Err(Fault::Tables(TableFault::Memory)),
+        },
+        Err(_) => Err(Fault::Words),
+    }
+}
+
+/// What is to be done with a file.
+#[derive(Clone, Copy)]
+enum Work<'w> {
+    /// The text is imported, and so many submissions are made and approved.
+    Make { text: &'w [u8], commands: u16 },
+    Ask { job: Job, times: u32 },
+}
+
+fn obey(rt: &HostRuntime, words: &[String]) -> Result<u32, Fault> {
+    match words {
+        [_, file, commands] => match commands.parse::<u16>() {
+            Ok(commands) => make(rt, file, commands),
+            Err(_) => Err(Fault::Words),
+        },
+        [_, file, job, times] => match (Job::of_word(job), times.parse::<u32>()) {
+            (Some(job), Ok(times)) => work_on_file(rt, file, Work::Ask { job, times }),
+            _ => Err(Fault::Words),
+        },
         _ => Err(Fault::Words),
     }
 }
 
-fn open(rt: &HostRuntime, file: &str) -> Result<Tables<FileStore<File>>, Fault>
-    ensures { IfOk result (λ tables. tables.conn.in_transaction ≡ false) }
-{
-    let conn = Connection::open(rt, file).map_err(TableFault::from)?;
+fn make(rt: &HostRuntime, file: &str, commands: u16) -> Result<u32, Fault> {
+    let mut text = Vec::new(rt.alloc());
+    match rt.stdin().read_to_end(&mut text) {
+        Ok(_) => work_on_file(
+            rt,
+            file,
+            Work::Make {
+                text: &text,
+                commands,
+            },
+        ),
+        Err(_) => Err(Fault::Input),
+    }
+}
+
+// Only here is the store a file of the system: all below is generic, and lets go of no more than it must.
+fn work_on_file(rt: &HostRuntime, file: &str, work: Work<'_>) -> Result<u32, Fault> {
+    match Connection::open(rt, file) {
+        Ok(conn) => work_on_store(conn, rt.alloc(), work),
+        Err(fault) => Err(Fault::Tables(TableFault::from(fault))),
+    }
+}
+
+fn work_on_store<S: Alter + Drop>(
+    conn: Connection<S>,
+    alloc: Global,
+    work: Work<'_>,
+) -> Result<u32, Fault> {
     if conn.is_autocommit() {
-        Ok(Tables::new(conn))
+        let mut tables = Tables::new(conn);
+        work_on_tables(&mut tables, alloc, work)
     } else {
         Err(Fault::Tables(TableFault::Store))
     }
 }
 
-fn make(rt: &HostRuntime, file: &str, commands: u16) -> Result<u32, Fault> {
-    let alloc = rt.alloc();
-    let mut text = Vec::new(alloc);
-    rt.stdin().read_to_end(&mut text).map_err(|_| Fault::Input)?;
-    let mut tables = open(rt, file)?;
-    fill(&mut tables, alloc, &text, commands)?;
-    Ok(tables.items()?)
-}
-
-fn ask_again(rt: &HostRuntime, file: &str, job: Job, times: u32) -> Result<u32, Fault> {
-    let mut tables = open(rt, file)?;
-    repeat(&mut tables, rt.alloc(), job, times)?;
+fn work_on_tables<S: Alter + Drop>(
+    tables: &mut Tables<S>,
+    alloc: Global,
+    work: Work<'_>,
+) -> Result<u32, Fault>
+    requires { (state S.Store tables.old.conn).in_transaction ≡ false }
+{
+    match work {
+        Work::Make { text, commands } => fill(tables, alloc, text, commands)?,
+        Work::Ask { job, times } => repeat(tables, alloc, job, times)?,
+    }
     Ok(tables.items()?)
 }
 
@@ -114,26 +152,24 @@ fn fill<S: Alter + Drop>(
     requires { (state S.Store tables.old.conn).in_transaction ≡ false }
     ensures { OnOk result ((state S.Store tables.new.conn).in_transaction ≡ false) }
 {
-    if tables.version()? == 0 {
-        create(&mut tables.conn)?;
-        let who = Account::of(alloc, "bob")?;
-        obey(
-            tables,
-            alloc,
-            "root",
-            Act::Account {
-                who,
-                rank: Rank::Moderator,
-            },
-        )?;
-    } else {
-        tables.check(alloc)?;
-    }
+    prepare(tables, alloc)?;
     import(tables, alloc, text)?;
     for number in 0..commands {
         submit_and_approve(tables, alloc, number)?;
     }
     Ok(())
+}
+
+// A new registry with a moderator, or one that is good.
+fn prepare<S: Alter + Drop>(tables: &mut Tables<S>, alloc: Global) -> Result<(), Fault>
+    requires { (state S.Store tables.old.conn).in_transaction ≡ false }
+    ensures { OnOk result ((state S.Store tables.new.conn).in_transaction ≡ false) }
+{
+    if tables.version()? != 0 {
+        return Ok(tables.check(alloc)?);
+    }
+    create(&mut tables.conn)?;
+    carry_out(tables, alloc, moderator(alloc))
 }
 
 // How the entries of a text changed the items.
@@ -195,37 +231,117 @@ fn submit_and_approve<S: Alter + Drop>(
     requires { (state S.Store tables.old.conn).in_transaction ≡ false }
     ensures { OnOk result ((state S.Store tables.new.conn).in_transaction ≡ false) }
 {
-    let submit = Act::Submit {
-        path: Path::Vendor { vendor: number },
-        proposal: Proposal::Name(Name::of(alloc, "renamed")?),
-        note: Text::of(alloc, "")?,
-    };
-    obey(tables, alloc, "bob", submit)?;
+    carry_out(tables, alloc, submission(alloc, number))?;
     let number = tables.submissions()?;
-    obey(tables, alloc, "root", Act::Approve { number })
+    carry_out(
+        tables,
+        alloc,
+        command(alloc, "root", Act::Approve { number }),
+    )
 }
 
-// One command is one transaction.
-fn obey<S: Alter + Drop>(
+// The administrator makes bob a moderator.
+fn moderator(alloc: Global) -> Result<Command, WordFault> {
+    let rank = Rank::Moderator;
+    match Account::of(alloc, "bob") {
+        Ok(who) => command(alloc, "root", Act::Account { who, rank }),
+        Err(fault) => Err(fault),
+    }
+}
+
+fn submission(alloc: Global, vendor: u16) -> Result<Command, WordFault> {
+    match Name::of(alloc, "renamed") {
+        Ok(name) => noted(alloc, Path::Vendor { vendor }, Proposal::Name(name)),
+        Err(fault) => Err(fault),
+    }
+}
+
+fn noted(alloc: Global, path: Path, proposal: Proposal) -> Result<Command, WordFault> {
+    match Text::of(alloc, "") {
+        Ok(note) => command(
+            alloc,
+            "bob",
+            Act::Submit {
+                path,
+                proposal,
+                note,
+            },
+        ),
+        Err(fault) => Err(fault),
+    }
+}
+
+fn command(alloc: Global, account: &str, act: Act) -> Result<Command, WordFault> {
+    match Account::of(alloc, account) {
+        Ok(account) => Ok(Command {
+            account,
+            key: None,
+            act,
+        }),
+        Err(fault) => Err(fault),
+    }
+}
+
+// One command is one transaction. (No body here holds a command or facts across a `?`: each of its exits would be a
+// proof of its own, with all the cases of what is dropped.)
+fn carry_out<S: Alter + Drop>(
     tables: &mut Tables<S>,
     alloc: Global,
-    account: &str,
-    act: Act,
+    command: Result<Command, WordFault>,
 ) -> Result<(), Fault>
     requires { (state S.Store tables.old.conn).in_transaction ≡ false }
     ensures { OnOk result ((state S.Store tables.new.conn).in_transaction ≡ false) }
 {
-    let account = Account::of(alloc, account)?;
-    let command = Command {
-        account,
-        key: None,
-        act,
-    };
-    let rows = needs(&command);
-    let facts = tables.gather(alloc, &command.account, &command.key, rows, Verdict::NoFile)?;
-    let (change, _) = decide(&facts, &command).map_err(|_| Fault::Refused)?;
+    match command {
+        Ok(command) => gather_and_write(tables, alloc, &command),
+        Err(fault) => Err(Fault::from(fault)),
+    }
+}
+
+fn gather_and_write<S: Alter + Drop>(
+    tables: &mut Tables<S>,
+    alloc: Global,
+    command: &Command,
+) -> Result<(), Fault>
+    requires { (state S.Store tables.old.conn).in_transaction ≡ false }
+    ensures { OnOk result ((state S.Store tables.new.conn).in_transaction ≡ false) }
+{
+    let rows = needs(command);
+    match tables.gather(alloc, &command.account, &command.key, rows, Verdict::NoFile) {
+        Ok(facts) => decide_and_write(tables, alloc, &facts, command),
+        Err(fault) => Err(Fault::Tables(fault)),
+    }
+}
+
+fn decide_and_write<S: Alter + Drop>(
+    tables: &mut Tables<S>,
+    alloc: Global,
+    facts: &Facts,
+    command: &Command,
+) -> Result<(), Fault>
+    requires { (state S.Store tables.old.conn).in_transaction ≡ false }
+    ensures { OnOk result ((state S.Store tables.new.conn).in_transaction ≡ false) }
+{
+    match decide(facts, command) {
+        Ok((change, _)) => write(tables, alloc, &change),
+        Err(_) => Err(Fault::Refused),
+    }
+}
+
+fn write<S: Alter + Drop>(
+    tables: &mut Tables<S>,
+    alloc: Global,
+    change: &Change,
+) -> Result<(), Fault>
+    requires { (state S.Store tables.old.conn).in_transaction ≡ false }
+    ensures { OnOk result ((state S.Store tables.new.conn).in_transaction ≡ false) }
+{
     let mut batch = begin(&mut tables.conn);
-    apply(&mut batch, alloc, &change)?;
-    commit(batch)?;
-    Ok(())
+    match apply(&mut batch, alloc, change) {
+        Ok(()) => Ok(commit(batch)?),
+        Err(fault) => {
+            roll_back(batch);
+            Err(Fault::Tables(fault))
+        }
+    }
 }
