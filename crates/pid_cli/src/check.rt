@@ -22,6 +22,7 @@ pub fn check<I: Input, O: Output>(alloc: Global, input: &mut I, output: &mut O) 
     ensures read_fault { result ≡ TextEnd.ReadFault → IsSome (I.read_fault input.new) }
     ensures read_fault_first { IsSome (I.read_fault input.new) → result ≡ TextEnd.ReadFault }
     ensures write_fault { result ≡ TextEnd.WriteFault → IsSome (O.write_fault output.new) }
+    ensures goes { I.goes input.old input.new }
     ensures stops { (front : List ℕ) × Consumes (I.to_come input.old) (I.to_come input.new) front × (length front ≤ LARGEST + 1) }
 {
     let counted = read_text(input, EntryCounter::new(alloc));

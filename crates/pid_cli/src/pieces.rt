@@ -87,6 +87,7 @@ pub fn read_text<I: Input, R: PieceReader>(
     ensures end { IfSome (I.to_come input.old) (λ text. IsRead R.gives result text) }
     ensures fault { result ≡ Err InputEnd.ReadFault → IsSome (I.read_fault input.new) }
     ensures fault_first { IsSome (I.read_fault input.new) → result ≡ Err InputEnd.ReadFault }
+    ensures goes { I.goes input.old input.new }
     ensures stops { (front : List ℕ) × Consumes (I.to_come input.old) (I.to_come input.new) front × (length front ≤ LARGEST + 1) }
 {
     let mut buffer = [0u8; BUFFER];

@@ -29,6 +29,7 @@ pub fn tidy<I: Input, O: Output, F: Output>(
     ensures read_fault_first { IsSome (I.read_fault input.new) → result ≡ TextEnd.ReadFault }
     ensures write_fault { result ≡ TextEnd.WriteFault → IsSome (O.write_fault output.new) ⊎ IsSome (F.write_fault faults.new) }
     ensures nothing_printed { PrintsNothing result (O.taken output.old) (O.taken output.new) }
+    ensures goes { I.goes input.old input.new }
     ensures stops { (front : List ℕ) × Consumes (I.to_come input.old) (I.to_come input.new) front × (length front ≤ LARGEST + 1) }
 {
     let read = read_text(input, Feeder::new(alloc));

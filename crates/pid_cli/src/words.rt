@@ -14,11 +14,11 @@ const VERSION: &str = "0.1";
 const FAULTS: &str = "\
 A fault is told as 'line L: NUMBER Word', of the first faulty line:
   1 NotUtf8        the bytes of the line are not UTF-8
-  2 TooDeep        more tabs at the front than the block has levels
-  3 NoParent       no line above that this one belongs to
-  4 BadId          the hex digits, or the blank behind them, are not there
+  2 TooDeep        more than two tabs at the front, or more than one below an S line
+  3 NoParent       tabs at the front, and no line above that the line belongs to
+  4 BadId          the hex digits, or a blank behind them, are not there
   5 NoName         nothing stands behind the digits and blanks
-  6 BadName        the name has more than 1,000 bytes or a control byte
+  6 BadName        the name has over 1,000 bytes, or a control character but a tab
   7 Duplicate      an earlier entry has the same path
   8 VendorMissing  an S line of a vendor that no earlier entry names
 A text is also refused as 'too many entries' (over 100,000) or 'too large' (over 4,194,304 bytes).";

@@ -5,7 +5,7 @@ use Rattle.pid_cli.proofs.Feeding.{Consumes-nil, Consumes-then, Holds-piece}
 use Rattle.pid_cli.proofs.pieces.read_text.Goals as goal
 
 pub loop-length-init : goal.loop-length-init
-loop-length-init g c = (record { front = []; consumed = Consumes-nil _; counted = refl }, c.requires, omega arith, λ some. absurd (omega (arith, some)))
+loop-length-init g c = (record { front = []; consumed = Consumes-nil _; counted = refl }, c.requires, omega arith, λ some. absurd (omega (arith, some)), g.met.I.Input.stays _)
 
 pub loop-length-preserved : goal.loop-length-preserved
 loop-length-preserved g c =
@@ -19,4 +19,5 @@ loop-length-preserved g c =
       Holds-piece g.R.PieceReader.took _ _ _ _ _ _ c.loop-length.invariant.1 c.take_next-refusal.ensures.took c.take_next-refusal.ensures.refused (λ r e. c.take_next-refusal.ensures.stays (rw e refl) ∙ e),
       omega (arith, room, whole, least, c.loop-length-test.true),
       λ some. c.in-Ok.ensures.fault,
+      g.met.I.Input.joins _ _ _ c.loop-length.invariant.4 c.in-Ok.ensures.goes,
     )
