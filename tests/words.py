@@ -6,6 +6,7 @@ import program
 from program import HEADER, PROGRAM
 
 TEXT = b"8086  I\n"
+KINDS = ("NotUtf8", "TooDeep", "NoParent", "BadId", "NoName", "BadName", "Duplicate", "VendorMissing")
 
 
 def into_full(*words):
@@ -25,17 +26,81 @@ def of_folder(*words):
     return ran.stdout, ran.stderr, ran.returncode
 
 
-def run(cases):
-    ran = program.run(TEXT, "tidy")
-    cases.equal("tidy", (ran.out, ran.err, ran.status), (HEADER + TEXT, b"", 0))
-    for word in ("--help", "-h", "help"):
+def into_left(text, *words):
+    """What the program says where the reader of its standard output has gone away."""
+    there, here = os.pipe()
+    os.close(there)
+    try:
+        ran = subprocess.run([PROGRAM, *words], input=text, stdout=here, stderr=subprocess.PIPE, timeout=60)
+    finally:
+        os.close(here)
+    return ran.stderr, ran.returncode
+
+
+def first_line(text):
+    """What the program says, and the first line of what it prints, where that is all that is read."""
+    program_run = subprocess.Popen([PROGRAM], stdin=subprocess.PIPE, stdout=subprocess.PIPE, stderr=subprocess.PIPE)
+    program_run.stdin.write(text)
+    program_run.stdin.close()
+    line = program_run.stdout.readline()
+    program_run.stdout.close()
+    told = program_run.stderr.read()
+    program_run.stderr.close()
+    return line, told, program_run.wait(timeout=60)
+
+
+def asked_for(cases):
+    """Help and the version: on standard output, status 0."""
+    for words in (["--help"], ["-h"], ["help"], ["check", "--help"], ["tidy", "-h"], ["help", "check"]):
+        ran = program.run(TEXT, *words)
+        cases.equal(f"{words}: status", (ran.err, ran.status), (b"", 0))
+        cases.equal(f"{words}: shows where the text comes from", b"Usage: pciids" in ran.out and b"< FILE" in ran.out, True)
+    ran = program.run(TEXT, "--help")
+    cases.equal("--help: names the commands", b"check" in ran.out and b"tidy" in ran.out, True)
+    for words in (["check", "--help"], ["help", "check"]):
+        lines = program.run(TEXT, *words).out.decode().splitlines()
+        for number, kind in enumerate(KINDS, 1):
+            told = [line for line in lines if line.split()[:2] == [str(number), kind]]
+            cases.equal(f"{words}: a line on {kind}", len(told), 1)
+    for word in ("--version", "-V"):
         ran = program.run(TEXT, word)
-        cases.equal(f"{word}: status", (ran.err, ran.status), (b"", 0))
-        cases.equal(f"{word}: names the commands", b"Usage: pciids" in ran.out and b"check" in ran.out, True)
-    for words in (["chekc"], ["check", "x"], ["tidy", "check"], ["--db", "x"], [""], [b"\xff"]):
+        cases.equal(word, (ran.out, ran.err, ran.status), (b"pciids 0.1\n", b"", 0))
+    for words in (["--help"], ["help"], ["check", "-h"], ["--version"], ["-V"]):
+        cases.equal(f"{words}: no room for it", into_full(*words), (b"file: failed\n", 3))
+        cases.equal(f"{words}: nobody reads it", into_left(b"", *words), (b"", 3))
+
+
+def wrong_words(cases):
+    """Words that no command takes: told on standard error with what to type, status 2."""
+    for words in (["chekc"], ["check", "x"], ["tidy", "check"], ["--db", "x"], [""], ["version"], ["check", "-V"]):
         ran = program.run(TEXT, *words)
         cases.equal(f"{words}: nothing is done", (ran.out, ran.status), (b"", 2))
         cases.equal(f"{words}: the fault is told", ran.err.startswith(b"error: "), True)
+    for words, typed in (([], b"pciids"), (["check"], b"pciids check"), (["tidy"], b"pciids tidy")):
+        ran = program.run(b"", *words, program.REAL_FILE)
+        hint = b"A file is read from standard input: " + typed + b" < FILE\n"
+        cases.equal(f"{words} and a file: nothing is done", (ran.out, ran.status), (b"", 2))
+        cases.equal(f"{words} and a file: the fault is told", ran.err.startswith(b"error: "), True)
+        cases.equal(f"{words} and a file: what to type", ran.err.endswith(b"\n" + hint), True)
+    ran = program.run(TEXT, b"\xff")
+    cases.equal("a word that is not UTF-8", (ran.out, ran.err, ran.status), (b"", b"error: a word is not UTF-8\n", 2))
+
+
+def files_that_fail(cases):
+    """A file that fails is told in one line; a reader that went away by the status alone."""
     for words in ([], ["tidy"], ["check"]):
         cases.equal(f"{words}: no room for the output", into_full(*words), (b"file: failed\n", 3))
         cases.equal(f"{words}: a folder as the input", of_folder(*words), (b"", b"file: failed\n", 3))
+        cases.equal(f"{words}: nobody reads the output", into_left(TEXT, *words), (b"", 3))
+    cases.equal("check: nobody reads the fault", into_left(b"\t1237  X", "check"), (b"", 3))
+    cases.equal("tidy: a fault, and nobody reads the output", into_left(b"\t1237  X"), (b"line 1: 3 NoParent\n", 1))
+    many = b"".join(b"%04x  a name\n" % vendor for vendor in range(65_536))
+    cases.equal("the first line alone is read", first_line(many), (HEADER, b"", 3))
+
+
+def run(cases):
+    ran = program.run(TEXT, "tidy")
+    cases.equal("tidy", (ran.out, ran.err, ran.status), (HEADER + TEXT, b"", 0))
+    asked_for(cases)
+    wrong_words(cases)
+    files_that_fail(cases)

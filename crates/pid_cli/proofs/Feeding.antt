@@ -3,11 +3,12 @@ use Rattle.std.proofs.Common.{◌≡◌, ℕ, List, [], ◌++◌, length, Option
 use Rattle.std.specs.Prelude.{IfSome, MatchOption}
 use Rattle.std.specs.Io.KnownBytes.{Consumes}
 use Rattle.pid_reader.specs.declared.refusal.ReadRefusal.{ReadRefusal}
-use Rattle.pid_cli.specs.Judgements.{IsRefusalOf}
+use Rattle.pid_reader.specs.Reading.{refused}
+use Rattle.pid_reader.specs.Refusals.{IsRefusal}
 
 -- the reader took the front of the text, or the refusal is that of all texts that begin so
 abbrev pub Holds : {R : Type 0} → (R → List ℕ → Type 0) → R → Option ReadRefusal → List ℕ → Type 0
-Holds took reader refusal front = MatchOption refusal (took reader front) (λ r. (more : List ℕ) → IsRefusalOf r (front ++ more))
+Holds took reader refusal front = MatchOption refusal (took reader front) (λ r. (more : List ℕ) → IsRefusal r (refused (front ++ more)))
 
 -- so many bytes were read
 pub record HasRead (old new : Option (List ℕ)) (count : ℕ) : Type 0 where
@@ -28,13 +29,13 @@ Consumes-then (Some a) (Some b) (Some c) x y p q = p ∙ ap (λ (l : List ℕ). 
 -- one more piece
 pub Holds-piece : {R : Type 0} (took : R → List ℕ → Type 0) (old new : R) (before after : Option ReadRefusal) (front piece : List ℕ) → Holds took old before front
     → ((text : List ℕ) → before ≡ None → took old text → after ≡ None → took new (text ++ piece))
-    → ((text more : List ℕ) → before ≡ None → took old text → IfSome after (λ r. IsRefusalOf r ((text ++ piece) ++ more)))
+    → ((text more : List ℕ) → before ≡ None → took old text → IfSome after (λ r. IsRefusal r (refused ((text ++ piece) ++ more))))
     → ((r : ReadRefusal) → before ≡ Some r → after ≡ Some r)
     → Holds took new after (front ++ piece)
-Holds-piece took old new None None front piece h taken refused stays = taken front refl h refl
-Holds-piece took old new None (Some r) front piece h taken refused stays = λ more. refused front more refl h
-Holds-piece took old new (Some q) None front piece h taken refused stays = absurd (cc (stays q refl))
-Holds-piece took old new (Some q) (Some r) front piece h taken refused stays =
+Holds-piece took old new None None front piece h taken told stays = taken front refl h refl
+Holds-piece took old new None (Some r) front piece h taken told stays = λ more. told front more refl h
+Holds-piece took old new (Some q) None front piece h taken told stays = absurd (cc (stays q refl))
+Holds-piece took old new (Some q) (Some r) front piece h taken told stays =
     let same : Some r ≡ Some q = stays q refl in
     let e : q ≡ r = cc in
-    λ more. subst (λ (s : ReadRefusal). IsRefusalOf s ((front ++ piece) ++ more)) e (subst (IsRefusalOf q) (sym (append_assoc front piece more)) (h (piece ++ more)))
+    λ more. subst (λ (s : ReadRefusal). IsRefusal s (refused ((front ++ piece) ++ more))) e (subst (λ (t : List ℕ). IsRefusal q (refused t)) (sym (append_assoc front piece more)) (h (piece ++ more)))

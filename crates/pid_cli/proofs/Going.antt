@@ -6,10 +6,9 @@ use Rattle.pid_reader.specs.declared.refusal.ReadRefusal.{ReadRefusal}
 use Rattle.pid_reader.specs.Reading.{Reads, refused, refusal_of}
 use Rattle.pid_reader.specs.Refusals.{IsRefusal}
 use Rattle.pid_reader.specs.WholeLines.{whole_lines}
-use Rattle.pid_cli.specs.Judgements.{IsRefusalOf}
 
 -- a refusal of the whole lines is that of every text that goes on
-pub refused_onward : {X : Type 0} (result : Result X ReadRefusal) (text more : List ℕ) → ((text more : List ℕ) (r : ReadRefusal) → refusal_of (whole_lines text) ≡ Some r → refused (text ++ more) ≡ Some r) → IfErr result (λ r. IsRefusal r (refusal_of (whole_lines text))) → IfErr result (λ r. IsRefusalOf r (text ++ more))
+pub refused_onward : {X : Type 0} (result : Result X ReadRefusal) (text more : List ℕ) → ((text more : List ℕ) (r : ReadRefusal) → refusal_of (whole_lines text) ≡ Some r → refused (text ++ more) ≡ Some r) → IfErr result (λ r. IsRefusal r (refusal_of (whole_lines text))) → IfErr result (λ r. IsRefusal r (refused (text ++ more)))
 refused_onward (Ok x) text more stands h = tt
 refused_onward (Err r) text more stands h = elim h [ inl memory ↦ inl memory | inr told ↦ inr (stands text more r told) ]
 

@@ -1,3 +1,4 @@
 pub mod Feeding
 pub mod Tidying
 pub mod Going
+pub mod Wording

@@ -3,9 +3,9 @@ use Rattle.std.specs.Prelude.{◌≡◌, ℕ, ◌≤◌, ◌⊎◌, [], ◌∷�
 use Rattle.std.specs.Io.KnownBytes.{Appends}
 use Rattle.pid_reader.specs.Reading.{refused, history_of}
 use Rattle.pid_reader.specs.LookingBack.{entries_back}
-use Rattle.pid_cli.specs.Judgements.{LARGEST}
 use Rattle.pid_ident.specs.Sending.{SendsFront}
 use Rattle.pid_cli.specs.Told.{IsTold}
+use Rattle.pid_cli.specs.declared.pieces.TheConstants.{LARGEST}
 use Rattle.pid_cli.specs.declared.text_end.TextEnd.{TextEnd}
 use Rattle.pid_cli.specs.declared.text_end.TextEnd.TheVariants.{Done, Line, TooManyEntries, TooLarge, Memory, ReadFault, WriteFault}
 

@@ -1,7 +1,8 @@
--- What the reading of an input comes to.
+-- Serves private functions alone; no promise rests on it. What the reading of an input comes to.
 use Rattle.std.specs.Prelude.{◌≡◌, ℕ, ◌<◌, ◌≤◌, List, length, None, Result, Ok, Err}
 use Rattle.pid_reader.specs.Reading.{refused}
-use Rattle.pid_cli.specs.Judgements.{LARGEST, IsRefusalOf}
+use Rattle.pid_reader.specs.Refusals.{IsRefusal}
+use Rattle.pid_cli.specs.declared.pieces.TheConstants.{LARGEST}
 use Rattle.pid_cli.specs.declared.pieces.InputEnd.{InputEnd}
 use Rattle.pid_cli.specs.declared.pieces.InputEnd.TheVariants.{ReadFault, TooLarge, Refused}
 
@@ -9,7 +10,7 @@ use Rattle.pid_cli.specs.declared.pieces.InputEnd.TheVariants.{ReadFault, TooLar
 abbrev pub IsUnread : InputEnd → List ℕ → Type 0
 IsUnread ReadFault text = Unit {0}
 IsUnread TooLarge text = LARGEST < length text
-IsUnread (Refused r) text = (length text ≤ LARGEST) × IsRefusalOf r text
+IsUnread (Refused r) text = (length text ≤ LARGEST) × IsRefusal r (refused text)
 
 -- the text was read whole, nothing in it is refused, and this is what was made of it; or why not
 abbrev pub IsRead : {D : Type 0} → (List ℕ → D → Type 0) → Result D InputEnd → List ℕ → Type 0

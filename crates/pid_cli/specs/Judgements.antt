@@ -1,15 +1,11 @@
 -- How a whole text is judged: first its length, and then its lines. The limit is a choice of this project.
-use Rattle.std.specs.Prelude.{◌≡◌, ℕ, ◌<◌, ◌≤◌, ◌⊎◌, List, length, Some, None}
+use Rattle.std.specs.Prelude.{◌≡◌, ℕ, ◌<◌, ◌≤◌, List, length, Some, None}
 use Rattle.pid_ident.specs.Trees.{TreeMap}
-use Rattle.pid_reader.specs.declared.refusal.ReadRefusal.{ReadRefusal}
 use Rattle.pid_reader.specs.declared.refusal.ReadRefusal.TheVariants as refusals
 use Rattle.pid_reader.specs.Reading.{Reads, refused}
+use Rattle.pid_cli.specs.declared.pieces.TheConstants.{LARGEST}
 use Rattle.pid_cli.specs.declared.text_end.TextEnd.{TextEnd}
 use Rattle.pid_cli.specs.declared.text_end.TextEnd.TheVariants.{Done, Line, TooManyEntries, TooLarge, Memory, ReadFault, WriteFault}
-
--- the longest text that is read, in bytes
-abbrev pub LARGEST : ℕ
-LARGEST = 4194304
 
 -- the text is short enough, nothing in it is refused, and it reads to the tree
 pub record ReadsWithin (text : List ℕ) (t : TreeMap) : Type 0 where
@@ -26,7 +22,3 @@ IsFaultOf Memory text = Unit {0}
 IsFaultOf Done text = ⊥
 IsFaultOf ReadFault text = ⊥
 IsFaultOf WriteFault text = ⊥
-
--- the refusal is that of the text, or want of memory
-abbrev pub IsRefusalOf : ReadRefusal → List ℕ → Type 0
-IsRefusalOf r text = (r ≡ refusals.Memory) ⊎ (refused text ≡ Some r)

@@ -6,7 +6,7 @@ ghost use Rattle.pid_cli.specs.Checked.{IsChecked, HasEntries, ok_line};
 ghost use Rattle.pid_cli.specs.InputEnds.{IsRead};
 ghost use Rattle.pid_reader.specs.EntryCounters.{CountsText};
 
-use crate::pieces::{BUFFER, InputEnd, LARGEST, read_text};
+use crate::pieces::{InputEnd, LARGEST, read_text};
 use crate::text_end::TextEnd;
 use crate::told::tell_unread;
 use itoa::Buffer;
@@ -16,13 +16,14 @@ use std::alloc::Global;
 
 /// Writes `ok` and the count of the entries of what the input gives, or the line of its fault.
 ///
-/// A fault of the input is told by the end alone. No tree is made. Once the input is past 4,194,304 bytes, no more is
-/// read.
+/// A fault of the input is told by the end alone. No tree is made. At most one byte past 4,194,304 is read.
 pub fn check<I: Input, O: Output>(alloc: Global, input: &mut I, output: &mut O) -> TextEnd
     ensures checked { IfSome (I.to_come input.old) (λ text. IsChecked result text (O.taken output.old) (O.taken output.new)) }
     ensures read_fault { result ≡ TextEnd.ReadFault → IsSome (I.read_fault input.new) }
+    ensures read_fault_first { IsSome (I.read_fault input.new) → result ≡ TextEnd.ReadFault }
     ensures write_fault { result ≡ TextEnd.WriteFault → IsSome (O.write_fault output.new) }
-    ensures stops { (front : List ℕ) × Consumes (I.to_come input.old) (I.to_come input.new) front × (length front ≤ LARGEST + BUFFER) }
+    ensures goes { I.goes input.old input.new }
+    ensures stops { (front : List ℕ) × Consumes (I.to_come input.old) (I.to_come input.new) front × (length front ≤ LARGEST + 1) }
 {
     let counted = read_text(input, EntryCounter::new(alloc));
     write_counted(counted, output)
@@ -32,6 +33,7 @@ pub fn check<I: Input, O: Output>(alloc: Global, input: &mut I, output: &mut O) 
 fn write_counted<O: Output>(counted: Result<u64, InputEnd>, output: &mut O) -> TextEnd
     ensures checked { (text : List ℕ) → IsRead HasEntries counted text → IsChecked result text (O.taken output.old) (O.taken output.new) }
     ensures read_fault { result ≡ TextEnd.ReadFault → counted ≡ Err InputEnd.ReadFault }
+    ensures read_fault_first { counted ≡ Err InputEnd.ReadFault → result ≡ TextEnd.ReadFault }
     ensures write_fault { result ≡ TextEnd.WriteFault → IsSome (O.write_fault output.new) }
 {
     match counted {

@@ -5,7 +5,7 @@ ghost use Rattle.pid_reader.specs.Reading.{Reads};
 ghost use Rattle.pid_cli.specs.InputEnds.{IsRead};
 ghost use Rattle.pid_cli.specs.Tidied.{IsTidied, PrintsNothing};
 
-use crate::pieces::{BUFFER, InputEnd, LARGEST, read_text};
+use crate::pieces::{InputEnd, LARGEST, read_text};
 use crate::text_end::TextEnd;
 use crate::told::tell_unread;
 use pid_ident::{Input, Output};
@@ -15,8 +15,8 @@ use std::alloc::Global;
 
 /// Writes the canonical text of what the input gives, or the line of its fault to `faults`.
 ///
-/// A fault of the input or of a writer is told by the end alone. Nothing is printed of a text that has a fault. Once the
-/// input is past 4,194,304 bytes, no more is read.
+/// A fault of the input or of a writer is told by the end alone. Nothing is printed of a text that has a fault. At most
+/// one byte past 4,194,304 is read.
 pub fn tidy<I: Input, O: Output, F: Output>(
     alloc: Global,
     input: &mut I,
@@ -26,9 +26,11 @@ pub fn tidy<I: Input, O: Output, F: Output>(
     ensures tidied { IfSome (I.to_come input.old) (λ text.
         IsTidied result text (record { output = O.taken output.old; output_after = O.taken output.new; faults = F.taken faults.old; faults_after = F.taken faults.new })) }
     ensures read_fault { result ≡ TextEnd.ReadFault → IsSome (I.read_fault input.new) }
+    ensures read_fault_first { IsSome (I.read_fault input.new) → result ≡ TextEnd.ReadFault }
     ensures write_fault { result ≡ TextEnd.WriteFault → IsSome (O.write_fault output.new) ⊎ IsSome (F.write_fault faults.new) }
     ensures nothing_printed { PrintsNothing result (O.taken output.old) (O.taken output.new) }
-    ensures stops { (front : List ℕ) × Consumes (I.to_come input.old) (I.to_come input.new) front × (length front ≤ LARGEST + BUFFER) }
+    ensures goes { I.goes input.old input.new }
+    ensures stops { (front : List ℕ) × Consumes (I.to_come input.old) (I.to_come input.new) front × (length front ≤ LARGEST + 1) }
 {
     let read = read_text(input, Feeder::new(alloc));
     print_read(read, output, faults)
@@ -43,6 +45,7 @@ fn print_read<O: Output, F: Output>(
     ensures tidied { (text : List ℕ) → IsRead Reads read text →
         IsTidied result text (record { output = O.taken output.old; output_after = O.taken output.new; faults = F.taken faults.old; faults_after = F.taken faults.new }) }
     ensures read_fault { result ≡ TextEnd.ReadFault → read ≡ Err InputEnd.ReadFault }
+    ensures read_fault_first { read ≡ Err InputEnd.ReadFault → result ≡ TextEnd.ReadFault }
     ensures write_fault { result ≡ TextEnd.WriteFault → IsSome (O.write_fault output.new) ⊎ IsSome (F.write_fault faults.new) }
     ensures nothing_printed { PrintsNothing result (O.taken output.old) (O.taken output.new) }
 {

@@ -11,6 +11,7 @@ use pid_ident::Output;
 pub fn tell_unread<F: Output>(end: InputEnd, faults: &mut F) -> TextEnd
     ensures told { (text : List ℕ) → IsUnread end text → IsTold result text (F.taken faults.old) (F.taken faults.new) }
     ensures read_fault { result ≡ TextEnd.ReadFault → end ≡ InputEnd.ReadFault }
+    ensures read_fault_first { end ≡ InputEnd.ReadFault → result ≡ TextEnd.ReadFault }
     ensures write_fault { result ≡ TextEnd.WriteFault → IsSome (F.write_fault faults.new) }
     ensures not_done { result ≢ TextEnd.Done }
 {
