@@ -35,6 +35,8 @@ def run(cases):
         texts["many vendors"] = b"".join(b"%04x  %s\n" % (v, b"n" * 40) for v in range(800))
         refusals = sum(refuse_in_turn(cases, shim, name, text, *words) for name, text in texts.items() for words in ([], ["check"]))
         cases.equal("refused memory: requests were refused", refusals > 100, True)
+        for words in (["--help"], ["check", "--help"], ["--version"], ["chekc"], ["check", "x.ids"]):
+            refuse_in_turn(cases, shim, "words alone", b"", *words)
 
 
 def refuse_in_turn(cases, shim, name, text, *words):
