@@ -19,28 +19,28 @@ use Rattle.pid_reader.proofs.Feeding.{good_cases, good_at, numbered-good, items_
 abbrev item : List ℕ → List ℕ → List Item
 item path name = (path, name) ∷ []
 
-room : (b : Bool) (n : ℕ) → cond (b && leb 100000 n) (Some TooManyEntries) None ≡ None → b ≡ true → n < 100000
-room true n h e = elim (leb 100000 n) as (λ t. leb 100000 n ≡ t → cond t (Some TooManyEntries) None ≡ None → n < 100000) [
+room : (b : Bool) (n : ℕ) → cond (b && leb ENTRIES n) (Some TooManyEntries) None ≡ None → b ≡ true → n < ENTRIES
+room true n h e = elim (leb ENTRIES n) as (λ t. leb ENTRIES n ≡ t → cond t (Some TooManyEntries) None ≡ None → n < ENTRIES) [
   | true ↦ λ f x. absurd (true≢false (ap is_some x))
   | false ↦ λ f x. grind (arith, nat_tests)
 ] refl h
 room false n h e = absurd (true≢false (sym e))
 
-few_more : (earlier : List (List ℕ)) (line : List ℕ) → refusal_at earlier line ≡ None → length (entries_back earlier) ≤ 100000 → length (entries_back (line ∷ earlier)) ≤ 100000
+few_more : (earlier : List (List ℕ)) (line : List ℕ) → refusal_at earlier line ≡ None → length (entries_back earlier) ≤ ENTRIES → length (entries_back (line ∷ earlier)) ≤ ENTRIES
 few_more earlier line ok few =
     let plain : cond (is_entry earlier line && leb ENTRIES (length (entries_back earlier))) (Some TooManyEntries) None ≡ None = ap (refused_at earlier line) (sym (good_at earlier line ok)) ∙ ok in
-    elim (is_entry earlier line) as (λ b. is_entry earlier line ≡ b → length (cond b (item (path_at earlier line) (name_at earlier line)) [] ++ entries_back earlier) ≤ 100000) [
-      | true ↦ λ e. let r : length (entries_back earlier) < 100000 = room (is_entry earlier line) (length (entries_back earlier)) plain e in omega arith
+    elim (is_entry earlier line) as (λ b. is_entry earlier line ≡ b → length (cond b (item (path_at earlier line) (name_at earlier line)) [] ++ entries_back earlier) ≤ ENTRIES) [
+      | true ↦ λ e. let r : length (entries_back earlier) < ENTRIES = room (is_entry earlier line) (length (entries_back earlier)) plain e in omega arith
       | false ↦ λ e. few
     ] refl
 
-pub few_from : (earlier lines : List (List ℕ)) → refused_from earlier lines ≡ None → length (entries_back earlier) ≤ 100000 → length (entries_back (reverse_aux lines earlier)) ≤ 100000
+pub few_from : (earlier lines : List (List ℕ)) → refused_from earlier lines ≡ None → length (entries_back earlier) ≤ ENTRIES → length (entries_back (reverse_aux lines earlier)) ≤ ENTRIES
 few_from earlier [] h few = few
 few_from earlier (line ∷ lines) h few =
     let p = good_cases (refusal_at earlier line) (refused_from (line ∷ earlier) lines) h in
     few_from (line ∷ earlier) lines p.1 (few_more earlier line p.0 few)
 
-took_count : (start new : Counter) (items : List Numbered) → start.count ≡ 0 → length items ≤ 100000 → Took Counts start items new → new.count ≡ length items
+took_count : (start new : Counter) (items : List Numbered) → start.count ≡ 0 → length items ≤ ENTRIES → Took Counts start items new → new.count ≡ length items
 took_count start new [] zero few t = ap (λ (s : Counter). s.count) t ∙ zero
 took_count start new (x ∷ xs) zero few t =
     let before : t.0.count ≡ length xs = took_count start t.0 xs zero (omega arith) t.1 in

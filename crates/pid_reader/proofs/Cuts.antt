@@ -1,6 +1,7 @@
 -- Ended pieces, and what stands open behind them, of a text and more.
-use Rattle.std.proofs.Common.{◌≡◌, ◌≢◌, ℕ, zero, suc, ◌<◌, ◌≤◌, true, false, cond, eqb, List, [], ◌∷◌, ◌++◌, length, map, get_or, take, drop, refl, sym, ap, ◌∙◌, arith, append_assoc}
-use Rattle.std.proofs.lemmas.List.{append-nil}
+use Rattle.memchr.specs.Find.{Nowhere, Passes, is_byte}
+use Rattle.std.proofs.Common.{◌≡◌, ◌≢◌, ℕ, ◌+◌, ◌-◌, zero, suc, ◌<◌, ◌≤◌, true, false, cond, eqb, List, [], ◌∷◌, ◌++◌, length, map, get_or, take, drop, refl, sym, ap, ◌∙◌, arith, append_assoc, length-drop}
+use Rattle.std.proofs.lemmas.List.{append-nil, take_all}
 use Rattle.std.proofs.lemmas.Bool.Decides.{nat_tests}
 use Rattle.pid_reader.specs.Lines.{pieces_of, onto_first, lines_of, drop_cr}
 use Rattle.pid_reader.specs.WholeLines.{ended_pieces, open_part, onto_ended, onto_open, whole_lines}
@@ -130,10 +131,20 @@ pub last_line : (line : List ℕ) → ended_pieces line ≡ [] → (line ≡ [] 
 last_line [] h some = absurd (some refl)
 last_line (b ∷ bs) h some = ap (map drop_cr) (piece_line b bs h)
 
-pub parts_at : (text : List ℕ) (i : ℕ) → i < length text → get_or text i 0 ≡ 10 → text ≡ take i text ++ 10 ∷ drop 1 (drop i text)
+parts_at : (text : List ℕ) (i : ℕ) → i < length text → get_or text i 0 ≡ 10 → text ≡ take i text ++ 10 ∷ drop (suc i) text
 parts_at [] i h e = absurd (omega arith)
 parts_at (b ∷ t) zero h e = let b_is : b ≡ 10 = e in rw b_is refl
 parts_at (b ∷ t) (suc i) h e = ap (λ (l : List ℕ). b ∷ l) (parts_at t i (omega arith) e)
+
+-- a slice to the end, as the code writes it
+pub parts_behind : (text : List ℕ) (i : ℕ) → i < length text → get_or text i 0 ≡ 10 → text ≡ take i text ++ 10 ∷ take (length text - (i + 1)) (drop (i + 1) text)
+parts_behind text i h e =
+    let next : i + 1 ≡ suc i = omega arith in
+    parts_at text i h e ∙ ap (λ (l : List ℕ). take i text ++ 10 ∷ l) (sym (take_all (length text - (i + 1)) (drop (i + 1) text) (omega (arith, length-drop (i + 1) text)) ∙ ap (λ n. drop n text) next))
+
+-- where no byte is an LF up to i
+pub nowhere_lf : (text : List ℕ) (i : ℕ) → Nowhere (Passes (is_byte 10) text) 0 i → NoLfBefore text i
+nowhere_lf text i none k lt is = none k (omega arith) lt (rw is refl)
 
 pub take_whole : (text : List ℕ) (i : ℕ) → length text ≤ i → take i text ≡ text
 take_whole [] zero h = refl

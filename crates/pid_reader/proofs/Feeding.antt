@@ -22,7 +22,8 @@ use Rattle.pid_reader.specs.WholeLines.{ended_pieces, open_part, whole_lines}
 use Rattle.pid_reader.specs.Refusals.{refusal_at, IsRefusal}
 use Rattle.pid_reader.specs.Progress.{Shows}
 use Rattle.pid_reader.specs.Sinks.{Took, TookSome, Ends}
-use Rattle.pid_reader.specs.Cutters.{Holds, LineEnds, TookLine}
+use Rattle.pid_reader.specs.Cutters.{Holds}
+use Rattle.pid_reader.specs.LineEnds.{LineEnds, TookLine}
 use Rattle.pid_reader.proofs.Cuts.{map_append, whole_line, open_behind, whole_same, open_longer, lines_split, lines_more, last_line, open_no_lf}
 
 or_else-assoc : (a b c : Option ReadRefusal) → or_else (or_else a b) c ≡ or_else a (or_else b c)

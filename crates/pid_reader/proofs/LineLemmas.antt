@@ -1,5 +1,6 @@
 -- The bytes of a line.
-use Rattle.std.proofs.Common.{◌≡◌, ◌≢◌, ℕ, zero, suc, ◌-◌, ◌≤◌, Bool, true, false, ◌&&◌, List, [], ◌∷◌, length, get_or, take, Some, refl, sym, ap, subst, ◌∙◌, arith}
+use Rattle.std.proofs.Common.{◌≡◌, ◌≢◌, ℕ, zero, suc, ◌-◌, ◌≤◌, Bool, true, false, ◌&&◌, eqb, List, [], ◌∷◌, length, get_or, take, Some, refl, sym, ap, subst, ◌∙◌, arith}
+use mathlib.Core.Bool.{true≢false}
 use Rattle.std.specs.Str.{is_utf8, IsUtf8}
 use Rattle.pid_ident.specs.Bytes.{is_empty}
 use Rattle.pid_ident.specs.declared.line_kind.LineKind.TheVariants.{BadName}
@@ -43,6 +44,10 @@ by_bool false h = refl
 
 pub not_utf8 : (bytes : List ℕ) → (IsUtf8 bytes → ⊥) → is_utf8 bytes ≡ false
 not_utf8 bytes none = by_bool (is_utf8 bytes) (λ e. none (IsUtf8-from_is_utf8 bytes e))
+
+pub some_bytes : (bytes : List ℕ) → eqb (length bytes) 0 ≡ false → is_empty bytes ≡ false
+some_bytes [] h = absurd (true≢false h)
+some_bytes (b ∷ bytes) h = refl
 
 pub bad_bytes : (bytes : List ℕ) → is_empty bytes ≡ false → is_utf8 bytes ≡ false → name_fault bytes ≡ Some BadName
 bad_bytes bytes some text = rw (some, text) refl

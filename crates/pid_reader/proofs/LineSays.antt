@@ -11,8 +11,8 @@ use Rattle.pid_ident.specs.declared.path.Path.{Path}
 use Rattle.pid_ident.specs.declared.path.Path.TheVariants as paths
 use Rattle.pid_ident.specs.Identifiers.{hex4, hex2}
 use Rattle.pid_ident.specs.PathTexts.{path_text}
-use Rattle.pid_reader.specs.declared.mark.Mark.{Mark}
-use Rattle.pid_reader.specs.declared.mark.Mark.TheVariants as marks
+use Rattle.pid_reader.specs.declared.line.Mark.{Mark}
+use Rattle.pid_reader.specs.declared.line.Mark.TheVariants as marks
 use Rattle.pid_reader.specs.declared.entry_line.Place.{Place}
 use Rattle.pid_reader.specs.declared.entry_line.Place.TheVariants.{Vendor, Device, Subsystem, Class, Subclass, ProgIf, Generic}
 use Rattle.pid_reader.specs.declared.entry_line.Named.{Named}
@@ -24,8 +24,18 @@ use Rattle.pid_reader.specs.Levels.{levels, widths}
 use Rattle.pid_reader.specs.Columns.{begins_with_ids, is_id, digits_in, name_in}
 use Rattle.pid_reader.specs.LookingBack.{is_above, above, mark_at, parent_line, is_block, is_entry, widths_at, digits_at, head_path, path_at, entry_of}
 use Rattle.pid_reader.specs.Faults.{line_fault_of}
-use Rattle.pid_reader.specs.EntryLines.{columns_fault, widths_of, text_before, IsPathAt}
+use Rattle.pid_reader.specs.EntryLines.{columns_fault, widths_of, IsPathAt}
 use Rattle.pid_reader.specs.OpenLevels.{Under, Below, IsBare, IsOpenAt, first_below, second_below, deeper_below, below, open_below, Says}
+
+-- what stands before its own digits in the text of its path
+abbrev text_before : Place → List ℕ
+text_before Vendor = codes "PC/"
+text_before (Device v) = codes "PC/" ++ hex4 v ++ 47 ∷ []
+text_before (Subsystem v d) = codes "PC/" ++ hex4 v ++ 47 ∷ hex4 d ++ 47 ∷ []
+text_before Class = codes "PD/"
+text_before (Subclass c) = codes "PD/" ++ hex2 c ++ 47 ∷ []
+text_before (ProgIf c s) = codes "PD/" ++ hex2 c ++ 47 ∷ hex2 s ++ 47 ∷ []
+text_before (Generic v) = codes "PS/" ++ hex4 v ++ 47 ∷ []
 
 -- lines that are passed over when looking back
 past : (n : ℕ) (earlier : List (List ℕ)) (line : List ℕ) → is_above n line ≡ false → above n (line ∷ earlier) ≡ above n earlier

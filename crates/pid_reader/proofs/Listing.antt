@@ -17,7 +17,7 @@ use Rattle.pid_ident.specs.declared.path.Path.TheVariants.{Vendor, Device, Subsy
 use Rattle.pid_ident.specs.PathTexts.{path_text, parent_of}
 use Rattle.pid_ident.specs.Words.{is_name}
 use Rattle.pid_ident.specs.Identifiers.{hex4, hex2}
-use Rattle.pid_reader.specs.declared.mark.Mark.TheVariants.{Devices, Classes, Generics}
+use Rattle.pid_reader.specs.declared.line.Mark.TheVariants.{Devices, Classes, Generics}
 use Rattle.pid_reader.specs.LookingBack.{entries_back}
 use Rattle.pid_reader.specs.Reading.{AreGood}
 use Rattle.pid_reader.specs.Faults.{fault_of}

@@ -15,8 +15,8 @@ use Rattle.pid_ident.specs.PathTexts.{path_text, path_cmp}
 use Rattle.pid_ident.specs.Trees.{text_cmp}
 use Rattle.pid_ident.specs.Identifiers.{hex4}
 use Rattle.pid_reader.specs.declared.refusal.ReadRefusal.TheVariants.{Line, TooManyEntries}
-use Rattle.pid_reader.specs.declared.mark.Mark.TheVariants.{Generics}
-use Rattle.pid_reader.specs.declared.mark.Mark.TheVariants as marks
+use Rattle.pid_reader.specs.declared.line.Mark.TheVariants.{Generics}
+use Rattle.pid_reader.specs.declared.line.Mark.TheVariants as marks
 use Rattle.pid_reader.specs.declared.open_levels.OpenLevels.{OpenLevels}
 use Rattle.pid_reader.specs.Marks.{is_idle, depth, mark, is_generics, inside}
 use Rattle.pid_reader.specs.Columns.{digits_in}
@@ -163,16 +163,16 @@ duplicate_refused now seen lines number earlier line name p shown next own entry
 new_good : (now : OpenLevels) (seen : List Path) (lines : ℕ) (earlier : List (List ℕ)) (line name : List ℕ) (p : Path) → IsShown now seen lines earlier → line_fault_of earlier line ≡ None → (path_text p, name) ∷ [] ≡ entry_of earlier line → is_block line ≡ false → has_path seen p ≡ false → fault_of earlier line ≡ None
 new_good now seen lines earlier line name p shown own entry block absent = entry_late now seen lines earlier line name p shown own entry block ∙ ap (λ b. cond b (Some Duplicate) None) absent
 
-is_full : (n : ℕ) → 100000 ≤ n → leb 100000 n ≡ true
+is_full : (n : ℕ) → ENTRIES ≤ n → leb ENTRIES n ≡ true
 is_full n h = grind (arith, nat_tests)
 
-has_room : (n : ℕ) → n < 100000 → leb 100000 n ≡ false
+has_room : (n : ℕ) → n < ENTRIES → leb ENTRIES n ≡ false
 has_room n h = grind (arith, nat_tests)
 
-pub many_refused : (now : OpenLevels) (seen : List Path) (lines : ℕ) (earlier : List (List ℕ)) (line name : List ℕ) (p : Path) → IsShown now seen lines earlier → line_fault_of earlier line ≡ None → (path_text p, name) ∷ [] ≡ entry_of earlier line → is_block line ≡ false → has_path seen p ≡ false → 100000 ≤ length seen → refusal_at earlier line ≡ Some TooManyEntries
+pub many_refused : (now : OpenLevels) (seen : List Path) (lines : ℕ) (earlier : List (List ℕ)) (line name : List ℕ) (p : Path) → IsShown now seen lines earlier → line_fault_of earlier line ≡ None → (path_text p, name) ∷ [] ≡ entry_of earlier line → is_block line ≡ false → has_path seen p ≡ false → ENTRIES ≤ length seen → refusal_at earlier line ≡ Some TooManyEntries
 many_refused now seen lines earlier line name p shown own entry block absent many =
     let e = an_entry earlier line (path_text p) name entry in
-    let full : leb ENTRIES (length (entries_back earlier)) ≡ true = subst (λ n. leb 100000 n ≡ true) shown.count (is_full (length seen) many) in
+    let full : leb ENTRIES (length (entries_back earlier)) ≡ true = subst (λ n. leb ENTRIES n ≡ true) shown.count (is_full (length seen) many) in
     ap (refused_at earlier line) (new_good now seen lines earlier line name p shown own entry block absent) ∙ (λ i. cond (e.is_one i && full i) (Some TooManyEntries) None)
 
 path_symm : (p q : Path) → is_eq (path_cmp p q) ≡ is_eq (path_cmp q p)
@@ -182,10 +182,10 @@ one_more_value : (b : Bool) (n : List ℕ) (o : Option (List ℕ)) → cond b tr
 one_more_value true n o = refl
 one_more_value false n o = refl
 
-pub item_taken : (now next : OpenLevels) (seen more : List Path) (lines number : ℕ) (earlier : List (List ℕ)) (line name : List ℕ) (p : Path) → IsShown now seen lines earlier → number ≡ lines + 1 → line_fault_of earlier line ≡ None → (path_text p, name) ∷ [] ≡ entry_of earlier line → is_block line ≡ false → has_path seen p ≡ false → length seen < 100000 → IsOneMore seen p more → length more ≡ length seen + 1 → IsOpenAt next (line ∷ earlier) → IsShown next more number (line ∷ earlier) × (refusal_at earlier line ≡ None) × ((number, (path_text p, name)) ∷ [] ≡ numbered_at earlier line)
+pub item_taken : (now next : OpenLevels) (seen more : List Path) (lines number : ℕ) (earlier : List (List ℕ)) (line name : List ℕ) (p : Path) → IsShown now seen lines earlier → number ≡ lines + 1 → line_fault_of earlier line ≡ None → (path_text p, name) ∷ [] ≡ entry_of earlier line → is_block line ≡ false → has_path seen p ≡ false → length seen < ENTRIES → IsOneMore seen p more → length more ≡ length seen + 1 → IsOpenAt next (line ∷ earlier) → IsShown next more number (line ∷ earlier) × (refusal_at earlier line ≡ None) × ((number, (path_text p, name)) ∷ [] ≡ numbered_at earlier line)
 item_taken now next seen more lines number earlier line name p shown at own entry block absent few one_more longer behind =
     let e = an_entry earlier line (path_text p) name entry in
-    let room : leb ENTRIES (length (entries_back earlier)) ≡ false = subst (λ n. leb 100000 n ≡ false) shown.count (has_room (length seen) few) in
+    let room : leb ENTRIES (length (entries_back earlier)) ≡ false = subst (λ n. leb ENTRIES n ≡ false) shown.count (has_room (length seen) few) in
     let count : number ≡ length earlier + 1 = omega (arith, shown.number, at) in
     let entries : entries_back (line ∷ earlier) ≡ (path_text p, name) ∷ entries_back earlier = ap (λ (es : List Item). es ++ entries_back earlier) (sym entry) in (
       record {

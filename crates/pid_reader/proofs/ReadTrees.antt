@@ -13,8 +13,8 @@ use Rattle.pid_ident.specs.declared.path.Path.{Path}
 use Rattle.pid_ident.specs.declared.path.Path.TheVariants.{Vendor, Device, Subsystem, Class, Subclass, ProgIf, Generic}
 use Rattle.pid_ident.specs.PathTexts.{path_text, parent_of}
 use Rattle.pid_ident.specs.Words.{is_name}
-use Rattle.pid_reader.specs.declared.mark.Mark.{Mark}
-use Rattle.pid_reader.specs.declared.mark.Mark.TheVariants.{Devices, Classes, Generics, Unknown}
+use Rattle.pid_reader.specs.declared.line.Mark.{Mark}
+use Rattle.pid_reader.specs.declared.line.Mark.TheVariants.{Devices, Classes, Generics, Unknown}
 use Rattle.pid_reader.specs.Marks.{is_idle, depth, mark, is_unknown, is_generics}
 use Rattle.pid_reader.specs.Levels.{levels}
 use Rattle.pid_reader.specs.Reading.{Reads, history_of, AreGood}

@@ -20,7 +20,7 @@ fewer : (lines earlier : List (List ℕ)) → length (entries_back earlier) ≤ 
 fewer [] earlier = omega arith
 fewer (line ∷ lines) earlier = omega (arith, fewer lines (line ∷ earlier), length-append (entry_of earlier line) (entries_back earlier))
 
-room : (n : ℕ) → suc n ≤ 100000 → leb 100000 n ≡ false
+room : (n : ℕ) → suc n ≤ ENTRIES → leb ENTRIES n ≡ false
 room n h = grind (arith, nat_tests)
 
 pub not_refused : (lines earlier : List (List ℕ)) → AreGood (reverse_aux lines earlier) → length (entries_back (reverse_aux lines earlier)) ≤ ENTRIES → refused_from earlier lines ≡ None

@@ -8,8 +8,8 @@ use Rattle.pid_ident.specs.declared.path.Path.{Path}
 use Rattle.pid_ident.specs.declared.path.Path.TheVariants.{Vendor, Device, Subsystem, Class, Subclass, ProgIf, Generic}
 use Rattle.pid_ident.specs.PathTexts.{IsPath, path_text, parent_of}
 use Rattle.pid_ident.specs.Identifiers.{hex4, hex2}
-use Rattle.pid_reader.specs.declared.mark.Mark.{Mark}
-use Rattle.pid_reader.specs.declared.mark.Mark.TheVariants.{Devices, Classes, Generics}
+use Rattle.pid_reader.specs.declared.line.Mark.{Mark}
+use Rattle.pid_reader.specs.declared.line.Mark.TheVariants.{Devices, Classes, Generics}
 use Rattle.pid_reader.specs.Marks.{is_idle, depth, body, mark, is_unknown, inside}
 use Rattle.pid_reader.specs.Levels.{widths}
 use Rattle.pid_reader.specs.Columns.{begins_with_id, begins_with_ids}

@@ -7,8 +7,8 @@ use Rattle.std.specs.FinMap.Entries.{find as value_at}
 use Rattle.pid_ident.specs.Words.{is_name}
 use Rattle.pid_ident.specs.Bytes.{is_empty}
 use Rattle.pid_ident.specs.Identifiers.{hex4}
-use Rattle.pid_reader.specs.declared.mark.Mark.{Mark}
-use Rattle.pid_reader.specs.declared.mark.Mark.TheVariants.{Devices, Classes, Generics, Unknown}
+use Rattle.pid_reader.specs.declared.line.Mark.{Mark}
+use Rattle.pid_reader.specs.declared.line.Mark.TheVariants.{Devices, Classes, Generics, Unknown}
 use Rattle.pid_reader.specs.Marks.{depth, mark, is_unknown, is_generics, inside}
 use Rattle.pid_reader.specs.Levels.{front, levels, widths}
 use Rattle.pid_reader.specs.Columns.{begins_with_ids, digits_in}

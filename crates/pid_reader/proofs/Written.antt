@@ -4,8 +4,8 @@ use Rattle.std.specs.Str.{is_utf8, IsUtf8, IsAscii}
 use Rattle.std.proofs.lemmas.Str.{IsUtf8-append, IsUtf8-from_ascii, IsUtf8-from_is_utf8, is_utf8-from_IsUtf8}
 use Rattle.pid_ident.specs.Bytes.{is_empty, begins_blank}
 use Rattle.pid_ident.specs.Words.{is_name}
-use Rattle.pid_reader.specs.declared.mark.Mark.{Mark}
-use Rattle.pid_reader.specs.declared.mark.Mark.TheVariants.{Devices, Classes}
+use Rattle.pid_reader.specs.declared.line.Mark.{Mark}
+use Rattle.pid_reader.specs.declared.line.Mark.TheVariants.{Devices, Classes}
 use Rattle.pid_reader.specs.Marks.{trim_blanks, is_idle, depth, body, mark, inside}
 use Rattle.pid_ident.specs.Identifiers.{hex4, hex2}
 use Rattle.pid_reader.specs.Columns.{begins_with_ids, digits_in, name_in}

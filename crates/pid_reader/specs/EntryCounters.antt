@@ -1,4 +1,4 @@
--- What an entry counter holds of the text that it was fed.
+-- What an entry counter holds of the text that it was fed. Callers need not open it.
 use Rattle.std.specs.Prelude.{◌≡◌, ℕ, List}
 use Rattle.pid_reader.specs.declared.refusal.ReadRefusal.{ReadRefusal}
 use Rattle.pid_reader.specs.declared.counter.Counter.{Counter}

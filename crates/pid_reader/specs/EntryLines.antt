@@ -1,5 +1,6 @@
 -- What is wrong with the columns of a line, and what a line names, but for its own digits.
-use Rattle.std.specs.Prelude.{◌≡◌, ℕ, not, List, [], ◌∷◌, ◌++◌, if◌then◌else◌, Option, Some, None, codes}
+-- Serves private functions alone; no promise rests on it.
+use Rattle.std.specs.Prelude.{◌≡◌, ℕ, not, List, [], ◌∷◌, ◌++◌, if◌then◌else◌, Option, Some, None}
 use Rattle.pid_ident.specs.declared.line_kind.LineKind.{LineKind}
 use Rattle.pid_ident.specs.declared.line_kind.LineKind.TheVariants.{BadId, NoName, BadName}
 use Rattle.pid_ident.specs.declared.path.Path.{Path}
@@ -27,16 +28,6 @@ widths_of Class = 2 ∷ []
 widths_of (Subclass c) = 2 ∷ []
 widths_of (ProgIf c s) = 2 ∷ []
 widths_of (Generic v) = 4 ∷ []
-
--- what stands before its own digits in the text of its path
-abbrev pub text_before : Place → List ℕ
-text_before Vendor = codes "PC/"
-text_before (Device v) = codes "PC/" ++ hex4 v ++ 47 ∷ []
-text_before (Subsystem v d) = codes "PC/" ++ hex4 v ++ 47 ∷ hex4 d ++ 47 ∷ []
-text_before Class = codes "PD/"
-text_before (Subclass c) = codes "PD/" ++ hex2 c ++ 47 ∷ []
-text_before (ProgIf c s) = codes "PD/" ++ hex2 c ++ 47 ∷ hex2 s ++ 47 ∷ []
-text_before (Generic v) = codes "PS/" ++ hex4 v ++ 47 ∷ []
 
 -- the path of a place, with these digits as its own
 abbrev pub IsPathAt : Place → Path → List ℕ → Type 0

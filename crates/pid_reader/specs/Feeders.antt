@@ -1,4 +1,4 @@
--- What a feeder holds of the text that it was fed, and why it gives up.
+-- What a feeder holds of the text that it was fed, and why it gives up. Callers need not open it.
 use Rattle.std.specs.Prelude.{◌≡◌, ℕ, List, Option}
 use Rattle.std.specs.FinMap.{empty}
 use Rattle.pid_reader.specs.declared.refusal.ReadRefusal.{ReadRefusal}
@@ -26,7 +26,7 @@ pub record Feeds (f : Feeder) (text : List ℕ) : Type 0 where
 abbrev pub GaveUp : Feeder → ReadRefusal → Type 0
 GaveUp f r = IsStopped f.cutter r
 
--- why a whole text gives no tree: its refusal, or want of memory. That a parent is missing never comes.
+-- for a private function: why a whole text gives no tree: its refusal, or want of memory. That a parent is missing never comes.
 abbrev pub IsTreeEnd : CutEnd TreeFault → Option ReadRefusal → Type 0
 IsTreeEnd (Refused r) refusal = IsRefusal r refusal
 IsTreeEnd (Fault ParentMissing) refusal = ⊥

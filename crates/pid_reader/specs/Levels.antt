@@ -2,8 +2,8 @@
 -- pci.ids(5) and the syntax header of the published file, and for generic subsystems libpci; the fronts PC and PD are those of
 -- the PCI ID Repository's pages, and PS is a choice of this project.
 use Rattle.std.specs.Prelude.{ℕ, zero, suc, List, [], ◌∷◌, codes}
-use Rattle.pid_reader.specs.declared.mark.Mark.{Mark}
-use Rattle.pid_reader.specs.declared.mark.Mark.TheVariants.{Devices, Classes, Generics, Unknown}
+use Rattle.pid_reader.specs.declared.line.Mark.{Mark}
+use Rattle.pid_reader.specs.declared.line.Mark.TheVariants.{Devices, Classes, Generics, Unknown}
 
 abbrev pub front : Mark → List ℕ
 front Devices = codes "PC/"

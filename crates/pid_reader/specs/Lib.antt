@@ -15,6 +15,7 @@ pub mod Progress
 pub mod SeenPaths
 pub mod Sinks
 pub mod Cutters
+pub mod LineEnds
 pub mod TreeSinks
 pub mod Feeders
 pub mod Counters

@@ -3,7 +3,7 @@
 use Rattle.std.specs.Prelude.{ℕ, suc, Bool, not, ◌&&◌, List, [], ◌∷◌, ◌++◌, nat_lt, ◌==◌, if◌then◌else◌, Option, Some, None, unwrap_or, find, is_some}
 use Rattle.std.specs.FinMap.Entries.{find as value_at}
 use Rattle.pid_ident.specs.Trees.{text_cmp}
-use Rattle.pid_reader.specs.declared.mark.Mark.{Mark}
+use Rattle.pid_reader.specs.declared.line.Mark.{Mark}
 use Rattle.pid_reader.specs.Marks.{is_idle, depth, mark, is_unknown, is_generics, inside}
 use Rattle.pid_reader.specs.Levels.{front, widths}
 use Rattle.pid_reader.specs.Columns.{digits_in, name_in}
@@ -16,7 +16,8 @@ is_above n line = not (is_idle line) && nat_lt (depth line) n
 abbrev pub above : ℕ → List (List ℕ) → Option (List ℕ)
 above n earlier = find (is_above n) earlier
 
--- the head of a line: itself at depth 0, else the nearest earlier line of depth 0
+-- the head of a line: itself at depth 0, else the nearest earlier line of depth 0, or the empty line where there is none.
+-- The empty line's mark is that of vendors: so a nested line without a head is an entry, with NoParent or, behind three tabs, TooDeep.
 abbrev pub head_of : List (List ℕ) → List ℕ → List ℕ
 head_of earlier line = if depth line == 0 then line else unwrap_or (above 1 earlier) []
 

@@ -2,8 +2,8 @@
 -- pci.ids(5) and the syntax header of the published file; blocks of generic subsystems behind `S` as libpci reads them.
 use Rattle.std.specs.Prelude.{ℕ, suc, Bool, true, false, ◌&&◌, List, [], ◌∷◌, drop, nat_le, ◌==◌, if◌then◌else◌}
 use Rattle.pid_ident.specs.Bytes.{is_blank}
-use Rattle.pid_reader.specs.declared.mark.Mark.{Mark}
-use Rattle.pid_reader.specs.declared.mark.Mark.TheVariants.{Devices, Classes, Generics, Unknown}
+use Rattle.pid_reader.specs.declared.line.Mark.{Mark}
+use Rattle.pid_reader.specs.declared.line.Mark.TheVariants.{Devices, Classes, Generics, Unknown}
 
 -- without the blanks at its front
 abbrev pub trim_blanks : List ℕ → List ℕ
@@ -36,7 +36,8 @@ abbrev pub mark_of_letter : ℕ → Mark
 mark_of_letter b = if b == 67 then Classes else (if b == 83 then Generics else Unknown)
 
 -- what a line of depth 0 opens: a class behind `C` and a space, generic subsystems behind `S` and a space,
--- an unknown block behind another capital letter and a space, else a vendor
+-- an unknown block behind another capital letter and a space, else a vendor. A nested line begins with a tab, which is
+-- no capital: its mark is that of vendors, under which `inside` is what stands behind the tabs.
 abbrev pub mark : List ℕ → Mark
 mark [] = Devices
 mark (b ∷ []) = Devices

@@ -1,4 +1,5 @@
 -- What the open levels of a reader show of the lines that it has read, the nearest first.
+-- Serves private functions alone; no promise rests on it.
 use Rattle.std.specs.Prelude.{◌≡◌, ℕ, true, false, List, [], ◌∷◌, ◌++◌, ◌==◌, if◌then◌else◌, Option, Some, None, Result, Ok, Err, codes, IsTrue}
 use Rattle.pid_ident.specs.declared.line_kind.LineKind.{LineKind}
 use Rattle.pid_ident.specs.declared.line_kind.LineKind.TheVariants.{TooDeep, NoParent}
@@ -7,8 +8,8 @@ use Rattle.pid_ident.specs.declared.path.Path.TheVariants as paths
 use Rattle.pid_ident.specs.Identifiers.{hex4, hex2}
 use Rattle.pid_ident.specs.PathTexts.{path_text}
 use Rattle.pid_ident.specs.Words.{is_name}
-use Rattle.pid_reader.specs.declared.mark.Mark.{Mark}
-use Rattle.pid_reader.specs.declared.mark.Mark.TheVariants as marks
+use Rattle.pid_reader.specs.declared.line.Mark.{Mark}
+use Rattle.pid_reader.specs.declared.line.Mark.TheVariants as marks
 use Rattle.pid_reader.specs.declared.entry_line.Place.{Place}
 use Rattle.pid_reader.specs.declared.entry_line.Place.TheVariants as places
 use Rattle.pid_reader.specs.declared.open_levels.OpenLevels.{OpenLevels}

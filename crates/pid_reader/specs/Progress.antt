@@ -1,4 +1,5 @@
 -- What is kept of the lines that were read shows them, the last one first.
+-- Serves private functions alone; no promise rests on it.
 use Rattle.std.specs.Prelude.{◌≡◌, ℕ, List, [], ◌∷◌, Option, Some, None, length}
 use Rattle.pid_ident.specs.declared.path.Path.{Path}
 use Rattle.pid_ident.specs.PathTexts.{path_text}

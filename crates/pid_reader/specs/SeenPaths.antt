@@ -1,4 +1,5 @@
 -- The paths that were seen: a run that rises, and the rest.
+-- Serves private functions alone; no promise rests on it.
 use Rattle.std.specs.Prelude.{◌≡◌, Bool, true, List, ◌++◌, if◌then◌else◌}
 use Rattle.std.specs.List.{list_any}
 use Rattle.std.specs.List.Sorted.{IsSorted}

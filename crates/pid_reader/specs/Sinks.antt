@@ -20,7 +20,8 @@ pub record TookSome {S : Type 0} (takes : S → Numbered → S → Type 0) (old 
   pub took : Took takes old (numbered_of front) new
 
 -- the lines up to one were read, the sink took their entries, and at the entry of that line, which isn't refused, it gave the fault
-pub record FaultedAt {S F : Type 0} (takes : S → Numbered → S → Type 0) (faults : S → Numbered → F → S → Type 0) (old : S) (lines : List (List ℕ)) (fault : F) (new : S) : Type 0 where
+pub record FaultedAt {S F : Type 0} (takes : S → Numbered → S → Type 0) (faults : S → Numbered → F → S → Type 0)
+    (old : S) (lines : List (List ℕ)) (fault : F) (new : S) : Type 0 where
   pub front : List (List ℕ)
   pub line : List ℕ
   pub behind : List (List ℕ)
@@ -36,5 +37,6 @@ pub record FaultedAt {S F : Type 0} (takes : S → Numbered → S → Type 0) (f
 -- memory was wanting behind some of them; or it gave a fault at an entry
 abbrev pub Ends : {S F X : Type 0} → (S → Numbered → S → Type 0) → (S → Numbered → F → S → Type 0) → Result X (CutEnd F) → S → List (List ℕ) → S → Type 0
 Ends takes faults (Ok x) old lines new = (refusal_of lines ≡ None) × Took takes old (numbered_of lines) new
-Ends takes faults (Err (Refused r)) old lines new = ((refusal_of lines ≡ Some r) × Took takes old (numbered_of lines) new) ⊎ ((r ≡ Memory) × TookSome takes old lines new)
+Ends takes faults (Err (Refused r)) old lines new =
+    ((refusal_of lines ≡ Some r) × Took takes old (numbered_of lines) new) ⊎ ((r ≡ Memory) × TookSome takes old lines new)
 Ends takes faults (Err (Fault f)) old lines new = FaultedAt takes faults old lines f new

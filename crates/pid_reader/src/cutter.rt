@@ -5,10 +5,11 @@ ghost use Rattle.pid_reader.specs.WholeLines.{ended_pieces, open_part, whole_lin
 ghost use Rattle.pid_reader.specs.Numbered.{numbered_of};
 ghost use Rattle.pid_reader.specs.Sinks.{Took, Ends};
 ghost use Rattle.pid_reader.specs.Progress.{Shows};
-ghost use Rattle.pid_reader.specs.Cutters.{Holds, IsStopped, LineEnds, left_by};
+ghost use Rattle.pid_reader.specs.Cutters.{Holds, IsStopped, left_by};
+ghost use Rattle.pid_reader.specs.LineEnds.{LineEnds};
 ghost use Rattle.pid_reader.specs.declared.sink.CutEnd.TheVariants.{Refused};
 
-use crate::mark::without_cr;
+use crate::line::without_cr;
 use crate::pieces::split_line;
 use crate::progress::Progress;
 use crate::refusal::ReadRefusal;

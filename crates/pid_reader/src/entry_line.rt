@@ -1,5 +1,6 @@
 //! The columns of a line: its identifiers and its name.
-ghost use Rattle.std.specs.Prelude.{◌≡◌, ◌+◌, ◌<◌, ◌≤◌, ◌^◌, ◌++◌, ◌∷◌, [], true, false, None, Some, MatchOption, MatchResult, IfOk, IfErr, IfSome, IfNone, IsTrue, map, take, drop};
+ghost use Rattle.std.specs.Prelude.{◌≡◌, ◌<◌, ◌^◌, true, false, None, Some, map, take, drop};
+ghost use Rattle.std.specs.Prelude.{MatchOption, MatchResult, IfOk, IfErr, IfSome, IsTrue};
 ghost use Rattle.std.specs.Char.{to_ascii_lowercase, digit_char};
 ghost use Rattle.pid_ident.specs.Identifiers.{hex4, hex2};
 ghost use Rattle.pid_ident.specs.Words.{is_name as name_test};
@@ -7,7 +8,7 @@ ghost use Rattle.pid_reader.specs.Marks.{trim_blanks as trimmed};
 ghost use Rattle.pid_reader.specs.Columns.{is_hex, begins_with_id, begins_with_ids, is_id, digits_in, name_in};
 ghost use Rattle.pid_reader.specs.EntryLines.{name_fault, columns_fault, widths_of, IsPathAt};
 
-use crate::mark::{is_blank, is_empty, trim_blanks};
+use crate::line::{is_blank, trim_blanks};
 use pid_ident::{Id8, Id16, LineKind, Path, is_name};
 
 /// What a line names, but for its own digits.
@@ -87,7 +88,7 @@ pub fn vendor_of_block(bytes: &[u8]) -> Option<Id16>
     };
     let high = hex_value(*a)? * 16 + hex_value(*b)?;
     let low = hex_value(*c)? * 16 + hex_value(*d)?;
-    if !is_empty(trim_blanks(behind)) {
+    if !trim_blanks(behind).is_empty() {
         return None;
     }
     Some(high * 256 + low)
@@ -100,7 +101,7 @@ fn name_at(bytes: &[u8]) -> Result<&str, LineKind>
     ensures fault { MatchResult result (λ _. name_fault (trimmed bytes.now) ≡ None) (λ kind. name_fault (trimmed bytes.now) ≡ Some kind) }
 {
     let name = trim_blanks(bytes);
-    if is_empty(name) {
+    if name.is_empty() {
         return Err(LineKind::NoName);
     }
     let Ok(name) = str::from_utf8(name) else {

@@ -4,7 +4,7 @@ ghost use Rattle.pid_ident.specs.Trees.{TreeMap, IsTree};
 ghost use Rattle.pid_tree.specs.Printing.{print};
 ghost use Rattle.pid_reader.specs.Lines.{lines_of};
 ghost use Rattle.pid_reader.specs.LookingBack.{entries_back};
-ghost use Rattle.pid_reader.specs.Reading.{AreGood, Reads, entries_of, history_of, refused, refusal_of};
+ghost use Rattle.pid_reader.specs.Reading.{AreGood, ENTRIES, Reads, entries_of, history_of, refused, refusal_of};
 ghost use Rattle.pid_reader.specs.Numbered.{item_in, numbered_of};
 ghost use Rattle.pid_reader.specs.Entries.{AreEntries};
 ghost use Rattle.pid_reader.specs.WholeLines.{whole_lines};
@@ -27,14 +27,14 @@ pub fn refusals_stand()
 
 /// A text is refused nowhere exactly where no line has a fault and it has at most 100,000 entries.
 pub fn good_texts_are_read()
-    ensures { (text : List ℕ) → (refused text ≡ None) ↔ (AreGood (history_of text) × (length (entries_back (history_of text)) ≤ 100000)) }
+    ensures { (text : List ℕ) → (refused text ≡ None) ↔ (AreGood (history_of text) × (length (entries_back (history_of text)) ≤ ENTRIES)) }
 {}
 
 /// The entries of a text that is refused nowhere: each is a name at a path that no earlier one has, whose parent an earlier one has, and there are
 /// at most 100,000.
 pub fn texts_tell_entries()
     ensures entries { (text : List ℕ) → refused text ≡ None → AreEntries (entries_of (lines_of text)) }
-    ensures few { (text : List ℕ) → refused text ≡ None → length (entries_of (lines_of text)) ≤ 100000 }
+    ensures few { (text : List ℕ) → refused text ≡ None → length (entries_of (lines_of text)) ≤ ENTRIES }
 {}
 
 /// The entries of lines with the numbers of their lines are the entries of these lines.

@@ -1,7 +1,7 @@
 //! A text entry by entry, without taking memory.
 ghost use Rattle.std.specs.Prelude.{◌+◌, ◌<◌, ◌^◌, length, []};
 
-use crate::mark::without_cr;
+use crate::line::without_cr;
 use crate::open_levels::{OpenLevels, Said, read_line};
 use crate::pieces::first_line;
 use crate::refusal::LineFault;

@@ -1,12 +1,14 @@
 //! The open levels, and what a line says below them.
 ghost use Rattle.std.specs.Prelude.{◌≡◌, ◌==◌, ℕ, List, true, false, Some, IfOk, IfErr};
-ghost use Rattle.std.specs.Str.{is_utf8};
+ghost use Rattle.std.specs.Str.{is_utf8 as utf8_bytes};
 ghost use Rattle.pid_reader.specs.Marks.{is_idle as idle_line, depth as tabs, body as behind_tabs};
 ghost use Rattle.pid_reader.specs.Faults.{line_fault_of};
-ghost use Rattle.pid_reader.specs.OpenLevels.{IsOpenAt, IsNamed, Says, first_below as below_at_one, second_below as below_at_two, deeper_below as below_deeper, below as below_at, open_below as levels_below, open_behind as levels_behind};
+ghost use Rattle.pid_reader.specs.OpenLevels.{IsOpenAt, IsNamed, Says};
+ghost use Rattle.pid_reader.specs.OpenLevels.{first_below as below_at_one, second_below as below_at_two, deeper_below as below_deeper, below as below_at};
+ghost use Rattle.pid_reader.specs.OpenLevels.{open_below as levels_below, open_behind as levels_behind};
 
 use crate::entry_line::{Named, Place, read_columns, vendor_of_block};
-use crate::mark::{Mark, is_idle, is_text, split_depth, split_mark};
+use crate::line::{Mark, is_idle, is_utf8, split_depth, split_mark};
 use pid_ident::{Id8, Id16, LineKind, Path};
 
 /// What the next nested line can belong to.
@@ -97,7 +99,7 @@ fn read_nested<'b>(
     depth: usize,
     body: &'b [u8],
 ) -> Result<Said<'b>, LineKind>
-    requires text { is_utf8 line.now ≡ true }
+    requires text { utf8_bytes line.now ≡ true }
     requires active { idle_line line.now ≡ false }
     requires nested { (depth == 0) ≡ false }
     requires depth { tabs line.now ≡ depth }
@@ -115,7 +117,7 @@ fn read_nested<'b>(
 
 // Reads a line of depth 0.
 fn read_head(line: &[u8]) -> Result<Said<'_>, LineKind>
-    requires text { is_utf8 line.now ≡ true }
+    requires text { utf8_bytes line.now ≡ true }
     requires active { idle_line line.now ≡ false }
     requires flat { tabs line.now ≡ 0 }
     ensures says { (levels : OpenLevels) (earlier : List (List ℕ)) → IfOk result (λ s. Says levels earlier line.now s) }
@@ -146,7 +148,7 @@ pub fn read_line<'b>(levels: OpenLevels, line: &'b [u8]) -> Result<Said<'b>, Lin
     ensures named { IfOk result (λ s. IsNamed s) }
     ensures fault { (earlier : List (List ℕ)) → IsOpenAt levels earlier → IfErr result (λ kind. line_fault_of earlier line.now ≡ Some kind) }
 {
-    if !is_text(line) {
+    if !is_utf8(line) {
         return Err(LineKind::NotUtf8);
     }
     if is_idle(line) {

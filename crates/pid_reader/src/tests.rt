@@ -1,12 +1,8 @@
 //! Worked rows, through each of the readers.
 
-use crate::counter::Counter;
-use crate::cutter::Cutter;
-use crate::entry_counter::EntryCounter;
-use crate::feeder::{Feeder, read_ids};
-use crate::lines::Lines;
-use crate::refusal::ReadRefusal;
-use crate::sink::CutEnd;
+use crate::{
+    Counter, CutEnd, Cutter, EntryCounter, Feeder, LineFault, Lines, Never, ReadRefusal, read_ids,
+};
 use pid_ident::{LineKind, Path};
 use std::alloc::{AllocError, Global};
 use std::test::Fail;
@@ -82,6 +78,33 @@ fn by_read_ids(alloc: Global, text: &[u8]) -> Answer {
     Ok(read_ids(alloc, text)?.len())
 }
 
+// The same by the reader of lines, which looks at no earlier path: it passes over the two kinds that need them.
+fn by_lines(text: &[u8]) -> Answer {
+    let mut told = 0usize;
+    for item in Lines::new(text) {
+        match item {
+            Ok(_) => told = told.saturating_add(1),
+            Err(fault) => return fault_at(fault),
+        }
+    }
+    Ok(told)
+}
+
+fn fault_at(fault: LineFault) -> Answer {
+    let LineFault { line, kind } = fault;
+    Err(ReadRefusal::Line { line, kind })
+}
+
+fn needs_earlier_paths(answer: Answer) -> bool {
+    matches!(
+        answer,
+        Err(ReadRefusal::Line {
+            kind: LineKind::Duplicate | LineKind::VendorMissing,
+            ..
+        })
+    )
+}
+
 // The answer of a feeder that is fed pieces of this many bytes.
 fn by_pieces(alloc: Global, text: &[u8], size: usize) -> Answer {
     let mut feeder = Feeder::new(alloc);
@@ -114,6 +137,9 @@ fn rows_whole_and_cut(rt: HostRuntime) {
     for (text, want) in rows() {
         assert_eq!(rt; by_read_ids(rt.alloc(), text), want, "{text:?}");
         assert_eq!(rt; by_pieces(rt.alloc(), text, 1), want, "{text:?}");
+        if !needs_earlier_paths(want) {
+            assert_eq!(rt; by_lines(text), want, "{text:?}");
+        }
         for at in 0..text.len() {
             assert_eq!(rt; by_cutting(rt.alloc(), text, at), want, "{text:?} at {at}");
             let counted = want.map(|n| n as u64);
@@ -194,6 +220,18 @@ fn refused_ever_after(rt: HostRuntime) {
         assert!(rt; cutter.finish(&mut sink).is_err());
         assert_eq!(rt; sink.count, 1);
     }
+}
+
+#[test]
+fn a_refusal_says_its_line_and_kind(rt: HostRuntime) -> Result<(), Fail> {
+    let kind = LineKind::Duplicate;
+    let refusal = ReadRefusal::Line { line: 2, kind };
+    assert_eq!(rt; format!(in rt.alloc(); "{refusal}")?, "line 2: 7 Duplicate");
+    let fault = LineFault { line: 2, kind };
+    assert_eq!(rt; format!(in rt.alloc(); "{fault}")?, "line 2: 7 Duplicate");
+    let end: CutEnd<Never> = CutEnd::Refused(refusal);
+    assert_eq!(rt; format!(in rt.alloc(); "{end}")?, "line 2: 7 Duplicate");
+    Ok(())
 }
 
 #[test]

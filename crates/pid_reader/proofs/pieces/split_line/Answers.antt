@@ -1,17 +1,15 @@
-use Rattle.std.proofs.Common.{◌∙◌, sym, ap, arith, length, ◌<◌, ◌≤◌, ◌++◌, ◌∷◌, drop}
+use Rattle.std.proofs.Common.{◌∙◌, sym, ap, arith, length}
 use Rattle.std.proofs.lemmas.Bool.Decides.{nat_tests}
 use Rattle.pid_reader.specs.WholeLines.{ended_pieces}
-use Rattle.pid_reader.proofs.Cuts.{no_lf, parts_at, take_whole}
+use Rattle.pid_reader.proofs.Cuts.{no_lf, nowhere_lf, parts_behind, take_whole}
 use Rattle.pid_reader.proofs.pieces.split_line.Goals as goal
 
-pub returns-then-is_empty-clause-parts : goal.returns-then-is_empty-clause-parts
-returns-then-is_empty-clause-parts c =
-    let ends : length c.args.text.now ≤ c.line_end-end.result = grind (arith, nat_tests, c.if-is_empty.ensures, c.split_at.ensures.back_len) in
-    ap ended_pieces (sym (take_whole c.args.text.now c.line_end-end.result ends)) ∙ no_lf c.args.text.now c.line_end-end.result c.line_end-end.ensures.within c.line_end-end.ensures.before
+pub returns-in_err-end-clause-parts : goal.returns-in_err-end-clause-parts
+returns-in_err-end-clause-parts c =
+    let all = c.args.text.now in
+    rw c.from_residual.ensures (ap ended_pieces (sym (take_whole all (length all) (omega arith))) ∙ no_lf all (length all) (omega arith) (nowhere_lf all (length all) c.in_err-end.ensures))
 
 pub returns-clause-parts : goal.returns-clause-parts
 returns-clause-parts c =
-    let inside : c.line_end-end.result < length c.args.text.now = grind (arith, nat_tests, c.if-is_empty.ensures, c.split_at.ensures.back_len) in (
-      parts_at c.args.text.now c.line_end-end.result inside (c.line_end-end.ensures.found inside) ∙ (λ i. sym c.split_at.ensures.front i ++ 10 ∷ sym (c.split_at-2.ensures.back ∙ ap (drop 1) c.split_at.ensures.back) i),
-      ap ended_pieces c.split_at.ensures.front ∙ no_lf c.args.text.now c.line_end-end.result c.line_end-end.ensures.within c.line_end-end.ensures.before,
-    )
+    let found = c.in_ok-end.ensures in
+    (parts_behind c.args.text.now c.in_ok-end.end found.0.high (grind (arith, nat_tests)), no_lf c.args.text.now c.in_ok-end.end (omega arith) (nowhere_lf c.args.text.now c.in_ok-end.end found.0.before))

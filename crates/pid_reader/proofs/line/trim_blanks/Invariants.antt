@@ -1,6 +1,6 @@
 use Rattle.std.proofs.Common.{◌≡◌, length}
 use Rattle.pid_reader.specs.Marks.{trim_blanks}
-use Rattle.pid_reader.proofs.mark.trim_blanks.Given as goal
+use Rattle.pid_reader.proofs.line.trim_blanks.Given as goal
 
 abbrev pub invariant-loop-rest : goal.invariant-loop-rest
 invariant-loop-rest l = trim_blanks l.rest ≡ trim_blanks l.bytes

@@ -1,7 +1,7 @@
 use Rattle.std.proofs.Common.{sym}
 use Rattle.std.proofs.lemmas.Str.{is_utf8-from_IsUtf8}
 use Rattle.pid_reader.proofs.LineLemmas.{not_utf8}
-use Rattle.pid_reader.proofs.mark.is_text.Goals as goal
+use Rattle.pid_reader.proofs.line.is_utf8.Goals as goal
 
 pub returns-in-Ok : goal.returns-in-Ok
 returns-in-Ok c = sym (is_utf8-from_IsUtf8 _ c.in-Ok.ensures.cases.1)

@@ -1,7 +1,7 @@
 //! What a line is by its own bytes.
 ghost use Rattle.std.specs.Prelude.{◌≡◌, ◌+◌, ◌≤◌, length};
-ghost use Rattle.std.specs.Str.{is_utf8};
-ghost use Rattle.pid_ident.specs.Bytes.{is_blank as blank_byte, is_empty as no_bytes};
+ghost use Rattle.std.specs.Str.{is_utf8 as utf8_bytes};
+ghost use Rattle.pid_ident.specs.Bytes.{is_blank as blank_byte};
 ghost use Rattle.pid_reader.specs.Lines.{drop_cr};
 ghost use Rattle.pid_reader.specs.Marks.{trim_blanks as trimmed, is_idle as idle_line, depth, body, mark, behind_mark};
 
@@ -28,19 +28,13 @@ pub fn without_cr(piece: &[u8]) -> &[u8]
     }
 }
 
-pub fn is_text(bytes: &[u8]) -> bool
-    ensures { result ≡ is_utf8 bytes.now }
+pub fn is_utf8(bytes: &[u8]) -> bool
+    ensures { result ≡ utf8_bytes bytes.now }
 {
     match str::from_utf8(bytes) {
         Ok(_) => true,
         Err(_) => false,
     }
-}
-
-pub fn is_empty(bytes: &[u8]) -> bool
-    ensures { result ≡ no_bytes bytes.now }
-{
-    matches!(bytes, [])
 }
 
 pub fn is_blank(byte: u8) -> bool
