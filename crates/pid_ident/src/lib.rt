@@ -27,6 +27,3 @@ pub use path::{Path, PathKind};
 pub use plain::Plain;
 pub use text::{Text, is_text};
 pub use word_fault::WordFault;
-
-#[cfg(test)]
-mod tests;

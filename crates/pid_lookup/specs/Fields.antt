@@ -1,5 +1,6 @@
 -- The fields of a look-up, pairs of a name and a value: a choice of this project.
-use Rattle.std.specs.Prelude.{◌≡◌, ℕ, Bool, not, ◌&&◌, ◌||◌, nat_le, nat_lt, if◌then◌else◌, List, [], ◌∷◌, length, find, count_by, Option, Some, None, is_none, codes, String, string_bytes}
+use Rattle.std.specs.Prelude.{◌≡◌, ℕ, Bool, not, ◌&&◌, ◌||◌, nat_le, nat_lt, if◌then◌else◌}
+use Rattle.std.specs.Prelude.{List, [], ◌∷◌, length, find, count_by, Option, Some, None, is_none, codes, String, string_bytes}
 use Rattle.std.specs.Char.{is_digit}
 use Rattle.std.specs.List.{list_all, list_any}
 use Rattle.std.specs.Option.{option_map}

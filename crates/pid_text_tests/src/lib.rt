@@ -4,4 +4,8 @@
 #![tactic(auto)]
 
 #[cfg(test)]
+mod identifiers;
+#[cfg(test)]
 mod look_ups;
+#[cfg(test)]
+mod trees;

@@ -1,19 +1,11 @@
 //! Worked look-ups over trees, every request in every style, cuts, bad fields, and a holder that fails.
+use crate::trees::made;
 use pid_ident::{Name, Path};
 use pid_lookup::{Answer, Args, LookupRefusal, Names, TreeNames, args_of, lookup};
 use pid_tree::Tree;
 use std::alloc::Global;
 use std::process::Abort;
 use std::test::Fail;
-
-fn made(alloc: Global, items: &[(&str, &str)]) -> Result<Tree, Fail> {
-    let mut tree = Tree::new(alloc);
-    for (path, name) in items {
-        let path = Path::parse(path).ok_or("a path")?;
-        tree.set(path, Name::of(alloc, name)?)?;
-    }
-    Ok(tree)
-}
 
 // The fields of a query such as `flags=1&vendor=8086`.
 fn fields_of(alloc: Global, query: &str) -> Result<Vec<(String, String)>, Fail> {

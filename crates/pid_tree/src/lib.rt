@@ -3,8 +3,6 @@
 
 mod laws;
 mod print;
-#[cfg(test)]
-mod tests;
 mod tree;
 mod whole;
 

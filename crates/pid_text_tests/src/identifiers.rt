@@ -1,4 +1,8 @@
-use super::*;
+//! Words, paths and their texts, and readers and writers that are interrupted or fail.
+use pid_ident::{
+    Account, FaultyOutput, Input, Key, LineKind, Name, Output, Path, Plain, Text, WordFault,
+    WriteFault, write_all, write_parts,
+};
 use std::io;
 use std::io::{ErrorKind, Read, Write};
 use std::test::Fail;

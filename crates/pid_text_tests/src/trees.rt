@@ -1,7 +1,6 @@
 //! Worked trees, refusals, and writers that fail.
-use crate::print::write_canonical;
-use crate::tree::{Tree, TreeRefusal};
 use pid_ident::{FaultyOutput, Name, Path, WriteFault};
+use pid_tree::{Tree, TreeRefusal, write_canonical};
 use std::alloc::Global;
 use std::process::Abort;
 use std::test::Fail;
@@ -23,7 +22,8 @@ fn remove(tree: &mut Tree, path: &str) -> Result<Result<(), TreeRefusal>, Fail> 
     Ok(tree.remove(&path))
 }
 
-fn made(alloc: Global, items: &[(&str, &str)]) -> Result<Tree, Fail> {
+// The tree of these items.
+pub fn made(alloc: Global, items: &[(&str, &str)]) -> Result<Tree, Fail> {
     let mut tree = Tree::new(alloc);
     for (path, name) in items {
         set(&mut tree, alloc, path, name)??;
