@@ -4,3 +4,5 @@ pub mod PutLemmas
 pub mod CreateLemmas
 pub mod SoundLemmas
 pub mod CommitLemmas
+pub mod MakerTexts
+pub mod MetLemmas

@@ -1,3 +1,4 @@
 pub mod Creation
+pub mod Making
 pub mod Puts
 pub mod Applies
