@@ -21,6 +21,7 @@ pub mod RangeLemmas
 pub mod ChildLemmas
 pub mod Lengths
 pub mod OneRowEach
+pub mod OnlyReading
 pub mod FaultLemmas
 pub mod CauseLemmas
 pub mod QueryTexts

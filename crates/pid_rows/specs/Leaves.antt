@@ -59,11 +59,18 @@ LeadsTo old new result IsFor recount next =
     HasCleanDisk new → IsTrue old.in_transaction → (c : Counts) (v : Views) → ShowsCounting c old.now v → IsFor c v
     → MatchResult result (λ _. ShowsCounting (recount c) new.now (next v)) IsUntold
 
--- a read leaves what was at rest at rest, and forgets no fault
+-- while it is open, the connection sees this database, and it is committed
+pub record RestsOn (s : State) (d : Database) : Type 0 where
+  pub sees : IsTrue s.is_open → s.now ≡ d
+  pub committed : IsTrue s.is_open → s.committed ≡ d
+
+-- A read opens no connection and forgets no fault. The database stays the same, whatever it is: what was at rest stays at rest.
 pub record OnlyReads (old new : State) : Type 0 where
   pub survives : Survives old new (λ _. ⊥)
   pub settled : new.in_transaction ≡ false
   pub clean : HasCleanDisk new → HasCleanDisk old
+  pub was_open : IsTrue new.is_open → IsTrue old.is_open
+  pub same : (d : Database) → RestsOn old d → RestsOn new d
   pub kept : (v : Views) → AtRest old v → AtRest new v
 
 -- and tells of the views that were at rest; a fault has a cause where what they hold can be read

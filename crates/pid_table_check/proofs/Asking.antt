@@ -1,6 +1,5 @@
 -- What it leaves, and what it tells, to prepare the text of a query.
 use Rattle.std.proofs.Common.{◌≡◌, ◌⊎◌, inl, inr, ℕ, zero, suc, List, [], ◌∷◌, Bool, true, false, Some, Ok, Err, Result, IfOk, IfErr, OnOk, IsTrue, refl, sym, ap, subst, ◌∙◌, ◌+◌, ◌<◌, length, get_or, arith}
-use Rattle.sqlite.proofs.StateLemmas.{survives_then}
 use Rattle.std.specs.Result.{result_err}
 use Rattle.std.specs.List.{All, Any}
 use Rattle.std.specs.Prelude.{◌↔◌}
@@ -23,10 +22,8 @@ use Rattle.pid_rows.specs.Causes.{IsCaused}
 use Rattle.pid_rows.specs.Leaves.{AtRest, OnlyReads}
 use Rattle.pid_rows.specs.Queries.{IsQuery}
 use Rattle.pid_rows.proofs.CauseLemmas.{not_run_caused, caused_later}
-use Rattle.pid_rows.specs.Shows.{Shows}
-use Rattle.pid_rows.proofs.LeaveLemmas.{leaves_on}
+use Rattle.pid_rows.proofs.OnlyReading.{keeps_left, rests_on, reads_then}
 use Rattle.pid_rows.proofs.Lengths.{mapped, unmapped}
-use Rattle.pid_rows.proofs.GoingLemmas.{earlier}
 use Rattle.pid_rows.proofs.ReadLemmas.{not_run}
 use Rattle.pid_table_check.specs.declared.shape.Table.{Table}
 use Rattle.pid_table_check.specs.declared.shape.Table.TheVariants.{Meta, Account, Item, Submission, Remark, Receipt}
@@ -43,23 +40,9 @@ left_by : {X : Type 0} (P : X → Type 0) (r : Result X Error) (old new : State)
 left_by P (Ok x) old new sql good bad = inl good.1
 left_by P (Err e) old new sql good bad = not_run old new sql [] e (bad [])
 
-at_rest : (old new : State) (v : Views) → AtRest old v → IsUnchanged old new ⊎ IsRolledBack old new → IsTrue new.is_open → (new.now ≡ new.committed) × Shows new.now v
-at_rest old new v rest (inl same) opened = (same.0.now_is ∙ rest.same same.0.was_open ∙ sym same.0.committed_is, subst (λ d. Shows d v) (sym same.0.now_is) (rest.shows same.0.was_open))
-at_rest old new v rest (inr back) opened =
-    let was = back.was_open opened in
-    let undone = back.undone opened in
-    (undone.0 ∙ sym undone.1, subst (λ d. Shows d v) (rest.same was ∙ sym undone.0) (rest.shows was))
-
 pub rests : {X : Type 0} (P : X → Type 0) (r : Result X Error) (old new : State) (sql : List ℕ) → (IsTrue new.is_open → HasCleanDisk new) → new.in_transaction ≡ false → Survives old new (λ _. ⊥)
     → (HasCleanDisk new → IfOk r (λ s. P s × IsUnchanged old new)) → (HasCleanDisk new → IfErr r (λ e. (params : Row) → IsNotRun old new sql params e)) → OnlyReads old new
-rests P r old new sql law ended survives good bad = record {
-  survives = survives;
-  settled = ended;
-  clean = earlier old new survives;
-  kept = λ v rest.
-      let now = λ (opened : IsTrue new.is_open). at_rest old new v rest (left_by P r old new sql (good (law opened)) (bad (law opened))) opened in
-      record { settled = ended; same = λ opened. (now opened).0; shows = λ opened. (now opened).1; leaves = leaves_on old new v survives rest.leaves };
-}
+rests P r old new sql law ended survives good bad = rests_on old new law survives ended (λ clean. keeps_left old new (left_by P r old new sql (good clean) (bad clean)))
 
 of_store : (cause : StoreError) → fault_of (store_error cause) ≡ Damaged → ⊥
 of_store store.OutOfMemory h = cc
@@ -97,10 +80,7 @@ told_caused old new (Err f) e is h = subst (IsCaused old new) (sym is) h
 -- ---- one after the other
 
 pub nothing_read : (s : State) → s.in_transaction ≡ false → OnlyReads s s
-nothing_read s settled = record { survives = record { clean = omega arith; shield = λ h. h; counts = omega arith; limit = refl; closes = λ clean opened. inl opened; crash = λ clean db may. inl may }; settled = settled; clean = λ clean. clean; kept = λ v rest. rest }
-
-pub reads_then : (a b c : State) → OnlyReads a b → OnlyReads b c → OnlyReads a c
-reads_then a b c one two = record { survives = survives_then a b c (λ _. ⊥) (λ _. ⊥) (λ _. ⊥) (λ clean db none. none) (λ clean db none. none) one.survives two.survives; settled = two.settled; clean = λ clean. one.clean (two.clean clean); kept = λ v rest. two.kept v (one.kept v rest) }
+nothing_read s settled = record { survives = record { clean = omega arith; shield = λ h. h; counts = omega arith; limit = refl; closes = λ clean opened. inl opened; crash = λ clean db may. inl may }; settled = settled; clean = λ clean. clean; was_open = λ opened. opened; same = λ d rest. rest; kept = λ v rest. rest }
 
 -- it only read so far, and the database is the same
 abbrev pub IsSame : State → State → Type 0

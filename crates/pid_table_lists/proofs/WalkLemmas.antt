@@ -32,7 +32,7 @@ use Rattle.std.specs.Str.{is_utf8}
 use Rattle.pid_rows.specs.Shows.{Shows, counts_of}
 use Rattle.pid_rows.proofs.GoingLemmas.{earlier}
 use Rattle.pid_rows.proofs.ReadLemmas.{fails_to_query}
-use Rattle.pid_rows.proofs.LeaveLemmas.{leaves_on}
+use Rattle.pid_rows.proofs.OnlyReading.{Keeps, keeps_same, keeps_back, keeps_then, rests_on}
 use Rattle.pid_table_lists.specs.EachItem.{TakesOne, TakesEach, IsCausedEnd, IsUnreadEnd}
 use Rattle.pid_table_lists.specs.declared.walk.EachEnd.{EachEnd}
 use Rattle.pid_table_lists.specs.declared.walk.EachEnd.TheVariants.{Tables, Fault}
@@ -40,41 +40,6 @@ use Rattle.pid_table_lists.proofs.ItemLists.{select_all, select_all_shows, all_q
 use Rattle.pid_table_lists.proofs.PlainTexts.{commits_nothing, returns_nothing}
 
 -- ---- what reads leave
-
--- while it is open, it was open, sees what it saw or what was committed, and has that committed
-abbrev pub Keeps : State → State → Type 0
-Keeps old new = IsTrue new.is_open → IsTrue old.is_open × ((new.now ≡ old.now) ⊎ (new.now ≡ old.committed)) × (new.committed ≡ old.committed)
-
-pub keeps_same : (old new : State) → IsUnchanged old new → Keeps old new
-keeps_same old new same opened = (same.0.was_open, inl same.0.now_is, same.0.committed_is)
-
-pub keeps_back : (old new : State) → IsRolledBack old new → Keeps old new
-keeps_back old new back opened = (back.was_open opened, inr (back.undone opened).0, (back.undone opened).1)
-
-pub keeps_then : (old mid new : State) → IsUnchanged old mid → Keeps mid new → Keeps old new
-keeps_then old mid new same keeps opened =
-    let k = keeps opened in
-    (same.0.was_open, elim k.1 [ inl now ↦ inl (now ∙ same.0.now_is) | inr back ↦ inr (back ∙ same.0.committed_is) ], k.2 ∙ same.0.committed_is)
-
-pub keeps_either : (old new : State) (e : Error) → Fails old new ⊥ e ⊎ IsUnchanged old new → Keeps old new
-keeps_either old new e (inl fails) = keeps_back old new fails.3
-keeps_either old new e (inr same) = keeps_same old new same
-
-pub rests_on : (old new : State) → (IsTrue new.is_open → HasCleanDisk new) → Survives old new (λ _. ⊥) → new.in_transaction ≡ false → (HasCleanDisk new → Keeps old new) → OnlyReads old new
-rests_on old new law survives settled keeps = record {
-  survives = survives;
-  settled = settled;
-  clean = earlier old new survives;
-  kept = λ v rest. record {
-    settled = settled;
-    same = λ opened. let k = keeps (law opened) opened in elim k.1 [ inl now ↦ now ∙ rest.same k.0 ∙ sym k.2 | inr back ↦ back ∙ sym k.2 ];
-    shows = λ opened.
-        let k = keeps (law opened) opened in
-        let now : new.now ≡ old.now = elim k.1 [ inl now ↦ now | inr back ↦ back ∙ sym (rest.same k.0) ] in
-        subst (λ d. Shows d v) (sym now) (rest.shows k.0);
-    leaves = leaves_on old new v survives rest.leaves;
-  };
-}
 
 -- a text that shows nothing of a write commits nothing
 pub survives_query : (sql : List ℕ) (params : Row) (old new : State) → Survives old new (CommitsShowing sql params old) → ((db : Trees) → CommitsShowing sql params old db → ⊥) → Survives old new (λ _. ⊥)

@@ -5,16 +5,12 @@ use Rattle.sqlite.specs.Held.{Held, state}
 use Rattle.sqlite.specs.State.{State, HasCleanDisk, Shown}
 use Rattle.sqlite_trees.specs.declared.store.Store.{Ghosts}
 use Rattle.sqlite.proofs.StateLemmas.{clean_if_open}
-use Rattle.pid_rows.specs.Shows.{counts_of}
 use Rattle.pid_rows.specs.Leaves.{OnlyReads}
-use Rattle.sqlite.proofs.StateLemmas.{survives_then}
-use Rattle.sqlite.proofs.Callers.{survives_begin}
 use Rattle.pid_rows.specs.Causes.{IsCaused}
 use Rattle.pid_rows.specs.declared.fault.TableFault.{TableFault}
 use Rattle.pid_rows.specs.declared.fault.TableFault.TheVariants.{Memory, Store, NewerSchema, Damaged}
 use Rattle.pid_rows.proofs.CauseLemmas.{caused_first}
-use Rattle.pid_rows.proofs.LeaveLemmas.{given_back, begun_within}
-use Rattle.pid_rows.proofs.GoingLemmas.{holds_on, earlier}
+use Rattle.pid_rows.proofs.OnlyReading.{reads_begun}
 use Rattle.pid_rows.proofs.run.read_rows.Goals as goal
 
 there : {S : Type 0} (g : Ghosts S) {X E : Type 0} (sql : List _) (params : Row) (old : State) (mid : Held S) (r : Result X E) (rows : X → List Row) → IfOk r (λ v. Shown sql params old (state g mid) (rows v))
@@ -27,17 +23,10 @@ returns-clause-rests g c =
     let end = c.drop-tx.new.self.0 in
     let same : end ≡ c.conn-1.given.0 = search rules in
     let first = c.read_inside.new.tx.conn.now in
-    let mid = state g.S.Store first in
     let goes = rw c.transaction-tx.ensures.begun at c.read_inside.ensures.goes in
-    let begun = state g.S.Store (record c.args.conn.now { in_transaction = true }) in
-    subst (λ h. OnlyReads (state g.S.Store c.args.conn.now) (state g.S.Store h)) same (record {
-      survives = survives_begin g.S.Store c.args.conn.now (state g.S.Store end) (λ _. ⊥) (survives_then begun mid (state g.S.Store end) (λ _. ⊥) (λ _. ⊥) (λ _. ⊥) (λ clean db none. none) (λ clean db none. none) goes.survives c.drop-tx.ensures.survives);
-      settled = c.drop-tx.ensures.ended;
-      clean = λ clean. earlier begun mid goes.survives (earlier mid (state g.S.Store end) c.drop-tx.ensures.survives clean);
-      kept = λ v rest.
-          let holds = holds_on _ mid c.read_inside.result (counts_of v) v v (clean_if_open (g.S.Store.view first.store) (g.met.S.Store.shut_if_dirty first.store)) goes (begun_within g.S.Store c.args.conn.now v rest) in
-          given_back mid (state g.S.Store end) v (clean_if_open (g.S.Store.view end.store) (g.met.S.Store.shut_if_dirty end.store)) c.drop-tx.ensures.ended c.drop-tx.ensures.undone c.drop-tx.ensures.survives holds;
-    })
+    subst (λ h. OnlyReads (state g.S.Store c.args.conn.now) (state g.S.Store h)) same
+    (reads_begun g.S.Store c.args.conn.now first end c.read_inside.result (clean_if_open (g.S.Store.view first.store) (g.met.S.Store.shut_if_dirty first.store))
+    (clean_if_open (g.S.Store.view end.store) (g.met.S.Store.shut_if_dirty end.store)) goes c.drop-tx.ensures.ended c.drop-tx.ensures.undone c.drop-tx.ensures.survives)
 
 pub returns-clause-shown : goal.returns-clause-shown
 returns-clause-shown g c clean =

@@ -6,7 +6,8 @@ use Rattle.sqlite.proofs.StateLemmas.{clean_if_open}
 use Rattle.pid_rows.specs.Leaves.{OnlyReads}
 use Rattle.pid_table_lists.specs.EachItem.{IsCausedEnd}
 use Rattle.pid_table_lists.proofs.ItemLists.{select_all}
-use Rattle.pid_table_lists.proofs.WalkLemmas.{keeps_same, keeps_either, refused, refused_caused, step_caused, unread_caused, end_caused, tables_caused, never_so_many, begun, walked_rests, walk_rests, faulted, taken, not_taken, all_taken}
+use Rattle.pid_table_lists.proofs.WalkLemmas.{refused, refused_caused, step_caused, unread_caused, end_caused, tables_caused, never_so_many, begun, walked_rests, walk_rests, faulted, taken, not_taken, all_taken}
+use Rattle.pid_rows.proofs.OnlyReading.{keeps_same, keeps_either}
 use Rattle.pid_table_lists.proofs.walk.each_item.Goals as goal
 
 pub returns-in_err-rows-clause-rests : goal.returns-in_err-rows-clause-rests
