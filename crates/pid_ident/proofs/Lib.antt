@@ -2,3 +2,5 @@ pub mod PathOrder
 pub mod Parsing
 pub mod WordTests
 pub mod SendingLemmas
+pub mod ReadingLemmas
+pub mod PathReadingLemmas

@@ -1,9 +1,12 @@
 pub mod Identifiers
 pub mod PathTexts
+pub mod PathReading
 pub mod PathPlaces
 pub mod Bytes
 pub mod Words
 pub mod Trees
 pub mod LineKinds
 pub mod Sending
+pub mod Reading
+pub mod ReadingLaws
 pub mod Wrapping

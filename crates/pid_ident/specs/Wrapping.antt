@@ -1,5 +1,6 @@
 -- A reader or a writer of std as this crate wraps it.
-use Rattle.std.specs.Prelude.{ℕ, Option}
+use Rattle.std.specs.Prelude.{◌≡◌, ℕ, List, Option}
+use Rattle.pid_ident.specs.Reading.{HasReadOn}
 use Rattle.pid_ident.specs.declared.plain.Plain.{Plain}
 use Rattle.pid_ident.specs.declared.io.ReadFault.{ReadFault}
 use Rattle.pid_ident.specs.declared.io.WriteFault.{WriteFault}
@@ -19,3 +20,7 @@ kept_write_fault p = p.write_fault
 -- how many reads were made, up to the greatest count
 abbrev pub count_of_reads : {T : Type 0} → Plain T → ℕ
 count_of_reads p = p.reads
+
+-- what reads leave of it, by the bytes to come before and after; what was written stays
+abbrev pub GoesOn : {T : Type 0} → Option (List ℕ) → Option (List ℕ) → Plain T → Plain T → Type 0
+GoesOn old new a b = HasReadOn old new (kept_read_fault a) (kept_read_fault b) (count_of_reads a) (count_of_reads b) × (kept_write_fault b ≡ kept_write_fault a)

@@ -56,6 +56,26 @@ impl Account {
     }
 }
 
+impl PartialEq for Account {
+    ghost use Rattle.std.specs.Str.{bytes_eq};
+    ghost use Rattle.std.specs.Cmp.{partial_equiv_from_equiv};
+    ghost use Rattle.std.specs.Cmp.Lexicographic.{nat_list_eq_equiv};
+
+    ghost eq = { bytes_eq };
+
+    ghost laws = { partial_equiv_from_equiv nat_list_eq_equiv };
+
+    fn eq(&self, other: &Account) -> bool {
+        self.text == other.text
+    }
+}
+
+impl Eq for Account {
+    ghost use Rattle.std.specs.Cmp.Lexicographic.{nat_list_eq_equiv};
+
+    ghost laws = { nat_list_eq_equiv };
+}
+
 /// Whether a text may be the name of an account.
 pub fn is_account(text: &str) -> bool
     ensures { result ≡ account_test text.now }

@@ -1,5 +1,6 @@
 //! A reader and a writer over memory that fail where a test wants it.
-ghost use Rattle.std.specs.Prelude.{◌≡◌, ◌<◌, [], None, Some, max};
+ghost use Rattle.std.specs.Prelude.{◌≡◌, ◌<◌, ◌↔◌, [], None, Some, IsTrue, max};
+ghost use Rattle.pid_ident.specs.Reading.{one_less};
 
 use crate::io::{Input, Output, ReadFault, WriteFault};
 use std::alloc::Global;
@@ -52,11 +53,23 @@ impl<'a> FaultyInput<'a> {
 }
 
 impl Input for FaultyInput<'_> {
+    ghost use Rattle.std.specs.Prelude.{◌≡◌, Some};
+    ghost use Rattle.std.proofs.Common.{refl, ◌∙◌};
+    ghost use Rattle.pid_ident.specs.Reading.{HasReadOn, HasNoMore};
+    ghost use Rattle.pid_ident.specs.ReadingLaws.{no_reads, more_reads, no_more_stays, no_more_then};
+
     ghost to_come = { λ i. Some i.rest.now };
 
     ghost read_fault = { λ i. i.fault };
 
     ghost reads = { λ i. i.reads };
+
+    // It is made to fail as before, or sooner.
+    ghost goes = { λ a b. HasReadOn (Some a.rest.now) (Some b.rest.now) a.fault b.fault a.reads b.reads × (b.most ≡ a.most) × HasNoMore a.good_calls b.good_calls };
+
+    ghost stays = { λ a. (no_reads (Some a.rest.now) a.fault a.reads, refl, no_more_stays a.good_calls) };
+
+    ghost joins = { λ a b c p q. (more_reads _ (Some b.rest.now) _ _ b.fault _ _ b.reads _ p.0 q.0, q.1 ∙ p.1, no_more_then a.good_calls b.good_calls c.good_calls p.2 q.2) };
 
     fn read(&mut self, buffer: &mut [u8]) -> Result<usize, ReadFault> {
         self.reads = self.reads.saturating_add(1);
@@ -76,7 +89,10 @@ impl Input for FaultyInput<'_> {
 }
 
 // Whether no good call is left; else there is one less.
-fn is_spent(good_calls: &mut Option<u64>) -> bool {
+fn is_spent(good_calls: &mut Option<u64>) -> bool
+    ensures spent { IsTrue result ↔ (good_calls.old ≡ Some 0) }
+    ensures left { good_calls.new ≡ one_less good_calls.old }
+{
     match *good_calls {
         None => false,
         Some(0) => true,

@@ -1,5 +1,6 @@
 //! Readers and writers that keep their faults.
 ghost use Rattle.std.specs.Prelude.{◌≡◌, ℕ, ◌+◌, ◌-◌, ◌^◌, ◌<◌, ◌≤◌, min, length, List, Option, None, Some, IfOk, IfErr, IfSome, MatchResult, OnOk, drop};
+ghost use Rattle.std.specs.List.{flat_map};
 ghost use Rattle.std.specs.Io.KnownBytes.{ReadConsumes, WriteAppends, Appends, Keeps};
 ghost use Rattle.pid_ident.specs.Sending.{Sends};
 
@@ -34,13 +35,25 @@ pub trait Input {
     /// How many reads were made, up to the greatest count.
     ghost reads: { Self → ℕ };
 
+    /// What calls of `read` may leave of a reader, however many: the reader before, and the reader after. A function
+    /// that is lent any reader ensures it; a caller who lent one that it knows, such as one over another reader, reads
+    /// off it what it has back.
+    ghost goes: { Self → Self → Type 0 };
+
     /// Reads some bytes. None into a buffer with room is the end.
     fn read(&mut self, buffer: &mut [u8]) -> Result<usize, ReadFault>
         ensures room { IfOk result (λ n. n ≤ length buffer.new) }
         ensures bytes { ReadConsumes (to_come self.old) (to_come self.new) result buffer.new }
         ensures fault { MatchResult result (λ _. read_fault self.new ≡ None) (λ f. read_fault self.new ≡ Some f) }
         ensures kept { IfSome (read_fault self.old) (λ f. result ≡ Err f) }
-        ensures count { reads self.new ≡ min (reads self.old + 1) (2 ^ 64 - 1) };
+        ensures count { reads self.new ≡ min (reads self.old + 1) (2 ^ 64 - 1) }
+        ensures goes { goes self.old self.new };
+
+    /// No call leaves the reader as it is.
+    ghost stays: { (a : Self) → goes a a };
+
+    /// Some calls and then others are calls.
+    ghost joins: { (a b c : Self) → goes a b → goes b c → goes a c };
 }
 
 /// A writer.
@@ -75,8 +88,6 @@ pub fn write_all<W: Output>(out: &mut W, bytes: &[u8]) -> Result<(), WriteFault>
     }
     Ok(())
 }
-
-ghost use Rattle.std.specs.List.{flat_map};
 
 /// Writes the parts one after another.
 pub fn write_parts<W: Output>(out: &mut W, parts: &[&[u8]]) -> Result<(), WriteFault>

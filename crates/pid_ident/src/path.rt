@@ -1,13 +1,14 @@
 //! Paths of items: their texts, their parents and their kinds.
 ghost use Rattle.std.specs.Prelude.{◌≡◌, IfOk, IfSome, IfNone, string_bytes};
 ghost use Rattle.pid_ident.specs.PathTexts.{IsPath, IsTextOf, path_text, parent_of, kind_of};
+ghost use Rattle.pid_ident.specs.PathReading.{path_of};
 
 mod order;
 mod parse;
 mod print;
 
 use crate::identifier::{Id8, Id16};
-use parse::path_of;
+use parse::read_path;
 use print::{front, push_parts};
 use std::alloc::{AllocError, Global};
 
@@ -71,8 +72,9 @@ impl Path {
     pub fn parse(text: &str) -> Option<Path>
         ensures found { IfSome result (λ p. IsTextOf text.now p) }
         ensures none { IfNone result ((p : Path) → IsTextOf text.now p → ⊥) }
+        ensures computed { result ≡ path_of text.now }
     {
-        path_of(text.as_bytes())
+        read_path(text.as_bytes())
     }
 
     /// The path's text, as `PC/8086/1237`.

@@ -86,11 +86,22 @@ fn is_interrupted(error: &io::Error) -> bool {
 }
 
 impl<R: Read> Input for Plain<R> {
+    ghost use Rattle.std.proofs.Common.{refl, ◌∙◌};
+    ghost use Rattle.pid_ident.specs.ReadingLaws.{no_reads, more_reads};
+    ghost use Rattle.pid_ident.specs.Wrapping.{GoesOn};
+
     ghost to_come = { λ p. R.remaining (wrapped p) };
 
     ghost read_fault = { λ p. kept_read_fault p };
 
     ghost reads = { λ p. count_of_reads p };
+
+    // Reads leave what was written as it is.
+    ghost goes = { λ a b. GoesOn (R.remaining (wrapped a)) (R.remaining (wrapped b)) a b };
+
+    ghost stays = { λ a. (no_reads (R.remaining (wrapped a)) (kept_read_fault a) (count_of_reads a), refl) };
+
+    ghost joins = { λ a b c p q. (more_reads _ (R.remaining (wrapped b)) _ _ (kept_read_fault b) _ _ (count_of_reads b) _ p.0 q.0, q.1 ∙ p.1) };
 
     fn read(&mut self, buffer: &mut [u8]) -> Result<usize, ReadFault> {
         self.reads = self.reads.saturating_add(1);

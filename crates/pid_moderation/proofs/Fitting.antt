@@ -14,10 +14,10 @@ use Rattle.pid_moderation.specs.declared.change.Change.{Change}
 use Rattle.pid_moderation.specs.declared.facts.Facts.{Facts}
 use Rattle.pid_moderation.specs.declared.rank.Rank.{Rank}
 use Rattle.pid_moderation.specs.declared.refusal.Refusal.{Refusal}
-use Rattle.pid_moderation.specs.History.{NoFile, TooLong, Faulty, Good, Deed, Ranks, Submits, Comments, Withdraws, Approves, Rejects, Imports, Asked, History}
+use Rattle.pid_moderation.specs.History.{TooLong, Faulty, Good, Deed, Ranks, Submits, Comments, Withdraws, Approves, Rejects, Imports, Asked, History}
 use Rattle.pid_moderation.specs.Items.{Items, name_at}
 use Rattle.pid_moderation.specs.Views.{Views, Submitted, views_of, rank_of, submits_of, submission_at, items_of}
-use Rattle.pid_moderation.specs.FactsOfViews.{facts_of, with_item, known, kept_in, wanted, verdict_in}
+use Rattle.pid_moderation.specs.FactsOfViews.{facts_of, with_item, known, kept_in}
 use Rattle.pid_moderation.specs.CheckTables.{checks, if_named, comment_checks, decision_checks, withdraw_checks, is_so}
 use Rattle.pid_moderation.specs.Changes.{with_pairs, FitsWrite, FitsEffect, FitsReceipt, Fits, IsThere}
 use Rattle.pid_moderation.specs.Judgement.{Outcome, Refused, Repeated, Accepts, judge, judged}
@@ -26,7 +26,7 @@ use Rattle.pid_moderation.proofs.Changing.{asks, seen}
 use Rattle.pid_moderation.proofs.WriteLemmas.{items_sorted}
 use Rattle.pid_moderation.proofs.Knowing.{to_deed, approving}
 use Rattle.pid_moderation.proofs.Passing.{AllPass, Passes, accepted_passes}
-use Rattle.pid_moderation.proofs.ReceiptsStay.{looked_at-kept}
+use Rattle.pid_moderation.proofs.ReceiptsStay.{facts-kept}
 
 named_there : (o : Option (List ℕ)) → is_none o ≡ false → is_some o ≡ true
 named_there None h = absurd cc
@@ -74,7 +74,6 @@ effect_fits h account key (Comments n text) passed = comment_fits (submission_at
 effect_fits h account key (Withdraws n) passed = (withdrawal_fits (submission_at n (submits_of h)) (views_of h) n account passed.1, tt)
 effect_fits h account key (Approves n) passed = approval_fits (submission_at n (submits_of h)) (views_of h) n account key (items_sorted h) passed
 effect_fits h account key (Rejects n reason) passed = (rejection_fits (submission_at n (submits_of h)) (views_of h) n account (rank_of account h) passed.1, tt)
-effect_fits h account key (Imports NoFile) passed = tt
 effect_fits h account key (Imports TooLong) passed = tt
 effect_fits h account key (Imports (Faulty fault)) passed = tt
 effect_fits h account key (Imports (Good pairs)) passed = refl
@@ -88,7 +87,7 @@ outcome_fits h c (Refused e) is = (tt, tt)
 outcome_fits h c (Repeated reply) is = (tt, tt)
 outcome_fits h c (Accepts reply) is =
     let passed : Passes (facts_of (views_of h) c) c reply = accepted_passes (facts_of (views_of h) c) c reply is in
-    (effect_fits h c.account c.key c.deed passed.all, receipt_fits (views_of h) (pairs_in c.deed) c.account c.key reply (sym (looked_at-kept (views_of h) (verdict_in (items_of h) c.deed) (wanted c.deed) (known (views_of h) c.account c.key)) ∙ passed.not_kept))
+    (effect_fits h c.account c.key c.deed passed.all, receipt_fits (views_of h) (pairs_in c.deed) c.account c.key reply (sym (facts-kept (views_of h) c) ∙ passed.not_kept))
 
 pub fitting : (f : Facts) (c : Asked) (result : Result (Change × Reply) Refusal) → Decides f c result → (h : History) → f ≡ facts_of (views_of h) c → IfOk result (λ d. Fits d.0 (with_pairs (new_pairs (judge (views_of h) c) c.deed) (views_of h)))
 fitting f c (Ok d) h hist e =

@@ -17,7 +17,7 @@ one_more : (b : Bool) (c : Bool × Refusal) (xs ys : Option (Bool × Refusal)) (
 one_more true c xs ys e rest h = h
 one_more false c xs ys e rest h = rest h
 
-fails_first : (xs ys : Checks) (e : Refusal) → first_failing xs ≡ Some e → first_failing (xs ++ ys) ≡ Some e
+pub fails_first : (xs ys : Checks) (e : Refusal) → first_failing xs ≡ Some e → first_failing (xs ++ ys) ≡ Some e
 fails_first [] ys e h = absurd cc
 fails_first (c ∷ xs) ys e h = one_more c.0 c _ _ e (fails_first xs ys e) h
 
@@ -25,7 +25,7 @@ one_less : (b : Bool) (c : Bool × Refusal) (xs : Option (Bool × Refusal)) (ys 
 one_less true c xs ys zs rest h = absurd cc
 one_less false c xs ys zs rest h = rest h
 
-fails_later : (xs ys : Checks) → first_failing xs ≡ None → first_failing (xs ++ ys) ≡ first_failing ys
+pub fails_later : (xs ys : Checks) → first_failing xs ≡ None → first_failing (xs ++ ys) ≡ first_failing ys
 fails_later [] ys h = refl
 fails_later (c ∷ xs) ys h = one_less c.0 c _ _ (find (λ c. c.0) ys) (fails_later xs ys) h
 

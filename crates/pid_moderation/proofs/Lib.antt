@@ -12,6 +12,7 @@ pub mod Knowing
 pub mod TreeStays
 pub mod SubmissionsStay
 pub mod ReceiptsStay
+pub mod KeysOnce
 pub mod Soundness
 pub mod Fitting
 pub mod TreesAreFiles

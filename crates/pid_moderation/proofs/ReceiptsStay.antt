@@ -7,13 +7,12 @@ use Rattle.std.proofs.lemmas.Slice.Eq.{bytes_eq-Decides}
 use Rattle.pid_ident.specs.Words.{is_key}
 use Rattle.pid_moderation.specs.declared.command.Reply.{Reply}
 use Rattle.pid_moderation.specs.declared.command.Reply.TheVariants.{Done, Numbered, Counts}
-use Rattle.pid_moderation.specs.History.{NoFile, TooLong, Faulty, Good, Deed, Ranks, Submits, Comments, Withdraws, Approves, Rejects, Imports, Asked, Accepted, History}
+use Rattle.pid_moderation.specs.History.{TooLong, Faulty, Good, Deed, Ranks, Submits, Comments, Withdraws, Approves, Rejects, Imports, Asked, Accepted, History}
 use Rattle.pid_moderation.specs.Items.{Items, name_at, has_name, count_new, count_renamed, count_same}
 use Rattle.pid_moderation.specs.Views.{Views, Submitted, views_of, submits_of, submitted, submission_at, items_of, kept_of, receipted}
 use Rattle.pid_moderation.specs.declared.facts.Facts.{Facts}
 use Rattle.pid_moderation.specs.declared.facts.Named.{Named}
-use Rattle.pid_moderation.specs.declared.facts.Verdict.{Verdict}
-use Rattle.pid_moderation.specs.FactsOfViews.{Wanted, ItemOf, wanted, verdict_in, looked_at, with_item, known, named, kept_in}
+use Rattle.pid_moderation.specs.FactsOfViews.{Wanted, ItemOf, wanted, facts_of, looked_at, with_file, with_item, known, named, kept_in}
 use Rattle.pid_moderation.specs.CheckTables.{reply_to, most_items}
 use Rattle.pid_moderation.specs.Sound.{IsKnown, HasReceipt, HaveReceipts, IsBy, IsOwnReply, IsReceipt}
 use Rattle.pid_moderation.specs.WellMade.{IsWellMade, IsGoodKey}
@@ -51,13 +50,20 @@ with_item-kept : (v : Views) (o : Option Named) (f : Facts) → (with_item v o f
 with_item-kept v None f = refl
 with_item-kept v (Some s) f = refl
 
-pub looked_at-kept : (v : Views) (file : Verdict) (w : Wanted) (f : Facts) → (looked_at v file w f).kept ≡ f.kept
-looked_at-kept v file (ItemOf n) f = with_item-kept v (named v n) f
-looked_at-kept v file w f = refl
+looked_at-kept : (v : Views) (w : Wanted) (f : Facts) → (looked_at v w f).kept ≡ f.kept
+looked_at-kept v (ItemOf n) f = with_item-kept v (named v n) f
+looked_at-kept v w f = refl
+
+with_file-kept : (items : Items) (deed : Deed) (f : Facts) → (with_file items deed f).kept ≡ f.kept
+with_file-kept items (Imports reading) f = refl
+with_file-kept items deed f = refl
+
+pub facts-kept : (v : Views) (c : Asked) → (facts_of v c).kept ≡ kept_in v c.account c.key
+facts-kept v c = with_file-kept v.items c.deed (looked_at v (wanted c.deed) (known v c.account c.key)) ∙ looked_at-kept v (wanted c.deed) (known v c.account c.key)
 
 pub all_receipts_stay : Stays AllReceipted
 all_receipts_stay h account key deed reply made passed old =
-    let new : kept_in (views_of h) account key ≡ None = sym (looked_at-kept (views_of h) (verdict_in (items_of h) deed) (wanted deed) (known (views_of h) account key)) ∙ passed.not_kept in
+    let new : kept_in (views_of h) account key ≡ None = sym (facts-kept (views_of h) (asks account key deed)) ∙ passed.not_kept in
     (own_receipt h account key deed reply, receipts_stay h (asks account key deed) reply new h old)
 
 -- WHAT IS KEPT
@@ -117,9 +123,8 @@ own_reply h account key (Comments n text) reply made = tt
 own_reply h account key (Withdraws n) reply made = tt
 own_reply h account key (Approves n) reply made = tt
 own_reply h account key (Rejects n reason) reply made = tt
-own_reply h account key (Imports NoFile) reply made = tt
-own_reply h account key (Imports TooLong) reply made = tt
-own_reply h account key (Imports (Faulty fault)) reply made = tt
+own_reply h account key (Imports TooLong) reply made = omega arith
+own_reply h account key (Imports (Faulty fault)) reply made = omega arith
 own_reply h account key (Imports (Good pairs)) reply made = subst (λ (n : ℕ). n ≤ most_items) (sym (all_counted (items_of h) pairs)) made.2.limit
 
 new_kept : (h : History) (account : List ℕ) (key : Option (List ℕ)) (deed : Deed) (reply : Reply) → IsKnown account h → IsGoodKey key → IsOwnReply (entry (asks account key deed) reply ∷ h) account reply → AreReceipts h → AreReceipts (entry (asks account key deed) reply ∷ h)

@@ -12,7 +12,7 @@ use Rattle.pid_ident.specs.PathTexts.{IsPath, path_text}
 use Rattle.pid_ident.specs.Trees.{text_cmp}
 use Rattle.pid_moderation.specs.declared.command.Proposal.{Proposal}
 use Rattle.pid_moderation.specs.declared.command.Proposal.TheVariants.{Name, Removal}
-use Rattle.pid_moderation.specs.History.{NoFile, TooLong, Faulty, Good, Deed, Submits, Approves, Imports, History}
+use Rattle.pid_moderation.specs.History.{TooLong, Faulty, Good, Deed, Submits, Approves, Imports, History}
 use Rattle.pid_moderation.specs.Items.{Items, name_at, parent_text, holds_parent, has_children, written, imported}
 use Rattle.pid_moderation.specs.Views.{Views, Submitted, views_of, submits_of, submitted, submission_at, items_of, itemized, carried_out, pairs_of}
 use Rattle.pid_moderation.specs.FactsOfViews.{with_item, known}
@@ -140,7 +140,6 @@ not_above n h = grind (arith, nat_tests)
 
 within_stays : (h : History) (account : List ℕ) (key : Option (List ℕ)) (deed : Deed) → IsWithin h → AllPass (checks (to_deed h account key deed) (asks account key deed)) → length (itemized deed (submits_of h) (items_of h)) ≤ most_items
 within_stays h account key (Approves n) old passed = approved_within (submission_at n (submits_of h)) (views_of h) n account key (items_sorted h) old passed
-within_stays h account key (Imports NoFile) old passed = old
 within_stays h account key (Imports TooLong) old passed = old
 within_stays h account key (Imports (Faulty fault)) old passed = old
 within_stays h account key (Imports (Good pairs)) old passed = not_above _ passed.1.1.0

@@ -14,7 +14,7 @@ use Rattle.pid_ident.specs.declared.path.Path.{Path}
 use Rattle.pid_ident.specs.declared.path.Path.TheVariants.{Vendor, Device, Subsystem, Class, Subclass, ProgIf, Generic}
 use Rattle.pid_moderation.specs.Items.{Items, name_at, parent_text, holds_parent}
 use Rattle.pid_moderation.specs.CheckTables.{most_items}
-use Rattle.pid_moderation.specs.WellMade.{IsItem, AllItems, IsFile}
+use Rattle.pid_moderation.specs.WellMade.{IsItem, AllItems, AreApart, IsFile}
 use Rattle.pid_moderation.proofs.ItemLemmas.{tied}
 use Rattle.pid_moderation.proofs.Knowing.{same_text}
 
@@ -49,6 +49,12 @@ all_found (e ∷ es) sorted good =
     let parts = halves (below_all text_cmp e.0 es) (is_sorted text_cmp es) sorted in
     (good e.0 e.1 (ap (λ b. cond b (Some e.1) (name_at e.0 es)) (is_eq-slice_cmp e.0 e.0 ∙ same_text e.0)), all_found es parts.1 (λ k v found. good k v (later e k v es parts.0 found)))
 
+all_apart : (es : Items) → T (is_sorted text_cmp es) → AreApart es
+all_apart [] sorted = tt
+all_apart (e ∷ es) sorted =
+    let parts = halves (below_all text_cmp e.0 es) (is_sorted text_cmp es) sorted in
+    (none_below e.0 es parts.0, all_apart es parts.1)
+
 named_by : (k : List ℕ) (o : Option (List ℕ)) (v : List ℕ) → IfSome o (λ name. IsTrue (is_name name)) → o ≡ Some v → is_name v ≡ true
 named_by k None v named e = absurd cc
 named_by k (Some x) v named e = let same : x ≡ v = cc in subst (λ (n : List ℕ). is_name n ≡ true) same named
@@ -78,6 +84,7 @@ parents_held t tree k there =
 pub tree_file : (t : TreeMap) → IsTree t → length (entries t) ≤ most_items → IsFile (entries t)
 tree_file t tree few = record {
   items = all_found (entries t) (entries_sorted t) (item_of_tree t tree);
+  apart = all_apart (entries t) (entries_sorted t);
   tree = record { parents = parents_held t tree };
   limit = few;
 }

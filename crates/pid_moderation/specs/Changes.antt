@@ -32,7 +32,7 @@ affected (Ranked who rank is_new) v = record v { rank = λ a. if bytes_eq a who 
 affected (Submitted number author path proposal note) v = record v { submits = v.submits ++ record { author = author; path = path; proposal = proposal; note = note } ∷ [] }
 affected (Remarked number place author text) v = record v { remarks = λ n. if n == number then v.remarks n ++ record { author = author; text = text } ∷ [] else v.remarks n }
 affected (Decided number state w) v = record v { state = λ n. if n == number then state else v.state n; items = write w v.items }
-affected (Imported added renamed same items) v = v
+affected (Imported items) v = v
 
 -- the receipt, where there is a key
 abbrev pub keeping : Option Receipt → Views → Views
@@ -68,7 +68,7 @@ FitsEffect (Ranked who rank is_new) v = is_new ≡ is_none (v.rank who)
 FitsEffect (Submitted number author path proposal note) v = number ≡ length v.submits + 1
 FitsEffect (Remarked number place author text) v = IsThere (submission_at number v.submits) × (place ≡ length (v.remarks number) + 1)
 FitsEffect (Decided number state w) v = IsThere (submission_at number v.submits) × FitsWrite w v.items
-FitsEffect (Imported added renamed same items) v = items ≡ length v.items
+FitsEffect (Imported items) v = items ≡ length v.items
 
 -- no reply is kept yet where a receipt goes
 abbrev pub FitsReceipt : Option Receipt → Views → Type 0

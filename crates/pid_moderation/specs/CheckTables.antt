@@ -1,5 +1,5 @@
 -- The checks of each command with the refusal that each means, in order: choices of this project.
-use Rattle.std.specs.Prelude.{◌≡◌, ℕ, ◌+◌, Bool, length, true, false, not, ◌&&◌, nat_lt, nat_le, List, [], ◌∷◌, find, Option, Some, None, is_none}
+use Rattle.std.specs.Prelude.{◌≡◌, ℕ, ◌+◌, Bool, length, true, false, not, ◌&&◌, nat_lt, nat_le, List, [], ◌∷◌, ◌++◌, find, Option, Some, None, is_none}
 use Rattle.std.specs.Option.{option_map}
 use Rattle.std.specs.Str.{bytes_eq}
 use Rattle.pid_ident.specs.Bytes.{is_empty}
@@ -16,7 +16,7 @@ use Rattle.pid_moderation.specs.declared.facts.Verdict.TheVariants as verdicts
 use Rattle.pid_moderation.specs.declared.rank.Rank.{Rank}
 use Rattle.pid_moderation.specs.declared.rank.Rank.TheVariants.{Senior, Administrator}
 use Rattle.pid_moderation.specs.declared.refusal.Refusal.{Refusal}
-use Rattle.pid_moderation.specs.declared.refusal.Refusal.TheVariants.{NoAccount, RankTooLow, NoSubmission, NotPending, NotAuthor, OwnDecision, ParentMissing, HasChildren, NothingToDo, FileFault, Full}
+use Rattle.pid_moderation.specs.declared.refusal.Refusal.TheVariants.{BadText, NoAccount, RankTooLow, NoSubmission, NotPending, NotAuthor, OwnDecision, ParentMissing, HasChildren, NothingToDo, FileFault, Full}
 use Rattle.pid_moderation.specs.declared.command.Act.{Act}
 use Rattle.pid_moderation.specs.declared.command.Act.TheVariants as acts
 use Rattle.pid_moderation.specs.History.{Reading, TooLong, Deed, Ranks, Submits, Comments, Withdraws, Approves, Rejects, Imports, Asked}
@@ -67,39 +67,65 @@ overflows proposals.Removal present items = false
 abbrev pub Checks : Type 0
 Checks = List (Bool × Refusal)
 
+abbrev pub account_checks : List ℕ → Facts → List ℕ → Rank → Checks
+account_checks account f who rank =
+    (not (has_rank Administrator f.rank), RankTooLow)
+    ∷ (bytes_eq account who, OwnDecision)
+    ∷ (is_rank rank f.who, NothingToDo)
+    ∷ []
+
+abbrev pub submit_checks : Facts → Checks
+submit_checks f = (nat_le most_submissions f.submissions, Full) ∷ []
+
 abbrev pub comment_checks : Named → Checks
 comment_checks s = (nat_le most_remarks s.remarks, Full) ∷ []
 
 abbrev pub withdraw_checks : List ℕ → Named → Checks
-withdraw_checks account s = (not (bytes_eq account s.author), NotAuthor) ∷ (not (is_pending s.state), NotPending) ∷ []
+withdraw_checks account s =
+    (not (bytes_eq account s.author), NotAuthor)
+    ∷ (not (is_pending s.state), NotPending)
+    ∷ []
 
 abbrev pub decision_checks : List ℕ → Option Rank → Named → Checks
-decision_checks account rank s = (not (is_pending s.state), NotPending) ∷ (not (has_rank (needed_rank s.path (is_removal s.proposal)) rank), RankTooLow) ∷ (bytes_eq account s.author, OwnDecision) ∷ []
+decision_checks account rank s =
+    (not (is_pending s.state), NotPending)
+    ∷ (not (has_rank (needed_rank s.path (is_removal s.proposal)) rank), RankTooLow)
+    ∷ (bytes_eq account s.author, OwnDecision)
+    ∷ []
+
+abbrev pub item_checks : Facts → Named → Checks
+item_checks f s =
+    (is_so s.proposal f.present, NothingToDo)
+    ∷ (lacks_parent s.proposal f.has_parent, ParentMissing)
+    ∷ (leaves_children s.proposal f.has_children, HasChildren)
+    ∷ (overflows s.proposal f.present f.items, Full)
+    ∷ []
 
 abbrev pub approval_checks : List ℕ → Facts → Named → Checks
-approval_checks account f s =
-    (not (is_pending s.state), NotPending) ∷ (not (has_rank (needed_rank s.path (is_removal s.proposal)) f.rank), RankTooLow) ∷ (bytes_eq account s.author, OwnDecision)
-    ∷ (is_so s.proposal f.present, NothingToDo) ∷ (lacks_parent s.proposal f.has_parent, ParentMissing) ∷ (leaves_children s.proposal f.has_children, HasChildren) ∷ (overflows s.proposal f.present f.items, Full) ∷ []
+approval_checks account f s = decision_checks account f.rank s ++ item_checks f s
 
 -- the checks of the named submission; where there is none, that is the refusal
 abbrev pub if_named : Option Named → (Named → Checks) → Checks
 if_named None checks = (true, NoSubmission) ∷ []
 if_named (Some s) checks = checks s
 
-abbrev pub file_checks : Verdict → Checks
-file_checks verdicts.NoFile = []
-file_checks verdicts.TooLong = []
-file_checks (verdicts.Faulty fault) = (true, FileFault fault) ∷ []
-file_checks (verdicts.Good added renamed same items) = (nat_lt most_items items, Full) ∷ []
+-- what no file changes, and then what the file comes to
+abbrev pub import_checks : Facts → Checks
+import_checks f = (not (has_rank Senior f.rank), RankTooLow) ∷ []
+
+abbrev pub file_checks : Option Verdict → Checks
+file_checks None = (true, BadText) ∷ []
+file_checks (Some (verdicts.Faulty fault)) = (true, FileFault fault) ∷ []
+file_checks (Some (verdicts.Good added renamed same items)) = (nat_lt most_items items, Full) ∷ []
 
 abbrev pub later_checks : List ℕ → Facts → Deed → Checks
-later_checks account f (Ranks who rank) = (not (has_rank Administrator f.rank), RankTooLow) ∷ (bytes_eq account who, OwnDecision) ∷ (is_rank rank f.who, NothingToDo) ∷ []
-later_checks account f (Submits path proposal note) = (nat_le most_submissions f.submissions, Full) ∷ []
+later_checks account f (Ranks who rank) = account_checks account f who rank
+later_checks account f (Submits path proposal note) = submit_checks f
 later_checks account f (Comments n text) = if_named f.named comment_checks
 later_checks account f (Withdraws n) = if_named f.named (withdraw_checks account)
 later_checks account f (Approves n) = if_named f.named (approval_checks account f)
 later_checks account f (Rejects n reason) = if_named f.named (decision_checks account f.rank)
-later_checks account f (Imports reading) = (not (has_rank Senior f.rank), RankTooLow) ∷ file_checks f.file
+later_checks account f (Imports reading) = import_checks f ++ file_checks f.file
 
 abbrev pub checks : Facts → Asked → Checks
 checks f c = (is_none f.rank, NoAccount) ∷ later_checks c.account f c.deed
@@ -108,42 +134,34 @@ checks f c = (is_none f.rank, NoAccount) ∷ later_checks c.account f c.deed
 abbrev pub first_failing : Checks → Option Refusal
 first_failing cs = option_map (λ c. c.1) (find (λ c. c.0) cs)
 
-abbrev pub is_too_long : Verdict → Bool
-is_too_long verdicts.NoFile = false
-is_too_long verdicts.TooLong = true
-is_too_long (verdicts.Faulty fault) = false
-is_too_long (verdicts.Good added renamed same items) = false
+-- FORM
 
 -- an empty comment or reason, or a file too long
 abbrev pub is_ill_formed : Facts → Deed → Bool
-is_ill_formed f (Ranks who rank) = false
-is_ill_formed f (Submits path proposal note) = false
 is_ill_formed f (Comments n text) = is_empty text
-is_ill_formed f (Withdraws n) = false
-is_ill_formed f (Approves n) = false
 is_ill_formed f (Rejects n reason) = is_empty reason
-is_ill_formed f (Imports reading) = is_too_long f.file
+is_ill_formed f (Imports reading) = is_none f.file
+is_ill_formed f deed = false
 
--- what breaks a rule of form by the command alone, whatever the registry holds
+-- the same by the command alone, whatever the registry holds
 abbrev pub is_broken : Act → Bool
-is_broken (acts.Account who rank) = false
-is_broken (acts.Submit path proposal note) = false
 is_broken (acts.Comment n text) = is_empty text
-is_broken (acts.Withdraw n) = false
-is_broken (acts.Approve n) = false
 is_broken (acts.Reject n reason) = is_empty reason
 is_broken (acts.Import file) = nat_lt most_file_bytes (length file)
+is_broken act = false
 
 -- the reading tells a file that is too long as such
 abbrev pub TellsLength : Act → Reading → Type 0
 TellsLength (acts.Import file) reading = nat_lt most_file_bytes (length file) ≡ true → reading ≡ TooLong
 TellsLength act reading = Unit {0}
 
-abbrev pub counts_of : Verdict → Reply
-counts_of verdicts.NoFile = Done
-counts_of verdicts.TooLong = Done
-counts_of (verdicts.Faulty fault) = Done
-counts_of (verdicts.Good added renamed same items) = Counts added renamed same
+-- REPLIES
+
+-- a file that is not imported counts nothing
+abbrev pub counts_of : Option Verdict → Reply
+counts_of (Some (verdicts.Good added renamed same items)) = Counts added renamed same
+counts_of (Some (verdicts.Faulty fault)) = Counts 0 0 0
+counts_of None = Counts 0 0 0
 
 abbrev pub reply_to : Facts → Deed → Reply
 reply_to f (Ranks who rank) = Done

@@ -22,14 +22,12 @@ use Rattle.pid_moderation.specs.History.{Deed, Ranks, Submits, Comments, Withdra
 use Rattle.pid_moderation.specs.Items.{Items}
 use Rattle.pid_moderation.specs.Views.{views_of, pairs_of}
 use Rattle.pid_moderation.specs.Changes.{changed, with_pairs, Fits}
-use Rattle.pid_moderation.specs.CheckTables.{Checks, first_failing}
 use Rattle.pid_moderation.specs.Judgement.{Outcome, Refused, Repeated, Accepts, judge, judged, answer, after}
 
-abbrev pub counted : Verdict → Effect
-counted verdicts.NoFile = Nothing
-counted verdicts.TooLong = Nothing
-counted (verdicts.Faulty fault) = Nothing
-counted (verdicts.Good added renamed same items) = Imported added renamed same items
+abbrev pub counted : Option Verdict → Effect
+counted (Some (verdicts.Good added renamed same items)) = Imported items
+counted (Some (verdicts.Faulty fault)) = Nothing
+counted None = Nothing
 
 abbrev pub edit_of : Proposal → Option (List ℕ) → Edit
 edit_of (Name name) None = Add name
@@ -79,10 +77,6 @@ abbrev pub new_pairs : Outcome → Deed → Items
 new_pairs (Accepts reply) deed = pairs_in deed
 new_pairs (Refused refusal) deed = []
 new_pairs (Repeated reply) deed = []
-
--- the first check that fails, else what follows; or memory is short
-abbrev pub Follows : {X : Type 0} → Checks → X → Result X Refusal → Type 0
-Follows cs x result = MatchResult result (λ y. (first_failing cs ≡ None) × (y ≡ x)) (λ e. e ≢ Memory → first_failing cs ≡ Some e)
 
 -- a kept reply changes nothing
 abbrev pub change_by : Facts → Asked → Outcome → Change

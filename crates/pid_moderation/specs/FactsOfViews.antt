@@ -7,7 +7,7 @@ use Rattle.pid_moderation.specs.declared.facts.Facts.{Facts}
 use Rattle.pid_moderation.specs.declared.facts.Named.{Named}
 use Rattle.pid_moderation.specs.declared.facts.Verdict.{Verdict}
 use Rattle.pid_moderation.specs.declared.facts.Verdict.TheVariants as verdicts
-use Rattle.pid_moderation.specs.History.{Reading, NoFile, TooLong, Faulty, Good, Deed, Ranks, Submits, Comments, Withdraws, Approves, Rejects, Imports, Asked}
+use Rattle.pid_moderation.specs.History.{Reading, TooLong, Faulty, Good, Deed, Ranks, Submits, Comments, Withdraws, Approves, Rejects, Imports, Asked}
 use Rattle.pid_moderation.specs.Items.{Items, name_at, parent_text, holds_parent, has_children, imported, count_new, count_renamed, count_same}
 use Rattle.pid_moderation.specs.Views.{Views, submission_at}
 
@@ -18,24 +18,35 @@ kept_in v account (Some key) = v.kept account key
 abbrev pub named : Views → ℕ → Option Named
 named v n = option_map (λ s. record { author = s.author; path = s.path; proposal = s.proposal; state = v.state n; remarks = length (v.remarks n) }) (submission_at n v.submits)
 
--- what a file comes to over these items, with how many items there are then
-abbrev pub verdict : Items → Reading → Verdict
-verdict items NoFile = verdicts.NoFile
-verdict items TooLong = verdicts.TooLong
-verdict items (Faulty fault) = verdicts.Faulty fault
-verdict items (Good pairs) = verdicts.Good (count_new items pairs) (count_renamed items pairs) (count_same items pairs) (length (imported pairs items))
+-- what a file comes to over these items, with how many items there are then; of one that is too long nothing is said
+abbrev pub verdict : Items → Reading → Option Verdict
+verdict items TooLong = None
+verdict items (Faulty fault) = Some (verdicts.Faulty fault)
+verdict items (Good pairs) =
+    Some (verdicts.Good (count_new items pairs) (count_renamed items pairs) (count_same items pairs) (length (imported pairs items)))
 
 -- what is known of every command: the caller's rank, and the reply that is kept for it
 abbrev pub known : Views → List ℕ → Option (List ℕ) → Facts
-known v account key = record { rank = v.rank account; kept = kept_in v account key; who = None; submissions = 0; items = 0; named = None; present = None; has_parent = false; has_children = false; file = verdicts.NoFile }
+known v account key = record {
+  rank = v.rank account;
+  kept = kept_in v account key;
+  who = None;
+  submissions = 0;
+  items = 0;
+  named = None;
+  present = None;
+  has_parent = false;
+  has_children = false;
+  file = None;
+}
 
--- what a command looks at besides
+-- the rows that a command looks at besides
 pub data Wanted : Type 0 where
   RankOf : List ℕ → Wanted
   SubmissionCount : Wanted
   SubmissionOf : ℕ → Wanted
   ItemOf : ℕ → Wanted
-  FileVerdict : Wanted
+  NoRows : Wanted
 
 abbrev pub wanted : Deed → Wanted
 wanted (Ranks who rank) = RankOf who
@@ -44,30 +55,34 @@ wanted (Comments n text) = SubmissionOf n
 wanted (Withdraws n) = SubmissionOf n
 wanted (Approves n) = ItemOf n
 wanted (Rejects n reason) = SubmissionOf n
-wanted (Imports reading) = FileVerdict
+wanted (Imports reading) = NoRows
 
 -- the item that a submission speaks of
 abbrev pub with_item : Views → Option Named → Facts → Facts
 with_item v None f = f
-with_item v (Some s) f = record f { named = Some s; items = length v.items; present = name_at (path_text s.path) v.items; has_parent = holds_parent (parent_text (path_text s.path)) v.items; has_children = has_children (path_text s.path) v.items }
+with_item v (Some s) f = record f {
+  named = Some s;
+  items = length v.items;
+  present = name_at (path_text s.path) v.items;
+  has_parent = holds_parent (parent_text (path_text s.path)) v.items;
+  has_children = has_children (path_text s.path) v.items;
+}
 
-abbrev pub looked_at : Views → Verdict → Wanted → Facts → Facts
-looked_at v file (RankOf who) f = record f { who = v.rank who }
-looked_at v file SubmissionCount f = record f { submissions = length v.submits }
-looked_at v file (SubmissionOf n) f = record f { named = named v n }
-looked_at v file (ItemOf n) f = with_item v (named v n) f
-looked_at v file FileVerdict f = record f { file = file }
+abbrev pub looked_at : Views → Wanted → Facts → Facts
+looked_at v (RankOf who) f = record f { who = v.rank who }
+looked_at v SubmissionCount f = record f { submissions = length v.submits }
+looked_at v (SubmissionOf n) f = record f { named = named v n }
+looked_at v (ItemOf n) f = with_item v (named v n) f
+looked_at v NoRows f = f
 
--- the facts, where the file, if any, comes to this
-abbrev pub facts_at : Views → Verdict → List ℕ → Option (List ℕ) → Wanted → Facts
-facts_at v file account key w = looked_at v file w (known v account key)
+-- the facts by the rows alone
+abbrev pub facts_at : Views → List ℕ → Option (List ℕ) → Wanted → Facts
+facts_at v account key w = looked_at v w (known v account key)
 
-abbrev pub facts_given : Views → Verdict → Asked → Facts
-facts_given v file c = facts_at v file c.account c.key (wanted c.deed)
-
-abbrev pub verdict_in : Items → Deed → Verdict
-verdict_in items (Imports reading) = verdict items reading
-verdict_in items deed = verdicts.NoFile
+-- and what the file of an import comes to
+abbrev pub with_file : Items → Deed → Facts → Facts
+with_file items (Imports reading) f = record f { file = verdict items reading }
+with_file items deed f = f
 
 abbrev pub facts_of : Views → Asked → Facts
-facts_of v c = facts_given v (verdict_in v.items c.deed) c
+facts_of v c = with_file v.items c.deed (facts_at v c.account c.key (wanted c.deed))

@@ -1,5 +1,5 @@
 -- What was asked of the registry, and the list of what it accepted.
-use Rattle.std.specs.Prelude.{ℕ, List, Option}
+use Rattle.std.specs.Prelude.{ℕ, Bool, true, false, List, Option}
 use Rattle.pid_ident.specs.declared.path.Path.{Path}
 use Rattle.pid_moderation.specs.declared.command.Proposal.{Proposal}
 use Rattle.pid_moderation.specs.declared.command.Reply.{Reply}
@@ -9,10 +9,9 @@ use Rattle.pid_moderation.specs.declared.command.Command.{Command}
 use Rattle.pid_moderation.specs.declared.rank.Rank.{Rank}
 use Rattle.pid_moderation.specs.declared.refusal.FileFault.{FileFault}
 
--- what a file comes to: paths with their names, in any order, since none stands there twice; or why it is not imported.
--- Other commands have none
+-- what the file of an import reads to: paths with their names, in any order, since none stands there twice; or why it is
+-- not imported. Other commands have no file
 pub data Reading : Type 0 where
-  NoFile : Reading
   TooLong : Reading
   Faulty : FileFault → Reading
   Good : List (List ℕ × List ℕ) → Reading
@@ -32,7 +31,11 @@ pub record Asked : Type 0 where
   pub key : Option (List ℕ)
   pub deed : Deed
 
--- what a command asks, where its file, if any, has this reading
+abbrev pub is_import : Act → Bool
+is_import (acts.Import file) = true
+is_import act = false
+
+-- what a command asks, where the file of an import reads to this
 abbrev pub deed_of : Act → Reading → Deed
 deed_of (acts.Account who rank) reading = Ranks who rank
 deed_of (acts.Submit path proposal note) reading = Submits path proposal note

@@ -8,7 +8,10 @@ pub mod CheckTables
 pub mod Judgement
 pub mod Changes
 pub mod Effects
+pub mod Following
+pub mod BeforeFile
 pub mod Sound
+pub mod Keys
 pub mod Wants
 pub mod Writes
 pub mod WellMade
@@ -17,3 +20,4 @@ pub mod PathReading
 pub mod Forms
 pub mod Verbs
 pub mod ReplyLines
+pub mod Laws

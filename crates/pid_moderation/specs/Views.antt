@@ -9,7 +9,7 @@ use Rattle.pid_moderation.specs.declared.rank.Rank.{Rank}
 use Rattle.pid_moderation.specs.declared.rank.Rank.TheVariants.{Administrator}
 use Rattle.pid_moderation.specs.declared.facts.State.{State}
 use Rattle.pid_moderation.specs.declared.facts.State.TheVariants.{Pending, Approved, Rejected, Withdrawn}
-use Rattle.pid_moderation.specs.History.{Reading, NoFile, TooLong, Faulty, Good, Deed, Ranks, Submits, Comments, Withdraws, Approves, Rejects, Imports, History}
+use Rattle.pid_moderation.specs.History.{Reading, TooLong, Faulty, Good, Deed, Ranks, Submits, Comments, Withdraws, Approves, Rejects, Imports, History}
 use Rattle.pid_moderation.specs.Items.{Items, written, imported}
 
 pub record Submitted : Type 0 where
@@ -83,9 +83,9 @@ abbrev pub carried_out : Option Submitted → Items → Items
 carried_out None items = items
 carried_out (Some s) items = written (path_text s.path) s.proposal items
 
+-- what is written of a file: nothing of one that is not imported
 abbrev pub pairs_of : Reading → Items
 pairs_of (Good pairs) = pairs
-pairs_of NoFile = []
 pairs_of TooLong = []
 pairs_of (Faulty fault) = []
 

@@ -22,9 +22,15 @@ AllItems (e ∷ items) = IsItem e.0 e.1 × AllItems items
 pub record HoldsParents (items : Items) : Type 0 where
   pub parents : (path : List ℕ) → is_some (name_at path items) ≡ true → holds_parent (parent_text path) items ≡ true
 
--- what a file reads to: names at paths, with the parent of each path, and not too many
+-- no path stands twice
+abbrev pub AreApart : Items → Type 0
+AreApart [] = Unit {0}
+AreApart (e ∷ pairs) = (name_at e.0 pairs ≡ None) × AreApart pairs
+
+-- what a file reads to: names at paths, each path once, with the parent of each path, and not too many
 pub record IsFile (pairs : Items) : Type 0 where
   pub items : AllItems pairs
+  pub apart : AreApart pairs
   pub tree : HoldsParents pairs
   pub limit : length pairs ≤ most_items
 

@@ -65,9 +65,6 @@ pub enum Effect {
     },
     /// The items of a file, which are written already; `items` is how many there are with them.
     Imported {
-        added: u32,
-        renamed: u32,
-        same: u32,
         items: u32,
     },
 }

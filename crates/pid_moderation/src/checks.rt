@@ -1,12 +1,12 @@
 //! The tests that commands are checked by.
 ghost use Rattle.std.specs.Prelude.{◌≡◌, true, find, is_none};
-ghost use Rattle.pid_moderation.specs.CheckTables.{is_pending as stands_pending, is_removal as removal, is_so as so_already, lacks_parent as parent_lacking, leaves_children as children_left, overflows as one_too_many, is_ill_formed as ill_formed, is_broken as broken_act, is_too_long as too_long, TellsLength};
+ghost use Rattle.pid_moderation.specs.CheckTables.{first_failing as first_that_fails, is_pending as stands_pending, is_removal as removal, is_so as so_already, lacks_parent as parent_lacking, leaves_children as children_left, overflows as one_too_many, is_ill_formed as ill_formed, is_broken as broken_act, TellsLength};
 ghost use Rattle.pid_moderation.specs.Ranks.{has_rank as rank_reaches, is_rank as rank_equals};
 ghost use Rattle.pid_moderation.specs.History.{Reading, asked, deed_of};
 ghost use Rattle.pid_moderation.specs.Judgement.{judge, Refused};
 ghost use Rattle.pid_moderation.specs.Views.{Views};
 ghost use Rattle.pid_moderation.specs.Items.{has_name as names_so};
-ghost use Rattle.pid_moderation.specs.Effects.{Follows};
+ghost use Rattle.pid_moderation.specs.Following.{Follows};
 
 use crate::command::{Act, Command, Proposal};
 use crate::facts::{Facts, State, Verdict};
@@ -31,6 +31,15 @@ fn failing(checks: &[(bool, Refusal)]) -> Option<(bool, Refusal)>
     ensures { result ≡ find (λ c. c.0) checks.now }
 {
     checks.iter().copied().find(|check| check.0)
+}
+
+pub fn first_failing(checks: &[(bool, Refusal)]) -> Option<Refusal>
+    ensures { result ≡ first_that_fails checks.now }
+{
+    match failing(checks) {
+        Some((_, refusal)) => Some(refusal),
+        None => None,
+    }
 }
 
 // The first check that fails is the refusal.
@@ -132,15 +141,10 @@ pub fn overflows(proposal: &Proposal, present: &Option<Name>, items: u32) -> boo
     }
 }
 
-fn is_too_long(file: Verdict) -> bool
-    ensures { result ≡ too_long file }
+pub fn is_missing(file: Option<Verdict>) -> bool
+    ensures { result ≡ is_none file }
 {
-    match file {
-        Verdict::TooLong => true,
-        Verdict::NoFile => false,
-        Verdict::Faulty(_) => false,
-        Verdict::Good { .. } => false,
-    }
+    file.is_none()
 }
 
 /// Whether a command breaks a rule that its type does not keep: an empty comment or reason, or a file too long.
@@ -150,7 +154,7 @@ pub fn is_ill_formed(facts: &Facts, act: &Act) -> bool
     match act {
         Act::Comment { text, .. } => is_empty_text(text),
         Act::Reject { reason, .. } => is_empty_text(reason),
-        Act::Import { .. } => is_too_long(facts.file),
+        Act::Import { .. } => is_missing(facts.file),
         Act::Account { .. } => false,
         Act::Submit { .. } => false,
         Act::Withdraw { .. } => false,

@@ -23,11 +23,10 @@ pub struct Named {
     pub remarks: u32,
 }
 
-/// What a file to be imported comes to.
+/// What a file that is not too long comes to.
 #[derive(Clone, Copy, Debug, PartialEq, Eq)]
 pub enum Verdict {
-    NoFile,
-    TooLong,
+    /// How many of its paths are new, get another name, and have their names already; and how many items there are then.
     Good {
         added: u32,
         renamed: u32,
@@ -37,7 +36,7 @@ pub enum Verdict {
     Faulty(FileFault),
 }
 
-/// The rows that a command is judged by. What the command does not look at is None, 0 or false.
+/// What a command is judged by. What it does not look at is None, 0 or false.
 #[derive(Debug, Drop)]
 pub struct Facts {
     pub rank: Option<Rank>,
@@ -49,5 +48,6 @@ pub struct Facts {
     pub present: Option<Name>,
     pub has_parent: bool,
     pub has_children: bool,
-    pub file: Verdict,
+    /// What the file of an import comes to; None where it is too long.
+    pub file: Option<Verdict>,
 }

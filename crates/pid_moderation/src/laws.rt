@@ -1,13 +1,10 @@
 //! Laws of the definitions. Each is the contract of a function that does nothing.
-ghost use Rattle.std.specs.Prelude.{◌≡◌, ℕ, ◌≤◌, List, [], length};
+ghost use Rattle.std.specs.Prelude.{◌≡◌, ℕ, List};
 ghost use Rattle.std.specs.FinMap.{get, entries};
-ghost use Rattle.pid_ident.specs.Trees.{IsTree, TreeMap};
-ghost use Rattle.pid_moderation.specs.CheckTables.{most_items};
-ghost use Rattle.pid_moderation.specs.History.{Asked, History, Reading, asked};
-ghost use Rattle.pid_moderation.specs.Judgement.{after_all};
-ghost use Rattle.pid_moderation.specs.Sound.{IsSound};
+ghost use Rattle.pid_moderation.specs.History.{History, Reading, asked};
+ghost use Rattle.pid_moderation.specs.Laws.{HistoriesAreSound, KeysStandOnce, ItemsAreSorted, TreesAreFiles};
 ghost use Rattle.pid_moderation.specs.Views.{items_of};
-ghost use Rattle.pid_moderation.specs.WellMade.{AreWellMade, HasGoodFile, IsFile, IsWellMade};
+ghost use Rattle.pid_moderation.specs.WellMade.{HasGoodFile, IsWellMade};
 ghost use Rattle.pid_moderation.specs.Writes.{tree_of, last_written, writes_of};
 
 use crate::command::{Act, Command, Proposal};
@@ -15,7 +12,12 @@ use crate::command::{Act, Command, Proposal};
 /// Every history that commands lead to has a tree of names, an administrator, submissions of accounts, deciders
 /// other than authors, remarks of accounts, limits that are kept, and the reply to each command under a key.
 pub fn histories_are_sound()
-    ensures { (commands : List Asked) → AreWellMade commands → IsSound (after_all [] commands) }
+    ensures { HistoriesAreSound }
+{}
+
+/// Of the commands of an account under a key at most one stands in a history, whatever the commands are.
+pub fn keys_stand_once()
+    ensures { KeysStandOnce }
 {}
 
 /// The tree of a history gives each path the name of its last write; its entries are the items.
@@ -24,9 +26,14 @@ pub fn trees_are_last_writes()
     ensures entries { (h : History) → entries (tree_of h) ≡ items_of h }
 {}
 
+/// The items of a history are in the order of their paths.
+pub fn items_are_sorted()
+    ensures { ItemsAreSorted }
+{}
+
 /// A tree of names is what a file may read to.
 pub fn trees_are_files()
-    ensures { (t : TreeMap) → IsTree t → length (entries t) ≤ most_items → IsFile (entries t) }
+    ensures { TreesAreFiles }
 {}
 
 /// What the parts of a command keep by their types, where its file reads to a tree of names.

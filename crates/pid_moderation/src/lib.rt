@@ -21,8 +21,11 @@ pub use checks::{FILE_BYTES, ITEMS, REMARKS, SUBMISSIONS, breaks_form};
 pub use command::{Act, Command, File, Proposal, Reply};
 pub use facts::{Facts, Named, State, Verdict};
 pub use form::command_of;
-pub use laws::{command_is_well_made, histories_are_sound, trees_are_files, trees_are_last_writes};
-pub use policy::decide;
+pub use laws::{
+    command_is_well_made, histories_are_sound, items_are_sorted, keys_stand_once, trees_are_files,
+    trees_are_last_writes,
+};
+pub use policy::{before_file, decide};
 pub use rank::{Rank, needed_rank};
 pub use refusal::{FileFault, Refusal};
 pub use reply_lines::reply_line;

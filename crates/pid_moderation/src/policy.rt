@@ -1,16 +1,30 @@
 //! The judgement of a command by facts.
-ghost use Rattle.std.specs.Prelude.{◌≡◌, ◌≢◌, ℕ, false, true, List, [], ◌∷◌, Option, Some, None, IfOk, IfErr, is_none};
+ghost use Rattle.std.specs.Prelude.{◌≡◌, ◌≢◌, ℕ, false, true, List, [], ◌∷◌, Option, Some, None, IfOk, IfErr, IfSome, IfNone, is_none};
 ghost use Rattle.pid_moderation.specs.History.{Reading, History, asked, deed_of, Ranks, Submits, Comments, Withdraws, Approves, Rejects, Imports};
 ghost use Rattle.pid_moderation.specs.Views.{Views, views_of};
-ghost use Rattle.pid_moderation.specs.FactsOfViews.{facts_of};
-ghost use Rattle.pid_moderation.specs.CheckTables.{checks as checks_for, first_failing as first_that_fails, later_checks, approval_checks, overflows as one_too_many, reply_to};
+ghost use Rattle.pid_moderation.specs.FactsOfViews.{NoRows, facts_at, facts_of};
+ghost use Rattle.pid_moderation.specs.CheckTables.{
+  checks as checks_for,
+  first_failing as first_that_fails,
+  later_checks,
+  decision_checks,
+  item_checks,
+  approval_checks,
+  import_checks,
+  file_checks,
+  overflows as one_too_many,
+  reply_to,
+  counts_of,
+};
 ghost use Rattle.pid_moderation.specs.Judgement.{judge, answer};
-ghost use Rattle.pid_moderation.specs.Effects.{Follows, effect_of, edit_of, items_after, write_of, Decides, LeadsOn, FitsHistory, receipt_of};
+ghost use Rattle.pid_moderation.specs.BeforeFile.{SettlesImport, WaitsForFile};
+ghost use Rattle.pid_moderation.specs.Effects.{effect_of, counted, edit_of, items_after, write_of, Decides, LeadsOn, FitsHistory, receipt_of};
+ghost use Rattle.pid_moderation.specs.Following.{Follows};
 
 use crate::change::{Change, Edit, Effect, Receipt, Write};
 use crate::checks::{
-    ITEMS, REMARKS, SUBMISSIONS, has_rank, is_ill_formed, is_pending, is_rank, is_removal, is_so,
-    is_unknown, lacks_parent, leaves_children, overflows, pass,
+    ITEMS, REMARKS, SUBMISSIONS, first_failing, has_rank, is_ill_formed, is_pending, is_rank,
+    is_removal, is_so, is_unknown, lacks_parent, leaves_children, overflows, pass,
 };
 use crate::command::{Act, Command, Proposal, Reply};
 use crate::facts::{Facts, Named, State, Verdict};
@@ -24,7 +38,7 @@ use std::alloc::AllocError;
 fn absent(facts: &Facts) -> Refusal
     ensures { first_that_fails ((is_none facts.now.rank, Refusal.NoAccount) ∷ (true, Refusal.NoSubmission) ∷ []) ≡ Some result }
 {
-    if facts.rank.is_none() {
+    if is_unknown(facts.rank) {
         Refusal::NoAccount
     } else {
         Refusal::NoSubmission
@@ -44,7 +58,7 @@ fn set_rank(
         ) result }
 {
     pass(&[
-        (facts.rank.is_none(), Refusal::NoAccount),
+        (is_unknown(facts.rank), Refusal::NoAccount),
         (
             !has_rank(Rank::Administrator, facts.rank),
             Refusal::RankTooLow,
@@ -71,7 +85,7 @@ fn submit(
         ) result }
 {
     pass(&[
-        (facts.rank.is_none(), Refusal::NoAccount),
+        (is_unknown(facts.rank), Refusal::NoAccount),
         (SUBMISSIONS <= facts.submissions, Refusal::Full),
     ])?;
     let number = facts.submissions + 1;
@@ -101,7 +115,7 @@ fn comment(
         return Err(absent(facts));
     };
     pass(&[
-        (facts.rank.is_none(), Refusal::NoAccount),
+        (is_unknown(facts.rank), Refusal::NoAccount),
         (REMARKS <= named.remarks, Refusal::Full),
     ])?;
     let effect = Effect::Remarked {
@@ -124,7 +138,7 @@ fn withdraw(facts: &Facts, account: &Account, number: u32) -> Result<(Effect, Re
         return Err(absent(facts));
     };
     pass(&[
-        (facts.rank.is_none(), Refusal::NoAccount),
+        (is_unknown(facts.rank), Refusal::NoAccount),
         (!is_account_of(account, &named.author), Refusal::NotAuthor),
         (!is_pending(&named.state), Refusal::NotPending),
     ])?;
@@ -136,36 +150,48 @@ fn withdraw(facts: &Facts, account: &Account, number: u32) -> Result<(Effect, Re
     Ok((effect, Reply::Done))
 }
 
-// The checks of an approval, once there is such a submission.
+// The checks of a decision on a submission that is there.
+fn may_decide(facts: &Facts, account: &Account, named: &Named) -> Result<(), Refusal>
+    ensures { Follows ((is_none facts.now.rank, Refusal.NoAccount) ∷
+        decision_checks account.now facts.now.rank named.now) tt result }
+{
+    let needed = needed_rank(&named.path, is_removal(&named.proposal));
+    pass(&[
+        (is_unknown(facts.rank), Refusal::NoAccount),
+        (!is_pending(&named.state), Refusal::NotPending),
+        (!has_rank(needed, facts.rank), Refusal::RankTooLow),
+        (is_account_of(account, &named.author), Refusal::OwnDecision),
+    ])
+}
+
+// What an approval writes is new and keeps the tree.
+fn may_write(facts: &Facts, named: &Named) -> Result<(), Refusal>
+    ensures { Follows (item_checks facts.now named.now) tt result }
+{
+    let proposal = &named.proposal;
+    pass(&[
+        (is_so(proposal, &facts.present), Refusal::NothingToDo),
+        (
+            lacks_parent(proposal, facts.has_parent),
+            Refusal::ParentMissing,
+        ),
+        (
+            leaves_children(proposal, facts.has_children),
+            Refusal::HasChildren,
+        ),
+        (
+            overflows(proposal, &facts.present, facts.items),
+            Refusal::Full,
+        ),
+    ])
+}
+
 fn may_approve(facts: &Facts, account: &Account, named: &Named) -> Result<(), Refusal>
     ensures { Follows ((is_none facts.now.rank, Refusal.NoAccount) ∷
         approval_checks account.now facts.now named.now) tt result }
 {
-    pass(&[
-        (is_unknown(facts.rank), Refusal::NoAccount),
-        (!is_pending(&named.state), Refusal::NotPending),
-        (
-            !has_rank(
-                needed_rank(&named.path, is_removal(&named.proposal)),
-                facts.rank,
-            ),
-            Refusal::RankTooLow,
-        ),
-        (is_account_of(account, &named.author), Refusal::OwnDecision),
-        (is_so(&named.proposal, &facts.present), Refusal::NothingToDo),
-        (
-            lacks_parent(&named.proposal, facts.has_parent),
-            Refusal::ParentMissing,
-        ),
-        (
-            leaves_children(&named.proposal, facts.has_children),
-            Refusal::HasChildren,
-        ),
-        (
-            overflows(&named.proposal, &facts.present, facts.items),
-            Refusal::Full,
-        ),
-    ])
+    may_decide(facts, account, named)?;
+    may_write(facts, named)
 }
 
 fn edit(proposal: &Proposal, present: &Option<Name>) -> Result<Edit, AllocError>
@@ -250,19 +276,7 @@ fn reject(
     let Some(named) = &facts.named else {
         return Err(absent(facts));
     };
-    let is_own = is_account_of(account, &named.author);
-    pass(&[
-        (facts.rank.is_none(), Refusal::NoAccount),
-        (!is_pending(&named.state), Refusal::NotPending),
-        (
-            !has_rank(
-                needed_rank(&named.path, is_removal(&named.proposal)),
-                facts.rank,
-            ),
-            Refusal::RankTooLow,
-        ),
-        (is_own, Refusal::OwnDecision),
-    ])?;
+    may_decide(facts, account, named)?;
     let state = State::Rejected {
         decider: account.copy()?,
         reason: reason.copy()?,
@@ -277,6 +291,41 @@ fn reject(
     ))
 }
 
+// What an import is refused for, whatever its file comes to.
+fn import_refusal(facts: &Facts) -> Option<Refusal>
+    ensures { result ≡ first_that_fails ((is_none facts.now.rank, Refusal.NoAccount) ∷ import_checks facts.now) }
+{
+    first_failing(&[
+        (is_unknown(facts.rank), Refusal::NoAccount),
+        (!has_rank(Rank::Senior, facts.rank), Refusal::RankTooLow),
+    ])
+}
+
+fn bring_in(file: Option<Verdict>) -> Result<(Effect, Reply), Refusal>
+    ensures { Follows (file_checks file) (counted file, counts_of file) result }
+{
+    match file {
+        Some(
+            Verdict::Good {
+                added,
+                renamed,
+                same,
+                items,
+            },
+        ) => {
+            pass(&[(ITEMS < items, Refusal::Full)])?;
+            let reply = Reply::Counts {
+                added,
+                renamed,
+                same,
+            };
+            Ok((Effect::Imported { items }, reply))
+        }
+        Some(Verdict::Faulty(fault)) => Err(Refusal::FileFault(fault)),
+        None => Err(Refusal::BadText),
+    }
+}
+
 fn import(facts: &Facts) -> Result<(Effect, Reply), Refusal>
     ensures { (reading : Reading) (account : List ℕ) → Follows ((is_none facts.now.rank, Refusal.NoAccount) ∷
         later_checks account facts.now (Imports reading)) (
@@ -284,41 +333,27 @@ fn import(facts: &Facts) -> Result<(Effect, Reply), Refusal>
           reply_to facts.now (Imports reading),
         ) result }
 {
-    let no_account = (facts.rank.is_none(), Refusal::NoAccount);
-    let too_low = (!has_rank(Rank::Senior, facts.rank), Refusal::RankTooLow);
-    match facts.file {
-        Verdict::Faulty(fault) => {
-            pass(&[no_account, too_low, (true, Refusal::FileFault(fault))])?;
-            Ok((Effect::Nothing, Reply::Done))
-        }
-        Verdict::Good {
-            added,
-            renamed,
-            same,
-            items,
-        } => {
-            pass(&[no_account, too_low, (ITEMS < items, Refusal::Full)])?;
-            let effect = Effect::Imported {
-                added,
-                renamed,
-                same,
-                items,
-            };
-            let reply = Reply::Counts {
-                added,
-                renamed,
-                same,
-            };
-            Ok((effect, reply))
-        }
-        Verdict::NoFile => {
-            pass(&[no_account, too_low])?;
-            Ok((Effect::Nothing, Reply::Done))
-        }
-        Verdict::TooLong => {
-            pass(&[no_account, too_low])?;
-            Ok((Effect::Nothing, Reply::Done))
-        }
+    match import_refusal(facts) {
+        Some(refusal) => Err(refusal),
+        None => bring_in(facts.file),
+    }
+}
+
+/// What an import is answered before its file is read: the reply that is kept for it, or a refusal that no file changes
+/// but one that is too long. None where it depends on the file.
+pub fn before_file(facts: &Facts) -> Option<Result<Reply, Refusal>>
+    // Whatever the file reads to, that is the answer, and the import changes nothing.
+    ensures settled { (h : History) (account : List ℕ) (key : Option (List ℕ)) →
+        facts.now ≡ facts_at (views_of h) account key NoRows → IfSome result (SettlesImport h account key) }
+    // None where there is no kept reply, and no check before those of the file fails.
+    ensures open { IfNone result (WaitsForFile facts.now) }
+{
+    if let Some(kept) = facts.kept {
+        return Some(Ok(kept));
+    }
+    match import_refusal(facts) {
+        Some(refusal) => Some(Err(refusal)),
+        None => None,
     }
 }
 
@@ -394,9 +429,11 @@ pub fn decide(facts: &Facts, command: &Command) -> Result<(Change, Reply), Refus
     // The change leads from what a history shows to what it shows with the command.
     ensures change { (h : History) (reading : Reading) → facts.now ≡ facts_of (views_of h) (asked command.now reading) →
         IfOk result (λ d. LeadsOn h (asked command.now reading) d.0) }
-    // And its numbers are right: storage knows of each row whether it is there, and where a new one goes.
+    // The numbers are right: storage knows of each row whether it is there, and where a new one goes.
     ensures fits { (h : History) (reading : Reading) → facts.now ≡ facts_of (views_of h) (asked command.now reading) →
         IfOk result (λ d. FitsHistory h (asked command.now reading) d.0) }
+    // And what the facts say is all of the change.
+    ensures decides { (reading : Reading) → Decides facts.now (asked command.now reading) result }
 {
     by_facts(facts, command)
 }

@@ -214,21 +214,20 @@ fn named_at(alloc: Global, fields: &[(String, String)]) -> Result<Option<Named>,
     }))
 }
 
-fn file_at(fields: &[(String, String)]) -> Verdict {
+fn file_at(fields: &[(String, String)]) -> Option<Verdict> {
     match text_at(fields, "file") {
-        "faulty" => Verdict::Faulty(FileFault::Line {
+        "faulty" => Some(Verdict::Faulty(FileFault::Line {
             line: 3,
             kind: LineKind::Duplicate,
-        }),
-        "many" => Verdict::Faulty(FileFault::TooMany),
-        "long" => Verdict::TooLong,
-        "good" => Verdict::Good {
+        })),
+        "many" => Some(Verdict::Faulty(FileFault::TooMany)),
+        "good" => Some(Verdict::Good {
             added: 1,
             renamed: 2,
             same: 3,
             items: number_at(fields, "items"),
-        },
-        _ => Verdict::NoFile,
+        }),
+        _ => None,
     }
 }
 

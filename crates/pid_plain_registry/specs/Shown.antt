@@ -1,5 +1,5 @@
 -- What a plain registry shows: the history of the commands that it accepted. A choice of this project, for tests.
-use Rattle.std.specs.Prelude.{ℕ, List, map, reverse, Option, Some, None}
+use Rattle.std.specs.Prelude.{ℕ, List, map, reverse}
 use Rattle.std.specs.BTreeMap.{BTreeMap}
 use Rattle.pid_ident.specs.PathTexts.{path_text}
 use Rattle.pid_ident.specs.declared.path.Path.{Path}
@@ -23,11 +23,10 @@ abbrev pub texts : BTreeMap Path (List ℕ) → Items
 texts items = map item_of items.entries
 
 -- what a file reads to
-abbrev pub reading_of : Option FileReading → Reading
-reading_of None = histories.NoFile
-reading_of (Some TooLong) = histories.TooLong
-reading_of (Some (Faulty fault)) = histories.Faulty fault
-reading_of (Some (Good pairs)) = histories.Good (map item_of pairs.items)
+abbrev pub reading_of : FileReading → Reading
+reading_of TooLong = histories.TooLong
+reading_of (Faulty fault) = histories.Faulty fault
+reading_of (Good pairs) = histories.Good (map item_of pairs.items)
 
 -- a command with the reading of its file, and its reply
 abbrev pub entry_of : Accepted → histories.Accepted
@@ -49,6 +48,6 @@ shown registry = history_of registry.accepted.items
 abbrev pub views : PlainRegistry → Views
 views registry = views_of (shown registry)
 
--- what a command with its file asks
-abbrev pub asks : Command → Option FileReading → Asked
+-- what a command asks, where the file of an import reads to this
+abbrev pub asks : Command → FileReading → Asked
 asks command file = asked command (reading_of file)

@@ -76,7 +76,7 @@ fn itemize(
             None => Ok(()),
         },
         Act::Import { .. } => match &entry.file {
-            Some(FileReading::Good(pairs)) => import(items, pairs.as_slice()),
+            FileReading::Good(pairs) => import(items, pairs.as_slice()),
             _ => Ok(()),
         },
         _ => Ok(()),

@@ -10,7 +10,7 @@ use pid_ident::{Account, Key, Name, Path, Text};
 use pid_moderation::{Act, Command, FileFault, Named, Proposal, Rank, Reply, State};
 use std::alloc::AllocError;
 
-/// What the file of an import reads to. Other commands have none.
+/// What the file of an import reads to.
 #[derive(Drop)]
 pub enum FileReading {
     /// The file has more bytes than an import takes.
@@ -21,11 +21,12 @@ pub enum FileReading {
     Good(Vec<(Path, Name)>),
 }
 
-/// A command that was accepted, with the reading of its file and its reply.
+/// A command that was accepted, with its reply. Of an import it is kept what its file read to; with other commands the
+/// reading says nothing.
 #[derive(Drop)]
 pub struct Accepted {
     pub command: Command,
-    pub file: Option<FileReading>,
+    pub file: FileReading,
     pub reply: Reply,
 }
 

@@ -1,8 +1,8 @@
 //! The registry over the list of what it accepted.
 ghost use Rattle.std.specs.Prelude.{◌≡◌, ◌≢◌, [], ◌∷◌, length, is_some, IfOk, IfErr, OnOk, OnErr, Some, Ok, Err};
-ghost use Rattle.pid_moderation.specs.History.{Reading, asked};
+ghost use Rattle.pid_moderation.specs.History.{Reading, asked, deed_of};
 ghost use Rattle.pid_moderation.specs.Views.{Views, rank_of, submits_of, items_of, submission_at};
-ghost use Rattle.pid_moderation.specs.FactsOfViews.{known as known_by, named as named_in, looked_at, facts_of, with_item, verdict as verdict_over};
+ghost use Rattle.pid_moderation.specs.FactsOfViews.{known as known_by, named as named_in, looked_at, facts_of, with_file, with_item};
 ghost use Rattle.pid_moderation.specs.Judgement.{judge, answer, after};
 ghost use Rattle.pid_moderation.specs.Wants.{wanted_by};
 ghost use Rattle.pid_plain_registry.specs.Shown.{shown, views, asks, entry_of, reading_of, texts};
@@ -14,7 +14,7 @@ use crate::past::{
 };
 use crate::verdict::{number, verdict};
 use pid_ident::{Account, Name, Path};
-use pid_moderation::{Command, Facts, Named, Rank, Refusal, Reply, Rows, Verdict, decide, needs};
+use pid_moderation::{Act, Command, Facts, Named, Rank, Refusal, Reply, Rows, decide, needs};
 use std::alloc::{AllocError, Global};
 use std::collections::BTreeMap;
 
@@ -88,7 +88,7 @@ impl PlainRegistry {
             present: None,
             has_parent: false,
             has_children: false,
-            file: Verdict::NoFile,
+            file: None,
         }
     }
 
@@ -134,13 +134,8 @@ impl PlainRegistry {
     }
 
     // The facts with those of the rows that are looked at.
-    fn look_at(
-        &self,
-        rows: Rows<'_>,
-        file: &Option<FileReading>,
-        known: Facts,
-    ) -> Result<Facts, AllocError>
-        ensures { IfOk result (λ facts. facts ≡ looked_at (views self.now) (verdict_over (items_of (shown self.now)) (reading_of file.now)) (wanted_by rows.entry) known) }
+    fn look_at(&self, rows: Rows<'_>, known: Facts) -> Result<Facts, AllocError>
+        ensures { IfOk result (λ facts. facts ≡ looked_at (views self.now) (wanted_by rows.entry) known) }
     {
         let mut facts = known;
         match rows {
@@ -151,21 +146,33 @@ impl PlainRegistry {
                 let named = self.named(submission)?;
                 return self.look_at_item(named, facts);
             }
-            Rows::File => facts.file = verdict(self.items()?, file)?,
+            Rows::Nothing => {}
+        }
+        Ok(facts)
+    }
+
+    // The facts with what the file of an import comes to.
+    fn look_at_file(&self, act: &Act, file: &FileReading, known: Facts) -> Result<Facts, AllocError>
+        ensures { IfOk result (λ facts. facts ≡ with_file (items_of (shown self.now)) (deed_of act.now (reading_of file.now)) known) }
+    {
+        let mut facts = known;
+        if let Act::Import { .. } = act {
+            facts.file = verdict(self.items()?, file)?;
         }
         Ok(facts)
     }
 
     /// What a command is judged by; or memory is short. The file is what an import's file reads to.
-    pub fn facts(&self, command: &Command, file: &Option<FileReading>) -> Result<Facts, AllocError>
+    pub fn facts(&self, command: &Command, file: &FileReading) -> Result<Facts, AllocError>
         ensures { IfOk result (λ facts. facts ≡ facts_of (views self.now) (asks command.now file.now)) }
     {
         let known = self.known(command);
-        self.look_at(needs(command), file, known)
+        let facts = self.look_at(needs(command), known)?;
+        self.look_at_file(&command.act, file, facts)
     }
 
     // What a command is answered.
-    fn answer(&self, command: &Command, file: &Option<FileReading>) -> Result<Answer, Refusal>
+    fn answer(&self, command: &Command, file: &FileReading) -> Result<Answer, Refusal>
         ensures reply { IfOk result (λ a. answer (judge (views self.now) (asks command.now file.now)) ≡ Ok a.reply) }
         ensures refusal { IfErr result (λ e. e ≢ Refusal.Memory → answer (judge (views self.now) (asks command.now file.now)) ≡ Err e) }
         ensures kept { IfOk result (λ a. a.is_kept ≡ is_some (facts_of (views self.now) (asks command.now file.now)).kept) }
@@ -176,9 +183,9 @@ impl PlainRegistry {
         }
     }
 
-    /// Obeys a command, whose file, if it is an import, reads to this. What is accepted, and was not answered before, is
-    /// added to the list. A refusal, also one for want of memory, changes nothing.
-    pub fn obey(&mut self, command: Command, file: Option<FileReading>) -> Result<Reply, Refusal>
+    /// Obeys a command. Where it is an import, its file reads to this; with other commands that says nothing. What is
+    /// accepted, and was not answered before, is added to the list. A refusal, also one for want of memory, changes nothing.
+    pub fn obey(&mut self, command: Command, file: FileReading) -> Result<Reply, Refusal>
         // The reply is that of the judgement over the history.
         ensures reply { IfOk result (λ reply. answer (judge (views self.old) (asks command file)) ≡ Ok reply) }
         // So is the refusal, unless memory is short.
@@ -198,12 +205,7 @@ impl PlainRegistry {
         }
     }
 
-    fn add(
-        &mut self,
-        command: Command,
-        file: Option<FileReading>,
-        reply: Reply,
-    ) -> Result<Reply, Refusal>
+    fn add(&mut self, command: Command, file: FileReading, reply: Reply) -> Result<Reply, Refusal>
         ensures ok { IfOk result (λ r. r ≡ reply) }
         ensures err { IfErr result (λ e. e ≡ Refusal.Memory) }
         ensures added { OnOk result (shown self.new ≡ entry_of (record { command = command; file = file; reply = reply }) ∷ shown self.old) }

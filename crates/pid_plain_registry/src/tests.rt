@@ -46,7 +46,7 @@ fn file_of(alloc: Global, row: &str) -> Result<FileReading, Fail> {
 
 // The command of a row such as `comment alice num=1&text=seen`, and the reading of its file, which stands in place of
 // the fields of an import. A key stands before a slash, as in `k1/alice`.
-fn command_in(alloc: Global, row: &str) -> Result<(Command, Option<FileReading>), Fail> {
+fn command_in(alloc: Global, row: &str) -> Result<(Command, FileReading), Fail> {
     let (verb, rest) = row.split_once(' ').ok_or("a verb")?;
     let (caller, rest) = rest.split_once(' ').ok_or("an account")?;
     let (key, account) = match caller.split_once('/') {
@@ -57,12 +57,12 @@ fn command_in(alloc: Global, row: &str) -> Result<(Command, Option<FileReading>)
     if verb == Verb::Import {
         let fields = fields_of(alloc, "file=")?;
         let command = command_of(alloc, verb, account, key, fields.as_slice())?;
-        return Ok((command, Some(file_of(alloc, rest)?)));
+        return Ok((command, file_of(alloc, rest)?));
     }
     let fields = fields_of(alloc, rest)?;
     Ok((
         command_of(alloc, verb, account, key, fields.as_slice())?,
-        None,
+        FileReading::TooLong,
     ))
 }
 
@@ -263,8 +263,8 @@ import bob PC/8086/1237=440FX | ok added=1 renamed=0 same=0
 // What a command is answered, sent again where memory was refused.
 fn obeyed(
     registry: &mut PlainRegistry,
-    first: (Command, Option<FileReading>),
-    again: (Command, Option<FileReading>),
+    first: (Command, FileReading),
+    again: (Command, FileReading),
 ) -> Result<Reply, Refusal> {
     let (command, file) = first;
     match registry.obey(command, file) {

@@ -1,5 +1,5 @@
 //! What a file comes to over the items.
-ghost use Rattle.std.specs.Prelude.{◌≡◌, ◌&&◌, not, map, option_copied, is_none, is_some, IfOk};
+ghost use Rattle.std.specs.Prelude.{◌≡◌, ◌&&◌, not, map, option_copied, is_none, is_some, IfOk, Some};
 ghost use Rattle.pid_ident.specs.PathTexts.{path_text};
 ghost use Rattle.pid_moderation.specs.Items.{name_at as name_in, has_name as names_so, count_new as count_of_new, count_renamed as count_of_renamed, count_same as count_of_same};
 ghost use Rattle.pid_moderation.specs.History.{Good};
@@ -67,7 +67,7 @@ fn count_same(items: &BTreeMap<Path, Name>, pairs: &[(Path, Name)]) -> usize
 
 // What these pairs come to, which are written over the items.
 fn good(mut items: BTreeMap<Path, Name>, pairs: &[(Path, Name)]) -> Result<Verdict, AllocError>
-    ensures { IfOk result (λ v. v ≡ verdict_over (texts items) (Good (map item_of pairs.now))) }
+    ensures { IfOk result (λ v. Some v ≡ verdict_over (texts items) (Good (map item_of pairs.now))) }
 {
     let added = number(count_new(&items, pairs))?;
     let renamed = number(count_renamed(&items, pairs))?;
@@ -84,14 +84,13 @@ fn good(mut items: BTreeMap<Path, Name>, pairs: &[(Path, Name)]) -> Result<Verdi
 /// What a file comes to over the items.
 pub fn verdict(
     items: BTreeMap<Path, Name>,
-    file: &Option<FileReading>,
-) -> Result<Verdict, AllocError>
+    file: &FileReading,
+) -> Result<Option<Verdict>, AllocError>
     ensures { IfOk result (λ v. v ≡ verdict_over (texts items) (reading_of file.now)) }
 {
     match file {
-        None => Ok(Verdict::NoFile),
-        Some(FileReading::TooLong) => Ok(Verdict::TooLong),
-        Some(FileReading::Faulty(fault)) => Ok(Verdict::Faulty(*fault)),
-        Some(FileReading::Good(pairs)) => good(items, pairs.as_slice()),
+        FileReading::TooLong => Ok(None),
+        FileReading::Faulty(fault) => Ok(Some(Verdict::Faulty(*fault))),
+        FileReading::Good(pairs) => Ok(Some(good(items, pairs.as_slice())?)),
     }
 }

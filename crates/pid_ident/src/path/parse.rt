@@ -9,7 +9,7 @@ use super::Path;
 use crate::identifier::{Id8, Id16};
 
 /// The path whose text it is.
-pub fn path_of(text: &[u8]) -> Option<Path>
+pub fn read_path(text: &[u8]) -> Option<Path>
     ensures found { IfSome result (λ p. IsTextOf text.now p) }
     ensures none { IfNone result ((p : Path) → IsTextOf text.now p → ⊥) }
 {

@@ -13,3 +13,6 @@ returns-clause-change c = λ h reading e. leading _ _ _ (c.by_facts.ensures read
 
 pub returns-clause-fits : goal.returns-clause-fits
 returns-clause-fits c = λ h reading e. fitting _ _ _ (c.by_facts.ensures reading) h e
+
+pub returns-clause-decides : goal.returns-clause-decides
+returns-clause-decides c = c.by_facts.ensures
