@@ -1,6 +1,11 @@
 //! The table of counts.
-ghost use Rattle.std.specs.Prelude.{◌≡◌, false, Some, IsSome, length, option_map, slice_get};
+ghost use Rattle.std.specs.Prelude.{◌≡◌, false, Some, IsSome, IfOk, codes, length, option_map, slice_get};
 ghost use Rattle.sqlite.specs.Held.{state};
+ghost use Rattle.sqlite.specs.Order.{Row as Values};
+ghost use Rattle.sqlite.specs.State.{HasCleanDisk};
+ghost use Rattle.sqlite_rules.specs.Lists.{Has};
+ghost use Rattle.pid_rows.specs.LabelRows.{HasLabel, IsValueOf};
+ghost use Rattle.pid_rows.specs.Schema.{pid_schema};
 ghost use Rattle.pid_rows.specs.Leaves.{GoesOn, LeadsTo, OnlyReads, Tells};
 ghost use Rattle.pid_rows.specs.Answers.{value_row};
 ghost use Rattle.pid_rows.specs.Shows.{Counts, meta_of, counts_of};
@@ -59,6 +64,7 @@ fn value_rows<S: Alter>(conn: &mut Connection<S>, label: &str) -> Result<Vec<Row
     requires { (state S.Store conn.old).in_transaction ≡ false }
     ensures rests { OnlyReads (state S.Store conn.old) (state S.Store conn.new) }
     ensures found { Tells (state S.Store conn.old) (state S.Store conn.new) result (λ v rows. slice_get rows.items 0 ≡ option_map value_row (meta_of (counts_of v) label.now)) }
+    ensures valued { HasCleanDisk (state S.Store conn.new) → (state S.Store conn.old).now.schema ≡ pid_schema → IfOk result (λ rows. (x : Values) → Has rows.items x → IsValueOf (state S.Store conn.old).now.trees label.now x) }
 {
     let label = label.to_sql();
     read_rows(conn, "SELECT value FROM meta WHERE label = ?1", &[label])
@@ -69,6 +75,7 @@ fn count<S: Alter>(conn: &mut Connection<S>, label: &str) -> Result<u32, TableFa
     requires { (state S.Store conn.old).in_transaction ≡ false }
     ensures rests { OnlyReads (state S.Store conn.old) (state S.Store conn.new) }
     ensures found { ((c : Counts) → IsSome (meta_of c label.now)) → Tells (state S.Store conn.old) (state S.Store conn.new) result (λ v n. Some n ≡ meta_of (counts_of v) label.now) }
+    ensures labelled { HasCleanDisk (state S.Store conn.new) → (state S.Store conn.old).now.schema ≡ pid_schema → IfOk result (HasLabel (state S.Store conn.old).now.trees label.now) }
 {
     let rows = value_rows(conn, label)?;
     match rows.first() {
@@ -101,6 +108,7 @@ pub fn schema_number<S: Alter>(conn: &mut Connection<S>) -> Result<u32, TableFau
     requires { (state S.Store conn.old).in_transaction ≡ false }
     ensures rests { OnlyReads (state S.Store conn.old) (state S.Store conn.new) }
     ensures found { Tells (state S.Store conn.old) (state S.Store conn.new) result (λ v n. n ≡ 1) }
+    ensures labelled { HasCleanDisk (state S.Store conn.new) → (state S.Store conn.old).now.schema ≡ pid_schema → IfOk result (HasLabel (state S.Store conn.old).now.trees (codes "schema")) }
 {
     count(conn, "schema")
 }

@@ -6,3 +6,4 @@ pub mod SoundLemmas
 pub mod CommitLemmas
 pub mod MakerTexts
 pub mod MetLemmas
+pub mod OpenLemmas

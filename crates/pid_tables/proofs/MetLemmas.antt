@@ -21,15 +21,17 @@ use Rattle.sqlite_resolve.specs.declared.compiled.Compiled.{Compiled}
 use Rattle.sqlite_resolve.specs.declared.error.CompileError.{CompileError}
 use Rattle.sqlite_resolve.specs.declared.error.CompileError.TheVariants as compile
 use Rattle.sqlite_rules.specs.Lists.{Has}
+use Rattle.sqlite_schema.specs.Names.{same_name}
 use Rattle.pid_rows.specs.declared.fault.TableFault.{TableFault}
 use Rattle.pid_rows.specs.declared.fault.TableFault.TheVariants.{Memory, Store, NewerSchema, Damaged}
 use Rattle.pid_rows.specs.Faults.{fault_of}
 use Rattle.pid_rows.specs.Causes.{IsCaused}
-use Rattle.pid_rows.specs.Leaves.{GoesOn, OnlyReads}
+use Rattle.pid_moderation.specs.Views.{Views}
+use Rattle.pid_rows.specs.Leaves.{AtRest, GoesOn, OnlyReads}
 use Rattle.pid_rows.specs.Schema.{pid_schema}
 use Rattle.pid_rows.proofs.CauseLemmas.{of_store, caused_first}
 use Rattle.pid_rows.proofs.WriteLemmas.{went, same_value}
-use Rattle.pid_tables.specs.Creation.{table_names, IsOfMaking, IsMetFault}
+use Rattle.pid_tables.specs.Creation.{table_names, IsMet, IsOfMaking, IsMetFault}
 use Rattle.pid_tables.specs.Making.{IsMaker, IsKnown, IsMakerOf, IsRefused, TookNames}
 use Rattle.pid_tables.proofs.CreateLemmas.{command_is, whole_is, plain_is}
 
@@ -188,10 +190,20 @@ module _ (text : List ℕ) (old new : State) (bad : IsRefused (understood pid_sc
 
 -- ---- a call that only fails
 
+meta_used : is_used pid_schema (codes "meta") ≡ true
+unfolding same_name
+meta_used = refl
+
+-- tables that show views have their names
+pub met_at_rest : (s : State) (v : Views) → AtRest s v → IsMet s
+met_at_rest s v rest opened = (codes "meta", inl refl, ap (λ schema. is_used schema (codes "meta")) (rest.shows opened).schema ∙ meta_used)
+
 pub reads_if_never : (old new : State) (P : Trees → Type 0) → Survives old new P → (HasCleanDisk new → HasCleanDisk old) → new.in_transaction ≡ false → (IsTrue new.is_open → HasCleanDisk new) → (HasCleanDisk new → ⊥) → OnlyReads old new
 reads_if_never old new P survives back ended law never = record {
   survives = record { clean = survives.clean; shield = survives.shield; counts = survives.counts; limit = survives.limit; closes = survives.closes; crash = λ clean. absurd (never clean) };
   settled = ended;
   clean = back;
+  was_open = λ opened. absurd (never (law opened));
+  same = λ d rest. record { sees = λ opened. absurd (never (law opened)); committed = λ opened. absurd (never (law opened)) };
   kept = λ v rest. record { settled = ended; same = λ opened. absurd (never (law opened)); shows = λ opened. absurd (never (law opened)); leaves = record { each = λ clean. absurd (never clean) } };
 }

@@ -2,3 +2,4 @@ pub mod Creation
 pub mod Making
 pub mod Puts
 pub mod Applies
+pub mod ShowsOrBlank

@@ -10,7 +10,7 @@ mod tables;
 
 pub use batch::{Batch, apply, begin, commit, put, roll_back};
 pub use creation::create;
-pub use laws::views_of_sound_histories;
+pub use laws::{opened_tables_rest, reads_keep_what_is_shown, views_of_sound_histories};
 pub use pid_rows::TableFault;
 pub use pid_rows::item::Item;
 pub use pid_rows::remark::Comment;

@@ -25,7 +25,7 @@ ghost use Rattle.pid_table_lists.specs.PendingPages.{pending_in, told_of};
 use crate::creation::create;
 use crate::gather::gather_facts;
 use pid_ident::{Account, Key, Name, Path};
-use pid_moderation::{Facts, Rank, Reply, Rows, Verdict};
+use pid_moderation::{Facts, Rank, Reply, Rows};
 use pid_reader::Sink;
 use pid_rows::TableFault;
 use pid_rows::account::rank;
@@ -167,7 +167,7 @@ impl<S: Alter + Drop> Tables<S> {
     }
 
     /// The facts that a command of the account under the key is judged by: what `rows` names, as `needs` answers it, and no
-    /// more. Its file, if any, comes to `file`.
+    /// more. What the file of an import comes to is not among them.
     ///
     /// It holds of views whose items are a tree, as those of every history are.
     pub fn gather(
@@ -176,13 +176,12 @@ impl<S: Alter + Drop> Tables<S> {
         account: &Account,
         key: &Option<Key>,
         rows: Rows<'_>,
-        file: Verdict,
     ) -> Result<Facts, TableFault>
         requires { (state S.Store self.old.conn).in_transaction ≡ false }
         ensures rests { OnlyReads (state S.Store self.old.conn) (state S.Store self.new.conn) }
-        ensures told { Tells (state S.Store self.old.conn) (state S.Store self.new.conn) result (λ v facts. AllItems v.items → HoldsParents v.items → facts ≡ facts_at v file account.now key.now (wanted_by rows.entry)) }
+        ensures told { Tells (state S.Store self.old.conn) (state S.Store self.new.conn) result (λ v facts. AllItems v.items → HoldsParents v.items → facts ≡ facts_at v account.now key.now (wanted_by rows.entry)) }
     {
-        gather_facts(&mut self.conn, alloc, account, key, rows, file)
+        gather_facts(&mut self.conn, alloc, account, key, rows)
     }
 
     /// Whether the tables are those of some registry, or there is none: every row is read and judged.
