@@ -2,5 +2,4 @@ pub mod PathOrder
 pub mod Parsing
 pub mod WordTests
 pub mod SendingLemmas
-pub mod ReadingLemmas
 pub mod PathReadingLemmas

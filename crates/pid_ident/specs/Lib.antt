@@ -9,4 +9,5 @@ pub mod LineKinds
 pub mod Sending
 pub mod Reading
 pub mod ReadingLaws
+pub mod Doubles
 pub mod Wrapping

@@ -1,3 +1,4 @@
+-- Serves private functions alone; no promise rests on it.
 -- What orders paths without their texts: the letter of the front, and then the numbers.
 use Rattle.std.specs.Prelude.{ℕ, List, [], ◌∷◌, slice_get}
 use Rattle.std.specs.declared.cmp.Ordering.{Ordering}

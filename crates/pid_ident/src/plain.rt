@@ -1,6 +1,7 @@
 //! Readers and writers of std as an `Input` and an `Output`.
-ghost use Rattle.std.specs.Prelude.{◌≡◌, ◌<◌, ◌≤◌, None, IfSome, IfNone, length, take};
-ghost use Rattle.std.specs.Io.KnownBytes.{Consumes, IsAtEnd, Keeps, Appends};
+ghost use Rattle.std.specs.Prelude.{◌≡◌, ◌≢◌, ◌<◌, ◌≤◌, None, Some, Ok, Err, IfOk, IfErr, length};
+ghost use Rattle.std.specs.Io.KnownBytes.{ReadConsumes, WriteAppends};
+ghost use Rattle.std.specs.IoError.{error_kind};
 ghost use Rattle.pid_ident.specs.Wrapping.{wrapped, kept_read_fault, kept_write_fault, count_of_reads};
 
 use crate::io::{Input, Output, ReadFault, WriteFault};
@@ -9,7 +10,8 @@ use std::io::{ErrorKind, Read, Write};
 
 /// A reader or a writer of std, with the fault that it gave.
 ///
-/// A call that a signal interrupts is made again, and counts as one.
+/// A call that a signal interrupts is made again, and counts as one. Every other error is the fault `Device`, and a
+/// write that takes none of some bytes is the fault `Zero`.
 #[derive(Drop)]
 pub struct Plain<T> {
     inner: T,
@@ -42,47 +44,59 @@ impl<T> Plain<T> {
     }
 }
 
+// What a read of std is here; none where a signal interrupted it, so that it is made again.
+fn read_said(read: io::Result<usize>) -> Option<Result<usize, ReadFault>>
+    ensures good { IfOk read (λ n. result ≡ Some (Ok n)) }
+    ensures again { IfErr read (λ e. error_kind e ≡ ErrorKind.Interrupted → result ≡ None) }
+    ensures fault { IfErr read (λ e. error_kind e ≢ ErrorKind.Interrupted → result ≡ Some (Err ReadFault.Device)) }
+{
+    match read {
+        Ok(count) => Some(Ok(count)),
+        Err(error) if error.kind() == ErrorKind::Interrupted => None,
+        Err(_) => Some(Err(ReadFault::Device)),
+    }
+}
+
+// What a write of std is here, of so many bytes; none where a signal interrupted it, so that it is made again.
+fn write_said(written: io::Result<usize>, bytes: usize) -> Option<Result<usize, WriteFault>>
+    ensures good { IfOk written (λ n. (n ≡ 0 → bytes ≡ 0) → result ≡ Some (Ok n)) }
+    ensures zero { IfOk written (λ n. n ≡ 0 → bytes ≢ 0 → result ≡ Some (Err WriteFault.Zero)) }
+    ensures again { IfErr written (λ e. error_kind e ≡ ErrorKind.Interrupted → result ≡ None) }
+    ensures fault { IfErr written (λ e. error_kind e ≢ ErrorKind.Interrupted → result ≡ Some (Err WriteFault.Device)) }
+{
+    match written {
+        Ok(0) if bytes != 0 => Some(Err(WriteFault::Zero)),
+        Ok(count) => Some(Ok(count)),
+        Err(error) if error.kind() == ErrorKind::Interrupted => None,
+        Err(_) => Some(Err(WriteFault::Device)),
+    }
+}
+
 // What one read gives that no signal interrupts.
-fn read_once<R: Read>(reader: &mut R, buffer: &mut [u8]) -> Option<usize>
-    ensures room { IfSome result (λ n. n ≤ length buffer.new) }
-    ensures bytes { IfSome result (λ n. Consumes (R.remaining reader.old) (R.remaining reader.new) (take n buffer.new)) }
-    ensures end { IfSome result (λ n. n ≡ 0 → 0 < length buffer.new → IsAtEnd (R.remaining reader.new)) }
-    ensures fault { IfNone result (Keeps (R.remaining reader.old) (R.remaining reader.new)) }
+fn read_once<R: Read>(reader: &mut R, buffer: &mut [u8]) -> Result<usize, ReadFault>
+    ensures room { IfOk result (λ n. n ≤ length buffer.new) }
+    ensures bytes { ReadConsumes (R.remaining reader.old) (R.remaining reader.new) result buffer.new }
 {
     for _ in 0..u64::MAX {
-        match reader.read(buffer) {
-            Ok(count) => return Some(count),
-            Err(error) => {
-                if !is_interrupted(&error) {
-                    return None;
-                }
-            }
+        if let Some(said) = read_said(reader.read(buffer)) {
+            return said;
         }
     }
-    None
+    Err(ReadFault::Device)
 }
 
 // What one write takes that no signal interrupts.
-fn write_once<W: Write>(writer: &mut W, bytes: &[u8]) -> Option<usize>
-    ensures room { IfSome result (λ n. n ≤ length bytes.now) }
-    ensures bytes { IfSome result (λ n. Appends (W.contents writer.old) (W.contents writer.new) (take n bytes.now)) }
-    ensures fault { IfNone result (Keeps (W.contents writer.old) (W.contents writer.new)) }
+fn write_once<W: Write>(writer: &mut W, bytes: &[u8]) -> Result<usize, WriteFault>
+    ensures room { IfOk result (λ n. n ≤ length bytes.now) }
+    ensures some { IfOk result (λ n. 0 < length bytes.now → 0 < n) }
+    ensures bytes { WriteAppends (W.contents writer.old) (W.contents writer.new) result bytes.now }
 {
     for _ in 0..u64::MAX {
-        match writer.write(bytes) {
-            Ok(count) => return Some(count),
-            Err(error) => {
-                if !is_interrupted(&error) {
-                    return None;
-                }
-            }
+        if let Some(said) = write_said(writer.write(bytes), bytes.len()) {
+            return said;
         }
     }
-    None
-}
-
-fn is_interrupted(error: &io::Error) -> bool {
-    error.kind() == ErrorKind::Interrupted
+    Err(WriteFault::Device)
 }
 
 impl<R: Read> Input for Plain<R> {
@@ -108,13 +122,11 @@ impl<R: Read> Input for Plain<R> {
         if let Some(fault) = self.read_fault {
             return Err(fault);
         }
-        match read_once(&mut self.inner, buffer) {
-            Some(count) => Ok(count),
-            None => {
-                self.read_fault = Some(ReadFault::Device);
-                Err(ReadFault::Device)
-            }
+        let said = read_once(&mut self.inner, buffer);
+        if let Err(fault) = said {
+            self.read_fault = Some(fault);
         }
+        said
     }
 }
 
@@ -127,14 +139,10 @@ impl<W: Write> Output for Plain<W> {
         if let Some(fault) = self.write_fault {
             return Err(fault);
         }
-        let Some(count) = write_once(&mut self.inner, bytes) else {
-            self.write_fault = Some(WriteFault::Device);
-            return Err(WriteFault::Device);
-        };
-        if count == 0 && !bytes.is_empty() {
-            self.write_fault = Some(WriteFault::Zero);
-            return Err(WriteFault::Zero);
+        let said = write_once(&mut self.inner, bytes);
+        if let Err(fault) = said {
+            self.write_fault = Some(fault);
         }
-        Ok(count)
+        said
     }
 }

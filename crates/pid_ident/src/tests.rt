@@ -1,6 +1,6 @@
 use super::*;
 use std::io;
-use std::io::{ErrorKind, Read};
+use std::io::{ErrorKind, Read, Write};
 use std::test::Fail;
 
 #[test]
@@ -65,6 +65,30 @@ fn accounts_and_keys_are_kept(rt: HostRuntime) -> Result<(), Fail> {
             "{word:?}"
         );
     }
+    Ok(())
+}
+
+#[test]
+fn words_compare_by_their_bytes(rt: HostRuntime) -> Result<(), Fail> {
+    let name = Name::of(rt.alloc(), "Intel")?;
+    assert!(rt; name == name.copy()?);
+    assert!(rt; name != Name::of(rt.alloc(), "Intel ")?);
+    let account = Account::of(rt.alloc(), "root")?;
+    assert!(rt; account == account.copy()?);
+    assert!(rt; account != Account::of(rt.alloc(), "boot")?);
+    let key = Key::of(rt.alloc(), "k1")?;
+    assert!(rt; key == key.copy()?);
+    assert!(rt; key != Key::of(rt.alloc(), "K1")?);
+    let text = Text::of(rt.alloc(), "")?;
+    assert!(rt; text == text.copy()?);
+    assert!(rt; text != Text::of(rt.alloc(), "seen")?);
+    Ok(())
+}
+
+#[test]
+fn kinds_print_their_words(rt: HostRuntime) -> Result<(), Fail> {
+    let word = LineKind::VendorMissing.to_string(rt.alloc())?;
+    assert_eq!(rt; word.as_str(), "VendorMissing");
     Ok(())
 }
 
@@ -137,6 +161,44 @@ fn an_interrupted_read_is_made_again(rt: HostRuntime) -> Result<(), Fail> {
     assert_eq!(rt; buffer[0], b'a');
     assert_eq!(rt; input.read(&mut buffer)?, 1);
     assert_eq!(rt; input.read(&mut buffer)?, 0);
+    Ok(())
+}
+
+// A writer whose calls end in order: interrupted, one byte taken, broken or none taken.
+#[derive(Drop)]
+struct Worn {
+    calls: u64,
+    is_broken: bool,
+}
+
+impl Write for Worn {
+    fn write(&mut self, buf: &[u8]) -> io::Result<usize> {
+        self.calls = self.calls.saturating_add(1);
+        match self.calls {
+            1 => Err(io::Error::from(ErrorKind::Interrupted)),
+            2 => Ok(buf.len().min(1)),
+            _ if self.is_broken => Err(io::Error::from(ErrorKind::BrokenPipe)),
+            _ => Ok(0),
+        }
+    }
+
+    fn flush(&mut self) -> io::Result<()> {
+        Ok(())
+    }
+}
+
+#[test]
+fn faults_are_told_apart(rt: HostRuntime) -> Result<(), Fail> {
+    for (is_broken, fault) in [(true, WriteFault::Device), (false, WriteFault::Zero)] {
+        let mut out = Plain::new(Worn {
+            calls: 0,
+            is_broken,
+        });
+        assert_eq!(rt; out.write(b"ab"), Ok(1));
+        assert_eq!(rt; out.write(b"b"), Err(fault));
+        assert_eq!(rt; out.write(b"b"), Err(fault));
+        assert_eq!(rt; out.into_inner().calls, 3);
+    }
     Ok(())
 }
 

@@ -3,7 +3,6 @@ pub mod Changing
 pub mod Deciding
 pub mod Passing
 pub mod FieldLemmas
-pub mod PathReadingLemmas
 pub mod FormLemmas
 pub mod ItemLemmas
 pub mod WriteLemmas

@@ -13,7 +13,8 @@ use Rattle.pid_ident.specs.Trees.{text_cmp}
 use Rattle.pid_moderation.specs.declared.command.Proposal.{Proposal}
 use Rattle.pid_moderation.specs.declared.command.Proposal.TheVariants.{Name, Removal}
 use Rattle.pid_moderation.specs.History.{TooLong, Faulty, Good, Deed, Submits, Approves, Imports, History}
-use Rattle.pid_moderation.specs.Items.{Items, name_at, parent_text, holds_parent, has_children, written, imported}
+use Rattle.pid_ident.specs.PathReading.{parent_text}
+use Rattle.pid_moderation.specs.Items.{Items, name_at, holds_parent, has_children, written, imported}
 use Rattle.pid_moderation.specs.Views.{Views, Submitted, views_of, submits_of, submitted, submission_at, items_of, itemized, carried_out, pairs_of}
 use Rattle.pid_moderation.specs.FactsOfViews.{with_item, known}
 use Rattle.pid_moderation.specs.CheckTables.{checks, lacks_parent, leaves_children, overflows, most_items}

@@ -12,7 +12,8 @@ use Rattle.pid_ident.specs.Trees.{IsTree, TreeMap, text_cmp}
 use Rattle.pid_ident.specs.Words.{is_name}
 use Rattle.pid_ident.specs.declared.path.Path.{Path}
 use Rattle.pid_ident.specs.declared.path.Path.TheVariants.{Vendor, Device, Subsystem, Class, Subclass, ProgIf, Generic}
-use Rattle.pid_moderation.specs.Items.{Items, name_at, parent_text, holds_parent}
+use Rattle.pid_ident.specs.PathReading.{parent_text}
+use Rattle.pid_moderation.specs.Items.{Items, name_at, holds_parent}
 use Rattle.pid_moderation.specs.CheckTables.{most_items}
 use Rattle.pid_moderation.specs.WellMade.{IsItem, AllItems, AreApart, IsFile}
 use Rattle.pid_moderation.proofs.ItemLemmas.{tied}

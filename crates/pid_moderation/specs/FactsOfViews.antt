@@ -8,7 +8,8 @@ use Rattle.pid_moderation.specs.declared.facts.Named.{Named}
 use Rattle.pid_moderation.specs.declared.facts.Verdict.{Verdict}
 use Rattle.pid_moderation.specs.declared.facts.Verdict.TheVariants as verdicts
 use Rattle.pid_moderation.specs.History.{Reading, TooLong, Faulty, Good, Deed, Ranks, Submits, Comments, Withdraws, Approves, Rejects, Imports, Asked}
-use Rattle.pid_moderation.specs.Items.{Items, name_at, parent_text, holds_parent, has_children, imported, count_new, count_renamed, count_same}
+use Rattle.pid_ident.specs.PathReading.{parent_text}
+use Rattle.pid_moderation.specs.Items.{Items, name_at, holds_parent, has_children, imported, count_new, count_renamed, count_same}
 use Rattle.pid_moderation.specs.Views.{Views, submission_at}
 
 abbrev pub kept_in : Views → List ℕ → Option (List ℕ) → Option Reply

@@ -7,6 +7,7 @@ use Rattle.std.specs.Str.{bytes_eq}
 use Rattle.std.specs.Str.Parse.{digits_value}
 use Rattle.pid_ident.specs.Bytes.{is_empty}
 use Rattle.pid_ident.specs.Words.{is_name, is_text, is_account, is_key}
+use Rattle.pid_ident.specs.declared.path.Path.{Path}
 use Rattle.pid_moderation.specs.declared.rank.Rank.{Rank}
 use Rattle.pid_moderation.specs.declared.rank.Rank.TheVariants.{Contributor, Moderator, Senior, Administrator}
 use Rattle.pid_moderation.specs.declared.refusal.Refusal.{Refusal}
@@ -19,7 +20,7 @@ use Rattle.pid_moderation.specs.declared.command.Command.{Command}
 use Rattle.pid_moderation.specs.declared.verb.Verb.{Verb}
 use Rattle.pid_moderation.specs.declared.verb.Verb.TheVariants.{Account, Submit, Comment, Withdraw, Approve, Reject, Import}
 use Rattle.pid_moderation.specs.Fields.{Fields, times, is_once, value, text_at}
-use Rattle.pid_moderation.specs.PathReading.{path_of}
+use Rattle.pid_ident.specs.PathReading.{path_of}
 use Rattle.pid_moderation.specs.CheckTables.{Checks, first_failing, most_submissions, most_file_bytes}
 
 -- one of two fields, once, and not the other
@@ -29,7 +30,11 @@ is_one_of name other fields = (is_once name fields && times other fields == 0) |
 -- each field of the verb once, and nothing else; a note may be missing, and a proposal is a name or a removal
 abbrev pub has_fields : Verb → Fields → Bool
 has_fields Account fields = is_once (codes "who") fields && is_once (codes "rank") fields && length fields == 2
-has_fields Submit fields = is_once (codes "path") fields && is_one_of (codes "name") (codes "remove") fields && nat_le (times (codes "note") fields) 1 && length fields == 2 + times (codes "note") fields
+has_fields Submit fields =
+    is_once (codes "path") fields
+    && is_one_of (codes "name") (codes "remove") fields
+    && nat_le (times (codes "note") fields) 1
+    && length fields == 2 + times (codes "note") fields
 has_fields Comment fields = is_once (codes "num") fields && is_once (codes "text") fields && length fields == 2
 has_fields Withdraw fields = is_once (codes "num") fields && length fields == 1
 has_fields Approve fields = is_once (codes "num") fields && length fields == 1
@@ -68,23 +73,46 @@ is_remark text = is_text text && not (is_empty text)
 
 -- what each verb's values are checked for, in order
 abbrev pub value_checks : Verb → Fields → Checks
-value_checks Account fields = (not (is_account (text_at (codes "who") fields)), BadText) ∷ (is_none (rank_in (text_at (codes "rank") fields)), BadText) ∷ []
+value_checks Account fields =
+    (not (is_account (text_at (codes "who") fields)), BadText)
+    ∷ (is_none (rank_in (text_at (codes "rank") fields)), BadText)
+    ∷ []
 value_checks Submit fields =
-    (is_none (path_of (text_at (codes "path") fields)), BadPath) ∷ (not (is_none_or is_name (value (codes "name") fields)), BadName)
-    ∷ (not (is_none_or (bytes_eq (codes "yes")) (value (codes "remove") fields)), BadText) ∷ (not (is_text (text_at (codes "note") fields)), BadText) ∷ []
-value_checks Comment fields = (is_none (number_in (text_at (codes "num") fields)), BadText) ∷ (not (is_remark (text_at (codes "text") fields)), BadText) ∷ []
+    (is_none (path_of (text_at (codes "path") fields)), BadPath)
+    ∷ (not (is_none_or is_name (value (codes "name") fields)), BadName)
+    ∷ (not (is_none_or (bytes_eq (codes "yes")) (value (codes "remove") fields)), BadText)
+    ∷ (not (is_text (text_at (codes "note") fields)), BadText)
+    ∷ []
+value_checks Comment fields =
+    (is_none (number_in (text_at (codes "num") fields)), BadText)
+    ∷ (not (is_remark (text_at (codes "text") fields)), BadText)
+    ∷ []
 value_checks Withdraw fields = (is_none (number_in (text_at (codes "num") fields)), BadText) ∷ []
 value_checks Approve fields = (is_none (number_in (text_at (codes "num") fields)), BadText) ∷ []
-value_checks Reject fields = (is_none (number_in (text_at (codes "num") fields)), BadText) ∷ (not (is_remark (text_at (codes "reason") fields)), BadText) ∷ []
+value_checks Reject fields =
+    (is_none (number_in (text_at (codes "num") fields)), BadText)
+    ∷ (not (is_remark (text_at (codes "reason") fields)), BadText)
+    ∷ []
 value_checks Import fields = (not (nat_le (length (text_at (codes "file") fields)) most_file_bytes), BadText) ∷ []
 
+-- the fields, then their values, then the account and the key
 abbrev pub form_checks : Verb → List ℕ → Option (List ℕ) → Fields → Checks
-form_checks verb account key fields = (not (has_fields verb fields), BadText) ∷ value_checks verb fields ++ (not (is_account account), BadText) ∷ (not (is_none_or is_key key), BadText) ∷ []
+form_checks verb account key fields =
+    (not (has_fields verb fields), BadText)
+    ∷ value_checks verb fields
+    ++ (not (is_account account), BadText)
+    ∷ (not (is_none_or is_key key), BadText)
+    ∷ []
+
+-- what a proposal says: a name where there is one, else a removal
+abbrev pub submission_said : Fields → Path → Act
+submission_said fields path = acts.Submit path (proposal_in (value (codes "name") fields)) (text_at (codes "note") fields)
 
 -- what the fields say, where they pass the checks
 abbrev pub act_said : Verb → Fields → Option Act
-act_said Account fields = option_map (λ rank. acts.Account (text_at (codes "who") fields) rank) (rank_in (text_at (codes "rank") fields))
-act_said Submit fields = option_map (λ path. acts.Submit path (proposal_in (value (codes "name") fields)) (text_at (codes "note") fields)) (path_of (text_at (codes "path") fields))
+act_said Account fields =
+    option_map (λ rank. acts.Account (text_at (codes "who") fields) rank) (rank_in (text_at (codes "rank") fields))
+act_said Submit fields = option_map (submission_said fields) (path_of (text_at (codes "path") fields))
 act_said Comment fields = option_map (λ n. acts.Comment n (text_at (codes "text") fields)) (number_in (text_at (codes "num") fields))
 act_said Withdraw fields = option_map (λ n. acts.Withdraw n) (number_in (text_at (codes "num") fields))
 act_said Approve fields = option_map (λ n. acts.Approve n) (number_in (text_at (codes "num") fields))

@@ -1,24 +1,16 @@
 -- Items: the texts of paths with their names, in the bytewise order of the texts.
-use Rattle.std.specs.Prelude.{ℕ, Bool, true, false, not, ◌&&◌, ◌==◌, if◌then◌else◌, List, [], ◌∷◌, ◌++◌, length, take, drop, Option, Some, None, is_none, is_some, count_by, codes}
+use Rattle.std.specs.Prelude.{ℕ, Bool, true, false, not, ◌&&◌, List, [], ◌∷◌, Option, Some, None, is_none, is_some, count_by}
 use Rattle.std.specs.List.{list_any}
 use Rattle.std.specs.Str.{bytes_eq}
 use Rattle.std.specs.Ordering.{eq_by_cmp}
 use Rattle.std.specs.FinMap.Entries.{put, find, where_key}
+use Rattle.pid_ident.specs.PathReading.{parent_text}
 use Rattle.pid_ident.specs.Trees.{text_cmp}
 use Rattle.pid_moderation.specs.declared.command.Proposal.{Proposal}
 use Rattle.pid_moderation.specs.declared.command.Proposal.TheVariants.{Name, Removal}
 
 abbrev pub Items : Type 0
 Items = List (List ℕ × List ℕ)
-
--- the text of the parent of the path with this text, by its length: that of PC/8086/1237 and of PS/8086/1237 is PC/8086
-abbrev pub parent_text : List ℕ → Option (List ℕ)
-parent_text text =
-    if length text == 12 then Some (codes "PC" ++ take 5 (drop 2 text))
-    else if length text == 21 then Some (take 12 text)
-    else if length text == 8 then Some (take 5 text)
-    else if length text == 11 then Some (take 8 text)
-    else None
 
 -- the name at a path
 abbrev pub name_at : List ℕ → Items → Option (List ℕ)

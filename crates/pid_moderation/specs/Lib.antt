@@ -16,7 +16,6 @@ pub mod Wants
 pub mod Writes
 pub mod WellMade
 pub mod Fields
-pub mod PathReading
 pub mod Forms
 pub mod Verbs
 pub mod ReplyLines

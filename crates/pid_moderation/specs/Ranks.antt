@@ -1,5 +1,5 @@
 -- Ranks of accounts, and what a decision on a proposal needs: choices of this project.
-use Rattle.std.specs.Prelude.{ℕ, Bool, true, false, nat_le, ◌==◌, [], ◌∷◌, find, Option, Some, None}
+use Rattle.std.specs.Prelude.{ℕ, Bool, true, false, nat_le, ◌==◌, Option, Some, None}
 use Rattle.pid_ident.specs.declared.path.Path.{Path}
 use Rattle.pid_ident.specs.declared.path.Path.TheVariants.{Vendor, Device, Subsystem, Class, Subclass, ProgIf, Generic}
 use Rattle.pid_moderation.specs.declared.rank.Rank.{Rank}
@@ -10,10 +10,6 @@ rank_number Contributor = 0
 rank_number Moderator = 1
 rank_number Senior = 2
 rank_number Administrator = 3
-
--- the rank with this number
-abbrev pub rank_of_number : ℕ → Option Rank
-rank_of_number n = find (λ r. rank_number r == n) (Contributor ∷ Moderator ∷ Senior ∷ Administrator ∷ [])
 
 -- the rank that names an item of the path
 abbrev pub naming_rank : Path → Rank

@@ -3,40 +3,40 @@ use Rattle.std.specs.Prelude.{ℕ, List, codes}
 use Rattle.pid_moderation.specs.declared.refusal.Refusal.{Refusal}
 use Rattle.pid_moderation.specs.declared.refusal.Refusal.TheVariants.{BadPath, BadName, BadText, NoAccount, RankTooLow, NoSubmission, NotPending, NotAuthor, OwnDecision, ParentMissing, HasChildren, NothingToDo, FileFault, Full, Memory, Store, Failed}
 
-abbrev pub number_of : Refusal → ℕ
-number_of BadPath = 1
-number_of BadName = 2
-number_of BadText = 3
-number_of NoAccount = 4
-number_of RankTooLow = 5
-number_of NoSubmission = 7
-number_of NotPending = 8
-number_of NotAuthor = 9
-number_of OwnDecision = 10
-number_of ParentMissing = 11
-number_of HasChildren = 12
-number_of NothingToDo = 13
-number_of (FileFault fault) = 14
-number_of Full = 15
-number_of Memory = 16
-number_of Store = 17
-number_of Failed = 18
+abbrev pub refusal_number : Refusal → ℕ
+refusal_number BadPath = 1
+refusal_number BadName = 2
+refusal_number BadText = 3
+refusal_number NoAccount = 4
+refusal_number RankTooLow = 5
+refusal_number NoSubmission = 7
+refusal_number NotPending = 8
+refusal_number NotAuthor = 9
+refusal_number OwnDecision = 10
+refusal_number ParentMissing = 11
+refusal_number HasChildren = 12
+refusal_number NothingToDo = 13
+refusal_number (FileFault fault) = 14
+refusal_number Full = 15
+refusal_number Memory = 16
+refusal_number Store = 17
+refusal_number Failed = 18
 
-abbrev pub word_of : Refusal → List ℕ
-word_of BadPath = codes "BadPath"
-word_of BadName = codes "BadName"
-word_of BadText = codes "BadText"
-word_of NoAccount = codes "NoAccount"
-word_of RankTooLow = codes "RankTooLow"
-word_of NoSubmission = codes "NoSubmission"
-word_of NotPending = codes "NotPending"
-word_of NotAuthor = codes "NotAuthor"
-word_of OwnDecision = codes "OwnDecision"
-word_of ParentMissing = codes "ParentMissing"
-word_of HasChildren = codes "HasChildren"
-word_of NothingToDo = codes "NothingToDo"
-word_of (FileFault fault) = codes "FileFault"
-word_of Full = codes "Full"
-word_of Memory = codes "Memory"
-word_of Store = codes "Store"
-word_of Failed = codes "Failed"
+abbrev pub refusal_word : Refusal → List ℕ
+refusal_word BadPath = codes "BadPath"
+refusal_word BadName = codes "BadName"
+refusal_word BadText = codes "BadText"
+refusal_word NoAccount = codes "NoAccount"
+refusal_word RankTooLow = codes "RankTooLow"
+refusal_word NoSubmission = codes "NoSubmission"
+refusal_word NotPending = codes "NotPending"
+refusal_word NotAuthor = codes "NotAuthor"
+refusal_word OwnDecision = codes "OwnDecision"
+refusal_word ParentMissing = codes "ParentMissing"
+refusal_word HasChildren = codes "HasChildren"
+refusal_word NothingToDo = codes "NothingToDo"
+refusal_word (FileFault fault) = codes "FileFault"
+refusal_word Full = codes "Full"
+refusal_word Memory = codes "Memory"
+refusal_word Store = codes "Store"
+refusal_word Failed = codes "Failed"

@@ -7,7 +7,7 @@ use Rattle.pid_moderation.specs.declared.refusal.FileFault.{FileFault}
 use Rattle.pid_moderation.specs.declared.refusal.FileFault.TheVariants.{Line, TooMany}
 use Rattle.pid_moderation.specs.declared.refusal.Refusal.{Refusal}
 use Rattle.pid_moderation.specs.declared.refusal.Refusal.TheVariants as refusals
-use Rattle.pid_moderation.specs.Refusals.{number_of, word_of}
+use Rattle.pid_moderation.specs.Refusals.{refusal_number, refusal_word}
 
 abbrev pub accepted_line : Reply → List ℕ
 accepted_line Done = codes "ok\n"
@@ -24,7 +24,7 @@ details (refusals.FileFault fault) = codes " " ++ fault_words fault
 details refusal = []
 
 abbrev pub refused_line : Refusal → List ℕ
-refused_line refusal = codes "refused " ++ decimal (number_of refusal) ++ codes " " ++ word_of refusal ++ details refusal ++ codes "\n"
+refused_line refusal = codes "refused " ++ decimal (refusal_number refusal) ++ codes " " ++ refusal_word refusal ++ details refusal ++ codes "\n"
 
 abbrev pub reply_text : Result Reply Refusal → List ℕ
 reply_text (Ok reply) = accepted_line reply

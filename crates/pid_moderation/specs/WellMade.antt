@@ -6,7 +6,8 @@ use Rattle.pid_ident.specs.declared.path.Path.{Path}
 use Rattle.pid_moderation.specs.declared.command.Proposal.{Proposal}
 use Rattle.pid_moderation.specs.declared.command.Proposal.TheVariants.{Name, Removal}
 use Rattle.pid_moderation.specs.History.{Reading, Deed, Ranks, Submits, Comments, Withdraws, Approves, Rejects, Imports, Asked}
-use Rattle.pid_moderation.specs.Items.{Items, name_at, parent_text, holds_parent}
+use Rattle.pid_ident.specs.PathReading.{parent_text}
+use Rattle.pid_moderation.specs.Items.{Items, name_at, holds_parent}
 use Rattle.pid_moderation.specs.Views.{pairs_of}
 use Rattle.pid_moderation.specs.CheckTables.{most_items}
 

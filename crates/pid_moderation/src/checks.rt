@@ -1,5 +1,6 @@
 //! The tests that commands are checked by.
 ghost use Rattle.std.specs.Prelude.{◌≡◌, true, find, is_none};
+ghost use Rattle.pid_ident.specs.Bytes.{is_empty as no_bytes};
 ghost use Rattle.pid_moderation.specs.CheckTables.{first_failing as first_that_fails, is_pending as stands_pending, is_removal as removal, is_so as so_already, lacks_parent as parent_lacking, leaves_children as children_left, overflows as one_too_many, is_ill_formed as ill_formed, is_broken as broken_act, TellsLength};
 ghost use Rattle.pid_moderation.specs.Ranks.{has_rank as rank_reaches, is_rank as rank_equals};
 ghost use Rattle.pid_moderation.specs.History.{Reading, asked, deed_of};
@@ -12,8 +13,7 @@ use crate::command::{Act, Command, Proposal};
 use crate::facts::{Facts, State, Verdict};
 use crate::rank::Rank;
 use crate::refusal::Refusal;
-use crate::words::{is_empty_text, is_name_of};
-use pid_ident::Name;
+use pid_ident::{Name, Text};
 
 /// Items that a registry holds at most, and entries of a file.
 pub const ITEMS: u32 = 100_000;
@@ -71,7 +71,7 @@ pub fn is_rank(wanted: Rank, rank: Option<Rank>) -> bool
     ensures { result ≡ rank_equals wanted rank }
 {
     match rank {
-        Some(rank) => wanted.number() == rank.number(),
+        Some(rank) => wanted == rank,
         None => false,
     }
 }
@@ -100,7 +100,7 @@ fn is_named_so(name: &Name, present: &Option<Name>) -> bool
     ensures { result ≡ names_so name.now present.now }
 {
     match present {
-        Some(present) => is_name_of(name, present),
+        Some(present) => name == present,
         None => false,
     }
 }
@@ -139,6 +139,12 @@ pub fn overflows(proposal: &Proposal, present: &Option<Name>, items: u32) -> boo
         Proposal::Name(_) => present.is_none() && ITEMS <= items,
         Proposal::Removal => false,
     }
+}
+
+pub fn is_empty_text(text: &Text) -> bool
+    ensures { result ≡ no_bytes text.now }
+{
+    matches!(text.as_str().as_bytes(), [])
 }
 
 pub fn is_missing(file: Option<Verdict>) -> bool

@@ -51,13 +51,6 @@ impl File {
     {
         self.bytes.as_slice()
     }
-
-    pub fn into_bytes(self) -> Vec<u8>
-        ensures { result.items ≡ self }
-    {
-        let File { bytes } = self;
-        bytes
-    }
 }
 
 /// What a command asks for.

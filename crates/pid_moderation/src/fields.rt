@@ -9,14 +9,12 @@ ghost use Rattle.pid_ident.specs.Bytes.{is_empty as no_bytes};
 ghost use Rattle.pid_moderation.specs.Fields.{texts_of, times as times_in, is_once as once_in, value as value_in, text_at as text_in};
 ghost use Rattle.pid_moderation.specs.Forms.{rank_in, number_in, is_plain_number as plain_number, is_one_of as one_of_in, is_remark as remark_test, is_none_or};
 ghost use Rattle.pid_moderation.specs.CheckTables.{most_file_bytes as file_bytes};
-ghost use Rattle.pid_moderation.specs.PathReading.{path_of};
 
-use crate::checks::{FILE_BYTES, SUBMISSIONS};
+use crate::checks::{FILE_BYTES, SUBMISSIONS, is_empty_text};
 use crate::command::File;
 use crate::rank::Rank;
 use crate::refusal::Refusal;
-use crate::words::is_empty_text;
-use pid_ident::{Account, Key, Name, Path, Text, WordFault};
+use pid_ident::{Account, Key, Name, Text, WordFault};
 use std::alloc::Global;
 
 fn times_by_name(fields: &[(String, String)], name: &str) -> usize
@@ -75,13 +73,6 @@ pub fn is_one_of(fields: &[(String, String)], name: &str, other: &str) -> bool
     let names = times(fields, name);
     let others = times(fields, other);
     (names == 1 && others == 0) || (names == 0 && others == 1)
-}
-
-/// The path whose text it is.
-pub fn path_in(text: &str) -> Option<Path>
-    ensures { result ≡ path_of text.now }
-{
-    Path::parse(text)
 }
 
 /// The rank with the digit.

@@ -8,11 +8,12 @@ ghost use Rattle.pid_moderation.specs.Forms.{has_fields as fields_there, value_c
 
 use crate::command::{Act, Command, Proposal};
 use crate::fields::{
-    account_in, file_in, is_once, is_one_of, key_in, name_in, note_in, number_said, path_in,
-    rank_said, remark_in, text_at, times, value,
+    account_in, file_in, is_once, is_one_of, key_in, name_in, note_in, number_said, rank_said,
+    remark_in, text_at, times, value,
 };
 use crate::refusal::Refusal;
 use crate::verb::Verb;
+use pid_ident::Path;
 use std::alloc::Global;
 
 fn has_fields(verb: Verb, fields: &[(String, String)]) -> bool
@@ -89,7 +90,7 @@ fn submit_act(alloc: Global, fields: &[(String, String)]) -> Result<Act, Refusal
     ensures { Says (value_checks Verb.Submit (texts_of fields.now))
         (act_said Verb.Submit (texts_of fields.now)) result }
 {
-    let Some(path) = path_in(text_at(fields, "path")) else {
+    let Some(path) = Path::parse(text_at(fields, "path")) else {
         return Err(Refusal::BadPath);
     };
     let proposal = proposal(alloc, fields)?;

@@ -14,10 +14,9 @@ mod refusal;
 mod reply_lines;
 mod verb;
 mod wants;
-mod words;
 
 pub use change::{Change, Edit, Effect, Receipt, Write};
-pub use checks::{FILE_BYTES, ITEMS, REMARKS, SUBMISSIONS, breaks_form};
+pub use checks::{ITEMS, REMARKS, SUBMISSIONS, breaks_form};
 pub use command::{Act, Command, File, Proposal, Reply};
 pub use facts::{Facts, Named, State, Verdict};
 pub use form::command_of;
@@ -31,6 +30,3 @@ pub use refusal::{FileFault, Refusal};
 pub use reply_lines::reply_line;
 pub use verb::Verb;
 pub use wants::{Rows, needs};
-
-#[cfg(test)]
-mod tests;

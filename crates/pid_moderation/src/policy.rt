@@ -30,7 +30,6 @@ use crate::command::{Act, Command, Proposal, Reply};
 use crate::facts::{Facts, Named, State, Verdict};
 use crate::rank::{Rank, needed_rank};
 use crate::refusal::Refusal;
-use crate::words::is_account_of;
 use pid_ident::{Account, Name, Path, Text};
 use std::alloc::AllocError;
 
@@ -63,7 +62,7 @@ fn set_rank(
             !has_rank(Rank::Administrator, facts.rank),
             Refusal::RankTooLow,
         ),
-        (is_account_of(account, who), Refusal::OwnDecision),
+        (account == who, Refusal::OwnDecision),
         (is_rank(rank, facts.who), Refusal::NothingToDo),
     ])?;
     let who = who.copy()?;
@@ -139,7 +138,7 @@ fn withdraw(facts: &Facts, account: &Account, number: u32) -> Result<(Effect, Re
     };
     pass(&[
         (is_unknown(facts.rank), Refusal::NoAccount),
-        (!is_account_of(account, &named.author), Refusal::NotAuthor),
+        (*account != named.author, Refusal::NotAuthor),
         (!is_pending(&named.state), Refusal::NotPending),
     ])?;
     let effect = Effect::Decided {
@@ -160,7 +159,7 @@ fn may_decide(facts: &Facts, account: &Account, named: &Named) -> Result<(), Ref
         (is_unknown(facts.rank), Refusal::NoAccount),
         (!is_pending(&named.state), Refusal::NotPending),
         (!has_rank(needed, facts.rank), Refusal::RankTooLow),
-        (is_account_of(account, &named.author), Refusal::OwnDecision),
+        (*account == named.author, Refusal::OwnDecision),
     ])
 }
 

@@ -1,6 +1,6 @@
 //! Ranks of accounts.
 ghost use Rattle.std.specs.Prelude.{◌≡◌};
-ghost use Rattle.pid_moderation.specs.Ranks.{rank_of_number, needed_rank as rank_for, naming_rank as rank_for_naming};
+ghost use Rattle.pid_moderation.specs.Ranks.{needed_rank as rank_for, naming_rank as rank_for_naming};
 
 use pid_ident::Path;
 
@@ -29,19 +29,6 @@ impl Rank {
             Rank::Moderator => 1,
             Rank::Senior => 2,
             Rank::Administrator => 3,
-        }
-    }
-
-    /// The rank with the number.
-    pub fn of_number(number: u8) -> Option<Rank>
-        ensures { result ≡ rank_of_number number }
-    {
-        match number {
-            0 => Some(Rank::Contributor),
-            1 => Some(Rank::Moderator),
-            2 => Some(Rank::Senior),
-            3 => Some(Rank::Administrator),
-            _ => None,
         }
     }
 }

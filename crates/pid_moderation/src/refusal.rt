@@ -55,11 +55,11 @@ pub enum Refusal {
 }
 
 impl Refusal {
-    ghost use Rattle.pid_moderation.specs.Refusals.{number_of, word_of};
+    ghost use Rattle.pid_moderation.specs.Refusals.{refusal_number, refusal_word};
 
     /// The number in replies. No refusal has the number 6.
     pub fn number(self) -> u8
-        ensures { result ≡ number_of self }
+        ensures { result ≡ refusal_number self }
     {
         match self {
             Refusal::BadPath => 1,
@@ -84,7 +84,7 @@ impl Refusal {
 
     /// The word in replies.
     pub fn word(self) -> &'static str
-        ensures { result.now ≡ word_of self }
+        ensures { result.now ≡ refusal_word self }
     {
         match self {
             Refusal::BadPath => "BadPath",

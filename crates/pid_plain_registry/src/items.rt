@@ -4,13 +4,14 @@ ghost use Rattle.std.specs.FinMap.Entries.{put};
 ghost use Rattle.std.specs.List.{list_any};
 ghost use Rattle.std.specs.Map.{keys_of};
 ghost use Rattle.pid_ident.specs.PathTexts.{path_text};
+ghost use Rattle.pid_ident.specs.PathReading.{parent_text};
 ghost use Rattle.pid_ident.specs.Trees.{text_cmp};
-ghost use Rattle.pid_moderation.specs.Items.{name_at as name_in, written, imported, parent_text, is_parent, holds_parent as parent_in, has_children as children_in};
+ghost use Rattle.pid_moderation.specs.Items.{name_at as name_in, written, imported, is_parent, holds_parent as parent_in, has_children as children_in};
 ghost use Rattle.pid_moderation.specs.Views.{itemized, submits_of, items_of};
 ghost use Rattle.pid_plain_registry.specs.Shown.{entry_of, history_of, item_of, texts};
 
 use crate::past::{Accepted, FileReading, numbered};
-use pid_ident::{Name, Path};
+use pid_ident::{Name, Path, parents_have_texts};
 use pid_moderation::{Act, Proposal};
 use std::alloc::{AllocError, Global};
 use std::collections::BTreeMap;
@@ -97,6 +98,7 @@ pub fn items_after(alloc: Global, past: &[Accepted]) -> Result<BTreeMap<Path, Na
 fn is_child(item: Path, path: Path) -> bool
     ensures { result ≡ is_parent (path_text path) (parent_text (path_text item)) }
 {
+    parents_have_texts();
     match item.parent() {
         Some(parent) => path == parent,
         None => false,

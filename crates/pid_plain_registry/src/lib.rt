@@ -7,10 +7,6 @@ mod items;
 mod past;
 mod registry;
 mod verdict;
-mod words;
 
 pub use past::FileReading;
 pub use registry::PlainRegistry;
-
-#[cfg(test)]
-mod tests;

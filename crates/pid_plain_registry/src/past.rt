@@ -5,7 +5,6 @@ ghost use Rattle.pid_moderation.specs.Views.{ranked as ranked_by, rank_of, recei
 ghost use Rattle.pid_moderation.specs.FactsOfViews.{kept_in, named as named_in};
 ghost use Rattle.pid_plain_registry.specs.Shown.{entry_of, history_of, lent};
 
-use crate::words::{is_account_of, is_key_of};
 use pid_ident::{Account, Key, Name, Path, Text};
 use pid_moderation::{Act, Command, FileFault, Named, Proposal, Rank, Reply, State};
 use std::alloc::AllocError;
@@ -55,7 +54,7 @@ fn ranked(entry: &Accepted, account: &Account, before: Option<Rank>) -> Option<R
     ensures { result ≡ ranked_by account.now (entry_of entry.now).asked.deed before }
 {
     match &entry.command.act {
-        Act::Account { who, rank } if is_account_of(account, who) => Some(*rank),
+        Act::Account { who, rank } if account == who => Some(*rank),
         _ => before,
     }
 }
@@ -82,7 +81,7 @@ fn kept_after(
         result ≡ receipted account.now key.now e.asked.account e.asked.key e.reply before }
 {
     match &entry.command.key {
-        Some(used) if is_account_of(account, &entry.command.account) && is_key_of(key, used) => {
+        Some(used) if *account == entry.command.account && key == used => {
             Some(entry.reply)
         }
         _ => before,

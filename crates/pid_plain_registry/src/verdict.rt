@@ -8,7 +8,6 @@ ghost use Rattle.pid_plain_registry.specs.Shown.{item_of, texts, reading_of};
 
 use crate::items::{import, name_at};
 use crate::past::FileReading;
-use crate::words::is_name_of;
 use pid_ident::{Name, Path};
 use pid_moderation::Verdict;
 use std::alloc::AllocError;
@@ -35,7 +34,7 @@ fn is_same(items: &BTreeMap<Path, Name>, pair: &(Path, Name)) -> bool
     ensures { result ≡ names_so (item_of pair.now).1 (name_in (item_of pair.now).0 (texts items.now)) }
 {
     match name_at(items, pair.0) {
-        Some(name) => is_name_of(&pair.1, name),
+        Some(name) => pair.1 == *name,
         None => false,
     }
 }

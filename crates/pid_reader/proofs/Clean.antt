@@ -22,6 +22,7 @@ pub record IsClean (earlier : List (List ℕ)) (line : List ℕ) : Type 0 where
   pub parent : has NoParent earlier line ≡ false
   pub id : has BadId earlier line ≡ false
   pub name : has BadName earlier line ≡ false
+  pub once : has Duplicate earlier line ≡ false
   pub vendor : has VendorMissing earlier line ≡ false
 
 pub clean : (earlier : List (List ℕ)) (line : List ℕ) → fault_of earlier line ≡ None → IsClean earlier line
@@ -34,7 +35,7 @@ clean earlier line h =
     let f = cond_none (has BadName earlier line) BadName _ e.1 in
     let g = cond_none (has Duplicate earlier line) Duplicate _ f.1 in
     let i = cond_none (has VendorMissing earlier line) VendorMissing _ g.1 in
-    record { shallow = b.0; parent = c.0; id = d.0; name = f.0; vendor = i.0 }
+    record { shallow = b.0; parent = c.0; id = d.0; name = f.0; once = g.0; vendor = i.0 }
 
 -- what is told stays told
 abbrev pub IsToldBy : List (List ℕ) → List ℕ → Type 0

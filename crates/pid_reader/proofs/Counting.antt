@@ -4,15 +4,17 @@ use mathlib.Core.List.{reverse_aux}
 use mathlib.Core.Bool.{true≢false}
 use Rattle.std.specs.Prelude.{is_some, min}
 use Rattle.std.proofs.lemmas.Bool.Decides.{nat_tests}
+use Rattle.std.proofs.lemmas.List.{length-map}
 use Rattle.pid_reader.specs.declared.refusal.ReadRefusal.TheVariants.{TooManyEntries}
 use Rattle.pid_reader.specs.declared.counter.Counter.{Counter}
 use Rattle.pid_reader.specs.Lines.{lines_of}
 use Rattle.pid_reader.specs.LookingBack.{Item, is_entry, path_at, name_at, entries_back}
-use Rattle.pid_reader.specs.Reading.{history_of, ENTRIES, refused_at, refused_from, refused, entries_of}
+use Rattle.pid_reader.specs.Reading.{history_of, ENTRIES, refused_at, refused_from, refused}
 use Rattle.pid_reader.specs.Refusals.{refusal_at}
+use Rattle.pid_reader.specs.Numbered.{Numbered, item_in, numbered_back, numbered_of}
 use Rattle.pid_reader.specs.Sinks.{Took}
 use Rattle.pid_reader.specs.Counters.{Counts}
-use Rattle.pid_reader.proofs.Feeding.{good_cases, good_at, entries-good}
+use Rattle.pid_reader.proofs.Feeding.{good_cases, good_at, numbered-good, items_in_numbered}
 
 abbrev item : List ℕ → List ℕ → List Item
 item path name = (path, name) ∷ []
@@ -38,14 +40,16 @@ few_from earlier (line ∷ lines) h few =
     let p = good_cases (refusal_at earlier line) (refused_from (line ∷ earlier) lines) h in
     few_from (line ∷ earlier) lines p.1 (few_more earlier line p.0 few)
 
-took_count : (start new : Counter) (items : List Item) → start.count ≡ 0 → length items ≤ 100000 → Took Counts start items new → new.count ≡ length items
+took_count : (start new : Counter) (items : List Numbered) → start.count ≡ 0 → length items ≤ 100000 → Took Counts start items new → new.count ≡ length items
 took_count start new [] zero few t = ap (λ (s : Counter). s.count) t ∙ zero
 took_count start new (x ∷ xs) zero few t =
     let before : t.0.count ≡ length xs = took_count start t.0 xs zero (omega arith) t.1 in
     let step : new.count ≡ min (t.0.count + 1) (2 ^ 64 - 1) = t.2 in
     omega arith
 
-pub count_is : (text : List ℕ) (start new : Counter) → start.count ≡ 0 → (refused text ≡ None) × Took Counts start (entries_of (lines_of text)) new → new.count ≡ length (entries_back (history_of text))
+pub count_is : (text : List ℕ) (start new : Counter) → start.count ≡ 0 → (refused text ≡ None) × Took Counts start (numbered_of (lines_of text)) new → new.count ≡ length (entries_back (history_of text))
 count_is text start new zero h =
-    let same : entries_of (lines_of text) ≡ entries_back (history_of text) = entries-good (lines_of text) h.0 in
-    took_count start new (entries_back (history_of text)) zero (few_from [] (lines_of text) h.0 (omega arith)) (subst (λ es. Took Counts start es new) same h.1)
+    let same : numbered_of (lines_of text) ≡ numbered_back (history_of text) = numbered-good (lines_of text) h.0 in
+    let many : length (numbered_back (history_of text)) ≡ length (entries_back (history_of text)) = sym (length-map (numbered_back (history_of text)) item_in) ∙ ap length (items_in_numbered (history_of text)) in
+    let few = few_from [] (lines_of text) h.0 (omega arith) in
+    took_count start new (numbered_back (history_of text)) zero (omega (arith, many, few)) (subst (λ es. Took Counts start es new) same h.1) ∙ many

@@ -15,8 +15,8 @@ pub mod LineSays
 pub mod Cuts
 pub mod Feeding
 pub mod OneMoreLine
-pub mod NoMissing
+pub mod TreeEnds
 pub mod Counting
+pub mod EntriesTold
 pub mod LinesTold
-pub mod LookingBack
 mod Rising

@@ -1,5 +1,5 @@
 -- One more line, of which it is known what it says.
-use Rattle.std.proofs.Common.{◌≡◌, ℕ, ◌+◌, ◌<◌, ◌≤◌, Bool, true, false, cond, not, ◌&&◌, eqb, leb, List, [], ◌∷◌, ◌++◌, length, Option, Some, None, refl, sym, ap, subst, ◌∙◌, arith}
+use Rattle.std.proofs.Common.{◌≡◌, ℕ, ◌+◌, ◌<◌, ◌≤◌, Bool, true, false, cond, not, ◌&&◌, eqb, leb, List, [], ◌∷◌, ◌++◌, length, map, Option, Some, None, refl, sym, ap, subst, ◌∙◌, arith}
 use mathlib.Core.Bool.{false≢true, true≢false}
 use Rattle.std.specs.Prelude.{is_some, codes}
 use Rattle.std.proofs.lemmas.Bool.Decides.{nat_tests}
@@ -22,6 +22,7 @@ use Rattle.pid_reader.specs.Marks.{is_idle, depth, mark, is_generics, inside}
 use Rattle.pid_reader.specs.Columns.{digits_in}
 use Rattle.pid_reader.specs.LookingBack.{Item, is_block, is_entry, digits_at, path_at, name_at, entry_of, entries_back, is_told}
 use Rattle.pid_reader.specs.Faults.{has, fault_of, line_fault_of}
+use Rattle.pid_reader.specs.Numbered.{at_line, numbered_at}
 use Rattle.pid_reader.specs.Reading.{refused_at, ENTRIES}
 use Rattle.pid_reader.specs.OpenLevels.{IsOpenAt}
 use Rattle.pid_reader.specs.Refusals.{refusal_at}
@@ -85,7 +86,7 @@ an_entry earlier line path name h =
     ] refl h
 
 -- a line that is no entry, and has no fault
-pub quiet_taken : (now next : OpenLevels) (seen : List Path) (lines number : ℕ) (earlier : List (List ℕ)) (line : List ℕ) → IsShown now seen lines earlier → number ≡ lines + 1 → [] ≡ entry_of earlier line → fault_of earlier line ≡ None → IsOpenAt next (line ∷ earlier) → IsShown next seen number (line ∷ earlier) × (refusal_at earlier line ≡ None) × ([] ≡ entry_of earlier line)
+pub quiet_taken : (now next : OpenLevels) (seen : List Path) (lines number : ℕ) (earlier : List (List ℕ)) (line : List ℕ) → IsShown now seen lines earlier → number ≡ lines + 1 → [] ≡ entry_of earlier line → fault_of earlier line ≡ None → IsOpenAt next (line ∷ earlier) → IsShown next seen number (line ∷ earlier) × (refusal_at earlier line ≡ None) × ([] ≡ numbered_at earlier line)
 quiet_taken now next seen lines number earlier line shown at none good behind =
     let same : entries_back (line ∷ earlier) ≡ entries_back earlier = ap (λ (es : List Item). es ++ entries_back earlier) (sym none) in (
       record {
@@ -95,7 +96,7 @@ quiet_taken now next seen lines number earlier line shown at none good behind =
         number = omega (arith, shown.number, at);
       },
       ap (refused_at earlier line) good ∙ rw (no_entry earlier line none) refl,
-      none,
+      ap (map (at_line (length earlier + 1))) none,
     )
 
 -- the line of a block
@@ -181,10 +182,11 @@ one_more_value : (b : Bool) (n : List ℕ) (o : Option (List ℕ)) → cond b tr
 one_more_value true n o = refl
 one_more_value false n o = refl
 
-pub item_taken : (now next : OpenLevels) (seen more : List Path) (lines number : ℕ) (earlier : List (List ℕ)) (line name : List ℕ) (p : Path) → IsShown now seen lines earlier → number ≡ lines + 1 → line_fault_of earlier line ≡ None → (path_text p, name) ∷ [] ≡ entry_of earlier line → is_block line ≡ false → has_path seen p ≡ false → length seen < 100000 → IsOneMore seen p more → length more ≡ length seen + 1 → IsOpenAt next (line ∷ earlier) → IsShown next more number (line ∷ earlier) × (refusal_at earlier line ≡ None) × ((path_text p, name) ∷ [] ≡ entry_of earlier line)
+pub item_taken : (now next : OpenLevels) (seen more : List Path) (lines number : ℕ) (earlier : List (List ℕ)) (line name : List ℕ) (p : Path) → IsShown now seen lines earlier → number ≡ lines + 1 → line_fault_of earlier line ≡ None → (path_text p, name) ∷ [] ≡ entry_of earlier line → is_block line ≡ false → has_path seen p ≡ false → length seen < 100000 → IsOneMore seen p more → length more ≡ length seen + 1 → IsOpenAt next (line ∷ earlier) → IsShown next more number (line ∷ earlier) × (refusal_at earlier line ≡ None) × ((number, (path_text p, name)) ∷ [] ≡ numbered_at earlier line)
 item_taken now next seen more lines number earlier line name p shown at own entry block absent few one_more longer behind =
     let e = an_entry earlier line (path_text p) name entry in
     let room : leb ENTRIES (length (entries_back earlier)) ≡ false = subst (λ n. leb 100000 n ≡ false) shown.count (has_room (length seen) few) in
+    let count : number ≡ length earlier + 1 = omega (arith, shown.number, at) in
     let entries : entries_back (line ∷ earlier) ≡ (path_text p, name) ∷ entries_back earlier = ap (λ (es : List Item). es ++ entries_back earlier) (sym entry) in (
       record {
         paths = λ q.
@@ -196,7 +198,7 @@ item_taken now next seen more lines number earlier line name p shown at own entr
         number = omega (arith, shown.number, at);
       },
       ap (refused_at earlier line) (new_good now seen lines earlier line name p shown own entry block absent) ∙ (λ i. cond (e.is_one i && room i) (Some TooManyEntries) None),
-      entry,
+      ap (map (at_line number)) entry ∙ ap (λ n. map (at_line n) (entry_of earlier line)) count,
     )
 
 pub not_true : (b : Bool) → not b ≡ true → b ≡ false

@@ -90,7 +90,7 @@ all_on : (lines : List (List ℕ)) (line : List ℕ) (es : List (List ℕ × Lis
 all_on lines line [] h = tt
 all_on lines line (e ∷ es) h = ((kept_on lines line e.0 h.0.0, h.0.1), all_on lines line es h.1)
 
-name_test : (b : Bool) → not b ≡ false → b ≡ true
+pub name_test : (b : Bool) → not b ≡ false → b ≡ true
 name_test true h = refl
 name_test false h = absurd (true≢false h)
 

@@ -5,7 +5,7 @@ use Rattle.pid_reader.specs.declared.refusal.ReadRefusal.TheVariants.{Memory}
 use Rattle.pid_reader.specs.declared.cutter.Cutter.{Cutter}
 use Rattle.pid_reader.specs.declared.sink.CutEnd.{CutEnd}
 use Rattle.pid_reader.specs.declared.sink.CutEnd.TheVariants.{Refused, Fault}
-use Rattle.pid_reader.specs.LookingBack.{Item, entry_of}
+use Rattle.pid_reader.specs.Numbered.{Numbered, numbered_at}
 use Rattle.pid_reader.specs.Reading.{refusal_of}
 use Rattle.pid_reader.specs.WholeLines.{open_part, whole_lines}
 use Rattle.pid_reader.specs.Refusals.{refusal_at, IsRefusal}
@@ -28,8 +28,24 @@ abbrev pub left_by : {F : Type 0} → CutEnd F → ReadRefusal
 left_by (Refused r) = r
 left_by (Fault f) = Memory
 
--- what became of the sink at one more line
-abbrev pub LineEnds : {S F X : Type 0} → (S → Item → S → Type 0) → (S → Item → F → S → Type 0) → Result X (CutEnd F) → List (List ℕ) → List ℕ → S → S → Type 0
-LineEnds takes faults (Ok x) earlier line old new = (refusal_at earlier line ≡ None) × Took takes old (entry_of earlier line) new
-LineEnds takes faults (Err (Refused r)) earlier line old new = IsRefusal r (refusal_at earlier line) × (new ≡ old)
-LineEnds takes faults (Err (Fault f)) earlier line old new = (refusal_at earlier line ≡ None) × (item : Item) × (entry_of earlier line ≡ item ∷ []) × faults old item f new
+-- one more line, of private functions: it is not refused, and the sink took its entry, if it is one
+pub record TookLine {S : Type 0} (takes : S → Numbered → S → Type 0) (earlier : List (List ℕ)) (line : List ℕ) (old new : S) : Type 0 where
+  pub good : refusal_at earlier line ≡ None
+  pub took : Took takes old (numbered_at earlier line) new
+
+-- it is refused, or memory is wanting, and the sink is as before
+pub record RefusedLine {S : Type 0} (r : ReadRefusal) (earlier : List (List ℕ)) (line : List ℕ) (old new : S) : Type 0 where
+  pub refused : IsRefusal r (refusal_at earlier line)
+  pub kept : new ≡ old
+
+-- it is not refused, and the sink gave the fault at its entry
+pub record FaultedLine {S F : Type 0} (faults : S → Numbered → F → S → Type 0) (fault : F) (earlier : List (List ℕ)) (line : List ℕ) (old new : S) : Type 0 where
+  pub good : refusal_at earlier line ≡ None
+  pub entry : Numbered
+  pub is_its : numbered_at earlier line ≡ entry ∷ []
+  pub faulted : faults old entry fault new
+
+abbrev pub LineEnds : {S F X : Type 0} → (S → Numbered → S → Type 0) → (S → Numbered → F → S → Type 0) → Result X (CutEnd F) → List (List ℕ) → List ℕ → S → S → Type 0
+LineEnds takes faults (Ok x) earlier line old new = TookLine takes earlier line old new
+LineEnds takes faults (Err (Refused r)) earlier line old new = RefusedLine r earlier line old new
+LineEnds takes faults (Err (Fault f)) earlier line old new = FaultedLine faults f earlier line old new

@@ -8,7 +8,7 @@ use Rattle.pid_reader.specs.declared.tree_sink.TreeFault.{TreeFault}
 use Rattle.pid_reader.specs.declared.tree_sink.TreeFault.TheVariants.{ParentMissing, Memory}
 use Rattle.pid_reader.specs.declared.tree_sink.TreeSink.{TreeSink}
 use Rattle.pid_reader.specs.declared.feeder.Feeder.{Feeder}
-use Rattle.pid_reader.specs.Reading.{entries_of}
+use Rattle.pid_reader.specs.Numbered.{numbered_of}
 use Rattle.pid_reader.specs.WholeLines.{whole_lines}
 use Rattle.pid_reader.specs.Refusals.{IsRefusal}
 use Rattle.pid_reader.specs.Sinks.{Took}
@@ -20,13 +20,13 @@ pub record Feeds (f : Feeder) (text : List ℕ) : Type 0 where
   pub holds : Holds f.cutter text
   pub start : TreeSink
   pub empty_tree : tree_so_far start ≡ empty
-  pub took : Took SetsItem start (entries_of (whole_lines text)) f.sink
+  pub took : Took SetsItem start (numbered_of (whole_lines text)) f.sink
 
 -- the feeder gives this refusal ever after
 abbrev pub GaveUp : Feeder → ReadRefusal → Type 0
 GaveUp f r = IsStopped f.cutter r
 
--- the text's refusal, or want of memory: no parent is missing
+-- why a whole text gives no tree: its refusal, or want of memory. That a parent is missing never comes.
 abbrev pub IsTreeEnd : CutEnd TreeFault → Option ReadRefusal → Type 0
 IsTreeEnd (Refused r) refusal = IsRefusal r refusal
 IsTreeEnd (Fault ParentMissing) refusal = ⊥

@@ -5,6 +5,8 @@ pub mod Columns
 pub mod LookingBack
 pub mod Faults
 pub mod Reading
+pub mod Numbered
+pub mod Entries
 pub mod EntryLines
 pub mod OpenLevels
 pub mod WholeLines

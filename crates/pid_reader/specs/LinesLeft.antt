@@ -1,26 +1,21 @@
 -- What is told line by line, up to the first line that has a fault of its own.
 use Rattle.std.specs.Prelude.{◌≡◌, ℕ, ◌+◌, List, [], ◌∷◌, ◌++◌, length, map, Option, Some, None, Result, Ok, Err}
 use Rattle.pid_ident.specs.declared.line_kind.LineKind.{LineKind}
-use Rattle.pid_ident.specs.PathTexts.{path_text}
 use Rattle.pid_reader.specs.declared.refusal.LineFault.{LineFault}
 use Rattle.pid_reader.specs.declared.sink.Entry.{Entry}
 use Rattle.pid_reader.specs.declared.lines.Lines.{Lines}
 use Rattle.pid_reader.specs.Lines.{lines_of}
-use Rattle.pid_reader.specs.LookingBack.{Item, entry_of}
+use Rattle.pid_reader.specs.Numbered.{Numbered, as_told, numbered_at}
 use Rattle.pid_reader.specs.Faults.{line_fault_of}
 use Rattle.pid_reader.specs.OpenLevels.{IsOpenAt}
 
--- an entry with the number of its line
-abbrev pub Numbered : Type 0
-Numbered = ℕ × Item
-
-abbrev pub numbered : ℕ → Item → Result Numbered LineFault
-numbered n item = Ok (n, item)
+abbrev pub as_ok : Numbered → Result Numbered LineFault
+as_ok entry = Ok entry
 
 -- a line with this fault or none is told: by its fault, or by its entry
 abbrev pub told_at : List (List ℕ) → List ℕ → Option LineKind → List (Result Numbered LineFault) → List (Result Numbered LineFault)
 told_at earlier line (Some kind) behind = Err (record { line = length earlier + 1; kind = kind }) ∷ []
-told_at earlier line None behind = map (numbered (length earlier + 1)) (entry_of earlier line) ++ behind
+told_at earlier line None behind = map as_ok (numbered_at earlier line) ++ behind
 
 -- what is told from some line on, with the lines before it, the nearest first
 abbrev pub told_from : List (List ℕ) → List (List ℕ) → List (Result Numbered LineFault)
@@ -33,14 +28,27 @@ pub record Stands (l : Lines) (earlier : List (List ℕ)) : Type 0 where
   pub number : l.number ≡ length earlier
 
 -- this is what the reader of lines will tell
-abbrev pub HasLeft : Lines → List (Result Numbered LineFault) → Type 0
-HasLeft l items = (earlier : List (List ℕ)) × Stands l earlier × (items ≡ told_from earlier (lines_of l.rest.now))
+pub record HasLeft (l : Lines) (items : List (Result Numbered LineFault)) : Type 0 where
+  pub earlier : List (List ℕ)
+  pub stands : Stands l earlier
+  pub are : items ≡ told_from earlier (lines_of l.rest.now)
 
 abbrev pub told : Result Entry LineFault → Result Numbered LineFault
-told (Ok e) = Ok (e.line, (path_text e.path, e.name.now))
+told (Ok e) = Ok (as_told e)
 told (Err f) = Err f
+
+-- nothing is left of these, now or later
+pub record IsAtEnd (items : List (Result Numbered LineFault)) (new : Lines) : Type 0 where
+  pub none : items ≡ []
+  pub left : HasLeft new []
+
+-- the first of these was given, and the others are left
+pub record GivesFirst (items : List (Result Numbered LineFault)) (first : Result Numbered LineFault) (new : Lines) : Type 0 where
+  pub behind : List (Result Numbered LineFault)
+  pub are : items ≡ first ∷ behind
+  pub left : HasLeft new behind
 
 -- one call: the first of what is left is given, or nothing is left now or later
 abbrev pub Gives : Lines → Option (Result Entry LineFault) → Lines → Type 0
-Gives old None new = (items : List (Result Numbered LineFault)) → HasLeft old items → (items ≡ []) × HasLeft new []
-Gives old (Some x) new = (items : List (Result Numbered LineFault)) → HasLeft old items → (behind : List (Result Numbered LineFault)) × (items ≡ told x ∷ behind) × HasLeft new behind
+Gives old None new = (items : List (Result Numbered LineFault)) → HasLeft old items → IsAtEnd items new
+Gives old (Some x) new = (items : List (Result Numbered LineFault)) → HasLeft old items → GivesFirst items (told x) new

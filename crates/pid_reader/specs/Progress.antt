@@ -5,7 +5,8 @@ use Rattle.pid_ident.specs.PathTexts.{path_text}
 use Rattle.pid_reader.specs.declared.open_levels.OpenLevels.{OpenLevels}
 use Rattle.pid_reader.specs.declared.progress.Progress.{Progress}
 use Rattle.pid_reader.specs.declared.sink.Entry.{Entry}
-use Rattle.pid_reader.specs.LookingBack.{Item, entries_back, is_told}
+use Rattle.pid_reader.specs.LookingBack.{entries_back, is_told}
+use Rattle.pid_reader.specs.Numbered.{Numbered, as_told}
 use Rattle.pid_reader.specs.OpenLevels.{IsOpenAt}
 use Rattle.pid_reader.specs.SeenPaths.{IsRising, has_path, paths_of}
 
@@ -21,6 +22,6 @@ pub record Shows (p : Progress) (earlier : List (List ℕ)) : Type 0 where
   pub shown : IsShown p.levels (paths_of p.seen) p.lines earlier
 
 -- the entry that is given, if any
-abbrev pub given : Option Entry → List Item
+abbrev pub given : Option Entry → List Numbered
 given None = []
-given (Some e) = (path_text e.path, e.name.now) ∷ []
+given (Some e) = as_told e ∷ []

@@ -9,7 +9,7 @@ pub struct Counter {
 }
 
 /// A fault that never comes.
-#[derive(Clone, Copy)]
+#[derive(Clone, Copy, Debug)]
 pub enum Never {}
 
 impl Sink for Counter {
@@ -19,7 +19,7 @@ impl Sink for Counter {
 
     ghost takes = { Counts };
 
-    ghost faults = { λ s item f t. ⊥ };
+    ghost faults = { λ s entry f t. ⊥ };
 
     fn entry(&mut self, _entry: &Entry<'_>) -> Result<(), Never> {
         self.count = self.count.saturating_add(1);

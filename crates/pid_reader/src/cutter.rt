@@ -1,16 +1,14 @@
-//! The one machine: a text in pieces, line by line, into a sink.
+//! A text in pieces, line by line, into a sink.
 ghost use Rattle.std.specs.Prelude.{◌≡◌, ◌∷◌, ◌++◌, ℕ, [], List, Err, OnOk, IfErr, reverse};
 ghost use Rattle.pid_reader.specs.Lines.{drop_cr, lines_of};
 ghost use Rattle.pid_reader.specs.WholeLines.{ended_pieces, open_part, whole_lines};
-ghost use Rattle.pid_reader.specs.Reading.{entries_of};
+ghost use Rattle.pid_reader.specs.Numbered.{numbered_of};
 ghost use Rattle.pid_reader.specs.Sinks.{Took, Ends};
-ghost use Rattle.pid_reader.specs.OpenLevels.{IsOpenAt};
 ghost use Rattle.pid_reader.specs.Progress.{Shows};
 ghost use Rattle.pid_reader.specs.Cutters.{Holds, IsStopped, LineEnds, left_by};
 ghost use Rattle.pid_reader.specs.declared.sink.CutEnd.TheVariants.{Refused};
 
 use crate::mark::without_cr;
-use crate::open_levels::OpenLevels;
 use crate::pieces::split_line;
 use crate::progress::Progress;
 use crate::refusal::ReadRefusal;
@@ -55,13 +53,6 @@ impl Cutter {
         }
     }
 
-    /// Takes levels that the lines so far leave open.
-    pub(crate) fn set_levels(&mut self, levels: OpenLevels)
-        ensures { (text : List ℕ) → Holds self.old text → IsOpenAt levels (reverse (whole_lines text)) → Holds self.new text }
-    {
-        self.progress.levels = levels;
-    }
-
     // The open line ends with these bytes.
     fn end_line<S: Sink>(&mut self, front: &[u8], sink: &mut S) -> Result<(), CutEnd<S::Fault>>
         requires { ended_pieces front.now ≡ [] }
@@ -82,7 +73,7 @@ impl Cutter {
     // Takes the next piece, where nothing was refused.
     fn go_on<S: Sink>(&mut self, piece: &[u8], sink: &mut S) -> Result<(), CutEnd<S::Fault>>
         ensures holds { (text : List ℕ) → Holds self.old text → OnOk result (Holds self.new (text ++ piece.now)) }
-        ensures ends { (text : List ℕ) (start : S) → Holds self.old text → Took S.takes start (entries_of (whole_lines text)) sink.old →
+        ensures ends { (text : List ℕ) (start : S) → Holds self.old text → Took S.takes start (numbered_of (whole_lines text)) sink.old →
             Ends S.takes S.faults result start (whole_lines (text ++ piece.now)) sink.new }
     {
         let mut rest = piece;
@@ -101,7 +92,7 @@ impl Cutter {
         ensures stopped { (r : ReadRefusal) → IsStopped self.old r → (result ≡ Err (Refused r)) × (sink.new ≡ sink.old) × IsStopped self.new r }
         ensures stops { IfErr result (λ e. IsStopped self.new (left_by e)) }
         ensures holds { (text : List ℕ) → Holds self.old text → OnOk result (Holds self.new (text ++ piece.now)) }
-        ensures ends { (text : List ℕ) (start : S) → Holds self.old text → Took S.takes start (entries_of (whole_lines text)) sink.old →
+        ensures ends { (text : List ℕ) (start : S) → Holds self.old text → Took S.takes start (numbered_of (whole_lines text)) sink.old →
             Ends S.takes S.faults result start (whole_lines (text ++ piece.now)) sink.new }
     {
         if let Some(refusal) = self.stopped {
@@ -123,7 +114,7 @@ impl Cutter {
     /// The text has ended.
     pub fn finish<S: Sink>(self, sink: &mut S) -> Result<(), CutEnd<S::Fault>>
         ensures stopped { (r : ReadRefusal) → IsStopped self r → (result ≡ Err (Refused r)) × (sink.new ≡ sink.old) }
-        ensures ends { (text : List ℕ) (start : S) → Holds self text → Took S.takes start (entries_of (whole_lines text)) sink.old →
+        ensures ends { (text : List ℕ) (start : S) → Holds self text → Took S.takes start (numbered_of (whole_lines text)) sink.old →
             Ends S.takes S.faults result start (lines_of text) sink.new }
     {
         let Cutter {

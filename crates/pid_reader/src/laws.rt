@@ -1,9 +1,12 @@
 //! Laws of the definitions, over all texts and all trees.
-ghost use Rattle.std.specs.Prelude.{◌≡◌, ◌↔◌, ◌++◌, ◌≤◌, List, ℕ, None, Some, length};
+ghost use Rattle.std.specs.Prelude.{◌≡◌, ◌↔◌, ◌++◌, ◌≤◌, List, ℕ, None, Some, length, map};
 ghost use Rattle.pid_ident.specs.Trees.{TreeMap, IsTree};
 ghost use Rattle.pid_tree.specs.Printing.{print};
+ghost use Rattle.pid_reader.specs.Lines.{lines_of};
 ghost use Rattle.pid_reader.specs.LookingBack.{entries_back};
-ghost use Rattle.pid_reader.specs.Reading.{AreGood, Reads, history_of, refused, refusal_of};
+ghost use Rattle.pid_reader.specs.Reading.{AreGood, Reads, entries_of, history_of, refused, refusal_of};
+ghost use Rattle.pid_reader.specs.Numbered.{item_in, numbered_of};
+ghost use Rattle.pid_reader.specs.Entries.{AreEntries};
 ghost use Rattle.pid_reader.specs.WholeLines.{whole_lines};
 ghost use Rattle.pid_reader.specs.declared.refusal.ReadRefusal.{ReadRefusal};
 
@@ -25,4 +28,16 @@ pub fn refusals_stand()
 /// A text is refused nowhere exactly where no line has a fault and it has at most 100,000 entries.
 pub fn good_texts_are_read()
     ensures { (text : List ℕ) → (refused text ≡ None) ↔ (AreGood (history_of text) × (length (entries_back (history_of text)) ≤ 100000)) }
+{}
+
+/// The entries of a text that is refused nowhere: each is a name at a path that no earlier one has, whose parent an earlier one has, and there are
+/// at most 100,000.
+pub fn texts_tell_entries()
+    ensures entries { (text : List ℕ) → refused text ≡ None → AreEntries (entries_of (lines_of text)) }
+    ensures few { (text : List ℕ) → refused text ≡ None → length (entries_of (lines_of text)) ≤ 100000 }
+{}
+
+/// The entries of lines with the numbers of their lines are the entries of these lines.
+pub fn numbered_entries_are_entries()
+    ensures { (lines : List (List ℕ)) → map item_in (numbered_of lines) ≡ entries_of lines }
 {}

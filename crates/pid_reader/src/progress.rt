@@ -1,7 +1,7 @@
 //! What is kept of the lines that were read.
 ghost use Rattle.std.specs.Prelude.{◌≡◌, ◌+◌, ◌∷◌, ℕ, [], List, None, Some, OnOk, IfOk, IfErr, IfSome, IsTrue};
 ghost use Rattle.pid_ident.specs.Words.{is_name};
-ghost use Rattle.pid_reader.specs.LookingBack.{entry_of};
+ghost use Rattle.pid_reader.specs.Numbered.{numbered_at};
 ghost use Rattle.pid_reader.specs.OpenLevels.{Says, IsNamed, open_behind};
 ghost use Rattle.pid_reader.specs.Refusals.{refusal_at, IsRefusal};
 ghost use Rattle.pid_reader.specs.Progress.{Shows, given};
@@ -49,7 +49,7 @@ impl Progress {
     fn admit<'b>(&mut self, number: usize, said: Said<'b>) -> Result<Option<Entry<'b>>, ReadRefusal>
         requires { IsNamed said }
         ensures taken { (earlier : List (List ℕ)) (line : List ℕ) → Shows self.old earlier → number ≡ self.old.lines + 1 → Says self.old.levels earlier line said.entry →
-            IfOk result (λ o. Shows self.new (line ∷ earlier) × (refusal_at earlier line ≡ None) × (given o ≡ entry_of earlier line)) }
+            IfOk result (λ o. Shows self.new (line ∷ earlier) × (refusal_at earlier line ≡ None) × (given o ≡ numbered_at earlier line)) }
         ensures named { IfOk result (λ o. IfSome o (λ entry. IsTrue (is_name entry.name.now))) }
         ensures refused { (earlier : List (List ℕ)) (line : List ℕ) → Shows self.old earlier → number ≡ self.old.lines + 1 → Says self.old.levels earlier line said.entry →
             IfErr result (λ r. IsRefusal r (refusal_at earlier line)) }
@@ -92,7 +92,7 @@ impl Progress {
     /// Reads one more line.
     pub fn judge<'b>(&mut self, line: &'b [u8]) -> Result<Option<Entry<'b>>, ReadRefusal>
         ensures taken { (earlier : List (List ℕ)) → Shows self.old earlier →
-            IfOk result (λ o. Shows self.new (line.now ∷ earlier) × (refusal_at earlier line.now ≡ None) × (given o ≡ entry_of earlier line.now)) }
+            IfOk result (λ o. Shows self.new (line.now ∷ earlier) × (refusal_at earlier line.now ≡ None) × (given o ≡ numbered_at earlier line.now)) }
         ensures named { IfOk result (λ o. IfSome o (λ entry. IsTrue (is_name entry.name.now))) }
         ensures refused { (earlier : List (List ℕ)) → Shows self.old earlier → IfErr result (λ r. IsRefusal r (refusal_at earlier line.now)) }
     {

@@ -6,7 +6,7 @@ use thiserror::Error;
 #[derive(Clone, Copy, Debug, PartialEq, Eq, Error)]
 pub enum ReadRefusal {
     /// The first faulty line, counted from 1, and what is wrong with it.
-    #[error("a line has a fault")]
+    #[error("line {line}: {} {}", .kind.number(), .kind.word())]
     Line { line: usize, kind: LineKind },
     /// The text has more than 100,000 entries.
     #[error("too many entries")]
@@ -17,7 +17,7 @@ pub enum ReadRefusal {
 
 /// The first line that has a fault of its own.
 #[derive(Clone, Copy, Debug, PartialEq, Eq, Error)]
-#[error("a line has a fault")]
+#[error("line {line}: {} {}", .kind.number(), .kind.word())]
 pub struct LineFault {
     /// Its number, counted from 1.
     pub line: usize,

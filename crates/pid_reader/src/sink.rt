@@ -1,10 +1,11 @@
 //! What takes the entries of a text.
 ghost use Rattle.std.specs.Prelude.{◌≡◌, IsTrue, OnOk, IfErr};
-ghost use Rattle.pid_ident.specs.PathTexts.{path_text};
 ghost use Rattle.pid_ident.specs.Words.{is_name};
+ghost use Rattle.pid_reader.specs.Numbered.{as_told};
 
 use crate::refusal::ReadRefusal;
 use pid_ident::Path;
+use thiserror::Error;
 
 /// An entry of a text: the number of its line, counted from 1, its path and its name.
 #[derive(Clone, Copy, Debug)]
@@ -16,26 +17,28 @@ pub struct Entry<'a> {
 
 /// What takes entries one by one, and may fault.
 pub trait Sink {
-    ghost use Rattle.std.specs.Prelude.{List, ℕ};
+    ghost use Rattle.pid_reader.specs.Numbered.{Numbered};
 
     type Fault;
 
-    /// The sink before, an entry (the text of its path, its name), and the sink after.
-    ghost takes: { Self → List ℕ × List ℕ → Self → Type 0 };
+    /// The sink before, an entry (the number of its line, and with it the text of its path and its name), and the sink after.
+    ghost takes: { Self → Numbered → Self → Type 0 };
 
     /// The sink before, an entry, the fault, and the sink after.
-    ghost faults: { Self → List ℕ × List ℕ → Self.Fault → Self → Type 0 };
+    ghost faults: { Self → Numbered → Self.Fault → Self → Type 0 };
 
     /// Takes an entry.
     fn entry(&mut self, entry: &Entry<'_>) -> Result<(), Self::Fault>
         requires { IsTrue (is_name entry.now.name.now) }
-        ensures taken { OnOk result (takes self.old (path_text entry.now.path, entry.now.name.now) self.new) }
-        ensures fault { IfErr result (λ f. faults self.old (path_text entry.now.path, entry.now.name.now) f self.new) };
+        ensures taken { OnOk result (takes self.old (as_told entry.now) self.new) }
+        ensures fault { IfErr result (λ f. faults self.old (as_told entry.now) f self.new) };
 }
 
 /// Why no more of a text is read: the text is refused, or the sink faulted.
-#[derive(Drop)]
+#[derive(Debug, Drop, Error)]
 pub enum CutEnd<F> {
+    #[error("{0}")]
     Refused(ReadRefusal),
+    #[error("the sink faulted")]
     Fault(F),
 }

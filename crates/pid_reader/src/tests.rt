@@ -5,7 +5,6 @@ use crate::cutter::Cutter;
 use crate::entry_counter::EntryCounter;
 use crate::feeder::{Feeder, read_ids};
 use crate::lines::Lines;
-use crate::looking_back::read_by_looking_back;
 use crate::refusal::ReadRefusal;
 use crate::sink::CutEnd;
 use pid_ident::{LineKind, Path};
@@ -83,10 +82,6 @@ fn by_read_ids(alloc: Global, text: &[u8]) -> Answer {
     Ok(read_ids(alloc, text)?.len())
 }
 
-fn by_looking_back(alloc: Global, text: &[u8]) -> Answer {
-    Ok(read_by_looking_back(alloc, text)?.len())
-}
-
 // The answer of a feeder that is fed pieces of this many bytes.
 fn by_pieces(alloc: Global, text: &[u8], size: usize) -> Answer {
     let mut feeder = Feeder::new(alloc);
@@ -119,7 +114,6 @@ fn rows_whole_and_cut(rt: HostRuntime) {
     for (text, want) in rows() {
         assert_eq!(rt; by_read_ids(rt.alloc(), text), want, "{text:?}");
         assert_eq!(rt; by_pieces(rt.alloc(), text, 1), want, "{text:?}");
-        assert_eq!(rt; by_looking_back(rt.alloc(), text), want, "{text:?}");
         for at in 0..text.len() {
             assert_eq!(rt; by_cutting(rt.alloc(), text, at), want, "{text:?} at {at}");
             let counted = want.map(|n| n as u64);
@@ -139,7 +133,6 @@ fn prefixes_have_one_answer(rt: HostRuntime) {
         let whole = by_read_ids(rt.alloc(), text);
         assert_eq!(rt; by_pieces(rt.alloc(), text, 1), whole, "{end}");
         assert_eq!(rt; by_pieces(rt.alloc(), text, 7), whole, "{end}");
-        assert_eq!(rt; by_looking_back(rt.alloc(), text), whole, "{end}");
     }
 }
 
@@ -149,7 +142,6 @@ fn want_of_memory_changes_no_answer(rt: HostRuntime) {
     for answer in [
         by_read_ids(rt.alloc(), GENERICS),
         by_pieces(rt.alloc(), GENERICS, 3),
-        by_looking_back(rt.alloc(), GENERICS),
     ] {
         assert!(rt;
             matches!(answer, Ok(6) | Err(ReadRefusal::Memory)),

@@ -7,9 +7,9 @@ ghost use Rattle.pid_reader.specs.TreeSinks.{tree_so_far};
 use crate::sink::{Entry, Sink};
 use pid_ident::{Name, Path};
 use pid_tree::{Tree, TreeRefusal};
-use std::alloc::Global;
+use std::alloc::{AllocError, Global};
 
-/// Why a tree takes no entry.
+/// Why entries give no tree.
 #[derive(Clone, Copy, Debug, PartialEq, Eq)]
 pub enum TreeFault {
     ParentMissing,
@@ -46,20 +46,20 @@ impl TreeSink {
 }
 
 impl Sink for TreeSink {
-    ghost use Rattle.pid_reader.specs.TreeSinks.{SetsItem, IsTreeFault};
+    ghost use Rattle.pid_reader.specs.TreeSinks.{SetsItem};
 
-    type Fault = TreeFault;
+    type Fault = AllocError;
 
     ghost takes = { SetsItem };
 
-    ghost faults = { λ s item f t. IsTreeFault (tree_so_far s) item.0 f };
+    ghost faults = { λ s entry f t. Unit {0} };
 
-    fn entry(&mut self, entry: &Entry<'_>) -> Result<(), TreeFault> {
+    fn entry(&mut self, entry: &Entry<'_>) -> Result<(), AllocError> {
         let Ok(name) = Name::of(self.alloc, entry.name) else {
-            return Err(TreeFault::Memory);
+            return Err(AllocError);
         };
         if self.items.push((entry.path, name)).is_err() {
-            return Err(TreeFault::Memory);
+            return Err(AllocError);
         }
         Ok(())
     }

@@ -14,13 +14,17 @@ use Rattle.pid_ident.specs.Trees.{text_cmp}
 use Rattle.pid_ident.specs.PathTexts.{IsTextOf}
 use Rattle.pid_moderation.specs.Items.{Items, name_at, holds_parent, is_parent, has_children}
 use Rattle.pid_moderation.specs.WellMade.{AllItems, HoldsParents}
-use Rattle.pid_rows.specs.Ranges.{is_between, holds_between, generics_of}
+use Rattle.pid_rows.specs.Ranges.{is_between, holds_between}
 use Rattle.pid_rows.proofs.RangeLemmas.{any_there, any_found, found_in, found_at}
 use Rattle.pid_ident.specs.declared.path.Path.{Path}
 use Rattle.pid_ident.specs.declared.path.Path.TheVariants.{Vendor, Device, Subsystem, Class, Subclass, ProgIf, Generic}
 use Rattle.pid_ident.specs.Identifiers.{hex4, hex2}
 use Rattle.pid_ident.specs.PathTexts.{path_text}
 use Rattle.pid_moderation.specs.Items.{parent_text}
+
+-- the text behind which the generic subsystems of a vendor stand: PS/8086 for PC/8086
+abbrev pub generics_of : List ℕ → List ℕ
+generics_of text = codes "PS" ++ drop 2 text
 
 -- the parent's text by the length of the text
 abbrev twelve_front : List ℕ → Option (List ℕ)

@@ -56,6 +56,7 @@ rests_on old new law survives settled keeps = record {
   where
     was_open : IsTrue new.is_open → IsTrue old.is_open
     was_open opened = (keeps (law opened) opened).0
+
     same : (d : Database) → RestsOn old d → RestsOn new d
     same d rest = record {
       sees = λ opened. let k = keeps (law opened) opened in elim k.1 [ inl now ↦ now ∙ rest.sees k.0 | inr back ↦ back ∙ rest.committed k.0 ];
@@ -80,10 +81,10 @@ pub reads_begun : {S X E : Type 0} (g : Ghosts S) (old mid end : Held S) (r : Re
 reads_begun g old mid end r first last goes ended undone survives = rests_on (state g old) (state g end) last
     (survives_begin g old (state g end) (λ _. ⊥) (survives_then begun (state g mid) (state g end) (λ _. ⊥) (λ _. ⊥) (λ _. ⊥) (λ clean db none. none) (λ clean db none. none) goes.survives survives)) ended
     (λ clean opened.
-        let back = undone clean in
-        let open_mid = back.was_open opened in
-        let same = goes.committed (first open_mid) refl open_mid in
-        (goes.was_open (first open_mid) open_mid, inr ((back.undone opened).0 ∙ same), (back.undone opened).1 ∙ same))
+    let back = undone clean in
+    let open_mid = back.was_open opened in
+    let same = goes.committed (first open_mid) refl open_mid in
+    (goes.was_open (first open_mid) open_mid, inr ((back.undone opened).0 ∙ same), (back.undone opened).1 ∙ same))
   where
     begun : State
     begun = state g (record old { in_transaction = true })

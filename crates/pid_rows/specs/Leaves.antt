@@ -1,4 +1,19 @@
 -- What a connection is left as by a call, and what a crash may then leave. All of it holds while the disk returns what was written.
+--
+-- The states, where the tables showed v at the start, and w once the change is made:
+--
+--     at rest          begun               written             committed
+--     AtRest v ──────▶ Within c v v ─────▶ Written c v w ────▶ AtRest w
+--        ▲     begin       │       writes      │       commit
+--        │                 │ a call fails      │ the commit fails
+--        │ roll_back       ▼                   ▼
+--        └─────────────  Holds v           LeavesEither v w
+--                        failed
+--
+-- A crash at rest leaves v (at the end w), so does one in a transaction (each of the three is a `Holds v`), and one after a failed
+-- commit the one or the other. `Written` says more than `Within`: the connection is open. A read goes from at rest to at rest
+-- (`OnlyReads`), a call in a transaction stays in it (`GoesOn`) and leads on to the next views (`LeadsTo`). A connection that a
+-- fault has shut shows nothing, but what a crash leaves is as good as it was.
 use Rattle.std.specs.Prelude.{◌≡◌, ◌⊎◌, false, Result, OnOk, MatchResult, IsTrue}
 use Rattle.sqlite.specs.Tree.{Trees}
 use Rattle.sqlite.specs.State.{State, HasCleanDisk, Survives}

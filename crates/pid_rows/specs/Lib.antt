@@ -8,6 +8,7 @@ pub mod Causes
 pub mod Queries
 pub mod Unread
 pub mod Leaves
+pub mod Clauses
 pub mod Standings
 pub mod ItemPairs
 pub mod PendingOnes

@@ -1,5 +1,5 @@
 -- Items by ranges of their paths.
-use Rattle.std.specs.Prelude.{ℕ, Bool, ◌&&◌, ◌++◌, List, drop, codes}
+use Rattle.std.specs.Prelude.{ℕ, Bool, ◌&&◌, List}
 use Rattle.std.specs.List.{list_any}
 use Rattle.std.specs.Ordering.{is_lt}
 use Rattle.pid_ident.specs.Trees.{text_cmp}
@@ -12,7 +12,3 @@ is_between low high path = is_lt (text_cmp low path) && is_lt (text_cmp path hig
 -- some item's path is
 abbrev pub holds_between : List ℕ → List ℕ → Items → Bool
 holds_between low high items = list_any (λ e. is_between low high e.0) items
-
--- the text behind which the generic subsystems of a vendor stand: PS/8086 for PC/8086
-abbrev pub generics_of : List ℕ → List ℕ
-generics_of text = codes "PS" ++ drop 2 text

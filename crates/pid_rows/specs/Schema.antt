@@ -61,8 +61,8 @@ abbrev pub submission : Table
 submission = record {
   name = codes "submission";
   tree = 6;
-  columns = number (codes "num") ∷ words (codes "author") ∷ words (codes "path") ∷ number (codes "form") ∷ words (codes "name") ∷ words (codes "note") ∷ number (codes "state") ∷ words (codes "decider")
-      ∷ words (codes "reason") ∷ [];
+  columns = number (codes "num") ∷ words (codes "author") ∷ words (codes "path") ∷ number (codes "form") ∷ words (codes "name") ∷ words (codes "note") ∷ number (codes "state")
+      ∷ words (codes "decider") ∷ words (codes "reason") ∷ [];
   key = Some 0;
   primary = 0 ∷ [];
   uniques = [];

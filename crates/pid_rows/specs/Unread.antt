@@ -45,12 +45,14 @@ IsProposal form name = (proposal : Proposal) × ProposesName proposal × (form �
 
 -- a state of a submission of this author, by its number, its decider and its reason
 abbrev pub IsState : List ℕ → Value → Value → Value → Type 0
-IsState author told decider reason = (state : State) × IsReadableState state × (told ≡ number (state_number state)) × (decider ≡ Text (decider_of author state)) × (reason ≡ Text (reason_of state))
+IsState author told decider reason = (state : State) × IsReadableState state
+    × (told ≡ number (state_number state)) × (decider ≡ Text (decider_of author state)) × (reason ≡ Text (reason_of state))
 
 -- the row of a reply
 abbrev pub IsReplyRow : Row → Type 0
 IsReplyRow row =
-    (reply : Reply) × IsReadableReply reply × (column row 0 ≡ number (kind_of reply)) × (column row 1 ≡ number (first_of reply)) × (column row 2 ≡ number (second_of reply)) × (column row 3 ≡ number (third_of reply))
+    (reply : Reply) × IsReadableReply reply × (column row 0 ≡ number (kind_of reply)) × (column row 1 ≡ number (first_of reply))
+    × (column row 2 ≡ number (second_of reply)) × (column row 3 ≡ number (third_of reply))
 
 -- the row of a submission as it stands, and what follows
 abbrev pub IsStandingRow : Row → Type 0

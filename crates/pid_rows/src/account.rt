@@ -1,9 +1,8 @@
 //! The table of accounts and their ranks.
 ghost use Rattle.std.specs.Prelude.{◌≡◌, false, None, IsSome, option_map, slice_get};
-ghost use Rattle.sqlite.specs.Held.{state};
-ghost use Rattle.pid_rows.specs.Leaves.{GoesOn, LeadsTo, OnlyReads, Tells};
 ghost use Rattle.pid_rows.specs.Answers.{rank_row};
 ghost use Rattle.pid_rows.specs.Writes.{with_rank};
+ghost use Rattle.pid_rows.specs.Clauses.{ChangesTo, GoesOn, Reads};
 
 use crate::fault::TableFault;
 use crate::run::{read_rows, write_one};
@@ -20,8 +19,8 @@ pub fn add_account<S: Alter>(
     rank: Rank,
 ) -> Result<(), TableFault>
     ensures same_reference { tx.new.conn.ghost_name ≡ tx.old.conn.ghost_name }
-    ensures goes { GoesOn (state S.Store tx.old.conn.now) (state S.Store tx.new.conn.now) result }
-    ensures shows { LeadsTo (state S.Store tx.old.conn.now) (state S.Store tx.new.conn.now) result (λ c v. v.rank name.now ≡ None) (λ c. c) (with_rank name.now rank) }
+    ensures goes { GoesOn S.Store tx.old.conn.now tx.new.conn.now result }
+    ensures shows { ChangesTo S.Store tx.old.conn.now tx.new.conn.now result (λ v. v.rank name.now ≡ None) (with_rank name.now rank) }
 {
     let name = name.to_sql();
     let rank = u32::from(rank.number()).to_sql();
@@ -39,8 +38,8 @@ pub fn change_rank<S: Alter>(
     rank: Rank,
 ) -> Result<(), TableFault>
     ensures same_reference { tx.new.conn.ghost_name ≡ tx.old.conn.ghost_name }
-    ensures goes { GoesOn (state S.Store tx.old.conn.now) (state S.Store tx.new.conn.now) result }
-    ensures shows { LeadsTo (state S.Store tx.old.conn.now) (state S.Store tx.new.conn.now) result (λ c v. IsSome (v.rank name.now)) (λ c. c) (with_rank name.now rank) }
+    ensures goes { GoesOn S.Store tx.old.conn.now tx.new.conn.now result }
+    ensures shows { ChangesTo S.Store tx.old.conn.now tx.new.conn.now result (λ v. IsSome (v.rank name.now)) (with_rank name.now rank) }
 {
     let name = name.to_sql();
     let rank = u32::from(rank.number()).to_sql();
@@ -52,9 +51,8 @@ pub fn change_rank<S: Alter>(
 }
 
 fn rank_rows<S: Alter>(conn: &mut Connection<S>, name: &str) -> Result<Vec<Row>, TableFault>
-    requires { (state S.Store conn.old).in_transaction ≡ false }
-    ensures rests { OnlyReads (state S.Store conn.old) (state S.Store conn.new) }
-    ensures found { Tells (state S.Store conn.old) (state S.Store conn.new) result (λ v rows. slice_get rows.items 0 ≡ option_map rank_row (v.rank name.now)) }
+    requires { conn.old.in_transaction ≡ false }
+    ensures { Reads S.Store conn.old conn.new result (λ v rows. slice_get rows.items 0 ≡ option_map rank_row (v.rank name.now)) }
 {
     let name = name.to_sql();
     read_rows(conn, "SELECT rank FROM account WHERE name = ?1", &[name])
@@ -62,9 +60,8 @@ fn rank_rows<S: Alter>(conn: &mut Connection<S>, name: &str) -> Result<Vec<Row>,
 
 /// The rank of an account, and none where there is no such account. A number that is no rank's is `Damaged`.
 pub fn rank<S: Alter>(conn: &mut Connection<S>, name: &str) -> Result<Option<Rank>, TableFault>
-    requires { (state S.Store conn.old).in_transaction ≡ false }
-    ensures rests { OnlyReads (state S.Store conn.old) (state S.Store conn.new) }
-    ensures found { Tells (state S.Store conn.old) (state S.Store conn.new) result (λ v rank. rank ≡ v.rank name.now) }
+    requires { conn.old.in_transaction ≡ false }
+    ensures { Reads S.Store conn.old conn.new result (λ v rank. rank ≡ v.rank name.now) }
 {
     let rows = rank_rows(conn, name)?;
     match rows.first() {

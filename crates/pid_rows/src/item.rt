@@ -1,8 +1,6 @@
 //! The table of items: paths and their names.
 ghost use Rattle.std.specs.Prelude.{◌≡◌, ◌⊎◌, ◌||◌, ◌++◌, [], ◌∷◌, true, false, None, IfOk, IfErr, IsSome, option_map, slice_get, codes};
-ghost use Rattle.sqlite.specs.Held.{state};
 ghost use Rattle.pid_moderation.specs.Items.{name_at as item_at, has_children as are_children};
-ghost use Rattle.pid_rows.specs.Leaves.{GoesOn, LeadsTo, OnlyReads, Tells};
 ghost use Rattle.sqlite.specs.Order.{column};
 ghost use Rattle.sqlite.specs.declared.types.Value.TheVariants.{Text as TextValue};
 ghost use Rattle.pid_rows.specs.Answers.{name_row};
@@ -13,6 +11,7 @@ ghost use Rattle.pid_moderation.specs.WellMade.{AllItems, HoldsParents};
 ghost use Rattle.pid_rows.specs.Shows.{AreViews};
 ghost use Rattle.pid_rows.specs.Unread.{IsUnread, IsItemRow};
 ghost use Rattle.pid_rows.specs.Writes.{with_name, without_item};
+ghost use Rattle.pid_rows.specs.Clauses.{ChangesTo, GoesOn, Reads};
 
 use crate::fault::TableFault;
 use crate::run::{read_rows, write_one};
@@ -30,8 +29,8 @@ pub fn add_item<S: Alter>(
     name: &str,
 ) -> Result<(), TableFault>
     ensures same_reference { tx.new.conn.ghost_name ≡ tx.old.conn.ghost_name }
-    ensures goes { GoesOn (state S.Store tx.old.conn.now) (state S.Store tx.new.conn.now) result }
-    ensures shows { LeadsTo (state S.Store tx.old.conn.now) (state S.Store tx.new.conn.now) result (λ c v. item_at path.now v.items ≡ None) (λ c. c) (with_name path.now name.now) }
+    ensures goes { GoesOn S.Store tx.old.conn.now tx.new.conn.now result }
+    ensures shows { ChangesTo S.Store tx.old.conn.now tx.new.conn.now result (λ v. item_at path.now v.items ≡ None) (with_name path.now name.now) }
 {
     let path = path.to_sql();
     let name = name.to_sql();
@@ -49,8 +48,8 @@ pub fn rename_item<S: Alter>(
     name: &str,
 ) -> Result<(), TableFault>
     ensures same_reference { tx.new.conn.ghost_name ≡ tx.old.conn.ghost_name }
-    ensures goes { GoesOn (state S.Store tx.old.conn.now) (state S.Store tx.new.conn.now) result }
-    ensures shows { LeadsTo (state S.Store tx.old.conn.now) (state S.Store tx.new.conn.now) result (λ c v. IsSome (item_at path.now v.items)) (λ c. c) (with_name path.now name.now) }
+    ensures goes { GoesOn S.Store tx.old.conn.now tx.new.conn.now result }
+    ensures shows { ChangesTo S.Store tx.old.conn.now tx.new.conn.now result (λ v. IsSome (item_at path.now v.items)) (with_name path.now name.now) }
 {
     let path = path.to_sql();
     let name = name.to_sql();
@@ -64,17 +63,16 @@ pub fn rename_item<S: Alter>(
 /// Takes the item of a path away, if there is one. Items below it stay.
 pub fn remove_item<S: Alter>(tx: &mut Transaction<'_, S>, path: &str) -> Result<(), TableFault>
     ensures same_reference { tx.new.conn.ghost_name ≡ tx.old.conn.ghost_name }
-    ensures goes { GoesOn (state S.Store tx.old.conn.now) (state S.Store tx.new.conn.now) result }
-    ensures shows { LeadsTo (state S.Store tx.old.conn.now) (state S.Store tx.new.conn.now) result (λ c v. Unit {0}) (λ c. c) (without_item path.now) }
+    ensures goes { GoesOn S.Store tx.old.conn.now tx.new.conn.now result }
+    ensures shows { ChangesTo S.Store tx.old.conn.now tx.new.conn.now result (λ v. Unit {0}) (without_item path.now) }
 {
     let path = path.to_sql();
     write_one(tx, "DELETE FROM item WHERE path = ?1", &[path])
 }
 
 fn name_rows<S: Alter>(conn: &mut Connection<S>, path: &str) -> Result<Vec<Row>, TableFault>
-    requires { (state S.Store conn.old).in_transaction ≡ false }
-    ensures rests { OnlyReads (state S.Store conn.old) (state S.Store conn.new) }
-    ensures found { Tells (state S.Store conn.old) (state S.Store conn.new) result (λ v rows. slice_get rows.items 0 ≡ option_map name_row (item_at path.now v.items)) }
+    requires { conn.old.in_transaction ≡ false }
+    ensures { Reads S.Store conn.old conn.new result (λ v rows. slice_get rows.items 0 ≡ option_map name_row (item_at path.now v.items)) }
 {
     let path = path.to_sql();
     read_rows(conn, "SELECT name FROM item WHERE path = ?1", &[path])
@@ -87,9 +85,8 @@ pub fn item_name<S: Alter>(
     alloc: Global,
     path: &str,
 ) -> Result<Option<Name>, TableFault>
-    requires { (state S.Store conn.old).in_transaction ≡ false }
-    ensures rests { OnlyReads (state S.Store conn.old) (state S.Store conn.new) }
-    ensures found { Tells (state S.Store conn.old) (state S.Store conn.new) result (λ v name. name ≡ item_at path.now v.items) }
+    requires { conn.old.in_transaction ≡ false }
+    ensures { Reads S.Store conn.old conn.new result (λ v name. name ≡ item_at path.now v.items) }
 {
     let rows = name_rows(conn, path)?;
     match rows.first() {
@@ -103,9 +100,8 @@ fn range_rows<S: Alter>(
     low: &[u8],
     high: &[u8],
 ) -> Result<Vec<Row>, TableFault>
-    requires { (state S.Store conn.old).in_transaction ≡ false }
-    ensures rests { OnlyReads (state S.Store conn.old) (state S.Store conn.new) }
-    ensures found { Tells (state S.Store conn.old) (state S.Store conn.new) result (λ v rows. AreViews v × (
+    requires { conn.old.in_transaction ≡ false }
+    ensures { Reads S.Store conn.old conn.new result (λ v rows. AreViews v × (
         ((rows.items ≡ []) × (holds_between low.now high.now v.items ≡ false)) ⊎ ((row : _) × (rows.items ≡ row ∷ []) × (holds_between low.now high.now v.items ≡ true)))) }
 {
     let low = ValueRef::Text(low);
@@ -122,9 +118,8 @@ fn any_between<S: Alter>(
     low: &[u8],
     high: &[u8],
 ) -> Result<bool, TableFault>
-    requires { (state S.Store conn.old).in_transaction ≡ false }
-    ensures rests { OnlyReads (state S.Store conn.old) (state S.Store conn.new) }
-    ensures found { Tells (state S.Store conn.old) (state S.Store conn.new) result (λ v some. AreViews v × (some ≡ holds_between low.now high.now v.items)) }
+    requires { conn.old.in_transaction ≡ false }
+    ensures { Reads S.Store conn.old conn.new result (λ v some. AreViews v × (some ≡ holds_between low.now high.now v.items)) }
 {
     let rows = range_rows(conn, low, high)?;
     match rows.first() {
@@ -150,9 +145,8 @@ fn any_below<S: Alter>(
     front: &[u8],
     rest: &[u8],
 ) -> Result<bool, TableFault>
-    requires { (state S.Store conn.old).in_transaction ≡ false }
-    ensures rests { OnlyReads (state S.Store conn.old) (state S.Store conn.new) }
-    ensures found { Tells (state S.Store conn.old) (state S.Store conn.new) result (λ v some. AreViews v × (some ≡ holds_between ((front.now ++ rest.now) ++ 47 ∷ []) ((front.now ++ rest.now) ++ 48 ∷ []) v.items)) }
+    requires { conn.old.in_transaction ≡ false }
+    ensures { Reads S.Store conn.old conn.new result (λ v some. AreViews v × (some ≡ holds_between ((front.now ++ rest.now) ++ 47 ∷ []) ((front.now ++ rest.now) ++ 48 ∷ []) v.items)) }
 {
     let low = edge(alloc, front, rest, b'/')?;
     let high = edge(alloc, front, rest, b'0')?;
@@ -165,9 +159,9 @@ fn any_generic<S: Alter>(
     alloc: Global,
     vendor: Id16,
 ) -> Result<bool, TableFault>
-    requires { (state S.Store conn.old).in_transaction ≡ false }
-    ensures rests { OnlyReads (state S.Store conn.old) (state S.Store conn.new) }
-    ensures found { Tells (state S.Store conn.old) (state S.Store conn.new) result (λ v some. AreViews v × (some ≡ holds_between ((codes "PS/" ++ hex4_text vendor) ++ 47 ∷ []) ((codes "PS/" ++ hex4_text vendor) ++ 48 ∷ []) v.items)) }
+    requires { conn.old.in_transaction ≡ false }
+    ensures { Reads S.Store conn.old conn.new result (λ v some. AreViews v
+        × (some ≡ holds_between ((codes "PS/" ++ hex4_text vendor) ++ 47 ∷ []) ((codes "PS/" ++ hex4_text vendor) ++ 48 ∷ []) v.items)) }
 {
     let digits = hex4(vendor);
     any_below(conn, alloc, b"PS/", digits.as_slice())
@@ -185,9 +179,8 @@ pub fn has_children<S: Alter>(
     alloc: Global,
     path: Path,
 ) -> Result<bool, TableFault>
-    requires { (state S.Store conn.old).in_transaction ≡ false }
-    ensures rests { OnlyReads (state S.Store conn.old) (state S.Store conn.new) }
-    ensures found { Tells (state S.Store conn.old) (state S.Store conn.new) result (λ v some. AllItems v.items → HoldsParents v.items → some ≡ are_children (path_text path) v.items) }
+    requires { conn.old.in_transaction ≡ false }
+    ensures { Reads S.Store conn.old conn.new result (λ v some. AllItems v.items → HoldsParents v.items → some ≡ are_children (path_text path) v.items) }
 {
     let text = path.path_text(alloc)?;
     let below = any_below(conn, alloc, b"", text.as_bytes())?;

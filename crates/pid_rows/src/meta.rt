@@ -1,14 +1,12 @@
 //! The table of counts.
 ghost use Rattle.std.specs.Prelude.{◌≡◌, false, Some, IsSome, IfOk, codes, length, option_map, slice_get};
-ghost use Rattle.sqlite.specs.Held.{state};
 ghost use Rattle.sqlite.specs.Order.{Row as Values};
-ghost use Rattle.sqlite.specs.State.{HasCleanDisk};
 ghost use Rattle.sqlite_rules.specs.Lists.{Has};
+ghost use Rattle.pid_rows.specs.Answers.{value_row};
 ghost use Rattle.pid_rows.specs.LabelRows.{HasLabel, IsValueOf};
 ghost use Rattle.pid_rows.specs.Schema.{pid_schema};
-ghost use Rattle.pid_rows.specs.Leaves.{GoesOn, LeadsTo, OnlyReads, Tells};
-ghost use Rattle.pid_rows.specs.Answers.{value_row};
 ghost use Rattle.pid_rows.specs.Shows.{Counts, meta_of, counts_of};
+ghost use Rattle.pid_rows.specs.Clauses.{ChangesTo, GoesOn, HasCleanDisk, LeadsTo, OnlyReads, Reads, Tells, seen};
 
 use crate::fault::TableFault;
 use crate::run::{read_inside, read_rows, write_one};
@@ -19,8 +17,8 @@ use sqlite::{Alter, Connection, Row, Transaction};
 /// Writes how many items there are into the table of counts. It does not count them.
 pub fn count_items<S: Alter>(tx: &mut Transaction<'_, S>, count: u32) -> Result<(), TableFault>
     ensures same_reference { tx.new.conn.ghost_name ≡ tx.old.conn.ghost_name }
-    ensures goes { GoesOn (state S.Store tx.old.conn.now) (state S.Store tx.new.conn.now) result }
-    ensures shows { LeadsTo (state S.Store tx.old.conn.now) (state S.Store tx.new.conn.now) result (λ c v. Unit {0}) (λ c. record c { items = count }) (λ v. v) }
+    ensures goes { GoesOn S.Store tx.old.conn.now tx.new.conn.now result }
+    ensures shows { LeadsTo S.Store tx.old.conn.now tx.new.conn.now result (λ v. Unit {0}) (λ c. record c { items = count }) (λ v. v) }
 {
     let label = "items".to_sql();
     let value = count.to_sql();
@@ -37,8 +35,8 @@ pub fn count_submissions<S: Alter>(
     count: u32,
 ) -> Result<(), TableFault>
     ensures same_reference { tx.new.conn.ghost_name ≡ tx.old.conn.ghost_name }
-    ensures goes { GoesOn (state S.Store tx.old.conn.now) (state S.Store tx.new.conn.now) result }
-    ensures shows { LeadsTo (state S.Store tx.old.conn.now) (state S.Store tx.new.conn.now) result (λ c v. Unit {0}) (λ c. record c { submissions = count }) (λ v. v) }
+    ensures goes { GoesOn S.Store tx.old.conn.now tx.new.conn.now result }
+    ensures shows { LeadsTo S.Store tx.old.conn.now tx.new.conn.now result (λ v. Unit {0}) (λ c. record c { submissions = count }) (λ v. v) }
 {
     let label = "submissions".to_sql();
     let value = count.to_sql();
@@ -52,8 +50,8 @@ pub fn count_submissions<S: Alter>(
 /// Reads one row and drops it: an answer of `Ok` means that the connection is open and the transaction goes on.
 pub fn touch<S: Alter>(tx: &mut Transaction<'_, S>) -> Result<(), TableFault>
     ensures same_reference { tx.new.conn.ghost_name ≡ tx.old.conn.ghost_name }
-    ensures goes { GoesOn (state S.Store tx.old.conn.now) (state S.Store tx.new.conn.now) result }
-    ensures shows { LeadsTo (state S.Store tx.old.conn.now) (state S.Store tx.new.conn.now) result (λ c v. Unit {0}) (λ c. c) (λ v. v) }
+    ensures goes { GoesOn S.Store tx.old.conn.now tx.new.conn.now result }
+    ensures shows { ChangesTo S.Store tx.old.conn.now tx.new.conn.now result (λ v. Unit {0}) (λ v. v) }
 {
     let label = "schema".to_sql();
     read_inside(tx, "SELECT value FROM meta WHERE label = ?1", &[label])?;
@@ -61,10 +59,9 @@ pub fn touch<S: Alter>(tx: &mut Transaction<'_, S>) -> Result<(), TableFault>
 }
 
 fn value_rows<S: Alter>(conn: &mut Connection<S>, label: &str) -> Result<Vec<Row>, TableFault>
-    requires { (state S.Store conn.old).in_transaction ≡ false }
-    ensures rests { OnlyReads (state S.Store conn.old) (state S.Store conn.new) }
-    ensures found { Tells (state S.Store conn.old) (state S.Store conn.new) result (λ v rows. slice_get rows.items 0 ≡ option_map value_row (meta_of (counts_of v) label.now)) }
-    ensures valued { HasCleanDisk (state S.Store conn.new) → (state S.Store conn.old).now.schema ≡ pid_schema → IfOk result (λ rows. (x : Values) → Has rows.items x → IsValueOf (state S.Store conn.old).now.trees label.now x) }
+    requires { conn.old.in_transaction ≡ false }
+    ensures reads { Reads S.Store conn.old conn.new result (λ v rows. slice_get rows.items 0 ≡ option_map value_row (meta_of (counts_of v) label.now)) }
+    ensures valued { HasCleanDisk S.Store conn.new → (seen S.Store conn.old).schema ≡ pid_schema → IfOk result (λ rows. (x : Values) → Has rows.items x → IsValueOf (seen S.Store conn.old).trees label.now x) }
 {
     let label = label.to_sql();
     read_rows(conn, "SELECT value FROM meta WHERE label = ?1", &[label])
@@ -72,10 +69,10 @@ fn value_rows<S: Alter>(conn: &mut Connection<S>, label: &str) -> Result<Vec<Row
 
 // The number of one of the three labels.
 fn count<S: Alter>(conn: &mut Connection<S>, label: &str) -> Result<u32, TableFault>
-    requires { (state S.Store conn.old).in_transaction ≡ false }
-    ensures rests { OnlyReads (state S.Store conn.old) (state S.Store conn.new) }
-    ensures found { ((c : Counts) → IsSome (meta_of c label.now)) → Tells (state S.Store conn.old) (state S.Store conn.new) result (λ v n. Some n ≡ meta_of (counts_of v) label.now) }
-    ensures labelled { HasCleanDisk (state S.Store conn.new) → (state S.Store conn.old).now.schema ≡ pid_schema → IfOk result (HasLabel (state S.Store conn.old).now.trees label.now) }
+    requires { conn.old.in_transaction ≡ false }
+    ensures rests { OnlyReads S.Store conn.old conn.new }
+    ensures found { ((c : Counts) → IsSome (meta_of c label.now)) → Tells S.Store conn.old conn.new result (λ v n. Some n ≡ meta_of (counts_of v) label.now) }
+    ensures labelled { HasCleanDisk S.Store conn.new → (seen S.Store conn.old).schema ≡ pid_schema → IfOk result (HasLabel (seen S.Store conn.old).trees label.now) }
 {
     let rows = value_rows(conn, label)?;
     match rows.first() {
@@ -86,18 +83,16 @@ fn count<S: Alter>(conn: &mut Connection<S>, label: &str) -> Result<u32, TableFa
 
 /// How many items there are, by the table of counts. A count that is missing, or that 32 bits do not hold, is `Damaged`.
 pub fn items<S: Alter>(conn: &mut Connection<S>) -> Result<u32, TableFault>
-    requires { (state S.Store conn.old).in_transaction ≡ false }
-    ensures rests { OnlyReads (state S.Store conn.old) (state S.Store conn.new) }
-    ensures found { Tells (state S.Store conn.old) (state S.Store conn.new) result (λ v n. n ≡ length v.items) }
+    requires { conn.old.in_transaction ≡ false }
+    ensures { Reads S.Store conn.old conn.new result (λ v n. n ≡ length v.items) }
 {
     count(conn, "items")
 }
 
 /// How many submissions there are, by the table of counts. A count that is missing, or that 32 bits do not hold, is `Damaged`.
 pub fn submissions<S: Alter>(conn: &mut Connection<S>) -> Result<u32, TableFault>
-    requires { (state S.Store conn.old).in_transaction ≡ false }
-    ensures rests { OnlyReads (state S.Store conn.old) (state S.Store conn.new) }
-    ensures found { Tells (state S.Store conn.old) (state S.Store conn.new) result (λ v n. n ≡ length v.submits) }
+    requires { conn.old.in_transaction ≡ false }
+    ensures { Reads S.Store conn.old conn.new result (λ v n. n ≡ length v.submits) }
 {
     count(conn, "submissions")
 }
@@ -105,10 +100,9 @@ pub fn submissions<S: Alter>(conn: &mut Connection<S>) -> Result<u32, TableFault
 /// The number of the schema, by the table of counts: 1 in tables that this program made, another in those of a later one.
 /// A number that is missing, or that 32 bits do not hold, is `Damaged`.
 pub fn schema_number<S: Alter>(conn: &mut Connection<S>) -> Result<u32, TableFault>
-    requires { (state S.Store conn.old).in_transaction ≡ false }
-    ensures rests { OnlyReads (state S.Store conn.old) (state S.Store conn.new) }
-    ensures found { Tells (state S.Store conn.old) (state S.Store conn.new) result (λ v n. n ≡ 1) }
-    ensures labelled { HasCleanDisk (state S.Store conn.new) → (state S.Store conn.old).now.schema ≡ pid_schema → IfOk result (HasLabel (state S.Store conn.old).now.trees (codes "schema")) }
+    requires { conn.old.in_transaction ≡ false }
+    ensures reads { Reads S.Store conn.old conn.new result (λ v n. n ≡ 1) }
+    ensures labelled { HasCleanDisk S.Store conn.new → (seen S.Store conn.old).schema ≡ pid_schema → IfOk result (HasLabel (seen S.Store conn.old).trees (codes "schema")) }
 {
     count(conn, "schema")
 }

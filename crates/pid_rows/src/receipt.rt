@@ -1,10 +1,9 @@
 //! The table of receipts: replies kept under accounts and keys.
 ghost use Rattle.std.specs.Prelude.{◌≡◌, false, None, option_map, slice_get};
-ghost use Rattle.sqlite.specs.Held.{state};
 ghost use Rattle.pid_rows.specs.TableRows.{kind_of, first_of, second_of, third_of};
-ghost use Rattle.pid_rows.specs.Leaves.{GoesOn, LeadsTo, OnlyReads, Tells};
 ghost use Rattle.pid_rows.specs.Answers.{reply_row};
 ghost use Rattle.pid_rows.specs.Writes.{with_reply};
+ghost use Rattle.pid_rows.specs.Clauses.{ChangesTo, GoesOn, Reads};
 
 use crate::fault::TableFault;
 use crate::run::{read_rows, write_one};
@@ -61,8 +60,8 @@ pub fn keep_reply<S: Alter>(
     reply: Reply,
 ) -> Result<(), TableFault>
     ensures same_reference { tx.new.conn.ghost_name ≡ tx.old.conn.ghost_name }
-    ensures goes { GoesOn (state S.Store tx.old.conn.now) (state S.Store tx.new.conn.now) result }
-    ensures shows { LeadsTo (state S.Store tx.old.conn.now) (state S.Store tx.new.conn.now) result (λ c v. v.kept account.now key.now ≡ None) (λ c. c)
+    ensures goes { GoesOn S.Store tx.old.conn.now tx.new.conn.now result }
+    ensures shows { ChangesTo S.Store tx.old.conn.now tx.new.conn.now result (λ v. v.kept account.now key.now ≡ None)
         (with_reply account.now key.now reply) }
 {
     let account = account.as_str().to_sql();
@@ -83,9 +82,8 @@ fn reply_rows<S: Alter>(
     account: &str,
     key: &str,
 ) -> Result<Vec<Row>, TableFault>
-    requires { (state S.Store conn.old).in_transaction ≡ false }
-    ensures rests { OnlyReads (state S.Store conn.old) (state S.Store conn.new) }
-    ensures found { Tells (state S.Store conn.old) (state S.Store conn.new) result (λ v rows. slice_get rows.items 0 ≡ option_map reply_row (v.kept account.now key.now)) }
+    requires { conn.old.in_transaction ≡ false }
+    ensures { Reads S.Store conn.old conn.new result (λ v rows. slice_get rows.items 0 ≡ option_map reply_row (v.kept account.now key.now)) }
 {
     let account = account.to_sql();
     let key = key.to_sql();
@@ -102,9 +100,8 @@ pub fn kept_reply<S: Alter>(
     account: &str,
     key: &str,
 ) -> Result<Option<Reply>, TableFault>
-    requires { (state S.Store conn.old).in_transaction ≡ false }
-    ensures rests { OnlyReads (state S.Store conn.old) (state S.Store conn.new) }
-    ensures found { Tells (state S.Store conn.old) (state S.Store conn.new) result (λ v reply. reply ≡ v.kept account.now key.now) }
+    requires { conn.old.in_transaction ≡ false }
+    ensures { Reads S.Store conn.old conn.new result (λ v reply. reply ≡ v.kept account.now key.now) }
 {
     let rows = reply_rows(conn, account, key)?;
     match rows.first() {

@@ -2,11 +2,10 @@
 ghost use Rattle.std.specs.Prelude.{◌≡◌, ◌⊎◌, ◌+◌, [], ◌∷◌, false, length, IfOk, IfErr};
 ghost use Rattle.sqlite.specs.Order.{column};
 ghost use Rattle.sqlite.specs.declared.types.Value.TheVariants.{Text as TextValue};
-ghost use Rattle.sqlite.specs.Held.{state};
-ghost use Rattle.pid_rows.specs.Leaves.{GoesOn, LeadsTo, OnlyReads, Tells};
 ghost use Rattle.pid_rows.specs.Answers.{value_row};
 ghost use Rattle.pid_rows.specs.Unread.{IsUnread, IsRemarkRow};
 ghost use Rattle.pid_rows.specs.Writes.{with_remark};
+ghost use Rattle.pid_rows.specs.Clauses.{ChangesTo, GoesOn, Reads};
 
 use crate::fault::TableFault;
 use crate::run::{read_rows, write_one};
@@ -26,8 +25,8 @@ pub fn add_remark<S: Alter>(
     text: &Text,
 ) -> Result<(), TableFault>
     ensures same_reference { tx.new.conn.ghost_name ≡ tx.old.conn.ghost_name }
-    ensures goes { GoesOn (state S.Store tx.old.conn.now) (state S.Store tx.new.conn.now) result }
-    ensures shows { LeadsTo (state S.Store tx.old.conn.now) (state S.Store tx.new.conn.now) result (λ c v. place ≡ length (v.remarks number) + 1) (λ c. c)
+    ensures goes { GoesOn S.Store tx.old.conn.now tx.new.conn.now result }
+    ensures shows { ChangesTo S.Store tx.old.conn.now tx.new.conn.now result (λ v. place ≡ length (v.remarks number) + 1)
         (with_remark number (record { author = author.now; text = text.now })) }
 {
     let number = number.to_sql();
@@ -42,9 +41,8 @@ pub fn add_remark<S: Alter>(
 }
 
 fn place_rows<S: Alter>(conn: &mut Connection<S>, number: u32) -> Result<Vec<Row>, TableFault>
-    requires { (state S.Store conn.old).in_transaction ≡ false }
-    ensures rests { OnlyReads (state S.Store conn.old) (state S.Store conn.new) }
-    ensures found { Tells (state S.Store conn.old) (state S.Store conn.new) result (λ v rows. ((rows.items ≡ []) × (length (v.remarks number) ≡ 0)) ⊎ (rows.items ≡ value_row (length (v.remarks number)) ∷ [])) }
+    requires { conn.old.in_transaction ≡ false }
+    ensures { Reads S.Store conn.old conn.new result (λ v rows. ((rows.items ≡ []) × (length (v.remarks number) ≡ 0)) ⊎ (rows.items ≡ value_row (length (v.remarks number)) ∷ [])) }
 {
     let number = number.to_sql();
     read_rows(
@@ -56,9 +54,8 @@ fn place_rows<S: Alter>(conn: &mut Connection<S>, number: u32) -> Result<Vec<Row
 
 /// How many remarks there are on the submission with a number: the place of the last one. No such submission has 0.
 pub fn remark_count<S: Alter>(conn: &mut Connection<S>, number: u32) -> Result<u32, TableFault>
-    requires { (state S.Store conn.old).in_transaction ≡ false }
-    ensures rests { OnlyReads (state S.Store conn.old) (state S.Store conn.new) }
-    ensures found { Tells (state S.Store conn.old) (state S.Store conn.new) result (λ v count. count ≡ length (v.remarks number)) }
+    requires { conn.old.in_transaction ≡ false }
+    ensures { Reads S.Store conn.old conn.new result (λ v count. count ≡ length (v.remarks number)) }
 {
     let rows = place_rows(conn, number)?;
     match rows.first() {

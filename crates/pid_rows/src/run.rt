@@ -4,15 +4,13 @@ ghost use Rattle.sqlite.specs.Given.{IsPlain};
 ghost use Rattle.sqlite.specs.Listing.{understood};
 ghost use Rattle.sqlite.specs.Schema.{Schema};
 ghost use Rattle.sqlite.specs.Values.{bound};
-ghost use Rattle.sqlite.specs.State.{HasCleanDisk, Executes, ExecutesInside, Shown};
+ghost use Rattle.sqlite.specs.Held.{Held};
 ghost use Rattle.sqlite.specs.declared.error.Error.{Error};
-ghost use Rattle.sqlite.specs.Held.{state, Held};
 ghost use Rattle.pid_rows.specs.Faults.{fault_of, IsUntold};
 ghost use Rattle.pid_moderation.specs.Views.{Views};
-ghost use Rattle.pid_rows.specs.Causes.{IsCaused};
-ghost use Rattle.pid_rows.specs.Leaves.{AtRest, OnlyReads, GoesOn};
 ghost use Rattle.pid_rows.specs.Queries.{IsQuery, IsWriteAs};
 ghost use Rattle.pid_rows.specs.Schema.{pid_schema};
+ghost use Rattle.pid_rows.specs.Clauses.{AtRest, Executes, ExecutesInside, GoesOn, HasCleanDisk, IsCaused, OnlyReads, Shown, is_open, seen};
 
 use crate::fault::TableFault;
 use sqlite::types::ValueRef;
@@ -26,10 +24,13 @@ pub fn write_one<S: Alter>(
     params: &[ValueRef<'_>],
 ) -> Result<(), TableFault>
     ensures same_reference { tx.new.conn.ghost_name ≡ tx.old.conn.ghost_name }
-    ensures goes { GoesOn (state S.Store tx.old.conn.now) (state S.Store tx.new.conn.now) result }
-    ensures ran { HasCleanDisk (state S.Store tx.new.conn.now) → IsTrue (state S.Store tx.old.conn.now).in_transaction → OnOk result ((count : ℕ) × Executes sql.now (bound params.now) (state S.Store tx.old.conn.now) (state S.Store tx.new.conn.now) (Ok count)) }
-    ensures untold { HasCleanDisk (state S.Store tx.new.conn.now) → (schema : Schema) → (IsTrue (state S.Store tx.old.conn.now).is_open → (state S.Store tx.old.conn.now).now.schema ≡ schema) → IsWriteAs sql.now (understood schema sql.now) → IfErr result IsUntold }
-    ensures refused { HasCleanDisk (state S.Store tx.new.conn.now) → IsTrue (state S.Store tx.old.conn.now).in_transaction → IfErr result (λ fault. (e : Error) × (fault ≡ fault_of e) × ExecutesInside 0 sql.now (bound params.now) (state S.Store tx.old.conn.now) (state S.Store tx.new.conn.now) (Err e)) }
+    ensures goes { GoesOn S.Store tx.old.conn.now tx.new.conn.now result }
+    ensures ran { HasCleanDisk S.Store tx.new.conn.now → IsTrue tx.old.conn.now.in_transaction
+        → OnOk result ((count : ℕ) × Executes S.Store sql.now (bound params.now) tx.old.conn.now tx.new.conn.now (Ok count)) }
+    ensures untold { HasCleanDisk S.Store tx.new.conn.now → (schema : Schema)
+        → (IsTrue (is_open S.Store tx.old.conn.now) → (seen S.Store tx.old.conn.now).schema ≡ schema) → IsWriteAs sql.now (understood schema sql.now) → IfErr result IsUntold }
+    ensures refused { HasCleanDisk S.Store tx.new.conn.now → IsTrue tx.old.conn.now.in_transaction
+        → IfErr result (λ fault. (e : Error) × (fault ≡ fault_of e) × ExecutesInside S.Store 0 sql.now (bound params.now) tx.old.conn.now tx.new.conn.now (Err e)) }
 {
     tx.execute(sql, params)?;
     Ok(())
@@ -43,10 +44,11 @@ pub fn read_inside<S: Alter>(
     params: &[ValueRef<'_>],
 ) -> Result<Vec<Row>, TableFault>
     ensures same_reference { tx.new.conn.ghost_name ≡ tx.old.conn.ghost_name }
-    ensures goes { GoesOn (state S.Store tx.old.conn.now) (state S.Store tx.new.conn.now) result }
-    ensures shown { HasCleanDisk (state S.Store tx.new.conn.now) → IfOk result (λ rows. Shown sql.now (bound params.now) (state S.Store tx.old.conn.now) (state S.Store tx.new.conn.now) rows.items) }
-    ensures untold { HasCleanDisk (state S.Store tx.new.conn.now) → (state S.Store tx.old.conn.now).now.schema ≡ pid_schema → IsPlain (understood pid_schema sql.now) → IfErr result IsUntold }
-    ensures caused { HasCleanDisk (state S.Store tx.new.conn.now) → (IsTrue (state S.Store tx.old.conn.now).is_open → (state S.Store tx.old.conn.now).now.schema ≡ pid_schema) → IsQuery sql.now (bound params.now) → IfErr result (IsCaused (state S.Store tx.old.conn.now) (state S.Store tx.new.conn.now)) }
+    ensures goes { GoesOn S.Store tx.old.conn.now tx.new.conn.now result }
+    ensures shown { HasCleanDisk S.Store tx.new.conn.now → IfOk result (λ rows. Shown S.Store sql.now (bound params.now) tx.old.conn.now tx.new.conn.now rows.items) }
+    ensures untold { HasCleanDisk S.Store tx.new.conn.now → (seen S.Store tx.old.conn.now).schema ≡ pid_schema → IsPlain (understood pid_schema sql.now) → IfErr result IsUntold }
+    ensures caused { HasCleanDisk S.Store tx.new.conn.now → (IsTrue (is_open S.Store tx.old.conn.now)
+        → (seen S.Store tx.old.conn.now).schema ≡ pid_schema) → IsQuery sql.now (bound params.now) → IfErr result (IsCaused S.Store tx.old.conn.now tx.new.conn.now) }
 {
     Ok(tx.query_all(sql, params)?)
 }
@@ -58,10 +60,10 @@ pub fn read_rows<S: Alter>(
     sql: &str,
     params: &[ValueRef<'_>],
 ) -> Result<Vec<Row>, TableFault>
-    requires { (state S.Store conn.old).in_transaction ≡ false }
-    ensures rests { OnlyReads (state S.Store conn.old) (state S.Store conn.new) }
-    ensures shown { HasCleanDisk (state S.Store conn.new) → IfOk result (λ rows. (mid : Held S) × Shown sql.now (bound params.now) (state S.Store (record conn.old { in_transaction = true })) (state S.Store mid) rows.items) }
-    ensures caused { HasCleanDisk (state S.Store conn.new) → (v : Views) → AtRest (state S.Store conn.old) v → IsQuery sql.now (bound params.now) → IfErr result (IsCaused (state S.Store conn.old) (state S.Store conn.new)) }
+    requires { conn.old.in_transaction ≡ false }
+    ensures rests { OnlyReads S.Store conn.old conn.new }
+    ensures shown { HasCleanDisk S.Store conn.new → IfOk result (λ rows. (mid : Held S) × Shown S.Store sql.now (bound params.now) (record conn.old { in_transaction = true }) mid rows.items) }
+    ensures caused { HasCleanDisk S.Store conn.new → (v : Views) → AtRest S.Store conn.old v → IsQuery sql.now (bound params.now) → IfErr result (IsCaused S.Store conn.old conn.new) }
 {
     let mut tx = conn.transaction();
     read_inside(&mut tx, sql, params)

@@ -1,16 +1,15 @@
 //! The table of submissions, each as it stands.
 ghost use Rattle.std.specs.Prelude.{◌≡◌, ◌+◌, false, length, [], IfOk, IfErr, IsSome, option_map, slice_get};
-ghost use Rattle.sqlite.specs.Held.{state as shown};
 ghost use Rattle.pid_ident.specs.PathTexts.{path_text};
 ghost use Rattle.pid_moderation.specs.Views.{submission_at};
 ghost use Rattle.pid_moderation.specs.declared.facts.State.TheVariants as states;
 ghost use Rattle.pid_rows.specs.TableRows.{form_of, name_of, state_number, decider_of, reason_of};
-ghost use Rattle.pid_rows.specs.Leaves.{GoesOn, LeadsTo, OnlyReads, Tells};
 ghost use Rattle.pid_rows.specs.Answers.{standing_row};
 ghost use Rattle.pid_rows.specs.Shows.{AreViews, standing_in};
 ghost use Rattle.pid_rows.specs.Standings.{standing_of, ReadsTo};
 ghost use Rattle.pid_rows.specs.Unread.{IsUnread, IsStandingRow};
 ghost use Rattle.pid_rows.specs.Writes.{with_submission, with_state, NamesDecider};
+ghost use Rattle.pid_rows.specs.Clauses.{ChangesTo, GoesOn, Reads};
 
 use crate::fault::TableFault;
 use crate::run::{read_rows, write_one};
@@ -60,8 +59,8 @@ fn insert_submission<'x, S: Alter>(
 ) -> Result<(), TableFault>
     requires { text.now ≡ path_text path }
     ensures same_reference { tx.new.conn.ghost_name ≡ tx.old.conn.ghost_name }
-    ensures goes { GoesOn (shown S.Store tx.old.conn.now) (shown S.Store tx.new.conn.now) result }
-    ensures shows { LeadsTo (shown S.Store tx.old.conn.now) (shown S.Store tx.new.conn.now) result (λ c v. number ≡ length v.submits + 1) (λ c. c)
+    ensures goes { GoesOn S.Store tx.old.conn.now tx.new.conn.now result }
+    ensures shows { ChangesTo S.Store tx.old.conn.now tx.new.conn.now result (λ v. number ≡ length v.submits + 1)
         (with_submission (record { author = author.now; path = path; proposal = proposal.now; note = note.now })) }
 {
     let number = number.to_sql();
@@ -89,8 +88,8 @@ pub fn add_submission<S: Alter>(
     note: &Text,
 ) -> Result<(), TableFault>
     ensures same_reference { tx.new.conn.ghost_name ≡ tx.old.conn.ghost_name }
-    ensures goes { GoesOn (shown S.Store tx.old.conn.now) (shown S.Store tx.new.conn.now) result }
-    ensures shows { LeadsTo (shown S.Store tx.old.conn.now) (shown S.Store tx.new.conn.now) result (λ c v. number ≡ length v.submits + 1) (λ c. c)
+    ensures goes { GoesOn S.Store tx.old.conn.now tx.new.conn.now result }
+    ensures shows { ChangesTo S.Store tx.old.conn.now tx.new.conn.now result (λ v. number ≡ length v.submits + 1)
         (with_submission (record { author = author.now; path = path; proposal = proposal.now; note = note.now })) }
 {
     let text = path.path_text(alloc)?;
@@ -134,8 +133,8 @@ fn set_state<S: Alter>(
     state: &State,
 ) -> Result<(), TableFault>
     ensures same_reference { tx.new.conn.ghost_name ≡ tx.old.conn.ghost_name }
-    ensures goes { GoesOn (shown S.Store tx.old.conn.now) (shown S.Store tx.new.conn.now) result }
-    ensures shows { LeadsTo (shown S.Store tx.old.conn.now) (shown S.Store tx.new.conn.now) result (λ c v. NamesDecider state.now × IsSome (submission_at number v.submits)) (λ c. c)
+    ensures goes { GoesOn S.Store tx.old.conn.now tx.new.conn.now result }
+    ensures shows { ChangesTo S.Store tx.old.conn.now tx.new.conn.now result (λ v. NamesDecider state.now × IsSome (submission_at number v.submits))
         (with_state number state.now) }
 {
     let number = number.to_sql();
@@ -152,8 +151,8 @@ fn set_state<S: Alter>(
 /// Withdraws a submission in the name of its author.
 fn withdraw<S: Alter>(tx: &mut Transaction<'_, S>, number: u32) -> Result<(), TableFault>
     ensures same_reference { tx.new.conn.ghost_name ≡ tx.old.conn.ghost_name }
-    ensures goes { GoesOn (shown S.Store tx.old.conn.now) (shown S.Store tx.new.conn.now) result }
-    ensures shows { LeadsTo (shown S.Store tx.old.conn.now) (shown S.Store tx.new.conn.now) result (λ c v. IsSome (submission_at number v.submits)) (λ c. c)
+    ensures goes { GoesOn S.Store tx.old.conn.now tx.new.conn.now result }
+    ensures shows { ChangesTo S.Store tx.old.conn.now tx.new.conn.now result (λ v. IsSome (submission_at number v.submits))
         (with_state number states.Withdrawn) }
 {
     let number = number.to_sql();
@@ -172,8 +171,8 @@ pub fn decide<S: Alter>(
     state: &State,
 ) -> Result<(), TableFault>
     ensures same_reference { tx.new.conn.ghost_name ≡ tx.old.conn.ghost_name }
-    ensures goes { GoesOn (shown S.Store tx.old.conn.now) (shown S.Store tx.new.conn.now) result }
-    ensures shows { LeadsTo (shown S.Store tx.old.conn.now) (shown S.Store tx.new.conn.now) result (λ c v. IsSome (submission_at number v.submits)) (λ c. c)
+    ensures goes { GoesOn S.Store tx.old.conn.now tx.new.conn.now result }
+    ensures shows { ChangesTo S.Store tx.old.conn.now tx.new.conn.now result (λ v. IsSome (submission_at number v.submits))
         (with_state number state.now) }
 {
     match state {
@@ -205,9 +204,8 @@ pub fn submission_of(row: &Row, alloc: Global) -> Result<Submission, TableFault>
 }
 
 fn submission_rows<S: Alter>(conn: &mut Connection<S>, number: u32) -> Result<Vec<Row>, TableFault>
-    requires { (shown S.Store conn.old).in_transaction ≡ false }
-    ensures rests { OnlyReads (shown S.Store conn.old) (shown S.Store conn.new) }
-    ensures found { Tells (shown S.Store conn.old) (shown S.Store conn.new) result (λ v rows. (slice_get rows.items 0 ≡ option_map standing_row (standing_in v number)) × AreViews v) }
+    requires { conn.old.in_transaction ≡ false }
+    ensures { Reads S.Store conn.old conn.new result (λ v rows. (slice_get rows.items 0 ≡ option_map standing_row (standing_in v number)) × AreViews v) }
 {
     let number = number.to_sql();
     read_rows(
@@ -223,9 +221,8 @@ pub fn standing<S: Alter>(
     alloc: Global,
     number: u32,
 ) -> Result<Option<Submission>, TableFault>
-    requires { (shown S.Store conn.old).in_transaction ≡ false }
-    ensures rests { OnlyReads (shown S.Store conn.old) (shown S.Store conn.new) }
-    ensures found { Tells (shown S.Store conn.old) (shown S.Store conn.new) result (λ v s. option_map standing_of s ≡ standing_in v number) }
+    requires { conn.old.in_transaction ≡ false }
+    ensures { Reads S.Store conn.old conn.new result (λ v s. option_map standing_of s ≡ standing_in v number) }
 {
     let rows = submission_rows(conn, number)?;
     match rows.first() {

@@ -8,3 +8,4 @@ pub mod AuthorSets
 pub mod Checking
 pub mod Shapes
 pub mod Queries
+pub mod Clauses

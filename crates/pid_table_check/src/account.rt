@@ -4,10 +4,9 @@ ghost use Rattle.std.specs.List.{All, Any};
 ghost use Rattle.sqlite.specs.declared.types.Value.TheVariants.{Text as TextValue};
 ghost use Rattle.sqlite.specs.Order.{column};
 ghost use Rattle.pid_rows.specs.TableRows.{number};
-ghost use Rattle.sqlite.specs.Held.{state};
-ghost use Rattle.pid_rows.specs.Leaves.{GoesOn};
-ghost use Rattle.pid_table_check.specs.Reading.{Checks};
 ghost use Rattle.pid_table_check.specs.Conditions.{IsAccountRow, AreAccounts};
+ghost use Rattle.pid_rows.specs.Clauses.{GoesOn};
+ghost use Rattle.pid_table_check.specs.Clauses.{Checks};
 
 use crate::read::account_rows;
 use crate::value::{number_at, text_at};
@@ -91,8 +90,8 @@ pub(crate) fn checked_accounts<S: Alter>(
     tx: &mut Transaction<'_, S>,
 ) -> Result<Vec<Row>, TableFault>
     ensures same_reference { tx.new.conn.ghost_name ≡ tx.old.conn.ghost_name }
-    ensures goes { GoesOn (state S.Store tx.old.conn.now) (state S.Store tx.new.conn.now) result }
-    ensures checks { Checks (state S.Store tx.old.conn.now) (state S.Store tx.new.conn.now) result (λ t. t.accounts) (λ t. AreAccounts t.accounts) }
+    ensures goes { GoesOn S.Store tx.old.conn.now tx.new.conn.now result }
+    ensures checks { Checks S.Store tx.old.conn.now tx.new.conn.now result (λ t. t.accounts) (λ t. AreAccounts t.accounts) }
 {
     let rows = account_rows(tx)?;
     if are_accounts(rows.as_slice()) {

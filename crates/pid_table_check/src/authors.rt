@@ -17,7 +17,8 @@ fn insert_author(
     submission: u64,
     author: String,
 ) -> Result<(), TableFault>
-    ensures added { (rows : List Values) (row : Values) → column row 0 ≡ number submission → column row 1 ≡ TextValue (string_bytes author) → AreAuthorsOf authors.old rows → OnOk result (AreAuthorsOf authors.new (rows ++ row ∷ [])) }
+    ensures added { (rows : List Values) (row : Values) → column row 0 ≡ number submission → column row 1 ≡ TextValue (string_bytes author)
+        → AreAuthorsOf authors.old rows → OnOk result (AreAuthorsOf authors.new (rows ++ row ∷ [])) }
     ensures untold { IfErr result IsUntold }
 {
     let inserted = authors.insert((submission, author)).is_ok();

@@ -1,15 +1,14 @@
 //! The check of all tables: first which are there, and then their rows in one transaction that is rolled back.
 ghost use Rattle.std.specs.Prelude.{◌≡◌, false, IfErr, MatchResult};
 ghost use Rattle.std.specs.List.Sorted.{IsPermutation};
-ghost use Rattle.sqlite.specs.Held.{state};
-ghost use Rattle.sqlite.specs.State.{HasCleanDisk};
 ghost use Rattle.pid_rows.specs.Faults.{IsUntold};
-ghost use Rattle.pid_rows.specs.Leaves.{GoesOn, OnlyReads};
 ghost use Rattle.pid_rows.specs.Schema.{pid_schema};
 ghost use Rattle.pid_table_check.specs.Conditions.{AreAccounts, AreItems, AreSubmissions, AreRemarks, AreReceipts, AreOfRegistry, IsRegistry, rows_in};
 ghost use Rattle.pid_table_check.specs.Checking.{Explains};
-ghost use Rattle.pid_table_check.specs.Reading.{Judges, Refutes};
+ghost use Rattle.pid_table_check.specs.Reading.{Refutes};
 ghost use Rattle.pid_table_check.specs.Shapes.{ExplainsLack, HasNoTable, LacksATable};
+ghost use Rattle.pid_rows.specs.Clauses.{GoesOn, HasCleanDisk, OnlyReads, is_open, seen};
+ghost use Rattle.pid_table_check.specs.Clauses.{Judges};
 
 use crate::account::checked_accounts;
 use crate::authors::authors_of;
@@ -32,8 +31,8 @@ fn check_replies<S: Alter>(
     submissions: &[Row],
 ) -> Result<(), TableFault>
     ensures same_reference { tx.new.conn.ghost_name ≡ tx.old.conn.ghost_name }
-    ensures goes { GoesOn (state S.Store tx.old.conn.now) (state S.Store tx.new.conn.now) result }
-    ensures checks { Judges (state S.Store tx.old.conn.now) (state S.Store tx.new.conn.now) result
+    ensures goes { GoesOn S.Store tx.old.conn.now tx.new.conn.now result }
+    ensures checks { Judges S.Store tx.old.conn.now tx.new.conn.now result
         (λ t x. IsPermutation t.submissions submissions.now → AreReceipts t.submissions t.receipts)
         (λ t e. IsPermutation t.submissions submissions.now → Refutes (AreReceipts t.submissions t.receipts) e) }
 {
@@ -47,9 +46,10 @@ fn check_submitted<S: Alter>(
     accounts: &[Row],
 ) -> Result<Vec<Row>, TableFault>
     ensures same_reference { tx.new.conn.ghost_name ≡ tx.old.conn.ghost_name }
-    ensures goes { GoesOn (state S.Store tx.old.conn.now) (state S.Store tx.new.conn.now) result }
-    ensures checks { Judges (state S.Store tx.old.conn.now) (state S.Store tx.new.conn.now) result
-        (λ t rows. IsPermutation t.submissions rows.items × ((IsPermutation t.accounts accounts.now × AreAccounts t.accounts) → AreSubmissions t.accounts t.submissions × AreReceipts t.submissions t.receipts))
+    ensures goes { GoesOn S.Store tx.old.conn.now tx.new.conn.now result }
+    ensures checks { Judges S.Store tx.old.conn.now tx.new.conn.now result
+        (λ t rows. IsPermutation t.submissions rows.items × ((IsPermutation t.accounts accounts.now × AreAccounts t.accounts)
+        → AreSubmissions t.accounts t.submissions × AreReceipts t.submissions t.receipts))
         (λ t e. (IsPermutation t.accounts accounts.now × AreAccounts t.accounts) → Refutes (AreSubmissions t.accounts t.submissions × AreReceipts t.submissions t.receipts) e) }
 {
     let names = names_of(accounts, alloc)?;
@@ -60,8 +60,8 @@ fn check_submitted<S: Alter>(
 
 fn check_named<S: Alter>(tx: &mut Transaction<'_, S>, alloc: Global) -> Result<Vec<Row>, TableFault>
     ensures same_reference { tx.new.conn.ghost_name ≡ tx.old.conn.ghost_name }
-    ensures goes { GoesOn (state S.Store tx.old.conn.now) (state S.Store tx.new.conn.now) result }
-    ensures checks { Judges (state S.Store tx.old.conn.now) (state S.Store tx.new.conn.now) result
+    ensures goes { GoesOn S.Store tx.old.conn.now tx.new.conn.now result }
+    ensures checks { Judges S.Store tx.old.conn.now tx.new.conn.now result
         (λ t rows. IsPermutation t.items rows.items × AreItems t.items × AreRemarks t.remarks)
         (λ t e. Refutes (AreItems t.items × AreRemarks t.remarks) e) }
 {
@@ -76,8 +76,8 @@ fn check_rows<S: Alter>(
     meta: &[Row],
 ) -> Result<(), TableFault>
     ensures same_reference { tx.new.conn.ghost_name ≡ tx.old.conn.ghost_name }
-    ensures goes { GoesOn (state S.Store tx.old.conn.now) (state S.Store tx.new.conn.now) result }
-    ensures checks { Judges (state S.Store tx.old.conn.now) (state S.Store tx.new.conn.now) result
+    ensures goes { GoesOn S.Store tx.old.conn.now tx.new.conn.now result }
+    ensures checks { Judges S.Store tx.old.conn.now tx.new.conn.now result
         (λ t x. IsPermutation t.meta meta.now → AreOfRegistry t)
         (λ t e. IsPermutation t.meta meta.now → Refutes (AreOfRegistry t) e) }
 {
@@ -95,8 +95,8 @@ fn check_rows<S: Alter>(
 
 fn check_tables<S: Alter>(tx: &mut Transaction<'_, S>, alloc: Global) -> Result<(), TableFault>
     ensures same_reference { tx.new.conn.ghost_name ≡ tx.old.conn.ghost_name }
-    ensures goes { GoesOn (state S.Store tx.old.conn.now) (state S.Store tx.new.conn.now) result }
-    ensures checks { Judges (state S.Store tx.old.conn.now) (state S.Store tx.new.conn.now) result
+    ensures goes { GoesOn S.Store tx.old.conn.now tx.new.conn.now result }
+    ensures checks { Judges S.Store tx.old.conn.now tx.new.conn.now result
         (λ t x. AreOfRegistry t)
         Explains }
 {
@@ -109,9 +109,10 @@ fn check_tables<S: Alter>(tx: &mut Transaction<'_, S>, alloc: Global) -> Result<
 
 // The check where each table is there.
 fn check_whole<S: Alter>(conn: &mut Connection<S>, alloc: Global) -> Result<(), TableFault>
-    requires { (state S.Store conn.old).in_transaction ≡ false }
-    ensures rests { OnlyReads (state S.Store conn.old) (state S.Store conn.new) }
-    ensures told { HasCleanDisk (state S.Store conn.new) → (state S.Store conn.old).now.schema ≡ pid_schema → MatchResult result (λ x. IsRegistry (state S.Store conn.old).now.trees) (Explains (rows_in (state S.Store conn.old).now.trees)) }
+    requires { conn.old.in_transaction ≡ false }
+    ensures rests { OnlyReads S.Store conn.old conn.new }
+    ensures told { HasCleanDisk S.Store conn.new → (seen S.Store conn.old).schema ≡ pid_schema
+        → MatchResult result (λ x. IsRegistry (seen S.Store conn.old).trees) (Explains (rows_in (seen S.Store conn.old).trees)) }
 {
     let mut tx = conn.transaction();
     check_tables(&mut tx, alloc)
@@ -126,12 +127,13 @@ fn check_whole<S: Alter>(conn: &mut Connection<S>, alloc: Global) -> Result<(), 
 /// answers `Memory` and `Store` otherwise, and changes nothing. Of six tables with these columns but other keys, types or
 /// rules it says nothing.
 pub fn check<S: Alter>(conn: &mut Connection<S>, alloc: Global) -> Result<(), TableFault>
-    requires { (state S.Store conn.old).in_transaction ≡ false }
-    ensures rests { OnlyReads (state S.Store conn.old) (state S.Store conn.new) }
-    ensures shut { HasCleanDisk (state S.Store conn.new) → (state S.Store conn.old).is_open ≡ false → MatchResult result (λ x. ⊥) IsUntold }
-    ensures bare { HasCleanDisk (state S.Store conn.new) → HasNoTable (state S.Store conn.old).now.schema → IfErr result IsUntold }
-    ensures lacking { HasCleanDisk (state S.Store conn.new) → LacksATable (state S.Store conn.old).now.schema → MatchResult result (λ x. ⊥) (ExplainsLack (state S.Store conn.old).now) }
-    ensures told { HasCleanDisk (state S.Store conn.new) → (state S.Store conn.old).now.schema ≡ pid_schema → MatchResult result (λ x. IsRegistry (state S.Store conn.old).now.trees) (Explains (rows_in (state S.Store conn.old).now.trees)) }
+    requires { conn.old.in_transaction ≡ false }
+    ensures rests { OnlyReads S.Store conn.old conn.new }
+    ensures shut { HasCleanDisk S.Store conn.new → is_open S.Store conn.old ≡ false → MatchResult result (λ x. ⊥) IsUntold }
+    ensures bare { HasCleanDisk S.Store conn.new → HasNoTable (seen S.Store conn.old).schema → IfErr result IsUntold }
+    ensures lacking { HasCleanDisk S.Store conn.new → LacksATable (seen S.Store conn.old).schema → MatchResult result (λ x. ⊥) (ExplainsLack (seen S.Store conn.old)) }
+    ensures told { HasCleanDisk S.Store conn.new → (seen S.Store conn.old).schema ≡ pid_schema
+        → MatchResult result (λ x. IsRegistry (seen S.Store conn.old).trees) (Explains (rows_in (seen S.Store conn.old).trees)) }
 {
     if has_each_table(conn)? {
         return check_whole(conn, alloc);

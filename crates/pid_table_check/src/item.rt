@@ -2,14 +2,13 @@
 ghost use Rattle.std.specs.Prelude.{◌≡◌, ◌↔◌, ◌++◌, ◌∷◌, List, [], true, Some, IsTrue, IfOk, IfErr, OnOk};
 ghost use Rattle.std.specs.List.{All};
 ghost use Rattle.std.specs.BTreeSet.{contains};
-ghost use Rattle.sqlite.specs.Held.{state};
 ghost use Rattle.sqlite.specs.Order.{Row as Values};
 ghost use Rattle.pid_ident.specs.PathTexts.{path_cmp, parent_of};
-ghost use Rattle.pid_rows.specs.Leaves.{GoesOn};
 ghost use Rattle.pid_table_check.specs.Conditions.{AreItems};
 ghost use Rattle.pid_table_check.specs.PathSets.{ArePathsOf, IsItemAmong};
 ghost use Rattle.pid_rows.specs.Faults.{IsUntold};
-ghost use Rattle.pid_table_check.specs.Reading.{Checks};
+ghost use Rattle.pid_rows.specs.Clauses.{GoesOn};
+ghost use Rattle.pid_table_check.specs.Clauses.{Checks};
 
 use crate::read::item_rows;
 use crate::words::{has_name, path_at};
@@ -93,8 +92,8 @@ pub(crate) fn checked_items<S: Alter>(
     alloc: Global,
 ) -> Result<Vec<Row>, TableFault>
     ensures same_reference { tx.new.conn.ghost_name ≡ tx.old.conn.ghost_name }
-    ensures goes { GoesOn (state S.Store tx.old.conn.now) (state S.Store tx.new.conn.now) result }
-    ensures checks { Checks (state S.Store tx.old.conn.now) (state S.Store tx.new.conn.now) result (λ t. t.items) (λ t. AreItems t.items) }
+    ensures goes { GoesOn S.Store tx.old.conn.now tx.new.conn.now result }
+    ensures checks { Checks S.Store tx.old.conn.now tx.new.conn.now result (λ t. t.items) (λ t. AreItems t.items) }
 {
     let rows = item_rows(tx)?;
     let good = are_items(rows.as_slice(), alloc)?;

@@ -1,10 +1,8 @@
 //! A database that has some of the tables, but not each.
 ghost use Rattle.std.specs.Prelude.{◌≡◌, false, IfOk, MatchResult};
-ghost use Rattle.sqlite.specs.Held.{state};
-ghost use Rattle.sqlite.specs.State.{HasCleanDisk};
 ghost use Rattle.pid_rows.specs.Faults.{IsUntold};
-ghost use Rattle.pid_rows.specs.Leaves.{GoesOn, OnlyReads};
 ghost use Rattle.pid_table_check.specs.Shapes.{ShowsLater, ExplainsLack};
+ghost use Rattle.pid_rows.specs.Clauses.{GoesOn, HasCleanDisk, OnlyReads, seen};
 
 use crate::meta::newer;
 use crate::read::meta_rows;
@@ -14,8 +12,8 @@ use sqlite::{Alter, Connection, Transaction};
 
 fn read_later<S: Alter>(tx: &mut Transaction<'_, S>) -> Result<Option<u64>, TableFault>
     ensures same_reference { tx.new.conn.ghost_name ≡ tx.old.conn.ghost_name }
-    ensures goes { GoesOn (state S.Store tx.old.conn.now) (state S.Store tx.new.conn.now) result }
-    ensures shows { HasCleanDisk (state S.Store tx.new.conn.now) → IfOk result (ShowsLater (state S.Store tx.old.conn.now).now) }
+    ensures goes { GoesOn S.Store tx.old.conn.now tx.new.conn.now result }
+    ensures shows { HasCleanDisk S.Store tx.new.conn.now → IfOk result (ShowsLater (seen S.Store tx.old.conn.now)) }
 {
     let rows = meta_rows(tx)?;
     Ok(newer(rows.as_slice()))
@@ -23,9 +21,9 @@ fn read_later<S: Alter>(tx: &mut Transaction<'_, S>) -> Result<Option<u64>, Tabl
 
 // The number of a later schema.
 fn later_schema<S: Alter>(conn: &mut Connection<S>) -> Result<Option<u64>, TableFault>
-    requires { (state S.Store conn.old).in_transaction ≡ false }
-    ensures rests { OnlyReads (state S.Store conn.old) (state S.Store conn.new) }
-    ensures shows { HasCleanDisk (state S.Store conn.new) → IfOk result (ShowsLater (state S.Store conn.old).now) }
+    requires { conn.old.in_transaction ≡ false }
+    ensures rests { OnlyReads S.Store conn.old conn.new }
+    ensures shows { HasCleanDisk S.Store conn.new → IfOk result (ShowsLater (seen S.Store conn.old)) }
 {
     let mut tx = conn.transaction();
     read_later(&mut tx)
@@ -43,9 +41,9 @@ fn unread(fault: TableFault) -> TableFault
 
 /// Why it is no registry's.
 pub(crate) fn check_lacking<S: Alter>(conn: &mut Connection<S>) -> Result<(), TableFault>
-    requires { (state S.Store conn.old).in_transaction ≡ false }
-    ensures rests { OnlyReads (state S.Store conn.old) (state S.Store conn.new) }
-    ensures told { HasCleanDisk (state S.Store conn.new) → MatchResult result (λ x. ⊥) (ExplainsLack (state S.Store conn.old).now) }
+    requires { conn.old.in_transaction ≡ false }
+    ensures rests { OnlyReads S.Store conn.old conn.new }
+    ensures told { HasCleanDisk S.Store conn.new → MatchResult result (λ x. ⊥) (ExplainsLack (seen S.Store conn.old)) }
 {
     if !can_ask(conn, META)? {
         return Err(TableFault::Damaged);

@@ -3,13 +3,12 @@ ghost use Rattle.std.specs.Prelude.{◌≡◌, [], IfOk, IfErr};
 ghost use Rattle.std.specs.List.Sorted.{IsPermutation};
 ghost use Rattle.sqlite.specs.Given.{IsPlain};
 ghost use Rattle.sqlite.specs.Listing.{understood};
-ghost use Rattle.sqlite.specs.State.{HasCleanDisk, Shown};
-ghost use Rattle.sqlite.specs.Held.{state};
-ghost use Rattle.pid_rows.specs.Leaves.{GoesOn};
 ghost use Rattle.pid_rows.specs.Schema.{pid_schema};
 ghost use Rattle.pid_rows.specs.Faults.{IsUntold};
-ghost use Rattle.pid_table_check.specs.Reading.{Answers, Judges, IsInOrder};
+ghost use Rattle.pid_table_check.specs.Reading.{IsInOrder};
 ghost use Rattle.pid_table_check.specs.Shapes.{ShowsLabels};
+ghost use Rattle.pid_rows.specs.Clauses.{GoesOn, HasCleanDisk, Shown, seen};
+ghost use Rattle.pid_table_check.specs.Clauses.{Answers, Judges};
 
 use crate::shape::{ACCOUNTS, ITEMS, META, RECEIPTS, REMARKS, SUBMISSIONS};
 use pid_rows::TableFault;
@@ -19,9 +18,9 @@ use sqlite::{Alter, Row, Transaction};
 // The rows of one query without parameters.
 fn all_rows<S: Alter>(tx: &mut Transaction<'_, S>, sql: &str) -> Result<Vec<Row>, TableFault>
     ensures same_reference { tx.new.conn.ghost_name ≡ tx.old.conn.ghost_name }
-    ensures goes { GoesOn (state S.Store tx.old.conn.now) (state S.Store tx.new.conn.now) result }
-    ensures shown { HasCleanDisk (state S.Store tx.new.conn.now) → IfOk result (λ rows. Shown sql.now [] (state S.Store tx.old.conn.now) (state S.Store tx.new.conn.now) rows.items) }
-    ensures untold { HasCleanDisk (state S.Store tx.new.conn.now) → (state S.Store tx.old.conn.now).now.schema ≡ pid_schema → IsPlain (understood pid_schema sql.now) → IfErr result IsUntold }
+    ensures goes { GoesOn S.Store tx.old.conn.now tx.new.conn.now result }
+    ensures shown { HasCleanDisk S.Store tx.new.conn.now → IfOk result (λ rows. Shown S.Store sql.now [] tx.old.conn.now tx.new.conn.now rows.items) }
+    ensures untold { HasCleanDisk S.Store tx.new.conn.now → (seen S.Store tx.old.conn.now).schema ≡ pid_schema → IsPlain (understood pid_schema sql.now) → IfErr result IsUntold }
 {
     read_inside(tx, sql, &[])
 }
@@ -29,9 +28,9 @@ fn all_rows<S: Alter>(tx: &mut Transaction<'_, S>, sql: &str) -> Result<Vec<Row>
 /// All rows of the table `meta`.
 pub(crate) fn meta_rows<S: Alter>(tx: &mut Transaction<'_, S>) -> Result<Vec<Row>, TableFault>
     ensures same_reference { tx.new.conn.ghost_name ≡ tx.old.conn.ghost_name }
-    ensures goes { GoesOn (state S.Store tx.old.conn.now) (state S.Store tx.new.conn.now) result }
-    ensures answers { Answers (state S.Store tx.old.conn.now) (state S.Store tx.new.conn.now) result (λ t. t.meta) }
-    ensures labels { HasCleanDisk (state S.Store tx.new.conn.now) → IfOk result (λ rows. ShowsLabels (state S.Store tx.old.conn.now).now rows.items) }
+    ensures goes { GoesOn S.Store tx.old.conn.now tx.new.conn.now result }
+    ensures answers { Answers S.Store tx.old.conn.now tx.new.conn.now result (λ t. t.meta) }
+    ensures labels { HasCleanDisk S.Store tx.new.conn.now → IfOk result (λ rows. ShowsLabels (seen S.Store tx.old.conn.now) rows.items) }
 {
     all_rows(tx, META)
 }
@@ -39,8 +38,8 @@ pub(crate) fn meta_rows<S: Alter>(tx: &mut Transaction<'_, S>) -> Result<Vec<Row
 /// All rows of the table `account`.
 pub(crate) fn account_rows<S: Alter>(tx: &mut Transaction<'_, S>) -> Result<Vec<Row>, TableFault>
     ensures same_reference { tx.new.conn.ghost_name ≡ tx.old.conn.ghost_name }
-    ensures goes { GoesOn (state S.Store tx.old.conn.now) (state S.Store tx.new.conn.now) result }
-    ensures answers { Answers (state S.Store tx.old.conn.now) (state S.Store tx.new.conn.now) result (λ t. t.accounts) }
+    ensures goes { GoesOn S.Store tx.old.conn.now tx.new.conn.now result }
+    ensures answers { Answers S.Store tx.old.conn.now tx.new.conn.now result (λ t. t.accounts) }
 {
     all_rows(tx, ACCOUNTS)
 }
@@ -48,8 +47,8 @@ pub(crate) fn account_rows<S: Alter>(tx: &mut Transaction<'_, S>) -> Result<Vec<
 /// All rows of the table `item`.
 pub(crate) fn item_rows<S: Alter>(tx: &mut Transaction<'_, S>) -> Result<Vec<Row>, TableFault>
     ensures same_reference { tx.new.conn.ghost_name ≡ tx.old.conn.ghost_name }
-    ensures goes { GoesOn (state S.Store tx.old.conn.now) (state S.Store tx.new.conn.now) result }
-    ensures answers { Answers (state S.Store tx.old.conn.now) (state S.Store tx.new.conn.now) result (λ t. t.items) }
+    ensures goes { GoesOn S.Store tx.old.conn.now tx.new.conn.now result }
+    ensures answers { Answers S.Store tx.old.conn.now tx.new.conn.now result (λ t. t.items) }
 {
     all_rows(tx, ITEMS)
 }
@@ -57,8 +56,8 @@ pub(crate) fn item_rows<S: Alter>(tx: &mut Transaction<'_, S>) -> Result<Vec<Row
 /// All rows of the table `submission`, by their numbers.
 pub(crate) fn submission_rows<S: Alter>(tx: &mut Transaction<'_, S>) -> Result<Vec<Row>, TableFault>
     ensures same_reference { tx.new.conn.ghost_name ≡ tx.old.conn.ghost_name }
-    ensures goes { GoesOn (state S.Store tx.old.conn.now) (state S.Store tx.new.conn.now) result }
-    ensures answers { Judges (state S.Store tx.old.conn.now) (state S.Store tx.new.conn.now) result (λ t rows. IsPermutation t.submissions rows.items × IsInOrder rows.items) (λ t e. IsUntold e) }
+    ensures goes { GoesOn S.Store tx.old.conn.now tx.new.conn.now result }
+    ensures answers { Judges S.Store tx.old.conn.now tx.new.conn.now result (λ t rows. IsPermutation t.submissions rows.items × IsInOrder rows.items) (λ t e. IsUntold e) }
 {
     all_rows(tx, SUBMISSIONS)
 }
@@ -66,8 +65,8 @@ pub(crate) fn submission_rows<S: Alter>(tx: &mut Transaction<'_, S>) -> Result<V
 /// All rows of the table `remark`.
 pub(crate) fn remark_rows<S: Alter>(tx: &mut Transaction<'_, S>) -> Result<Vec<Row>, TableFault>
     ensures same_reference { tx.new.conn.ghost_name ≡ tx.old.conn.ghost_name }
-    ensures goes { GoesOn (state S.Store tx.old.conn.now) (state S.Store tx.new.conn.now) result }
-    ensures answers { Answers (state S.Store tx.old.conn.now) (state S.Store tx.new.conn.now) result (λ t. t.remarks) }
+    ensures goes { GoesOn S.Store tx.old.conn.now tx.new.conn.now result }
+    ensures answers { Answers S.Store tx.old.conn.now tx.new.conn.now result (λ t. t.remarks) }
 {
     all_rows(tx, REMARKS)
 }
@@ -75,8 +74,8 @@ pub(crate) fn remark_rows<S: Alter>(tx: &mut Transaction<'_, S>) -> Result<Vec<R
 /// All rows of the table `receipt`.
 pub(crate) fn receipt_rows<S: Alter>(tx: &mut Transaction<'_, S>) -> Result<Vec<Row>, TableFault>
     ensures same_reference { tx.new.conn.ghost_name ≡ tx.old.conn.ghost_name }
-    ensures goes { GoesOn (state S.Store tx.old.conn.now) (state S.Store tx.new.conn.now) result }
-    ensures answers { Answers (state S.Store tx.old.conn.now) (state S.Store tx.new.conn.now) result (λ t. t.receipts) }
+    ensures goes { GoesOn S.Store tx.old.conn.now tx.new.conn.now result }
+    ensures answers { Answers S.Store tx.old.conn.now tx.new.conn.now result (λ t. t.receipts) }
 {
     all_rows(tx, RECEIPTS)
 }

@@ -1,16 +1,16 @@
 //! Receipts: each keeps a reply that is its account's own, under a key.
 ghost use Rattle.std.specs.Prelude.{◌≡◌, ◌↔◌, ◌+◌, ◌≤◌, List, ℕ, true, IsTrue, IfOk, IfErr};
 ghost use Rattle.sqlite.specs.declared.types.Value.TheVariants.{Text as TextValue};
-ghost use Rattle.sqlite.specs.Held.{state};
 ghost use Rattle.sqlite.specs.Order.{column, Row as Values};
 ghost use Rattle.pid_ident.specs.Words.{is_key as key_test};
 ghost use Rattle.std.specs.List.{All};
-ghost use Rattle.pid_rows.specs.Leaves.{GoesOn};
 ghost use Rattle.pid_rows.specs.TableRows.{number};
 ghost use Rattle.pid_table_check.specs.Conditions.{IsReceiptRow, AreReceipts};
 ghost use Rattle.pid_table_check.specs.AuthorSets.{AreAuthorsOf, HasReply, HasCounts, IsNumbered};
 ghost use Rattle.pid_rows.specs.Faults.{IsUntold};
-ghost use Rattle.pid_table_check.specs.Reading.{Judges, Refutes};
+ghost use Rattle.pid_table_check.specs.Reading.{Refutes};
+ghost use Rattle.pid_rows.specs.Clauses.{GoesOn};
+ghost use Rattle.pid_table_check.specs.Clauses.{Judges};
 
 use crate::authors::is_by;
 use crate::read::receipt_rows;
@@ -156,8 +156,8 @@ pub(crate) fn checked_receipts<S: Alter>(
     alloc: Global,
 ) -> Result<(), TableFault>
     ensures same_reference { tx.new.conn.ghost_name ≡ tx.old.conn.ghost_name }
-    ensures goes { GoesOn (state S.Store tx.old.conn.now) (state S.Store tx.new.conn.now) result }
-    ensures checks { Judges (state S.Store tx.old.conn.now) (state S.Store tx.new.conn.now) result
+    ensures goes { GoesOn S.Store tx.old.conn.now tx.new.conn.now result }
+    ensures checks { Judges S.Store tx.old.conn.now tx.new.conn.now result
         (λ t x. AreAuthorsOf authors.now t.submissions → AreReceipts t.submissions t.receipts)
         (λ t e. AreAuthorsOf authors.now t.submissions → Refutes (AreReceipts t.submissions t.receipts) e) }
 {

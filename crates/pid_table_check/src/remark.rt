@@ -1,14 +1,13 @@
 //! Remarks: those on a submission count from 1, and none is empty.
 ghost use Rattle.std.specs.Prelude.{◌≡◌, ◌↔◌, ◌++◌, ◌∷◌, List, [], IsTrue, IfOk, IfErr, OnOk};
 ghost use Rattle.std.specs.List.{All};
-ghost use Rattle.sqlite.specs.Held.{state};
 ghost use Rattle.sqlite.specs.Order.{column, Row as Values};
-ghost use Rattle.pid_rows.specs.Leaves.{GoesOn};
 ghost use Rattle.pid_rows.specs.TableRows.{number};
 ghost use Rattle.pid_table_check.specs.Conditions.{AreRemarks};
 ghost use Rattle.pid_table_check.specs.PlaceSets.{ArePlacesOf, Follows, HasPlace, IsRemarkAmong};
 ghost use Rattle.pid_rows.specs.Faults.{IsUntold};
-ghost use Rattle.pid_table_check.specs.Reading.{Checks};
+ghost use Rattle.pid_rows.specs.Clauses.{GoesOn};
+ghost use Rattle.pid_table_check.specs.Clauses.{Checks};
 
 use crate::read::remark_rows;
 use crate::value::{has_words, number_at};
@@ -24,7 +23,8 @@ fn insert_place(
     submission: u64,
     place: u64,
 ) -> Result<(), TableFault>
-    ensures added { (rows : List Values) (row : Values) → column row 0 ≡ number submission → column row 1 ≡ number place → ArePlacesOf places.old rows → OnOk result (ArePlacesOf places.new (rows ++ row ∷ [])) }
+    ensures added { (rows : List Values) (row : Values) → column row 0 ≡ number submission → column row 1 ≡ number place
+        → ArePlacesOf places.old rows → OnOk result (ArePlacesOf places.new (rows ++ row ∷ [])) }
     ensures untold { IfErr result IsUntold }
 {
     match places.insert((submission, place)) {
@@ -119,8 +119,8 @@ pub(crate) fn checked_remarks<S: Alter>(
     alloc: Global,
 ) -> Result<Vec<Row>, TableFault>
     ensures same_reference { tx.new.conn.ghost_name ≡ tx.old.conn.ghost_name }
-    ensures goes { GoesOn (state S.Store tx.old.conn.now) (state S.Store tx.new.conn.now) result }
-    ensures checks { Checks (state S.Store tx.old.conn.now) (state S.Store tx.new.conn.now) result (λ t. t.remarks) (λ t. AreRemarks t.remarks) }
+    ensures goes { GoesOn S.Store tx.old.conn.now tx.new.conn.now result }
+    ensures checks { Checks S.Store tx.old.conn.now tx.new.conn.now result (λ t. t.remarks) (λ t. AreRemarks t.remarks) }
 {
     let rows = remark_rows(tx)?;
     let good = are_remarks(rows.as_slice(), alloc)?;

@@ -2,15 +2,13 @@
 ghost use Rattle.std.specs.Prelude.{◌≡◌, ◌↔◌, ◌<◌, [], length, false, true, IsTrue, IfOk, IfErr, OnOk};
 ghost use Rattle.std.specs.List.{All, Any};
 ghost use Rattle.sqlite.specs.Held.{state};
-ghost use Rattle.sqlite.specs.State.{HasCleanDisk};
 ghost use Rattle.pid_rows.specs.Faults.{fault_of, IsUntold};
 ghost use Rattle.pid_rows.specs.declared.fault.TableFault.TheVariants.{Damaged};
 ghost use Rattle.pid_moderation.specs.Views.{Views};
-ghost use Rattle.pid_rows.specs.Causes.{IsCaused};
-ghost use Rattle.pid_rows.specs.Leaves.{AtRest, OnlyReads, Tells};
 ghost use Rattle.pid_rows.specs.Queries.{IsQuery};
 ghost use Rattle.pid_table_check.specs.Shapes.{IsAsked, HasEachTable, HasSomeTable};
 ghost use Rattle.pid_table_check.specs.Queries.{query_of};
+ghost use Rattle.pid_rows.specs.Clauses.{AtRest, HasCleanDisk, IsCaused, OnlyReads, Tells, is_open, seen};
 
 use pid_rows::TableFault;
 use sqlite::{Alter, Connection, Error};
@@ -29,13 +27,13 @@ fn unasked(error: Error) -> Result<bool, TableFault>
 
 /// Whether a query can be asked: whether its text is understood.
 pub(crate) fn can_ask<S: Alter>(conn: &mut Connection<S>, sql: &str) -> Result<bool, TableFault>
-    requires { (state S.Store conn.old).in_transaction ≡ false }
-    ensures rests { OnlyReads (state S.Store conn.old) (state S.Store conn.new) }
-    ensures same { HasCleanDisk (state S.Store conn.new) → IfOk result (λ asked. (state S.Store conn.new).now ≡ (state S.Store conn.old).now) }
-    ensures asked { HasCleanDisk (state S.Store conn.new) → IfOk result (λ asked. IsTrue asked ↔ IsAsked (state S.Store conn.old).now.schema sql.now) }
-    ensures was_open { HasCleanDisk (state S.Store conn.new) → OnOk result (IsTrue (state S.Store conn.old).is_open) }
+    requires { conn.old.in_transaction ≡ false }
+    ensures rests { OnlyReads S.Store conn.old conn.new }
+    ensures same { HasCleanDisk S.Store conn.new → IfOk result (λ asked. (seen S.Store conn.new) ≡ (seen S.Store conn.old)) }
+    ensures asked { HasCleanDisk S.Store conn.new → IfOk result (λ asked. IsTrue asked ↔ IsAsked (seen S.Store conn.old).schema sql.now) }
+    ensures was_open { HasCleanDisk S.Store conn.new → OnOk result (IsTrue (is_open S.Store conn.old)) }
     ensures untold { IfErr result IsUntold }
-    ensures caused { HasCleanDisk (state S.Store conn.new) → (v : Views) → AtRest (state S.Store conn.old) v → IsQuery sql.now [] → IfErr result (IsCaused (state S.Store conn.old) (state S.Store conn.new)) }
+    ensures caused { HasCleanDisk S.Store conn.new → (v : Views) → AtRest S.Store conn.old v → IsQuery sql.now [] → IfErr result (IsCaused S.Store conn.old conn.new) }
 {
     match conn.prepare(sql).err() {
         None => Ok(true),
@@ -90,11 +88,11 @@ fn query(table: Table) -> &'static str
 }
 
 fn has_all<S: Alter>(conn: &mut Connection<S>, tables: &[Table]) -> Result<bool, TableFault>
-    requires { (state S.Store conn.old).in_transaction ≡ false }
-    ensures rests { OnlyReads (state S.Store conn.old) (state S.Store conn.new) }
-    ensures same { HasCleanDisk (state S.Store conn.new) → IfOk result (λ all. (state S.Store conn.new).now ≡ (state S.Store conn.old).now) }
-    ensures asked { HasCleanDisk (state S.Store conn.new) → IfOk result (λ all. IsTrue all ↔ All (λ t. IsAsked (state S.Store conn.old).now.schema (query_of t)) tables.now) }
-    ensures was_open { HasCleanDisk (state S.Store conn.new) → 0 < length tables.now → OnOk result (IsTrue (state S.Store conn.old).is_open) }
+    requires { conn.old.in_transaction ≡ false }
+    ensures rests { OnlyReads S.Store conn.old conn.new }
+    ensures same { HasCleanDisk S.Store conn.new → IfOk result (λ all. (seen S.Store conn.new) ≡ (seen S.Store conn.old)) }
+    ensures asked { HasCleanDisk S.Store conn.new → IfOk result (λ all. IsTrue all ↔ All (λ t. IsAsked (seen S.Store conn.old).schema (query_of t)) tables.now) }
+    ensures was_open { HasCleanDisk S.Store conn.new → 0 < length tables.now → OnOk result (IsTrue (is_open S.Store conn.old)) }
     ensures untold { IfErr result IsUntold }
 {
     for table in tables {
@@ -106,13 +104,13 @@ fn has_all<S: Alter>(conn: &mut Connection<S>, tables: &[Table]) -> Result<bool,
 }
 
 fn has_any<S: Alter>(conn: &mut Connection<S>, tables: &[Table]) -> Result<bool, TableFault>
-    requires { (state S.Store conn.old).in_transaction ≡ false }
-    ensures rests { OnlyReads (state S.Store conn.old) (state S.Store conn.new) }
-    ensures same { HasCleanDisk (state S.Store conn.new) → IfOk result (λ any. (state S.Store conn.new).now ≡ (state S.Store conn.old).now) }
-    ensures asked { HasCleanDisk (state S.Store conn.new) → IfOk result (λ any. IsTrue any ↔ Any (λ t. IsAsked (state S.Store conn.old).now.schema (query_of t)) tables.now) }
-    ensures was_open { HasCleanDisk (state S.Store conn.new) → 0 < length tables.now → OnOk result (IsTrue (state S.Store conn.old).is_open) }
+    requires { conn.old.in_transaction ≡ false }
+    ensures rests { OnlyReads S.Store conn.old conn.new }
+    ensures same { HasCleanDisk S.Store conn.new → IfOk result (λ any. (seen S.Store conn.new) ≡ (seen S.Store conn.old)) }
+    ensures asked { HasCleanDisk S.Store conn.new → IfOk result (λ any. IsTrue any ↔ Any (λ t. IsAsked (seen S.Store conn.old).schema (query_of t)) tables.now) }
+    ensures was_open { HasCleanDisk S.Store conn.new → 0 < length tables.now → OnOk result (IsTrue (is_open S.Store conn.old)) }
     ensures untold { IfErr result IsUntold }
-    ensures caused { HasCleanDisk (state S.Store conn.new) → (v : Views) → AtRest (state S.Store conn.old) v → IfErr result (IsCaused (state S.Store conn.old) (state S.Store conn.new)) }
+    ensures caused { HasCleanDisk S.Store conn.new → (v : Views) → AtRest S.Store conn.old v → IfErr result (IsCaused S.Store conn.old conn.new) }
 {
     for table in tables {
         if can_ask(conn, query(*table))? {
@@ -124,11 +122,11 @@ fn has_any<S: Alter>(conn: &mut Connection<S>, tables: &[Table]) -> Result<bool,
 
 /// Whether each of the six tables is there.
 pub(crate) fn has_each_table<S: Alter>(conn: &mut Connection<S>) -> Result<bool, TableFault>
-    requires { (state S.Store conn.old).in_transaction ≡ false }
-    ensures rests { OnlyReads (state S.Store conn.old) (state S.Store conn.new) }
-    ensures same { HasCleanDisk (state S.Store conn.new) → IfOk result (λ each. (state S.Store conn.new).now ≡ (state S.Store conn.old).now) }
-    ensures asked { HasCleanDisk (state S.Store conn.new) → IfOk result (λ each. IsTrue each ↔ HasEachTable (state S.Store conn.old).now.schema) }
-    ensures was_open { HasCleanDisk (state S.Store conn.new) → OnOk result (IsTrue (state S.Store conn.old).is_open) }
+    requires { conn.old.in_transaction ≡ false }
+    ensures rests { OnlyReads S.Store conn.old conn.new }
+    ensures same { HasCleanDisk S.Store conn.new → IfOk result (λ each. (seen S.Store conn.new) ≡ (seen S.Store conn.old)) }
+    ensures asked { HasCleanDisk S.Store conn.new → IfOk result (λ each. IsTrue each ↔ HasEachTable (seen S.Store conn.old).schema) }
+    ensures was_open { HasCleanDisk S.Store conn.new → OnOk result (IsTrue (is_open S.Store conn.old)) }
     ensures untold { IfErr result IsUntold }
 {
     has_all(conn, &TABLES)
@@ -137,13 +135,13 @@ pub(crate) fn has_each_table<S: Alter>(conn: &mut Connection<S>) -> Result<bool,
 /// Whether some of the six tables is there: whether a query of its columns by their names can be prepared. Nothing is said
 /// of its rows.
 pub fn has_some_table<S: Alter>(conn: &mut Connection<S>) -> Result<bool, TableFault>
-    requires { (state S.Store conn.old).in_transaction ≡ false }
-    ensures rests { OnlyReads (state S.Store conn.old) (state S.Store conn.new) }
-    ensures same { HasCleanDisk (state S.Store conn.new) → IfOk result (λ some. (state S.Store conn.new).now ≡ (state S.Store conn.old).now) }
-    ensures asked { HasCleanDisk (state S.Store conn.new) → IfOk result (λ some. IsTrue some ↔ HasSomeTable (state S.Store conn.old).now.schema) }
-    ensures was_open { HasCleanDisk (state S.Store conn.new) → OnOk result (IsTrue (state S.Store conn.old).is_open) }
+    requires { conn.old.in_transaction ≡ false }
+    ensures rests { OnlyReads S.Store conn.old conn.new }
+    ensures same { HasCleanDisk S.Store conn.new → IfOk result (λ some. (seen S.Store conn.new) ≡ (seen S.Store conn.old)) }
+    ensures asked { HasCleanDisk S.Store conn.new → IfOk result (λ some. IsTrue some ↔ HasSomeTable (seen S.Store conn.old).schema) }
+    ensures was_open { HasCleanDisk S.Store conn.new → OnOk result (IsTrue (is_open S.Store conn.old)) }
     ensures untold { IfErr result IsUntold }
-    ensures found { Tells (state S.Store conn.old) (state S.Store conn.new) result (λ v some. some ≡ true) }
+    ensures found { Tells S.Store conn.old conn.new result (λ v some. some ≡ true) }
 {
     has_any(conn, &TABLES)
 }

@@ -5,11 +5,11 @@ ghost use Rattle.sqlite.specs.Order.{column};
 ghost use Rattle.pid_moderation.specs.WellMade.{ProposesName};
 ghost use Rattle.pid_rows.specs.TableRows.{number, form_of, name_of, state_number, decider_of, reason_of};
 ghost use Rattle.pid_table_check.specs.NameSets.{IsAmong, IsDecidedAmong, IsSubmissionAmong, AreSubmissionsAmong, Stands, AreReady};
-ghost use Rattle.sqlite.specs.Held.{state};
 ghost use Rattle.std.specs.List.Sorted.{IsPermutation};
-ghost use Rattle.pid_rows.specs.Leaves.{GoesOn};
 ghost use Rattle.pid_table_check.specs.Conditions.{AreSubmissions};
-ghost use Rattle.pid_table_check.specs.Reading.{Judges, Refutes};
+ghost use Rattle.pid_table_check.specs.Reading.{Refutes};
+ghost use Rattle.pid_rows.specs.Clauses.{GoesOn};
+ghost use Rattle.pid_table_check.specs.Clauses.{Judges};
 
 use crate::names;
 use crate::read::submission_rows;
@@ -57,7 +57,8 @@ fn is_withdrawn(row: &Row, author: &str) -> bool
 }
 
 fn is_decided(row: &Row, names: &BTreeSet<String>, author: &str) -> bool
-    ensures { IsTrue result ↔ ((s : _) × (column row.now 6 ≡ number (state_number s)) × (column row.now 7 ≡ TextValue (decider_of author.now s)) × (column row.now 8 ≡ TextValue (reason_of s)) × IsDecidedAmong names.now author.now s) }
+    ensures { IsTrue result ↔ ((s : _) × (column row.now 6 ≡ number (state_number s)) × (column row.now 7 ≡ TextValue (decider_of author.now s))
+        × (column row.now 8 ≡ TextValue (reason_of s)) × IsDecidedAmong names.now author.now s) }
 {
     match number_at(row, 6) {
         Some(0) => is_blank(row, 7) && is_blank(row, 8),
@@ -120,8 +121,8 @@ pub(crate) fn checked_submissions<S: Alter>(
     names: &BTreeSet<String>,
 ) -> Result<Vec<Row>, TableFault>
     ensures same_reference { tx.new.conn.ghost_name ≡ tx.old.conn.ghost_name }
-    ensures goes { GoesOn (state S.Store tx.old.conn.now) (state S.Store tx.new.conn.now) result }
-    ensures checks { Judges (state S.Store tx.old.conn.now) (state S.Store tx.new.conn.now) result
+    ensures goes { GoesOn S.Store tx.old.conn.now tx.new.conn.now result }
+    ensures checks { Judges S.Store tx.old.conn.now tx.new.conn.now result
         (λ t rows. IsPermutation t.submissions rows.items × (AreReady names.now t → AreSubmissions t.accounts t.submissions))
         (λ t e. AreReady names.now t → Refutes (AreSubmissions t.accounts t.submissions) e) }
 {

@@ -1,22 +1,22 @@
 -- The items below a path, by the ranges in which they stand.
-use Rattle.std.proofs.Common.{◌≡◌, ◌⊎◌, inl, inr, ℕ, List, [], ◌∷◌, ◌++◌, length, filter, codes, Bool, true, false, cond, Some, Ordering, Less, Equal, Greater, is_lt, refl, sym, ap, subst, ◌∙◌, reverse, append-nil, append_assoc, Err}
+use Rattle.std.proofs.Common.{◌≡◌, ◌⊎◌, inl, inr, ℕ, List, [], ◌∷◌, ◌++◌, length, filter, map, ◌+◌, codes, Bool, true, false, cond, Some, Ordering, Less, Equal, Greater, is_lt, refl, sym, ap, subst, ◌∙◌, reverse, append-nil, append_assoc, Err}
 use Rattle.std.specs.Prelude.{option_map}
 use Rattle.std.specs.FinMap.Entries.{is_sorted, below_all}
 use Rattle.std.specs.Cmp.Lexicographic.{nat_list_cmp_total}
 use Rattle.std.proofs.lemmas.Bool.{and_parts, cases_Bool, false_from_ne_true}
-use Rattle.std.proofs.lemmas.List.{reverse-append, reverse-reverse}
+use Rattle.std.proofs.lemmas.List.{map-append, reverse-append, reverse-reverse}
 use Rattle.std.proofs.lemmas.List.Elements.{filter-append}
-use Rattle.pid_reader.specs.LookingBack.{Item}
+use Rattle.pid_reader.specs.Numbered.{Numbered, item_in}
 use Rattle.pid_reader.specs.Sinks.{Took}
 use Rattle.sqlite.specs.State.{State}
 use Rattle.pid_moderation.specs.Views.{Views}
 use Rattle.pid_rows.specs.declared.fault.TableFault.{TableFault}
 use Rattle.pid_rows.specs.declared.fault.TableFault.TheVariants.{Memory}
 use Rattle.pid_rows.specs.Causes.{IsCaused}
-use Rattle.pid_table_lists.specs.EachItem.{TakesEach, IsCausedEnd}
+use Rattle.pid_table_lists.specs.EachItem.{TakesEach, IsCausedEnd, placed_from}
 use Rattle.pid_table_lists.specs.declared.walk.EachEnd.{EachEnd}
 use Rattle.pid_table_lists.specs.declared.walk.EachEnd.TheVariants.{Tables, Fault}
-use Rattle.pid_rows.proofs.ChildLemmas.{item_path, stands, is_no_vendor}
+use Rattle.pid_rows.proofs.ChildLemmas.{item_path, stands, is_no_vendor, generics_of}
 use Rattle.std.proofs.lemmas.Cmp.{tied_itself}
 use Rattle.sqlite_rules.specs.Lists.{Has}
 use Rattle.pid_ident.specs.Trees.{text_cmp}
@@ -25,7 +25,7 @@ use Rattle.pid_ident.specs.declared.path.Path.{Path}
 use Rattle.pid_ident.specs.declared.path.Path.TheVariants.{Vendor, Device, Subsystem, Class, Subclass, ProgIf, Generic}
 use Rattle.pid_moderation.specs.Items.{Items, parent_text}
 use Rattle.pid_moderation.specs.WellMade.{AllItems}
-use Rattle.pid_rows.specs.Ranges.{is_between, generics_of}
+use Rattle.pid_rows.specs.Ranges.{is_between}
 use Rattle.pid_table_lists.specs.Children.{stands_below, children_of}
 
 pub parent_texts : (path : Path) → parent_text (path_text path) ≡ option_map path_text (parent_of path)
@@ -135,14 +135,21 @@ vendor_below items a sorted all = by_ranges (child_of (Vendor a)) (behind (path_
 
 -- ---- a sink that keeps some
 
-pub kept_all : {S : Type 0} (view : S → Items) (f : List ℕ × List ℕ → Bool) (old new : S) (es : Items) → Took (λ s e t. view t ≡ view s ++ filter f (e ∷ [])) old es new → view new ≡ view old ++ filter f (reverse es)
+pub kept_all : {S : Type 0} (view : S → Items) (f : List ℕ × List ℕ → Bool) (old new : S) (es : List Numbered) → Took (λ s (e : Numbered) t. view t ≡ view s ++ filter f (item_in e ∷ [])) old es new → view new ≡ view old ++ filter f (map item_in (reverse es))
 kept_all view f old new [] h = ap view h ∙ sym (append-nil (view old))
 kept_all view f old new (e ∷ es) h =
-    h.2 ∙ ap (λ l. l ++ filter f (e ∷ [])) (kept_all view f old h.0 es h.1) ∙ append_assoc (view old) (filter f (reverse es)) (filter f (e ∷ []))
-    ∙ ap (λ l. view old ++ l) (sym (filter-append f (reverse es) (e ∷ [])) ∙ ap (filter f) (sym (reverse-append (e ∷ []) es)))
+    h.2 ∙ ap (λ l. l ++ filter f (item_in e ∷ [])) (kept_all view f old h.0 es h.1) ∙ append_assoc (view old) (filter f (map item_in (reverse es))) (filter f (item_in e ∷ []))
+    ∙ ap (λ l. view old ++ l) (sym (filter-append f (map item_in (reverse es)) (item_in e ∷ []))
+    ∙ ap (filter f) (sym (ap (map item_in) (reverse-append (e ∷ []) es) ∙ map-append item_in (reverse es) (e ∷ []))))
 
-pub kept_each : {S : Type 0} (view : S → Items) (f : List ℕ × List ℕ → Bool) (old new : S) (items : Items) → view old ≡ [] → Took (λ s e t. view t ≡ view s ++ filter f (e ∷ [])) old (reverse items) new → view new ≡ filter f items
-kept_each view f old new items none h = kept_all view f old new (reverse items) h ∙ ap (λ l. l ++ filter f (reverse (reverse items))) none ∙ ap (filter f) (reverse-reverse items)
+placed_items : (place : ℕ) (items : Items) → map item_in (placed_from place items) ≡ items
+placed_items place [] = refl
+placed_items place (item ∷ items) = ap (λ l. item ∷ l) (placed_items (place + 1) items)
+
+pub kept_each : {S : Type 0} (view : S → Items) (f : List ℕ × List ℕ → Bool) (old new : S) (items : Items) → view old ≡ [] → Took (λ s (e : Numbered) t. view t ≡ view s ++ filter f (item_in e ∷ [])) old (reverse (placed_from 1 items)) new → view new ≡ filter f items
+kept_each view f old new items none h =
+    kept_all view f old new (reverse (placed_from 1 items)) h ∙ ap (λ l. l ++ filter f (map item_in (reverse (reverse (placed_from 1 items))))) none
+    ∙ ap (filter f) (ap (map item_in) (reverse-reverse (placed_from 1 items)) ∙ placed_items 1 items)
 
 -- what is kept of items that are paths with names is too
 pub kept_items : (f : List ℕ × List ℕ → Bool) (items : Items) → AllItems items → AllItems (filter f items)
@@ -150,9 +157,9 @@ kept_items f [] all = tt
 kept_items f (e ∷ items) all = elim (f e) as (λ b. AllItems (cond b (e ∷ filter f items) (filter f items))) [ true ↦ (all.0, kept_items f items all.1) | false ↦ kept_items f items all.1 ]
 
 -- the walk that keeps some ended for a cause, or the sink's memory was short
-pub top_caused : {S : Type 0} (old new : State) (v : Views) (takes : S → Item → S → Type 0) (before after : S) (end : EachEnd TableFault) (fault : TableFault)
+pub top_caused : {S : Type 0} (old new : State) (v : Views) (takes : S → Numbered → S → Type 0) (before after : S) (end : EachEnd TableFault) (fault : TableFault)
     → ((t : TableFault) → end ≡ Tables t → fault ≡ t) → ((t : TableFault) → end ≡ Fault t → fault ≡ t) → IsCausedEnd old new end
-    → TakesEach {X = Unit {0}} takes (λ s e f t. f ≡ Memory) (Err end) v.items before after → IsCaused old new fault
+    → TakesEach {X = Unit {0}} takes (λ s e f t. f ≡ Memory) (Err end) (placed_from 1 v.items) before after → IsCaused old new fault
 top_caused old new v takes before after (Tables t) fault tables sink caused took = subst (IsCaused old new) (sym (tables t refl)) caused
 top_caused old new v takes before after (Fault t) fault tables sink caused took = subst (IsCaused old new) (sym (sink t refl ∙ took.6)) tt
 

@@ -14,6 +14,7 @@ use Rattle.sqlite_trees.specs.declared.store.Store.{Ghosts}
 use Rattle.pid_moderation.specs.Items.{Items}
 use Rattle.pid_moderation.specs.Views.{Views}
 use Rattle.pid_reader.specs.LookingBack.{Item}
+use Rattle.pid_reader.specs.Numbered.{Numbered}
 use Rattle.pid_reader.specs.Sinks.{Took}
 use Rattle.pid_rows.specs.Answers.{item_shown}
 use Rattle.sqlite.specs.Effect.{Database}
@@ -33,7 +34,7 @@ use Rattle.pid_rows.specs.Shows.{Shows, counts_of}
 use Rattle.pid_rows.proofs.GoingLemmas.{earlier}
 use Rattle.pid_rows.proofs.ReadLemmas.{fails_to_query}
 use Rattle.pid_rows.proofs.OnlyReading.{Keeps, keeps_same, keeps_back, keeps_then, rests_on}
-use Rattle.pid_table_lists.specs.EachItem.{TakesOne, TakesEach, IsCausedEnd, IsUnreadEnd}
+use Rattle.pid_table_lists.specs.EachItem.{TakesOne, TakesEach, IsCausedEnd, IsUnreadEnd, placed_from}
 use Rattle.pid_table_lists.specs.declared.walk.EachEnd.{EachEnd}
 use Rattle.pid_table_lists.specs.declared.walk.EachEnd.TheVariants.{Tables, Fault}
 use Rattle.pid_table_lists.proofs.ItemLists.{select_all, select_all_shows, all_query, all_found, front_found}
@@ -86,25 +87,41 @@ head a b xs ys e = cc
 behind_head : (a b : Row) (xs ys : List Row) → a ∷ xs ≡ b ∷ ys → xs ≡ ys
 behind_head a b xs ys e = cc
 
+-- the row of the item behind so many, and that item with its place
+pub record IsNext (items : Items) (placed : List Numbered) (row : Row) (n place : ℕ) : Type 0 where
+  pub item : Item
+  pub is : row ≡ item_shown item
+  pub there : Has items item
+  pub behind : List Numbered
+  pub parts : placed ≡ take n placed ++ (place, item) ∷ behind
+  pub more : take (suc n) placed ≡ take n placed ++ (place, item) ∷ []
+
 -- the item of one more row
-pub next_item : (given : List Row) (row : Row) (tail : List Row) (items : Items) → (given ++ row ∷ []) ++ tail ≡ map item_shown items
-    → (item : Item) × (row ≡ item_shown item) × (behind : Items) × (items ≡ take (length given) items ++ item ∷ behind) × (take (suc (length given)) items ≡ take (length given) items ++ item ∷ [])
-next_item given row tail [] is = absurd (let long = ap length is in omega (arith, length-append (given ++ row ∷ []) tail, length-append given (row ∷ [])))
-next_item [] row tail (i ∷ items) is = (i, head row (item_shown i) tail (map item_shown items) is, items, refl, refl)
-next_item (r ∷ given) row tail (i ∷ items) is =
-    let more = next_item given row tail items (behind_head r (item_shown i) ((given ++ row ∷ []) ++ tail) (map item_shown items) is) in
-    (more.0, more.1, more.2, ap (λ l. i ∷ l) more.3, ap (λ l. i ∷ l) more.4)
+pub next_item : (first place : ℕ) (given : List Row) (row : Row) (tail : List Row) (items : Items) → place ≡ first + length given → (given ++ row ∷ []) ++ tail ≡ map item_shown items
+    → IsNext items (placed_from first items) row (length given) place
+next_item first place given row tail [] at is = absurd (let long = ap length is in omega (arith, length-append (given ++ row ∷ []) tail, length-append given (row ∷ [])))
+next_item first place [] row tail (i ∷ items) at is =
+    let same : place ≡ first = omega (arith, at) in
+    record { item = i; is = head row (item_shown i) tail (map item_shown items) is; there = inl refl; behind = placed_from (first + 1) items; parts = ap (λ p. (p, i) ∷ placed_from (first + 1) items) (sym same); more = ap (λ p. (p, i) ∷ []) (sym same) }
+next_item first place (r ∷ given) row tail (i ∷ items) at is =
+    let later : place ≡ (first + 1) + length given = omega (arith, at) in
+    let more = next_item (first + 1) place given row tail items later (behind_head r (item_shown i) ((given ++ row ∷ []) ++ tail) (map item_shown items) is) in
+    record { item = more.item; is = more.is; there = inr more.there; behind = more.behind; parts = ap (λ l. (first, i) ∷ l) more.parts; more = ap (λ l. (first, i) ∷ l) more.more }
+
+pub placed_count : (first : ℕ) (items : Items) → length (placed_from first items) ≡ length items
+placed_count first [] = refl
+placed_count first (i ∷ items) = ap suc (placed_count (first + 1) items)
 
 -- ---- the walk
 
 -- so many rows were given, and the sink took the items that they are
-pub record HasWalked {S K : Type 0} (g : Ghosts S) (takes : K → Item → K → Type 0) (old now : Held S) (before sink : K) (n : ℕ) : Type 0 where
+pub record HasWalked {S K : Type 0} (g : Ghosts S) (takes : K → Numbered → K → Type 0) (old now : Held S) (before sink : K) (n : ℕ) : Type 0 where
   pub settled : now.in_transaction ≡ false
   pub survives : Survives (state g old) (state g now) (λ _. ⊥)
   pub given : HasCleanDisk (state g now) → (rows : List Row) × (length rows ≡ n) × HasGiven g select_all [] now rows × IsUnchanged (state g old) (state g now)
-  pub took : HasCleanDisk (state g now) → (v : Views) → AtRest (state g old) v → Took takes before (reverse (take n v.items)) sink
+  pub took : HasCleanDisk (state g now) → (v : Views) → AtRest (state g old) v → Took takes before (reverse (take n (placed_from 1 v.items))) sink
 
-module _ {S K F : Type 0} (g : Ghosts S) (takes : K → Item → K → Type 0) (faults : K → Item → F → K → Type 0) (old : Held S) (before : K) where
+module _ {S K F : Type 0} (g : Ghosts S) (takes : K → Numbered → K → Type 0) (faults : K → Numbered → F → K → Type 0) (old : Held S) (before : K) where
   -- a step on
   pub stepped : (mid new : Held S) (sink : K) (n : ℕ) → HasWalked g takes old mid before sink n → Survives (state g mid) (state g new) (λ _. ⊥) → Survives (state g old) (state g new) (λ _. ⊥)
   stepped mid new sink n w s = survives_then (state g old) (state g mid) (state g new) _ _ (λ _. ⊥) (λ _ db none. none) (λ _ db none. none) w.survives s
@@ -120,9 +137,9 @@ module _ {S K F : Type 0} (g : Ghosts S) (takes : K → Item → K → Type 0) (
 
   -- the tables faulted behind some items
   pub faulted : {X : Type 0} (mid new : Held S) (sink : K) (n : ℕ) → HasWalked g takes old mid before sink n → Survives (state g mid) (state g new) (λ _. ⊥) → HasCleanDisk (state g new) → (v : Views) → AtRest (state g old) v
-      → (r : Result X (EachEnd F)) (t : _) → r ≡ Err (Tables t) → TakesEach takes faults r v.items before sink
-  faulted mid new sink n w s clean v rest r t is = subst (λ r. TakesEach takes faults r v.items before sink) (sym is)
-      (take n v.items, drop n v.items, sym (take-append-drop n v.items), w.took (earlier (state g mid) (state g new) s clean) v rest)
+      → (r : Result X (EachEnd F)) (t : _) → r ≡ Err (Tables t) → TakesEach takes faults r (placed_from 1 v.items) before sink
+  faulted mid new sink n w s clean v rest r t is = subst (λ r. TakesEach takes faults r (placed_from 1 v.items) before sink) (sym is)
+      (take n (placed_from 1 v.items), drop n (placed_from 1 v.items), sym (take-append-drop n (placed_from 1 v.items)), w.took (earlier (state g mid) (state g new) s clean) v rest)
 
   -- the query began
   pub begun : (new : Held S) → old.in_transaction ≡ false → new.in_transaction ≡ false → Survives (state g old) (state g new) (CommitsShowing select_all [] (state g old)) → (HasCleanDisk (state g new) → HasBegun g select_all [] old new)
@@ -145,13 +162,12 @@ module _ {S K F : Type 0} (g : Ghosts S) (takes : K → Item → K → Type 0) (
     pub same : IsUnchanged (state g old) (state g now)
 
   -- it is the next item's
-  pub its_item : (now : Held S) (row : Row) (n : ℕ) (v : Views) → AtRest (state g old) v → OneMore now row n
-      → (item : Item) × (row ≡ item_shown item) × (behind : Items) × (v.items ≡ take n v.items ++ item ∷ behind) × (take (suc n) v.items ≡ take n v.items ++ item ∷ [])
+  pub its_item : (now : Held S) (row : Row) (n : ℕ) (v : Views) → AtRest (state g old) v → OneMore now row n → IsNext v.items (placed_from 1 v.items) row n (n + 1)
   its_item now row n v rest more =
       let same = more.same.0 in
       let front = front_found (state g old).now (counts_of v) v (rest.shows same.was_open) (state g now) same.now_is (more.rows ++ row ∷ []) (given_begin g select_all [] now (more.rows ++ row ∷ []) more.given) in
-      subst (λ k. (item : Item) × (row ≡ item_shown item) × (behind : Items) × (v.items ≡ take k v.items ++ item ∷ behind) × (take (suc k) v.items ≡ take k v.items ++ item ∷ [])) more.count
-      (next_item more.rows row front.0 v.items front.1)
+      let count = more.count in
+      subst (λ k. IsNext v.items (placed_from 1 v.items) row k (n + 1)) count (next_item 1 (n + 1) more.rows row front.0 v.items (omega (arith, count)) front.1)
 
   one_more : (mid new : Held S) (sink : K) (n : ℕ) (row : Row) → HasWalked g takes old mid before sink n → Survives (state g mid) (state g new) (λ _. ⊥) → (HasCleanDisk (state g new) → IsUnchanged (state g mid) (state g new))
       → (HasCleanDisk (state g new) → (rows : List Row) → HasGiven g select_all [] mid rows → HasGiven g select_all [] new (rows ++ row ∷ [])) → HasCleanDisk (state g new) → OneMore new row n
@@ -163,45 +179,52 @@ module _ {S K F : Type 0} (g : Ghosts S) (takes : K → Item → K → Type 0) (
   pub taken : {X : Type 0} (mid new : Held S) (sink after : K) (n : ℕ) (row : Row) (r : Result X (EachEnd F)) (x : X) → HasWalked g takes old mid before sink n → Survives (state g mid) (state g new) (λ _. ⊥) → new.in_transaction ≡ false
       → (HasCleanDisk (state g new) → IsUnchanged (state g mid) (state g new))
       → (HasCleanDisk (state g new) → (rows : List Row) → HasGiven g select_all [] mid rows → HasGiven g select_all [] new (rows ++ row ∷ []))
-      → r ≡ Ok x → ((item : Item) → row ≡ item_shown item → TakesOne takes faults r item sink after) → HasWalked g takes old new before after (n + 1)
+      → r ≡ Ok x → ((item : Item) → row ≡ item_shown item → TakesOne takes faults r (n + 1, item) sink after) → HasWalked g takes old new before after (n + 1)
   taken mid new sink after n row r x w s settled same gives is takes_it = record {
     settled = settled;
     survives = stepped mid new sink n w s;
     given = λ clean. let more = one_more mid new sink n row w s same gives clean in (more.rows ++ row ∷ [], length-append more.rows (row ∷ []) ∙ ap (λ k. k + 1) more.count, more.given, more.same);
     took = λ clean v rest.
         let it = its_item new row n v rest (one_more mid new sink n row w s same gives clean) in
-        let back : reverse (take (n + 1) v.items) ≡ it.0 ∷ reverse (take n v.items) = ap (λ k. reverse (take k v.items)) (Rattle.std.proofs.Common.add-one n) ∙ ap reverse it.4 ∙ reverse-append (take n v.items) (it.0 ∷ []) in
+        let all = placed_from 1 v.items in
+        let next : Numbered = (n + 1, it.item) in
+        let back : reverse (take (n + 1) all) ≡ next ∷ reverse (take n all) = ap (λ k. reverse (take k all)) (Rattle.std.proofs.Common.add-one n) ∙ ap reverse it.more ∙ reverse-append (take n all) (next ∷ []) in
         subst (λ l. Took takes before l after) (sym back)
-        (sink, w.took (earlier (state g mid) (state g new) s clean) v rest, subst (λ r. TakesOne takes faults r it.0 sink after) is (takes_it it.0 it.1));
+        (sink, w.took (earlier (state g mid) (state g new) s clean) v rest, subst (λ r. TakesOne takes faults r next sink after) is (takes_it it.item it.is));
   }
 
   -- or it faulted at it, or the tables did
   pub not_taken : {X Y : Type 0} (mid new : Held S) (sink after : K) (n : ℕ) (row : Row) (r : Result X (EachEnd F)) (e : EachEnd F) (end : Result Y (EachEnd F)) → HasWalked g takes old mid before sink n → Survives (state g mid) (state g new) (λ _. ⊥)
       → (HasCleanDisk (state g new) → IsUnchanged (state g mid) (state g new))
       → (HasCleanDisk (state g new) → (rows : List Row) → HasGiven g select_all [] mid rows → HasGiven g select_all [] new (rows ++ row ∷ []))
-      → r ≡ Err e → end ≡ Err e → ((item : Item) → row ≡ item_shown item → TakesOne takes faults r item sink after) → HasCleanDisk (state g new) → (v : Views) → AtRest (state g old) v
-      → TakesEach takes faults end v.items before after
+      → r ≡ Err e → end ≡ Err e → ((item : Item) → row ≡ item_shown item → TakesOne takes faults r (n + 1, item) sink after) → HasCleanDisk (state g new) → (v : Views) → AtRest (state g old) v
+      → TakesEach takes faults end (placed_from 1 v.items) before after
   not_taken {X = X} {Y = Y} mid new sink after n row r e end w s same gives is ended takes_it clean v rest =
       let it = its_item new row n v rest (one_more mid new sink n row w s same gives clean) in
       let took = w.took (earlier (state g mid) (state g new) s clean) v rest in
-      subst (λ r. TakesEach takes faults r v.items before after) (sym ended) (by_end e it.0 it.2 it.3 took (subst (λ r. TakesOne takes faults r it.0 sink after) is (takes_it it.0 it.1)))
+      subst (λ r. TakesEach takes faults r all before after) (sym ended)
+      (by_end e (n + 1, it.item) it.behind it.parts took (subst (λ r. TakesOne takes faults r (n + 1, it.item) sink after) is (takes_it it.item it.is)))
     where
-      by_end : (e : EachEnd F) (item : Item) (behind : Items) → v.items ≡ take n v.items ++ item ∷ behind → Took takes before (reverse (take n v.items)) sink → TakesOne {X = X} takes faults (Err e) item sink after
-          → TakesEach {X = Y} takes faults (Err e) v.items before after
-      by_end (Fault f) item behind split took h = (take n v.items, item, behind, sink, split, took, h)
-      by_end (Tables t) item behind split took h = (take n v.items, item ∷ behind, split, subst (Took takes before (reverse (take n v.items))) (sym h) took)
+      all : List Numbered
+      all = placed_from 1 v.items
+
+      by_end : (e : EachEnd F) (item : Numbered) (behind : List Numbered) → all ≡ take n all ++ item ∷ behind → Took takes before (reverse (take n all)) sink → TakesOne {X = X} takes faults (Err e) item sink after
+          → TakesEach {X = Y} takes faults (Err e) all before after
+      by_end (Fault f) item behind split took h = (take n all, item, behind, sink, split, took, h)
+      by_end (Tables t) item behind split took h = (take n all, item ∷ behind, split, subst (Took takes before (reverse (take n all))) (sym h) took)
 
   -- no row is left
   pub all_taken : (mid new : Held S) (sink : K) (n : ℕ) → HasWalked g takes old mid before sink n → Survives (state g mid) (state g new) (λ _. ⊥)
       → (HasCleanDisk (state g new) → (rows : List Row) → HasGiven g select_all [] mid rows → Shown select_all [] (state g mid) (state g new) rows) → HasCleanDisk (state g new) → (v : Views) → AtRest (state g old) v
-      → Took takes before (reverse v.items) sink
+      → Took takes before (reverse (placed_from 1 v.items)) sink
   all_taken mid new sink n w s gives clean v rest =
       let early = earlier (state g mid) (state g new) s clean in
       let was = w.given early in
       let same = was.3.0 in
       let whole = all_found (state g old).now (counts_of v) v (rest.shows same.was_open) (state g mid) (state g new) same.now_is was.0 (gives clean was.0 was.2) in
-      let long : length v.items ≡ n = sym (length-map v.items item_shown) ∙ ap length (sym whole) ∙ was.1 in
-      subst (λ l. Took takes before (reverse l) sink) (ap (λ k. take k v.items) (sym long) ∙ take-length v.items) (w.took early v rest)
+      let all = placed_from 1 v.items in
+      let long : length all ≡ n = placed_count 1 v.items ∙ sym (length-map v.items item_shown) ∙ ap length (sym whole) ∙ was.1 in
+      subst (λ l. Took takes before (reverse l) sink) (ap (λ k. take k all) (sym long) ∙ take-length all) (w.took early v rest)
 
   -- ---- why it ended early
 
@@ -222,12 +245,8 @@ module _ {S K F : Type 0} (g : Ghosts S) (takes : K → Item → K → Type 0) (
       → HasCleanDisk (state g new) → (v : Views) → AtRest (state g old) v → IsReadable v → (end : EachEnd F) → IsUnreadEnd (IsItemRow row) end → IsCausedEnd (state g old) (state g new) end
   unread_caused mid new sink n row w s same gives clean v rest readable end =
       let it = its_item new row n v rest (one_more mid new sink n row w s same gives clean) in
-      by_end end (it.0.0, it.0.1, among v.items it.0 readable.items (subst (λ l. Has l it.0) (sym it.3) (has_middle (take n v.items) it.0 it.2)), ap (λ r. column r 0) it.1, ap (λ r. column r 1) it.1)
+      by_end end (it.item.0, it.item.1, among v.items it.item readable.items it.there, ap (λ r. column r 0) it.is, ap (λ r. column r 1) it.is)
     where
-      has_middle : (xs : Items) (x : Item) (ys : Items) → Has (xs ++ x ∷ ys) x
-      has_middle [] x ys = inl refl
-      has_middle (y ∷ xs) x ys = inr (has_middle xs x ys)
-
       by_end : (end : EachEnd F) → IsItemRow row → IsUnreadEnd (IsItemRow row) end → IsCausedEnd (state g old) (state g new) end
       by_end (Tables t) good h = caused_unread (state g old) (state g new) t good h
       by_end (Fault f) good h = tt

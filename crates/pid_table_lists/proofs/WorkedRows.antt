@@ -7,11 +7,12 @@ use Rattle.pid_moderation.specs.declared.facts.State.TheVariants.{Pending, Withd
 use Rattle.pid_moderation.specs.Items.{Items}
 use Rattle.pid_moderation.specs.Views.{Views, Submitted}
 use Rattle.pid_reader.specs.LookingBack.{Item}
+use Rattle.pid_reader.specs.Numbered.{Numbered}
 use Rattle.pid_rows.specs.TableRows.{Standing}
 use Rattle.pid_table_lists.specs.declared.walk.EachEnd.TheVariants.{Fault}
 use Rattle.pid_table_lists.specs.Children.{children_of}
 use Rattle.pid_table_lists.specs.Discussions.{discussion_in}
-use Rattle.pid_table_lists.specs.EachItem.{TakesEach}
+use Rattle.pid_table_lists.specs.EachItem.{TakesEach, placed_from}
 use Rattle.pid_table_lists.specs.PendingPages.{pending_in}
 
 abbrev intel : Item
@@ -82,15 +83,15 @@ withdrawn_without_remarks = refl
 no_submission : discussion_in views 4 ≡ None
 no_submission = refl
 
--- a sink that writes items down, the last in front, and faults at a path's text
-abbrev Writes : List Item → Item → List Item → Type 0
+-- a sink that writes items down with their places, the last in front, and faults at a path's text
+abbrev Writes : List Numbered → Numbered → List Numbered → Type 0
 Writes before item after = after ≡ item ∷ before
 
-abbrev Refuses : List Item → Item → ℕ → List Item → Type 0
+abbrev Refuses : List Numbered → Numbered → ℕ → List Numbered → Type 0
 Refuses before item fault after = after ≡ before
 
-whole_walk : TakesEach {S = List Item} {F = ℕ} {X = Unit {0}} Writes Refuses (Ok tt) (intel ∷ bridge ∷ []) [] (bridge ∷ intel ∷ [])
-whole_walk = (intel ∷ [], ([], refl, refl), refl)
+whole_walk : TakesEach {S = List Numbered} {F = ℕ} {X = Unit {0}} Writes Refuses (Ok tt) (placed_from 1 (intel ∷ bridge ∷ [])) [] ((2, bridge) ∷ (1, intel) ∷ [])
+whole_walk = ((1, intel) ∷ [], ([], refl, refl), refl)
 
-refused_at_the_second : TakesEach {S = List Item} {F = ℕ} {X = Unit {0}} Writes Refuses (Err (Fault 7)) (intel ∷ bridge ∷ storage ∷ []) [] (intel ∷ [])
-refused_at_the_second = (intel ∷ [], bridge, storage ∷ [], intel ∷ [], refl, ([], refl, refl), refl)
+refused_at_the_second : TakesEach {S = List Numbered} {F = ℕ} {X = Unit {0}} Writes Refuses (Err (Fault 7)) (placed_from 1 (intel ∷ bridge ∷ storage ∷ [])) [] ((1, intel) ∷ [])
+refused_at_the_second = ((1, intel) ∷ [], (2, bridge), (3, storage) ∷ [], (1, intel) ∷ [], refl, ([], refl, refl), refl)

@@ -1,6 +1,6 @@
--- What became of a sink that was handed items.
-use Rattle.std.specs.Prelude.{◌≡◌, ◌∷◌, ◌++◌, Result, Ok, Err, reverse}
-use Rattle.pid_reader.specs.LookingBack.{Item}
+-- What became of a sink that was handed items, each with its place among them, counted from 1.
+use Rattle.std.specs.Prelude.{◌≡◌, ℕ, ◌+◌, List, [], ◌∷◌, ◌++◌, Result, Ok, Err, reverse}
+use Rattle.pid_reader.specs.Numbered.{Numbered}
 use Rattle.pid_reader.specs.Sinks.{Took}
 use Rattle.sqlite.specs.State.{State}
 use Rattle.pid_moderation.specs.Items.{Items}
@@ -8,6 +8,11 @@ use Rattle.pid_rows.specs.Causes.{IsCaused}
 use Rattle.pid_rows.specs.Unread.{IsUnread}
 use Rattle.pid_table_lists.specs.declared.walk.EachEnd.{EachEnd}
 use Rattle.pid_table_lists.specs.declared.walk.EachEnd.TheVariants.{Tables, Fault}
+
+-- items with their places, which count on from this one
+abbrev pub placed_from : ℕ → Items → List Numbered
+placed_from place [] = []
+placed_from place (item ∷ items) = (place, item) ∷ placed_from (place + 1) items
 
 -- why a walk ended: the sink faulted, or the tables did and had cause to
 abbrev pub IsCausedEnd : {F : Type 0} → State → State → EachEnd F → Type 0
@@ -20,15 +25,15 @@ IsUnreadEnd Written (Tables fault) = IsUnread Written fault
 IsUnreadEnd Written (Fault f) = Unit {0}
 
 -- one item: the sink took it or faulted at it, or the tables faulted before it came to the sink
-abbrev pub TakesOne : {S F X : Type 0} → (S → Item → S → Type 0) → (S → Item → F → S → Type 0) → Result X (EachEnd F) → Item → S → S → Type 0
+abbrev pub TakesOne : {S F X : Type 0} → (S → Numbered → S → Type 0) → (S → Numbered → F → S → Type 0) → Result X (EachEnd F) → Numbered → S → S → Type 0
 TakesOne takes faults (Ok x) item old new = takes old item new
 TakesOne takes faults (Err (Fault f)) item old new = faults old item f new
 TakesOne takes faults (Err (Tables t)) item old new = new ≡ old
 
 -- all of them in their order: it took them all; or it took those before one and faulted at that one; or the tables faulted
 -- behind some
-abbrev pub TakesEach : {S F X : Type 0} → (S → Item → S → Type 0) → (S → Item → F → S → Type 0) → Result X (EachEnd F) → Items → S → S → Type 0
+abbrev pub TakesEach : {S F X : Type 0} → (S → Numbered → S → Type 0) → (S → Numbered → F → S → Type 0) → Result X (EachEnd F) → List Numbered → S → S → Type 0
 TakesEach takes faults (Ok x) items old new = Took takes old (reverse items) new
 TakesEach takes faults (Err (Fault f)) items old new =
-    (front : Items) × (item : Item) × (behind : Items) × (between : _) × (items ≡ front ++ item ∷ behind) × Took takes old (reverse front) between × faults between item f new
-TakesEach takes faults (Err (Tables t)) items old new = (front : Items) × (behind : Items) × (items ≡ front ++ behind) × Took takes old (reverse front) new
+    (front : List Numbered) × (item : Numbered) × (behind : List Numbered) × (between : _) × (items ≡ front ++ item ∷ behind) × Took takes old (reverse front) between × faults between item f new
+TakesEach takes faults (Err (Tables t)) items old new = (front : List Numbered) × (behind : List Numbered) × (items ≡ front ++ behind) × Took takes old (reverse front) new

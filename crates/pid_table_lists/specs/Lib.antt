@@ -3,3 +3,4 @@ pub mod Discussions
 pub mod PendingPages
 pub mod Children
 pub mod EachItem
+pub mod Clauses

@@ -1,6 +1,5 @@
 //! The items directly below a path.
 ghost use Rattle.std.specs.Prelude.{◌≡◌, ◌∷◌, ◌++◌, [], None, Some, false, filter, map, option_map, MatchResult, codes};
-ghost use Rattle.sqlite.specs.Held.{state};
 ghost use Rattle.pid_ident.specs.Identifiers.{hex4 as hex4_text};
 ghost use Rattle.pid_ident.specs.PathTexts.{path_text};
 ghost use Rattle.pid_moderation.specs.Items.{Items, parent_text, is_parent};
@@ -8,7 +7,6 @@ ghost use Rattle.pid_moderation.specs.WellMade.{IsItem, AllItems};
 ghost use Rattle.pid_reader.specs.LookingBack.{Item as Pair};
 ghost use Rattle.pid_rows.specs.Answers.{item_shown};
 ghost use Rattle.pid_rows.specs.ItemPairs.{pair_of};
-ghost use Rattle.pid_rows.specs.Leaves.{OnlyReads, Tells};
 ghost use Rattle.pid_rows.specs.Ranges.{is_between};
 ghost use Rattle.pid_rows.specs.Unread.{IsUnread};
 ghost use Rattle.pid_rows.specs.declared.fault.TableFault.{TableFault as FaultValue};
@@ -16,6 +14,7 @@ ghost use Rattle.pid_rows.specs.declared.fault.TableFault.TheVariants.{Memory};
 ghost use Rattle.pid_table_lists.specs.declared.walk.EachEnd.TheVariants as ends;
 ghost use Rattle.pid_rows.specs.Shows.{AreViews};
 ghost use Rattle.pid_table_lists.specs.Children.{stands_below, children_of};
+ghost use Rattle.pid_rows.specs.Clauses.{Reads};
 
 use crate::walk::{EachEnd, each_item};
 use pid_ident::{Id16, Name, Path, hex4};
@@ -32,9 +31,8 @@ fn range_rows<S: Alter>(
     low: &[u8],
     high: &[u8],
 ) -> Result<Vec<Row>, TableFault>
-    requires { (state S.Store conn.old).in_transaction ≡ false }
-    ensures rests { OnlyReads (state S.Store conn.old) (state S.Store conn.new) }
-    ensures found { Tells (state S.Store conn.old) (state S.Store conn.new) result (λ v rows. AreViews v × (rows.items ≡ map item_shown (filter (λ e. is_between low.now high.now e.0) v.items))) }
+    requires { conn.old.in_transaction ≡ false }
+    ensures { Reads S.Store conn.old conn.new result (λ v rows. AreViews v × (rows.items ≡ map item_shown (filter (λ e. is_between low.now high.now e.0) v.items))) }
 {
     let low = ValueRef::Text(low);
     let high = ValueRef::Text(high);
@@ -65,7 +63,8 @@ fn add_item(kept: &mut Vec<Item>, item: Item) -> Result<(), TableFault>
 
 // One more row, whose item is kept if it is a child.
 fn add_child(kept: &mut Vec<Item>, row: &Row, alloc: Global, path: Path) -> Result<(), TableFault>
-    ensures { (e : Pair) → row.now ≡ item_shown e → MatchResult result (λ _. map pair_of kept.new.items ≡ map pair_of kept.old.items ++ filter (λ e. stands_below (Some (path_text path)) e.0) (e ∷ [])) (IsUnread (IsItem e.0 e.1)) }
+    ensures { (e : Pair) → row.now ≡ item_shown e → MatchResult result
+        (λ _. map pair_of kept.new.items ≡ map pair_of kept.old.items ++ filter (λ e. stands_below (Some (path_text path)) e.0) (e ∷ [])) (IsUnread (IsItem e.0 e.1)) }
 {
     let item = item_of(row, alloc)?;
     if is_child(item.path, path) {
@@ -81,7 +80,8 @@ fn add_children(
     alloc: Global,
     path: Path,
 ) -> Result<(), TableFault>
-    ensures { (items : Items) → rows.now ≡ map item_shown items → MatchResult result (λ _. map pair_of kept.new.items ≡ map pair_of kept.old.items ++ filter (λ e. stands_below (Some (path_text path)) e.0) items) (IsUnread (AllItems items)) }
+    ensures { (items : Items) → rows.now ≡ map item_shown items
+        → MatchResult result (λ _. map pair_of kept.new.items ≡ map pair_of kept.old.items ++ filter (λ e. stands_below (Some (path_text path)) e.0) items) (IsUnread (AllItems items)) }
 {
     for row in rows {
         add_child(kept, row, alloc, path)?;
@@ -96,9 +96,9 @@ fn rows_behind<S: Alter>(
     front: &[u8],
     rest: &[u8],
 ) -> Result<Vec<Row>, TableFault>
-    requires { (state S.Store conn.old).in_transaction ≡ false }
-    ensures rests { OnlyReads (state S.Store conn.old) (state S.Store conn.new) }
-    ensures found { Tells (state S.Store conn.old) (state S.Store conn.new) result (λ v rows. AreViews v × (rows.items ≡ map item_shown (filter (λ e. is_between ((front.now ++ rest.now) ++ 47 ∷ []) ((front.now ++ rest.now) ++ 48 ∷ []) e.0) v.items))) }
+    requires { conn.old.in_transaction ≡ false }
+    ensures { Reads S.Store conn.old conn.new result (λ v rows. AreViews v
+        × (rows.items ≡ map item_shown (filter (λ e. is_between ((front.now ++ rest.now) ++ 47 ∷ []) ((front.now ++ rest.now) ++ 48 ∷ []) e.0) v.items))) }
 {
     let low = edge(alloc, front, rest, b'/')?;
     let high = edge(alloc, front, rest, b'0')?;
@@ -111,9 +111,9 @@ fn generic_rows<S: Alter>(
     alloc: Global,
     vendor: Id16,
 ) -> Result<Vec<Row>, TableFault>
-    requires { (state S.Store conn.old).in_transaction ≡ false }
-    ensures rests { OnlyReads (state S.Store conn.old) (state S.Store conn.new) }
-    ensures found { Tells (state S.Store conn.old) (state S.Store conn.new) result (λ v rows. AreViews v × (rows.items ≡ map item_shown (filter (λ e. is_between ((codes "PS/" ++ hex4_text vendor) ++ 47 ∷ []) ((codes "PS/" ++ hex4_text vendor) ++ 48 ∷ []) e.0) v.items))) }
+    requires { conn.old.in_transaction ≡ false }
+    ensures { Reads S.Store conn.old conn.new result (λ v rows. AreViews v
+        × (rows.items ≡ map item_shown (filter (λ e. is_between ((codes "PS/" ++ hex4_text vendor) ++ 47 ∷ []) ((codes "PS/" ++ hex4_text vendor) ++ 48 ∷ []) e.0) v.items))) }
 {
     let digits = hex4(vendor);
     rows_behind(conn, alloc, b"PS/", digits.as_slice())
@@ -126,9 +126,8 @@ fn add_generics<S: Alter>(
     vendor: Id16,
     path: Path,
 ) -> Result<(), TableFault>
-    requires { (state S.Store conn.old).in_transaction ≡ false }
-    ensures rests { OnlyReads (state S.Store conn.old) (state S.Store conn.new) }
-    ensures found { Tells (state S.Store conn.old) (state S.Store conn.new) result (λ v _. map pair_of kept.new.items ≡ map pair_of kept.old.items ++ filter (λ e. stands_below (Some (path_text path)) e.0)
+    requires { conn.old.in_transaction ≡ false }
+    ensures { Reads S.Store conn.old conn.new result (λ v _. map pair_of kept.new.items ≡ map pair_of kept.old.items ++ filter (λ e. stands_below (Some (path_text path)) e.0)
         (filter (λ e. is_between ((codes "PS/" ++ hex4_text vendor) ++ 47 ∷ []) ((codes "PS/" ++ hex4_text vendor) ++ 48 ∷ []) e.0) v.items)) }
 {
     let rows = generic_rows(conn, alloc, vendor)?;
@@ -142,9 +141,8 @@ fn add_behind<S: Alter>(
     text: &str,
     path: Path,
 ) -> Result<(), TableFault>
-    requires { (state S.Store conn.old).in_transaction ≡ false }
-    ensures rests { OnlyReads (state S.Store conn.old) (state S.Store conn.new) }
-    ensures found { Tells (state S.Store conn.old) (state S.Store conn.new) result (λ v _. AreViews v × (map pair_of kept.new.items ≡ map pair_of kept.old.items ++ filter (λ e. stands_below (Some (path_text path)) e.0)
+    requires { conn.old.in_transaction ≡ false }
+    ensures { Reads S.Store conn.old conn.new result (λ v _. AreViews v × (map pair_of kept.new.items ≡ map pair_of kept.old.items ++ filter (λ e. stands_below (Some (path_text path)) e.0)
         (filter (λ e. is_between (text.now ++ 47 ∷ []) (text.now ++ 48 ∷ []) e.0) v.items))) }
 {
     let rows = rows_behind(conn, alloc, b"", text.as_bytes())?;
@@ -156,9 +154,8 @@ fn below<S: Alter>(
     alloc: Global,
     path: Path,
 ) -> Result<Vec<Item>, TableFault>
-    requires { (state S.Store conn.old).in_transaction ≡ false }
-    ensures rests { OnlyReads (state S.Store conn.old) (state S.Store conn.new) }
-    ensures found { Tells (state S.Store conn.old) (state S.Store conn.new) result (λ v items. AllItems v.items → map pair_of items.items ≡ children_of (Some (path_text path)) v.items) }
+    requires { conn.old.in_transaction ≡ false }
+    ensures { Reads S.Store conn.old conn.new result (λ v items. AllItems v.items → map pair_of items.items ≡ children_of (Some (path_text path)) v.items) }
 {
     let text = path.path_text(alloc)?;
     let mut kept = Vec::new(alloc);
@@ -181,13 +178,14 @@ struct Tops {
 
 impl Sink for Tops {
     ghost use Rattle.std.specs.Prelude.{◌≡◌, ◌∷◌, ◌++◌, [], None, filter, map};
+    ghost use Rattle.pid_reader.specs.Numbered.{item_in};
     ghost use Rattle.pid_rows.specs.ItemPairs.{pair_of};
     ghost use Rattle.pid_rows.specs.declared.fault.TableFault.TheVariants.{Memory};
     ghost use Rattle.pid_table_lists.specs.Children.{stands_below};
 
     type Fault = TableFault;
 
-    ghost takes = { λ s e t. map pair_of t.kept.items ≡ map pair_of s.kept.items ++ filter (λ e. stands_below None e.0) (e ∷ []) };
+    ghost takes = { λ s e t. map pair_of t.kept.items ≡ map pair_of s.kept.items ++ filter (λ e. stands_below None e.0) (item_in e ∷ []) };
 
     ghost faults = { λ s e f t. f ≡ Memory };
 
@@ -215,9 +213,8 @@ fn fault_of(end: EachEnd<TableFault>) -> TableFault
 }
 
 fn at_the_top<S: Alter>(conn: &mut Connection<S>, alloc: Global) -> Result<Vec<Item>, TableFault>
-    requires { (state S.Store conn.old).in_transaction ≡ false }
-    ensures rests { OnlyReads (state S.Store conn.old) (state S.Store conn.new) }
-    ensures found { Tells (state S.Store conn.old) (state S.Store conn.new) result (λ v items. map pair_of items.items ≡ children_of None v.items) }
+    requires { conn.old.in_transaction ≡ false }
+    ensures { Reads S.Store conn.old conn.new result (λ v items. map pair_of items.items ≡ children_of None v.items) }
 {
     let mut tops = Tops {
         kept: Vec::new(alloc),
@@ -239,9 +236,8 @@ pub fn children<S: Alter>(
     alloc: Global,
     above: Option<Path>,
 ) -> Result<Vec<Item>, TableFault>
-    requires { (state S.Store conn.old).in_transaction ≡ false }
-    ensures rests { OnlyReads (state S.Store conn.old) (state S.Store conn.new) }
-    ensures found { Tells (state S.Store conn.old) (state S.Store conn.new) result (λ v items. AllItems v.items → map pair_of items.items ≡ children_of (option_map path_text above) v.items) }
+    requires { conn.old.in_transaction ≡ false }
+    ensures { Reads S.Store conn.old conn.new result (λ v items. AllItems v.items → map pair_of items.items ≡ children_of (option_map path_text above) v.items) }
 {
     match above {
         Some(path) => below(conn, alloc, path),

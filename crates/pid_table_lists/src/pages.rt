@@ -3,12 +3,12 @@ ghost use Rattle.std.specs.Prelude.{◌≡◌, ◌∷◌, ◌++◌, [], ℕ, Lis
 ghost use Rattle.std.specs.List.{AllByRecursion};
 ghost use Rattle.sqlite.specs.Held.{state};
 ghost use Rattle.pid_moderation.specs.Views.{Views};
-ghost use Rattle.pid_rows.specs.Leaves.{OnlyReads, Tells};
 ghost use Rattle.pid_rows.specs.Unread.{IsUnread};
 ghost use Rattle.pid_rows.specs.Shows.{AreViews};
 ghost use Rattle.pid_rows.specs.TableRows.{Standing};
 ghost use Rattle.pid_table_lists.specs.PendingPages.{pending_in, told_of};
 ghost use Rattle.pid_table_lists.specs.PendingRows.{pending_row, IsReadablePending, AreIn};
+ghost use Rattle.pid_rows.specs.Clauses.{Reads};
 
 use pid_rows::TableFault;
 use pid_rows::run::read_rows;
@@ -29,9 +29,8 @@ pub struct Pending {
 }
 
 fn page_rows<S: Alter>(conn: &mut Connection<S>, after: u32) -> Result<Vec<Row>, TableFault>
-    requires { (state S.Store conn.old).in_transaction ≡ false }
-    ensures rests { OnlyReads (state S.Store conn.old) (state S.Store conn.new) }
-    ensures found { Tells (state S.Store conn.old) (state S.Store conn.new) result (λ v rows. AreViews v × AreIn v (pending_in PAGE after v) × (rows.items ≡ map pending_row (pending_in PAGE after v))) }
+    requires { conn.old.in_transaction ≡ false }
+    ensures { Reads S.Store conn.old conn.new result (λ v rows. AreViews v × AreIn v (pending_in PAGE after v) × (rows.items ≡ map pending_row (pending_in PAGE after v))) }
 {
     let after = after.to_sql();
     read_rows(
@@ -50,7 +49,8 @@ fn pending_of(row: &Row, alloc: Global) -> Result<Pending, TableFault>
 }
 
 fn add_pending(page: &mut Vec<Pending>, row: &Row, alloc: Global) -> Result<(), TableFault>
-    ensures { (v : Views) (s : ℕ × Standing) → AreViews v → AreIn v (s ∷ []) → row.now ≡ pending_row s → MatchResult result (λ _. map told_of page.new.items ≡ map told_of page.old.items ++ s ∷ []) (IsUnread (IsReadablePending s)) }
+    ensures { (v : Views) (s : ℕ × Standing) → AreViews v → AreIn v (s ∷ []) → row.now ≡ pending_row s
+        → MatchResult result (λ _. map told_of page.new.items ≡ map told_of page.old.items ++ s ∷ []) (IsUnread (IsReadablePending s)) }
 {
     let pending = pending_of(row, alloc)?;
     match page.push(pending) {
@@ -60,7 +60,8 @@ fn add_pending(page: &mut Vec<Pending>, row: &Row, alloc: Global) -> Result<(), 
 }
 
 fn page_of(rows: &[Row], alloc: Global) -> Result<Vec<Pending>, TableFault>
-    ensures { (v : Views) (all : List (ℕ × Standing)) → AreViews v → AreIn v all → rows.now ≡ map pending_row all → MatchResult result (λ page. map told_of page.items ≡ all) (IsUnread (AllByRecursion IsReadablePending all)) }
+    ensures { (v : Views) (all : List (ℕ × Standing)) → AreViews v → AreIn v all → rows.now ≡ map pending_row all
+        → MatchResult result (λ page. map told_of page.items ≡ all) (IsUnread (AllByRecursion IsReadablePending all)) }
 {
     let mut page = Vec::new(alloc);
     for row in rows {
@@ -76,9 +77,8 @@ pub fn pending_page<S: Alter>(
     alloc: Global,
     after: u32,
 ) -> Result<Vec<Pending>, TableFault>
-    requires { (state S.Store conn.old).in_transaction ≡ false }
-    ensures rests { OnlyReads (state S.Store conn.old) (state S.Store conn.new) }
-    ensures found { Tells (state S.Store conn.old) (state S.Store conn.new) result (λ v page. map told_of page.items ≡ pending_in PAGE after v) }
+    requires { conn.old.in_transaction ≡ false }
+    ensures { Reads S.Store conn.old conn.new result (λ v page. map told_of page.items ≡ pending_in PAGE after v) }
 {
     let rows = page_rows(conn, after)?;
     page_of(rows.as_slice(), alloc)

@@ -1,14 +1,13 @@
 //! A submission with the remarks on it.
 ghost use Rattle.std.specs.Prelude.{◌≡◌, ◌∷◌, ◌++◌, [], List, false, map, option_map, MatchResult};
 ghost use Rattle.std.specs.List.{AllByRecursion};
-ghost use Rattle.sqlite.specs.Held.{state};
 ghost use Rattle.pid_moderation.specs.Views.{Remark};
 ghost use Rattle.pid_rows.specs.Answers.{remark_shown};
 ghost use Rattle.pid_rows.specs.Causes.{IsReadableRemark};
 ghost use Rattle.pid_rows.specs.Comments.{remark_of};
-ghost use Rattle.pid_rows.specs.Leaves.{OnlyReads, Tells};
 ghost use Rattle.pid_rows.specs.Unread.{IsUnread};
 ghost use Rattle.pid_table_lists.specs.Discussions.{discussion_in, shown_of};
+ghost use Rattle.pid_rows.specs.Clauses.{Reads};
 
 use pid_rows::TableFault;
 use pid_rows::remark::{Comment, comment_of};
@@ -26,9 +25,8 @@ pub struct Discussion {
 }
 
 fn remark_rows<S: Alter>(conn: &mut Connection<S>, number: u32) -> Result<Vec<Row>, TableFault>
-    requires { (state S.Store conn.old).in_transaction ≡ false }
-    ensures rests { OnlyReads (state S.Store conn.old) (state S.Store conn.new) }
-    ensures found { Tells (state S.Store conn.old) (state S.Store conn.new) result (λ v rows. rows.items ≡ map remark_shown (v.remarks number)) }
+    requires { conn.old.in_transaction ≡ false }
+    ensures { Reads S.Store conn.old conn.new result (λ v rows. rows.items ≡ map remark_shown (v.remarks number)) }
 {
     let number = number.to_sql();
     read_rows(
@@ -39,7 +37,8 @@ fn remark_rows<S: Alter>(conn: &mut Connection<S>, number: u32) -> Result<Vec<Ro
 }
 
 fn add_comment(comments: &mut Vec<Comment>, row: &Row, alloc: Global) -> Result<(), TableFault>
-    ensures { (remark : Remark) → row.now ≡ remark_shown remark → MatchResult result (λ _. map remark_of comments.new.items ≡ map remark_of comments.old.items ++ remark ∷ []) (IsUnread (IsReadableRemark remark)) }
+    ensures { (remark : Remark) → row.now ≡ remark_shown remark
+        → MatchResult result (λ _. map remark_of comments.new.items ≡ map remark_of comments.old.items ++ remark ∷ []) (IsUnread (IsReadableRemark remark)) }
 {
     let comment = comment_of(row, alloc)?;
     match comments.push(comment) {
@@ -49,7 +48,8 @@ fn add_comment(comments: &mut Vec<Comment>, row: &Row, alloc: Global) -> Result<
 }
 
 fn comments_of(rows: &[Row], alloc: Global) -> Result<Vec<Comment>, TableFault>
-    ensures { (remarks : List Remark) → rows.now ≡ map remark_shown remarks → MatchResult result (λ comments. map remark_of comments.items ≡ remarks) (IsUnread (AllByRecursion IsReadableRemark remarks)) }
+    ensures { (remarks : List Remark) → rows.now ≡ map remark_shown remarks
+        → MatchResult result (λ comments. map remark_of comments.items ≡ remarks) (IsUnread (AllByRecursion IsReadableRemark remarks)) }
 {
     let mut comments = Vec::new(alloc);
     for row in rows {
@@ -63,9 +63,8 @@ fn comments<S: Alter>(
     alloc: Global,
     number: u32,
 ) -> Result<Vec<Comment>, TableFault>
-    requires { (state S.Store conn.old).in_transaction ≡ false }
-    ensures rests { OnlyReads (state S.Store conn.old) (state S.Store conn.new) }
-    ensures found { Tells (state S.Store conn.old) (state S.Store conn.new) result (λ v comments. map remark_of comments.items ≡ v.remarks number) }
+    requires { conn.old.in_transaction ≡ false }
+    ensures { Reads S.Store conn.old conn.new result (λ v comments. map remark_of comments.items ≡ v.remarks number) }
 {
     let rows = remark_rows(conn, number)?;
     comments_of(rows.as_slice(), alloc)
@@ -77,9 +76,8 @@ pub fn discussed<S: Alter>(
     alloc: Global,
     number: u32,
 ) -> Result<Option<Discussion>, TableFault>
-    requires { (state S.Store conn.old).in_transaction ≡ false }
-    ensures rests { OnlyReads (state S.Store conn.old) (state S.Store conn.new) }
-    ensures found { Tells (state S.Store conn.old) (state S.Store conn.new) result (λ v d. option_map shown_of d ≡ discussion_in v number) }
+    requires { conn.old.in_transaction ≡ false }
+    ensures { Reads S.Store conn.old conn.new result (λ v d. option_map shown_of d ≡ discussion_in v number) }
 {
     match standing(conn, alloc, number)? {
         None => Ok(None),

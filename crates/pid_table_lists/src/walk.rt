@@ -1,9 +1,7 @@
 //! All items, one at a time.
 ghost use Rattle.std.specs.Prelude.{◌≡◌, false, IfOk, IfErr, IsTrue};
 ghost use Rattle.std.specs.Str.{is_utf8};
-ghost use Rattle.sqlite.specs.Held.{state};
 ghost use Rattle.sqlite.specs.Order.{column};
-ghost use Rattle.sqlite.specs.State.{HasCleanDisk};
 ghost use Rattle.sqlite.specs.declared.types.Value.TheVariants.{Text as TextValue};
 ghost use Rattle.pid_ident.specs.PathTexts.{path_text};
 ghost use Rattle.pid_ident.specs.Words.{is_name as name_test};
@@ -12,10 +10,11 @@ ghost use Rattle.pid_reader.specs.LookingBack.{Item};
 ghost use Rattle.pid_rows.specs.Answers.{item_shown};
 ghost use Rattle.pid_rows.specs.Causes.{IsReadable};
 ghost use Rattle.pid_rows.specs.Faults.{fault_of};
-ghost use Rattle.pid_rows.specs.Leaves.{AtRest, OnlyReads};
 ghost use Rattle.pid_rows.specs.Unread.{IsUnread, IsItemRow, IsWord};
-ghost use Rattle.pid_table_lists.specs.EachItem.{TakesOne, TakesEach, IsCausedEnd, IsUnreadEnd};
+ghost use Rattle.pid_table_lists.specs.EachItem.{TakesOne, TakesEach, IsUnreadEnd, placed_from};
 ghost use Rattle.pid_table_lists.specs.declared.walk.EachEnd.TheVariants as ends;
+ghost use Rattle.pid_rows.specs.Clauses.{AtRest, HasCleanDisk, OnlyReads};
+ghost use Rattle.pid_table_lists.specs.Clauses.{IsCausedEnd};
 
 use pid_ident::{Path, is_name};
 use pid_reader::{Entry, Sink};
@@ -62,6 +61,7 @@ fn lent(row: &Row, at: usize) -> Result<&str, TableFault>
 
 // The item of a row, lent.
 fn entry_of(row: &Row, line: usize) -> Result<Entry<'_>, TableFault>
+    ensures line { IfOk result (λ entry. entry.line ≡ line) }
     ensures path { IfOk result (λ entry. column row.now 0 ≡ TextValue (path_text entry.path)) }
     ensures name { IfOk result (λ entry. column row.now 1 ≡ TextValue entry.name.now) }
     ensures checked { IfOk result (λ entry. IsTrue (name_test entry.name.now)) }
@@ -76,7 +76,7 @@ fn entry_of(row: &Row, line: usize) -> Result<Entry<'_>, TableFault>
 }
 
 fn hand_on<K: Sink>(row: &Row, line: usize, sink: &mut K) -> Result<(), EachEnd<K::Fault>>
-    ensures takes { (item : Item) → row.now ≡ item_shown item → TakesOne K.takes K.faults result item sink.old sink.new }
+    ensures takes { (item : Item) → row.now ≡ item_shown item → TakesOne K.takes K.faults result (line, item) sink.old sink.new }
     ensures unread { IfErr result (IsUnreadEnd (IsItemRow row.now)) }
 {
     let entry = entry_of(row, line)?;
@@ -92,10 +92,10 @@ pub fn each_item<S: Alter, K: Sink>(
     conn: &mut Connection<S>,
     sink: &mut K,
 ) -> Result<(), EachEnd<K::Fault>>
-    requires { (state S.Store conn.old).in_transaction ≡ false }
-    ensures rests { OnlyReads (state S.Store conn.old) (state S.Store conn.new) }
-    ensures told { HasCleanDisk (state S.Store conn.new) → (v : Views) → AtRest (state S.Store conn.old) v → TakesEach K.takes K.faults result v.items sink.old sink.new }
-    ensures caused { HasCleanDisk (state S.Store conn.new) → (v : Views) → AtRest (state S.Store conn.old) v → IsReadable v → IfErr result (IsCausedEnd (state S.Store conn.old) (state S.Store conn.new)) }
+    requires { conn.old.in_transaction ≡ false }
+    ensures rests { OnlyReads S.Store conn.old conn.new }
+    ensures told { HasCleanDisk S.Store conn.new → (v : Views) → AtRest S.Store conn.old v → TakesEach K.takes K.faults result (placed_from 1 v.items) sink.old sink.new }
+    ensures caused { HasCleanDisk S.Store conn.new → (v : Views) → AtRest S.Store conn.old v → IsReadable v → IfErr result (IsCausedEnd S.Store conn.old conn.new) }
 {
     let mut rows = conn.query("SELECT path, name FROM item ORDER BY path", &[])?;
     'rows: for at in 0..usize::MAX {

@@ -7,3 +7,4 @@ pub mod CommitLemmas
 pub mod MakerTexts
 pub mod MetLemmas
 pub mod OpenLemmas
+pub mod CheckLemmas

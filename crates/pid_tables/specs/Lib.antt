@@ -3,3 +3,4 @@ pub mod Making
 pub mod Puts
 pub mod Applies
 pub mod ShowsOrBlank
+pub mod Clauses

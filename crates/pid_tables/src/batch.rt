@@ -1,18 +1,15 @@
 //! One transaction on the tables, which writes a whole change.
 ghost use Rattle.std.specs.Prelude.{◌≡◌, ◌+◌, true, false, length, is_none, IsSome, IsTrue, IfOk, IfErr, OnOk, OnErr, MatchResult};
-ghost use Rattle.sqlite.specs.Held.{state as shown};
-ghost use Rattle.sqlite.specs.State.{HasCleanDisk, Survives};
 ghost use Rattle.pid_ident.specs.PathTexts.{path_text};
 ghost use Rattle.pid_moderation.specs.Items.{name_at};
 ghost use Rattle.pid_moderation.specs.Views.{Views, submission_at};
 ghost use Rattle.pid_moderation.specs.Changes.{edited, affected, changed, write as written, FitsEdit, FitsEffect, FitsWrite, Fits};
-ghost use Rattle.pid_rows.specs.Causes.{IsCaused};
 ghost use Rattle.pid_rows.specs.Faults.{IsUntold};
 ghost use Rattle.pid_rows.specs.Shows.{Counts, ShowsCounting, Shows, counts_of};
-ghost use Rattle.pid_rows.specs.Leaves.{AtRest, Holds, Within, Written, LeavesEither, GoesOn, LeadsTo};
 ghost use Rattle.pid_rows.specs.Writes.{with_rank, with_name, with_submission};
 ghost use Rattle.pid_tables.specs.Puts.{put_over};
 ghost use Rattle.pid_tables.specs.Applies.{IsCounted, recounted};
+ghost use Rattle.pid_rows.specs.Clauses.{AtRest, ChangesTo, GoesOn, HasCleanDisk, Holds, IsCaused, LeadsTo, LeavesEither, Survives, Within, Written, is_open, seen};
 
 use crate::putting::{Put, put_text};
 use pid_ident::{Account, Path, Text};
@@ -37,8 +34,8 @@ fn set_rank<S: Alter>(
     is_new: bool,
 ) -> Result<(), TableFault>
     ensures same_reference { batch.new.conn.ghost_name ≡ batch.old.conn.ghost_name }
-    ensures goes { GoesOn (shown S.Store batch.old.conn.now) (shown S.Store batch.new.conn.now) result }
-    ensures shows { LeadsTo (shown S.Store batch.old.conn.now) (shown S.Store batch.new.conn.now) result (λ c v. is_new ≡ is_none (v.rank who.now)) (λ c. c) (with_rank who.now rank) }
+    ensures goes { GoesOn S.Store batch.old.conn.now batch.new.conn.now result }
+    ensures shows { ChangesTo S.Store batch.old.conn.now batch.new.conn.now result (λ v. is_new ≡ is_none (v.rank who.now)) (with_rank who.now rank) }
 {
     if is_new {
         add_account(batch, who.as_str(), rank)
@@ -57,8 +54,8 @@ fn submit<S: Alter>(
     note: &Text,
 ) -> Result<(), TableFault>
     ensures same_reference { batch.new.conn.ghost_name ≡ batch.old.conn.ghost_name }
-    ensures goes { GoesOn (shown S.Store batch.old.conn.now) (shown S.Store batch.new.conn.now) result }
-    ensures shows { LeadsTo (shown S.Store batch.old.conn.now) (shown S.Store batch.new.conn.now) result (λ c v. number ≡ length v.submits + 1) (λ c. record c { submissions = number })
+    ensures goes { GoesOn S.Store batch.old.conn.now batch.new.conn.now result }
+    ensures shows { LeadsTo S.Store batch.old.conn.now batch.new.conn.now result (λ v. number ≡ length v.submits + 1) (λ c. record c { submissions = number })
         (with_submission (record { author = author.now; path = path; proposal = proposal.now; note = note.now })) }
 {
     add_submission(batch, alloc, number, author, path, proposal, note)?;
@@ -67,8 +64,8 @@ fn submit<S: Alter>(
 
 fn edit_item<S: Alter>(batch: &mut Batch<'_, S>, path: &str, edit: &Edit) -> Result<(), TableFault>
     ensures same_reference { batch.new.conn.ghost_name ≡ batch.old.conn.ghost_name }
-    ensures goes { GoesOn (shown S.Store batch.old.conn.now) (shown S.Store batch.new.conn.now) result }
-    ensures shows { LeadsTo (shown S.Store batch.old.conn.now) (shown S.Store batch.new.conn.now) result (λ c v. FitsEdit edit.now (name_at path.now v.items)) (λ c. c)
+    ensures goes { GoesOn S.Store batch.old.conn.now batch.new.conn.now result }
+    ensures shows { ChangesTo S.Store batch.old.conn.now batch.new.conn.now result (λ v. FitsEdit edit.now (name_at path.now v.items))
         (λ v. record v { items = edited path.now edit.now v.items }) }
 {
     match edit {
@@ -84,8 +81,8 @@ fn write_item<S: Alter>(
     write: &Write,
 ) -> Result<(), TableFault>
     ensures same_reference { batch.new.conn.ghost_name ≡ batch.old.conn.ghost_name }
-    ensures goes { GoesOn (shown S.Store batch.old.conn.now) (shown S.Store batch.new.conn.now) result }
-    ensures shows { LeadsTo (shown S.Store batch.old.conn.now) (shown S.Store batch.new.conn.now) result (λ c v. FitsEdit write.now.edit (name_at (path_text write.now.path) v.items)) (λ c. record c { items = write.now.items })
+    ensures goes { GoesOn S.Store batch.old.conn.now batch.new.conn.now result }
+    ensures shows { LeadsTo S.Store batch.old.conn.now batch.new.conn.now result (λ v. FitsEdit write.now.edit (name_at (path_text write.now.path) v.items)) (λ c. record c { items = write.now.items })
         (λ v. record v { items = edited (path_text write.now.path) write.now.edit v.items }) }
 {
     let path = write.path.path_text(alloc)?;
@@ -101,8 +98,9 @@ fn decision<S: Alter>(
     write: &Option<Write>,
 ) -> Result<(), TableFault>
     ensures same_reference { batch.new.conn.ghost_name ≡ batch.old.conn.ghost_name }
-    ensures goes { GoesOn (shown S.Store batch.old.conn.now) (shown S.Store batch.new.conn.now) result }
-    ensures shows { LeadsTo (shown S.Store batch.old.conn.now) (shown S.Store batch.new.conn.now) result (λ c v. IsSome (submission_at number v.submits) × FitsWrite write.now v.items) (recounted (Effect.Decided number state.now write.now))
+    ensures goes { GoesOn S.Store batch.old.conn.now batch.new.conn.now result }
+    ensures shows { LeadsTo S.Store batch.old.conn.now batch.new.conn.now result
+        (λ v. IsSome (submission_at number v.submits) × FitsWrite write.now v.items) (recounted (Effect.Decided number state.now write.now))
         (affected (Effect.Decided number state.now write.now)) }
 {
     decide(batch, number, state)?;
@@ -118,8 +116,8 @@ fn write_effect<S: Alter>(
     effect: &Effect,
 ) -> Result<(), TableFault>
     ensures same_reference { batch.new.conn.ghost_name ≡ batch.old.conn.ghost_name }
-    ensures goes { GoesOn (shown S.Store batch.old.conn.now) (shown S.Store batch.new.conn.now) result }
-    ensures shows { LeadsTo (shown S.Store batch.old.conn.now) (shown S.Store batch.new.conn.now) result (λ c v. FitsEffect effect.now v) (recounted effect.now) (affected effect.now) }
+    ensures goes { GoesOn S.Store batch.old.conn.now batch.new.conn.now result }
+    ensures shows { LeadsTo S.Store batch.old.conn.now batch.new.conn.now result (λ v. FitsEffect effect.now v) (recounted effect.now) (affected effect.now) }
 {
     match effect {
         Effect::Nothing => touch(batch),
@@ -152,9 +150,9 @@ fn write_change<S: Alter>(
     change: &Change,
 ) -> Result<(), TableFault>
     ensures same_reference { batch.new.conn.ghost_name ≡ batch.old.conn.ghost_name }
-    ensures goes { GoesOn (shown S.Store batch.old.conn.now) (shown S.Store batch.new.conn.now) result }
-    ensures shows { HasCleanDisk (shown S.Store batch.new.conn.now) → IsTrue (shown S.Store batch.old.conn.now).in_transaction → (counts : Counts) (v : Views) → ShowsCounting counts (shown S.Store batch.old.conn.now).now v
-        → IsCounted change.now.effect counts v → Fits change.now v → MatchResult result (λ _. Shows (shown S.Store batch.new.conn.now).now (changed change.now v)) IsUntold }
+    ensures goes { GoesOn S.Store batch.old.conn.now batch.new.conn.now result }
+    ensures shows { HasCleanDisk S.Store batch.new.conn.now → IsTrue batch.old.conn.now.in_transaction → (counts : Counts) (v : Views) → ShowsCounting counts (seen S.Store batch.old.conn.now) v
+        → IsCounted change.now.effect counts v → Fits change.now v → MatchResult result (λ _. Shows (seen S.Store batch.new.conn.now) (changed change.now v)) IsUntold }
 {
     write_effect(batch, alloc, &change.effect)?;
     match &change.receipt {
@@ -165,10 +163,10 @@ fn write_change<S: Alter>(
 
 /// Begins a transaction on tables at rest. It shows what they show.
 pub fn begin<S: Alter>(conn: &mut Connection<S>) -> Batch<'_, S>
-    requires { (shown S.Store conn.old).in_transaction ≡ false }
+    requires { conn.old.in_transaction ≡ false }
     ensures same_reference { result.conn.ghost_name ≡ conn.entry.ghost_name }
     ensures unchanged { result.conn.now ≡ record conn.old { in_transaction = true } }
-    ensures begun { (v : Views) → AtRest (shown S.Store conn.old) v → Within (counts_of v) (shown S.Store result.conn.now) v v }
+    ensures begun { (v : Views) → AtRest S.Store conn.old v → Within S.Store result.conn.now (counts_of v) v v }
 {
     conn.transaction()
 }
@@ -181,11 +179,13 @@ pub fn put<S: Alter>(
     name: &str,
 ) -> Result<Put, TableFault>
     ensures same_reference { batch.new.conn.ghost_name ≡ batch.old.conn.ghost_name }
-    ensures survives { Survives (shown S.Store batch.old.conn.now) (shown S.Store batch.new.conn.now) (λ _. ⊥) }
-    ensures holds { (c : Counts) (v w : Views) → Within c (shown S.Store batch.old.conn.now) v w → Holds (shown S.Store batch.new.conn.now) v }
-    ensures written { (c : Counts) (v w : Views) → Within c (shown S.Store batch.old.conn.now) v w → OnOk result (Written c (shown S.Store batch.new.conn.now) v (with_name (path_text path.now) name.now w)) }
-    ensures told { HasCleanDisk (shown S.Store batch.new.conn.now) → (c : Counts) (v w : Views) → Within c (shown S.Store batch.old.conn.now) v w → IfOk result (λ put. put ≡ put_over name.now (name_at (path_text path.now) w.items)) }
-    ensures untold { HasCleanDisk (shown S.Store batch.new.conn.now) → IsTrue (shown S.Store batch.old.conn.now).is_open → (c : Counts) (v w : Views) → Within c (shown S.Store batch.old.conn.now) v w → IfErr result IsUntold }
+    ensures survives { Survives S.Store batch.old.conn.now batch.new.conn.now (λ _. ⊥) }
+    ensures holds { (c : Counts) (v w : Views) → Within S.Store batch.old.conn.now c v w → Holds S.Store batch.new.conn.now v }
+    ensures written { (c : Counts) (v w : Views) → Within S.Store batch.old.conn.now c v w → OnOk result (Written S.Store batch.new.conn.now c v (with_name (path_text path.now) name.now w)) }
+    ensures told { HasCleanDisk S.Store batch.new.conn.now → (c : Counts) (v w : Views) → Within S.Store batch.old.conn.now c v w
+        → IfOk result (λ put. put ≡ put_over name.now (name_at (path_text path.now) w.items)) }
+    ensures untold { HasCleanDisk S.Store batch.new.conn.now → IsTrue (is_open S.Store batch.old.conn.now) → (c : Counts) (v w : Views)
+        → Within S.Store batch.old.conn.now c v w → IfErr result IsUntold }
 {
     let path = path.path_text(alloc)?;
     put_text(batch, path.as_str(), name)
@@ -201,11 +201,11 @@ pub fn apply<S: Alter>(
     change: &Change,
 ) -> Result<(), TableFault>
     ensures same_reference { batch.new.conn.ghost_name ≡ batch.old.conn.ghost_name }
-    ensures survives { Survives (shown S.Store batch.old.conn.now) (shown S.Store batch.new.conn.now) (λ _. ⊥) }
-    ensures holds { (c : Counts) (v w : Views) → Within c (shown S.Store batch.old.conn.now) v w → Holds (shown S.Store batch.new.conn.now) v }
-    ensures applied { (c : Counts) (v w : Views) → Within c (shown S.Store batch.old.conn.now) v w → IsCounted change.now.effect c w → Fits change.now w
-        → OnOk result (Written (counts_of (changed change.now w)) (shown S.Store batch.new.conn.now) v (changed change.now w)) }
-    ensures untold { HasCleanDisk (shown S.Store batch.new.conn.now) → IsTrue (shown S.Store batch.old.conn.now).is_open → (c : Counts) (v w : Views) → Within c (shown S.Store batch.old.conn.now) v w
+    ensures survives { Survives S.Store batch.old.conn.now batch.new.conn.now (λ _. ⊥) }
+    ensures holds { (c : Counts) (v w : Views) → Within S.Store batch.old.conn.now c v w → Holds S.Store batch.new.conn.now v }
+    ensures applied { (c : Counts) (v w : Views) → Within S.Store batch.old.conn.now c v w → IsCounted change.now.effect c w → Fits change.now w
+        → OnOk result (Written S.Store batch.new.conn.now (counts_of (changed change.now w)) v (changed change.now w)) }
+    ensures untold { HasCleanDisk S.Store batch.new.conn.now → IsTrue (is_open S.Store batch.old.conn.now) → (c : Counts) (v w : Views) → Within S.Store batch.old.conn.now c v w
         → IsCounted change.now.effect c w → Fits change.now w → IfErr result IsUntold }
 {
     write_change(batch, alloc, change)
@@ -214,11 +214,11 @@ pub fn apply<S: Alter>(
 /// Lets what the transaction wrote stand, all of it or nothing.
 pub fn commit<S: Alter>(batch: Batch<'_, S>) -> Result<(), TableFault>
     ensures ended { batch.exit.0.now.in_transaction ≡ false }
-    ensures survives { Survives (shown S.Store batch.entry.conn.now) (shown S.Store batch.exit.0.now) (λ db. db ≡ (shown S.Store batch.entry.conn.now).now.trees) }
-    ensures stands { (w : Views) → (IsTrue (shown S.Store batch.entry.conn.now).is_open → Shows (shown S.Store batch.entry.conn.now).now w) → OnOk result (AtRest (shown S.Store batch.exit.0.now) w) }
-    ensures either { (v w : Views) → Written (counts_of w) (shown S.Store batch.entry.conn.now) v w → LeavesEither (shown S.Store batch.exit.0.now) v w }
-    ensures caused { HasCleanDisk (shown S.Store batch.exit.0.now) → IsTrue (shown S.Store batch.entry.conn.now).in_transaction → IfErr result (IsCaused (shown S.Store batch.entry.conn.now) (shown S.Store batch.exit.0.now)) }
-    ensures given_back { (v w : Views) → Written (counts_of w) (shown S.Store batch.entry.conn.now) v w → OnErr result (IsTrue (shown S.Store batch.exit.0.now).is_open → Shows (shown S.Store batch.exit.0.now).now v) }
+    ensures survives { Survives S.Store batch.entry.conn.now batch.exit.0.now (λ db. db ≡ (seen S.Store batch.entry.conn.now).trees) }
+    ensures stands { (w : Views) → (IsTrue (is_open S.Store batch.entry.conn.now) → Shows (seen S.Store batch.entry.conn.now) w) → OnOk result (AtRest S.Store batch.exit.0.now w) }
+    ensures either { (v w : Views) → Written S.Store batch.entry.conn.now (counts_of w) v w → LeavesEither S.Store batch.exit.0.now v w }
+    ensures caused { HasCleanDisk S.Store batch.exit.0.now → IsTrue batch.entry.conn.now.in_transaction → IfErr result (IsCaused S.Store batch.entry.conn.now batch.exit.0.now) }
+    ensures given_back { (v w : Views) → Written S.Store batch.entry.conn.now (counts_of w) v w → OnErr result (IsTrue (is_open S.Store batch.exit.0.now) → Shows (seen S.Store batch.exit.0.now) v) }
 {
     batch.commit()?;
     Ok(())
@@ -227,8 +227,8 @@ pub fn commit<S: Alter>(batch: Batch<'_, S>) -> Result<(), TableFault>
 /// Gives the transaction up: the tables are as they were before it.
 pub fn roll_back<S: Alter>(batch: Batch<'_, S>)
     ensures ended { batch.exit.0.now.in_transaction ≡ false }
-    ensures survives { Survives (shown S.Store batch.entry.conn.now) (shown S.Store batch.exit.0.now) (λ _. ⊥) }
-    ensures given_back { (v : Views) → Holds (shown S.Store batch.entry.conn.now) v → AtRest (shown S.Store batch.exit.0.now) v }
+    ensures survives { Survives S.Store batch.entry.conn.now batch.exit.0.now (λ _. ⊥) }
+    ensures given_back { (v : Views) → Holds S.Store batch.entry.conn.now v → AtRest S.Store batch.exit.0.now v }
 {
     batch.rollback();
 }

@@ -1,18 +1,17 @@
 //! Makes the tables in a database that has none.
 ghost use Rattle.std.specs.Prelude.{◌≡◌, ℕ, [], ◌∷◌, ◌++◌, false, None, List, IfErr, MatchResult, OnOk, IsTrue, codes};
-ghost use Rattle.sqlite.specs.Held.{state};
 ghost use Rattle.sqlite.specs.Listing.{understood};
-ghost use Rattle.sqlite.specs.State.{HasCleanDisk};
 ghost use Rattle.sqlite.specs.Table.{Table};
 ghost use Rattle.pid_moderation.specs.Views.{Views, views_of};
 ghost use Rattle.pid_rows.specs.Schema as tables;
 ghost use Rattle.pid_rows.specs.Schema.{pid_schema};
 ghost use Rattle.pid_rows.specs.Faults.{IsUntold};
 ghost use Rattle.pid_rows.specs.PairRows.{Map};
-ghost use Rattle.pid_tables.specs.Creation.{AreMade, IsBlank, IsMet, IsMetFault, IsOfMaking, LeavesBareOrNew};
-ghost use Rattle.pid_tables.specs.Making.{making, Creates, Makes, IsMakerOf, Takes, IsRefused, FindsTables, HasOnlyMeta, with_label};
-ghost use Rattle.pid_rows.specs.Leaves.{GoesOn, AtRest, OnlyReads};
 ghost use Rattle.pid_rows.specs.Shows.{Shows, meta_of};
+ghost use Rattle.pid_rows.specs.Clauses.{AtRest, GoesOn, HasCleanDisk, OnlyReads, is_open, seen};
+ghost use Rattle.pid_tables.specs.Creation.{AreMade, IsOfMaking};
+ghost use Rattle.pid_tables.specs.Making.{making, Creates, IsMakerOf, IsRefused, HasOnlyMeta, with_label};
+ghost use Rattle.pid_tables.specs.Clauses.{FindsTables, IsBlank, IsMet, IsMetFault, LeavesBareOrNew, Makes, Takes};
 
 use crate::batch::commit;
 use pid_moderation::Rank;
@@ -32,30 +31,34 @@ const ACCOUNT: &str =
 const ITEM: &str = "CREATE TABLE item (path TEXT NOT NULL PRIMARY KEY, name TEXT NOT NULL) STRICT";
 
 const SUBMISSION: &str =
-    "CREATE TABLE submission (num INTEGER NOT NULL PRIMARY KEY, author TEXT NOT NULL REFERENCES account(name), path TEXT NOT NULL, form INTEGER NOT NULL CHECK (form BETWEEN 0 AND 1), name TEXT NOT NULL, note TEXT NOT NULL, state INTEGER NOT NULL CHECK (state BETWEEN 0 AND 3), decider TEXT NOT NULL, reason TEXT NOT NULL) STRICT";
+    "CREATE TABLE submission (num INTEGER NOT NULL PRIMARY KEY, author TEXT NOT NULL REFERENCES account(name), \
+        path TEXT NOT NULL, form INTEGER NOT NULL CHECK (form BETWEEN 0 AND 1), name TEXT NOT NULL, note TEXT NOT NULL, \
+        state INTEGER NOT NULL CHECK (state BETWEEN 0 AND 3), decider TEXT NOT NULL, reason TEXT NOT NULL) STRICT";
 
 const REMARK: &str =
     "CREATE TABLE remark (num INTEGER NOT NULL REFERENCES submission(num), seq INTEGER NOT NULL, author TEXT NOT NULL REFERENCES account(name), body TEXT NOT NULL, PRIMARY KEY (num, seq)) STRICT";
 
 const RECEIPT: &str =
-    "CREATE TABLE receipt (account TEXT NOT NULL REFERENCES account(name), token TEXT NOT NULL, kind INTEGER NOT NULL, a INTEGER NOT NULL, b INTEGER NOT NULL, c INTEGER NOT NULL, PRIMARY KEY (account, token)) STRICT";
+    "CREATE TABLE receipt (account TEXT NOT NULL REFERENCES account(name), token TEXT NOT NULL, kind INTEGER NOT NULL, \
+        a INTEGER NOT NULL, b INTEGER NOT NULL, c INTEGER NOT NULL, PRIMARY KEY (account, token)) STRICT";
 
 fn make_table<S: Alter>(tx: &mut Transaction<'_, S>, sql: &str) -> Result<(), TableFault>
     ensures same_reference { tx.new.conn.ghost_name ≡ tx.old.conn.ghost_name }
-    ensures goes { GoesOn (state S.Store tx.old.conn.now) (state S.Store tx.new.conn.now) result }
-    ensures made { (before : List Table) (table : Table) → Creates before sql.now table → (making before).tables ≡ before → Makes (state S.Store tx.old.conn.now) (state S.Store tx.new.conn.now) result before (before ++ table ∷ []) }
-    ensures takes { (name : List ℕ) → IsMakerOf sql.now name → Takes (state S.Store tx.old.conn.now) (state S.Store tx.new.conn.now) result (name ∷ []) }
-    ensures met { IsRefused (understood pid_schema sql.now) → FindsTables (state S.Store tx.old.conn.now) (state S.Store tx.new.conn.now) result }
+    ensures goes { GoesOn S.Store tx.old.conn.now tx.new.conn.now result }
+    ensures made { (before : List Table) (table : Table) → Creates before sql.now table → (making before).tables ≡ before
+        → Makes S.Store tx.old.conn.now tx.new.conn.now result before (before ++ table ∷ []) }
+    ensures takes { (name : List ℕ) → IsMakerOf sql.now name → Takes S.Store tx.old.conn.now tx.new.conn.now result (name ∷ []) }
+    ensures met { IsRefused (understood pid_schema sql.now) → FindsTables S.Store tx.old.conn.now tx.new.conn.now result }
 {
     write_one(tx, sql, &[])
 }
 
 fn make_first<S: Alter>(tx: &mut Transaction<'_, S>) -> Result<(), TableFault>
     ensures same_reference { tx.new.conn.ghost_name ≡ tx.old.conn.ghost_name }
-    ensures goes { GoesOn (state S.Store tx.old.conn.now) (state S.Store tx.new.conn.now) result }
-    ensures made { Makes (state S.Store tx.old.conn.now) (state S.Store tx.new.conn.now) result [] (tables.meta ∷ tables.account ∷ tables.item ∷ []) }
-    ensures takes { Takes (state S.Store tx.old.conn.now) (state S.Store tx.new.conn.now) result (codes "meta" ∷ codes "account" ∷ codes "item" ∷ []) }
-    ensures met { FindsTables (state S.Store tx.old.conn.now) (state S.Store tx.new.conn.now) result }
+    ensures goes { GoesOn S.Store tx.old.conn.now tx.new.conn.now result }
+    ensures made { Makes S.Store tx.old.conn.now tx.new.conn.now result [] (tables.meta ∷ tables.account ∷ tables.item ∷ []) }
+    ensures takes { Takes S.Store tx.old.conn.now tx.new.conn.now result (codes "meta" ∷ codes "account" ∷ codes "item" ∷ []) }
+    ensures met { FindsTables S.Store tx.old.conn.now tx.new.conn.now result }
 {
     make_table(tx, META)?;
     make_table(tx, ACCOUNT)?;
@@ -64,9 +67,10 @@ fn make_first<S: Alter>(tx: &mut Transaction<'_, S>) -> Result<(), TableFault>
 
 fn make_rest<S: Alter>(tx: &mut Transaction<'_, S>) -> Result<(), TableFault>
     ensures same_reference { tx.new.conn.ghost_name ≡ tx.old.conn.ghost_name }
-    ensures goes { GoesOn (state S.Store tx.old.conn.now) (state S.Store tx.new.conn.now) result }
-    ensures made { Makes (state S.Store tx.old.conn.now) (state S.Store tx.new.conn.now) result (tables.meta ∷ tables.account ∷ tables.item ∷ []) (tables.meta ∷ tables.account ∷ tables.item ∷ tables.submission ∷ tables.remark ∷ tables.receipt ∷ []) }
-    ensures takes { Takes (state S.Store tx.old.conn.now) (state S.Store tx.new.conn.now) result (codes "submission" ∷ codes "remark" ∷ codes "receipt" ∷ []) }
+    ensures goes { GoesOn S.Store tx.old.conn.now tx.new.conn.now result }
+    ensures made { Makes S.Store tx.old.conn.now tx.new.conn.now result (tables.meta ∷ tables.account ∷ tables.item ∷ [])
+        (tables.meta ∷ tables.account ∷ tables.item ∷ tables.submission ∷ tables.remark ∷ tables.receipt ∷ []) }
+    ensures takes { Takes S.Store tx.old.conn.now tx.new.conn.now result (codes "submission" ∷ codes "remark" ∷ codes "receipt" ∷ []) }
 {
     make_table(tx, SUBMISSION)?;
     make_table(tx, REMARK)?;
@@ -79,9 +83,9 @@ fn add_label<S: Alter>(
     value: u32,
 ) -> Result<(), TableFault>
     ensures same_reference { tx.new.conn.ghost_name ≡ tx.old.conn.ghost_name }
-    ensures goes { GoesOn (state S.Store tx.old.conn.now) (state S.Store tx.new.conn.now) result }
-    ensures added { HasCleanDisk (state S.Store tx.new.conn.now) → IsTrue (state S.Store tx.old.conn.now).in_transaction → (m : Map (List ℕ) ℕ) → HasOnlyMeta m (state S.Store tx.old.conn.now).now → m label.now ≡ None
-        → MatchResult result (λ _. HasOnlyMeta (with_label label.now value m) (state S.Store tx.new.conn.now).now) IsUntold }
+    ensures goes { GoesOn S.Store tx.old.conn.now tx.new.conn.now result }
+    ensures added { HasCleanDisk S.Store tx.new.conn.now → IsTrue tx.old.conn.now.in_transaction → (m : Map (List ℕ) ℕ) → HasOnlyMeta m (seen S.Store tx.old.conn.now) → m label.now ≡ None
+        → MatchResult result (λ _. HasOnlyMeta (with_label label.now value m) (seen S.Store tx.new.conn.now)) IsUntold }
 {
     let label = label.to_sql();
     let value = value.to_sql();
@@ -94,9 +98,9 @@ fn add_label<S: Alter>(
 
 fn add_labels<S: Alter>(tx: &mut Transaction<'_, S>) -> Result<(), TableFault>
     ensures same_reference { tx.new.conn.ghost_name ≡ tx.old.conn.ghost_name }
-    ensures goes { GoesOn (state S.Store tx.old.conn.now) (state S.Store tx.new.conn.now) result }
-    ensures added { HasCleanDisk (state S.Store tx.new.conn.now) → IsTrue (state S.Store tx.old.conn.now).in_transaction → HasOnlyMeta (λ _. None) (state S.Store tx.old.conn.now).now
-        → MatchResult result (λ _. HasOnlyMeta (meta_of (record { items = 0; submissions = 0 })) (state S.Store tx.new.conn.now).now) IsUntold }
+    ensures goes { GoesOn S.Store tx.old.conn.now tx.new.conn.now result }
+    ensures added { HasCleanDisk S.Store tx.new.conn.now → IsTrue tx.old.conn.now.in_transaction → HasOnlyMeta (λ _. None) (seen S.Store tx.old.conn.now)
+        → MatchResult result (λ _. HasOnlyMeta (meta_of (record { items = 0; submissions = 0 })) (seen S.Store tx.new.conn.now)) IsUntold }
 {
     add_label(tx, "submissions", 0)?;
     add_label(tx, "items", 0)?;
@@ -105,10 +109,11 @@ fn add_labels<S: Alter>(tx: &mut Transaction<'_, S>) -> Result<(), TableFault>
 
 fn fill<S: Alter>(tx: &mut Transaction<'_, S>) -> Result<(), TableFault>
     ensures same_reference { tx.new.conn.ghost_name ≡ tx.old.conn.ghost_name }
-    ensures goes { GoesOn (state S.Store tx.old.conn.now) (state S.Store tx.new.conn.now) result }
-    ensures filled { HasCleanDisk (state S.Store tx.new.conn.now) → IsTrue (state S.Store tx.old.conn.now).in_transaction → (IsTrue (state S.Store tx.old.conn.now).is_open → AreMade [] (state S.Store tx.old.conn.now).now) → MatchResult result (λ _. Shows (state S.Store tx.new.conn.now).now (views_of [])) IsUntold }
-    ensures refused { HasCleanDisk (state S.Store tx.new.conn.now) → IsTrue (state S.Store tx.old.conn.now).in_transaction → IsMet (state S.Store tx.old.conn.now) → MatchResult result (λ _. ⊥) IsOfMaking }
-    ensures met { FindsTables (state S.Store tx.old.conn.now) (state S.Store tx.new.conn.now) result }
+    ensures goes { GoesOn S.Store tx.old.conn.now tx.new.conn.now result }
+    ensures filled { HasCleanDisk S.Store tx.new.conn.now → IsTrue tx.old.conn.now.in_transaction
+        → (IsTrue (is_open S.Store tx.old.conn.now) → AreMade [] (seen S.Store tx.old.conn.now)) → MatchResult result (λ _. Shows (seen S.Store tx.new.conn.now) (views_of [])) IsUntold }
+    ensures refused { HasCleanDisk S.Store tx.new.conn.now → IsTrue tx.old.conn.now.in_transaction → IsMet S.Store tx.old.conn.now → MatchResult result (λ _. ⊥) IsOfMaking }
+    ensures met { FindsTables S.Store tx.old.conn.now tx.new.conn.now result }
 {
     make_first(tx)?;
     make_rest(tx)?;
@@ -123,16 +128,16 @@ fn fill<S: Alter>(tx: &mut Transaction<'_, S>) -> Result<(), TableFault>
 /// of the tables wants, it answers `Damaged`, or else `Memory` or `Store`, and changes nothing. Beside tables of other names
 /// the new ones are made; what they then are together, no clause says.
 pub fn create<S: Alter>(conn: &mut Connection<S>) -> Result<(), TableFault>
-    requires { (state S.Store conn.old).in_transaction ≡ false }
-    ensures settled { (state S.Store conn.new).in_transaction ≡ false }
-    ensures clean { HasCleanDisk (state S.Store conn.new) → HasCleanDisk (state S.Store conn.old) }
-    ensures made { IsBlank (state S.Store conn.old) → OnOk result (AtRest (state S.Store conn.new) (views_of [])) }
-    ensures untold { HasCleanDisk (state S.Store conn.new) → IsBlank (state S.Store conn.old) → IfErr result IsUntold }
-    ensures crash { IsBlank (state S.Store conn.old) → LeavesBareOrNew (state S.Store conn.new) }
-    ensures rests { IsMet (state S.Store conn.old) → OnlyReads (state S.Store conn.old) (state S.Store conn.new) }
-    ensures refused { HasCleanDisk (state S.Store conn.new) → IsMet (state S.Store conn.old) → MatchResult result (λ _. ⊥) IsOfMaking }
-    ensures kept { (v : Views) → AtRest (state S.Store conn.old) v → AtRest (state S.Store conn.new) v }
-    ensures met { HasCleanDisk (state S.Store conn.new) → (v : Views) → AtRest (state S.Store conn.old) v → MatchResult result (λ _. ⊥) (IsMetFault (state S.Store conn.old) (state S.Store conn.new)) }
+    requires { conn.old.in_transaction ≡ false }
+    ensures settled { conn.new.in_transaction ≡ false }
+    ensures clean { HasCleanDisk S.Store conn.new → HasCleanDisk S.Store conn.old }
+    ensures made { IsBlank S.Store conn.old → OnOk result (AtRest S.Store conn.new (views_of [])) }
+    ensures untold { HasCleanDisk S.Store conn.new → IsBlank S.Store conn.old → IfErr result IsUntold }
+    ensures crash { IsBlank S.Store conn.old → LeavesBareOrNew S.Store conn.new }
+    ensures rests { IsMet S.Store conn.old → OnlyReads S.Store conn.old conn.new }
+    ensures refused { HasCleanDisk S.Store conn.new → IsMet S.Store conn.old → MatchResult result (λ _. ⊥) IsOfMaking }
+    ensures kept { (v : Views) → AtRest S.Store conn.old v → AtRest S.Store conn.new v }
+    ensures met { HasCleanDisk S.Store conn.new → (v : Views) → AtRest S.Store conn.old v → MatchResult result (λ _. ⊥) (IsMetFault S.Store conn.old conn.new) }
 {
     let mut batch = conn.transaction();
     fill(&mut batch)?;

@@ -6,7 +6,7 @@ ghost use Rattle.pid_moderation.specs.FactsOfViews.{kept_in as kept_for, named a
 ghost use Rattle.pid_moderation.specs.Items.{name_at, parent_text, holds_parent, has_children as are_children};
 ghost use Rattle.pid_moderation.specs.Wants.{wanted_by};
 ghost use Rattle.pid_moderation.specs.WellMade.{AllItems, HoldsParents};
-ghost use Rattle.pid_rows.specs.Leaves.{OnlyReads, Tells};
+ghost use Rattle.pid_rows.specs.Clauses.{Reads};
 
 use pid_ident::{Account, Key, Name, Path};
 use pid_moderation::{Facts, Named, Rank, Reply, Rows};
@@ -25,9 +25,8 @@ fn kept<S: Alter>(
     account: &Account,
     key: &Option<Key>,
 ) -> Result<Option<Reply>, TableFault>
-    requires { (state S.Store conn.old).in_transaction ≡ false }
-    ensures rests { OnlyReads (state S.Store conn.old) (state S.Store conn.new) }
-    ensures found { Tells (state S.Store conn.old) (state S.Store conn.new) result (λ v reply. reply ≡ kept_for v account.now key.now) }
+    requires { conn.old.in_transaction ≡ false }
+    ensures { Reads S.Store conn.old conn.new result (λ v reply. reply ≡ kept_for v account.now key.now) }
 {
     match key {
         None => Ok(None),
@@ -40,9 +39,8 @@ fn known<S: Alter>(
     account: &Account,
     key: &Option<Key>,
 ) -> Result<Facts, TableFault>
-    requires { (state S.Store conn.old).in_transaction ≡ false }
-    ensures rests { OnlyReads (state S.Store conn.old) (state S.Store conn.new) }
-    ensures found { Tells (state S.Store conn.old) (state S.Store conn.new) result (λ v facts. facts ≡ known_of v account.now key.now) }
+    requires { conn.old.in_transaction ≡ false }
+    ensures { Reads S.Store conn.old conn.new result (λ v facts. facts ≡ known_of v account.now key.now) }
 {
     let rank = rank(conn, account.as_str())?;
     let kept = kept(conn, account, key)?;
@@ -84,9 +82,8 @@ fn named<S: Alter>(
     alloc: Global,
     number: u32,
 ) -> Result<Option<Named>, TableFault>
-    requires { (state S.Store conn.old).in_transaction ≡ false }
-    ensures rests { OnlyReads (state S.Store conn.old) (state S.Store conn.new) }
-    ensures found { Tells (state S.Store conn.old) (state S.Store conn.new) result (λ v named. named ≡ named_in v number) }
+    requires { conn.old.in_transaction ≡ false }
+    ensures { Reads S.Store conn.old conn.new result (λ v named. named ≡ named_in v number) }
 {
     match standing(conn, alloc, number)? {
         None => Ok(None),
@@ -102,9 +99,8 @@ fn has_parent<S: Alter>(
     alloc: Global,
     path: Path,
 ) -> Result<bool, TableFault>
-    requires { (state S.Store conn.old).in_transaction ≡ false }
-    ensures rests { OnlyReads (state S.Store conn.old) (state S.Store conn.new) }
-    ensures found { Tells (state S.Store conn.old) (state S.Store conn.new) result (λ v there. there ≡ holds_parent (parent_text (path_text path)) v.items) }
+    requires { conn.old.in_transaction ≡ false }
+    ensures { Reads S.Store conn.old conn.new result (λ v there. there ≡ holds_parent (parent_text (path_text path)) v.items) }
 {
     match path.parent() {
         None => Ok(true),
@@ -120,10 +116,9 @@ fn kin<S: Alter>(
     alloc: Global,
     path: Path,
 ) -> Result<(bool, bool), TableFault>
-    requires { (state S.Store conn.old).in_transaction ≡ false }
-    ensures rests { OnlyReads (state S.Store conn.old) (state S.Store conn.new) }
-    ensures parent { Tells (state S.Store conn.old) (state S.Store conn.new) result (λ v kin. kin.0 ≡ holds_parent (parent_text (path_text path)) v.items) }
-    ensures children { Tells (state S.Store conn.old) (state S.Store conn.new) result (λ v kin. AllItems v.items → HoldsParents v.items → kin.1 ≡ are_children (path_text path) v.items) }
+    requires { conn.old.in_transaction ≡ false }
+    ensures parent { Reads S.Store conn.old conn.new result (λ v kin. kin.0 ≡ holds_parent (parent_text (path_text path)) v.items) }
+    ensures children { Reads S.Store conn.old conn.new result (λ v kin. AllItems v.items → HoldsParents v.items → kin.1 ≡ are_children (path_text path) v.items) }
 {
     let parent = has_parent(conn, alloc, path)?;
     let children = has_children(conn, alloc, path)?;
@@ -135,10 +130,9 @@ fn present<S: Alter>(
     alloc: Global,
     path: Path,
 ) -> Result<(u32, Option<Name>), TableFault>
-    requires { (state S.Store conn.old).in_transaction ≡ false }
-    ensures rests { OnlyReads (state S.Store conn.old) (state S.Store conn.new) }
-    ensures count { Tells (state S.Store conn.old) (state S.Store conn.new) result (λ v present. present.0 ≡ length v.items) }
-    ensures name { Tells (state S.Store conn.old) (state S.Store conn.new) result (λ v present. present.1 ≡ name_at (path_text path) v.items) }
+    requires { conn.old.in_transaction ≡ false }
+    ensures count { Reads S.Store conn.old conn.new result (λ v present. present.0 ≡ length v.items) }
+    ensures name { Reads S.Store conn.old conn.new result (λ v present. present.1 ≡ name_at (path_text path) v.items) }
 {
     let text = path.path_text(alloc)?;
     let count = items(conn)?;
@@ -152,9 +146,8 @@ fn with_named<S: Alter>(
     named: Named,
     mut facts: Facts,
 ) -> Result<Facts, TableFault>
-    requires { (state S.Store conn.old).in_transaction ≡ false }
-    ensures rests { OnlyReads (state S.Store conn.old) (state S.Store conn.new) }
-    ensures found { Tells (state S.Store conn.old) (state S.Store conn.new) result (λ v all. AllItems v.items → HoldsParents v.items → all ≡ facts_with v (Some named) facts) }
+    requires { conn.old.in_transaction ≡ false }
+    ensures { Reads S.Store conn.old conn.new result (λ v all. AllItems v.items → HoldsParents v.items → all ≡ facts_with v (Some named) facts) }
 {
     let (items, name) = present(conn, alloc, named.path)?;
     let (parent, children) = kin(conn, alloc, named.path)?;
@@ -172,9 +165,8 @@ fn with_item<S: Alter>(
     number: u32,
     facts: Facts,
 ) -> Result<Facts, TableFault>
-    requires { (state S.Store conn.old).in_transaction ≡ false }
-    ensures rests { OnlyReads (state S.Store conn.old) (state S.Store conn.new) }
-    ensures found { Tells (state S.Store conn.old) (state S.Store conn.new) result (λ v all. AllItems v.items → HoldsParents v.items → all ≡ facts_with v (named_in v number) facts) }
+    requires { conn.old.in_transaction ≡ false }
+    ensures { Reads S.Store conn.old conn.new result (λ v all. AllItems v.items → HoldsParents v.items → all ≡ facts_with v (named_in v number) facts) }
 {
     match named(conn, alloc, number)? {
         None => Ok(facts),
@@ -190,9 +182,8 @@ pub(crate) fn gather_facts<S: Alter>(
     key: &Option<Key>,
     rows: Rows<'_>,
 ) -> Result<Facts, TableFault>
-    requires { (state S.Store conn.old).in_transaction ≡ false }
-    ensures rests { OnlyReads (state S.Store conn.old) (state S.Store conn.new) }
-    ensures found { Tells (state S.Store conn.old) (state S.Store conn.new) result (λ v facts. AllItems v.items → HoldsParents v.items → facts ≡ facts_at v account.now key.now (wanted_by rows.entry)) }
+    requires { conn.old.in_transaction ≡ false }
+    ensures { Reads S.Store conn.old conn.new result (λ v facts. AllItems v.items → HoldsParents v.items → facts ≡ facts_at v account.now key.now (wanted_by rows.entry)) }
 {
     let mut facts = known(conn, account, key)?;
     match rows {

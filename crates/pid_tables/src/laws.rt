@@ -4,12 +4,11 @@ ghost use Rattle.pid_moderation.specs.Sound.{IsSound};
 ghost use Rattle.pid_moderation.specs.Views.{Views, views_of, items_of};
 ghost use Rattle.pid_moderation.specs.WellMade.{AllItems, HoldsParents};
 ghost use Rattle.pid_rows.specs.Causes.{IsReadable};
-ghost use Rattle.pid_rows.specs.Leaves.{as_found, AtRest, OnlyReads};
+ghost use Rattle.pid_rows.specs.Clauses.{AtRest, OnlyReads, seen};
+ghost use Rattle.pid_rows.specs.Leaves.{as_found};
 ghost use Rattle.pid_rows.specs.Shows.{AreViews, Shows};
-ghost use Rattle.pid_tables.specs.Creation.{IsBare, IsBlank};
-ghost use Rattle.pid_tables.specs.ShowsOrBlank.{ShowsOrBlank};
-ghost use Rattle.sqlite.specs.Held.{state};
-ghost use Rattle.sqlite.specs.State.{IsLive, Opens};
+ghost use Rattle.pid_tables.specs.Clauses.{IsBlank, IsOpened, ShowsOrBlank};
+ghost use Rattle.pid_tables.specs.Creation.{IsBare};
 
 use pid_moderation::{trees_are_files, trees_are_last_writes};
 use sqlite::{Alter, Connection};
@@ -28,11 +27,11 @@ pub fn views_of_sound_histories()
 
 /// A connection that has just found trees which show views is at rest on them; where it found no table, it is blank.
 pub fn opened_tables_rest<S: Alter>(conn: &Connection<S>)
-    ensures shown { (v : Views) → Opens (state S.Store conn.now) → IsLive (state S.Store conn.now) → Shows (as_found (state S.Store conn.now).now.trees) v → AtRest (state S.Store conn.now) v }
-    ensures bare { Opens (state S.Store conn.now) → IsLive (state S.Store conn.now) → IsBare (state S.Store conn.now).now.trees → IsBlank (state S.Store conn.now) }
+    ensures shown { (v : Views) → IsOpened S.Store conn.now → Shows (as_found (seen S.Store conn.now).trees) v → AtRest S.Store conn.now v }
+    ensures bare { IsOpened S.Store conn.now → IsBare (seen S.Store conn.now).trees → IsBlank S.Store conn.now }
 {}
 
 /// A read leaves what was shown, also where there is no table.
 pub fn reads_keep_what_is_shown<S: Alter>(old: &Connection<S>, new: &Connection<S>)
-    ensures { (h : History) → OnlyReads (state S.Store old.now) (state S.Store new.now) → ShowsOrBlank (state S.Store old.now) h → ShowsOrBlank (state S.Store new.now) h }
+    ensures { (h : History) → OnlyReads S.Store old.now new.now → ShowsOrBlank S.Store old.now h → ShowsOrBlank S.Store new.now h }
 {}

@@ -17,9 +17,4 @@ pub use pid_rows::remark::Comment;
 pub use pid_rows::submission::Submission;
 pub use pid_table_lists::{Discussion, EachEnd, PAGE, Pending};
 pub use putting::Put;
-pub use tables::{Tables, new_in_memory};
-
-#[cfg(test)]
-mod stops;
-#[cfg(test)]
-mod tests;
+pub use tables::Tables;

@@ -1,8 +1,7 @@
 //! The tables of a registry, over a connection.
-ghost use Rattle.std.specs.Prelude.{◌≡◌, [], false, length, map, IfOk, IsTrue, option_map, IfErr, MatchResult, OnOk};
-ghost use Rattle.sqlite.specs.Held.{state};
-ghost use Rattle.sqlite.specs.State.{HasCleanDisk};
-ghost use Rattle.sqlite.specs.Steps.{over_memory};
+ghost use Rattle.std.specs.Prelude.{◌≡◌, codes, false, length, map, IfOk, IsTrue, option_map, IfErr, MatchResult, OnOk};
+ghost use Rattle.pid_moderation.specs.History.{History};
+ghost use Rattle.pid_moderation.specs.Sound.{IsSound};
 ghost use Rattle.pid_moderation.specs.Views.{Views, views_of};
 ghost use Rattle.pid_ident.specs.PathTexts.{path_text};
 ghost use Rattle.pid_moderation.specs.FactsOfViews.{facts_at};
@@ -14,30 +13,28 @@ ghost use Rattle.pid_table_check.specs.Conditions.{IsRegistry, rows_in};
 ghost use Rattle.pid_table_check.specs.Shapes.{ExplainsLack, HasNoTable, LacksATable};
 ghost use Rattle.pid_rows.specs.Causes.{IsReadable};
 ghost use Rattle.pid_rows.specs.Faults.{IsUntold};
+ghost use Rattle.pid_rows.specs.LabelRows.{HasLabel};
 ghost use Rattle.pid_rows.specs.Schema.{pid_schema};
 ghost use Rattle.pid_rows.specs.ItemPairs.{pair_of};
-ghost use Rattle.pid_rows.specs.Leaves.{AtRest, OnlyReads, Tells};
 ghost use Rattle.pid_table_lists.specs.Children.{children_of};
 ghost use Rattle.pid_table_lists.specs.Discussions.{discussion_in, shown_of};
-ghost use Rattle.pid_table_lists.specs.EachItem.{TakesEach, IsCausedEnd};
+ghost use Rattle.pid_table_lists.specs.EachItem.{TakesEach, placed_from};
 ghost use Rattle.pid_table_lists.specs.PendingPages.{pending_in, told_of};
+ghost use Rattle.pid_rows.specs.Clauses.{AtRest, HasCleanDisk, OnlyReads, Reads, Tells, is_open, seen};
+ghost use Rattle.pid_table_lists.specs.Clauses.{IsCausedEnd};
 
-use crate::creation::create;
 use crate::gather::gather_facts;
 use pid_ident::{Account, Key, Name, Path};
-use pid_moderation::{Facts, Rank, Reply, Rows};
+use pid_moderation::{Facts, Rows};
 use pid_reader::Sink;
 use pid_rows::TableFault;
-use pid_rows::account::rank;
 use pid_rows::item::{Item, item_name};
-use pid_rows::meta::{items, schema_number, submissions};
-use pid_rows::receipt::kept_reply;
-use pid_rows::remark::remark_count;
-use pid_table_check::{check, has_some_table};
+use pid_rows::meta::{items, schema_number};
+use pid_table_check::{check, has_some_table, sound_histories_are_registries};
 use pid_table_lists::{
     Discussion, EachEnd, PAGE, Pending, children, discussed, each_item, pending_page,
 };
-use sqlite::{Alter, Connection, MemStore};
+use sqlite::{Alter, Connection};
 use std::alloc::Global;
 
 /// The tables of a registry, over a connection that is at rest between calls. A read leaves them as they are.
@@ -62,29 +59,10 @@ impl<S: Alter + Drop> Tables<S> {
         conn
     }
 
-    /// The rank of an account, if it is one.
-    pub fn rank(&mut self, account: &Account) -> Result<Option<Rank>, TableFault>
-        requires { (state S.Store self.old.conn).in_transaction ≡ false }
-        ensures rests { OnlyReads (state S.Store self.old.conn) (state S.Store self.new.conn) }
-        ensures told { Tells (state S.Store self.old.conn) (state S.Store self.new.conn) result (λ v rank. rank ≡ v.rank account.now) }
-    {
-        rank(&mut self.conn, account.as_str())
-    }
-
-    /// The reply that is kept under an account and a key.
-    pub fn kept(&mut self, account: &Account, key: &Key) -> Result<Option<Reply>, TableFault>
-        requires { (state S.Store self.old.conn).in_transaction ≡ false }
-        ensures rests { OnlyReads (state S.Store self.old.conn) (state S.Store self.new.conn) }
-        ensures told { Tells (state S.Store self.old.conn) (state S.Store self.new.conn) result (λ v reply. reply ≡ v.kept account.now key.now) }
-    {
-        kept_reply(&mut self.conn, account.as_str(), key.as_str())
-    }
-
     /// The name of the item at a path.
     pub fn item(&mut self, alloc: Global, path: &Path) -> Result<Option<Name>, TableFault>
-        requires { (state S.Store self.old.conn).in_transaction ≡ false }
-        ensures rests { OnlyReads (state S.Store self.old.conn) (state S.Store self.new.conn) }
-        ensures told { Tells (state S.Store self.old.conn) (state S.Store self.new.conn) result (λ v name. name ≡ name_at (path_text path.now) v.items) }
+        requires { self.old.conn.in_transaction ≡ false }
+        ensures { Reads S.Store self.old.conn self.new.conn result (λ v name. name ≡ name_at (path_text path.now) v.items) }
     {
         let path = path.path_text(alloc)?;
         item_name(&mut self.conn, alloc, path.as_str())
@@ -95,10 +73,10 @@ impl<S: Alter + Drop> Tables<S> {
     ///
     /// Where it fails, the sink keeps what it took until then.
     pub fn each_item<K: Sink>(&mut self, sink: &mut K) -> Result<(), EachEnd<K::Fault>>
-        requires { (state S.Store self.old.conn).in_transaction ≡ false }
-        ensures rests { OnlyReads (state S.Store self.old.conn) (state S.Store self.new.conn) }
-        ensures told { HasCleanDisk (state S.Store self.new.conn) → (v : Views) → AtRest (state S.Store self.old.conn) v → TakesEach K.takes K.faults result v.items sink.old sink.new }
-        ensures caused { HasCleanDisk (state S.Store self.new.conn) → (v : Views) → AtRest (state S.Store self.old.conn) v → IsReadable v → IfErr result (IsCausedEnd (state S.Store self.old.conn) (state S.Store self.new.conn)) }
+        requires { self.old.conn.in_transaction ≡ false }
+        ensures rests { OnlyReads S.Store self.old.conn self.new.conn }
+        ensures told { HasCleanDisk S.Store self.new.conn → (v : Views) → AtRest S.Store self.old.conn v → TakesEach K.takes K.faults result (placed_from 1 v.items) sink.old sink.new }
+        ensures caused { HasCleanDisk S.Store self.new.conn → (v : Views) → AtRest S.Store self.old.conn v → IsReadable v → IfErr result (IsCausedEnd S.Store self.old.conn self.new.conn) }
     {
         each_item(&mut self.conn, sink)
     }
@@ -109,9 +87,8 @@ impl<S: Alter + Drop> Tables<S> {
     /// Vendors and classes are found by a walk over all items. It holds of views whose paths are paths, as those of every
     /// history are.
     pub fn children(&mut self, alloc: Global, above: Option<Path>) -> Result<Vec<Item>, TableFault>
-        requires { (state S.Store self.old.conn).in_transaction ≡ false }
-        ensures rests { OnlyReads (state S.Store self.old.conn) (state S.Store self.new.conn) }
-        ensures told { Tells (state S.Store self.old.conn) (state S.Store self.new.conn) result (λ v items. AllItems v.items → map pair_of items.items ≡ children_of (option_map path_text above) v.items) }
+        requires { self.old.conn.in_transaction ≡ false }
+        ensures { Reads S.Store self.old.conn self.new.conn result (λ v items. AllItems v.items → map pair_of items.items ≡ children_of (option_map path_text above) v.items) }
     {
         children(&mut self.conn, alloc, above)
     }
@@ -122,9 +99,8 @@ impl<S: Alter + Drop> Tables<S> {
         alloc: Global,
         number: u32,
     ) -> Result<Option<Discussion>, TableFault>
-        requires { (state S.Store self.old.conn).in_transaction ≡ false }
-        ensures rests { OnlyReads (state S.Store self.old.conn) (state S.Store self.new.conn) }
-        ensures told { Tells (state S.Store self.old.conn) (state S.Store self.new.conn) result (λ v d. option_map shown_of d ≡ discussion_in v number) }
+        requires { self.old.conn.in_transaction ≡ false }
+        ensures { Reads S.Store self.old.conn self.new.conn result (λ v d. option_map shown_of d ≡ discussion_in v number) }
     {
         discussed(&mut self.conn, alloc, number)
     }
@@ -132,38 +108,18 @@ impl<S: Alter + Drop> Tables<S> {
     /// The first pending submissions whose numbers are above a number, `PAGE` at most. From 0 on, and then from the last number
     /// that was told, pages go through all that are pending.
     pub fn pending_page(&mut self, alloc: Global, after: u32) -> Result<Vec<Pending>, TableFault>
-        requires { (state S.Store self.old.conn).in_transaction ≡ false }
-        ensures rests { OnlyReads (state S.Store self.old.conn) (state S.Store self.new.conn) }
-        ensures told { Tells (state S.Store self.old.conn) (state S.Store self.new.conn) result (λ v page. map told_of page.items ≡ pending_in PAGE after v) }
+        requires { self.old.conn.in_transaction ≡ false }
+        ensures { Reads S.Store self.old.conn self.new.conn result (λ v page. map told_of page.items ≡ pending_in PAGE after v) }
     {
         pending_page(&mut self.conn, alloc, after)
     }
 
-    /// How many remarks there are on a submission.
-    pub fn remarks(&mut self, number: u32) -> Result<u32, TableFault>
-        requires { (state S.Store self.old.conn).in_transaction ≡ false }
-        ensures rests { OnlyReads (state S.Store self.old.conn) (state S.Store self.new.conn) }
-        ensures told { Tells (state S.Store self.old.conn) (state S.Store self.new.conn) result (λ v n. n ≡ length (v.remarks number)) }
-    {
-        remark_count(&mut self.conn, number)
-    }
-
     /// How many items there are.
     pub fn items(&mut self) -> Result<u32, TableFault>
-        requires { (state S.Store self.old.conn).in_transaction ≡ false }
-        ensures rests { OnlyReads (state S.Store self.old.conn) (state S.Store self.new.conn) }
-        ensures told { Tells (state S.Store self.old.conn) (state S.Store self.new.conn) result (λ v n. n ≡ length v.items) }
+        requires { self.old.conn.in_transaction ≡ false }
+        ensures { Reads S.Store self.old.conn self.new.conn result (λ v n. n ≡ length v.items) }
     {
         items(&mut self.conn)
-    }
-
-    /// How many submissions there are.
-    pub fn submissions(&mut self) -> Result<u32, TableFault>
-        requires { (state S.Store self.old.conn).in_transaction ≡ false }
-        ensures rests { OnlyReads (state S.Store self.old.conn) (state S.Store self.new.conn) }
-        ensures told { Tells (state S.Store self.old.conn) (state S.Store self.new.conn) result (λ v n. n ≡ length v.submits) }
-    {
-        submissions(&mut self.conn)
     }
 
     /// The facts that a command of the account under the key is judged by: what `rows` names, as `needs` answers it, and no
@@ -177,9 +133,8 @@ impl<S: Alter + Drop> Tables<S> {
         key: &Option<Key>,
         rows: Rows<'_>,
     ) -> Result<Facts, TableFault>
-        requires { (state S.Store self.old.conn).in_transaction ≡ false }
-        ensures rests { OnlyReads (state S.Store self.old.conn) (state S.Store self.new.conn) }
-        ensures told { Tells (state S.Store self.old.conn) (state S.Store self.new.conn) result (λ v facts. AllItems v.items → HoldsParents v.items → facts ≡ facts_at v account.now key.now (wanted_by rows.entry)) }
+        requires { self.old.conn.in_transaction ≡ false }
+        ensures { Reads S.Store self.old.conn self.new.conn result (λ v facts. AllItems v.items → HoldsParents v.items → facts ≡ facts_at v account.now key.now (wanted_by rows.entry)) }
     {
         gather_facts(&mut self.conn, alloc, account, key, rows)
     }
@@ -190,23 +145,28 @@ impl<S: Alter + Drop> Tables<S> {
     /// have a later schema, which is judged before. `docs/STORAGE.md` has the conditions. Of tables with other keys, types or
     /// rules nothing is said.
     pub fn check(&mut self, alloc: Global) -> Result<(), TableFault>
-        requires { (state S.Store self.old.conn).in_transaction ≡ false }
-        ensures rests { OnlyReads (state S.Store self.old.conn) (state S.Store self.new.conn) }
-        ensures shut { HasCleanDisk (state S.Store self.new.conn) → (state S.Store self.old.conn).is_open ≡ false → MatchResult result (λ x. ⊥) IsUntold }
-        ensures bare { HasCleanDisk (state S.Store self.new.conn) → HasNoTable (state S.Store self.old.conn).now.schema → IfErr result IsUntold }
-        ensures lacking { HasCleanDisk (state S.Store self.new.conn) → LacksATable (state S.Store self.old.conn).now.schema → MatchResult result (λ x. ⊥) (ExplainsLack (state S.Store self.old.conn).now) }
-        ensures told { HasCleanDisk (state S.Store self.new.conn) → (state S.Store self.old.conn).now.schema ≡ pid_schema → MatchResult result (λ x. IsRegistry (state S.Store self.old.conn).now.trees) (Explains (rows_in (state S.Store self.old.conn).now.trees)) }
+        requires { self.old.conn.in_transaction ≡ false }
+        ensures rests { OnlyReads S.Store self.old.conn self.new.conn }
+        ensures shut { HasCleanDisk S.Store self.new.conn → is_open S.Store self.old.conn ≡ false → MatchResult result (λ x. ⊥) IsUntold }
+        ensures bare { HasCleanDisk S.Store self.new.conn → HasNoTable (seen S.Store self.old.conn).schema → IfErr result IsUntold }
+        ensures lacking { HasCleanDisk S.Store self.new.conn → LacksATable (seen S.Store self.old.conn).schema → MatchResult result (λ x. ⊥) (ExplainsLack (seen S.Store self.old.conn)) }
+        ensures told { HasCleanDisk S.Store self.new.conn → (seen S.Store self.old.conn).schema ≡ pid_schema
+            → MatchResult result (λ x. IsRegistry (seen S.Store self.old.conn).trees) (Explains (rows_in (seen S.Store self.old.conn).trees)) }
+        // Tables that show a sound history are neither damaged nor of a later schema.
+        ensures good { HasCleanDisk S.Store self.new.conn → (h : History) → IsSound h → AtRest S.Store self.old.conn (views_of h) → IfErr result IsUntold }
     {
+        sound_histories_are_registries();
         check(&mut self.conn, alloc)
     }
 
-    /// The number of the schema, and 0 where none of its tables is there. Other tables do not count.
+    /// The number of the schema, as the labels have it, and 0 where none of its tables is there. Other tables do not count.
     pub fn version(&mut self) -> Result<u32, TableFault>
-        requires { (state S.Store self.old.conn).in_transaction ≡ false }
-        ensures rests { OnlyReads (state S.Store self.old.conn) (state S.Store self.new.conn) }
-        ensures told { Tells (state S.Store self.old.conn) (state S.Store self.new.conn) result (λ v n. n ≡ 1) }
-        ensures was_open { HasCleanDisk (state S.Store self.new.conn) → OnOk result (IsTrue (state S.Store self.old.conn).is_open) }
-        ensures none { HasCleanDisk (state S.Store self.new.conn) → HasNoTable (state S.Store self.old.conn).now.schema → MatchResult result (λ n. n ≡ 0) IsUntold }
+        requires { self.old.conn.in_transaction ≡ false }
+        ensures rests { OnlyReads S.Store self.old.conn self.new.conn }
+        ensures told { Tells S.Store self.old.conn self.new.conn result (λ v n. n ≡ 1) }
+        ensures was_open { HasCleanDisk S.Store self.new.conn → OnOk result (IsTrue (is_open S.Store self.old.conn)) }
+        ensures none { HasCleanDisk S.Store self.new.conn → HasNoTable (seen S.Store self.old.conn).schema → MatchResult result (λ n. n ≡ 0) IsUntold }
+        ensures labelled { HasCleanDisk S.Store self.new.conn → (seen S.Store self.old.conn).schema ≡ pid_schema → IfOk result (HasLabel (seen S.Store self.old.conn).trees (codes "schema")) }
     {
         if has_some_table(&mut self.conn)? {
             schema_number(&mut self.conn)
@@ -214,15 +174,4 @@ impl<S: Alter + Drop> Tables<S> {
             Ok(0)
         }
     }
-}
-
-/// A new registry in memory.
-pub fn new_in_memory(alloc: Global) -> Result<Tables<MemStore>, TableFault>
-    ensures settled { IfOk result (λ tables. tables.conn.in_transaction ≡ false) }
-    ensures untold { IfErr result IsUntold }
-    ensures made { IfOk result (λ tables. AtRest (state over_memory tables.conn) (views_of [])) }
-{
-    let mut conn = Connection::open_in_memory(alloc)?;
-    create(&mut conn)?;
-    Ok(Tables::new(conn))
 }

@@ -6,3 +6,4 @@ pub mod Removed
 pub mod Written
 mod Rows
 mod WholeLemmas
+pub mod Labelled

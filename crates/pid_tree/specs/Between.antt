@@ -1,3 +1,4 @@
+-- Serves private functions alone; no promise rests on it.
 -- What a search for children within a part of a tree finds.
 use Rattle.std.specs.Prelude.{◌≡◌, Some, IsNone}
 use Rattle.std.specs.FinMap.{get}

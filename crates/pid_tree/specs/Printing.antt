@@ -7,8 +7,8 @@ use Rattle.pid_ident.specs.declared.path.Path.{Path}
 use Rattle.pid_ident.specs.PathTexts.{path_text}
 use Rattle.pid_ident.specs.Trees.{TreeMap, text_cmp}
 
--- what stands before the name in the line of an item: tabs and the last digits of its path's text, whose
--- length tells which kind of path it is (9 is a tab, 32 a space)
+-- what stands before the name in the line of an item: the label of its path, read off the path's text, whose length
+-- tells which kind of path it is. Labels.antt has it by kind, and laws.rt says that the two are one (9 is a tab, 32 a space)
 abbrev pub label_of : List ℕ → List ℕ
 label_of path =
     -- a vendor: `8086` of PC/8086

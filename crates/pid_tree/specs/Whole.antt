@@ -1,3 +1,4 @@
+-- Serves private functions alone; no promise rests on it.
 -- Whether the items of a map make a tree, found item by item.
 use Rattle.std.specs.Prelude.{ℕ, List, [], ◌∷◌, IsSome, IfSome, IsTrue}
 use Rattle.std.specs.Ordering.{is_eq}

@@ -61,7 +61,8 @@ impl Tree {
         }
     }
 
-    /// The tree of these items, built in one pass where they come in order. Of items with one path the last stays.
+    /// The tree of these items, which may come in any order; where they come in canonical order it is built in one pass.
+    /// Of items with one path the last stays. Where the parent of a path is not among them there is no tree.
     pub fn of_items(alloc: Global, items: Vec<(Path, Name)>) -> Result<Tree, TreeRefusal>
         ensures ok { IfOk result (λ t. t ≡ tree_of (reverse items.items)) }
         ensures parent_missing { IsErrOf result TreeRefusal.ParentMissing → IsTree (tree_of (reverse items.items)) → ⊥ }

@@ -5,7 +5,10 @@ use Rattle.pid_rows.proofs.QueryTexts.{account_query}
 use Rattle.pid_rows.proofs.FindLemmas.{at_rest, rank_found}
 use Rattle.pid_rows.proofs.account.rank_rows.Goals as goal
 
-pub returns-clause-found : goal.returns-clause-found
-returns-clause-found g c clean v rest =
-    at_rest g.S.Store c.args.conn.now (state g.S.Store c.read_rows.new.conn) v select_account _ c.read_rows.result (λ rows. rows.items) _ rest (λ new rows shows h. rank_found _ new (counts_of v) v shows rows.items c.args.name.now h)
-    (rw c.to_sql-name.ensures at (c.read_rows.ensures.shown clean)) ((rw c.to_sql-name.ensures at (c.read_rows.ensures.caused clean v rest)) (account_query c.args.name.now))
+pub returns : goal.returns
+returns g c = record {
+  rests = c.read_rows.ensures.rests;
+  told = λ clean v rest.
+      at_rest g.S.Store c.args.conn.now (state g.S.Store c.read_rows.new.conn) v select_account _ c.read_rows.result (λ rows. rows.items) _ rest (λ new rows shows h. rank_found _ new (counts_of v) v shows rows.items c.args.name.now h)
+      (rw c.to_sql-name.ensures at (c.read_rows.ensures.shown clean)) ((rw c.to_sql-name.ensures at (c.read_rows.ensures.caused clean v rest)) (account_query c.args.name.now));
+}

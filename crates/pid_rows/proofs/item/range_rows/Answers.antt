@@ -5,7 +5,10 @@ use Rattle.pid_rows.proofs.QueryTexts.{between_query}
 use Rattle.pid_rows.proofs.FindLemmas.{at_rest}
 use Rattle.pid_rows.proofs.item.range_rows.Goals as goal
 
-pub returns-clause-found : goal.returns-clause-found
-returns-clause-found g c clean v rest =
-    at_rest g.S.Store c.args.conn.now (state g.S.Store c.read_rows.new.conn) v select_between _ c.read_rows.result (λ rows. rows.items) _ rest (λ new rows shows h. (shows.views, between_found _ new (counts_of v) v shows c.args.low.now c.args.high.now rows.items h))
-    (c.read_rows.ensures.shown clean) (c.read_rows.ensures.caused clean v rest (between_query c.args.low.now c.args.high.now))
+pub returns : goal.returns
+returns g c = record {
+  rests = c.read_rows.ensures.rests;
+  told = λ clean v rest.
+      at_rest g.S.Store c.args.conn.now (state g.S.Store c.read_rows.new.conn) v select_between _ c.read_rows.result (λ rows. rows.items) _ rest (λ new rows shows h. (shows.views, between_found _ new (counts_of v) v shows c.args.low.now c.args.high.now rows.items h))
+      (c.read_rows.ensures.shown clean) (c.read_rows.ensures.caused clean v rest (between_query c.args.low.now c.args.high.now));
+}

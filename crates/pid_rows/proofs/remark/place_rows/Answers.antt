@@ -5,7 +5,10 @@ use Rattle.pid_rows.proofs.QueryTexts.{last_query}
 use Rattle.pid_rows.proofs.FindLemmas.{at_rest}
 use Rattle.pid_rows.proofs.remark.place_rows.Goals as goal
 
-pub returns-clause-found : goal.returns-clause-found
-returns-clause-found g c clean v rest =
-    at_rest g.S.Store c.args.conn.now (state g.S.Store c.read_rows.new.conn) v select_last _ c.read_rows.result (λ rows. rows.items) _ rest (λ new rows shows h. last_found _ new (counts_of v) v shows c.args.number rows.items h)
-    (rw c.to_sql-number.ensures at (c.read_rows.ensures.shown clean)) ((rw c.to_sql-number.ensures at (c.read_rows.ensures.caused clean v rest)) (last_query c.args.number))
+pub returns : goal.returns
+returns g c = record {
+  rests = c.read_rows.ensures.rests;
+  told = λ clean v rest.
+      at_rest g.S.Store c.args.conn.now (state g.S.Store c.read_rows.new.conn) v select_last _ c.read_rows.result (λ rows. rows.items) _ rest (λ new rows shows h. last_found _ new (counts_of v) v shows c.args.number rows.items h)
+      (rw c.to_sql-number.ensures at (c.read_rows.ensures.shown clean)) ((rw c.to_sql-number.ensures at (c.read_rows.ensures.caused clean v rest)) (last_query c.args.number));
+}

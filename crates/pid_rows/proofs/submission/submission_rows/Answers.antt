@@ -5,7 +5,10 @@ use Rattle.pid_rows.proofs.QueryTexts.{submission_query}
 use Rattle.pid_rows.proofs.FindLemmas.{at_rest, standing_found}
 use Rattle.pid_rows.proofs.submission.submission_rows.Goals as goal
 
-pub returns-clause-found : goal.returns-clause-found
-returns-clause-found g c clean v rest =
-    at_rest g.S.Store c.args.conn.now (state g.S.Store c.read_rows.new.conn) v select_submission _ c.read_rows.result (λ rows. rows.items) _ rest (λ new rows shows h. (standing_found _ new (counts_of v) v shows rows.items c.args.number h, shows.views))
-    (rw (c.to_sql-number.ensures) at (c.read_rows.ensures.shown clean)) ((rw c.to_sql-number.ensures at (c.read_rows.ensures.caused clean v rest)) (submission_query c.args.number))
+pub returns : goal.returns
+returns g c = record {
+  rests = c.read_rows.ensures.rests;
+  told = λ clean v rest.
+      at_rest g.S.Store c.args.conn.now (state g.S.Store c.read_rows.new.conn) v select_submission _ c.read_rows.result (λ rows. rows.items) _ rest (λ new rows shows h. (standing_found _ new (counts_of v) v shows rows.items c.args.number h, shows.views))
+      (rw (c.to_sql-number.ensures) at (c.read_rows.ensures.shown clean)) ((rw c.to_sql-number.ensures at (c.read_rows.ensures.caused clean v rest)) (submission_query c.args.number));
+}

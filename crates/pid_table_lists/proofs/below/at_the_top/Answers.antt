@@ -4,6 +4,9 @@ use Rattle.pid_table_lists.specs.Children.{stands_below}
 use Rattle.pid_table_lists.proofs.BelowLemmas.{kept_each}
 use Rattle.pid_table_lists.proofs.below.at_the_top.Goals as goal
 
-pub returns-in-Ok-clause-found : goal.returns-in-Ok-clause-found
-returns-in-Ok-clause-found g c clean v rest =
-    kept_each (λ s. map pair_of s.kept.items) (λ e. stands_below None e.0) _ c.each_item.new.sink v.items (ap (map pair_of) c.new.ensures.items) (c.in-Ok.ensures.told clean v rest)
+pub returns-in-Ok : goal.returns-in-Ok
+returns-in-Ok g c = record {
+  rests = c.in-Ok.ensures.rests;
+  told = λ clean v rest.
+      kept_each (λ s. map pair_of s.kept.items) (λ e. stands_below None e.0) _ c.each_item.new.sink v.items (ap (map pair_of) c.new.ensures.items) (c.in-Ok.ensures.told clean v rest);
+}

@@ -5,9 +5,12 @@ use Rattle.pid_table_lists.proofs.PendingLists.{all_readable}
 use Rattle.pid_table_lists.proofs.RowLists.{read_or_caused}
 use Rattle.pid_table_lists.proofs.pages.pending_page.Goals as goal
 
-pub returns-clause-found : goal.returns-clause-found
-returns-clause-found g c clean v rest =
-    let found = c.in_ok-rows.ensures.found clean v rest in
-    let all = pending_in 100 c.args.after v in
-    read_or_caused (state g.S.Store c.args.conn.now) (state g.S.Store c.page_rows.new.conn) v c.page_of.result _ _ (λ readable. all_readable v all readable found.1) (λ x h. h)
-    (c.page_of.ensures v all found.0 found.1 (c.as_slice.ensures.value ∙ found.2))
+pub returns : goal.returns
+returns g c = record {
+  rests = c.in_ok-rows.ensures.rests;
+  told = λ clean v rest.
+      let found = c.in_ok-rows.ensures.told clean v rest in
+      let all = pending_in 100 c.args.after v in
+      read_or_caused (state g.S.Store c.args.conn.now) (state g.S.Store c.page_rows.new.conn) v c.page_of.result _ _ (λ readable. all_readable v all readable found.1) (λ x h. h)
+      (c.page_of.ensures v all found.0 found.1 (c.as_slice.ensures.value ∙ found.2));
+}

@@ -3,7 +3,10 @@ use Rattle.sqlite.specs.Held.{state}
 use Rattle.pid_table_lists.proofs.RowLists.{read_or_caused}
 use Rattle.pid_table_lists.proofs.remarks.comments.Goals as goal
 
-pub returns-clause-found : goal.returns-clause-found
-returns-clause-found g c clean v rest =
-    read_or_caused (state g.S.Store c.args.conn.now) (state g.S.Store c.remark_rows.new.conn) v c.comments_of.result _ _ (λ readable. readable.remarks c.args.number) (λ x h. h)
-    (c.comments_of.ensures (v.remarks c.args.number) (c.as_slice.ensures.value ∙ c.in_ok-rows.ensures.found clean v rest))
+pub returns : goal.returns
+returns g c = record {
+  rests = c.in_ok-rows.ensures.rests;
+  told = λ clean v rest.
+      read_or_caused (state g.S.Store c.args.conn.now) (state g.S.Store c.remark_rows.new.conn) v c.comments_of.result _ _ (λ readable. readable.remarks c.args.number) (λ x h. h)
+      (c.comments_of.ensures (v.remarks c.args.number) (c.as_slice.ensures.value ∙ c.in_ok-rows.ensures.told clean v rest));
+}

@@ -4,7 +4,7 @@ use Rattle.sqlite.specs.State.{HasCleanDisk}
 use Rattle.sqlite.specs.Held.{state}
 use Rattle.sqlite.proofs.StateLemmas.{clean_if_open}
 use Rattle.pid_rows.specs.Leaves.{OnlyReads}
-use Rattle.pid_table_lists.specs.EachItem.{IsCausedEnd}
+use Rattle.pid_table_lists.specs.EachItem.{IsCausedEnd, placed_from}
 use Rattle.pid_table_lists.proofs.ItemLists.{select_all}
 use Rattle.pid_table_lists.proofs.WalkLemmas.{refused, refused_caused, step_caused, unread_caused, end_caused, tables_caused, never_so_many, begun, walked_rests, walk_rests, faulted, taken, not_taken, all_taken}
 use Rattle.pid_rows.proofs.OnlyReading.{keeps_same, keeps_either}
@@ -98,7 +98,7 @@ returns-clause-rests g c =
 pub returns-clause-told : goal.returns-clause-told
 returns-clause-told g c clean v rest =
     let late : HasCleanDisk (state g.S.Store c.rows.rows.conn.now) = search rules in
-    (take c.rows.at v.items, drop c.rows.at v.items, sym (take-append-drop c.rows.at v.items), c.rows.invariant.0.took late v rest)
+    (take c.rows.at (placed_from 1 v.items), drop c.rows.at (placed_from 1 v.items), sym (take-append-drop c.rows.at (placed_from 1 v.items)), c.rows.invariant.0.took late v rest)
 
 -- ---- causes
 

@@ -18,4 +18,4 @@ pub returns-clause-holds : goal.returns-clause-holds
 returns-clause-holds g c text h =
     let joined : c.deref.result.now ≡ open_part text ++ c.args.front.now = c.deref.ensures.value ∙ extended c.extend_from_slice.result _ (c.args.self.now.line.items ++ c.args.front.now) _ c.extend_from_slice.ensures.items (sym c.is_err.ensures.value ∙ c.if-is_err.false) ∙ ap (λ (l : List ℕ). l ++ c.args.front.now) h.open_line in
     let line : c.without_cr-2.result.now ≡ drop_cr (open_part text ++ c.args.front.now) = c.without_cr-2.ensures ∙ ap drop_cr joined in
-    holds_line c.args.self.now _ text c.args.front.now c.without_cr-2.result.now h c.requires line (c.in_ok-take_line.ensures.ends (reverse (whole_lines text)) h.shown).0 (c.in_ok-take_line.ensures.shows (reverse (whole_lines text)) h.shown) refl c.clear.ensures.items
+    holds_line c.args.self.now _ text c.args.front.now c.without_cr-2.result.now h c.requires line (c.in_ok-take_line.ensures.ends (reverse (whole_lines text)) h.shown).good (c.in_ok-take_line.ensures.shows (reverse (whole_lines text)) h.shown) refl c.clear.ensures.items

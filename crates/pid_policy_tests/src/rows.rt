@@ -1,0 +1,67 @@
+//! Rows of tests: a command is a line such as `comment alice num=1&text=seen`.
+use pid_moderation::{Command, Refusal, Verb, command_of};
+use std::alloc::Global;
+use std::test::Fail;
+
+// The text that a word stands for: `*N` is N times `a`.
+pub fn text_of(alloc: Global, word: &str) -> Result<String, Fail> {
+    let Some(count) = word.strip_prefix('*') else {
+        return Ok(String::from_str(alloc, word)?);
+    };
+    let mut text = String::new(alloc);
+    for _ in 0..count.parse::<usize>()? {
+        text.push('a')?;
+    }
+    Ok(text)
+}
+
+// The fields of a row such as `num=1&text=seen`, which may be empty.
+pub fn fields_of(alloc: Global, row: &str) -> Result<Vec<(String, String)>, Fail> {
+    let mut fields = Vec::new(alloc);
+    for pair in row.split('&') {
+        if let Some((name, value)) = pair.split_once('=') {
+            fields.push((String::from_str(alloc, name)?, text_of(alloc, value)?))?;
+        }
+    }
+    Ok(fields)
+}
+
+// The value of a field.
+pub fn value<'a>(fields: &'a [(String, String)], name: &str) -> Option<&'a str> {
+    for field in fields {
+        if field.0.as_str() == name {
+            return Some(field.1.as_str());
+        }
+    }
+    None
+}
+
+// The value of a field, and the empty text where it is missing.
+pub fn text_at<'a>(fields: &'a [(String, String)], name: &str) -> &'a str {
+    value(fields, name).unwrap_or("")
+}
+
+// The command of a verb for a caller; the key stands before a slash, as in `k1/alice`.
+pub fn command_by(
+    alloc: Global,
+    verb: Verb,
+    caller: &str,
+    fields: &[(String, String)],
+) -> Result<Result<Command, Refusal>, Fail> {
+    let Some((key, account)) = caller.split_once('/') else {
+        let account = text_of(alloc, caller)?;
+        return Ok(command_of(alloc, verb, account.as_str(), None, fields));
+    };
+    let key = text_of(alloc, key)?;
+    let account = text_of(alloc, account)?;
+    Ok(command_of(alloc, verb, account.as_str(), Some(key.as_str()), fields))
+}
+
+// The command of a row.
+pub fn command_in(alloc: Global, row: &str) -> Result<Result<Command, Refusal>, Fail> {
+    let (verb, rest) = row.split_once(' ').ok_or("a verb")?;
+    let (caller, fields) = rest.split_once(' ').ok_or("an account")?;
+    let verb = Verb::of_word(verb).ok_or("a verb")?;
+    let fields = fields_of(alloc, fields)?;
+    command_by(alloc, verb, caller, fields.as_slice())
+}
