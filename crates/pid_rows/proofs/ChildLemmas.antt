@@ -20,7 +20,7 @@ use Rattle.pid_ident.specs.declared.path.Path.{Path}
 use Rattle.pid_ident.specs.declared.path.Path.TheVariants.{Vendor, Device, Subsystem, Class, Subclass, ProgIf, Generic}
 use Rattle.pid_ident.specs.Identifiers.{hex4, hex2}
 use Rattle.pid_ident.specs.PathTexts.{path_text}
-use Rattle.pid_moderation.specs.Items.{parent_text}
+use Rattle.pid_ident.specs.PathReading.{parent_text}
 
 -- the text behind which the generic subsystems of a vendor stand: PS/8086 for PC/8086
 abbrev pub generics_of : List ℕ → List ℕ

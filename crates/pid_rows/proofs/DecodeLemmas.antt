@@ -1,12 +1,12 @@
 -- Rows that read to values are those of the values alone.
 use Rattle.std.proofs.Common.{◌≡◌, ℕ, zero, suc, List, [], ◌∷◌, None, Some, Option, slice_get, refl, sym, ap, subst, ◌∙◌}
-use Rattle.std.specs.Prelude.{option_map}
+use Rattle.std.specs.Prelude.{option_map, ◌↔◌}
 use Rattle.std.specs.List.{AllByRecursion}
 use Rattle.sqlite.specs.declared.types.Value.TheVariants.{Text}
 use Rattle.sqlite.specs.Order.{Row, column}
 use Rattle.pid_ident.specs.declared.path.Path.{Path}
-use Rattle.pid_ident.specs.PathTexts.{IsPath, path_text}
-use Rattle.pid_moderation.proofs.PathReadingLemmas.{path_of_text}
+use Rattle.pid_ident.specs.PathTexts.{IsPath, IsTextOf, path_text}
+use Rattle.pid_ident.specs.PathReading.{path_of}
 use Rattle.pid_moderation.specs.declared.command.Proposal.{Proposal}
 use Rattle.pid_moderation.specs.declared.command.Proposal.TheVariants.{Name, Removal}
 use Rattle.pid_moderation.specs.declared.command.Reply.{Reply}
@@ -56,9 +56,13 @@ no_row row_of (Some x) h = cc
 
 -- ---- submissions
 
-pub paths_same : (p q : Path) → IsPath p → IsPath q → path_text p ≡ path_text q → p ≡ q
-paths_same p q a b same =
-    let is : Some p ≡ Some q = sym (path_of_text (path_text p) p (record { in_range = a; same = refl })) ∙ path_of_text (path_text p) q (record { in_range = b; same = same }) in
+-- a text is that of one path: the law of pid_ident, as a call of it gives it
+abbrev pub HaveOnePath : Type 0
+HaveOnePath = (text : List ℕ) (path : Path) → (path_of text ≡ Some path) ↔ IsTextOf text path
+
+paths_same : HaveOnePath → (p q : Path) → IsPath p → IsPath q → path_text p ≡ path_text q → p ≡ q
+paths_same one p q a b same =
+    let is : Some p ≡ Some q = sym ((one (path_text p) p).1 (record { in_range = a; same = refl })) ∙ (one (path_text p) q).1 (record { in_range = b; same = same }) in
     cc
 
 proposals_same : (p q : Proposal) → form_of p ≡ form_of q → name_of p ≡ name_of q → p ≡ q
@@ -86,10 +90,10 @@ states_same author Withdrawn (Approved y) n d r = absurd (let bad : ⊥ = cc in 
 states_same author Withdrawn (Rejected y b) n d r = absurd (let bad : ⊥ = cc in bad)
 
 -- a row that reads to a submission is the row of no other standing
-row_is : (s : Submission) (t : Standing) → ReadsTo (standing_row t) s → IsPath t.submitted.path → standing_of s ≡ t
-row_is s t reads in_range =
+row_is : HaveOnePath → (s : Submission) (t : Standing) → ReadsTo (standing_row t) s → IsPath t.submitted.path → standing_of s ≡ t
+row_is one s t reads in_range =
     let author = text_same _ _ (sym reads.author) in
-    let path = paths_same s.path t.submitted.path reads.in_range in_range (text_same _ _ (sym reads.path)) in
+    let path = paths_same one s.path t.submitted.path reads.in_range in_range (text_same _ _ (sym reads.path)) in
     let proposal = proposals_same s.proposal t.submitted.proposal (number_same _ _ (sym reads.form)) (text_same _ _ (sym reads.name)) in
     let note = text_same _ _ (sym reads.note) in
     let decider : decider_of s.author s.state ≡ decider_of s.author t.state = text_same _ _ (sym reads.decider) ∙ ap (λ a. decider_of a t.state) (sym author) in
@@ -114,7 +118,7 @@ standing_path v n t views e =
     let it = mapped_some _ (submission_at n v.submits) t e in
     subst (λ (x : Standing). IsPath x.submitted.path) it.2 (submitted_path v n it.0 views it.1)
 
-pub standing_read : (v : Views) (n : ℕ) (row : Row) (s : Submission) → AreViews v → Some row ≡ option_map standing_row (standing_in v n) → ReadsTo row s → Some (standing_of s) ≡ standing_in v n
-standing_read v n row s views first reads =
+pub standing_read : HaveOnePath → (v : Views) (n : ℕ) (row : Row) (s : Submission) → AreViews v → Some row ≡ option_map standing_row (standing_in v n) → ReadsTo row s → Some (standing_of s) ≡ standing_in v n
+standing_read one v n row s views first reads =
     let it = some_row standing_row (standing_in v n) row first in
-    ap Some (row_is s it.0 (subst (λ r. ReadsTo r s) it.2 reads) (standing_path v n it.0 views it.1)) ∙ sym it.1
+    ap Some (row_is one s it.0 (subst (λ r. ReadsTo r s) it.2 reads) (standing_path v n it.0 views it.1)) ∙ sym it.1

@@ -1,9 +1,8 @@
 -- What a sound history shows can be read.
 use Rattle.std.proofs.Common.{◌≡◌, ℕ, zero, suc, ◌<◌, ◌≤◌, ◌^◌, List, [], ◌∷◌, length, Option, Some, None, slice_get, refl, sym, subst, arith}
 use Rattle.std.specs.List.{AllByRecursion}
-use Rattle.std.specs.FinMap.{entries, entries-from_sorted}
+use Rattle.std.specs.FinMap.{entries}
 use Rattle.std.proofs.lemmas.Option.{slice_get_within}
-use Rattle.pid_ident.specs.Trees.{text_cmp}
 use Rattle.pid_moderation.specs.declared.command.Reply.{Reply}
 use Rattle.pid_moderation.specs.declared.command.Reply.TheVariants.{Done, Numbered, Counts}
 use Rattle.pid_moderation.specs.declared.facts.State.{State}
@@ -13,15 +12,12 @@ use Rattle.pid_moderation.specs.Sound.{IsSound, AreGoodSubmissions, IsDecidedByO
 use Rattle.pid_moderation.specs.Views.{Submitted, Remark, submits_of, submission_at, state_of, remarks_of, items_of, views_of}
 use Rattle.pid_moderation.specs.WellMade.{AllItems}
 use Rattle.pid_moderation.specs.Writes.{tree_of}
-use Rattle.pid_moderation.proofs.WriteLemmas.{items_sorted}
-use Rattle.pid_moderation.proofs.TreesAreFiles.{tree_file}
+use Rattle.pid_moderation.specs.Laws.{TreesAreFiles}
 use Rattle.pid_rows.specs.Causes.{IsReadable, IsReadableSubmission, IsReadableState, IsReadableRemark, IsReadableReply}
 
-module _ (h : History) (sound : IsSound h) where
+module _ (files : TreesAreFiles) (h : History) (same : entries (tree_of h) ≡ items_of h) (sound : IsSound h) where
   items_good : AllItems (items_of h)
-  items_good =
-      let same : entries (tree_of h) ≡ items_of h = entries-from_sorted text_cmp (items_of h) (items_sorted h) in
-      subst AllItems same (tree_file (tree_of h) sound.tree (subst (λ es. length es ≤ 100000) (sym same) sound.item_limit)).items
+  items_good = subst AllItems same (files (tree_of h) sound.tree (subst (λ es. length es ≤ 100000) (sym same) sound.item_limit)).items
 
   submissions_good : (ss : List Submitted) → AreGoodSubmissions h ss → AllByRecursion IsReadableSubmission ss
   submissions_good [] good = tt

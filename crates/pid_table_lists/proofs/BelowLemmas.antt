@@ -23,7 +23,8 @@ use Rattle.pid_ident.specs.Trees.{text_cmp}
 use Rattle.pid_ident.specs.PathTexts.{path_text, parent_of}
 use Rattle.pid_ident.specs.declared.path.Path.{Path}
 use Rattle.pid_ident.specs.declared.path.Path.TheVariants.{Vendor, Device, Subsystem, Class, Subclass, ProgIf, Generic}
-use Rattle.pid_moderation.specs.Items.{Items, parent_text}
+use Rattle.pid_ident.specs.PathReading.{parent_text}
+use Rattle.pid_moderation.specs.Items.{Items}
 use Rattle.pid_moderation.specs.WellMade.{AllItems}
 use Rattle.pid_rows.specs.Ranges.{is_between}
 use Rattle.pid_table_lists.specs.Children.{stands_below, children_of}

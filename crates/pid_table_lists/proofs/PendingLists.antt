@@ -34,7 +34,7 @@ use Rattle.pid_rows.specs.TableRows.{number, Standing, submission_row, state_num
 use Rattle.pid_rows.specs.Answers.{standing_row}
 use Rattle.pid_rows.specs.declared.submission.Submission.{Submission}
 use Rattle.pid_rows.specs.Standings.{standing_of, ReadsTo}
-use Rattle.pid_rows.proofs.DecodeLemmas.{mapped_some, standing_read}
+use Rattle.pid_rows.proofs.DecodeLemmas.{HaveOnePath, mapped_some, standing_read}
 use Rattle.pid_rows.proofs.ReadBack.{standing_readable}
 use Rattle.pid_rows.specs.Causes.{IsReadable}
 use Rattle.std.proofs.lemmas.Option.{slice_get_within}
@@ -225,13 +225,13 @@ same_number : (m n : ℕ) → number m ≡ number n → m ≡ n
 same_number m n e = cc
 
 -- a row that reads to a submission and a number is that of no other
-pub pending_read : (v : Views) (s : ℕ × Standing) (row : Row) (submission : Submission) (n : ℕ) → AreViews v → standing_in v s.0 ≡ Some s.1 → row ≡ pending_row s → ReadsTo row submission → column row 8 ≡ number n
+pub pending_read : HaveOnePath → (v : Views) (s : ℕ × Standing) (row : Row) (submission : Submission) (n : ℕ) → AreViews v → standing_in v s.0 ≡ Some s.1 → row ≡ pending_row s → ReadsTo row submission → column row 8 ≡ number n
     → ◌≡◌ {A = ℕ × Standing} (n, standing_of submission) s
-pending_read v s row submission n views is row_is reads at =
+pending_read one v s row submission n views is row_is reads at =
     let r = subst (λ x. ReadsTo x submission) row_is reads in
     let short : ReadsTo (standing_row s.1) submission =
     record { in_range = r.in_range; author = r.author; path = r.path; form = r.form; name = r.name; note = r.note; state = r.state; decider = r.decider; reason = r.reason } in
-    let read = standing_read v s.0 (standing_row s.1) submission views (ap (option_map standing_row) (sym is)) short ∙ is in
+    let read = standing_read one v s.0 (standing_row s.1) submission views (ap (option_map standing_row) (sym is)) short ∙ is in
     let stands : standing_of submission ≡ s.1 = cc in
     let num : n ≡ s.0 = same_number n s.0 (sym at ∙ ap (λ x. column x 8) row_is) in
     λ i. (num i, stands i)

@@ -1,6 +1,7 @@
 -- Items by where they stand.
 use Rattle.std.specs.Prelude.{ℕ, Bool, List, Option, Some, None, is_none, filter}
-use Rattle.pid_moderation.specs.Items.{Items, parent_text, is_parent}
+use Rattle.pid_ident.specs.PathReading.{parent_text}
+use Rattle.pid_moderation.specs.Items.{Items, is_parent}
 
 -- the path with this text stands directly below that one; without one, at the top, as vendors and classes do
 abbrev pub stands_below : Option (List ℕ) → List ℕ → Bool

@@ -2,7 +2,8 @@
 ghost use Rattle.std.specs.Prelude.{◌≡◌, ◌∷◌, ◌++◌, [], None, Some, false, filter, map, option_map, MatchResult, codes};
 ghost use Rattle.pid_ident.specs.Identifiers.{hex4 as hex4_text};
 ghost use Rattle.pid_ident.specs.PathTexts.{path_text};
-ghost use Rattle.pid_moderation.specs.Items.{Items, parent_text, is_parent};
+ghost use Rattle.pid_ident.specs.PathReading.{parent_text};
+ghost use Rattle.pid_moderation.specs.Items.{Items, is_parent};
 ghost use Rattle.pid_moderation.specs.WellMade.{IsItem, AllItems};
 ghost use Rattle.pid_reader.specs.LookingBack.{Item as Pair};
 ghost use Rattle.pid_rows.specs.Answers.{item_shown};

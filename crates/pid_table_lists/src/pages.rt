@@ -10,6 +10,7 @@ ghost use Rattle.pid_table_lists.specs.PendingPages.{pending_in, told_of};
 ghost use Rattle.pid_table_lists.specs.PendingRows.{pending_row, IsReadablePending, AreIn};
 ghost use Rattle.pid_rows.specs.Clauses.{Reads};
 
+use pid_ident::texts_have_one_path;
 use pid_rows::TableFault;
 use pid_rows::run::read_rows;
 use pid_rows::submission::{Submission, submission_of};
@@ -43,6 +44,7 @@ fn page_rows<S: Alter>(conn: &mut Connection<S>, after: u32) -> Result<Vec<Row>,
 fn pending_of(row: &Row, alloc: Global) -> Result<Pending, TableFault>
     ensures { (v : Views) (s : ℕ × Standing) → AreViews v → AreIn v (s ∷ []) → row.now ≡ pending_row s → MatchResult result (λ pending. told_of pending ≡ s) (IsUnread (IsReadablePending s)) }
 {
+    texts_have_one_path();
     let submission = submission_of(row, alloc)?;
     let number = number_at(row, 8)?;
     Ok(Pending { number, submission })

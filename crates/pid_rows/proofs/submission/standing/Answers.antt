@@ -12,7 +12,7 @@ returns-in-Some g c = record {
   rests = c.in_ok-rows.ensures.rests;
   told = λ clean v rest.
       let found = c.in_ok-rows.ensures.told clean v rest in
-      standing_read v c.args.number c.in-Some.row.now _ found.1 (c.in-Some.ensures.value ∙ ap (λ l. slice_get l 0) c.deref.ensures.value ∙ found.0) c.in_ok-submission_of-in-Some.ensures.read;
+      standing_read c.texts_have_one_path.ensures v c.args.number c.in-Some.row.now _ found.1 (c.in-Some.ensures.value ∙ ap (λ l. slice_get l 0) c.deref.ensures.value ∙ found.0) c.in_ok-submission_of-in-Some.ensures.read;
 }
 
 pub returns-in_err-submission_of-in-Some : goal.returns-in_err-submission_of-in-Some

@@ -8,7 +8,7 @@ use Rattle.pid_table_lists.proofs.PendingLists.{pending_read}
 use Rattle.pid_table_lists.proofs.pages.pending_of.Goals as goal
 
 pub returns : goal.returns
-returns c v s views is row = pending_read v s c.args.row.now c.in_ok-submission.submission c.in_ok-number.number views is.0 row c.in_ok-submission.ensures.read c.in_ok-number.ensures.read
+returns c v s views is row = pending_read c.texts_have_one_path.ensures v s c.args.row.now c.in_ok-submission.submission c.in_ok-number.number views is.0 row c.in_ok-submission.ensures.read c.in_ok-number.ensures.read
 
 pub returns-in_err-number : goal.returns-in_err-number
 returns-in_err-number c v s views is row =

@@ -16,7 +16,7 @@ returns-clause-items c h sound =
     subst AllItems is (c.trees_are_files.ensures (tree_of h) sound.tree few).items
 
 pub returns-clause-readable : goal.returns-clause-readable
-returns-clause-readable c h sound = sound_reads h sound
+returns-clause-readable c h sound = sound_reads c.trees_are_files.ensures h (c.trees_are_last_writes.ensures.entries h) sound
 
 pub returns-clause-parents : goal.returns-clause-parents
 returns-clause-parents c h sound =
