@@ -9,7 +9,7 @@ ghost use Rattle.pid_moderation.specs.WellMade.{AllItems, HoldsParents};
 ghost use Rattle.pid_rows.specs.Clauses.{Reads};
 
 use pid_ident::{Account, Key, Name, Path};
-use pid_moderation::{Facts, Named, Rank, Reply, Rows, Verdict};
+use pid_moderation::{Facts, Named, Rank, Reply, Rows};
 use pid_rows::TableFault;
 use pid_rows::account::rank;
 use pid_rows::item::{has_children, item_name};
@@ -54,7 +54,7 @@ fn known<S: Alter>(
         present: None,
         has_parent: false,
         has_children: false,
-        file: Verdict::NoFile,
+        file: None,
     })
 }
 
@@ -179,19 +179,17 @@ fn with_item<S: Alter>(
     }
 }
 
-/// The facts that a command of the account under the key is judged by, as far as it names rows; its file, if any, comes to
-/// the verdict.
+/// The facts that a command of the account under the key is judged by, as far as they are rows.
 pub(crate) fn gather_facts<S: Alter>(
     conn: &mut Connection<S>,
     alloc: Global,
     account: &Account,
     key: &Option<Key>,
     rows: Rows<'_>,
-    file: Verdict,
 ) -> Result<Facts, TableFault>
     requires { conn.old.in_transaction ≡ false }
     ensures { Reads S.Store conn.old conn.new result
-        (λ v facts. AllItems v.items → HoldsParents v.items → facts ≡ facts_at v file account.now key.now (wanted_by rows.entry)) }
+        (λ v facts. AllItems v.items → HoldsParents v.items → facts ≡ facts_at v account.now key.now (wanted_by rows.entry)) }
 {
     let mut facts = known(conn, account, key)?;
     match rows {
@@ -208,9 +206,6 @@ pub(crate) fn gather_facts<S: Alter>(
             Ok(facts)
         }
         Rows::Item(number) => with_item(conn, alloc, number, facts),
-        Rows::File => {
-            facts.file = file;
-            Ok(facts)
-        }
+        Rows::Nothing => Ok(facts),
     }
 }
