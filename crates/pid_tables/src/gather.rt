@@ -1,9 +1,10 @@
 //! The facts that a command is judged by.
 ghost use Rattle.std.specs.Prelude.{◌≡◌, false, length, Some};
 ghost use Rattle.sqlite.specs.Held.{state};
+ghost use Rattle.pid_ident.specs.PathReading.{parent_text};
 ghost use Rattle.pid_ident.specs.PathTexts.{path_text};
 ghost use Rattle.pid_moderation.specs.FactsOfViews.{kept_in as kept_for, named as named_in, known as known_of, with_item as facts_with, facts_at};
-ghost use Rattle.pid_moderation.specs.Items.{name_at, parent_text, holds_parent, has_children as are_children};
+ghost use Rattle.pid_moderation.specs.Items.{name_at, holds_parent, has_children as are_children};
 ghost use Rattle.pid_moderation.specs.Wants.{wanted_by};
 ghost use Rattle.pid_moderation.specs.WellMade.{AllItems, HoldsParents};
 ghost use Rattle.pid_rows.specs.Clauses.{Reads};
