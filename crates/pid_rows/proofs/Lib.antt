@@ -29,3 +29,4 @@ pub mod WriteFaults
 pub mod UnreadLemmas
 pub mod ReadBack
 pub mod SoundReads
+pub mod LabelLemmas

@@ -15,3 +15,4 @@ pub mod PendingOnes
 pub mod Comments
 pub mod Ranges
 pub mod Writes
+pub mod LabelRows

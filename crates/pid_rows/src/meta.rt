@@ -1,8 +1,12 @@
 //! The table of counts.
-ghost use Rattle.std.specs.Prelude.{◌≡◌, false, Some, IsSome, length, option_map, slice_get};
+ghost use Rattle.std.specs.Prelude.{◌≡◌, false, Some, IsSome, IfOk, codes, length, option_map, slice_get};
+ghost use Rattle.sqlite.specs.Order.{Row as Values};
+ghost use Rattle.sqlite_rules.specs.Lists.{Has};
 ghost use Rattle.pid_rows.specs.Answers.{value_row};
+ghost use Rattle.pid_rows.specs.LabelRows.{HasLabel, IsValueOf};
+ghost use Rattle.pid_rows.specs.Schema.{pid_schema};
 ghost use Rattle.pid_rows.specs.Shows.{Counts, meta_of, counts_of};
-ghost use Rattle.pid_rows.specs.Clauses.{ChangesTo, GoesOn, LeadsTo, OnlyReads, Reads, Tells};
+ghost use Rattle.pid_rows.specs.Clauses.{ChangesTo, GoesOn, HasCleanDisk, LeadsTo, OnlyReads, Reads, Tells, seen};
 
 use crate::fault::TableFault;
 use crate::run::{read_inside, read_rows, write_one};
@@ -56,8 +60,10 @@ pub fn touch<S: Alter>(tx: &mut Transaction<'_, S>) -> Result<(), TableFault>
 
 fn value_rows<S: Alter>(conn: &mut Connection<S>, label: &str) -> Result<Vec<Row>, TableFault>
     requires { conn.old.in_transaction ≡ false }
-    ensures { Reads S.Store conn.old conn.new result
+    ensures reads { Reads S.Store conn.old conn.new result
         (λ v rows. slice_get rows.items 0 ≡ option_map value_row (meta_of (counts_of v) label.now)) }
+    ensures valued { HasCleanDisk S.Store conn.new → (seen S.Store conn.old).schema ≡ pid_schema
+        → IfOk result (λ rows. (x : Values) → Has rows.items x → IsValueOf (seen S.Store conn.old).trees label.now x) }
 {
     let label = label.to_sql();
     read_rows(conn, "SELECT value FROM meta WHERE label = ?1", &[label])
@@ -68,6 +74,7 @@ fn count<S: Alter>(conn: &mut Connection<S>, label: &str) -> Result<u32, TableFa
     requires { conn.old.in_transaction ≡ false }
     ensures rests { OnlyReads S.Store conn.old conn.new }
     ensures found { ((c : Counts) → IsSome (meta_of c label.now)) → Tells S.Store conn.old conn.new result (λ v n. Some n ≡ meta_of (counts_of v) label.now) }
+    ensures labelled { HasCleanDisk S.Store conn.new → (seen S.Store conn.old).schema ≡ pid_schema → IfOk result (HasLabel (seen S.Store conn.old).trees label.now) }
 {
     let rows = value_rows(conn, label)?;
     match rows.first() {
@@ -96,7 +103,8 @@ pub fn submissions<S: Alter>(conn: &mut Connection<S>) -> Result<u32, TableFault
 /// A number that is missing, or that 32 bits do not hold, is `Damaged`.
 pub fn schema_number<S: Alter>(conn: &mut Connection<S>) -> Result<u32, TableFault>
     requires { conn.old.in_transaction ≡ false }
-    ensures { Reads S.Store conn.old conn.new result (λ v n. n ≡ 1) }
+    ensures reads { Reads S.Store conn.old conn.new result (λ v n. n ≡ 1) }
+    ensures labelled { HasCleanDisk S.Store conn.new → (seen S.Store conn.old).schema ≡ pid_schema → IfOk result (HasLabel (seen S.Store conn.old).trees (codes "schema")) }
 {
     count(conn, "schema")
 }

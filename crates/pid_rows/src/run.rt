@@ -1,15 +1,16 @@
 //! One statement at a time.
-ghost use Rattle.std.specs.Prelude.{◌≡◌, ℕ, false, true, IfOk, IfErr, OnOk, IsTrue, Ok};
+ghost use Rattle.std.specs.Prelude.{◌≡◌, ℕ, false, true, IfOk, IfErr, OnOk, IsTrue, Ok, Err};
 ghost use Rattle.sqlite.specs.Given.{IsPlain};
 ghost use Rattle.sqlite.specs.Listing.{understood};
 ghost use Rattle.sqlite.specs.Schema.{Schema};
 ghost use Rattle.sqlite.specs.Values.{bound};
 ghost use Rattle.sqlite.specs.Held.{Held};
-ghost use Rattle.pid_rows.specs.Faults.{IsUntold};
+ghost use Rattle.sqlite.specs.declared.error.Error.{Error};
+ghost use Rattle.pid_rows.specs.Faults.{fault_of, IsUntold};
 ghost use Rattle.pid_moderation.specs.Views.{Views};
 ghost use Rattle.pid_rows.specs.Queries.{IsQuery, IsWriteAs};
 ghost use Rattle.pid_rows.specs.Schema.{pid_schema};
-ghost use Rattle.pid_rows.specs.Clauses.{AtRest, Executes, GoesOn, HasCleanDisk, IsCaused, OnlyReads, Shown, is_open, seen};
+ghost use Rattle.pid_rows.specs.Clauses.{AtRest, Executes, ExecutesInside, GoesOn, HasCleanDisk, IsCaused, OnlyReads, Shown, is_open, seen};
 
 use crate::fault::TableFault;
 use sqlite::types::ValueRef;
@@ -28,6 +29,8 @@ pub fn write_one<S: Alter>(
         → OnOk result ((count : ℕ) × Executes S.Store sql.now (bound params.now) tx.old.conn.now tx.new.conn.now (Ok count)) }
     ensures untold { HasCleanDisk S.Store tx.new.conn.now → (schema : Schema)
         → (IsTrue (is_open S.Store tx.old.conn.now) → (seen S.Store tx.old.conn.now).schema ≡ schema) → IsWriteAs sql.now (understood schema sql.now) → IfErr result IsUntold }
+    ensures refused { HasCleanDisk S.Store tx.new.conn.now → IsTrue tx.old.conn.now.in_transaction
+        → IfErr result (λ fault. (e : Error) × (fault ≡ fault_of e) × ExecutesInside S.Store 0 sql.now (bound params.now) tx.old.conn.now tx.new.conn.now (Err e)) }
 {
     tx.execute(sql, params)?;
     Ok(())

@@ -102,13 +102,16 @@ module _ (places : BTreeSet (ℕ × ℕ)) (r : Row) where
   pub body_of : IsRemarkAmong places r → (text : List ℕ) × (column r 3 ≡ Text text) × (is_text text ≡ true) × (is_empty text ≡ false)
   body_of it = (it.body, ap (λ (x : Row). column x 3) it.is, it.text, it.filled)
 
-  pub remark_made : length r ≡ 4 → HasPlace places r → ((text : List ℕ) × (column r 3 ≡ Text text) × (is_text text ≡ true) × (is_empty text ≡ false)) → IsRemarkAmong places r
-  remark_made len at body = record {
+  pub author_of : IsRemarkAmong places r → (author : List ℕ) × (column r 2 ≡ Text author)
+  author_of it = (it.author, ap (λ (x : Row). column x 2) it.is)
+
+  pub remark_made : length r ≡ 4 → HasPlace places r → ((author : List ℕ) × (column r 2 ≡ Text author)) → ((text : List ℕ) × (column r 3 ≡ Text text) × (is_text text ≡ true) × (is_empty text ≡ false)) → IsRemarkAmong places r
+  remark_made len at author body = record {
     num = at.0;
     place = at.1;
-    author = column r 2;
+    author = author.0;
     body = body.0;
-    is = four r len ∙ (λ i. at.2 i ∷ at.3 i ∷ column r 2 ∷ body.1 i ∷ []);
+    is = four r len ∙ (λ i. at.2 i ∷ at.3 i ∷ author.1 i ∷ body.1 i ∷ []);
     follows = at.4;
     text = body.2;
     filled = body.3;

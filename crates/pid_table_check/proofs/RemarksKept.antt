@@ -1,7 +1,6 @@
 -- Tables that show a sound history have good remarks.
 use Rattle.std.proofs.Common.{◌≡◌, ℕ, zero, suc, ◌≤◌, ◌<◌, List, [], ◌∷◌, length, Option, Some, None, refl, ◌∙◌, ap, subst, arith, slice_get}
 use Rattle.std.proofs.lemmas.Option.{slice_get_within}
-use Rattle.sqlite.specs.declared.types.Value.TheVariants.{Text}
 use Rattle.sqlite.specs.Order.{Row}
 use Rattle.sqlite.specs.Effect.{Database}
 use Rattle.sqlite_rules.specs.Lists.{Has}
@@ -60,7 +59,7 @@ module _ (h : History) (sound : IsSound h) (db : Database) (shows : Shows db (vi
         num = n;
         place = pair.key.1;
         body = pair.value.text;
-        author = Text pair.value.author;
+        author = pair.value.author;
         is = from.2 ∙ ap (columns (1 ∷ 2 ∷ 3 ∷ 4 ∷ [])) pair.is;
         within = (bounds.0, omega (arith, bounds.1, well.1));
         before = λ earlier low next.

@@ -137,9 +137,9 @@ HasRemark remarks num place = (r : Row) × Has remarks r × (column r 0 ≡ numb
 pub record IsRemarkRow (remarks : List Row) (r : Row) : Type 0 where
   pub num : ℕ
   pub place : ℕ
-  pub author : Value
+  pub author : List ℕ
   pub body : List ℕ
-  pub is : r ≡ number num ∷ number place ∷ author ∷ Text body ∷ []
+  pub is : r ≡ number num ∷ number place ∷ Text author ∷ Text body ∷ []
   pub within : (1 ≤ place) × (place ≤ most_remarks)
   pub before : (earlier : ℕ) → 1 ≤ earlier → place ≡ suc earlier → HasRemark remarks num earlier
   pub text : is_text body ≡ true
@@ -180,5 +180,7 @@ pub record AreOfRegistry (t : Rows) : Type 0 where
   pub remarks : AreRemarks t.remarks
   pub receipts : AreReceipts t.submissions t.receipts
 
+-- It speaks of the trees of a database of the schema: what the schema itself keeps of the rows, as that a remark is on a submission
+-- and a receipt of an account, is not said again.
 abbrev pub IsRegistry : Trees → Type 0
 IsRegistry db = AreOfRegistry (rows_in db)

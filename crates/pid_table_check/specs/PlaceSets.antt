@@ -3,7 +3,6 @@ use Rattle.std.specs.Prelude.{◌≡◌, ◌↔◌, ◌≤◌, ℕ, suc, true, f
 use Rattle.std.specs.declared.cmp.Ordering.{Ordering}
 use Rattle.std.specs.Ordering.{nat_cmp, ordering_then}
 use Rattle.std.specs.BTreeSet.{BTreeSet, contains}
-use Rattle.sqlite.specs.declared.types.Value.{Value}
 use Rattle.sqlite.specs.declared.types.Value.TheVariants.{Text}
 use Rattle.sqlite.specs.Order.{Row, column}
 use Rattle.pid_ident.specs.Bytes.{is_empty}
@@ -30,9 +29,9 @@ HasPlace places r = (num : ℕ) × (place : ℕ) × (column r 0 ≡ number num) 
 pub record IsRemarkAmong (places : BTreeSet (ℕ × ℕ)) (r : Row) : Type 0 where
   pub num : ℕ
   pub place : ℕ
-  pub author : Value
+  pub author : List ℕ
   pub body : List ℕ
-  pub is : r ≡ number num ∷ number place ∷ author ∷ Text body ∷ []
+  pub is : r ≡ number num ∷ number place ∷ Text author ∷ Text body ∷ []
   pub follows : Follows places num place
   pub text : is_text body ≡ true
   pub filled : is_empty body ≡ false

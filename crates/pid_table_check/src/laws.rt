@@ -11,15 +11,22 @@ ghost use Rattle.pid_rows.specs.Schema.{no_schema, pid_schema};
 ghost use Rattle.pid_table_check.specs.Conditions.{IsRegistry};
 ghost use Rattle.pid_table_check.specs.Shapes.{HasNoTable, HasEachTable};
 
+use pid_moderation::{histories_are_sound, items_are_sorted};
+
 /// Every database that shows a sound history meets all conditions on its rows.
 pub fn sound_histories_are_registries()
     ensures { (h : History) → IsSound h → (db : Database) → Shows db (views_of h) → IsRegistry db.trees }
-{}
+{
+    items_are_sorted();
+}
 
 /// So does every database that shows what well made commands lead to.
 pub fn shown_tables_are_registries()
     ensures { (commands : List Asked) → AreWellMade commands → (db : Database) → Shows db (views_of (after_all [] commands)) → IsRegistry db.trees }
-{}
+{
+    histories_are_sound();
+    sound_histories_are_registries();
+}
 
 /// A database without any table has none of the six, and one of schema 1 has each.
 pub fn schemas_have_tables()

@@ -20,6 +20,3 @@ mod words;
 pub use checking::check;
 pub use laws::{schemas_have_tables, shown_tables_are_registries, sound_histories_are_registries};
 pub use shape::has_some_table;
-
-#[cfg(test)]
-mod tests;

@@ -10,7 +10,7 @@ ghost use Rattle.pid_rows.specs.Clauses.{GoesOn};
 ghost use Rattle.pid_table_check.specs.Clauses.{Checks};
 
 use crate::read::remark_rows;
-use crate::value::number_at;
+use crate::value::{has_words, number_at};
 use crate::words::has_filled_text;
 use pid_moderation::REMARKS;
 use pid_rows::TableFault;
@@ -82,7 +82,7 @@ fn has_place(row: &Row, places: &BTreeSet<(u64, u64)>) -> bool
     }
 }
 
-#[tactic(auto, using(crate::proofs::RemarkFacts::place_of, crate::proofs::RemarkFacts::body_of))]
+#[tactic(auto, using(crate::proofs::RemarkFacts::place_of, crate::proofs::RemarkFacts::author_of, crate::proofs::RemarkFacts::body_of))]
 fn is_remark_row(row: &Row, places: &BTreeSet<(u64, u64)>) -> bool
     ensures { IsTrue result ↔ IsRemarkAmong places.now row.now }
 {
@@ -90,6 +90,9 @@ fn is_remark_row(row: &Row, places: &BTreeSet<(u64, u64)>) -> bool
         return false;
     }
     if !has_place(row, places) {
+        return false;
+    }
+    if !has_words(row, 2) {
         return false;
     }
     has_filled_text(row, 3)

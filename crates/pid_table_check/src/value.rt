@@ -1,5 +1,5 @@
 //! The values of a row.
-ghost use Rattle.std.specs.Prelude.{◌≡◌, ℕ, List, IfSome, IfNone, IsUtf8};
+ghost use Rattle.std.specs.Prelude.{◌≡◌, ◌↔◌, ℕ, List, IfSome, IfNone, IsTrue, IsUtf8};
 ghost use Rattle.sqlite.specs.declared.types.Value.TheVariants.{Text as TextValue};
 ghost use Rattle.sqlite.specs.Order.{column};
 ghost use Rattle.pid_rows.specs.TableRows.{number};
@@ -27,6 +27,16 @@ pub(crate) fn text_at(row: &Row, at: usize) -> Option<&str>
     match row.get_ref(at) {
         Ok(ValueRef::Text(bytes)) => text_of(bytes),
         _ => None,
+    }
+}
+
+/// Whether there is text in a column, whatever it says.
+pub(crate) fn has_words(row: &Row, at: usize) -> bool
+    ensures { IsTrue result ↔ ((words : List ℕ) × (column row.now at ≡ TextValue words)) }
+{
+    match row.get_ref(at) {
+        Ok(ValueRef::Text(_)) => true,
+        _ => false,
     }
 }
 

@@ -21,7 +21,7 @@ recounted_is (Submitted number author path proposal note) c v is fits =
 recounted_is (Remarked number place author text) c v is fits = is
 recounted_is (Decided number state None) c v is fits = is
 recounted_is (Decided number state (Some w)) c v is fits = ap (λ (k : Counts). record k { items = w.items }) is ∙ ap (λ n. record { items = n; submissions = length v.submits }) fits.1.0
-recounted_is (Imported added renamed same items) c v is fits = λ i. record { items = fits i; submissions = is i }
+recounted_is (Imported items) c v is fits = λ i. record { items = fits i; submissions = is i }
 
 pub receipt_still_fits : (e : Effect) (r : Option Receipt) (v : Views) → FitsReceipt r v → FitsReceipt r (affected e v)
 receipt_still_fits Nothing None v h = tt
@@ -29,13 +29,13 @@ receipt_still_fits (Ranked who rank is_new) None v h = tt
 receipt_still_fits (Submitted number author path proposal note) None v h = tt
 receipt_still_fits (Remarked number place author text) None v h = tt
 receipt_still_fits (Decided number state w) None v h = tt
-receipt_still_fits (Imported added renamed same items) None v h = tt
+receipt_still_fits (Imported items) None v h = tt
 receipt_still_fits Nothing (Some r) v h = h
 receipt_still_fits (Ranked who rank is_new) (Some r) v h = h
 receipt_still_fits (Submitted number author path proposal note) (Some r) v h = h
 receipt_still_fits (Remarked number place author text) (Some r) v h = h
 receipt_still_fits (Decided number state w) (Some r) v h = h
-receipt_still_fits (Imported added renamed same items) (Some r) v h = h
+receipt_still_fits (Imported items) (Some r) v h = h
 
 kept_counts : (r : Option Receipt) (v : Views) → counts_of (keeping r v) ≡ counts_of v
 kept_counts None v = refl

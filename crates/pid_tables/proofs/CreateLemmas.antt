@@ -10,7 +10,9 @@ use Rattle.sqlite.specs.Does.{Tally, lacks_sequence}
 use Rattle.sqlite.specs.Effect.{Database, IsDatabase}
 use Rattle.sqlite.specs.Listing.{understood}
 use Rattle.sqlite.specs.State.{State, HasCleanDisk, Writes, Executes}
-use Rattle.sqlite.proofs.Callers.{runs_as}
+use Rattle.sqlite.proofs.Callers.{runs_as, IsPlain, command_of, statement_of}
+use Rattle.sqlite_resolve.specs.declared.compiled.Compiled.{Compiled}
+use Rattle.sqlite_resolve.specs.declared.error.CompileError.{CompileError}
 use Rattle.sqlite.specs.declared.types.Value.TheVariants.{Null, Text}
 use Rattle.sqlite.specs.Edit.{next_rowid, numbered}
 use Rattle.sqlite_rules.specs.declared.error.Rowids.TheVariants.{Chosen}
@@ -32,8 +34,8 @@ use Rattle.pid_rows.specs.declared.fault.TableFault.{TableFault}
 use Rattle.pid_rows.specs.Faults.{IsUntold}
 use Rattle.pid_rows.specs.Leaves.{GoesOn}
 use Rattle.pid_rows.specs.Queries.{IsWriteAs}
-use Rattle.pid_tables.specs.Creation.{making, AreMade, Makes, HasOnlyMeta, with_label}
-use Rattle.pid_tables.proofs.CreateTexts.{Creates}
+use Rattle.pid_tables.specs.Creation.{AreMade}
+use Rattle.pid_tables.specs.Making.{making, Creates, IsKnown, Makes, HasOnlyMeta, with_label}
 use Rattle.pid_rows.proofs.SetLemmas.{all_with, text_set}
 use Rattle.pid_rows.proofs.WriteLemmas.{went, same_value}
 
@@ -48,10 +50,25 @@ pub fold_on : (ts : List Table) (s : Schema) (t : Table) → fold created s (ts 
 fold_on [] s t = refl
 fold_on (u ∷ ts) s t = fold_on ts (created s u) t
 
+-- ---- a text that is known
+
+module _ (text : List ℕ) where
+  pub command_is : (r : Result Compiled CompileError) → IsKnown text r → command_of r ≡ CreateTable
+  command_is (Ok c) h = h.0
+  command_is (Err e) h = absurd h
+
+  pub whole_is : (r : Result Compiled CompileError) → IsKnown text r → statement_of text r ≡ text
+  whole_is (Ok c) h = h.3
+  whole_is (Err e) h = absurd h
+
+  pub plain_is : (r : Result Compiled CompileError) → IsKnown text r → IsPlain r
+  plain_is (Ok c) h = (h.1, h.2)
+  plain_is (Err e) h = absurd h
+
 pub one_more : (ts : List Table) (text : List ℕ) (table : Table) → Creates ts text table → (making ts).tables ≡ ts → (old new : State) (count : ℕ) → AreMade ts old.now → Executes text [] old new (Ok count)
     → AreMade (ts ++ table ∷ []) new.now
 one_more ts text table it tables old new count made h =
-    let w = subst (λ t. Writes old new None CreateTable t [] count) it.whole (runs_as text [] old new (making ts) made.schema CreateTable it.is it.plain count h) in
+    let w = subst (λ t. Writes old new None CreateTable t [] count) (whole_is text _ it.known) (runs_as text [] old new (making ts) made.schema CreateTable (command_is text _ it.known) (plain_is text _ it.known) count h) in
     let all = went w.changed in
     let first = went all.1 in
     let makes = first.1 in
@@ -73,7 +90,7 @@ pub made_one : {X : Type 0} (ts : List Table) (text : List ℕ) (table : Table) 
     → (HasCleanDisk new → IsTrue old.in_transaction → OnOk r ((count : ℕ) × Executes text [] old new (Ok count)))
     → (HasCleanDisk new → (schema : Schema) → (IsTrue old.is_open → old.now.schema ≡ schema) → IsWriteAs text (understood schema text) → IfErr r IsUntold) → Makes old new r ts (ts ++ table ∷ [])
 made_one ts text table (Ok x) old new it tables goes ran untold clean inside made = let h = ran clean inside in one_more ts text table it tables old new h.0 (made (goes.was_open clean (goes.going clean inside).0)) h.1
-made_one ts text table (Err e) old new it tables goes ran untold clean inside made = untold clean (making ts) (λ opened. (made opened).schema) (create_writes (making ts) text _ it.is it.plain it.whole it.defined)
+made_one ts text table (Err e) old new it tables goes ran untold clean inside made = untold clean (making ts) (λ opened. (made opened).schema) (create_writes (making ts) text _ (command_is text _ it.known) (plain_is text _ it.known) (whole_is text _ it.known) it.defined)
 
 -- ---- the first rows
 

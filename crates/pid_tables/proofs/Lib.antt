@@ -4,3 +4,7 @@ pub mod PutLemmas
 pub mod CreateLemmas
 pub mod SoundLemmas
 pub mod CommitLemmas
+pub mod MakerTexts
+pub mod MetLemmas
+pub mod OpenLemmas
+pub mod CheckLemmas

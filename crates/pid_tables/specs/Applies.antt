@@ -7,7 +7,7 @@ use Rattle.pid_rows.specs.Shows.{Counts, counts_of}
 
 -- meta has the counts of the views; of a file whose items are written one by one it has yet to learn how many there are
 abbrev pub IsCounted : Effect → Counts → Views → Type 0
-IsCounted (Imported added renamed same items) c v = c.submissions ≡ length v.submits
+IsCounted (Imported items) c v = c.submissions ≡ length v.submits
 IsCounted Nothing c v = c ≡ counts_of v
 IsCounted (Ranked who rank is_new) c v = c ≡ counts_of v
 IsCounted (Submitted number author path proposal note) c v = c ≡ counts_of v
@@ -16,7 +16,7 @@ IsCounted (Decided number state write) c v = c ≡ counts_of v
 
 -- the counts that an effect leaves
 abbrev pub recounted : Effect → Counts → Counts
-recounted (Imported added renamed same items) c = record c { items = items }
+recounted (Imported items) c = record c { items = items }
 recounted Nothing c = c
 recounted (Ranked who rank is_new) c = c
 recounted (Submitted number author path proposal note) c = record c { submissions = number }

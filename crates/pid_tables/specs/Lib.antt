@@ -1,4 +1,6 @@
 pub mod Creation
+pub mod Making
 pub mod Puts
 pub mod Applies
+pub mod ShowsOrBlank
 pub mod Clauses

@@ -140,7 +140,7 @@ fn write_effect<S: Alter>(
             state,
             write,
         } => { decision(batch, alloc, *number, state, write) }
-        Effect::Imported { items, .. } => count_items(batch, *items),
+        Effect::Imported { items } => count_items(batch, *items),
     }
 }
 

@@ -1,14 +1,17 @@
 //! Makes the tables in a database that has none.
-ghost use Rattle.std.specs.Prelude.{◌≡◌, ℕ, [], ◌∷◌, false, None, List, IfErr, MatchResult, OnOk, IsTrue};
-ghost use Rattle.sqlite.specs.Held.{state};
-ghost use Rattle.pid_moderation.specs.Views.{views_of};
+ghost use Rattle.std.specs.Prelude.{◌≡◌, ℕ, [], ◌∷◌, ◌++◌, false, None, List, IfErr, MatchResult, OnOk, IsTrue, codes};
+ghost use Rattle.sqlite.specs.Listing.{understood};
+ghost use Rattle.sqlite.specs.Table.{Table};
+ghost use Rattle.pid_moderation.specs.Views.{Views, views_of};
 ghost use Rattle.pid_rows.specs.Schema as tables;
+ghost use Rattle.pid_rows.specs.Schema.{pid_schema};
 ghost use Rattle.pid_rows.specs.Faults.{IsUntold};
 ghost use Rattle.pid_rows.specs.PairRows.{Map};
-ghost use Rattle.pid_tables.specs.Creation.{AreMade, HasOnlyMeta, with_label};
 ghost use Rattle.pid_rows.specs.Shows.{Shows, meta_of};
-ghost use Rattle.pid_rows.specs.Clauses.{AtRest, GoesOn, HasCleanDisk, is_open, seen};
-ghost use Rattle.pid_tables.specs.Clauses.{IsBlank, LeavesBareOrNew, Makes};
+ghost use Rattle.pid_tables.specs.Creation.{AreMade, IsOfMaking};
+ghost use Rattle.pid_tables.specs.Making.{making, Creates, IsMakerOf, IsRefused, HasOnlyMeta, with_label};
+ghost use Rattle.pid_rows.specs.Clauses.{AtRest, GoesOn, HasCleanDisk, OnlyReads, is_open, seen};
+ghost use Rattle.pid_tables.specs.Clauses.{FindsTables, IsBlank, IsMet, IsMetFault, LeavesBareOrNew, Makes, Takes};
 
 use crate::batch::commit;
 use pid_moderation::Rank;
@@ -18,91 +21,48 @@ use pid_rows::run::write_one;
 use sqlite::types::ToSql;
 use sqlite::{Alter, Connection, Transaction};
 
-fn make_meta<S: Alter>(tx: &mut Transaction<'_, S>) -> Result<(), TableFault>
-    ensures same_reference { tx.new.conn.ghost_name ≡ tx.old.conn.ghost_name }
-    ensures goes { GoesOn S.Store tx.old.conn.now tx.new.conn.now result }
-    ensures made { Makes S.Store tx.old.conn.now tx.new.conn.now result ([]) (tables.meta ∷ []) }
-{
-    write_one(
-        tx,
-        "CREATE TABLE meta (label TEXT NOT NULL PRIMARY KEY, value INTEGER NOT NULL) STRICT",
-        &[],
-    )
-}
+// The tables, in the order in which they are made.
+const META: &str =
+    "CREATE TABLE meta (label TEXT NOT NULL PRIMARY KEY, value INTEGER NOT NULL) STRICT";
 
-fn make_account<S: Alter>(tx: &mut Transaction<'_, S>) -> Result<(), TableFault>
-    ensures same_reference { tx.new.conn.ghost_name ≡ tx.old.conn.ghost_name }
-    ensures goes { GoesOn S.Store tx.old.conn.now tx.new.conn.now result }
-    ensures made { Makes S.Store tx.old.conn.now tx.new.conn.now result (tables.meta ∷ []) (tables.meta ∷ tables.account ∷ []) }
-{
-    write_one(
-        tx,
-        "CREATE TABLE account (name TEXT NOT NULL PRIMARY KEY, rank INTEGER NOT NULL CHECK (rank BETWEEN 0 AND 3)) STRICT",
-        &[],
-    )
-}
+const ACCOUNT: &str =
+    "CREATE TABLE account (name TEXT NOT NULL PRIMARY KEY, rank INTEGER NOT NULL CHECK (rank BETWEEN 0 AND 3)) STRICT";
 
-fn make_item<S: Alter>(tx: &mut Transaction<'_, S>) -> Result<(), TableFault>
-    ensures same_reference { tx.new.conn.ghost_name ≡ tx.old.conn.ghost_name }
-    ensures goes { GoesOn S.Store tx.old.conn.now tx.new.conn.now result }
-    ensures made { Makes S.Store tx.old.conn.now tx.new.conn.now result (tables.meta ∷ tables.account ∷ []) (tables.meta ∷ tables.account ∷ tables.item ∷ []) }
-{
-    write_one(
-        tx,
-        "CREATE TABLE item (path TEXT NOT NULL PRIMARY KEY, name TEXT NOT NULL) STRICT",
-        &[],
-    )
-}
+const ITEM: &str = "CREATE TABLE item (path TEXT NOT NULL PRIMARY KEY, name TEXT NOT NULL) STRICT";
 
-fn make_submission<S: Alter>(tx: &mut Transaction<'_, S>) -> Result<(), TableFault>
-    ensures same_reference { tx.new.conn.ghost_name ≡ tx.old.conn.ghost_name }
-    ensures goes { GoesOn S.Store tx.old.conn.now tx.new.conn.now result }
-    ensures made { Makes S.Store tx.old.conn.now tx.new.conn.now result (tables.meta ∷ tables.account ∷ tables.item ∷ []) (tables.meta ∷ tables.account ∷ tables.item ∷ tables.submission ∷ []) }
-{
-    write_one(
-        tx,
-        "CREATE TABLE submission (num INTEGER NOT NULL PRIMARY KEY, author TEXT NOT NULL REFERENCES account(name), \
+const SUBMISSION: &str =
+    "CREATE TABLE submission (num INTEGER NOT NULL PRIMARY KEY, author TEXT NOT NULL REFERENCES account(name), \
         path TEXT NOT NULL, form INTEGER NOT NULL CHECK (form BETWEEN 0 AND 1), name TEXT NOT NULL, note TEXT NOT NULL, \
-        state INTEGER NOT NULL CHECK (state BETWEEN 0 AND 3), decider TEXT NOT NULL, reason TEXT NOT NULL) STRICT",
-        &[],
-    )
-}
+        state INTEGER NOT NULL CHECK (state BETWEEN 0 AND 3), decider TEXT NOT NULL, reason TEXT NOT NULL) STRICT";
 
-fn make_remark<S: Alter>(tx: &mut Transaction<'_, S>) -> Result<(), TableFault>
+const REMARK: &str =
+    "CREATE TABLE remark (num INTEGER NOT NULL REFERENCES submission(num), seq INTEGER NOT NULL, author TEXT NOT NULL REFERENCES account(name), body TEXT NOT NULL, PRIMARY KEY (num, seq)) STRICT";
+
+const RECEIPT: &str =
+    "CREATE TABLE receipt (account TEXT NOT NULL REFERENCES account(name), token TEXT NOT NULL, kind INTEGER NOT NULL, \
+        a INTEGER NOT NULL, b INTEGER NOT NULL, c INTEGER NOT NULL, PRIMARY KEY (account, token)) STRICT";
+
+fn make_table<S: Alter>(tx: &mut Transaction<'_, S>, sql: &str) -> Result<(), TableFault>
     ensures same_reference { tx.new.conn.ghost_name ≡ tx.old.conn.ghost_name }
     ensures goes { GoesOn S.Store tx.old.conn.now tx.new.conn.now result }
-    ensures made { Makes S.Store tx.old.conn.now tx.new.conn.now result (tables.meta ∷ tables.account ∷ tables.item ∷ tables.submission ∷ [])
-        (tables.meta ∷ tables.account ∷ tables.item ∷ tables.submission ∷ tables.remark ∷ []) }
+    ensures made { (before : List Table) (table : Table) → Creates before sql.now table → (making before).tables ≡ before
+        → Makes S.Store tx.old.conn.now tx.new.conn.now result before (before ++ table ∷ []) }
+    ensures takes { (name : List ℕ) → IsMakerOf sql.now name → Takes S.Store tx.old.conn.now tx.new.conn.now result (name ∷ []) }
+    ensures met { IsRefused (understood pid_schema sql.now) → FindsTables S.Store tx.old.conn.now tx.new.conn.now result }
 {
-    write_one(
-        tx,
-        "CREATE TABLE remark (num INTEGER NOT NULL REFERENCES submission(num), seq INTEGER NOT NULL, author TEXT NOT NULL REFERENCES account(name), body TEXT NOT NULL, PRIMARY KEY (num, seq)) STRICT",
-        &[],
-    )
-}
-
-fn make_receipt<S: Alter>(tx: &mut Transaction<'_, S>) -> Result<(), TableFault>
-    ensures same_reference { tx.new.conn.ghost_name ≡ tx.old.conn.ghost_name }
-    ensures goes { GoesOn S.Store tx.old.conn.now tx.new.conn.now result }
-    ensures made { Makes S.Store tx.old.conn.now tx.new.conn.now result
-        (tables.meta ∷ tables.account ∷ tables.item ∷ tables.submission ∷ tables.remark ∷ []) (tables.meta ∷ tables.account ∷ tables.item ∷ tables.submission ∷ tables.remark ∷ tables.receipt ∷ []) }
-{
-    write_one(
-        tx,
-        "CREATE TABLE receipt (account TEXT NOT NULL REFERENCES account(name), token TEXT NOT NULL, kind INTEGER NOT NULL, \
-        a INTEGER NOT NULL, b INTEGER NOT NULL, c INTEGER NOT NULL, PRIMARY KEY (account, token)) STRICT",
-        &[],
-    )
+    write_one(tx, sql, &[])
 }
 
 fn make_first<S: Alter>(tx: &mut Transaction<'_, S>) -> Result<(), TableFault>
     ensures same_reference { tx.new.conn.ghost_name ≡ tx.old.conn.ghost_name }
     ensures goes { GoesOn S.Store tx.old.conn.now tx.new.conn.now result }
     ensures made { Makes S.Store tx.old.conn.now tx.new.conn.now result [] (tables.meta ∷ tables.account ∷ tables.item ∷ []) }
+    ensures takes { Takes S.Store tx.old.conn.now tx.new.conn.now result (codes "meta" ∷ codes "account" ∷ codes "item" ∷ []) }
+    ensures met { FindsTables S.Store tx.old.conn.now tx.new.conn.now result }
 {
-    make_meta(tx)?;
-    make_account(tx)?;
-    make_item(tx)
+    make_table(tx, META)?;
+    make_table(tx, ACCOUNT)?;
+    make_table(tx, ITEM)
 }
 
 fn make_rest<S: Alter>(tx: &mut Transaction<'_, S>) -> Result<(), TableFault>
@@ -110,10 +70,11 @@ fn make_rest<S: Alter>(tx: &mut Transaction<'_, S>) -> Result<(), TableFault>
     ensures goes { GoesOn S.Store tx.old.conn.now tx.new.conn.now result }
     ensures made { Makes S.Store tx.old.conn.now tx.new.conn.now result (tables.meta ∷ tables.account ∷ tables.item ∷ [])
         (tables.meta ∷ tables.account ∷ tables.item ∷ tables.submission ∷ tables.remark ∷ tables.receipt ∷ []) }
+    ensures takes { Takes S.Store tx.old.conn.now tx.new.conn.now result (codes "submission" ∷ codes "remark" ∷ codes "receipt" ∷ []) }
 {
-    make_submission(tx)?;
-    make_remark(tx)?;
-    make_receipt(tx)
+    make_table(tx, SUBMISSION)?;
+    make_table(tx, REMARK)?;
+    make_table(tx, RECEIPT)
 }
 
 fn add_label<S: Alter>(
@@ -151,6 +112,8 @@ fn fill<S: Alter>(tx: &mut Transaction<'_, S>) -> Result<(), TableFault>
     ensures goes { GoesOn S.Store tx.old.conn.now tx.new.conn.now result }
     ensures filled { HasCleanDisk S.Store tx.new.conn.now → IsTrue tx.old.conn.now.in_transaction
         → (IsTrue (is_open S.Store tx.old.conn.now) → AreMade [] (seen S.Store tx.old.conn.now)) → MatchResult result (λ _. Shows (seen S.Store tx.new.conn.now) (views_of [])) IsUntold }
+    ensures refused { HasCleanDisk S.Store tx.new.conn.now → IsTrue tx.old.conn.now.in_transaction → IsMet S.Store tx.old.conn.now → MatchResult result (λ _. ⊥) IsOfMaking }
+    ensures met { FindsTables S.Store tx.old.conn.now tx.new.conn.now result }
 {
     make_first(tx)?;
     make_rest(tx)?;
@@ -161,13 +124,20 @@ fn fill<S: Alter>(tx: &mut Transaction<'_, S>) -> Result<(), TableFault>
 /// Makes the tables of a new registry in a database that has none, in one transaction: `root` is an administrator, and
 /// there is nothing else.
 ///
-/// Whatever it answers, a crash leaves a database without tables, or the new registry whole.
+/// Whatever it answers, a crash leaves a database without tables, or the new registry whole. Where a name is taken that one
+/// of the tables wants, it answers `Damaged`, or else `Memory` or `Store`, and changes nothing. Beside tables of other names
+/// the new ones are made; what they then are together, no clause says.
 pub fn create<S: Alter>(conn: &mut Connection<S>) -> Result<(), TableFault>
     requires { conn.old.in_transaction ≡ false }
     ensures settled { conn.new.in_transaction ≡ false }
+    ensures clean { HasCleanDisk S.Store conn.new → HasCleanDisk S.Store conn.old }
     ensures made { IsBlank S.Store conn.old → OnOk result (AtRest S.Store conn.new (views_of [])) }
     ensures untold { HasCleanDisk S.Store conn.new → IsBlank S.Store conn.old → IfErr result IsUntold }
     ensures crash { IsBlank S.Store conn.old → LeavesBareOrNew S.Store conn.new }
+    ensures rests { IsMet S.Store conn.old → OnlyReads S.Store conn.old conn.new }
+    ensures refused { HasCleanDisk S.Store conn.new → IsMet S.Store conn.old → MatchResult result (λ _. ⊥) IsOfMaking }
+    ensures kept { (v : Views) → AtRest S.Store conn.old v → AtRest S.Store conn.new v }
+    ensures met { HasCleanDisk S.Store conn.new → (v : Views) → AtRest S.Store conn.old v → MatchResult result (λ _. ⊥) (IsMetFault S.Store conn.old conn.new) }
 {
     let mut batch = conn.transaction();
     fill(&mut batch)?;

@@ -1,15 +1,16 @@
 //! The facts that a command is judged by.
 ghost use Rattle.std.specs.Prelude.{◌≡◌, false, length, Some};
 ghost use Rattle.sqlite.specs.Held.{state};
+ghost use Rattle.pid_ident.specs.PathReading.{parent_text};
 ghost use Rattle.pid_ident.specs.PathTexts.{path_text};
 ghost use Rattle.pid_moderation.specs.FactsOfViews.{kept_in as kept_for, named as named_in, known as known_of, with_item as facts_with, facts_at};
-ghost use Rattle.pid_moderation.specs.Items.{name_at, parent_text, holds_parent, has_children as are_children};
+ghost use Rattle.pid_moderation.specs.Items.{name_at, holds_parent, has_children as are_children};
 ghost use Rattle.pid_moderation.specs.Wants.{wanted_by};
 ghost use Rattle.pid_moderation.specs.WellMade.{AllItems, HoldsParents};
 ghost use Rattle.pid_rows.specs.Clauses.{Reads};
 
 use pid_ident::{Account, Key, Name, Path};
-use pid_moderation::{Facts, Named, Rank, Reply, Rows, Verdict};
+use pid_moderation::{Facts, Named, Rank, Reply, Rows};
 use pid_rows::TableFault;
 use pid_rows::account::rank;
 use pid_rows::item::{has_children, item_name};
@@ -54,7 +55,7 @@ fn known<S: Alter>(
         present: None,
         has_parent: false,
         has_children: false,
-        file: Verdict::NoFile,
+        file: None,
     })
 }
 
@@ -179,19 +180,17 @@ fn with_item<S: Alter>(
     }
 }
 
-/// The facts that a command of the account under the key is judged by, as far as it names rows; its file, if any, comes to
-/// the verdict.
+/// The facts that a command of the account under the key is judged by, as far as they are rows.
 pub(crate) fn gather_facts<S: Alter>(
     conn: &mut Connection<S>,
     alloc: Global,
     account: &Account,
     key: &Option<Key>,
     rows: Rows<'_>,
-    file: Verdict,
 ) -> Result<Facts, TableFault>
     requires { conn.old.in_transaction ≡ false }
     ensures { Reads S.Store conn.old conn.new result
-        (λ v facts. AllItems v.items → HoldsParents v.items → facts ≡ facts_at v file account.now key.now (wanted_by rows.entry)) }
+        (λ v facts. AllItems v.items → HoldsParents v.items → facts ≡ facts_at v account.now key.now (wanted_by rows.entry)) }
 {
     let mut facts = known(conn, account, key)?;
     match rows {
@@ -208,9 +207,6 @@ pub(crate) fn gather_facts<S: Alter>(
             Ok(facts)
         }
         Rows::Item(number) => with_item(conn, alloc, number, facts),
-        Rows::File => {
-            facts.file = file;
-            Ok(facts)
-        }
+        Rows::Nothing => Ok(facts),
     }
 }

@@ -10,16 +10,11 @@ mod tables;
 
 pub use batch::{Batch, apply, begin, commit, put, roll_back};
 pub use creation::create;
-pub use laws::views_of_sound_histories;
+pub use laws::{opened_tables_rest, reads_keep_what_is_shown, views_of_sound_histories};
 pub use pid_rows::TableFault;
 pub use pid_rows::item::Item;
 pub use pid_rows::remark::Comment;
 pub use pid_rows::submission::Submission;
 pub use pid_table_lists::{Discussion, EachEnd, PAGE, Pending};
 pub use putting::Put;
-pub use tables::{Tables, new_in_memory};
-
-#[cfg(test)]
-mod stops;
-#[cfg(test)]
-mod tests;
+pub use tables::Tables;

@@ -1,6 +1,7 @@
 //! The tables of a registry, over a connection.
-ghost use Rattle.std.specs.Prelude.{◌≡◌, [], false, length, map, IfOk, IsTrue, option_map, IfErr, MatchResult, OnOk};
-ghost use Rattle.sqlite.specs.Steps.{over_memory};
+ghost use Rattle.std.specs.Prelude.{◌≡◌, codes, false, length, map, IfOk, IsTrue, option_map, IfErr, MatchResult, OnOk};
+ghost use Rattle.pid_moderation.specs.History.{History};
+ghost use Rattle.pid_moderation.specs.Sound.{IsSound};
 ghost use Rattle.pid_moderation.specs.Views.{Views, views_of};
 ghost use Rattle.pid_ident.specs.PathTexts.{path_text};
 ghost use Rattle.pid_moderation.specs.FactsOfViews.{facts_at};
@@ -12,6 +13,7 @@ ghost use Rattle.pid_table_check.specs.Conditions.{IsRegistry, rows_in};
 ghost use Rattle.pid_table_check.specs.Shapes.{ExplainsLack, HasNoTable, LacksATable};
 ghost use Rattle.pid_rows.specs.Causes.{IsReadable};
 ghost use Rattle.pid_rows.specs.Faults.{IsUntold};
+ghost use Rattle.pid_rows.specs.LabelRows.{HasLabel};
 ghost use Rattle.pid_rows.specs.Schema.{pid_schema};
 ghost use Rattle.pid_rows.specs.ItemPairs.{pair_of};
 ghost use Rattle.pid_table_lists.specs.Children.{children_of};
@@ -21,22 +23,18 @@ ghost use Rattle.pid_table_lists.specs.PendingPages.{pending_in, told_of};
 ghost use Rattle.pid_rows.specs.Clauses.{AtRest, HasCleanDisk, OnlyReads, Reads, Tells, is_open, seen};
 ghost use Rattle.pid_table_lists.specs.Clauses.{IsCausedEnd};
 
-use crate::creation::create;
 use crate::gather::gather_facts;
 use pid_ident::{Account, Key, Name, Path};
-use pid_moderation::{Facts, Rank, Reply, Rows, Verdict};
+use pid_moderation::{Facts, Rows};
 use pid_reader::Sink;
 use pid_rows::TableFault;
-use pid_rows::account::rank;
 use pid_rows::item::{Item, item_name};
-use pid_rows::meta::{items, schema_number, submissions};
-use pid_rows::receipt::kept_reply;
-use pid_rows::remark::remark_count;
-use pid_table_check::{check, has_some_table};
+use pid_rows::meta::{items, schema_number};
+use pid_table_check::{check, has_some_table, sound_histories_are_registries};
 use pid_table_lists::{
     Discussion, EachEnd, PAGE, Pending, children, discussed, each_item, pending_page,
 };
-use sqlite::{Alter, Connection, MemStore};
+use sqlite::{Alter, Connection};
 use std::alloc::Global;
 
 /// The tables of a registry, over a connection that is at rest between calls. A read leaves them as they are.
@@ -59,22 +57,6 @@ impl<S: Alter + Drop> Tables<S> {
     {
         let Tables { conn } = self;
         conn
-    }
-
-    /// The rank of an account, if it is one.
-    pub fn rank(&mut self, account: &Account) -> Result<Option<Rank>, TableFault>
-        requires { self.old.conn.in_transaction ≡ false }
-        ensures { Reads S.Store self.old.conn self.new.conn result (λ v rank. rank ≡ v.rank account.now) }
-    {
-        rank(&mut self.conn, account.as_str())
-    }
-
-    /// The reply that is kept under an account and a key.
-    pub fn kept(&mut self, account: &Account, key: &Key) -> Result<Option<Reply>, TableFault>
-        requires { self.old.conn.in_transaction ≡ false }
-        ensures { Reads S.Store self.old.conn self.new.conn result (λ v reply. reply ≡ v.kept account.now key.now) }
-    {
-        kept_reply(&mut self.conn, account.as_str(), key.as_str())
     }
 
     /// The name of the item at a path.
@@ -136,14 +118,6 @@ impl<S: Alter + Drop> Tables<S> {
         pending_page(&mut self.conn, alloc, after)
     }
 
-    /// How many remarks there are on a submission.
-    pub fn remarks(&mut self, number: u32) -> Result<u32, TableFault>
-        requires { self.old.conn.in_transaction ≡ false }
-        ensures { Reads S.Store self.old.conn self.new.conn result (λ v n. n ≡ length (v.remarks number)) }
-    {
-        remark_count(&mut self.conn, number)
-    }
-
     /// How many items there are.
     pub fn items(&mut self) -> Result<u32, TableFault>
         requires { self.old.conn.in_transaction ≡ false }
@@ -152,16 +126,8 @@ impl<S: Alter + Drop> Tables<S> {
         items(&mut self.conn)
     }
 
-    /// How many submissions there are.
-    pub fn submissions(&mut self) -> Result<u32, TableFault>
-        requires { self.old.conn.in_transaction ≡ false }
-        ensures { Reads S.Store self.old.conn self.new.conn result (λ v n. n ≡ length v.submits) }
-    {
-        submissions(&mut self.conn)
-    }
-
     /// The facts that a command of the account under the key is judged by: what `rows` names, as `needs` answers it, and no
-    /// more. Its file, if any, comes to `file`.
+    /// more. What the file of an import comes to is not among them.
     ///
     /// It holds of views whose items are a tree, as those of every history are.
     pub fn gather(
@@ -170,13 +136,12 @@ impl<S: Alter + Drop> Tables<S> {
         account: &Account,
         key: &Option<Key>,
         rows: Rows<'_>,
-        file: Verdict,
     ) -> Result<Facts, TableFault>
         requires { self.old.conn.in_transaction ≡ false }
         ensures { Reads S.Store self.old.conn self.new.conn result
-            (λ v facts. AllItems v.items → HoldsParents v.items → facts ≡ facts_at v file account.now key.now (wanted_by rows.entry)) }
+            (λ v facts. AllItems v.items → HoldsParents v.items → facts ≡ facts_at v account.now key.now (wanted_by rows.entry)) }
     {
-        gather_facts(&mut self.conn, alloc, account, key, rows, file)
+        gather_facts(&mut self.conn, alloc, account, key, rows)
     }
 
     /// Whether the tables are those of some registry, or there is none: every row is read and judged.
@@ -192,17 +157,21 @@ impl<S: Alter + Drop> Tables<S> {
         ensures lacking { HasCleanDisk S.Store self.new.conn → LacksATable (seen S.Store self.old.conn).schema → MatchResult result (λ x. ⊥) (ExplainsLack (seen S.Store self.old.conn)) }
         ensures told { HasCleanDisk S.Store self.new.conn → (seen S.Store self.old.conn).schema ≡ pid_schema
             → MatchResult result (λ x. IsRegistry (seen S.Store self.old.conn).trees) (Explains (rows_in (seen S.Store self.old.conn).trees)) }
+        // Tables that show a sound history are neither damaged nor of a later schema.
+        ensures good { HasCleanDisk S.Store self.new.conn → (h : History) → IsSound h → AtRest S.Store self.old.conn (views_of h) → IfErr result IsUntold }
     {
+        sound_histories_are_registries();
         check(&mut self.conn, alloc)
     }
 
-    /// The number of the schema, and 0 where none of its tables is there. Other tables do not count.
+    /// The number of the schema, as the labels have it, and 0 where none of its tables is there. Other tables do not count.
     pub fn version(&mut self) -> Result<u32, TableFault>
         requires { self.old.conn.in_transaction ≡ false }
         ensures rests { OnlyReads S.Store self.old.conn self.new.conn }
         ensures told { Tells S.Store self.old.conn self.new.conn result (λ v n. n ≡ 1) }
         ensures was_open { HasCleanDisk S.Store self.new.conn → OnOk result (IsTrue (is_open S.Store self.old.conn)) }
         ensures none { HasCleanDisk S.Store self.new.conn → HasNoTable (seen S.Store self.old.conn).schema → MatchResult result (λ n. n ≡ 0) IsUntold }
+        ensures labelled { HasCleanDisk S.Store self.new.conn → (seen S.Store self.old.conn).schema ≡ pid_schema → IfOk result (HasLabel (seen S.Store self.old.conn).trees (codes "schema")) }
     {
         if has_some_table(&mut self.conn)? {
             schema_number(&mut self.conn)
@@ -210,15 +179,4 @@ impl<S: Alter + Drop> Tables<S> {
             Ok(0)
         }
     }
-}
-
-/// A new registry in memory.
-pub fn new_in_memory(alloc: Global) -> Result<Tables<MemStore>, TableFault>
-    ensures settled { IfOk result (λ tables. tables.conn.in_transaction ≡ false) }
-    ensures untold { IfErr result IsUntold }
-    ensures made { IfOk result (λ tables. AtRest over_memory tables.conn (views_of [])) }
-{
-    let mut conn = Connection::open_in_memory(alloc)?;
-    create(&mut conn)?;
-    Ok(Tables::new(conn))
 }

@@ -1,14 +1,20 @@
+use Rattle.std.proofs.Common.{true}
 use Rattle.pid_rows.specs.Shows.{counts_of}
 use Rattle.pid_rows.proofs.StatementTexts.{select_meta}
 use Rattle.sqlite.specs.Held.{state}
 use Rattle.pid_rows.proofs.QueryTexts.{meta_query}
 use Rattle.pid_rows.proofs.FindLemmas.{at_rest, value_found}
+use Rattle.pid_rows.proofs.LabelLemmas.{values_read}
 use Rattle.pid_rows.proofs.meta.value_rows.Goals as goal
 
-pub returns : goal.returns
-returns g c = record {
+pub returns-clause-reads : goal.returns-clause-reads
+returns-clause-reads g c = record {
   rests = c.read_rows.ensures.rests;
   told = λ clean v rest.
       at_rest g.S.Store c.args.conn.now (state g.S.Store c.read_rows.new.conn) v select_meta _ c.read_rows.result (λ rows. rows.items) _ rest (λ new rows shows h. value_found _ new (counts_of v) v shows rows.items c.args.label.now h)
       (rw (c.to_sql-label.ensures) at (c.read_rows.ensures.shown clean)) ((rw c.to_sql-label.ensures at (c.read_rows.ensures.caused clean v rest)) (meta_query c.args.label.now));
 }
+
+pub returns-clause-valued : goal.returns-clause-valued
+returns-clause-valued g c clean has =
+    values_read g.S.Store c.args.label.now (state g.S.Store (record c.args.conn.now { in_transaction = true })) c.read_rows.result has (rw (c.to_sql-label.ensures) at (c.read_rows.ensures.shown clean))

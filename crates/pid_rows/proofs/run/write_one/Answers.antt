@@ -1,8 +1,10 @@
-use Rattle.std.proofs.Common.{sym, subst, IfErr, inl, inr}
+use Rattle.std.proofs.Common.{◌≡◌, sym, subst, Err, IfErr, inl, inr}
 use Rattle.std.proofs.lemmas.Bool.{cases_Bool}
 use Rattle.std.proofs.lemmas.Result.{err_from_is_err_and}
 use Rattle.sqlite.specs.Values.{bound}
 use Rattle.sqlite.specs.Held.{state}
+use Rattle.sqlite.specs.State.{ExecutesInside}
+use Rattle.sqlite.specs.declared.error.Error.{Error}
 use Rattle.sqlite.specs.declared.error.ErrorCode.TheVariants as code
 use Rattle.sqlite.specs.declared.error.Error.TheVariants.{SqliteFailure}
 use Rattle.pid_rows.specs.Faults.{IsUntold, fault_of}
@@ -19,3 +21,11 @@ returns-in_err-execute-clause-untold g c clean schema has write =
       | inr ended ↦ moved c.in_err-execute.field-0.0 (SqliteFailure code.TransactionState) (let is = (c.in_err-execute.ensures.ended ended).0 in cc) (failed code.TransactionState)
     ] in
     subst (λ r. IfErr r IsUntold) (sym p.1) (subst IsUntold (sym p.2) told)
+
+pub returns-in_err-execute-clause-refused : goal.returns-in_err-execute-clause-refused
+returns-in_err-execute-clause-refused g c clean inside =
+    let p = err_from_is_err_and c.from_residual.result c.from_residual.ensures.1 in
+    let old = state g.S.Store c.args.tx.now.conn.now in
+    let new = state g.S.Store c.execute.new.self.conn.now in
+    subst (λ r. IfErr r (λ fault. (e : Error) × (fault ≡ fault_of e) × ExecutesInside 0 c.args.sql.now (bound c.args.params.now) old new (Err e))) (sym p.1)
+    (c.in_err-execute.field-0.0, p.2, c.in_err-execute.ensures.runs clean inside)

@@ -1,6 +1,6 @@
 use Rattle.std.proofs.Common.{None, refl, codes}
 use Rattle.sqlite.specs.Held.{state}
-use Rattle.pid_tables.specs.Creation.{with_label}
+use Rattle.pid_tables.specs.Making.{with_label}
 use Rattle.pid_rows.specs.Faults.{IsUntold}
 use Rattle.pid_rows.proofs.CauseLemmas.{passed_on}
 use Rattle.pid_rows.proofs.GoingLemmas.{earlier}

@@ -1,8 +1,13 @@
-use Rattle.std.proofs.Common.{◌≡◌, [], OnOk, refl, rules, subst}
+use Rattle.std.proofs.Common.{◌≡◌, inl, [], true, OnOk, IsTrue, refl, rules, subst}
 use Rattle.sqlite.specs.Held.{state}
-use Rattle.sqlite.proofs.StateLemmas.{clean_if_open}
+use Rattle.sqlite.specs.State.{HasCleanDisk}
+use Rattle.sqlite.proofs.StateLemmas.{clean_if_open, survives_then}
+use Rattle.sqlite.proofs.Callers.{survives_begin}
 use Rattle.pid_moderation.specs.Views.{views_of}
-use Rattle.pid_rows.specs.Leaves.{AtRest}
+use Rattle.pid_rows.specs.Leaves.{AtRest, OnlyReads}
+use Rattle.pid_rows.proofs.GoingLemmas.{earlier}
+use Rattle.pid_rows.proofs.OnlyReading.{reads_begun}
+use Rattle.pid_tables.proofs.MetLemmas.{reads_if_never, met_at_rest}
 use Rattle.pid_tables.proofs.creation.create.Goals as goal
 
 pub returns-clause-made : goal.returns-clause-made
@@ -15,3 +20,38 @@ returns-clause-made g c blank =
     let same : end ≡ c.conn-2-1.given.0 = search rules in
     subst (λ h. OnOk c.commit.result (AtRest (state g.S.Store h) (views_of []))) same
     (c.commit.ensures.stands (views_of []) (λ opened. shows (law opened) refl blank.empty))
+
+-- ---- where a name is taken
+
+pub returns-in_err-fill-clause-rests : goal.returns-in_err-fill-clause-rests
+returns-in_err-fill-clause-rests g c met =
+    let end = c.drop-batch.new.self.0 in
+    let same : end ≡ c.conn-1.given.0 = search rules in
+    let first = c.fill.new.tx.conn.now in
+    let goes = rw c.transaction-batch.ensures.begun at c.fill.ensures.goes in
+    subst (λ h. OnlyReads (state g.S.Store c.args.conn.now) (state g.S.Store h)) same
+    (reads_begun g.S.Store c.args.conn.now first end c.fill.result (clean_if_open (g.S.Store.view first.store) (g.met.S.Store.shut_if_dirty first.store))
+    (clean_if_open (g.S.Store.view end.store) (g.met.S.Store.shut_if_dirty end.store)) goes c.drop-batch.ensures.ended c.drop-batch.ensures.undone c.drop-batch.ensures.survives)
+
+pub returns-in_err-fill-clause-kept : goal.returns-in_err-fill-clause-kept
+returns-in_err-fill-clause-kept g c v rest = (returns-in_err-fill-clause-rests g c (met_at_rest (state g.S.Store c.args.conn.now) v rest)).kept v rest
+
+pub returns-clause-rests : goal.returns-clause-rests
+returns-clause-rests g c met =
+    let end = c.commit.new.batch.0 in
+    let same : end ≡ c.conn-2-1.given.0 = search rules in
+    let first = c.fill.new.tx.conn.now in
+    let mid = state g.S.Store first in
+    let goes = rw c.transaction-batch.ensures.begun at c.in_ok-fill.ensures.goes in
+    let refused = rw c.transaction-batch.ensures.begun at c.in_ok-fill.ensures.refused in
+    let begun = state g.S.Store (record c.args.conn.now { in_transaction = true }) in
+    subst (λ h. OnlyReads (state g.S.Store c.args.conn.now) (state g.S.Store h)) same
+    (reads_if_never (state g.S.Store c.args.conn.now) (state g.S.Store end) (λ db. db ≡ mid.now.trees)
+    (survives_begin g.S.Store c.args.conn.now (state g.S.Store end) (λ db. db ≡ mid.now.trees)
+    (survives_then begun mid (state g.S.Store end) (λ _. ⊥) (λ db. db ≡ mid.now.trees) (λ db. db ≡ mid.now.trees) (λ clean db none. absurd none) (λ clean db is. is) goes.survives c.commit.ensures.survives))
+    (λ clean. earlier begun mid goes.survives (earlier mid (state g.S.Store end) c.commit.ensures.survives clean)) c.commit.ensures.ended
+    (clean_if_open (g.S.Store.view end.store) (g.met.S.Store.shut_if_dirty end.store))
+    (λ clean. refused (earlier mid (state g.S.Store end) c.commit.ensures.survives clean) refl met))
+
+pub returns-clause-kept : goal.returns-clause-kept
+returns-clause-kept g c v rest = (returns-clause-rests g c (met_at_rest (state g.S.Store c.args.conn.now) v rest)).kept v rest

@@ -1,20 +1,69 @@
+use Rattle.std.proofs.Common.{[], ◌∷◌, refl, codes, Err}
 use Rattle.sqlite.specs.Held.{state}
 use Rattle.pid_rows.specs.Faults.{IsUntold}
+use Rattle.pid_rows.specs.Schema.{meta, account, item}
 use Rattle.pid_rows.proofs.CauseLemmas.{passed_on}
 use Rattle.pid_rows.proofs.GoingLemmas.{earlier}
+use Rattle.pid_tables.specs.Creation.{IsOfMaking, IsMetFault}
+use Rattle.pid_tables.proofs.CreateTexts.{meta_creates, account_creates, item_creates}
+use Rattle.pid_tables.proofs.MakerTexts.{meta_maker, account_maker, item_maker, meta_met}
+use Rattle.pid_tables.proofs.MetLemmas.{took_then, took_both}
 use Rattle.pid_tables.proofs.creation.make_first.Goals as goal
 
-pub returns-in_err-make_account-clause-made : goal.returns-in_err-make_account-clause-made
-returns-in_err-make_account-clause-made g c clean inside made =
-    let first = earlier (state g.S.Store c.make_meta.new.tx.conn.now) (state g.S.Store c.make_account.new.tx.conn.now) c.make_account.ensures.goes.survives clean in
-    let one = c.in_ok-make_meta.ensures in
-    passed_on c.from_residual-in_err-make_account.result _ _ IsUntold c.from_residual-in_err-make_account.ensures.1 (c.in_err-make_account.ensures.made clean (one.goes.going first inside).1 (λ opened. one.made first inside made))
+pub returns-in_err-make_table-clause-made : goal.returns-in_err-make_table-clause-made
+returns-in_err-make_table-clause-made g c clean inside made = passed_on c.from_residual.result _ _ IsUntold c.from_residual.ensures.1 (c.in_err-make_table.ensures.made ([]) meta meta_creates refl clean inside made)
+
+pub returns-in_err-make_table-2-clause-made : goal.returns-in_err-make_table-2-clause-made
+returns-in_err-make_table-2-clause-made g c clean inside made =
+    let first = earlier (state g.S.Store c.make_table.new.tx.conn.now) (state g.S.Store c.make_table-2.new.tx.conn.now) c.make_table-2.ensures.goes.survives clean in
+    let one = c.in_ok-make_table.ensures in
+    passed_on c.from_residual-in_err-make_table-2.result _ _ IsUntold c.from_residual-in_err-make_table-2.ensures.1
+    (c.in_err-make_table-2.ensures.made (meta ∷ []) account account_creates refl clean (one.goes.going first inside).1 (λ opened. one.made ([]) meta meta_creates refl first inside made))
 
 pub returns-clause-made : goal.returns-clause-made
 returns-clause-made g c clean inside made =
-    let second = earlier (state g.S.Store c.make_account.new.tx.conn.now) (state g.S.Store c.make_item.new.tx.conn.now) c.make_item.ensures.goes.survives clean in
-    let first = earlier (state g.S.Store c.make_meta.new.tx.conn.now) (state g.S.Store c.make_account.new.tx.conn.now) c.make_account.ensures.goes.survives second in
-    let one = c.in_ok-make_meta.ensures in
-    let two = c.in_ok-make_account.ensures in
+    let second = earlier (state g.S.Store c.make_table-2.new.tx.conn.now) (state g.S.Store c.make_table-3.new.tx.conn.now) c.make_table-3.ensures.goes.survives clean in
+    let first = earlier (state g.S.Store c.make_table.new.tx.conn.now) (state g.S.Store c.make_table-2.new.tx.conn.now) c.make_table-2.ensures.goes.survives second in
+    let one = c.in_ok-make_table.ensures in
+    let two = c.in_ok-make_table-2.ensures in
     let within = (one.goes.going first inside).1 in
-    c.make_item.ensures.made clean (two.goes.going second within).1 (λ opened. two.made second within (λ opened. one.made first inside made))
+    c.make_table-3.ensures.made (meta ∷ account ∷ []) item item_creates refl clean (two.goes.going second within).1
+    (λ opened. two.made (meta ∷ []) account account_creates refl second within (λ opened. one.made ([]) meta meta_creates refl first inside made))
+
+pub returns-in_err-make_table-clause-takes : goal.returns-in_err-make_table-clause-takes
+returns-in_err-make_table-clause-takes g c clean inside = passed_on c.from_residual.result _ _ IsOfMaking c.from_residual.ensures.1 (c.in_err-make_table.ensures.takes (codes "meta") meta_maker clean inside)
+
+pub returns-in_err-make_table-2-clause-takes : goal.returns-in_err-make_table-2-clause-takes
+returns-in_err-make_table-2-clause-takes g c clean inside =
+    let first = earlier (state g.S.Store c.make_table.new.tx.conn.now) (state g.S.Store c.make_table-2.new.tx.conn.now) c.make_table-2.ensures.goes.survives clean in
+    passed_on c.from_residual-in_err-make_table-2.result _ _ IsOfMaking c.from_residual-in_err-make_table-2.ensures.1
+    (c.in_err-make_table-2.ensures.takes (codes "account") account_maker clean (c.in_ok-make_table.ensures.goes.going first inside).1)
+
+pub returns-clause-takes : goal.returns-clause-takes
+returns-clause-takes g c clean inside =
+    let a = state g.S.Store c.args.tx.now.conn.now in
+    let b = state g.S.Store c.make_table.new.tx.conn.now in
+    let d = state g.S.Store c.make_table-2.new.tx.conn.now in
+    let e = state g.S.Store c.make_table-3.new.tx.conn.now in
+    let second = earlier d e c.make_table-3.ensures.goes.survives clean in
+    let first = earlier b d c.make_table-2.ensures.goes.survives second in
+    let one = c.in_ok-make_table.ensures in
+    let two = c.in_ok-make_table-2.ensures in
+    let within = (one.goes.going first inside).1 in
+    took_then (codes "meta" ∷ codes "account" ∷ []) (codes "item" ∷ []) a.now.schema d.now.schema e.now.schema
+    (took_both (codes "meta" ∷ []) (codes "account" ∷ []) a.now.schema b.now.schema d.now.schema (one.takes (codes "meta") meta_maker first inside) (two.takes (codes "account") account_maker second within))
+    c.make_table-3.result (c.make_table-3.ensures.takes (codes "item") item_maker clean (two.goes.going second within).1)
+
+pub returns-in_err-make_table-clause-met : goal.returns-in_err-make_table-clause-met
+returns-in_err-make_table-clause-met g c clean inside has =
+    let old = state g.S.Store c.args.tx.now.conn.now in
+    passed_on c.from_residual.result _ _ (IsMetFault old (state g.S.Store c.make_table.new.tx.conn.now)) c.from_residual.ensures.1 (c.in_err-make_table.ensures.met meta_met clean inside has)
+
+pub returns-in_err-make_table-2-clause-met : goal.returns-in_err-make_table-2-clause-met
+returns-in_err-make_table-2-clause-met g c clean inside has =
+    absurd (c.in_ok-make_table.ensures.met meta_met (earlier (state g.S.Store c.make_table.new.tx.conn.now) (state g.S.Store c.make_table-2.new.tx.conn.now) c.make_table-2.ensures.goes.survives clean) inside has)
+
+pub returns-clause-met : goal.returns-clause-met
+returns-clause-met g c clean inside has =
+    let second = earlier (state g.S.Store c.make_table-2.new.tx.conn.now) (state g.S.Store c.make_table-3.new.tx.conn.now) c.make_table-3.ensures.goes.survives clean in
+    absurd (c.in_ok-make_table.ensures.met meta_met (earlier (state g.S.Store c.make_table.new.tx.conn.now) (state g.S.Store c.make_table-2.new.tx.conn.now) c.make_table-2.ensures.goes.survives second) inside has)

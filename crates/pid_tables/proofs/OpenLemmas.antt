@@ -1,0 +1,55 @@
+-- Connections that were just opened, and what reads leave of a database without tables.
+use Rattle.std.proofs.Common.{◌≡◌, inl, inr, [], IsTrue, refl, sym, ap, subst, ◌∙◌}
+use Rattle.sqlite.specs.Effect.{Database, IsDatabase}
+use Rattle.sqlite.specs.Schema.{Schema}
+use Rattle.sqlite.specs.State.{State, HasCleanDisk, Opens, IsLive}
+use Rattle.sqlite.specs.Tree.{Trees}
+use Rattle.sqlite_catalog.proofs.ReadLemmas.{lists_once}
+use Rattle.pid_moderation.specs.History.{History}
+use Rattle.pid_moderation.specs.Views.{Views}
+use Rattle.pid_rows.specs.Leaves.{as_found, AtRest, RestsOn, OnlyReads}
+use Rattle.pid_rows.specs.Schema.{no_schema, pid_schema}
+use Rattle.pid_rows.specs.Shows.{Shows}
+use Rattle.pid_tables.specs.Creation.{AreMade, IsBare, IsBlank}
+use Rattle.pid_tables.specs.ShowsOrBlank.{ShowsOrBlank}
+
+-- the trees list one schema, so the database that was found is the one that the connection has
+found_now : (s : State) (schema : Schema) → Opens s → IsLive s → IsDatabase (record { schema = schema; trees = s.now.trees }) → s.now ≡ record { schema = schema; trees = s.now.trees }
+found_now s schema opens live sound = ap (λ x. record { schema = x; trees = s.now.trees }) (lists_once _ s.now.schema schema (live opens.is_open).0.lists sound.lists)
+
+-- while it is open, a crash leaves what is committed
+abbrev pub LeavesCommitted : State → Type 0
+LeavesCommitted s = (db : Trees) → IsTrue s.is_open → s.may_leave db → db ≡ s.committed.trees
+
+left_now : (s : State) → Opens s → LeavesCommitted s → (db : Trees) → s.may_leave db → db ≡ s.now.trees
+left_now s opens law db may = law db opens.is_open may ∙ ap (λ (d : Database). d.trees) (sym opens.clean)
+
+pub opened_shown : (s : State) (v : Views) → LeavesCommitted s → Opens s → IsLive s → Shows (as_found s.now.trees) v → AtRest s v
+opened_shown s v law opens live shows = record {
+  settled = opens.autocommit;
+  same = λ opened. opens.clean;
+  shows = λ opened. subst (λ d. Shows d v) (sym (found_now s pid_schema opens live shows.sound)) shows;
+  leaves = record { each = λ clean db may. subst (λ t. Shows (as_found t) v) (sym (left_now s opens law db may)) shows };
+}
+
+pub opened_bare : (s : State) → LeavesCommitted s → Opens s → IsLive s → IsBare s.now.trees → IsBlank s
+opened_bare s law opens live bare = record {
+  settled = opens.autocommit;
+  same = λ opened. opens.clean;
+  empty = λ opened. subst (AreMade []) (sym (found_now s no_schema opens live bare)) (record { schema = refl; sound = bare; empty = tt });
+  leaves = λ clean db may. subst IsBare (sym (left_now s opens law db may)) bare;
+}
+
+still_blank : (old new : State) → OnlyReads old new → IsBlank old → IsBlank new
+still_blank old new reads blank =
+    let now = reads.same old.now (record { sees = λ opened. refl; committed = λ opened. sym (blank.same opened) }) in
+    record {
+      settled = reads.settled;
+      same = λ opened. now.sees opened ∙ sym (now.committed opened);
+      empty = λ opened. subst (AreMade []) (sym (now.sees opened)) (blank.empty (reads.was_open opened));
+      leaves = λ clean db may. elim (reads.survives.crash clean db may) [ inl before ↦ blank.leaves (reads.clean clean) db before | inr none ↦ absurd none ];
+    }
+
+pub still_shown : (old new : State) (h : History) → OnlyReads old new → ShowsOrBlank old h → ShowsOrBlank new h
+still_shown old new h reads (inl rest) = inl (reads.kept _ rest)
+still_shown old new h reads (inr blank) = inr (still_blank old new reads blank.0, blank.1)

@@ -1,0 +1,17 @@
+use Rattle.std.proofs.Common.{◌≡◌, codes, IfOk, ap, subst, ◌∙◌}
+use Rattle.sqlite.specs.Effect.{Database}
+use Rattle.sqlite.specs.Held.{state}
+use Rattle.pid_rows.specs.LabelRows.{HasLabel}
+use Rattle.pid_table_check.proofs.Complete.{complete, each_some}
+use Rattle.pid_tables.proofs.tables.Tables.version.Goals as goal
+
+pub returns-then-branch-clause-labelled : goal.returns-then-branch-clause-labelled
+returns-then-branch-clause-labelled g c clean has =
+    let same = c.in_ok-has_some_table.ensures.same (c.schema_number.ensures.reads.rests.clean clean) in
+    subst (λ (d : Database). IfOk c.schema_number.result (HasLabel d.trees (codes "schema"))) same (c.schema_number.ensures.labelled clean (ap (λ (d : Database). d.schema) same ∙ has))
+
+pub returns-else-branch-clause-labelled : goal.returns-else-branch-clause-labelled
+returns-else-branch-clause-labelled g c clean has =
+    let some = (c.in_ok-has_some_table.ensures.asked clean).1 (each_some _ (complete _ has)) in
+    let off = c.if-branch.false in
+    absurd cc
