@@ -1,5 +1,5 @@
--- What reads leave of a reader is the same however they are counted: none leave it, and some and then others are some.
--- Proofs alone, which the readers of this crate give for `stays` and `joins` of `Input`.
+-- Proofs alone, no definitions: the laws that the readers of this crate give for `stays` and `joins` of `Input`.
+-- No reads leave a reader as it is, and some reads and then others are reads.
 use Rattle.std.proofs.Common.{◌≡◌, ℕ, ◌≤◌, List, [], ◌++◌, Option, Some, None, refl, sym, ap, ◌∙◌, append_assoc, arith}
 use Rattle.std.specs.Io.KnownBytes.{Consumes}
 use Rattle.pid_ident.specs.Reading.{HasUsed, StaysKept, HasReadOn, HasNoMore}

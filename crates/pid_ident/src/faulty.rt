@@ -1,5 +1,6 @@
 //! A reader and a writer over memory that fail where a test wants it.
-ghost use Rattle.std.specs.Prelude.{◌≡◌, ◌↔◌, ℕ, ◌+◌, ◌-◌, ◌^◌, ◌<◌, ◌≤◌, [], None, Some, Err, true, false, IsTrue, IfOk, IfErr, IfSome, MatchResult, is_err, length, min, max};
+ghost use Rattle.std.specs.Prelude.{◌≡◌, ◌↔◌, ℕ, ◌+◌, ◌-◌, ◌^◌, ◌<◌, ◌≤◌, min, max, length, [], true, false, IsTrue};
+ghost use Rattle.std.specs.Prelude.{None, Some, Err, IfOk, IfErr, IfSome, MatchResult, is_err};
 ghost use Rattle.std.specs.Io.KnownBytes.{ReadConsumes, WriteAppends};
 ghost use Rattle.pid_ident.specs.Doubles.{calls_left, fails, one_less};
 ghost use Rattle.pid_ident.specs.Reading.{HasReadOn, HasNoMore};
@@ -77,7 +78,9 @@ impl Input for FaultyInput<'_> {
         ensures fault { MatchResult result (λ _. self.new.fault ≡ None) (λ f. self.new.fault ≡ Some f) }
         ensures kept { IfSome self.old.fault (λ f. result ≡ Err f) }
         ensures count { self.new.reads ≡ min (self.old.reads + 1) (2 ^ 64 - 1) }
-        ensures goes { HasReadOn (Some self.old.rest.now) (Some self.new.rest.now) self.old.fault self.new.fault self.old.reads self.new.reads × (self.new.most ≡ self.old.most) × HasNoMore self.old.good_calls self.new.good_calls }
+        ensures goes { HasReadOn (Some self.old.rest.now) (Some self.new.rest.now) self.old.fault self.new.fault self.old.reads self.new.reads
+            × (self.new.most ≡ self.old.most)
+            × HasNoMore self.old.good_calls self.new.good_calls }
         ensures fails { is_err result ≡ fails self.old.fault self.old.good_calls }
         ensures calls { self.new.good_calls ≡ calls_left self.old.fault self.old.good_calls }
         ensures moved { IfOk result (λ n. n ≡ min self.old.most (min (length buffer.new) (length self.old.rest.now))) }

@@ -35,9 +35,11 @@ pub trait Input {
     /// How many reads were made, up to the greatest count.
     ghost reads: { Self → ℕ };
 
-    /// What calls of `read` may leave of a reader, however many: the reader before, and the reader after. A function
-    /// that is lent any reader ensures it; a caller who lent one that it knows, such as one over another reader, reads
-    /// off it what it has back.
+    /// What calls of `read`, however many, may make of a reader: the reader before them, and the reader after.
+    ///
+    /// Each function that is given `&mut I` for any reader `I` ensures `I.goes` of what it was given and what it
+    /// leaves. So a caller who lends a reader of a kind that it knows learns what it has back: one that gives at most
+    /// some bytes of another reader, for instance, is still over that other one, and used no more of it than it may.
     ghost goes: { Self → Self → Type 0 };
 
     /// Reads some bytes. None into a buffer with room is the end.

@@ -10,4 +10,6 @@ use Rattle.pid_ident.specs.Trees.{TreeMap}
 
 -- the tree holds no child of the path that lies between these two paths, both included
 abbrev pub HasNoneBetween : TreeMap → Path → Path → Path → Type 0
-HasNoneBetween t path least greatest = (child : Path) → IsPath child → parent_of child ≡ Some path → IsInRange path_cmp (Included least) (Included greatest) child → IsNone (get t (path_text child))
+HasNoneBetween t path least greatest =
+    (child : Path) → IsPath child → parent_of child ≡ Some path
+    → IsInRange path_cmp (Included least) (Included greatest) child → IsNone (get t (path_text child))
