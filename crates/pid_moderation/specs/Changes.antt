@@ -29,8 +29,10 @@ write (Some w) items = edited (path_text w.path) w.edit items
 abbrev pub affected : Effect → Views → Views
 affected Nothing v = v
 affected (Ranked who rank is_new) v = record v { rank = λ a. if bytes_eq a who then Some rank else v.rank a }
-affected (Submitted number author path proposal note) v = record v { submits = v.submits ++ record { author = author; path = path; proposal = proposal; note = note } ∷ [] }
-affected (Remarked number place author text) v = record v { remarks = λ n. if n == number then v.remarks n ++ record { author = author; text = text } ∷ [] else v.remarks n }
+affected (Submitted number author path proposal note) v =
+    record v { submits = v.submits ++ record { author = author; path = path; proposal = proposal; note = note } ∷ [] }
+affected (Remarked number place author text) v =
+    record v { remarks = λ n. if n == number then v.remarks n ++ record { author = author; text = text } ∷ [] else v.remarks n }
 affected (Decided number state w) v = record v { state = λ n. if n == number then state else v.state n; items = write w v.items }
 affected (Imported items) v = v
 

@@ -1,5 +1,6 @@
 -- The checks of each command with the refusal that each means, in order: choices of this project.
-use Rattle.std.specs.Prelude.{◌≡◌, ℕ, ◌+◌, Bool, length, true, false, not, ◌&&◌, nat_lt, nat_le, List, [], ◌∷◌, ◌++◌, find, Option, Some, None, is_none}
+use Rattle.std.specs.Prelude.{◌≡◌, ℕ, ◌+◌, Bool, length, true, false, not, ◌&&◌, nat_lt, nat_le, List, [], ◌∷◌, ◌++◌, find, Option, Some, None}
+use Rattle.std.specs.Prelude.{is_none}
 use Rattle.std.specs.Option.{option_map}
 use Rattle.std.specs.Str.{bytes_eq}
 use Rattle.pid_ident.specs.Bytes.{is_empty}
@@ -16,7 +17,8 @@ use Rattle.pid_moderation.specs.declared.facts.Verdict.TheVariants as verdicts
 use Rattle.pid_moderation.specs.declared.rank.Rank.{Rank}
 use Rattle.pid_moderation.specs.declared.rank.Rank.TheVariants.{Senior, Administrator}
 use Rattle.pid_moderation.specs.declared.refusal.Refusal.{Refusal}
-use Rattle.pid_moderation.specs.declared.refusal.Refusal.TheVariants.{BadText, NoAccount, RankTooLow, NoSubmission, NotPending, NotAuthor, OwnDecision, ParentMissing, HasChildren, NothingToDo, FileFault, Full}
+use Rattle.pid_moderation.specs.declared.refusal.Refusal.TheVariants.{BadText, NoAccount, RankTooLow, NoSubmission, NotPending, NotAuthor}
+use Rattle.pid_moderation.specs.declared.refusal.Refusal.TheVariants.{OwnDecision, ParentMissing, HasChildren, NothingToDo, FileFault, Full}
 use Rattle.pid_moderation.specs.declared.command.Act.{Act}
 use Rattle.pid_moderation.specs.declared.command.Act.TheVariants as acts
 use Rattle.pid_moderation.specs.History.{Reading, TooLong, Deed, Ranks, Submits, Comments, Withdraws, Approves, Rejects, Imports, Asked}

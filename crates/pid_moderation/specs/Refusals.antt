@@ -1,7 +1,9 @@
 -- The number and the word of each refusal: choices of this project. The number 6 is not used.
 use Rattle.std.specs.Prelude.{ℕ, List, codes}
 use Rattle.pid_moderation.specs.declared.refusal.Refusal.{Refusal}
-use Rattle.pid_moderation.specs.declared.refusal.Refusal.TheVariants.{BadPath, BadName, BadText, NoAccount, RankTooLow, NoSubmission, NotPending, NotAuthor, OwnDecision, ParentMissing, HasChildren, NothingToDo, FileFault, Full, Memory, Store, Failed}
+use Rattle.pid_moderation.specs.declared.refusal.Refusal.TheVariants.{BadPath, BadName, BadText, NoAccount, RankTooLow, NoSubmission, NotPending}
+use Rattle.pid_moderation.specs.declared.refusal.Refusal.TheVariants.{NotAuthor, OwnDecision, ParentMissing, HasChildren, NothingToDo, FileFault}
+use Rattle.pid_moderation.specs.declared.refusal.Refusal.TheVariants.{Full, Memory, Store, Failed}
 
 abbrev pub refusal_number : Refusal → ℕ
 refusal_number BadPath = 1

@@ -1,7 +1,9 @@
 //! The tests that commands are checked by.
 ghost use Rattle.std.specs.Prelude.{◌≡◌, true, find, is_none};
 ghost use Rattle.pid_ident.specs.Bytes.{is_empty as no_bytes};
-ghost use Rattle.pid_moderation.specs.CheckTables.{first_failing as first_that_fails, is_pending as stands_pending, is_removal as removal, is_so as so_already, lacks_parent as parent_lacking, leaves_children as children_left, overflows as one_too_many, is_ill_formed as ill_formed, is_broken as broken_act, TellsLength};
+ghost use Rattle.pid_moderation.specs.CheckTables.{first_failing as first_that_fails, is_pending as stands_pending, is_removal as removal};
+ghost use Rattle.pid_moderation.specs.CheckTables.{is_so as so_already, lacks_parent as parent_lacking, leaves_children as children_left};
+ghost use Rattle.pid_moderation.specs.CheckTables.{overflows as one_too_many, is_ill_formed as ill_formed, is_broken as broken_act, TellsLength};
 ghost use Rattle.pid_moderation.specs.Ranks.{has_rank as rank_reaches, is_rank as rank_equals};
 ghost use Rattle.pid_moderation.specs.History.{Reading, asked, deed_of};
 ghost use Rattle.pid_moderation.specs.Judgement.{judge, Refused};

@@ -1,5 +1,6 @@
 //! The values of a command's fields.
-ghost use Rattle.std.specs.Prelude.{◌≡◌, ◌≢◌, true, false, codes, find, count_by, string_bytes, slice_index, ◌==◌, nat_le, length, Option, Some, None, IfOk, IfErr};
+ghost use Rattle.std.specs.Prelude.{◌≡◌, ◌≢◌, true, false, codes, find, count_by, string_bytes, slice_index, ◌==◌, nat_le, length, Option, Some};
+ghost use Rattle.std.specs.Prelude.{None, IfOk, IfErr};
 ghost use Rattle.std.specs.Option.{option_copied};
 ghost use Rattle.std.specs.Str.{bytes_eq};
 ghost use Rattle.std.specs.List.{list_all};
@@ -7,7 +8,8 @@ ghost use Rattle.std.specs.Char.{is_ascii_digit as is_digit};
 ghost use Rattle.pid_ident.specs.Words.{is_account as account_test, is_name as name_test, is_text as text_test, is_key as key_test};
 ghost use Rattle.pid_ident.specs.Bytes.{is_empty as no_bytes};
 ghost use Rattle.pid_moderation.specs.Fields.{texts_of, times as times_in, is_once as once_in, value as value_in, text_at as text_in};
-ghost use Rattle.pid_moderation.specs.Forms.{rank_in, number_in, is_plain_number as plain_number, is_one_of as one_of_in, is_remark as remark_test, is_none_or};
+ghost use Rattle.pid_moderation.specs.Forms.{rank_in, number_in, is_plain_number as plain_number, is_one_of as one_of_in, is_remark as remark_test};
+ghost use Rattle.pid_moderation.specs.Forms.{is_none_or};
 ghost use Rattle.pid_moderation.specs.CheckTables.{most_file_bytes as file_bytes};
 
 use crate::checks::{FILE_BYTES, SUBMISSIONS, is_empty_text};

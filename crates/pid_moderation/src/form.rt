@@ -4,7 +4,8 @@ ghost use Rattle.pid_ident.specs.Words.{is_name as name_test};
 ghost use Rattle.std.specs.Str.{bytes_eq};
 ghost use Rattle.std.specs.Option.{option_copied};
 ghost use Rattle.pid_moderation.specs.Fields.{texts_of, value as value_in, text_at as text_in};
-ghost use Rattle.pid_moderation.specs.Forms.{has_fields as fields_there, value_checks, act_said, form_checks, command_said, proposal_in, is_none_or, number_in, Says};
+ghost use Rattle.pid_moderation.specs.Forms.{has_fields as fields_there, value_checks, act_said, form_checks, command_said, proposal_in, is_none_or};
+ghost use Rattle.pid_moderation.specs.Forms.{number_in, Says};
 
 use crate::command::{Act, Command, Proposal};
 use crate::fields::{

@@ -36,7 +36,7 @@ entry_of e = record { asked = asked e.command (reading_of e.file); reply = e.rep
 abbrev pub history_of : List Accepted → History
 history_of accepted = reverse (map entry_of accepted)
 
--- a submission as it was made
+-- a submission as it was made; it serves private functions alone
 abbrev pub lent : Submission → Submitted
 lent s = record { author = s.author.now; path = s.path; proposal = s.proposal.now; note = s.note.now }
 

@@ -81,9 +81,7 @@ fn kept_after(
         result ≡ receipted account.now key.now e.asked.account e.asked.key e.reply before }
 {
     match &entry.command.key {
-        Some(used) if *account == entry.command.account && key == used => {
-            Some(entry.reply)
-        }
+        Some(used) if *account == entry.command.account && key == used => { Some(entry.reply) }
         _ => before,
     }
 }

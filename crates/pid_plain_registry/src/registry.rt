@@ -153,7 +153,8 @@ impl PlainRegistry {
 
     // The facts with what the file of an import comes to.
     fn look_at_file(&self, act: &Act, file: &FileReading, known: Facts) -> Result<Facts, AllocError>
-        ensures { IfOk result (λ facts. facts ≡ with_file (items_of (shown self.now)) (deed_of act.now (reading_of file.now)) known) }
+        ensures { IfOk result (λ facts. facts ≡
+            with_file (items_of (shown self.now)) (deed_of act.now (reading_of file.now)) known) }
     {
         let mut facts = known;
         if let Act::Import { .. } = act {
@@ -174,7 +175,8 @@ impl PlainRegistry {
     // What a command is answered.
     fn answer(&self, command: &Command, file: &FileReading) -> Result<Answer, Refusal>
         ensures reply { IfOk result (λ a. answer (judge (views self.now) (asks command.now file.now)) ≡ Ok a.reply) }
-        ensures refusal { IfErr result (λ e. e ≢ Refusal.Memory → answer (judge (views self.now) (asks command.now file.now)) ≡ Err e) }
+        ensures refusal { IfErr result (λ e. e ≢ Refusal.Memory →
+            answer (judge (views self.now) (asks command.now file.now)) ≡ Err e) }
         ensures kept { IfOk result (λ a. a.is_kept ≡ is_some (facts_of (views self.now) (asks command.now file.now)).kept) }
     {
         match self.facts(command, file) {
@@ -189,7 +191,8 @@ impl PlainRegistry {
         // The reply is that of the judgement over the history.
         ensures reply { IfOk result (λ reply. answer (judge (views self.old) (asks command file)) ≡ Ok reply) }
         // So is the refusal, unless memory is short.
-        ensures refusal { IfErr result (λ e. e ≢ Refusal.Memory → answer (judge (views self.old) (asks command file)) ≡ Err e) }
+        ensures refusal { IfErr result (λ e. e ≢ Refusal.Memory →
+            answer (judge (views self.old) (asks command file)) ≡ Err e) }
         // Afterwards the history is the one after the command.
         ensures history { OnOk result (shown self.new ≡ after (shown self.old) (asks command file)) }
         ensures unchanged { OnErr result (shown self.new ≡ shown self.old) }
@@ -208,7 +211,8 @@ impl PlainRegistry {
     fn add(&mut self, command: Command, file: FileReading, reply: Reply) -> Result<Reply, Refusal>
         ensures ok { IfOk result (λ r. r ≡ reply) }
         ensures err { IfErr result (λ e. e ≡ Refusal.Memory) }
-        ensures added { OnOk result (shown self.new ≡ entry_of (record { command = command; file = file; reply = reply }) ∷ shown self.old) }
+        ensures added { OnOk result (shown self.new ≡
+            entry_of (record { command = command; file = file; reply = reply }) ∷ shown self.old) }
         ensures unchanged { OnErr result (shown self.new ≡ shown self.old) }
     {
         let accepted = Accepted {
@@ -231,8 +235,10 @@ fn is_there(reply: Option<Reply>) -> bool
 
 // The answer by the facts.
 fn answer_by(facts: &Facts, command: &Command) -> Result<Answer, Refusal>
-    ensures reply { (v : Views) (reading : Reading) → facts.now ≡ facts_of v (asked command.now reading) → IfOk result (λ a. answer (judge v (asked command.now reading)) ≡ Ok a.reply) }
-    ensures refusal { (v : Views) (reading : Reading) → facts.now ≡ facts_of v (asked command.now reading) → IfErr result (λ e. e ≢ Refusal.Memory → answer (judge v (asked command.now reading)) ≡ Err e) }
+    ensures reply { (v : Views) (reading : Reading) → facts.now ≡ facts_of v (asked command.now reading) →
+        IfOk result (λ a. answer (judge v (asked command.now reading)) ≡ Ok a.reply) }
+    ensures refusal { (v : Views) (reading : Reading) → facts.now ≡ facts_of v (asked command.now reading) →
+        IfErr result (λ e. e ≢ Refusal.Memory → answer (judge v (asked command.now reading)) ≡ Err e) }
     ensures kept { IfOk result (λ a. a.is_kept ≡ is_some facts.now.kept) }
 {
     match decide(facts, command) {
