@@ -12,6 +12,7 @@ use pid_ident::{Input, Output};
 use pid_reader::Feeder;
 use pid_tree::{Tree, write_canonical};
 use std::alloc::Global;
+use std::mem;
 
 /// Writes the canonical text of what the input gives, or the line of its fault to `faults`.
 ///
@@ -50,10 +51,15 @@ fn print_read<O: Output, F: Output>(
     ensures nothing_printed { PrintsNothing result (O.taken output.old) (O.taken output.new) }
 {
     match read {
-        Ok(tree) => match write_canonical(&tree, output) {
-            Ok(()) => TextEnd::Done,
-            Err(_) => TextEnd::WriteFault,
-        },
+        Ok(tree) => {
+            let printed = write_canonical(&tree, output);
+            // The process ends behind this: the tree need not be taken apart.
+            mem::forget(tree);
+            match printed {
+                Ok(()) => TextEnd::Done,
+                Err(_) => TextEnd::WriteFault,
+            }
+        }
         Err(end) => tell_unread(end, faults),
     }
 }
