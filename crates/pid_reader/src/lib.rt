@@ -15,8 +15,6 @@ mod progress;
 mod refusal;
 mod seen;
 mod sink;
-#[cfg(test)]
-mod tests;
 mod tree_sink;
 
 pub use counter::{Counter, Never};

@@ -8,4 +8,6 @@ mod identifiers;
 #[cfg(test)]
 mod look_ups;
 #[cfg(test)]
+mod reading;
+#[cfg(test)]
 mod trees;

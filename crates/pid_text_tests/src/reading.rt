@@ -1,9 +1,9 @@
 //! Worked rows, through each of the readers.
 
-use crate::{
+use pid_ident::{LineKind, Path};
+use pid_reader::{
     Counter, CutEnd, Cutter, EntryCounter, Feeder, LineFault, Lines, Never, ReadRefusal, read_ids,
 };
-use pid_ident::{LineKind, Path};
 use std::alloc::{AllocError, Global};
 use std::test::Fail;
 
