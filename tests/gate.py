@@ -124,7 +124,7 @@ class Told:
         if ended:
             crate, tests, how = ended.groups()
             used = self.meter.minutes(crate, "tests" if tests else "proof")
-            if how != "proved":
+            if how != "proved" and self.section:
                 print(*[it for it in self.section if not it.endswith(": proved")], sep="\n")
             self.clock.say(f"{crate}{tests or ''} {how}, {used:.1f} processor minutes")
             self.section = []
