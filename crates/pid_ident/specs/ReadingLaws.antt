@@ -1,7 +1,6 @@
 -- Proofs alone, no definitions: the laws that the readers of this crate give for `stays` and `joins` of `Input`.
 -- No reads leave a reader as it is, and some reads and then others are reads.
-use Rattle.std.proofs.Common.{◌≡◌, ℕ, ◌≤◌, List, [], ◌++◌, Option, Some, None, refl, sym, ap, ◌∙◌, append_assoc, arith}
-use Rattle.std.specs.Io.KnownBytes.{Consumes}
+use Rattle.std.proofs.Common.{ℕ, List, [], ◌++◌, Option, Some, None, refl, sym, ap, ◌∙◌, append_assoc, arith}
 use Rattle.pid_ident.specs.Reading.{HasUsed, StaysKept, HasReadOn, HasNoMore}
 
 used_none : (a : Option (List ℕ)) → HasUsed a a
