@@ -226,11 +226,20 @@ fn refused_ever_after(rt: HostRuntime) {
 fn a_refusal_says_its_line_and_kind(rt: HostRuntime) -> Result<(), Fail> {
     let kind = LineKind::Duplicate;
     let refusal = ReadRefusal::Line { line: 2, kind };
-    assert_eq!(rt; format!(in rt.alloc(); "{refusal}")?, "line 2: 7 Duplicate");
+    assert_eq!(rt;
+        format!(in rt.alloc(); "{refusal}")?.as_str(),
+        "line 2: 7 Duplicate"
+    );
     let fault = LineFault { line: 2, kind };
-    assert_eq!(rt; format!(in rt.alloc(); "{fault}")?, "line 2: 7 Duplicate");
+    assert_eq!(rt;
+        format!(in rt.alloc(); "{fault}")?.as_str(),
+        "line 2: 7 Duplicate"
+    );
     let end: CutEnd<Never> = CutEnd::Refused(refusal);
-    assert_eq!(rt; format!(in rt.alloc(); "{end}")?, "line 2: 7 Duplicate");
+    assert_eq!(rt;
+        format!(in rt.alloc(); "{end}")?.as_str(),
+        "line 2: 7 Duplicate"
+    );
     Ok(())
 }
 
