@@ -1,8 +1,8 @@
 //! What `pciids tidy` does, in plain Rust with std alone and without proofs: the yardstick of bench/run. It keeps slices of
 //! the text in an ordered map, with one search an entry, and prints into one buffer.
 
-use std::collections::BTreeMap;
 use std::collections::btree_map::Entry;
+use std::collections::BTreeMap;
 use std::io::{self, Read, Write};
 use std::process::ExitCode;
 
@@ -119,14 +119,30 @@ fn entry<'a>(line: &'a [u8], open: &mut Open, items: &Items) -> Result<Option<(K
         },
         (_, Open::Skipped) => return Ok(None),
         (1, Open::Block { head, .. }) => {
-            let (number, rest) = if head.kind() == Key::CLASS { id::<2>(body)? } else { id::<4>(body)? };
+            let (number, rest) = if head.kind() == Key::CLASS {
+                id::<2>(body)?
+            } else {
+                id::<4>(body)?
+            };
             (head.below(number), rest)
         }
-        (2, Open::Block { head, middle: Some(middle) }) if head.kind() == Key::CLASS => {
+        (
+            2,
+            Open::Block {
+                head,
+                middle: Some(middle),
+            },
+        ) if head.kind() == Key::CLASS => {
             let (number, rest) = id::<2>(body)?;
             (middle.lowest(number as u32), rest)
         }
-        (2, Open::Block { head, middle: Some(middle) }) if head.kind() == Key::VENDOR => {
+        (
+            2,
+            Open::Block {
+                head,
+                middle: Some(middle),
+            },
+        ) if head.kind() == Key::VENDOR => {
             let (vendor, rest) = id::<4>(body)?;
             let (device, rest) = id::<4>(rest)?;
             (middle.lowest((vendor as u32) << 16 | device as u32), rest)
@@ -138,7 +154,12 @@ fn entry<'a>(line: &'a [u8], open: &mut Open, items: &Items) -> Result<Option<(K
     let name = name(rest)?;
     match open {
         Open::Block { middle, .. } if depth == 1 => *middle = Some(key),
-        _ if depth == 0 => *open = Open::Block { head: key, middle: None },
+        _ if depth == 0 => {
+            *open = Open::Block {
+                head: key,
+                middle: None,
+            }
+        }
         _ => {}
     }
     Ok(Some((key, name)))
@@ -146,7 +167,10 @@ fn entry<'a>(line: &'a [u8], open: &mut Open, items: &Items) -> Result<Option<(K
 
 /// The block that a line of depth 0 opens, and what stands behind the number where the line is an entry.
 fn top<'a>(body: &'a [u8], items: &Items) -> Result<(Open, Option<&'a [u8]>), &'static str> {
-    let block = |kind, number| Open::Block { head: Key::top(kind, number), middle: None };
+    let block = |kind, number| Open::Block {
+        head: Key::top(kind, number),
+        middle: None,
+    };
     match body {
         [b'C', b' ', body @ ..] => {
             let (class, rest) = id::<2>(body)?;
@@ -200,7 +224,8 @@ fn read(text: &[u8]) -> Result<Items<'_>, String> {
 }
 
 fn push_hex<const WIDTH: usize>(out: &mut Vec<u8>, number: u32) {
-    let digits: [u8; WIDTH] = std::array::from_fn(|at| b"0123456789abcdef"[(number >> (4 * (WIDTH - 1 - at)) & 15) as usize]);
+    let digits: [u8; WIDTH] =
+        std::array::from_fn(|at| b"0123456789abcdef"[(number >> (4 * (WIDTH - 1 - at)) & 15) as usize]);
     out.extend_from_slice(&digits);
 }
 
@@ -250,7 +275,12 @@ fn print(items: &Items, size: usize) -> Vec<u8> {
 
 fn main() -> ExitCode {
     let mut text = Vec::new();
-    if io::stdin().lock().take(MOST_BYTES as u64 + 1).read_to_end(&mut text).is_err() {
+    if io::stdin()
+        .lock()
+        .take(MOST_BYTES as u64 + 1)
+        .read_to_end(&mut text)
+        .is_err()
+    {
         eprintln!("file: failed");
         return ExitCode::from(3);
     }

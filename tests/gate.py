@@ -12,6 +12,7 @@ import time
 TOP = os.path.dirname(os.path.dirname(os.path.abspath(__file__)))
 TICKS = os.sysconf("SC_CLK_TCK")
 PARTS = ("proof", "tests", "edits")
+PIPED = {"stdin": subprocess.DEVNULL, "stdout": subprocess.PIPE, "stderr": subprocess.STDOUT, "errors": "replace"}
 
 USAGE = """usage: ./test [--edits]
 
@@ -152,7 +153,7 @@ def counted(line):
 def prove(folder, clock):
     """Runs `rt ci` in a folder: what passed and failed, the meter, and the processor minutes of the whole."""
     before, last = used_by_children(), ""
-    with subprocess.Popen(["rt", "ci"], cwd=folder, stdin=subprocess.DEVNULL, stdout=subprocess.PIPE, stderr=subprocess.STDOUT, errors="replace") as ran:
+    with subprocess.Popen(["rt", "ci"], cwd=folder, **PIPED) as ran:
         meter = Meter(ran.pid, clock)
         meter.start()
         told = Told(clock, meter)
@@ -171,7 +172,7 @@ def prove(folder, clock):
 def try_program(folder):
     """Runs tests/run in a folder: what passed and failed, and its processor minutes."""
     before, last = used_by_children(), ""
-    with subprocess.Popen([os.path.join(folder, "tests", "run")], stdin=subprocess.DEVNULL, stdout=subprocess.PIPE, stderr=subprocess.STDOUT, errors="replace") as ran:
+    with subprocess.Popen([os.path.join(folder, "tests", "run")], **PIPED) as ran:
         for line in ran.stdout:
             last = line.rstrip("\n")
             print(f"{'':9}{last}", flush=True)
@@ -193,9 +194,12 @@ def print_table(meter, whole, peers, clock):
 
 def copy_without_edits(to):
     """A copy of the repository that `rt ci` takes for one: it looks for a folder .git at the top."""
-    leave = {"crates": {"out", "must-fail", "edits-on-demand"}}
-    ignore = lambda folder, names: leave["crates"] & set(names) if os.path.dirname(folder) == os.path.join(TOP, "crates") else {".git"} & set(names)
-    shutil.copytree(TOP, to, symlinks=True, ignore=ignore)
+
+    def left_out(folder, names):
+        is_crate = os.path.dirname(folder) == os.path.join(TOP, "crates")
+        return {"out", "must-fail", "edits-on-demand"} & set(names) if is_crate else {".git"} & set(names)
+
+    shutil.copytree(TOP, to, symlinks=True, ignore=left_out)
     os.mkdir(os.path.join(to, ".git"))
 
 

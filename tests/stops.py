@@ -43,7 +43,7 @@ def run_refusing(shim, at, path):
 
 
 def refuse_in_turn(cases, shim, name, step):
-    """Refuses every call of a run that is one more than a multiple of the step, each in a new file, and answers how many there were."""
+    """Refuses the first call of a run and every step-th behind it, each in a new file, and answers how many there were."""
     refusals = 0
     for at in range(1, 100_000, step):
         with tempfile.TemporaryDirectory(dir=ROOM) as folder:
