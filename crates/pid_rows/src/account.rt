@@ -52,7 +52,8 @@ pub fn change_rank<S: Alter>(
 
 fn rank_rows<S: Alter>(conn: &mut Connection<S>, name: &str) -> Result<Vec<Row>, TableFault>
     requires { conn.old.in_transaction ≡ false }
-    ensures { Reads S.Store conn.old conn.new result (λ v rows. slice_get rows.items 0 ≡ option_map rank_row (v.rank name.now)) }
+    ensures { Reads S.Store conn.old conn.new result
+        (λ v rows. slice_get rows.items 0 ≡ option_map rank_row (v.rank name.now)) }
 {
     let name = name.to_sql();
     read_rows(conn, "SELECT rank FROM account WHERE name = ?1", &[name])

@@ -72,7 +72,8 @@ pub fn remove_item<S: Alter>(tx: &mut Transaction<'_, S>, path: &str) -> Result<
 
 fn name_rows<S: Alter>(conn: &mut Connection<S>, path: &str) -> Result<Vec<Row>, TableFault>
     requires { conn.old.in_transaction ≡ false }
-    ensures { Reads S.Store conn.old conn.new result (λ v rows. slice_get rows.items 0 ≡ option_map name_row (item_at path.now v.items)) }
+    ensures { Reads S.Store conn.old conn.new result
+        (λ v rows. slice_get rows.items 0 ≡ option_map name_row (item_at path.now v.items)) }
 {
     let path = path.to_sql();
     read_rows(conn, "SELECT name FROM item WHERE path = ?1", &[path])
@@ -119,7 +120,8 @@ fn any_between<S: Alter>(
     high: &[u8],
 ) -> Result<bool, TableFault>
     requires { conn.old.in_transaction ≡ false }
-    ensures { Reads S.Store conn.old conn.new result (λ v some. AreViews v × (some ≡ holds_between low.now high.now v.items)) }
+    ensures { Reads S.Store conn.old conn.new result
+        (λ v some. AreViews v × (some ≡ holds_between low.now high.now v.items)) }
 {
     let rows = range_rows(conn, low, high)?;
     match rows.first() {
@@ -146,7 +148,8 @@ fn any_below<S: Alter>(
     rest: &[u8],
 ) -> Result<bool, TableFault>
     requires { conn.old.in_transaction ≡ false }
-    ensures { Reads S.Store conn.old conn.new result (λ v some. AreViews v × (some ≡ holds_between ((front.now ++ rest.now) ++ 47 ∷ []) ((front.now ++ rest.now) ++ 48 ∷ []) v.items)) }
+    ensures { Reads S.Store conn.old conn.new result
+        (λ v some. AreViews v × (some ≡ holds_between ((front.now ++ rest.now) ++ 47 ∷ []) ((front.now ++ rest.now) ++ 48 ∷ []) v.items)) }
 {
     let low = edge(alloc, front, rest, b'/')?;
     let high = edge(alloc, front, rest, b'0')?;
@@ -180,7 +183,8 @@ pub fn has_children<S: Alter>(
     path: Path,
 ) -> Result<bool, TableFault>
     requires { conn.old.in_transaction ≡ false }
-    ensures { Reads S.Store conn.old conn.new result (λ v some. AllItems v.items → HoldsParents v.items → some ≡ are_children (path_text path) v.items) }
+    ensures { Reads S.Store conn.old conn.new result
+        (λ v some. AllItems v.items → HoldsParents v.items → some ≡ are_children (path_text path) v.items) }
 {
     let text = path.path_text(alloc)?;
     let below = any_below(conn, alloc, b"", text.as_bytes())?;

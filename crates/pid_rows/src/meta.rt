@@ -60,8 +60,10 @@ pub fn touch<S: Alter>(tx: &mut Transaction<'_, S>) -> Result<(), TableFault>
 
 fn value_rows<S: Alter>(conn: &mut Connection<S>, label: &str) -> Result<Vec<Row>, TableFault>
     requires { conn.old.in_transaction ≡ false }
-    ensures reads { Reads S.Store conn.old conn.new result (λ v rows. slice_get rows.items 0 ≡ option_map value_row (meta_of (counts_of v) label.now)) }
-    ensures valued { HasCleanDisk S.Store conn.new → (seen S.Store conn.old).schema ≡ pid_schema → IfOk result (λ rows. (x : Values) → Has rows.items x → IsValueOf (seen S.Store conn.old).trees label.now x) }
+    ensures reads { Reads S.Store conn.old conn.new result
+        (λ v rows. slice_get rows.items 0 ≡ option_map value_row (meta_of (counts_of v) label.now)) }
+    ensures valued { HasCleanDisk S.Store conn.new → (seen S.Store conn.old).schema ≡ pid_schema
+        → IfOk result (λ rows. (x : Values) → Has rows.items x → IsValueOf (seen S.Store conn.old).trees label.now x) }
 {
     let label = label.to_sql();
     read_rows(conn, "SELECT value FROM meta WHERE label = ?1", &[label])

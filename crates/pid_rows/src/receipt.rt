@@ -83,7 +83,8 @@ fn reply_rows<S: Alter>(
     key: &str,
 ) -> Result<Vec<Row>, TableFault>
     requires { conn.old.in_transaction ≡ false }
-    ensures { Reads S.Store conn.old conn.new result (λ v rows. slice_get rows.items 0 ≡ option_map reply_row (v.kept account.now key.now)) }
+    ensures { Reads S.Store conn.old conn.new result
+        (λ v rows. slice_get rows.items 0 ≡ option_map reply_row (v.kept account.now key.now)) }
 {
     let account = account.to_sql();
     let key = key.to_sql();

@@ -42,7 +42,8 @@ pub fn add_remark<S: Alter>(
 
 fn place_rows<S: Alter>(conn: &mut Connection<S>, number: u32) -> Result<Vec<Row>, TableFault>
     requires { conn.old.in_transaction ≡ false }
-    ensures { Reads S.Store conn.old conn.new result (λ v rows. ((rows.items ≡ []) × (length (v.remarks number) ≡ 0)) ⊎ (rows.items ≡ value_row (length (v.remarks number)) ∷ [])) }
+    ensures { Reads S.Store conn.old conn.new result
+        (λ v rows. ((rows.items ≡ []) × (length (v.remarks number) ≡ 0)) ⊎ (rows.items ≡ value_row (length (v.remarks number)) ∷ [])) }
 {
     let number = number.to_sql();
     read_rows(

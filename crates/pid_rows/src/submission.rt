@@ -205,7 +205,8 @@ pub fn submission_of(row: &Row, alloc: Global) -> Result<Submission, TableFault>
 
 fn submission_rows<S: Alter>(conn: &mut Connection<S>, number: u32) -> Result<Vec<Row>, TableFault>
     requires { conn.old.in_transaction ≡ false }
-    ensures { Reads S.Store conn.old conn.new result (λ v rows. (slice_get rows.items 0 ≡ option_map standing_row (standing_in v number)) × AreViews v) }
+    ensures { Reads S.Store conn.old conn.new result
+        (λ v rows. (slice_get rows.items 0 ≡ option_map standing_row (standing_in v number)) × AreViews v) }
 {
     let number = number.to_sql();
     read_rows(

@@ -33,7 +33,8 @@ fn range_rows<S: Alter>(
     high: &[u8],
 ) -> Result<Vec<Row>, TableFault>
     requires { conn.old.in_transaction ≡ false }
-    ensures { Reads S.Store conn.old conn.new result (λ v rows. AreViews v × (rows.items ≡ map item_shown (filter (λ e. is_between low.now high.now e.0) v.items))) }
+    ensures { Reads S.Store conn.old conn.new result
+        (λ v rows. AreViews v × (rows.items ≡ map item_shown (filter (λ e. is_between low.now high.now e.0) v.items))) }
 {
     let low = ValueRef::Text(low);
     let high = ValueRef::Text(high);
@@ -128,7 +129,8 @@ fn add_generics<S: Alter>(
     path: Path,
 ) -> Result<(), TableFault>
     requires { conn.old.in_transaction ≡ false }
-    ensures { Reads S.Store conn.old conn.new result (λ v _. map pair_of kept.new.items ≡ map pair_of kept.old.items ++ filter (λ e. stands_below (Some (path_text path)) e.0)
+    ensures { Reads S.Store conn.old conn.new result
+        (λ v _. map pair_of kept.new.items ≡ map pair_of kept.old.items ++ filter (λ e. stands_below (Some (path_text path)) e.0)
         (filter (λ e. is_between ((codes "PS/" ++ hex4_text vendor) ++ 47 ∷ []) ((codes "PS/" ++ hex4_text vendor) ++ 48 ∷ []) e.0) v.items)) }
 {
     let rows = generic_rows(conn, alloc, vendor)?;
@@ -143,7 +145,8 @@ fn add_behind<S: Alter>(
     path: Path,
 ) -> Result<(), TableFault>
     requires { conn.old.in_transaction ≡ false }
-    ensures { Reads S.Store conn.old conn.new result (λ v _. AreViews v × (map pair_of kept.new.items ≡ map pair_of kept.old.items ++ filter (λ e. stands_below (Some (path_text path)) e.0)
+    ensures { Reads S.Store conn.old conn.new result
+        (λ v _. AreViews v × (map pair_of kept.new.items ≡ map pair_of kept.old.items ++ filter (λ e. stands_below (Some (path_text path)) e.0)
         (filter (λ e. is_between (text.now ++ 47 ∷ []) (text.now ++ 48 ∷ []) e.0) v.items))) }
 {
     let rows = rows_behind(conn, alloc, b"", text.as_bytes())?;
@@ -156,7 +159,8 @@ fn below<S: Alter>(
     path: Path,
 ) -> Result<Vec<Item>, TableFault>
     requires { conn.old.in_transaction ≡ false }
-    ensures { Reads S.Store conn.old conn.new result (λ v items. AllItems v.items → map pair_of items.items ≡ children_of (Some (path_text path)) v.items) }
+    ensures { Reads S.Store conn.old conn.new result
+        (λ v items. AllItems v.items → map pair_of items.items ≡ children_of (Some (path_text path)) v.items) }
 {
     let text = path.path_text(alloc)?;
     let mut kept = Vec::new(alloc);
@@ -238,7 +242,8 @@ pub fn children<S: Alter>(
     above: Option<Path>,
 ) -> Result<Vec<Item>, TableFault>
     requires { conn.old.in_transaction ≡ false }
-    ensures { Reads S.Store conn.old conn.new result (λ v items. AllItems v.items → map pair_of items.items ≡ children_of (option_map path_text above) v.items) }
+    ensures { Reads S.Store conn.old conn.new result
+        (λ v items. AllItems v.items → map pair_of items.items ≡ children_of (option_map path_text above) v.items) }
 {
     match above {
         Some(path) => below(conn, alloc, path),

@@ -31,7 +31,8 @@ pub struct Pending {
 
 fn page_rows<S: Alter>(conn: &mut Connection<S>, after: u32) -> Result<Vec<Row>, TableFault>
     requires { conn.old.in_transaction ≡ false }
-    ensures { Reads S.Store conn.old conn.new result (λ v rows. AreViews v × AreIn v (pending_in PAGE after v) × (rows.items ≡ map pending_row (pending_in PAGE after v))) }
+    ensures { Reads S.Store conn.old conn.new result
+        (λ v rows. AreViews v × AreIn v (pending_in PAGE after v) × (rows.items ≡ map pending_row (pending_in PAGE after v))) }
 {
     let after = after.to_sql();
     read_rows(

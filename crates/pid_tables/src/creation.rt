@@ -8,9 +8,9 @@ ghost use Rattle.pid_rows.specs.Schema.{pid_schema};
 ghost use Rattle.pid_rows.specs.Faults.{IsUntold};
 ghost use Rattle.pid_rows.specs.PairRows.{Map};
 ghost use Rattle.pid_rows.specs.Shows.{Shows, meta_of};
-ghost use Rattle.pid_rows.specs.Clauses.{AtRest, GoesOn, HasCleanDisk, OnlyReads, is_open, seen};
 ghost use Rattle.pid_tables.specs.Creation.{AreMade, IsOfMaking};
 ghost use Rattle.pid_tables.specs.Making.{making, Creates, IsMakerOf, IsRefused, HasOnlyMeta, with_label};
+ghost use Rattle.pid_rows.specs.Clauses.{AtRest, GoesOn, HasCleanDisk, OnlyReads, is_open, seen};
 ghost use Rattle.pid_tables.specs.Clauses.{FindsTables, IsBlank, IsMet, IsMetFault, LeavesBareOrNew, Makes, Takes};
 
 use crate::batch::commit;

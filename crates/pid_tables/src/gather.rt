@@ -101,7 +101,8 @@ fn has_parent<S: Alter>(
     path: Path,
 ) -> Result<bool, TableFault>
     requires { conn.old.in_transaction ≡ false }
-    ensures { Reads S.Store conn.old conn.new result (λ v there. there ≡ holds_parent (parent_text (path_text path)) v.items) }
+    ensures { Reads S.Store conn.old conn.new result
+        (λ v there. there ≡ holds_parent (parent_text (path_text path)) v.items) }
 {
     match path.parent() {
         None => Ok(true),
@@ -118,8 +119,10 @@ fn kin<S: Alter>(
     path: Path,
 ) -> Result<(bool, bool), TableFault>
     requires { conn.old.in_transaction ≡ false }
-    ensures parent { Reads S.Store conn.old conn.new result (λ v kin. kin.0 ≡ holds_parent (parent_text (path_text path)) v.items) }
-    ensures children { Reads S.Store conn.old conn.new result (λ v kin. AllItems v.items → HoldsParents v.items → kin.1 ≡ are_children (path_text path) v.items) }
+    ensures parent { Reads S.Store conn.old conn.new result
+        (λ v kin. kin.0 ≡ holds_parent (parent_text (path_text path)) v.items) }
+    ensures children { Reads S.Store conn.old conn.new result
+        (λ v kin. AllItems v.items → HoldsParents v.items → kin.1 ≡ are_children (path_text path) v.items) }
 {
     let parent = has_parent(conn, alloc, path)?;
     let children = has_children(conn, alloc, path)?;
@@ -148,7 +151,8 @@ fn with_named<S: Alter>(
     mut facts: Facts,
 ) -> Result<Facts, TableFault>
     requires { conn.old.in_transaction ≡ false }
-    ensures { Reads S.Store conn.old conn.new result (λ v all. AllItems v.items → HoldsParents v.items → all ≡ facts_with v (Some named) facts) }
+    ensures { Reads S.Store conn.old conn.new result
+        (λ v all. AllItems v.items → HoldsParents v.items → all ≡ facts_with v (Some named) facts) }
 {
     let (items, name) = present(conn, alloc, named.path)?;
     let (parent, children) = kin(conn, alloc, named.path)?;
@@ -167,7 +171,8 @@ fn with_item<S: Alter>(
     facts: Facts,
 ) -> Result<Facts, TableFault>
     requires { conn.old.in_transaction ≡ false }
-    ensures { Reads S.Store conn.old conn.new result (λ v all. AllItems v.items → HoldsParents v.items → all ≡ facts_with v (named_in v number) facts) }
+    ensures { Reads S.Store conn.old conn.new result
+        (λ v all. AllItems v.items → HoldsParents v.items → all ≡ facts_with v (named_in v number) facts) }
 {
     match named(conn, alloc, number)? {
         None => Ok(facts),
@@ -184,7 +189,8 @@ pub(crate) fn gather_facts<S: Alter>(
     rows: Rows<'_>,
 ) -> Result<Facts, TableFault>
     requires { conn.old.in_transaction ≡ false }
-    ensures { Reads S.Store conn.old conn.new result (λ v facts. AllItems v.items → HoldsParents v.items → facts ≡ facts_at v account.now key.now (wanted_by rows.entry)) }
+    ensures { Reads S.Store conn.old conn.new result
+        (λ v facts. AllItems v.items → HoldsParents v.items → facts ≡ facts_at v account.now key.now (wanted_by rows.entry)) }
 {
     let mut facts = known(conn, account, key)?;
     match rows {

@@ -4,11 +4,11 @@ ghost use Rattle.pid_moderation.specs.Sound.{IsSound};
 ghost use Rattle.pid_moderation.specs.Views.{Views, views_of, items_of};
 ghost use Rattle.pid_moderation.specs.WellMade.{AllItems, HoldsParents};
 ghost use Rattle.pid_rows.specs.Causes.{IsReadable};
-ghost use Rattle.pid_rows.specs.Clauses.{AtRest, OnlyReads, seen};
 ghost use Rattle.pid_rows.specs.Leaves.{as_found};
 ghost use Rattle.pid_rows.specs.Shows.{AreViews, Shows};
-ghost use Rattle.pid_tables.specs.Clauses.{IsBlank, IsOpened, ShowsOrBlank};
 ghost use Rattle.pid_tables.specs.Creation.{IsBare};
+ghost use Rattle.pid_rows.specs.Clauses.{AtRest, OnlyReads, seen};
+ghost use Rattle.pid_tables.specs.Clauses.{IsBlank, IsOpened, ShowsOrBlank};
 
 use pid_moderation::{trees_are_files, trees_are_last_writes};
 use sqlite::{Alter, Connection};

@@ -62,7 +62,8 @@ impl<S: Alter + Drop> Tables<S> {
     /// The name of the item at a path.
     pub fn item(&mut self, alloc: Global, path: &Path) -> Result<Option<Name>, TableFault>
         requires { self.old.conn.in_transaction ≡ false }
-        ensures { Reads S.Store self.old.conn self.new.conn result (λ v name. name ≡ name_at (path_text path.now) v.items) }
+        ensures { Reads S.Store self.old.conn self.new.conn result
+            (λ v name. name ≡ name_at (path_text path.now) v.items) }
     {
         let path = path.path_text(alloc)?;
         item_name(&mut self.conn, alloc, path.as_str())
@@ -88,7 +89,8 @@ impl<S: Alter + Drop> Tables<S> {
     /// history are.
     pub fn children(&mut self, alloc: Global, above: Option<Path>) -> Result<Vec<Item>, TableFault>
         requires { self.old.conn.in_transaction ≡ false }
-        ensures { Reads S.Store self.old.conn self.new.conn result (λ v items. AllItems v.items → map pair_of items.items ≡ children_of (option_map path_text above) v.items) }
+        ensures { Reads S.Store self.old.conn self.new.conn result
+            (λ v items. AllItems v.items → map pair_of items.items ≡ children_of (option_map path_text above) v.items) }
     {
         children(&mut self.conn, alloc, above)
     }
@@ -100,7 +102,8 @@ impl<S: Alter + Drop> Tables<S> {
         number: u32,
     ) -> Result<Option<Discussion>, TableFault>
         requires { self.old.conn.in_transaction ≡ false }
-        ensures { Reads S.Store self.old.conn self.new.conn result (λ v d. option_map shown_of d ≡ discussion_in v number) }
+        ensures { Reads S.Store self.old.conn self.new.conn result
+            (λ v d. option_map shown_of d ≡ discussion_in v number) }
     {
         discussed(&mut self.conn, alloc, number)
     }
@@ -109,7 +112,8 @@ impl<S: Alter + Drop> Tables<S> {
     /// that was told, pages go through all that are pending.
     pub fn pending_page(&mut self, alloc: Global, after: u32) -> Result<Vec<Pending>, TableFault>
         requires { self.old.conn.in_transaction ≡ false }
-        ensures { Reads S.Store self.old.conn self.new.conn result (λ v page. map told_of page.items ≡ pending_in PAGE after v) }
+        ensures { Reads S.Store self.old.conn self.new.conn result
+            (λ v page. map told_of page.items ≡ pending_in PAGE after v) }
     {
         pending_page(&mut self.conn, alloc, after)
     }
@@ -134,7 +138,8 @@ impl<S: Alter + Drop> Tables<S> {
         rows: Rows<'_>,
     ) -> Result<Facts, TableFault>
         requires { self.old.conn.in_transaction ≡ false }
-        ensures { Reads S.Store self.old.conn self.new.conn result (λ v facts. AllItems v.items → HoldsParents v.items → facts ≡ facts_at v account.now key.now (wanted_by rows.entry)) }
+        ensures { Reads S.Store self.old.conn self.new.conn result
+            (λ v facts. AllItems v.items → HoldsParents v.items → facts ≡ facts_at v account.now key.now (wanted_by rows.entry)) }
     {
         gather_facts(&mut self.conn, alloc, account, key, rows)
     }
