@@ -1,7 +1,7 @@
 //! Databases made by statements of these tests, and what the check answers of them. What it means is in its contract: the
 //! tests show that it answers so where there is memory.
-use crate::check;
-use pid_rows::TableFault;
+use pid_table_check::check;
+use pid_tables::{TableFault, Tables, create};
 use sqlite::{Connection, MemStore};
 use std::alloc::Global;
 use std::test::Fail;
@@ -43,16 +43,33 @@ const DAMAGES: [&str; 14] = [
     "UPDATE receipt SET account = 'root'",
 ];
 
-fn made(alloc: Global, first: &str, then: &str) -> Result<Connection<MemStore>, TableFault> {
+// What stands beside the six tables, before and behind them: a table, an index, a view, and a table that was made first.
+const BESIDE: [(&str, &str); 4] = [
+    ("", "CREATE TABLE other (x INTEGER)"),
+    ("", "CREATE INDEX by_name ON item (name)"),
+    ("", "CREATE VIEW names AS SELECT name FROM item"),
+    ("CREATE TABLE other (x INTEGER)", ""),
+];
+
+// Each takes a name that the tables of a registry want.
+const TAKEN: [&str; 4] = [
+    "CREATE TABLE meta (x INTEGER)",
+    "CREATE TABLE receipt (x INTEGER)",
+    "CREATE VIEW item AS SELECT 1 AS x",
+    "CREATE TABLE other (x INTEGER); CREATE INDEX meta ON other (x)",
+];
+
+fn made(alloc: Global, texts: &[&str]) -> Result<Connection<MemStore>, TableFault> {
     let mut conn = Connection::open_in_memory(alloc)?;
-    conn.execute_batch(first)?;
-    conn.execute_batch(then)?;
+    for text in texts {
+        conn.execute_batch(text)?;
+    }
     Ok(conn)
 }
 
 // What the check tells of a database; or a fault that tells nothing of it, or came before the check.
-fn told(alloc: Global, first: &str, then: &str) -> Result<Option<TableFault>, TableFault> {
-    let mut conn = made(alloc, first, then)?;
+fn told(alloc: Global, texts: &[&str]) -> Result<Option<TableFault>, TableFault> {
+    let mut conn = made(alloc, texts)?;
     if !conn.is_autocommit() {
         return Err(TableFault::Store);
     }
@@ -64,6 +81,23 @@ fn told(alloc: Global, first: &str, then: &str) -> Result<Option<TableFault>, Ta
     }
 }
 
+// What creating answers in a database.
+fn creating(conn: &mut Connection<MemStore>) -> Result<(), TableFault> {
+    if !conn.is_autocommit() {
+        return Err(TableFault::Store);
+    }
+    create(conn)
+}
+
+// The number of the schema of what creating left.
+fn version_then(conn: Connection<MemStore>) -> Result<u32, TableFault> {
+    let mut tables = Tables::new(conn);
+    if !tables.conn.is_autocommit() {
+        return Err(TableFault::Store);
+    }
+    tables.version()
+}
+
 #[test]
 fn good_databases_pass(rt: HostRuntime) -> Result<(), Fail> {
     let alloc = rt.alloc();
@@ -73,8 +107,33 @@ fn good_databases_pass(rt: HostRuntime) -> Result<(), Fail> {
         (TABLES, ""),
         (TABLES, "DELETE FROM receipt; DELETE FROM remark"),
     ] {
-        let fault = told(alloc, first, then)?;
+        let fault = told(alloc, &[first, then])?;
         assert!(rt; fault.is_none(), "{then}");
+    }
+    Ok(())
+}
+
+#[test]
+fn what_stands_beside_is_borne(rt: HostRuntime) -> Result<(), Fail> {
+    let alloc = rt.alloc();
+    for (before, behind) in BESIDE {
+        let good = told(alloc, &[before, TABLES, behind])?;
+        assert!(rt; good.is_none(), "{before}{behind}");
+        let wrong = "UPDATE meta SET value = 3 WHERE label = 'items'";
+        let fault = told(alloc, &[before, TABLES, behind, wrong])?;
+        assert!(rt; fault == Some(TableFault::Damaged), "{before}{behind}");
+    }
+    Ok(())
+}
+
+#[test]
+fn a_name_that_is_taken_is_damage(rt: HostRuntime) -> Result<(), Fail> {
+    let alloc = rt.alloc();
+    for text in TAKEN {
+        let mut conn = made(alloc, &[text])?;
+        let answer = creating(&mut conn);
+        assert!(rt; answer == Err(TableFault::Damaged), "{text}");
+        assert!(rt; version_then(conn)? == 0, "{text}");
     }
     Ok(())
 }
@@ -83,7 +142,7 @@ fn good_databases_pass(rt: HostRuntime) -> Result<(), Fail> {
 fn damage_is_found(rt: HostRuntime) -> Result<(), Fail> {
     let alloc = rt.alloc();
     for then in DAMAGES {
-        let fault = told(alloc, TABLES, then)?;
+        let fault = told(alloc, &[TABLES, then])?;
         assert!(rt; fault == Some(TableFault::Damaged), "{then}");
     }
     Ok(())
@@ -97,7 +156,7 @@ fn later_schema_is_told_first(rt: HostRuntime) -> Result<(), Fail> {
         "UPDATE meta SET value = 2 WHERE label = 'schema'; DELETE FROM item",
         "UPDATE meta SET value = 2 WHERE label = 'schema'; DROP TABLE receipt",
     ] {
-        let fault = told(alloc, TABLES, then)?;
+        let fault = told(alloc, &[TABLES, then])?;
         assert!(rt; fault == Some(TableFault::NewerSchema(2)), "{then}");
     }
     Ok(())

@@ -1,18 +1,24 @@
 //! A registry written and read back. What each call means is in its contract: the tests show that the calls succeed where
 //! there is memory, and that the texts of rows are those of SQLite.
-use crate::{
-    EachEnd, Put, TableFault, Tables, apply, begin, commit, create, new_in_memory, put, roll_back,
-};
 use pid_ident::{Account, Key, Path};
 use pid_moderation::{
-    Change, Command, Rank, Reply, Verb, Verdict, command_of, decide, needs, reply_line,
+    Change, Command, Facts, Rank, Reply, Rows, Verb, command_of, decide, needs, reply_line,
 };
 use pid_reader::{Entry, Sink};
+use pid_tables::{EachEnd, Put, TableFault, Tables, apply, begin, commit, create, put, roll_back};
 use sqlite::{Connection, MemStore};
 use std::alloc::Global;
 use std::test::Fail;
 
-fn command(alloc: Global, key: Option<&str>, line: &str) -> Result<Command, TableFault> {
+// A new registry in memory.
+pub(crate) fn new_in_memory(alloc: Global) -> Result<Tables<MemStore>, TableFault> {
+    let mut conn = Connection::open_in_memory(alloc)?;
+    create(&mut conn)?;
+    Ok(Tables::new(conn))
+}
+
+// The command of a line such as `submit bob path=PC/8086 name=Intel`.
+pub(crate) fn command(alloc: Global, key: Option<&str>, line: &str) -> Result<Command, TableFault> {
     let mut words = line.split(' ');
     let verb = Verb::of_word(words.next().unwrap_or("")).ok_or(TableFault::Damaged)?;
     let account = words.next().unwrap_or("");
@@ -31,7 +37,7 @@ fn command(alloc: Global, key: Option<&str>, line: &str) -> Result<Command, Tabl
     command_of(alloc, verb, account, key, fields.as_slice()).map_err(|_| TableFault::Damaged)
 }
 
-fn carry_out(
+pub(crate) fn carry_out(
     tables: &mut Tables<MemStore>,
     alloc: Global,
     change: &Change,
@@ -55,7 +61,7 @@ fn obey(
         return Err(TableFault::Store);
     }
     let rows = needs(&command);
-    let facts = tables.gather(alloc, &command.account, &command.key, rows, Verdict::NoFile)?;
+    let facts = tables.gather(alloc, &command.account, &command.key, rows)?;
     let outcome = match decide(&facts, &command) {
         Ok((change, reply)) => {
             carry_out(tables, alloc, &change)?;
@@ -168,28 +174,26 @@ fn made_anew(alloc: Global) -> Result<(u32, u32), TableFault> {
     Ok((bare, judged(&mut tables, alloc)?))
 }
 
-// How many items and submissions there are, and remarks on the third of these.
-fn counts(tables: &mut Tables<MemStore>) -> Result<(u32, u32, u32), TableFault> {
-    if !tables.conn.is_autocommit() {
-        return Err(TableFault::Store);
-    }
-    let items = tables.items()?;
-    let submissions = tables.submissions()?;
-    Ok((items, submissions, tables.remarks(3)?))
-}
-
-// The rank of bob, and the reply that is kept for him.
-fn bob(
+// What a command of bob under his key is judged by.
+fn facts_of_bob(
     tables: &mut Tables<MemStore>,
     alloc: Global,
-) -> Result<(Option<Rank>, Option<Reply>), TableFault> {
+    rows: Rows<'_>,
+) -> Result<Facts, TableFault> {
     let bob = Account::of(alloc, "bob")?;
-    let key = Key::of(alloc, "k1")?;
+    let key = Some(Key::of(alloc, "k1")?);
     if !tables.conn.is_autocommit() {
         return Err(TableFault::Store);
     }
-    let rank = tables.rank(&bob)?;
-    Ok((rank, tables.kept(&bob, &key)?))
+    tables.gather(alloc, &bob, &key, rows)
+}
+
+// How many items there are.
+fn items(tables: &mut Tables<MemStore>) -> Result<u32, TableFault> {
+    if !tables.conn.is_autocommit() {
+        return Err(TableFault::Store);
+    }
+    tables.items()
 }
 
 #[test]
@@ -204,9 +208,13 @@ fn commands_are_carried_out(rt: HostRuntime) -> Result<(), Fail> {
     assert!(rt; puts == (Put::Renamed, Put::Same));
     let kept = name(&mut tables, alloc, "PC/8086")?;
     assert!(rt; kept.as_str() == "Intel");
-    assert!(rt; counts(&mut tables)? == (2, 4, 1));
-    let found = bob(&mut tables, alloc)?;
-    assert!(rt; matches!(found, (Some(Rank::Moderator), Some(Reply::Numbered(4)))));
+    assert!(rt; items(&mut tables)? == 2);
+    let facts = facts_of_bob(&mut tables, alloc, Rows::Submissions)?;
+    assert!(rt; facts.submissions == 4);
+    assert!(rt; matches!(facts.rank, Some(Rank::Moderator)));
+    assert!(rt; matches!(facts.kept, Some(Reply::Numbered(4))));
+    let third = facts_of_bob(&mut tables, alloc, Rows::Submission(3))?;
+    assert!(rt; third.named.is_some_and(|named| named.remarks == 1));
     assert!(rt; judged(&mut tables, alloc)? == 1);
     assert!(rt; made_anew(alloc)? == (0, 1));
     Ok(())
@@ -257,7 +265,12 @@ impl Sink for Writer {
     }
 }
 
-fn write_down(told: &mut String, alloc: Global, path: Path, name: &str) -> Result<(), TableFault> {
+pub(crate) fn write_down(
+    told: &mut String,
+    alloc: Global,
+    path: Path,
+    name: &str,
+) -> Result<(), TableFault> {
     told.push_str(path.path_text(alloc)?.as_str())?;
     told.push_str("=")?;
     told.push_str(name)?;
@@ -266,7 +279,7 @@ fn write_down(told: &mut String, alloc: Global, path: Path, name: &str) -> Resul
 }
 
 // What a sink that takes so many items was told, and where it refused, 0 for nowhere.
-fn walk(
+pub(crate) fn walk(
     tables: &mut Tables<MemStore>,
     alloc: Global,
     most: usize,
