@@ -1,6 +1,5 @@
 //! What is asked of a file again and again, for the benchmarks.
 ghost use Rattle.std.specs.Prelude.{◌≡◌, false, OnOk};
-ghost use Rattle.sqlite.specs.Held.{state};
 
 use crate::Fault;
 use pid_ident::Path;
@@ -45,8 +44,8 @@ pub(crate) fn repeat<S: Alter + Drop>(
     job: Job,
     times: u32,
 ) -> Result<(), Fault>
-    requires { (state S.Store tables.old.conn).in_transaction ≡ false }
-    ensures { OnOk result ((state S.Store tables.new.conn).in_transaction ≡ false) }
+    requires { tables.old.conn.in_transaction ≡ false }
+    ensures { OnOk result (tables.new.conn.in_transaction ≡ false) }
 {
     for turn in 0..times {
         ask(tables, alloc, job, (turn % 65536) as u16)?;
@@ -60,8 +59,8 @@ fn ask<S: Alter + Drop>(
     job: Job,
     vendor: u16,
 ) -> Result<(), Fault>
-    requires { (state S.Store tables.old.conn).in_transaction ≡ false }
-    ensures { OnOk result ((state S.Store tables.new.conn).in_transaction ≡ false) }
+    requires { tables.old.conn.in_transaction ≡ false }
+    ensures { OnOk result (tables.new.conn.in_transaction ≡ false) }
 {
     match job {
         Job::Nothing => Ok(()),

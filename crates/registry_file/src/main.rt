@@ -4,10 +4,9 @@
 #![tactic(auto)]
 
 ghost use Rattle.std.specs.Prelude.{◌≡◌, false, OnOk};
-ghost use Rattle.sqlite.specs.Held.{state};
 
 use pid_ident::{Account, Name, Path, Text, WordFault};
-use pid_moderation::{Act, Change, Command, Effect, Facts, Proposal, Rank, Verdict, decide, needs};
+use pid_moderation::{Act, Change, Command, Effect, Facts, Proposal, Rank, Reply, decide, needs};
 use pid_reader::Lines;
 use pid_tables::{Batch, Put, TableFault, Tables, apply, begin, commit, create, put, roll_back};
 use sqlite::{Alter, Connection};
@@ -134,7 +133,7 @@ fn work_on_tables<S: Alter + Drop>(
     alloc: Global,
     work: Work<'_>,
 ) -> Result<u32, Fault>
-    requires { (state S.Store tables.old.conn).in_transaction ≡ false }
+    requires { tables.old.conn.in_transaction ≡ false }
 {
     match work {
         Work::Make { text, commands } => fill(tables, alloc, text, commands)?,
@@ -149,8 +148,8 @@ fn fill<S: Alter + Drop>(
     text: &[u8],
     commands: u16,
 ) -> Result<(), Fault>
-    requires { (state S.Store tables.old.conn).in_transaction ≡ false }
-    ensures { OnOk result ((state S.Store tables.new.conn).in_transaction ≡ false) }
+    requires { tables.old.conn.in_transaction ≡ false }
+    ensures { OnOk result (tables.new.conn.in_transaction ≡ false) }
 {
     prepare(tables, alloc)?;
     import(tables, alloc, text)?;
@@ -162,59 +161,43 @@ fn fill<S: Alter + Drop>(
 
 // A new registry with a moderator, or one that is good.
 fn prepare<S: Alter + Drop>(tables: &mut Tables<S>, alloc: Global) -> Result<(), Fault>
-    requires { (state S.Store tables.old.conn).in_transaction ≡ false }
-    ensures { OnOk result ((state S.Store tables.new.conn).in_transaction ≡ false) }
+    requires { tables.old.conn.in_transaction ≡ false }
+    ensures { OnOk result (tables.new.conn.in_transaction ≡ false) }
 {
     if tables.version()? != 0 {
         return Ok(tables.check(alloc)?);
     }
     create(&mut tables.conn)?;
-    carry_out(tables, alloc, moderator(alloc))
+    carry_out(tables, alloc, moderator(alloc))?;
+    Ok(())
 }
 
-// How the entries of a text changed the items.
-#[derive(Clone, Copy)]
-struct Counted {
-    added: u32,
-    renamed: u32,
-    same: u32,
-}
-
-fn put_all<S: Alter>(batch: &mut Batch<'_, S>, alloc: Global, text: &[u8]) -> Result<Counted, Fault>
+// The names of a text, and how many of its paths were new.
+fn put_all<S: Alter>(batch: &mut Batch<'_, S>, alloc: Global, text: &[u8]) -> Result<u32, Fault>
     ensures { batch.new.conn.ghost_name ≡ batch.old.conn.ghost_name }
 {
-    let (mut added, mut renamed, mut same) = (0u32, 0u32, 0u32);
+    let mut added = 0u32;
     for entry in Lines::new(text) {
         let entry = entry.map_err(|_| Fault::Text)?;
         match put(batch, alloc, &entry.path, entry.name)? {
             Put::Added => added = added.saturating_add(1),
-            Put::Renamed => renamed = renamed.saturating_add(1),
-            Put::Same => same = same.saturating_add(1),
+            Put::Renamed | Put::Same => {}
         }
     }
-    Ok(Counted {
-        added,
-        renamed,
-        same,
-    })
+    Ok(added)
 }
 
 // The whole text in one transaction.
 fn import<S: Alter + Drop>(tables: &mut Tables<S>, alloc: Global, text: &[u8]) -> Result<(), Fault>
-    requires { (state S.Store tables.old.conn).in_transaction ≡ false }
-    ensures { OnOk result ((state S.Store tables.new.conn).in_transaction ≡ false) }
+    requires { tables.old.conn.in_transaction ≡ false }
+    ensures { OnOk result (tables.new.conn.in_transaction ≡ false) }
 {
     let before = tables.items()?;
     let mut batch = begin(&mut tables.conn);
-    let counted = put_all(&mut batch, alloc, text)?;
-    let effect = Effect::Imported {
-        added: counted.added,
-        renamed: counted.renamed,
-        same: counted.same,
-        items: before.saturating_add(counted.added),
-    };
+    let added = put_all(&mut batch, alloc, text)?;
+    let items = before.saturating_add(added);
     let change = Change {
-        effect,
+        effect: Effect::Imported { items },
         receipt: None,
     };
     apply(&mut batch, alloc, &change)?;
@@ -226,18 +209,27 @@ fn import<S: Alter + Drop>(tables: &mut Tables<S>, alloc: Global, text: &[u8]) -
 fn submit_and_approve<S: Alter + Drop>(
     tables: &mut Tables<S>,
     alloc: Global,
-    number: u16,
+    vendor: u16,
 ) -> Result<(), Fault>
-    requires { (state S.Store tables.old.conn).in_transaction ≡ false }
-    ensures { OnOk result ((state S.Store tables.new.conn).in_transaction ≡ false) }
+    requires { tables.old.conn.in_transaction ≡ false }
+    ensures { OnOk result (tables.new.conn.in_transaction ≡ false) }
 {
-    carry_out(tables, alloc, submission(alloc, number))?;
-    let number = tables.submissions()?;
+    match carry_out(tables, alloc, submission(alloc, vendor))? {
+        Reply::Numbered(number) => approve(tables, alloc, number),
+        _ => Err(Fault::Refused),
+    }
+}
+
+fn approve<S: Alter + Drop>(tables: &mut Tables<S>, alloc: Global, number: u32) -> Result<(), Fault>
+    requires { tables.old.conn.in_transaction ≡ false }
+    ensures { OnOk result (tables.new.conn.in_transaction ≡ false) }
+{
     carry_out(
         tables,
         alloc,
         command(alloc, "root", Act::Approve { number }),
-    )
+    )?;
+    Ok(())
 }
 
 // The administrator makes bob a moderator.
@@ -288,9 +280,9 @@ fn carry_out<S: Alter + Drop>(
     tables: &mut Tables<S>,
     alloc: Global,
     command: Result<Command, WordFault>,
-) -> Result<(), Fault>
-    requires { (state S.Store tables.old.conn).in_transaction ≡ false }
-    ensures { OnOk result ((state S.Store tables.new.conn).in_transaction ≡ false) }
+) -> Result<Reply, Fault>
+    requires { tables.old.conn.in_transaction ≡ false }
+    ensures { OnOk result (tables.new.conn.in_transaction ≡ false) }
 {
     match command {
         Ok(command) => gather_and_write(tables, alloc, &command),
@@ -302,12 +294,12 @@ fn gather_and_write<S: Alter + Drop>(
     tables: &mut Tables<S>,
     alloc: Global,
     command: &Command,
-) -> Result<(), Fault>
-    requires { (state S.Store tables.old.conn).in_transaction ≡ false }
-    ensures { OnOk result ((state S.Store tables.new.conn).in_transaction ≡ false) }
+) -> Result<Reply, Fault>
+    requires { tables.old.conn.in_transaction ≡ false }
+    ensures { OnOk result (tables.new.conn.in_transaction ≡ false) }
 {
     let rows = needs(command);
-    match tables.gather(alloc, &command.account, &command.key, rows, Verdict::NoFile) {
+    match tables.gather(alloc, &command.account, &command.key, rows) {
         Ok(facts) => decide_and_write(tables, alloc, &facts, command),
         Err(fault) => Err(Fault::Tables(fault)),
     }
@@ -318,12 +310,12 @@ fn decide_and_write<S: Alter + Drop>(
     alloc: Global,
     facts: &Facts,
     command: &Command,
-) -> Result<(), Fault>
-    requires { (state S.Store tables.old.conn).in_transaction ≡ false }
-    ensures { OnOk result ((state S.Store tables.new.conn).in_transaction ≡ false) }
+) -> Result<Reply, Fault>
+    requires { tables.old.conn.in_transaction ≡ false }
+    ensures { OnOk result (tables.new.conn.in_transaction ≡ false) }
 {
     match decide(facts, command) {
-        Ok((change, _)) => write(tables, alloc, &change),
+        Ok((change, reply)) => write(tables, alloc, &change, reply),
         Err(_) => Err(Fault::Refused),
     }
 }
@@ -332,13 +324,17 @@ fn write<S: Alter + Drop>(
     tables: &mut Tables<S>,
     alloc: Global,
     change: &Change,
-) -> Result<(), Fault>
-    requires { (state S.Store tables.old.conn).in_transaction ≡ false }
-    ensures { OnOk result ((state S.Store tables.new.conn).in_transaction ≡ false) }
+    reply: Reply,
+) -> Result<Reply, Fault>
+    requires { tables.old.conn.in_transaction ≡ false }
+    ensures { OnOk result (tables.new.conn.in_transaction ≡ false) }
 {
     let mut batch = begin(&mut tables.conn);
     match apply(&mut batch, alloc, change) {
-        Ok(()) => Ok(commit(batch)?),
+        Ok(()) => match commit(batch) {
+            Ok(()) => Ok(reply),
+            Err(fault) => Err(Fault::Tables(fault)),
+        },
         Err(fault) => {
             roll_back(batch);
             Err(Fault::Tables(fault))
