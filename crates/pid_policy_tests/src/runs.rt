@@ -65,15 +65,25 @@ fn told(alloc: Global, registry: &mut PlainRegistry, row: &str) -> Result<String
     Ok(reply_line(alloc, registry.obey(command, file))?)
 }
 
-// Asserts what a new registry tells, row by row.
-fn expect_run(rt: &impl Abort, alloc: Global, rows: &str) -> Result<(), Fail> {
-    let mut registry = PlainRegistry::new(alloc);
+// Asserts what the registry tells, row by row.
+fn expect_told(
+    rt: &impl Abort,
+    alloc: Global,
+    registry: &mut PlainRegistry,
+    rows: &str,
+) -> Result<(), Fail> {
     for row in rows.lines() {
         let (asked, expected) = row.split_once(" | ").ok_or("a row")?;
-        let line = told(alloc, &mut registry, asked)?;
+        let line = told(alloc, registry, asked)?;
         assert_eq!(rt; line.as_str().trim_end(), expected, "at {row}");
     }
     Ok(())
+}
+
+// Asserts what a new registry tells.
+fn expect_run(rt: &impl Abort, alloc: Global, rows: &str) -> Result<(), Fail> {
+    let mut registry = PlainRegistry::new(alloc);
+    expect_told(rt, alloc, &mut registry, rows)
 }
 
 const VENDOR: &str = "\
@@ -250,6 +260,12 @@ fn runs_the_example(rt: HostRuntime) -> Result<(), Fail> {
     expect_run(&rt, rt.alloc(), EXAMPLE)
 }
 
+const RANKS: &str = "\
+account root who=bob&rank=2 | ok
+account root who=bob&rank=1 | ok
+submit bob path=PC/8086&name=Intel | ok 1
+";
+
 #[test]
 fn tells_ranks_and_counts(rt: HostRuntime) -> Result<(), Fail> {
     let alloc = rt.alloc();
@@ -258,9 +274,7 @@ fn tells_ranks_and_counts(rt: HostRuntime) -> Result<(), Fail> {
     let bob = Account::of(alloc, "bob")?;
     assert_eq!(rt; registry.rank(&root), Some(Rank::Administrator));
     assert_eq!(rt; registry.rank(&bob), None);
-    told(alloc, &mut registry, "account root who=bob&rank=2")?;
-    told(alloc, &mut registry, "account root who=bob&rank=1")?;
-    told(alloc, &mut registry, "submit bob path=PC/8086&name=Intel")?;
+    expect_told(&rt, alloc, &mut registry, RANKS)?;
     assert_eq!(rt; registry.rank(&bob), Some(Rank::Moderator));
     assert_eq!(rt; registry.submissions(), 1);
     let (command, file) = order_in(alloc, "approve root num=1")?;
