@@ -1,5 +1,5 @@
 -- What a line is by its own bytes alone: whether it is skipped, how deep it stands, and what a line of depth 0 opens.
--- pci.ids(5) and the syntax header of the published file; blocks of generic subsystems behind `S` as libpci reads them.
+-- pci.ids(5) and the syntax header of the published file; blocks of generic subsystems behind `S` as pci.ids(5) describes and libpci reads them.
 use Rattle.std.specs.Prelude.{ℕ, suc, Bool, true, false, ◌&&◌, List, [], ◌∷◌, drop, nat_le, ◌==◌, if◌then◌else◌}
 use Rattle.pid_ident.specs.Bytes.{is_blank}
 use Rattle.pid_reader.specs.declared.line.Mark.{Mark}
