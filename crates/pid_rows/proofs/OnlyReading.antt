@@ -1,14 +1,13 @@
 -- What reads leave.
-use Rattle.std.proofs.Common.{◌≡◌, ◌⊎◌, inl, inr, true, false, IsTrue, Result, refl, sym, ap, subst, ◌∙◌, arith}
+use Rattle.std.proofs.Common.{◌≡◌, ◌⊎◌, inl, inr, true, false, IsTrue, Result, refl, sym, subst, ◌∙◌}
 use Rattle.sqlite.proofs.Callers.{survives_begin}
-use Rattle.sqlite.proofs.StateLemmas.{clean_if_open, survives_then}
+use Rattle.sqlite.proofs.StateLemmas.{survives_then}
 use Rattle.sqlite.specs.Effect.{Database}
 use Rattle.sqlite.specs.Held.{Held, state}
 use Rattle.sqlite.specs.State.{State, HasCleanDisk, Survives, IsUnchanged, IsRolledBack, Fails}
 use Rattle.sqlite.specs.declared.error.Error.{Error}
 use Rattle.sqlite_trees.specs.declared.store.Store.{Ghosts}
-use Rattle.pid_moderation.specs.Views.{Views}
-use Rattle.pid_rows.specs.Leaves.{AtRest, RestsOn, GoesOn, OnlyReads}
+use Rattle.pid_rows.specs.Leaves.{RestsOn, GoesOn, OnlyReads}
 use Rattle.pid_rows.specs.Shows.{Shows}
 use Rattle.pid_rows.proofs.GoingLemmas.{earlier}
 use Rattle.pid_rows.proofs.LeaveLemmas.{leaves_on}
