@@ -7,7 +7,7 @@ ghost use Rattle.std.specs.Prelude.{◌≡◌, false, IfOk, OnOk};
 ghost use Rattle.sqlite.specs.Held.{state};
 
 use pid_ident::{Account, Name, Path, Text, WordFault};
-use pid_moderation::{Act, Change, Command, Effect, Proposal, Rank, Verdict, decide, needs};
+use pid_moderation::{Act, Change, Command, Effect, Proposal, Rank, Reply, decide, needs};
 use pid_reader::Lines;
 use pid_tables::{Batch, Put, TableFault, Tables, apply, begin, commit, create, put};
 use sqlite::{Alter, Connection, File, FileStore};
@@ -136,31 +136,18 @@ fn fill<S: Alter + Drop>(
     Ok(())
 }
 
-// How the entries of a text changed the items.
-#[derive(Clone, Copy)]
-struct Counted {
-    added: u32,
-    renamed: u32,
-    same: u32,
-}
-
-fn put_all<S: Alter>(batch: &mut Batch<'_, S>, alloc: Global, text: &[u8]) -> Result<Counted, Fault>
+// How many entries of a text are new.
+fn put_all<S: Alter>(batch: &mut Batch<'_, S>, alloc: Global, text: &[u8]) -> Result<u32, Fault>
     ensures { batch.new.conn.ghost_name ≡ batch.old.conn.ghost_name }
 {
-    let (mut added, mut renamed, mut same) = (0u32, 0u32, 0u32);
+    let mut added = 0u32;
     for entry in Lines::new(text) {
         let entry = entry.map_err(|_| Fault::Text)?;
-        match put(batch, alloc, &entry.path, entry.name)? {
-            Put::Added => added = added.saturating_add(1),
-            Put::Renamed => renamed = renamed.saturating_add(1),
-            Put::Same => same = same.saturating_add(1),
+        if put(batch, alloc, &entry.path, entry.name)? == Put::Added {
+            added = added.saturating_add(1);
         }
     }
-    Ok(Counted {
-        added,
-        renamed,
-        same,
-    })
+    Ok(added)
 }
 
 // The whole text in one transaction.
@@ -170,12 +157,9 @@ fn import<S: Alter + Drop>(tables: &mut Tables<S>, alloc: Global, text: &[u8]) -
 {
     let before = tables.items()?;
     let mut batch = begin(&mut tables.conn);
-    let counted = put_all(&mut batch, alloc, text)?;
+    let added = put_all(&mut batch, alloc, text)?;
     let effect = Effect::Imported {
-        added: counted.added,
-        renamed: counted.renamed,
-        same: counted.same,
-        items: before.saturating_add(counted.added),
+        items: before.saturating_add(added),
     };
     let change = Change {
         effect,
@@ -200,9 +184,11 @@ fn submit_and_approve<S: Alter + Drop>(
         proposal: Proposal::Name(Name::of(alloc, "renamed")?),
         note: Text::of(alloc, "")?,
     };
-    obey(tables, alloc, "bob", submit)?;
-    let number = tables.submissions()?;
-    obey(tables, alloc, "root", Act::Approve { number })
+    let Reply::Numbered(number) = obey(tables, alloc, "bob", submit)? else {
+        return Err(Fault::Refused);
+    };
+    obey(tables, alloc, "root", Act::Approve { number })?;
+    Ok(())
 }
 
 // One command is one transaction.
@@ -211,7 +197,7 @@ fn obey<S: Alter + Drop>(
     alloc: Global,
     account: &str,
     act: Act,
-) -> Result<(), Fault>
+) -> Result<Reply, Fault>
     requires { (state S.Store tables.old.conn).in_transaction ≡ false }
     ensures { OnOk result ((state S.Store tables.new.conn).in_transaction ≡ false) }
 {
@@ -222,10 +208,10 @@ fn obey<S: Alter + Drop>(
         act,
     };
     let rows = needs(&command);
-    let facts = tables.gather(alloc, &command.account, &command.key, rows, Verdict::NoFile)?;
-    let (change, _) = decide(&facts, &command).map_err(|_| Fault::Refused)?;
+    let facts = tables.gather(alloc, &command.account, &command.key, rows)?;
+    let (change, reply) = decide(&facts, &command).map_err(|_| Fault::Refused)?;
     let mut batch = begin(&mut tables.conn);
     apply(&mut batch, alloc, &change)?;
     commit(batch)?;
-    Ok(())
+    Ok(reply)
 }
