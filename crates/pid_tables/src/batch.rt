@@ -215,7 +215,8 @@ pub fn apply<S: Alter>(
 pub fn commit<S: Alter>(batch: Batch<'_, S>) -> Result<(), TableFault>
     ensures ended { batch.exit.0.now.in_transaction ≡ false }
     ensures survives { Survives S.Store batch.entry.conn.now batch.exit.0.now (λ db. db ≡ (seen S.Store batch.entry.conn.now).trees) }
-    ensures stands { (w : Views) → (IsTrue (is_open S.Store batch.entry.conn.now) → Shows (seen S.Store batch.entry.conn.now) w) → OnOk result (AtRest S.Store batch.exit.0.now w) }
+    ensures stands { (w : Views) → (HasCleanDisk S.Store batch.entry.conn.now → IsTrue (is_open S.Store batch.entry.conn.now) × Shows (seen S.Store batch.entry.conn.now) w)
+        → OnOk result (AtRest S.Store batch.exit.0.now w) }
     ensures either { (v w : Views) → Written S.Store batch.entry.conn.now (counts_of w) v w → LeavesEither S.Store batch.exit.0.now v w }
     ensures caused { HasCleanDisk S.Store batch.exit.0.now → IsTrue batch.entry.conn.now.in_transaction → IfErr result (IsCaused S.Store batch.entry.conn.now batch.exit.0.now) }
     ensures given_back { (v w : Views) → Written S.Store batch.entry.conn.now (counts_of w) v w → OnErr result (IsTrue (is_open S.Store batch.exit.0.now) → Shows (seen S.Store batch.exit.0.now) v) }

@@ -10,9 +10,10 @@ use Rattle.pid_tables.proofs.batch.commit.Goals as goal
 
 pub returns-clause-stands : goal.returns-clause-stands
 returns-clause-stands g c w shows =
+    let start = c.args.batch.conn.now in
     let end = c.commit.new.self.0 in
-    stands g.S.Store (state g.S.Store c.args.batch.conn.now) end w (clean_if_open (g.S.Store.view end.store) (g.met.S.Store.shut_if_dirty end.store)) (g.met.S.Store.settled end.store) c.commit.ensures.ended
-    (λ clean. (c.in_ok-commit.ensures.ok clean).1) shows
+    stands g.S.Store (state g.S.Store start) end w (clean_if_open (g.S.Store.view end.store) (g.met.S.Store.shut_if_dirty end.store)) (g.met.S.Store.settled end.store) c.commit.ensures.ended
+    (λ clean. (c.in_ok-commit.ensures.ok clean).1) (λ opened. (shows (clean_if_open (g.S.Store.view start.store) (g.met.S.Store.shut_if_dirty start.store) opened)).1)
 
 pub returns-in_err-commit-clause-given_back : goal.returns-in_err-commit-clause-given_back
 returns-in_err-commit-clause-given_back g c v w written =
