@@ -18,7 +18,12 @@ pub fn begins_blank(bytes: &[u8]) -> bool
 pub fn are_printed(bytes: &[u8]) -> bool
     ensures { result ≡ list_all printed_byte bytes.now }
 {
-    bytes.iter().all(|b| is_printed(*b))
+    // Without an early end the compiler takes many bytes at a step.
+    let mut all = true;
+    for byte in bytes {
+        all &= is_printed(*byte);
+    }
+    all
 }
 
 fn is_printed(byte: u8) -> bool

@@ -38,6 +38,16 @@ impl Name {
         })
     }
 
+    /// A text that is known to be a name.
+    pub fn of_checked(alloc: Global, text: &str) -> Result<Name, AllocError>
+        requires { IsTrue (name_test text.now) }
+        ensures { IfOk result (λ word. word ≡ text.now) }
+    {
+        Ok(Name {
+            text: String::from_str(alloc, text)?,
+        })
+    }
+
     pub fn as_str(&self) -> &str
         ensures text { result.now ≡ self.now }
         ensures checked { IsTrue (name_test self.now) }

@@ -55,9 +55,7 @@ impl Sink for TreeSink {
     ghost faults = { λ s entry f t. Unit {0} };
 
     fn entry(&mut self, entry: &Entry<'_>) -> Result<(), AllocError> {
-        let Ok(name) = Name::of(self.alloc, entry.name) else {
-            return Err(AllocError);
-        };
+        let name = Name::of_checked(self.alloc, entry.name)?;
         if self.items.push((entry.path, name)).is_err() {
             return Err(AllocError);
         }
