@@ -44,7 +44,7 @@ impl<F> From<AllocError> for LookupRefusal<F> {
 /// The text for the flags and the arguments, as it fits into a buffer of `size` bytes.
 ///
 /// The low 16 bits of the flags say what is looked up, as libpci's `PCI_LOOKUP_VENDOR` and its kin do; above these
-/// `PCI_LOOKUP_NUMERIC`, `PCI_LOOKUP_NO_NUMBERS` and `PCI_LOOKUP_MIXED` say how. The answer takes one allocation.
+/// `PCI_LOOKUP_NUMERIC`, `PCI_LOOKUP_NO_NUMBERS` and `PCI_LOOKUP_MIXED` say how.
 pub fn lookup<N: Names>(
     alloc: Global,
     names: &mut N,
