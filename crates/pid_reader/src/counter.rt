@@ -9,7 +9,7 @@ pub struct Counter {
 }
 
 /// A fault that never comes.
-#[derive(Clone, Copy, Debug)]
+#[derive(Clone, Copy)]
 pub enum Never {}
 
 impl Sink for Counter {
