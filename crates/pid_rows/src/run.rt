@@ -6,7 +6,7 @@ ghost use Rattle.sqlite.specs.Schema.{Schema};
 ghost use Rattle.sqlite.specs.Values.{bound};
 ghost use Rattle.sqlite.specs.Held.{Held};
 ghost use Rattle.sqlite.specs.declared.error.Error.{Error};
-ghost use Rattle.pid_rows.specs.Faults.{fault_of, IsUntold};
+ghost use Rattle.pid_rows.specs.Faults.{fault_of, IsUntold, IsNotLater};
 ghost use Rattle.pid_moderation.specs.Views.{Views};
 ghost use Rattle.pid_rows.specs.Queries.{IsQuery, IsWriteAs};
 ghost use Rattle.pid_rows.specs.Schema.{pid_schema};
@@ -46,7 +46,8 @@ pub fn read_inside<S: Alter>(
     ensures same_reference { tx.new.conn.ghost_name ≡ tx.old.conn.ghost_name }
     ensures goes { GoesOn S.Store tx.old.conn.now tx.new.conn.now result }
     ensures shown { HasCleanDisk S.Store tx.new.conn.now → IfOk result (λ rows. Shown S.Store sql.now (bound params.now) tx.old.conn.now tx.new.conn.now rows.items) }
-    ensures untold { HasCleanDisk S.Store tx.new.conn.now → (seen S.Store tx.old.conn.now).schema ≡ pid_schema → IsPlain (understood pid_schema sql.now) → IfErr result IsUntold }
+    ensures untold { HasCleanDisk S.Store tx.new.conn.now → (schema : Schema) → (seen S.Store tx.old.conn.now).schema ≡ schema → IsPlain (understood schema sql.now) → IfErr result IsUntold }
+    ensures never { IfErr result IsNotLater }
     ensures caused { HasCleanDisk S.Store tx.new.conn.now → (IsTrue (is_open S.Store tx.old.conn.now)
         → (seen S.Store tx.old.conn.now).schema ≡ pid_schema) → IsQuery sql.now (bound params.now) → IfErr result (IsCaused S.Store tx.old.conn.now tx.new.conn.now) }
 {

@@ -12,6 +12,7 @@ use Rattle.pid_rows.specs.declared.fault.TableFault.TheVariants.{Memory, Store, 
 use Rattle.pid_rows.proofs.CauseLemmas.{caused_first}
 use Rattle.pid_rows.proofs.OnlyReading.{reads_begun}
 use Rattle.pid_rows.specs.Faults.{IsUntold}
+use Rattle.pid_rows.specs.Schema.{pid_schema}
 use Rattle.pid_rows.proofs.run.read_rows.Goals as goal
 
 there : {S : Type 0} (g : Ghosts S) {X E : Type 0} (sql : List _) (params : Row) (old : State) (mid : Held S) (r : Result X E) (rows : X → List Row) → IfOk r (λ v. Shown sql params old (state g mid) (rows v))
@@ -64,5 +65,5 @@ returns-clause-untold g c clean has plain =
     let same : end ≡ c.conn-1.given.0 = search rules in
     let late : HasCleanDisk (state g.S.Store end) = search rules in
     let mid : HasCleanDisk (state g.S.Store c.read_inside.new.tx.conn.now) = omega (arith, c.drop-tx.ensures.survives.clean) in
-    let told : IfErr c.read_inside.result IsUntold = rw c.transaction-tx.ensures.begun at (c.read_inside.ensures.untold mid) has plain in
+    let told : IfErr c.read_inside.result IsUntold = rw c.transaction-tx.ensures.begun at (c.read_inside.ensures.untold mid) pid_schema has plain in
     told
