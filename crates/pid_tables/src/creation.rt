@@ -134,6 +134,7 @@ pub fn create<S: Alter>(conn: &mut Connection<S>) -> Result<(), TableFault>
     ensures made { IsBlank S.Store conn.old → OnOk result (AtRest S.Store conn.new (views_of [])) }
     ensures untold { HasCleanDisk S.Store conn.new → IsBlank S.Store conn.old → IfErr result IsUntold }
     ensures crash { IsBlank S.Store conn.old → LeavesBareOrNew S.Store conn.new }
+    ensures shut { HasCleanDisk S.Store conn.new → is_open S.Store conn.old ≡ false → MatchResult result (λ _. ⊥) IsUntold }
     ensures rests { IsMet S.Store conn.old → OnlyReads S.Store conn.old conn.new }
     ensures refused { HasCleanDisk S.Store conn.new → IsMet S.Store conn.old → MatchResult result (λ _. ⊥) IsOfMaking }
     ensures kept { (v : Views) → AtRest S.Store conn.old v → AtRest S.Store conn.new v }
