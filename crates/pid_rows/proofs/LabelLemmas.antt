@@ -20,7 +20,7 @@ use Rattle.sqlite_schema.specs.Rules.{equal}
 use Rattle.sqlite_trees.specs.declared.store.Store.{Ghosts}
 use Rattle.pid_rows.specs.declared.fault.TableFault.{TableFault}
 use Rattle.pid_rows.specs.declared.fault.TableFault.TheVariants.{Memory, Store, NewerSchema, Damaged}
-use Rattle.pid_rows.specs.Faults.{IsUntold}
+use Rattle.pid_rows.specs.Faults.{IsUntold, IsNotLater}
 use Rattle.pid_rows.specs.LabelRows.{AnswersEach, ExplainsNumber, LacksNumber, HasLabel, IsValueOf}
 use Rattle.pid_rows.specs.Unread.{IsUnread, IsNumber}
 use Rattle.pid_rows.specs.Schema.{pid_schema}
@@ -109,3 +109,10 @@ label_refused db label rows x all first (Err e) h = go e h
     go Damaged h =
         let it = all x (first_has rows x first) in
         inr (it.0, it.1, it.2, λ good. h (subst IsNumber (ap (λ (y : Row). column y 0) (sym it.3)) good))
+
+pub unread_never : (Written : Type 0) (r : Result ℕ TableFault) → IfErr r (IsUnread Written) → IfErr r IsNotLater
+unread_never Written (Ok n) h = tt
+unread_never Written (Err Memory) h = tt
+unread_never Written (Err Store) h = tt
+unread_never Written (Err (NewerSchema n)) h = h
+unread_never Written (Err Damaged) h = tt

@@ -3,7 +3,7 @@ ghost use Rattle.std.specs.Prelude.{◌≡◌, false, Some, IsSome, IfOk, IfErr,
 ghost use Rattle.sqlite.specs.Order.{Row as Values};
 ghost use Rattle.sqlite_rules.specs.Lists.{Has};
 ghost use Rattle.pid_rows.specs.Answers.{value_row};
-ghost use Rattle.pid_rows.specs.Faults.{IsUntold};
+ghost use Rattle.pid_rows.specs.Faults.{IsUntold, IsNotLater};
 ghost use Rattle.pid_rows.specs.LabelRows.{AnswersEach, ExplainsNumber, HasLabel, IsValueOf};
 ghost use Rattle.pid_rows.specs.Schema.{pid_schema};
 ghost use Rattle.pid_rows.specs.Shows.{Counts, meta_of, counts_of};
@@ -68,6 +68,7 @@ fn value_rows<S: Alter>(conn: &mut Connection<S>, label: &str) -> Result<Vec<Row
     ensures each { HasCleanDisk S.Store conn.new → (seen S.Store conn.old).schema ≡ pid_schema
         → IfOk result (λ rows. AnswersEach (seen S.Store conn.old).trees label.now rows.items) }
     ensures untold { HasCleanDisk S.Store conn.new → (seen S.Store conn.old).schema ≡ pid_schema → IfErr result IsUntold }
+    ensures never { IfErr result IsNotLater }
 {
     let label = label.to_sql();
     read_rows(conn, "SELECT value FROM meta WHERE label = ?1", &[label])
@@ -80,6 +81,7 @@ fn count<S: Alter>(conn: &mut Connection<S>, label: &str) -> Result<u32, TableFa
     ensures found { ((c : Counts) → IsSome (meta_of c label.now)) → Tells S.Store conn.old conn.new result (λ v n. Some n ≡ meta_of (counts_of v) label.now) }
     ensures labelled { HasCleanDisk S.Store conn.new → (seen S.Store conn.old).schema ≡ pid_schema → IfOk result (HasLabel (seen S.Store conn.old).trees label.now) }
     ensures refused { HasCleanDisk S.Store conn.new → (seen S.Store conn.old).schema ≡ pid_schema → IfErr result (ExplainsNumber (seen S.Store conn.old).trees label.now) }
+    ensures never { IfErr result IsNotLater }
 {
     let rows = value_rows(conn, label)?;
     match rows.first() {
@@ -111,6 +113,7 @@ pub fn schema_number<S: Alter>(conn: &mut Connection<S>) -> Result<u32, TableFau
     ensures reads { Reads S.Store conn.old conn.new result (λ v n. n ≡ 1) }
     ensures labelled { HasCleanDisk S.Store conn.new → (seen S.Store conn.old).schema ≡ pid_schema → IfOk result (HasLabel (seen S.Store conn.old).trees (codes "schema")) }
     ensures refused { HasCleanDisk S.Store conn.new → (seen S.Store conn.old).schema ≡ pid_schema → IfErr result (ExplainsNumber (seen S.Store conn.old).trees (codes "schema")) }
+    ensures never { IfErr result IsNotLater }
 {
     count(conn, "schema")
 }

@@ -65,6 +65,7 @@ pub fn read_rows<S: Alter>(
     ensures rests { OnlyReads S.Store conn.old conn.new }
     ensures shown { HasCleanDisk S.Store conn.new → IfOk result (λ rows. (mid : Held S) × Shown S.Store sql.now (bound params.now) (record conn.old { in_transaction = true }) mid rows.items) }
     ensures untold { HasCleanDisk S.Store conn.new → (seen S.Store conn.old).schema ≡ pid_schema → IsPlain (understood pid_schema sql.now) → IfErr result IsUntold }
+    ensures never { IfErr result IsNotLater }
     ensures caused { HasCleanDisk S.Store conn.new → (v : Views) → AtRest S.Store conn.old v → IsQuery sql.now (bound params.now) → IfErr result (IsCaused S.Store conn.old conn.new) }
 {
     let mut tx = conn.transaction();

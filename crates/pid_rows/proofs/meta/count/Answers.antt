@@ -5,7 +5,7 @@ use Rattle.pid_rows.specs.Answers.{value_row}
 use Rattle.pid_rows.specs.Shows.{meta_of, counts_of}
 use Rattle.pid_rows.proofs.DecodeLemmas.{no_row}
 use Rattle.pid_rows.proofs.ReadBack.{value_read, meta_fits}
-use Rattle.pid_rows.proofs.LabelLemmas.{label_read, label_refused, none_lacks, untold_explains}
+use Rattle.pid_rows.proofs.LabelLemmas.{label_read, label_refused, none_lacks, untold_explains, unread_never}
 use Rattle.pid_rows.proofs.CauseLemmas.{passed_from}
 use Rattle.pid_rows.specs.LabelRows.{ExplainsNumber}
 use Rattle.pid_rows.proofs.meta.count.Goals as goal
@@ -40,3 +40,6 @@ pub returns-in_err-rows-clause-refused : goal.returns-in_err-rows-clause-refused
 returns-in_err-rows-clause-refused g c clean has =
     let db = (state g.S.Store c.args.conn.now).now.trees in
     passed_from c.from_residual.result _ (ExplainsNumber db c.args.label.now) c.from_residual.ensures.1 (untold_explains db c.args.label.now _ (c.in_err-rows.ensures.untold clean has))
+
+pub returns-in-Some-clause-never : goal.returns-in-Some-clause-never
+returns-in-Some-clause-never g c = unread_never _ c.number_at.result c.number_at.ensures.unread
