@@ -131,9 +131,9 @@ fn check_whole<S: Alter>(conn: &mut Connection<S>, alloc: Global) -> Result<(), 
 /// Which tables are there, it finds out by preparing a query of each table's columns by their names. Where none can be
 /// prepared it answers `Ok`: there is nothing to be damaged. Where some can, and not each, it answers `Damaged`; on tables
 /// with the shape of schema 1 it answers `Ok` only where all six conditions hold of their rows, and `Damaged` only where one
-/// of them fails. A later schema is judged before either: `NewerSchema` only where the labels have that greater number. It
-/// answers `Memory` and `Store` otherwise, and changes nothing. Of six tables with these columns but other keys, types or
-/// rules it says nothing.
+/// of them fails. A later schema is judged before either, whatever the tables: `NewerSchema` only where the labels have that
+/// greater number, and `Ok` or `Damaged` only where they have none. It answers `Memory` and `Store` otherwise, and changes
+/// nothing. Of six tables with these columns but other keys, types or rules it says no more than that.
 pub fn check<S: Alter>(conn: &mut Connection<S>, alloc: Global) -> Result<(), TableFault>
     requires { conn.old.in_transaction ≡ false }
     ensures rests { OnlyReads S.Store conn.old conn.new }

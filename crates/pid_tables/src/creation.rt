@@ -124,9 +124,9 @@ fn fill<S: Alter>(tx: &mut Transaction<'_, S>) -> Result<(), TableFault>
 /// Makes the tables of a new registry in a database that has none, in one transaction: `root` is an administrator, and
 /// there is nothing else.
 ///
-/// Whatever it answers, a crash leaves a database without tables, or the new registry whole. Where a name is taken that one
-/// of the tables wants, it answers `Damaged`, or else `Memory` or `Store`, and changes nothing. Beside tables of other names
-/// the new ones are made; what they then are together, no clause says.
+/// In a database with no table at all, whatever it answers, a crash leaves that, or the new registry whole. Where a name is
+/// taken that one of the tables wants, it answers `Damaged`, or else `Memory` or `Store`, and changes nothing. Beside tables of
+/// other names the new ones are made; what they then are together, and what a crash leaves of them, no clause says.
 pub fn create<S: Alter>(conn: &mut Connection<S>) -> Result<(), TableFault>
     requires { conn.old.in_transaction ≡ false }
     ensures settled { conn.new.in_transaction ≡ false }

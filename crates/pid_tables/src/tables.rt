@@ -12,7 +12,7 @@ ghost use Rattle.pid_table_check.specs.Checking.{Explains};
 ghost use Rattle.pid_table_check.specs.Conditions.{IsRegistry, rows_in};
 ghost use Rattle.pid_table_check.specs.Shapes.{ExplainsLater, HasEachTable, HasNoTable, LacksATable, ShowsLater};
 ghost use Rattle.pid_rows.specs.Causes.{IsReadable};
-ghost use Rattle.pid_rows.specs.Faults.{IsUntold};
+ghost use Rattle.pid_rows.specs.Faults.{IsUntold, IsNotLater};
 ghost use Rattle.pid_rows.specs.LabelRows.{ExplainsNumber, HasLabel};
 ghost use Rattle.pid_rows.specs.Schema.{pid_schema};
 ghost use Rattle.pid_rows.specs.ItemPairs.{pair_of};
@@ -148,7 +148,7 @@ impl<S: Alter + Drop> Tables<S> {
     ///
     /// `Damaged` where a table or a column lacks, or a row breaks a condition of a registry; `NewerSchema` where the labels
     /// have a later schema, which is judged before. `docs/STORAGE.md` has the conditions. Of tables with other keys, types or
-    /// rules nothing is said.
+    /// rules no more is said than whether they are of a later schema.
     pub fn check(&mut self, alloc: Global) -> Result<(), TableFault>
         requires { self.old.conn.in_transaction ≡ false }
         ensures rests { OnlyReads S.Store self.old.conn self.new.conn }
@@ -166,7 +166,9 @@ impl<S: Alter + Drop> Tables<S> {
         check(&mut self.conn, alloc)
     }
 
-    /// The number of the schema, as the labels have it, and 0 where none of its tables is there. Other tables do not count.
+    /// The number of the schema, as the labels have it, and 0 where none of its tables is there, whatever others are.
+    ///
+    /// Where something stands beside its tables, or they have other columns, no clause says which number it is.
     pub fn version(&mut self) -> Result<u32, TableFault>
         requires { self.old.conn.in_transaction ≡ false }
         ensures rests { OnlyReads S.Store self.old.conn self.new.conn }
@@ -175,6 +177,7 @@ impl<S: Alter + Drop> Tables<S> {
         ensures none { HasCleanDisk S.Store self.new.conn → HasNoTable (seen S.Store self.old.conn).schema → MatchResult result (λ n. n ≡ 0) IsUntold }
         ensures labelled { HasCleanDisk S.Store self.new.conn → (seen S.Store self.old.conn).schema ≡ pid_schema → IfOk result (HasLabel (seen S.Store self.old.conn).trees (codes "schema")) }
         ensures refused { HasCleanDisk S.Store self.new.conn → (seen S.Store self.old.conn).schema ≡ pid_schema → IfErr result (ExplainsNumber (seen S.Store self.old.conn).trees (codes "schema")) }
+        ensures never { IfErr result IsNotLater }
     {
         if has_some_table(&mut self.conn)? {
             schema_number(&mut self.conn)
