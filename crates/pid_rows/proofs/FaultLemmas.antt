@@ -9,15 +9,16 @@ use Rattle.sqlite_resolve.specs.declared.error.CompileError.{CompileError}
 use Rattle.sqlite_trees.specs.declared.error.StoreError.{StoreError}
 use Rattle.sqlite_trees.specs.declared.error.StoreError.TheVariants as store
 use Rattle.sqlite.specs.declared.error.Error.{Error}
-use Rattle.sqlite.specs.declared.error.Error.TheVariants.{SqliteFailure}
+use Rattle.sqlite.specs.declared.error.Error.TheVariants.{SqliteFailure, SqlInputError}
+use Rattle.sqlite_resolve.specs.declared.error.CompileError.TheVariants as compile
+use Rattle.sqlite.specs.Schema.{Schema}
 use Rattle.sqlite.specs.declared.error.ErrorCode.{ErrorCode}
 use Rattle.sqlite.specs.declared.error.ErrorCode.TheVariants as code
 use Rattle.sqlite.specs.Effect.{Database, RefusesToRead}
 use Rattle.sqlite.specs.State.{State, IsNotRun, FailsToShow, FailsToQuery, IsTooLate, store_error}
 use Rattle.sqlite.specs.Clock.{timed}
 use Rattle.sqlite.proofs.Callers.{IsPlain}
-use Rattle.pid_rows.specs.Faults.{fault_of, IsUntold}
-use Rattle.pid_rows.specs.Schema.{pid_schema}
+use Rattle.pid_rows.specs.Faults.{fault_of, IsUntold, IsNotLater}
 
 pub failed : (c : ErrorCode) → IsUntold (fault_of (SqliteFailure c))
 failed code.OutOfMemory = tt
@@ -54,7 +55,15 @@ not_run sql params old new e never (inl (inr h, same)) = elim h.2 [
 ]
 not_run sql params old new e never (inr h) = moved e _ h.1 (of_store h.0)
 
-module _ (sql : List ℕ) (params : Row) (old new : State) (has : old.now.schema ≡ pid_schema) (plain : IsPlain (understood pid_schema sql)) (e : Error) where
+-- no fault of the database is told as a later schema
+pub not_later : (e : Error) → IsNotLater (fault_of e)
+not_later (SqliteFailure code.OutOfMemory) = tt
+not_later (SqliteFailure _) = tt
+not_later (SqlInputError compile.OutOfMemory) = tt
+not_later (SqlInputError _) = tt
+not_later _ = tt
+
+module _ {schema : Schema} (sql : List ℕ) (params : Row) (old new : State) (has : old.now.schema ≡ schema) (plain : IsPlain (understood schema sql)) (e : Error) where
   known : IsPlain (understood old.now.schema sql)
   known = subst (λ x. IsPlain (understood x sql)) (sym has) plain
 

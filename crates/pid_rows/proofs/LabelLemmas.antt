@@ -1,5 +1,5 @@
 -- What the query of one label answers, whatever meta holds.
-use Rattle.std.proofs.Common.{◌≡◌, inl, ℕ, List, [], ◌∷◌, true, Some, Ok, Err, Result, IfOk, Vec, slice_get, ap, sym, subst, ◌∙◌}
+use Rattle.std.proofs.Common.{◌≡◌, inl, inr, ℕ, List, [], ◌∷◌, true, Some, None, Ok, Err, Result, IfOk, IfErr, Vec, slice_get, refl, ap, sym, subst, ◌∙◌}
 use Rattle.std.specs.declared.alloc.Global.{Global}
 use Rattle.std.proofs.lemmas.List.Sorted.{IsPermutation-sym}
 use Rattle.sqlite.specs.Order.{Row, column, value_cmp}
@@ -14,19 +14,23 @@ use Rattle.sqlite.specs.declared.types.Value.{Value}
 use Rattle.sqlite.specs.declared.types.Value.TheVariants.{Null, Int, Real, Text, Blob}
 use Rattle.sqlite.proofs.Callers.{reads_as}
 use Rattle.sqlite_rules.specs.Lists.{Has}
-use Rattle.sqlite_rules.proofs.ListLemmas.{has_filtered}
+use Rattle.sqlite_rules.proofs.ListLemmas.{has_filtered, has_kept}
+use Rattle.sqlite_rules.proofs.ProbeLemmas.{mapped_has}
 use Rattle.sqlite_schema.specs.Rules.{equal}
 use Rattle.sqlite_trees.specs.declared.store.Store.{Ghosts}
 use Rattle.pid_rows.specs.declared.fault.TableFault.{TableFault}
-use Rattle.pid_rows.specs.LabelRows.{HasLabel, IsValueOf}
+use Rattle.pid_rows.specs.declared.fault.TableFault.TheVariants.{Memory, Store, NewerSchema, Damaged}
+use Rattle.pid_rows.specs.Faults.{IsUntold, IsNotLater}
+use Rattle.pid_rows.specs.LabelRows.{AnswersEach, ExplainsNumber, LacksNumber, HasLabel, IsValueOf}
+use Rattle.pid_rows.specs.Unread.{IsUnread, IsNumber}
 use Rattle.pid_rows.specs.Schema.{pid_schema}
 use Rattle.pid_rows.specs.TableRows.{number}
 use Rattle.pid_rows.proofs.KeyTexts.{by_first, select_meta_is}
 use Rattle.pid_rows.proofs.MapLemmas.{none_over}
-use Rattle.pid_rows.proofs.Select.{passing, shown, simple_rows, texts_equal}
+use Rattle.pid_rows.proofs.Select.{passing, shown, simple_rows, texts_equal, text_equal}
 use Rattle.pid_rows.proofs.StatementTexts.{select_meta}
 use Rattle.pid_rows.proofs.TurnLemmas.{hits, has_mapped, permuted}
-use Rattle.std.proofs.lemmas.Bool.{and_parts}
+use Rattle.std.proofs.lemmas.Bool.{and_parts, and_from}
 
 equal_text : (v : Value) (p : List ℕ) → equal Binary v (Text p) ≡ true → v ≡ Text p
 unfolding binary value_cmp
@@ -61,3 +65,54 @@ label_read db label rows x all first (Ok n) is =
     let it = all x (first_has rows x first) in
     (it.0, it.1, it.2, ap (λ (y : Row). column y 0) (sym it.3) ∙ is)
 label_read db label rows x all first (Err e) is = tt
+
+-- ---- why it is not read
+
+values_each : (label : List ℕ) (old new : State) (answer : List Row) → old.now.schema ≡ pid_schema → Shown select_meta (Text label ∷ []) old new answer → AnswersEach old.now.trees label answer
+values_each label old new answer has h r there is =
+    let params : Row = Text label ∷ [] in
+    let rows = overlay old.now.trees [] 0 in
+    let got = reads_as select_meta params old new pid_schema has _ select_meta_is.is select_meta_is.plain select_meta_is.unlisted answer h in
+    let same = simple_rows 0 by_first (col 1 2 ∷ []) (overlay old.now.trees []) params answer (got.answer Null) in
+    let hit : hits by_first params r ≡ true = and_from _ _ (subst (λ v. equal Binary v (Text label) ≡ true) (sym is) (text_equal label)) refl in
+    let kept = has_kept (hits by_first params) rows r (subst (λ xs. Has xs r) (sym (none_over old.now.trees 0)) there) hit in
+    permuted _ answer (column r 2 ∷ []) same (mapped_has (shown (col 1 2 ∷ []) params) (passing by_first params rows) r kept)
+
+pub each_read : {S : Type 0} (g : Ghosts S) (label : List ℕ) (old : State) (r : Result (Vec Row Global) TableFault) → old.now.schema ≡ pid_schema → IfOk r (λ rows. (mid : Held S) × Shown select_meta (Text label ∷ []) old (state g mid) rows.items)
+    → IfOk r (λ rows. AnswersEach old.now.trees label rows.items)
+each_read g label old (Ok rows) has h = values_each label old (state g h.0) rows.items has h.1
+each_read g label old (Err e) has h = tt
+
+pub untold_explains : (db : Trees) (label : List ℕ) (e : TableFault) → IsUntold e → ExplainsNumber db label e
+untold_explains db label Memory h = tt
+untold_explains db label Store h = tt
+untold_explains db label (NewerSchema n) h = h
+untold_explains db label Damaged h = absurd h
+
+empty : (rows : List Row) → None ≡ slice_get rows 0 → (x : Row) → Has rows x → ⊥
+empty [] h x there = there
+empty (y ∷ rows) h x there = cc
+
+-- no row was answered
+pub none_lacks : (db : Trees) (label : List ℕ) (rows : List Row) → AnswersEach db label rows → None ≡ slice_get rows 0 → LacksNumber db label
+none_lacks db label rows each none = inl (λ r there is. empty rows none (column r 2 ∷ []) (each r there is))
+
+-- the first row's value is no number
+pub label_refused : (db : Trees) (label : List ℕ) (rows : List Row) (x : Row) → ((x : Row) → Has rows x → IsValueOf db label x) → Some x ≡ slice_get rows 0 → (r : Result ℕ TableFault) → IfErr r (IsUnread (IsNumber (column x 0))) → IfErr r (ExplainsNumber db label)
+label_refused db label rows x all first (Ok n) h = tt
+label_refused db label rows x all first (Err e) h = go e h
+  where
+    go : (e : TableFault) → IsUnread (IsNumber (column x 0)) e → ExplainsNumber db label e
+    go Memory h = tt
+    go Store h = tt
+    go (NewerSchema n) h = h
+    go Damaged h =
+        let it = all x (first_has rows x first) in
+        inr (it.0, it.1, it.2, λ good. h (subst IsNumber (ap (λ (y : Row). column y 0) (sym it.3)) good))
+
+pub unread_never : (Written : Type 0) (r : Result ℕ TableFault) → IfErr r (IsUnread Written) → IfErr r IsNotLater
+unread_never Written (Ok n) h = tt
+unread_never Written (Err Memory) h = tt
+unread_never Written (Err Store) h = tt
+unread_never Written (Err (NewerSchema n)) h = h
+unread_never Written (Err Damaged) h = tt

@@ -30,3 +30,10 @@ IsUntold Memory = Unit {0}
 IsUntold Store = Unit {0}
 IsUntold (NewerSchema n) = ⊥
 IsUntold Damaged = ⊥
+
+-- it tells of no later schema
+abbrev pub IsNotLater : TableFault → Type 0
+IsNotLater Memory = Unit {0}
+IsNotLater Store = Unit {0}
+IsNotLater (NewerSchema n) = ⊥
+IsNotLater Damaged = Unit {0}

@@ -1,9 +1,10 @@
 //! The table of counts.
-ghost use Rattle.std.specs.Prelude.{◌≡◌, false, Some, IsSome, IfOk, codes, length, option_map, slice_get};
+ghost use Rattle.std.specs.Prelude.{◌≡◌, false, Some, IsSome, IfOk, IfErr, codes, length, option_map, slice_get};
 ghost use Rattle.sqlite.specs.Order.{Row as Values};
 ghost use Rattle.sqlite_rules.specs.Lists.{Has};
 ghost use Rattle.pid_rows.specs.Answers.{value_row};
-ghost use Rattle.pid_rows.specs.LabelRows.{HasLabel, IsValueOf};
+ghost use Rattle.pid_rows.specs.Faults.{IsUntold, IsNotLater};
+ghost use Rattle.pid_rows.specs.LabelRows.{AnswersEach, ExplainsNumber, HasLabel, IsValueOf};
 ghost use Rattle.pid_rows.specs.Schema.{pid_schema};
 ghost use Rattle.pid_rows.specs.Shows.{Counts, meta_of, counts_of};
 ghost use Rattle.pid_rows.specs.Clauses.{ChangesTo, GoesOn, HasCleanDisk, LeadsTo, OnlyReads, Reads, Tells, seen};
@@ -64,6 +65,10 @@ fn value_rows<S: Alter>(conn: &mut Connection<S>, label: &str) -> Result<Vec<Row
         (λ v rows. slice_get rows.items 0 ≡ option_map value_row (meta_of (counts_of v) label.now)) }
     ensures valued { HasCleanDisk S.Store conn.new → (seen S.Store conn.old).schema ≡ pid_schema
         → IfOk result (λ rows. (x : Values) → Has rows.items x → IsValueOf (seen S.Store conn.old).trees label.now x) }
+    ensures each { HasCleanDisk S.Store conn.new → (seen S.Store conn.old).schema ≡ pid_schema
+        → IfOk result (λ rows. AnswersEach (seen S.Store conn.old).trees label.now rows.items) }
+    ensures untold { HasCleanDisk S.Store conn.new → (seen S.Store conn.old).schema ≡ pid_schema → IfErr result IsUntold }
+    ensures never { IfErr result IsNotLater }
 {
     let label = label.to_sql();
     read_rows(conn, "SELECT value FROM meta WHERE label = ?1", &[label])
@@ -75,6 +80,8 @@ fn count<S: Alter>(conn: &mut Connection<S>, label: &str) -> Result<u32, TableFa
     ensures rests { OnlyReads S.Store conn.old conn.new }
     ensures found { ((c : Counts) → IsSome (meta_of c label.now)) → Tells S.Store conn.old conn.new result (λ v n. Some n ≡ meta_of (counts_of v) label.now) }
     ensures labelled { HasCleanDisk S.Store conn.new → (seen S.Store conn.old).schema ≡ pid_schema → IfOk result (HasLabel (seen S.Store conn.old).trees label.now) }
+    ensures refused { HasCleanDisk S.Store conn.new → (seen S.Store conn.old).schema ≡ pid_schema → IfErr result (ExplainsNumber (seen S.Store conn.old).trees label.now) }
+    ensures never { IfErr result IsNotLater }
 {
     let rows = value_rows(conn, label)?;
     match rows.first() {
@@ -105,6 +112,8 @@ pub fn schema_number<S: Alter>(conn: &mut Connection<S>) -> Result<u32, TableFau
     requires { conn.old.in_transaction ≡ false }
     ensures reads { Reads S.Store conn.old conn.new result (λ v n. n ≡ 1) }
     ensures labelled { HasCleanDisk S.Store conn.new → (seen S.Store conn.old).schema ≡ pid_schema → IfOk result (HasLabel (seen S.Store conn.old).trees (codes "schema")) }
+    ensures refused { HasCleanDisk S.Store conn.new → (seen S.Store conn.old).schema ≡ pid_schema → IfErr result (ExplainsNumber (seen S.Store conn.old).trees (codes "schema")) }
+    ensures never { IfErr result IsNotLater }
 {
     count(conn, "schema")
 }

@@ -6,7 +6,7 @@ ghost use Rattle.sqlite.specs.Schema.{Schema};
 ghost use Rattle.sqlite.specs.Values.{bound};
 ghost use Rattle.sqlite.specs.Held.{Held};
 ghost use Rattle.sqlite.specs.declared.error.Error.{Error};
-ghost use Rattle.pid_rows.specs.Faults.{fault_of, IsUntold};
+ghost use Rattle.pid_rows.specs.Faults.{fault_of, IsUntold, IsNotLater};
 ghost use Rattle.pid_moderation.specs.Views.{Views};
 ghost use Rattle.pid_rows.specs.Queries.{IsQuery, IsWriteAs};
 ghost use Rattle.pid_rows.specs.Schema.{pid_schema};
@@ -46,7 +46,8 @@ pub fn read_inside<S: Alter>(
     ensures same_reference { tx.new.conn.ghost_name ≡ tx.old.conn.ghost_name }
     ensures goes { GoesOn S.Store tx.old.conn.now tx.new.conn.now result }
     ensures shown { HasCleanDisk S.Store tx.new.conn.now → IfOk result (λ rows. Shown S.Store sql.now (bound params.now) tx.old.conn.now tx.new.conn.now rows.items) }
-    ensures untold { HasCleanDisk S.Store tx.new.conn.now → (seen S.Store tx.old.conn.now).schema ≡ pid_schema → IsPlain (understood pid_schema sql.now) → IfErr result IsUntold }
+    ensures untold { HasCleanDisk S.Store tx.new.conn.now → (schema : Schema) → (seen S.Store tx.old.conn.now).schema ≡ schema → IsPlain (understood schema sql.now) → IfErr result IsUntold }
+    ensures never { IfErr result IsNotLater }
     ensures caused { HasCleanDisk S.Store tx.new.conn.now → (IsTrue (is_open S.Store tx.old.conn.now)
         → (seen S.Store tx.old.conn.now).schema ≡ pid_schema) → IsQuery sql.now (bound params.now) → IfErr result (IsCaused S.Store tx.old.conn.now tx.new.conn.now) }
 {
@@ -63,6 +64,8 @@ pub fn read_rows<S: Alter>(
     requires { conn.old.in_transaction ≡ false }
     ensures rests { OnlyReads S.Store conn.old conn.new }
     ensures shown { HasCleanDisk S.Store conn.new → IfOk result (λ rows. (mid : Held S) × Shown S.Store sql.now (bound params.now) (record conn.old { in_transaction = true }) mid rows.items) }
+    ensures untold { HasCleanDisk S.Store conn.new → (seen S.Store conn.old).schema ≡ pid_schema → IsPlain (understood pid_schema sql.now) → IfErr result IsUntold }
+    ensures never { IfErr result IsNotLater }
     ensures caused { HasCleanDisk S.Store conn.new → (v : Views) → AtRest S.Store conn.old v → IsQuery sql.now (bound params.now) → IfErr result (IsCaused S.Store conn.old conn.new) }
 {
     let mut tx = conn.transaction();

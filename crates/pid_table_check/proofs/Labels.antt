@@ -1,11 +1,12 @@
 -- What the query of the labels shows, whatever the schema.
 use Rattle.std.specs.Prelude.{IfSome, IfNone}
-use Rattle.std.proofs.Common.{◌≡◌, ℕ, List, [], true, false, cond, Option, Some, None, Ok, Err, Result, refl, subst}
+use Rattle.std.proofs.Common.{◌≡◌, ℕ, List, [], true, false, cond, Option, Some, None, Ok, Err, Result, refl, sym, subst}
 use Rattle.sqlite.specs.Order.{Row}
 use Rattle.sqlite.specs.Schema.{Schema}
 use Rattle.sqlite.specs.Listing.{understood, reads_listing, if_select, is_select, listing_schema}
 use Rattle.sqlite.specs.Effect.{Database, Reads}
 use Rattle.sqlite.specs.State.{State, Shown, ShowsRows}
+use Rattle.sqlite.specs.Given.{IsPlain}
 use Rattle.sqlite.specs.Clock.{timed as at_time}
 use Rattle.sqlite.specs.Command.{Command}
 use Rattle.sqlite_schema.specs.declared.command.Returning.{Returning}
@@ -17,7 +18,7 @@ use Rattle.sqlite_resolve.specs.Lowering.{Checked, and_then}
 use Rattle.sqlite_syntax.specs.declared.statement.Parsed.{Parsed}
 use Rattle.sqlite_tied.specs.Compute.{everything}
 use Rattle.pid_table_check.specs.Conditions.{IsNewer}
-use Rattle.pid_table_check.specs.Shapes.{meta_text, ShowsLabels, ShowsLater}
+use Rattle.pid_table_check.specs.Shapes.{meta_text, IsAsked, ShowsLabels, ShowsLater}
 
 -- a statement, if it is one, that shows nothing of a write and reads no time
 abbrev IsPlainIfAsked : Result Compiled CompileError → Type 0
@@ -69,6 +70,9 @@ plain schema = elim (reads_listing schema meta_text) as (λ b. IsPlainIfAsked (c
   | true ↦ listed_plain (compiled listing_schema meta_text) (compiled_plain listing_schema)
   | false ↦ compiled_plain schema
 ]
+
+pub asked_plain : (schema : Schema) → IsAsked schema meta_text → IsPlain (understood schema meta_text)
+asked_plain schema asked = subst IsPlain (sym asked.1) (subst IsPlainIfAsked asked.1 (plain schema))
 
 pub labels_shown : (old new : State) (rows : List Row) → Shown meta_text [] old new rows → ShowsLabels old.now rows
 unfolding Shown

@@ -27,3 +27,4 @@ pub mod AuthorFacts
 pub mod ReceiptFacts
 pub mod Judging
 pub mod Whole
+pub mod Later

@@ -57,8 +57,8 @@ ShowsLater db (Some n) = (rows : List Row) × ShowsLabels db rows × IsNewer n r
 ShowsLater db None = (rows : List Row) × ShowsLabels db rows × ((n : ℕ) → ¬ (IsNewer n rows))
 
 -- A later schema is judged before all else: it is Damaged where the labels can't be asked for, or show none.
-abbrev pub ExplainsLack : Database → TableFault → Type 0
-ExplainsLack db Memory = Unit {0}
-ExplainsLack db Store = Unit {0}
-ExplainsLack db (NewerSchema n) = ShowsLater db (Some n)
-ExplainsLack db Damaged = IsAsked db.schema meta_text → ShowsLater db None
+abbrev pub ExplainsLater : Database → TableFault → Type 0
+ExplainsLater db Memory = Unit {0}
+ExplainsLater db Store = Unit {0}
+ExplainsLater db (NewerSchema n) = ShowsLater db (Some n)
+ExplainsLater db Damaged = IsAsked db.schema meta_text → ShowsLater db None

@@ -1,9 +1,10 @@
 //! Accounts: each has a name and a rank, `root` is one, and some account is an administrator.
-ghost use Rattle.std.specs.Prelude.{◌≡◌, ◌≤◌, ◌↔◌, ℕ, IsTrue, codes};
+ghost use Rattle.std.specs.Prelude.{◌≡◌, ◌≤◌, ◌↔◌, ℕ, IsTrue, IfErr, codes};
 ghost use Rattle.std.specs.List.{All, Any};
 ghost use Rattle.sqlite.specs.declared.types.Value.TheVariants.{Text as TextValue};
 ghost use Rattle.sqlite.specs.Order.{column};
 ghost use Rattle.pid_rows.specs.TableRows.{number};
+ghost use Rattle.pid_rows.specs.Faults.{IsNotLater};
 ghost use Rattle.pid_table_check.specs.Conditions.{IsAccountRow, AreAccounts};
 ghost use Rattle.pid_rows.specs.Clauses.{GoesOn};
 ghost use Rattle.pid_table_check.specs.Clauses.{Checks};
@@ -91,6 +92,7 @@ pub(crate) fn checked_accounts<S: Alter>(
 ) -> Result<Vec<Row>, TableFault>
     ensures same_reference { tx.new.conn.ghost_name ≡ tx.old.conn.ghost_name }
     ensures goes { GoesOn S.Store tx.old.conn.now tx.new.conn.now result }
+    ensures never { IfErr result IsNotLater }
     ensures checks { Checks S.Store tx.old.conn.now tx.new.conn.now result (λ t. t.accounts) (λ t. AreAccounts t.accounts) }
 {
     let rows = account_rows(tx)?;

@@ -1,12 +1,12 @@
 //! The check of all tables: first which are there, and then their rows in one transaction that is rolled back.
-ghost use Rattle.std.specs.Prelude.{◌≡◌, false, IfErr, MatchResult};
+ghost use Rattle.std.specs.Prelude.{◌≡◌, false, None, IfErr, MatchResult};
 ghost use Rattle.std.specs.List.Sorted.{IsPermutation};
-ghost use Rattle.pid_rows.specs.Faults.{IsUntold};
+ghost use Rattle.pid_rows.specs.Faults.{IsUntold, IsNotLater};
 ghost use Rattle.pid_rows.specs.Schema.{pid_schema};
 ghost use Rattle.pid_table_check.specs.Conditions.{AreAccounts, AreItems, AreSubmissions, AreRemarks, AreReceipts, AreOfRegistry, IsRegistry, rows_in};
 ghost use Rattle.pid_table_check.specs.Checking.{Explains};
 ghost use Rattle.pid_table_check.specs.Reading.{Refutes};
-ghost use Rattle.pid_table_check.specs.Shapes.{ExplainsLack, HasNoTable, LacksATable};
+ghost use Rattle.pid_table_check.specs.Shapes.{ExplainsLater, HasEachTable, HasNoTable, LacksATable, ShowsLater};
 ghost use Rattle.pid_rows.specs.Clauses.{GoesOn, HasCleanDisk, OnlyReads, is_open, seen};
 ghost use Rattle.pid_table_check.specs.Clauses.{Judges};
 
@@ -32,6 +32,7 @@ fn check_replies<S: Alter>(
 ) -> Result<(), TableFault>
     ensures same_reference { tx.new.conn.ghost_name ≡ tx.old.conn.ghost_name }
     ensures goes { GoesOn S.Store tx.old.conn.now tx.new.conn.now result }
+    ensures never { IfErr result IsNotLater }
     ensures checks { Judges S.Store tx.old.conn.now tx.new.conn.now result
         (λ t x. IsPermutation t.submissions submissions.now → AreReceipts t.submissions t.receipts)
         (λ t e. IsPermutation t.submissions submissions.now → Refutes (AreReceipts t.submissions t.receipts) e) }
@@ -47,6 +48,7 @@ fn check_submitted<S: Alter>(
 ) -> Result<Vec<Row>, TableFault>
     ensures same_reference { tx.new.conn.ghost_name ≡ tx.old.conn.ghost_name }
     ensures goes { GoesOn S.Store tx.old.conn.now tx.new.conn.now result }
+    ensures never { IfErr result IsNotLater }
     ensures checks { Judges S.Store tx.old.conn.now tx.new.conn.now result
         (λ t rows. IsPermutation t.submissions rows.items × ((IsPermutation t.accounts accounts.now × AreAccounts t.accounts)
         → AreSubmissions t.accounts t.submissions × AreReceipts t.submissions t.receipts))
@@ -61,6 +63,7 @@ fn check_submitted<S: Alter>(
 fn check_named<S: Alter>(tx: &mut Transaction<'_, S>, alloc: Global) -> Result<Vec<Row>, TableFault>
     ensures same_reference { tx.new.conn.ghost_name ≡ tx.old.conn.ghost_name }
     ensures goes { GoesOn S.Store tx.old.conn.now tx.new.conn.now result }
+    ensures never { IfErr result IsNotLater }
     ensures checks { Judges S.Store tx.old.conn.now tx.new.conn.now result
         (λ t rows. IsPermutation t.items rows.items × AreItems t.items × AreRemarks t.remarks)
         (λ t e. Refutes (AreItems t.items × AreRemarks t.remarks) e) }
@@ -77,6 +80,7 @@ fn check_rows<S: Alter>(
 ) -> Result<(), TableFault>
     ensures same_reference { tx.new.conn.ghost_name ≡ tx.old.conn.ghost_name }
     ensures goes { GoesOn S.Store tx.old.conn.now tx.new.conn.now result }
+    ensures never { IfErr result IsNotLater }
     ensures checks { Judges S.Store tx.old.conn.now tx.new.conn.now result
         (λ t x. IsPermutation t.meta meta.now → AreOfRegistry t)
         (λ t e. IsPermutation t.meta meta.now → Refutes (AreOfRegistry t) e) }
@@ -99,6 +103,8 @@ fn check_tables<S: Alter>(tx: &mut Transaction<'_, S>, alloc: Global) -> Result<
     ensures checks { Judges S.Store tx.old.conn.now tx.new.conn.now result
         (λ t x. AreOfRegistry t)
         Explains }
+    ensures later { HasCleanDisk S.Store tx.new.conn.now → HasEachTable (seen S.Store tx.old.conn.now).schema
+        → MatchResult result (λ x. ShowsLater (seen S.Store tx.old.conn.now) None) (ExplainsLater (seen S.Store tx.old.conn.now)) }
 {
     let meta = meta_rows(tx)?;
     match newer(meta.as_slice()) {
@@ -113,6 +119,8 @@ fn check_whole<S: Alter>(conn: &mut Connection<S>, alloc: Global) -> Result<(), 
     ensures rests { OnlyReads S.Store conn.old conn.new }
     ensures told { HasCleanDisk S.Store conn.new → (seen S.Store conn.old).schema ≡ pid_schema
         → MatchResult result (λ x. IsRegistry (seen S.Store conn.old).trees) (Explains (rows_in (seen S.Store conn.old).trees)) }
+    ensures later { HasCleanDisk S.Store conn.new → HasEachTable (seen S.Store conn.old).schema
+        → MatchResult result (λ x. ShowsLater (seen S.Store conn.old) None) (ExplainsLater (seen S.Store conn.old)) }
 {
     let mut tx = conn.transaction();
     check_tables(&mut tx, alloc)
@@ -123,17 +131,19 @@ fn check_whole<S: Alter>(conn: &mut Connection<S>, alloc: Global) -> Result<(), 
 /// Which tables are there, it finds out by preparing a query of each table's columns by their names. Where none can be
 /// prepared it answers `Ok`: there is nothing to be damaged. Where some can, and not each, it answers `Damaged`; on tables
 /// with the shape of schema 1 it answers `Ok` only where all six conditions hold of their rows, and `Damaged` only where one
-/// of them fails. A later schema is judged before either: `NewerSchema` only where the labels have that greater number. It
-/// answers `Memory` and `Store` otherwise, and changes nothing. Of six tables with these columns but other keys, types or
-/// rules it says nothing.
+/// of them fails. A later schema is judged before either, whatever the tables: `NewerSchema` only where the labels have that
+/// greater number, and `Ok` or `Damaged` only where they have none. It answers `Memory` and `Store` otherwise, and changes
+/// nothing. Of six tables with these columns but other keys, types or rules it says no more than that.
 pub fn check<S: Alter>(conn: &mut Connection<S>, alloc: Global) -> Result<(), TableFault>
     requires { conn.old.in_transaction ≡ false }
     ensures rests { OnlyReads S.Store conn.old conn.new }
     ensures shut { HasCleanDisk S.Store conn.new → is_open S.Store conn.old ≡ false → MatchResult result (λ x. ⊥) IsUntold }
     ensures bare { HasCleanDisk S.Store conn.new → HasNoTable (seen S.Store conn.old).schema → IfErr result IsUntold }
-    ensures lacking { HasCleanDisk S.Store conn.new → LacksATable (seen S.Store conn.old).schema → MatchResult result (λ x. ⊥) (ExplainsLack (seen S.Store conn.old)) }
+    ensures lacking { HasCleanDisk S.Store conn.new → LacksATable (seen S.Store conn.old).schema → MatchResult result (λ x. ⊥) (ExplainsLater (seen S.Store conn.old)) }
     ensures told { HasCleanDisk S.Store conn.new → (seen S.Store conn.old).schema ≡ pid_schema
         → MatchResult result (λ x. IsRegistry (seen S.Store conn.old).trees) (Explains (rows_in (seen S.Store conn.old).trees)) }
+    ensures later { HasCleanDisk S.Store conn.new → HasEachTable (seen S.Store conn.old).schema
+        → MatchResult result (λ x. ShowsLater (seen S.Store conn.old) None) (ExplainsLater (seen S.Store conn.old)) }
 {
     if has_each_table(conn)? {
         return check_whole(conn, alloc);

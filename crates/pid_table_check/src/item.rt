@@ -6,7 +6,7 @@ ghost use Rattle.sqlite.specs.Order.{Row as Values};
 ghost use Rattle.pid_ident.specs.PathTexts.{path_cmp, parent_of};
 ghost use Rattle.pid_table_check.specs.Conditions.{AreItems};
 ghost use Rattle.pid_table_check.specs.PathSets.{ArePathsOf, IsItemAmong};
-ghost use Rattle.pid_rows.specs.Faults.{IsUntold};
+ghost use Rattle.pid_rows.specs.Faults.{IsUntold, IsNotLater};
 ghost use Rattle.pid_rows.specs.Clauses.{GoesOn};
 ghost use Rattle.pid_table_check.specs.Clauses.{Checks};
 
@@ -93,6 +93,7 @@ pub(crate) fn checked_items<S: Alter>(
 ) -> Result<Vec<Row>, TableFault>
     ensures same_reference { tx.new.conn.ghost_name ≡ tx.old.conn.ghost_name }
     ensures goes { GoesOn S.Store tx.old.conn.now tx.new.conn.now result }
+    ensures never { IfErr result IsNotLater }
     ensures checks { Checks S.Store tx.old.conn.now tx.new.conn.now result (λ t. t.items) (λ t. AreItems t.items) }
 {
     let rows = item_rows(tx)?;

@@ -1,7 +1,7 @@
 //! A database that has some of the tables, but not each.
 ghost use Rattle.std.specs.Prelude.{◌≡◌, false, IfOk, MatchResult};
 ghost use Rattle.pid_rows.specs.Faults.{IsUntold};
-ghost use Rattle.pid_table_check.specs.Shapes.{ShowsLater, ExplainsLack};
+ghost use Rattle.pid_table_check.specs.Shapes.{ShowsLater, ExplainsLater};
 ghost use Rattle.pid_rows.specs.Clauses.{GoesOn, HasCleanDisk, OnlyReads, seen};
 
 use crate::meta::newer;
@@ -43,7 +43,7 @@ fn unread(fault: TableFault) -> TableFault
 pub(crate) fn check_lacking<S: Alter>(conn: &mut Connection<S>) -> Result<(), TableFault>
     requires { conn.old.in_transaction ≡ false }
     ensures rests { OnlyReads S.Store conn.old conn.new }
-    ensures told { HasCleanDisk S.Store conn.new → MatchResult result (λ x. ⊥) (ExplainsLack (seen S.Store conn.old)) }
+    ensures told { HasCleanDisk S.Store conn.new → MatchResult result (λ x. ⊥) (ExplainsLater (seen S.Store conn.old)) }
 {
     if !can_ask(conn, META)? {
         return Err(TableFault::Damaged);

@@ -3,10 +3,10 @@ ghost use Rattle.std.specs.Prelude.{◌≡◌, [], IfOk, IfErr};
 ghost use Rattle.std.specs.List.Sorted.{IsPermutation};
 ghost use Rattle.sqlite.specs.Given.{IsPlain};
 ghost use Rattle.sqlite.specs.Listing.{understood};
-ghost use Rattle.pid_rows.specs.Schema.{pid_schema};
-ghost use Rattle.pid_rows.specs.Faults.{IsUntold};
+ghost use Rattle.sqlite.specs.Schema.{Schema};
+ghost use Rattle.pid_rows.specs.Faults.{IsUntold, IsNotLater};
 ghost use Rattle.pid_table_check.specs.Reading.{IsInOrder};
-ghost use Rattle.pid_table_check.specs.Shapes.{ShowsLabels};
+ghost use Rattle.pid_table_check.specs.Shapes.{IsAsked, ShowsLabels, meta_text};
 ghost use Rattle.pid_rows.specs.Clauses.{GoesOn, HasCleanDisk, Shown, seen};
 ghost use Rattle.pid_table_check.specs.Clauses.{Answers, Judges};
 
@@ -19,8 +19,9 @@ use sqlite::{Alter, Row, Transaction};
 fn all_rows<S: Alter>(tx: &mut Transaction<'_, S>, sql: &str) -> Result<Vec<Row>, TableFault>
     ensures same_reference { tx.new.conn.ghost_name ≡ tx.old.conn.ghost_name }
     ensures goes { GoesOn S.Store tx.old.conn.now tx.new.conn.now result }
+    ensures never { IfErr result IsNotLater }
     ensures shown { HasCleanDisk S.Store tx.new.conn.now → IfOk result (λ rows. Shown S.Store sql.now [] tx.old.conn.now tx.new.conn.now rows.items) }
-    ensures untold { HasCleanDisk S.Store tx.new.conn.now → (seen S.Store tx.old.conn.now).schema ≡ pid_schema → IsPlain (understood pid_schema sql.now) → IfErr result IsUntold }
+    ensures untold { HasCleanDisk S.Store tx.new.conn.now → (schema : Schema) → (seen S.Store tx.old.conn.now).schema ≡ schema → IsPlain (understood schema sql.now) → IfErr result IsUntold }
 {
     read_inside(tx, sql, &[])
 }
@@ -31,6 +32,7 @@ pub(crate) fn meta_rows<S: Alter>(tx: &mut Transaction<'_, S>) -> Result<Vec<Row
     ensures goes { GoesOn S.Store tx.old.conn.now tx.new.conn.now result }
     ensures answers { Answers S.Store tx.old.conn.now tx.new.conn.now result (λ t. t.meta) }
     ensures labels { HasCleanDisk S.Store tx.new.conn.now → IfOk result (λ rows. ShowsLabels (seen S.Store tx.old.conn.now) rows.items) }
+    ensures asked { HasCleanDisk S.Store tx.new.conn.now → IsAsked (seen S.Store tx.old.conn.now).schema meta_text → IfErr result IsUntold }
 {
     all_rows(tx, META)
 }
@@ -39,6 +41,7 @@ pub(crate) fn meta_rows<S: Alter>(tx: &mut Transaction<'_, S>) -> Result<Vec<Row
 pub(crate) fn account_rows<S: Alter>(tx: &mut Transaction<'_, S>) -> Result<Vec<Row>, TableFault>
     ensures same_reference { tx.new.conn.ghost_name ≡ tx.old.conn.ghost_name }
     ensures goes { GoesOn S.Store tx.old.conn.now tx.new.conn.now result }
+    ensures never { IfErr result IsNotLater }
     ensures answers { Answers S.Store tx.old.conn.now tx.new.conn.now result (λ t. t.accounts) }
 {
     all_rows(tx, ACCOUNTS)
@@ -48,6 +51,7 @@ pub(crate) fn account_rows<S: Alter>(tx: &mut Transaction<'_, S>) -> Result<Vec<
 pub(crate) fn item_rows<S: Alter>(tx: &mut Transaction<'_, S>) -> Result<Vec<Row>, TableFault>
     ensures same_reference { tx.new.conn.ghost_name ≡ tx.old.conn.ghost_name }
     ensures goes { GoesOn S.Store tx.old.conn.now tx.new.conn.now result }
+    ensures never { IfErr result IsNotLater }
     ensures answers { Answers S.Store tx.old.conn.now tx.new.conn.now result (λ t. t.items) }
 {
     all_rows(tx, ITEMS)
@@ -57,6 +61,7 @@ pub(crate) fn item_rows<S: Alter>(tx: &mut Transaction<'_, S>) -> Result<Vec<Row
 pub(crate) fn submission_rows<S: Alter>(tx: &mut Transaction<'_, S>) -> Result<Vec<Row>, TableFault>
     ensures same_reference { tx.new.conn.ghost_name ≡ tx.old.conn.ghost_name }
     ensures goes { GoesOn S.Store tx.old.conn.now tx.new.conn.now result }
+    ensures never { IfErr result IsNotLater }
     ensures answers { Judges S.Store tx.old.conn.now tx.new.conn.now result (λ t rows. IsPermutation t.submissions rows.items × IsInOrder rows.items) (λ t e. IsUntold e) }
 {
     all_rows(tx, SUBMISSIONS)
@@ -66,6 +71,7 @@ pub(crate) fn submission_rows<S: Alter>(tx: &mut Transaction<'_, S>) -> Result<V
 pub(crate) fn remark_rows<S: Alter>(tx: &mut Transaction<'_, S>) -> Result<Vec<Row>, TableFault>
     ensures same_reference { tx.new.conn.ghost_name ≡ tx.old.conn.ghost_name }
     ensures goes { GoesOn S.Store tx.old.conn.now tx.new.conn.now result }
+    ensures never { IfErr result IsNotLater }
     ensures answers { Answers S.Store tx.old.conn.now tx.new.conn.now result (λ t. t.remarks) }
 {
     all_rows(tx, REMARKS)
@@ -75,6 +81,7 @@ pub(crate) fn remark_rows<S: Alter>(tx: &mut Transaction<'_, S>) -> Result<Vec<R
 pub(crate) fn receipt_rows<S: Alter>(tx: &mut Transaction<'_, S>) -> Result<Vec<Row>, TableFault>
     ensures same_reference { tx.new.conn.ghost_name ≡ tx.old.conn.ghost_name }
     ensures goes { GoesOn S.Store tx.old.conn.now tx.new.conn.now result }
+    ensures never { IfErr result IsNotLater }
     ensures answers { Answers S.Store tx.old.conn.now tx.new.conn.now result (λ t. t.receipts) }
 {
     all_rows(tx, RECEIPTS)

@@ -7,7 +7,7 @@ ghost use Rattle.std.specs.List.{All};
 ghost use Rattle.pid_rows.specs.TableRows.{number};
 ghost use Rattle.pid_table_check.specs.Conditions.{IsReceiptRow, AreReceipts};
 ghost use Rattle.pid_table_check.specs.AuthorSets.{AreAuthorsOf, HasReply, HasCounts, IsNumbered};
-ghost use Rattle.pid_rows.specs.Faults.{IsUntold};
+ghost use Rattle.pid_rows.specs.Faults.{IsUntold, IsNotLater};
 ghost use Rattle.pid_table_check.specs.Reading.{Refutes};
 ghost use Rattle.pid_rows.specs.Clauses.{GoesOn};
 ghost use Rattle.pid_table_check.specs.Clauses.{Judges};
@@ -157,6 +157,7 @@ pub(crate) fn checked_receipts<S: Alter>(
 ) -> Result<(), TableFault>
     ensures same_reference { tx.new.conn.ghost_name ≡ tx.old.conn.ghost_name }
     ensures goes { GoesOn S.Store tx.old.conn.now tx.new.conn.now result }
+    ensures never { IfErr result IsNotLater }
     ensures checks { Judges S.Store tx.old.conn.now tx.new.conn.now result
         (λ t x. AreAuthorsOf authors.now t.submissions → AreReceipts t.submissions t.receipts)
         (λ t e. AreAuthorsOf authors.now t.submissions → Refutes (AreReceipts t.submissions t.receipts) e) }

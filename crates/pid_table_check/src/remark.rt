@@ -5,7 +5,7 @@ ghost use Rattle.sqlite.specs.Order.{column, Row as Values};
 ghost use Rattle.pid_rows.specs.TableRows.{number};
 ghost use Rattle.pid_table_check.specs.Conditions.{AreRemarks};
 ghost use Rattle.pid_table_check.specs.PlaceSets.{ArePlacesOf, Follows, HasPlace, IsRemarkAmong};
-ghost use Rattle.pid_rows.specs.Faults.{IsUntold};
+ghost use Rattle.pid_rows.specs.Faults.{IsUntold, IsNotLater};
 ghost use Rattle.pid_rows.specs.Clauses.{GoesOn};
 ghost use Rattle.pid_table_check.specs.Clauses.{Checks};
 
@@ -120,6 +120,7 @@ pub(crate) fn checked_remarks<S: Alter>(
 ) -> Result<Vec<Row>, TableFault>
     ensures same_reference { tx.new.conn.ghost_name ≡ tx.old.conn.ghost_name }
     ensures goes { GoesOn S.Store tx.old.conn.now tx.new.conn.now result }
+    ensures never { IfErr result IsNotLater }
     ensures checks { Checks S.Store tx.old.conn.now tx.new.conn.now result (λ t. t.remarks) (λ t. AreRemarks t.remarks) }
 {
     let rows = remark_rows(tx)?;

@@ -1,9 +1,10 @@
 //! Submissions: each is one of an account, stands as it may, and they count from 1.
-ghost use Rattle.std.specs.Prelude.{◌≡◌, ◌≢◌, ◌↔◌, List, ℕ, true, IsTrue};
+ghost use Rattle.std.specs.Prelude.{◌≡◌, ◌≢◌, ◌↔◌, List, ℕ, true, IsTrue, IfErr};
 ghost use Rattle.sqlite.specs.declared.types.Value.TheVariants.{Text as TextValue};
 ghost use Rattle.sqlite.specs.Order.{column};
 ghost use Rattle.pid_moderation.specs.WellMade.{ProposesName};
 ghost use Rattle.pid_rows.specs.TableRows.{number, form_of, name_of, state_number, decider_of, reason_of};
+ghost use Rattle.pid_rows.specs.Faults.{IsNotLater};
 ghost use Rattle.pid_table_check.specs.NameSets.{IsAmong, IsDecidedAmong, IsSubmissionAmong, AreSubmissionsAmong, Stands, AreReady};
 ghost use Rattle.std.specs.List.Sorted.{IsPermutation};
 ghost use Rattle.pid_table_check.specs.Conditions.{AreSubmissions};
@@ -122,6 +123,7 @@ pub(crate) fn checked_submissions<S: Alter>(
 ) -> Result<Vec<Row>, TableFault>
     ensures same_reference { tx.new.conn.ghost_name ≡ tx.old.conn.ghost_name }
     ensures goes { GoesOn S.Store tx.old.conn.now tx.new.conn.now result }
+    ensures never { IfErr result IsNotLater }
     ensures checks { Judges S.Store tx.old.conn.now tx.new.conn.now result
         (λ t rows. IsPermutation t.submissions rows.items × (AreReady names.now t → AreSubmissions t.accounts t.submissions))
         (λ t e. AreReady names.now t → Refutes (AreSubmissions t.accounts t.submissions) e) }

@@ -1,5 +1,5 @@
 -- What the check tells of tables that show a sound history.
-use Rattle.std.proofs.Common.{◌≡◌, inl, inr, true, false, IsTrue, Result, Ok, Err, IfErr, MatchResult}
+use Rattle.std.proofs.Common.{◌≡◌, inl, inr, false, Result, Ok, Err, IfErr, MatchResult}
 use Rattle.std.proofs.lemmas.Bool.{cases_Bool}
 use Rattle.sqlite.specs.State.{State}
 use Rattle.pid_moderation.specs.Views.{Views}

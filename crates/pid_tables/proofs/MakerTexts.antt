@@ -1,5 +1,5 @@
 -- In a database of any schema each text makes its table, or is refused.
-use Rattle.std.proofs.Common.{◌≡◌, ℕ, List, [], ◌∷◌, codes, Bool, true, false, cond, is_some, Option, Some, None, Ok, Err, Result, refl}
+use Rattle.std.proofs.Common.{◌≡◌, ℕ, List, [], codes, Bool, true, false, cond, is_some, Option, None, Ok, Err, Result, refl}
 use Rattle.std.specs.Prelude.{slice_range, if◌then◌else◌}
 use Rattle.sqlite.specs.Schema.{Schema}
 use Rattle.sqlite.specs.Listing.{understood, reads_listing, if_select, is_select, listing_schema}

@@ -2,12 +2,12 @@
 use Rattle.std.proofs.Common.{◌≡◌, inl, inr, [], IsTrue, refl, sym, ap, subst, ◌∙◌}
 use Rattle.sqlite.specs.Effect.{Database, IsDatabase}
 use Rattle.sqlite.specs.Schema.{Schema}
-use Rattle.sqlite.specs.State.{State, HasCleanDisk, Opens, IsLive}
+use Rattle.sqlite.specs.State.{State, Opens, IsLive}
 use Rattle.sqlite.specs.Tree.{Trees}
 use Rattle.sqlite_catalog.proofs.ReadLemmas.{lists_once}
 use Rattle.pid_moderation.specs.History.{History}
 use Rattle.pid_moderation.specs.Views.{Views}
-use Rattle.pid_rows.specs.Leaves.{as_found, AtRest, RestsOn, OnlyReads}
+use Rattle.pid_rows.specs.Leaves.{as_found, AtRest, OnlyReads}
 use Rattle.pid_rows.specs.Schema.{no_schema, pid_schema}
 use Rattle.pid_rows.specs.Shows.{Shows}
 use Rattle.pid_tables.specs.Creation.{AreMade, IsBare, IsBlank}

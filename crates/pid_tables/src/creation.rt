@@ -124,9 +124,9 @@ fn fill<S: Alter>(tx: &mut Transaction<'_, S>) -> Result<(), TableFault>
 /// Makes the tables of a new registry in a database that has none, in one transaction: `root` is an administrator, and
 /// there is nothing else.
 ///
-/// Whatever it answers, a crash leaves a database without tables, or the new registry whole. Where a name is taken that one
-/// of the tables wants, it answers `Damaged`, or else `Memory` or `Store`, and changes nothing. Beside tables of other names
-/// the new ones are made; what they then are together, no clause says.
+/// In a database with no table at all, whatever it answers, a crash leaves that, or the new registry whole. Where a name is
+/// taken that one of the tables wants, it answers `Damaged`, or else `Memory` or `Store`, and changes nothing. Beside tables of
+/// other names the new ones are made; what they then are together, and what a crash leaves of them, no clause says.
 pub fn create<S: Alter>(conn: &mut Connection<S>) -> Result<(), TableFault>
     requires { conn.old.in_transaction ≡ false }
     ensures settled { conn.new.in_transaction ≡ false }
@@ -134,6 +134,7 @@ pub fn create<S: Alter>(conn: &mut Connection<S>) -> Result<(), TableFault>
     ensures made { IsBlank S.Store conn.old → OnOk result (AtRest S.Store conn.new (views_of [])) }
     ensures untold { HasCleanDisk S.Store conn.new → IsBlank S.Store conn.old → IfErr result IsUntold }
     ensures crash { IsBlank S.Store conn.old → LeavesBareOrNew S.Store conn.new }
+    ensures shut { HasCleanDisk S.Store conn.new → is_open S.Store conn.old ≡ false → MatchResult result (λ _. ⊥) IsUntold }
     ensures rests { IsMet S.Store conn.old → OnlyReads S.Store conn.old conn.new }
     ensures refused { HasCleanDisk S.Store conn.new → IsMet S.Store conn.old → MatchResult result (λ _. ⊥) IsOfMaking }
     ensures kept { (v : Views) → AtRest S.Store conn.old v → AtRest S.Store conn.new v }

@@ -1,5 +1,5 @@
 //! The tables of a registry, over a connection.
-ghost use Rattle.std.specs.Prelude.{◌≡◌, codes, false, length, map, IfOk, IsTrue, option_map, IfErr, MatchResult, OnOk};
+ghost use Rattle.std.specs.Prelude.{◌≡◌, codes, false, None, length, map, IfOk, IsTrue, option_map, IfErr, MatchResult, OnOk};
 ghost use Rattle.pid_moderation.specs.History.{History};
 ghost use Rattle.pid_moderation.specs.Sound.{IsSound};
 ghost use Rattle.pid_moderation.specs.Views.{Views, views_of};
@@ -10,10 +10,10 @@ ghost use Rattle.pid_moderation.specs.Wants.{wanted_by};
 ghost use Rattle.pid_moderation.specs.WellMade.{AllItems, HoldsParents};
 ghost use Rattle.pid_table_check.specs.Checking.{Explains};
 ghost use Rattle.pid_table_check.specs.Conditions.{IsRegistry, rows_in};
-ghost use Rattle.pid_table_check.specs.Shapes.{ExplainsLack, HasNoTable, LacksATable};
+ghost use Rattle.pid_table_check.specs.Shapes.{ExplainsLater, HasEachTable, HasNoTable, LacksATable, ShowsLater};
 ghost use Rattle.pid_rows.specs.Causes.{IsReadable};
-ghost use Rattle.pid_rows.specs.Faults.{IsUntold};
-ghost use Rattle.pid_rows.specs.LabelRows.{HasLabel};
+ghost use Rattle.pid_rows.specs.Faults.{IsUntold, IsNotLater};
+ghost use Rattle.pid_rows.specs.LabelRows.{ExplainsNumber, HasLabel};
 ghost use Rattle.pid_rows.specs.Schema.{pid_schema};
 ghost use Rattle.pid_rows.specs.ItemPairs.{pair_of};
 ghost use Rattle.pid_table_lists.specs.Children.{children_of};
@@ -148,15 +148,17 @@ impl<S: Alter + Drop> Tables<S> {
     ///
     /// `Damaged` where a table or a column lacks, or a row breaks a condition of a registry; `NewerSchema` where the labels
     /// have a later schema, which is judged before. `docs/STORAGE.md` has the conditions. Of tables with other keys, types or
-    /// rules nothing is said.
+    /// rules no more is said than whether they are of a later schema.
     pub fn check(&mut self, alloc: Global) -> Result<(), TableFault>
         requires { self.old.conn.in_transaction ≡ false }
         ensures rests { OnlyReads S.Store self.old.conn self.new.conn }
         ensures shut { HasCleanDisk S.Store self.new.conn → is_open S.Store self.old.conn ≡ false → MatchResult result (λ x. ⊥) IsUntold }
         ensures bare { HasCleanDisk S.Store self.new.conn → HasNoTable (seen S.Store self.old.conn).schema → IfErr result IsUntold }
-        ensures lacking { HasCleanDisk S.Store self.new.conn → LacksATable (seen S.Store self.old.conn).schema → MatchResult result (λ x. ⊥) (ExplainsLack (seen S.Store self.old.conn)) }
+        ensures lacking { HasCleanDisk S.Store self.new.conn → LacksATable (seen S.Store self.old.conn).schema → MatchResult result (λ x. ⊥) (ExplainsLater (seen S.Store self.old.conn)) }
         ensures told { HasCleanDisk S.Store self.new.conn → (seen S.Store self.old.conn).schema ≡ pid_schema
             → MatchResult result (λ x. IsRegistry (seen S.Store self.old.conn).trees) (Explains (rows_in (seen S.Store self.old.conn).trees)) }
+        ensures later { HasCleanDisk S.Store self.new.conn → HasEachTable (seen S.Store self.old.conn).schema
+            → MatchResult result (λ x. ShowsLater (seen S.Store self.old.conn) None) (ExplainsLater (seen S.Store self.old.conn)) }
         // Tables that show a sound history are neither damaged nor of a later schema.
         ensures good { HasCleanDisk S.Store self.new.conn → (h : History) → IsSound h → AtRest S.Store self.old.conn (views_of h) → IfErr result IsUntold }
     {
@@ -164,7 +166,9 @@ impl<S: Alter + Drop> Tables<S> {
         check(&mut self.conn, alloc)
     }
 
-    /// The number of the schema, as the labels have it, and 0 where none of its tables is there. Other tables do not count.
+    /// The number of the schema, as the labels have it, and 0 where none of its tables is there, whatever others are.
+    ///
+    /// Where something stands beside its tables, or they have other columns, no clause says which number it is.
     pub fn version(&mut self) -> Result<u32, TableFault>
         requires { self.old.conn.in_transaction ≡ false }
         ensures rests { OnlyReads S.Store self.old.conn self.new.conn }
@@ -172,6 +176,8 @@ impl<S: Alter + Drop> Tables<S> {
         ensures was_open { HasCleanDisk S.Store self.new.conn → OnOk result (IsTrue (is_open S.Store self.old.conn)) }
         ensures none { HasCleanDisk S.Store self.new.conn → HasNoTable (seen S.Store self.old.conn).schema → MatchResult result (λ n. n ≡ 0) IsUntold }
         ensures labelled { HasCleanDisk S.Store self.new.conn → (seen S.Store self.old.conn).schema ≡ pid_schema → IfOk result (HasLabel (seen S.Store self.old.conn).trees (codes "schema")) }
+        ensures refused { HasCleanDisk S.Store self.new.conn → (seen S.Store self.old.conn).schema ≡ pid_schema → IfErr result (ExplainsNumber (seen S.Store self.old.conn).trees (codes "schema")) }
+        ensures never { IfErr result IsNotLater }
     {
         if has_some_table(&mut self.conn)? {
             schema_number(&mut self.conn)

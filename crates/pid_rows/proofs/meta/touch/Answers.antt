@@ -4,6 +4,7 @@ use Rattle.pid_rows.proofs.CauseLemmas.{passed_on}
 use Rattle.pid_rows.proofs.KeyTexts.{select_meta_is}
 use Rattle.pid_rows.proofs.StatementTexts.{select_meta}
 use Rattle.pid_rows.proofs.ReadLemmas.{shows_still}
+use Rattle.pid_rows.specs.Schema.{pid_schema}
 use Rattle.pid_rows.proofs.meta.touch.Goals as goal
 
 pub returns-clause-shows : goal.returns-clause-shows
@@ -12,4 +13,4 @@ returns-clause-shows g c clean inside counts v shows _ =
 
 pub returns-in_err-read_inside-clause-shows : goal.returns-in_err-read_inside-clause-shows
 returns-in_err-read_inside-clause-shows g c clean inside counts v shows _ =
-    passed_on c.from_residual.result _ _ IsUntold c.from_residual.ensures.1 (c.in_err-read_inside.ensures.untold clean shows.schema select_meta_is.plain)
+    passed_on c.from_residual.result _ _ IsUntold c.from_residual.ensures.1 (c.in_err-read_inside.ensures.untold clean pid_schema shows.schema select_meta_is.plain)

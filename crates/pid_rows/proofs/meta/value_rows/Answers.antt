@@ -4,7 +4,8 @@ use Rattle.pid_rows.proofs.StatementTexts.{select_meta}
 use Rattle.sqlite.specs.Held.{state}
 use Rattle.pid_rows.proofs.QueryTexts.{meta_query}
 use Rattle.pid_rows.proofs.FindLemmas.{at_rest, value_found}
-use Rattle.pid_rows.proofs.LabelLemmas.{values_read}
+use Rattle.pid_rows.proofs.LabelLemmas.{values_read, each_read}
+use Rattle.pid_rows.proofs.KeyTexts.{select_meta_is}
 use Rattle.pid_rows.proofs.meta.value_rows.Goals as goal
 
 pub returns-clause-reads : goal.returns-clause-reads
@@ -18,3 +19,10 @@ returns-clause-reads g c = record {
 pub returns-clause-valued : goal.returns-clause-valued
 returns-clause-valued g c clean has =
     values_read g.S.Store c.args.label.now (state g.S.Store (record c.args.conn.now { in_transaction = true })) c.read_rows.result has (rw (c.to_sql-label.ensures) at (c.read_rows.ensures.shown clean))
+
+pub returns-clause-each : goal.returns-clause-each
+returns-clause-each g c clean has =
+    each_read g.S.Store c.args.label.now (state g.S.Store (record c.args.conn.now { in_transaction = true })) c.read_rows.result has (rw (c.to_sql-label.ensures) at (c.read_rows.ensures.shown clean))
+
+pub returns-clause-untold : goal.returns-clause-untold
+returns-clause-untold g c clean has = c.read_rows.ensures.untold clean has select_meta_is.plain

@@ -2,11 +2,11 @@ use Rattle.std.proofs.Common.{rules, ◌∙◌, sym, subst, IfErr}
 use Rattle.std.proofs.lemmas.Result.{err_from_is_err_and}
 use Rattle.sqlite.specs.Values.{bound}
 use Rattle.pid_rows.proofs.ReadLemmas.{shown_passes, fails_keeping}
-use Rattle.pid_rows.specs.Faults.{IsUntold}
+use Rattle.pid_rows.specs.Faults.{IsUntold, IsNotLater}
 use Rattle.sqlite.specs.Held.{state}
 use Rattle.pid_rows.specs.Causes.{IsCaused}
 use Rattle.pid_rows.proofs.CauseLemmas.{caused}
-use Rattle.pid_rows.proofs.FaultLemmas.{untold}
+use Rattle.pid_rows.proofs.FaultLemmas.{untold, not_later}
 use Rattle.pid_rows.proofs.run.read_inside.Goals as goal
 
 pub returns-in_err-query_all-clause-goes : goal.returns-in_err-query_all-clause-goes
@@ -31,7 +31,7 @@ returns-clause-goes g c =
     }
 
 pub returns-in_err-query_all-clause-untold : goal.returns-in_err-query_all-clause-untold
-returns-in_err-query_all-clause-untold g c clean has plain =
+returns-in_err-query_all-clause-untold g c clean schema has plain =
     let p = err_from_is_err_and c.from_residual.result c.from_residual.ensures.1 in
     subst (λ r. IfErr r IsUntold) (sym p.1) (subst IsUntold (sym p.2) (untold c.args.sql.now (bound c.args.params.now) _ _ has plain _ (c.in_err-query_all.ensures.err clean)))
 
@@ -41,3 +41,8 @@ returns-in_err-query_all-clause-caused g c clean has query =
     let old = state g.S.Store c.args.tx.now.conn.now in
     let new = state g.S.Store c.query_all.new.self.conn.now in
     subst (λ r. IfErr r (IsCaused old new)) (sym p.1) (subst (IsCaused old new) (sym p.2) (caused c.args.sql.now (bound c.args.params.now) old new has query _ (c.in_err-query_all.ensures.err clean)))
+
+pub returns-in_err-query_all-clause-never : goal.returns-in_err-query_all-clause-never
+returns-in_err-query_all-clause-never g c =
+    let p = err_from_is_err_and c.from_residual.result c.from_residual.ensures.1 in
+    subst (λ r. IfErr r IsNotLater) (sym p.1) (subst IsNotLater (sym p.2) (not_later _))

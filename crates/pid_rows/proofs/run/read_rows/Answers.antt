@@ -11,6 +11,8 @@ use Rattle.pid_rows.specs.declared.fault.TableFault.{TableFault}
 use Rattle.pid_rows.specs.declared.fault.TableFault.TheVariants.{Memory, Store, NewerSchema, Damaged}
 use Rattle.pid_rows.proofs.CauseLemmas.{caused_first}
 use Rattle.pid_rows.proofs.OnlyReading.{reads_begun}
+use Rattle.pid_rows.specs.Faults.{IsUntold}
+use Rattle.pid_rows.specs.Schema.{pid_schema}
 use Rattle.pid_rows.proofs.run.read_rows.Goals as goal
 
 there : {S : Type 0} (g : Ghosts S) {X E : Type 0} (sql : List _) (params : Row) (old : State) (mid : Held S) (r : Result X E) (rows : X → List Row) → IfOk r (λ v. Shown sql params old (state g mid) (rows v))
@@ -56,3 +58,12 @@ returns-clause-caused g c clean v rest query =
     let told : IfErr c.read_inside.result (IsCaused begun (state g.S.Store c.read_inside.new.tx.conn.now)) = rw c.transaction-tx.ensures.begun at (c.read_inside.ensures.caused mid) (λ opened. (rest.shows opened).schema) query in
     subst (λ h. IfErr c.read_inside.result (IsCaused (state g.S.Store c.args.conn.now) (state g.S.Store h))) same
     (later g.S.Store c.args.conn.now (state g.S.Store c.read_inside.new.tx.conn.now) (state g.S.Store end) c.read_inside.result c.drop-tx.ensures.survives.counts told)
+
+pub returns-clause-untold : goal.returns-clause-untold
+returns-clause-untold g c clean has plain =
+    let end = c.drop-tx.new.self.0 in
+    let same : end ≡ c.conn-1.given.0 = search rules in
+    let late : HasCleanDisk (state g.S.Store end) = search rules in
+    let mid : HasCleanDisk (state g.S.Store c.read_inside.new.tx.conn.now) = omega (arith, c.drop-tx.ensures.survives.clean) in
+    let told : IfErr c.read_inside.result IsUntold = rw c.transaction-tx.ensures.begun at (c.read_inside.ensures.untold mid) pid_schema has plain in
+    told

@@ -27,3 +27,12 @@ returns-clause-told g c clean has =
     let checks = rw c.transaction-tx.ensures.begun at c.check_tables.ensures.checks in
     let begun = state g.S.Store (record c.args.conn.now { in_transaction = true }) in
     told_whole begun (state g.S.Store first) c.check_tables.result (checks mid has)
+
+pub returns-clause-later : goal.returns-clause-later
+returns-clause-later g c clean each =
+    let end = c.drop-tx.new.self.0 in
+    let same : end ≡ c.conn-1.given.0 = search rules in
+    let late : HasCleanDisk (state g.S.Store end) = search rules in
+    let first = c.check_tables.new.tx.conn.now in
+    let mid : HasCleanDisk (state g.S.Store first) = omega (arith, c.drop-tx.ensures.survives.clean) in
+    (rw c.transaction-tx.ensures.begun at c.check_tables.ensures.later) mid each

@@ -2,6 +2,9 @@ use Rattle.std.proofs.Common.{sym, subst}
 use Rattle.std.proofs.lemmas.List.Sorted.{IsPermutation-sym}
 use Rattle.pid_table_check.specs.Conditions.{AreItems}
 use Rattle.pid_table_check.proofs.Moved.{items_moved}
+use Rattle.pid_rows.proofs.CauseLemmas.{passed_from}
+use Rattle.pid_rows.specs.Faults.{IsNotLater}
+use Rattle.pid_table_check.proofs.Later.{untold_never}
 use Rattle.pid_table_check.proofs.item.checked_items.Goals as goal
 
 pub returns-then-good-clause-checks : goal.returns-then-good-clause-checks
@@ -16,3 +19,6 @@ returns-else-good-clause-checks g c clean has good =
     let yes = c.in_ok-good.ensures.judged.1 (subst AreItems (sym c.as_slice.ensures.value) (items_moved _ _ it.0 good)) in
     let no = c.if-good.false in
     absurd cc
+
+pub returns-in_err-good-clause-never : goal.returns-in_err-good-clause-never
+returns-in_err-good-clause-never g c = passed_from c.from_residual-in_err-good.result _ IsNotLater c.from_residual-in_err-good.ensures.1 (untold_never _ c.in_err-good.ensures.untold)

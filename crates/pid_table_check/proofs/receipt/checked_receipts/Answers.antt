@@ -4,6 +4,9 @@ use Rattle.std.proofs.lemmas.List.Sorted.{IsPermutation-sym}
 use Rattle.pid_table_check.specs.Conditions.{IsReceiptRow}
 use Rattle.pid_table_check.proofs.Each.{each_member, each_place}
 use Rattle.pid_table_check.proofs.Judging.{receipts_moved}
+use Rattle.pid_rows.proofs.CauseLemmas.{passed_from}
+use Rattle.pid_rows.specs.Faults.{IsNotLater}
+use Rattle.pid_table_check.proofs.Later.{untold_never}
 use Rattle.pid_table_check.proofs.receipt.checked_receipts.Goals as goal
 
 pub returns-then-good-clause-checks : goal.returns-then-good-clause-checks
@@ -24,3 +27,6 @@ returns-clause-checks g c clean has are good =
     let yes = (c.in_ok-good.ensures.judged _ are).1 (subst (All (IsReceiptRow _)) (sym c.as_slice.ensures.value) all) in
     let not = c.if-good.false in
     absurd cc
+
+pub returns-in_err-good-clause-never : goal.returns-in_err-good-clause-never
+returns-in_err-good-clause-never g c = passed_from c.from_residual-in_err-good.result _ IsNotLater c.from_residual-in_err-good.ensures.1 (untold_never _ c.in_err-good.ensures.untold)

@@ -1,10 +1,12 @@
-use Rattle.std.proofs.Common.{◌≡◌, inl, [], true, OnOk, IsTrue, refl, rules, subst}
+use Rattle.std.proofs.Common.{◌≡◌, Bool, [], true, false, OnOk, IsTrue, refl, sym, rules, arith, subst, ◌∙◌}
 use Rattle.sqlite.specs.Held.{state}
 use Rattle.sqlite.specs.State.{HasCleanDisk}
 use Rattle.sqlite.proofs.StateLemmas.{clean_if_open, survives_then}
 use Rattle.sqlite.proofs.Callers.{survives_begin}
 use Rattle.pid_moderation.specs.Views.{views_of}
 use Rattle.pid_rows.specs.Leaves.{AtRest, OnlyReads}
+use Rattle.pid_rows.specs.Faults.{IsUntold}
+use Rattle.pid_rows.proofs.CauseLemmas.{passed_on}
 use Rattle.pid_rows.proofs.GoingLemmas.{earlier}
 use Rattle.pid_rows.proofs.OnlyReading.{reads_begun}
 use Rattle.pid_tables.proofs.MetLemmas.{reads_if_never, met_at_rest}
@@ -53,3 +55,26 @@ returns-clause-rests g c met =
 
 pub returns-clause-kept : goal.returns-clause-kept
 returns-clause-kept g c v rest = (returns-clause-rests g c (met_at_rest (state g.S.Store c.args.conn.now) v rest)).kept v rest
+
+-- ---- where a fault has shut the connection
+
+never_open : (s : Bool) → s ≡ false → IsTrue s → ⊥
+never_open s closed opened = let bad = sym opened ∙ closed in let no : ⊥ = cc in no
+
+pub returns-in_err-fill-clause-shut : goal.returns-in_err-fill-clause-shut
+returns-in_err-fill-clause-shut g c clean closed =
+    let end = c.drop-batch.new.self.0 in
+    let same : end ≡ c.conn-1.given.0 = search rules in
+    let late : HasCleanDisk (state g.S.Store end) = search rules in
+    let mid : HasCleanDisk (state g.S.Store c.fill.new.tx.conn.now) = omega (arith, c.drop-batch.ensures.survives.clean) in
+    let filled = rw c.transaction-batch.ensures.begun at c.in_err-fill.ensures.filled in
+    passed_on c.from_residual.result _ _ IsUntold c.from_residual.ensures.1 (filled mid refl (λ opened. absurd (never_open _ closed opened)))
+
+pub returns-clause-shut : goal.returns-clause-shut
+returns-clause-shut g c clean closed =
+    let end = c.commit.new.batch.0 in
+    let same : end ≡ c.conn-2-1.given.0 = search rules in
+    let late : HasCleanDisk (state g.S.Store end) = search rules in
+    let mid = earlier (state g.S.Store c.fill.new.tx.conn.now) (state g.S.Store end) c.commit.ensures.survives late in
+    let goes = rw c.transaction-batch.ensures.begun at c.in_ok-fill.ensures.goes in
+    absurd (never_open _ closed (goes.was_open mid (goes.going mid refl).0))

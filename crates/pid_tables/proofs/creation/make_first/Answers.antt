@@ -1,4 +1,4 @@
-use Rattle.std.proofs.Common.{[], ◌∷◌, refl, codes, Err}
+use Rattle.std.proofs.Common.{[], ◌∷◌, refl, codes}
 use Rattle.sqlite.specs.Held.{state}
 use Rattle.pid_rows.specs.Faults.{IsUntold}
 use Rattle.pid_rows.specs.Schema.{meta, account, item}

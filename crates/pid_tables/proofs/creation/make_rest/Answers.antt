@@ -1,10 +1,10 @@
-use Rattle.std.proofs.Common.{[], ◌∷◌, refl, codes, Err}
+use Rattle.std.proofs.Common.{[], ◌∷◌, refl, codes}
 use Rattle.sqlite.specs.Held.{state}
 use Rattle.pid_rows.specs.Faults.{IsUntold}
 use Rattle.pid_rows.specs.Schema.{meta, account, item, submission, remark, receipt}
 use Rattle.pid_rows.proofs.CauseLemmas.{passed_on}
 use Rattle.pid_rows.proofs.GoingLemmas.{earlier}
-use Rattle.pid_tables.specs.Creation.{IsOfMaking, IsMetFault}
+use Rattle.pid_tables.specs.Creation.{IsOfMaking}
 use Rattle.pid_tables.proofs.CreateTexts.{submission_creates, remark_creates, receipt_creates}
 use Rattle.pid_tables.proofs.MakerTexts.{submission_maker, remark_maker, receipt_maker}
 use Rattle.pid_tables.proofs.MetLemmas.{took_then, took_both}
