@@ -1,4 +1,2 @@
-pub mod Feeding
 pub mod Tidying
-pub mod Going
 pub mod Wording

@@ -5,16 +5,13 @@ use Rattle.pid_reader.specs.Reading.{refused, history_of}
 use Rattle.pid_reader.specs.LookingBack.{entries_back}
 use Rattle.pid_ident.specs.Sending.{SendsFront}
 use Rattle.pid_cli.specs.Told.{IsTold}
-use Rattle.pid_cli.specs.declared.pieces.TheConstants.{LARGEST}
+use Rattle.pid_cli.specs.declared.text_end.TheConstants.{LARGEST}
 use Rattle.pid_cli.specs.declared.text_end.TextEnd.{TextEnd}
 use Rattle.pid_cli.specs.declared.text_end.TextEnd.TheVariants.{Done, Line, TooManyEntries, TooLarge, Memory, ReadFault, WriteFault}
 
 -- how many entries a text has
 abbrev pub count_of : List ℕ → ℕ
 count_of text = length (entries_back (history_of text))
-
-abbrev pub HasEntries : List ℕ → ℕ → Type 0
-HasEntries text count = count ≡ count_of text
 
 -- the line of a good text with so many entries: ok 35598
 abbrev pub ok_line : ℕ → List ℕ

@@ -3,7 +3,7 @@ use Rattle.std.specs.Prelude.{◌≡◌, ℕ, ◌<◌, ◌≤◌, List, length, 
 use Rattle.pid_ident.specs.Trees.{TreeMap}
 use Rattle.pid_reader.specs.declared.refusal.ReadRefusal.TheVariants as refusals
 use Rattle.pid_reader.specs.Reading.{Reads, refused}
-use Rattle.pid_cli.specs.declared.pieces.TheConstants.{LARGEST}
+use Rattle.pid_cli.specs.declared.text_end.TheConstants.{LARGEST}
 use Rattle.pid_cli.specs.declared.text_end.TextEnd.{TextEnd}
 use Rattle.pid_cli.specs.declared.text_end.TextEnd.TheVariants.{Done, Line, TooManyEntries, TooLarge, Memory, ReadFault, WriteFault}
 

@@ -1,6 +1,5 @@
 pub mod TextEnds
 pub mod Judgements
-pub mod InputEnds
 pub mod Told
 pub mod Tidied
 pub mod Checked

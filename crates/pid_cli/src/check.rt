@@ -2,16 +2,14 @@
 ghost use Rattle.std.specs.Prelude.{◌≡◌, ◌+◌, ◌≤◌, ℕ, [], List, IsSome, IfSome, IfErr, Err, Some, None, length};
 ghost use Rattle.std.specs.Io.KnownBytes.{Consumes};
 ghost use Rattle.pid_ident.specs.Sending.{Sends};
-ghost use Rattle.pid_cli.specs.Checked.{IsChecked, HasEntries, ok_line};
-ghost use Rattle.pid_cli.specs.InputEnds.{IsRead};
-ghost use Rattle.pid_reader.specs.EntryCounters.{CountsText};
+ghost use Rattle.pid_cli.specs.Checked.{IsChecked, ok_line};
+ghost use Rattle.pid_reader.specs.InputTexts.{HasEntries, IsRead};
 
-use crate::pieces::{InputEnd, LARGEST, read_text};
-use crate::text_end::TextEnd;
+use crate::text_end::{LARGEST, TextEnd};
 use crate::told::tell_unread;
 use itoa::Buffer;
 use pid_ident::{Input, Output, WriteFault, write_parts};
-use pid_reader::EntryCounter;
+use pid_reader::{InputEnd, Never, count_input};
 use std::alloc::Global;
 
 /// Writes `ok` and the count of the entries of what the input gives, or the line of its fault.
@@ -25,13 +23,13 @@ pub fn check<I: Input, O: Output>(alloc: Global, input: &mut I, output: &mut O) 
     ensures goes { I.goes input.old input.new }
     ensures stops { (front : List ℕ) × Consumes (I.to_come input.old) (I.to_come input.new) front × (length front ≤ LARGEST + 1) }
 {
-    let counted = read_text(input, EntryCounter::new(alloc));
+    let counted = count_input(alloc, LARGEST, input);
     write_counted(counted, output)
 }
 
 // Writes the count, or tells why there is none.
-fn write_counted<O: Output>(counted: Result<u64, InputEnd>, output: &mut O) -> TextEnd
-    ensures checked { (text : List ℕ) → IsRead HasEntries counted text → IsChecked result text (O.taken output.old) (O.taken output.new) }
+fn write_counted<O: Output>(counted: Result<u64, InputEnd<Never>>, output: &mut O) -> TextEnd
+    ensures checked { (text : List ℕ) → IsRead HasEntries LARGEST counted text → IsChecked result text (O.taken output.old) (O.taken output.new) }
     ensures read_fault { result ≡ TextEnd.ReadFault → counted ≡ Err InputEnd.ReadFault }
     ensures read_fault_first { counted ≡ Err InputEnd.ReadFault → result ≡ TextEnd.ReadFault }
     ensures write_fault { result ≡ TextEnd.WriteFault → IsSome (O.write_fault output.new) }

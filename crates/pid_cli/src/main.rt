@@ -2,8 +2,6 @@
 #![tactic(auto)]
 
 mod check;
-mod pieces;
-mod readers;
 #[cfg(test)]
 mod tests;
 mod text_end;

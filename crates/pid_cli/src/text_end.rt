@@ -8,6 +8,9 @@ use itoa::Buffer;
 use pid_ident::{LineKind, Output, WriteFault, write_all, write_parts};
 use pid_reader::ReadRefusal;
 
+/// The longest text that is read, in bytes.
+pub const LARGEST: usize = 4_194_304;
+
 /// How the reading of a text ends.
 #[derive(Clone, Copy, Debug, PartialEq, Eq)]
 pub enum TextEnd {

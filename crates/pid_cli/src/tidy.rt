@@ -1,15 +1,14 @@
 //! The canonical text of what an input gives.
 ghost use Rattle.std.specs.Prelude.{◌≡◌, ◌⊎◌, ◌+◌, ◌≤◌, ℕ, List, IsSome, IfSome, Err, length};
 ghost use Rattle.std.specs.Io.KnownBytes.{Consumes};
+ghost use Rattle.pid_reader.specs.InputTexts.{IsRead};
 ghost use Rattle.pid_reader.specs.Reading.{Reads};
-ghost use Rattle.pid_cli.specs.InputEnds.{IsRead};
 ghost use Rattle.pid_cli.specs.Tidied.{IsTidied, PrintsNothing};
 
-use crate::pieces::{InputEnd, LARGEST, read_text};
-use crate::text_end::TextEnd;
+use crate::text_end::{LARGEST, TextEnd};
 use crate::told::tell_unread;
 use pid_ident::{Input, Output};
-use pid_reader::Feeder;
+use pid_reader::{InputEnd, Never, read_input};
 use pid_tree::{Tree, write_canonical};
 use std::alloc::Global;
 use std::mem;
@@ -33,17 +32,17 @@ pub fn tidy<I: Input, O: Output, F: Output>(
     ensures goes { I.goes input.old input.new }
     ensures stops { (front : List ℕ) × Consumes (I.to_come input.old) (I.to_come input.new) front × (length front ≤ LARGEST + 1) }
 {
-    let read = read_text(input, Feeder::new(alloc));
+    let read = read_input(alloc, LARGEST, input);
     print_read(read, output, faults)
 }
 
 // Prints the tree that was read, or tells why there is none.
 fn print_read<O: Output, F: Output>(
-    read: Result<Tree, InputEnd>,
+    read: Result<Tree, InputEnd<Never>>,
     output: &mut O,
     faults: &mut F,
 ) -> TextEnd
-    ensures tidied { (text : List ℕ) → IsRead Reads read text →
+    ensures tidied { (text : List ℕ) → IsRead Reads LARGEST read text →
         IsTidied result text (record { output = O.taken output.old; output_after = O.taken output.new; faults = F.taken faults.old; faults_after = F.taken faults.new }) }
     ensures read_fault { result ≡ TextEnd.ReadFault → read ≡ Err InputEnd.ReadFault }
     ensures read_fault_first { read ≡ Err InputEnd.ReadFault → result ≡ TextEnd.ReadFault }

@@ -1,8 +1,9 @@
 -- Each entry of lines without faults stands behind those before it.
 use Rattle.std.proofs.Common.{◌≡◌, ℕ, true, false, cond, ◌&&◌, List, [], ◌∷◌, ◌++◌, Option, Some, None, refl, sym, subst}
 use mathlib.Core.Bool.{true≢false}
-use Rattle.std.specs.Prelude.{is_some}
+use Rattle.std.specs.Prelude.{is_some, IsSome, IfSome}
 use Rattle.std.specs.FinMap.Entries.{find as value_at}
+use Rattle.pid_ident.specs.PathReading.{parent_text}
 use Rattle.pid_ident.specs.Trees.{text_cmp}
 use Rattle.pid_ident.specs.Words.{is_name}
 use Rattle.pid_reader.specs.Lines.{lines_of}
@@ -10,7 +11,7 @@ use Rattle.pid_reader.specs.LookingBack.{Item, entries_back, is_entry, path_at, 
 use Rattle.pid_reader.specs.Reading.{AreGood, history_of, refused, entries_of}
 use Rattle.pid_reader.specs.Entries.{AreEntries}
 use Rattle.pid_reader.proofs.Clean.{clean}
-use Rattle.pid_reader.proofs.ReadTrees.{kept, name_test}
+use Rattle.pid_reader.proofs.ReadTrees.{kept, name_test, parent_told}
 use Rattle.pid_reader.proofs.Refusals.{good_by_refused}
 use Rattle.pid_reader.proofs.Feeding.{entries-good}
 
@@ -43,3 +44,8 @@ entries (line ∷ before) good =
 
 pub entries_told : (text : List ℕ) → refused text ≡ None → AreEntries (entries_of (lines_of text))
 entries_told text none = subst AreEntries (sym (entries-good (lines_of text) none)) (entries (history_of text) (good_by_refused (lines_of text) [] tt none))
+
+pub parents_told : (text path : List ℕ) → refused text ≡ None → IsSome (value_at text_cmp path (entries_of (lines_of text))) → IfSome (parent_text path) (λ above. IsSome (value_at text_cmp above (entries_of (lines_of text))))
+parents_told text path none =
+    subst (λ (es : List Item). IsSome (value_at text_cmp path es) → IfSome (parent_text path) (λ above. IsSome (value_at text_cmp above es))) (sym (entries-good (lines_of text) none))
+    (parent_told (history_of text) path (good_by_refused (lines_of text) [] tt none))

@@ -19,4 +19,6 @@ pub mod TreeEnds
 pub mod Counting
 pub mod EntriesTold
 pub mod LinesTold
+pub mod FrontEnds
+pub mod InputTexts
 mod Rising

@@ -1,7 +1,7 @@
 -- What a text without faults says is a tree.
-use Rattle.std.proofs.Common.{◌≡◌, ℕ, zero, suc, Bool, true, false, cond, not, ◌&&◌, eqb, leb, List, [], ◌∷◌, ◌++◌, length, take, drop, Option, Some, None, refl, sym, ap, subst, ◌∙◌, arith}
+use Rattle.std.proofs.Common.{◌≡◌, ℕ, zero, suc, Bool, true, false, cond, not, ◌&&◌, leb, List, [], ◌∷◌, ◌++◌, length, Option, Some, None, refl, sym, ap, subst, ◌∙◌, arith}
 use mathlib.Core.Bool.{false≢true, true≢false}
-use Rattle.std.specs.Prelude.{IsSome, IfSome, IsTrue, is_none, codes, unwrap_or}
+use Rattle.std.specs.Prelude.{IsSome, IfSome, IsTrue, is_none, unwrap_or}
 use Rattle.std.specs.List.{AllByRecursion}
 use Rattle.std.specs.declared.cmp.Ordering.TheVariants.{Less, Equal, Greater}
 use Rattle.std.specs.Ordering.{is_eq}
@@ -11,6 +11,7 @@ use Rattle.std.proofs.lemmas.Cmp.{nat_list_cmp_total}
 use Rattle.std.proofs.lemmas.Bool.Decides.{nat_tests}
 use Rattle.pid_ident.specs.declared.path.Path.{Path}
 use Rattle.pid_ident.specs.declared.path.Path.TheVariants.{Vendor, Device, Subsystem, Class, Subclass, ProgIf, Generic}
+use Rattle.pid_ident.specs.PathReading.{parent_text}
 use Rattle.pid_ident.specs.PathTexts.{path_text, parent_of}
 use Rattle.pid_ident.specs.Words.{is_name}
 use Rattle.pid_reader.specs.declared.line.Mark.{Mark}
@@ -121,10 +122,7 @@ found P k (e ∷ es) all h =
       | Greater ↦ λ c s. let x = found P k es all.1 s in record { name = x.name; is_found = rw c x.is_found; holds = x.holds }
     ] refl h
 
--- the parent's text
-abbrev pub parent_text : List ℕ → Option (List ℕ)
-parent_text k = cond (eqb (length k) 12) (Some (codes "PC/" ++ take 4 (drop 3 k))) (cond (eqb (length k) 21) (Some (take 12 k)) (cond (eqb (length k) 8) (Some (take 5 k)) (cond (eqb (length k) 11) (Some (take 8 k)) None)))
-
+-- the parent's text is told
 pub to_text : (lines : List (List ℕ)) (p : Path) → IfSome (parent_of p) (λ q. IsToldBy lines (path_text q)) → IfSome (parent_text (path_text p)) (IsToldBy lines)
 to_text lines (Vendor v) h = tt
 to_text lines (Device v d) h = h
@@ -142,6 +140,12 @@ from_text lines (Class c) h = tt
 from_text lines (Subclass c s) h = h
 from_text lines (ProgIf c s p) h = h
 from_text lines (Generic v d) h = h
+
+-- whatever path is told, its parent is
+pub parent_told : (lines : List (List ℕ)) (path : List ℕ) → AreGood lines → IsToldBy lines path → IfSome (parent_text path) (IsToldBy lines)
+parent_told lines path good told =
+    let x = found (IsEntry lines) path (entries_back lines) (entries_kept lines good) told in
+    subst (λ (k : List ℕ). IfSome (parent_text k) (IsToldBy lines)) (sym x.holds.0.same) (to_text lines x.holds.0.p x.holds.0.parent)
 
 lift_parent : (m : TreeMap) (lines : List (List ℕ)) (o : Option Path) → ((k : List ℕ) → get m k ≡ value_at text_cmp k (entries_back lines)) → IfSome o (λ q. IsToldBy lines (path_text q)) → IfSome o (λ q. IsSome (get m (path_text q)))
 lift_parent m lines None at h = tt
@@ -162,9 +166,7 @@ lines_tell_tree lines good =
     record {
       paths = λ k h. let x = found (IsEntry lines) k es all (rw (at k) at h) in (x.holds.0.p, record { in_range = x.holds.0.in_range; same = x.holds.0.same });
       parents = λ p r h.
-          let x = found (IsEntry lines) (path_text p) es all (rw (at (path_text p)) at h) in
-          let text : IfSome (parent_text (path_text p)) (IsToldBy lines) = subst (λ (k : List ℕ). IfSome (parent_text k) (IsToldBy lines)) (sym x.holds.0.same) (to_text lines x.holds.0.p x.holds.0.parent) in
-          lift_parent (from_entries {R = text_cmp} es) lines (parent_of p) at (from_text lines p text);
+          lift_parent (from_entries {R = text_cmp} es) lines (parent_of p) at (from_text lines p (parent_told lines (path_text p) good (rw (at (path_text p)) at h)));
       names = λ k. rw (at k) (named_at lines k (value_at text_cmp k es) all refl);
     }
 

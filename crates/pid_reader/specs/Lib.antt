@@ -21,3 +21,5 @@ pub mod Feeders
 pub mod Counters
 pub mod LinesLeft
 pub mod EntryCounters
+pub mod WholeInputs
+pub mod InputTexts

@@ -1,6 +1,8 @@
 //! Laws of the definitions, over all texts and all trees.
-ghost use Rattle.std.specs.Prelude.{◌≡◌, ◌↔◌, ◌++◌, ◌≤◌, List, ℕ, None, Some, length, map};
-ghost use Rattle.pid_ident.specs.Trees.{TreeMap, IsTree};
+ghost use Rattle.std.specs.Prelude.{◌≡◌, ◌↔◌, ◌++◌, ◌≤◌, List, ℕ, None, Some, IsSome, IfSome, length, map};
+ghost use Rattle.std.specs.FinMap.Entries.{find};
+ghost use Rattle.pid_ident.specs.PathReading.{parent_text};
+ghost use Rattle.pid_ident.specs.Trees.{TreeMap, IsTree, text_cmp};
 ghost use Rattle.pid_tree.specs.Printing.{print};
 ghost use Rattle.pid_reader.specs.Lines.{lines_of};
 ghost use Rattle.pid_reader.specs.LookingBack.{entries_back};
@@ -31,9 +33,10 @@ pub fn good_texts_are_read()
 {}
 
 /// The entries of a text that is refused nowhere: each is a name at a path that no earlier one has, whose parent an earlier one has, and there are
-/// at most 100,000.
+/// at most 100,000. So the parent of each path that they have is among them.
 pub fn texts_tell_entries()
     ensures entries { (text : List ℕ) → refused text ≡ None → AreEntries (entries_of (lines_of text)) }
+    ensures parents { (text path : List ℕ) → refused text ≡ None → IsSome (find text_cmp path (entries_of (lines_of text))) → IfSome (parent_text path) (λ above. IsSome (find text_cmp above (entries_of (lines_of text)))) }
     ensures few { (text : List ℕ) → refused text ≡ None → length (entries_of (lines_of text)) ≤ ENTRIES }
 {}
 
