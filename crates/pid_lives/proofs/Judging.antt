@@ -1,0 +1,139 @@
+-- What the judgement of a command tells of the reply that is kept, and which refusals it gives.
+use Rattle.std.proofs.Common.{◌≡◌, ℕ, Bool, true, false, cond, List, [], ◌∷◌, Option, Some, None, refl, sym, ap, ◌∙◌}
+use Rattle.std.specs.Prelude.{find, nat_le}
+use Rattle.std.specs.Option.{option_map}
+use Rattle.std.specs.List.{AllByRecursion}
+use Rattle.pid_moderation.specs.declared.command.Reply.{Reply}
+use Rattle.pid_moderation.specs.declared.facts.Facts.{Facts}
+use Rattle.pid_moderation.specs.declared.facts.Named.{Named}
+use Rattle.pid_moderation.specs.declared.facts.Verdict.{Verdict}
+use Rattle.pid_moderation.specs.declared.facts.Verdict.TheVariants as verdicts
+use Rattle.pid_moderation.specs.declared.refusal.Refusal.{Refusal}
+use Rattle.pid_moderation.specs.declared.refusal.Refusal.TheVariants.{BadText}
+use Rattle.pid_moderation.specs.Refusals.{refusal_number}
+use Rattle.pid_moderation.specs.CheckTables.{Checks, checks, comment_checks, decision_checks, approval_checks, withdraw_checks, file_checks, first_failing, if_named, is_ill_formed, reply_to}
+use Rattle.pid_moderation.specs.FactsOfViews.{facts_of, kept_in, known, looked_at, named, wanted, with_file, with_item, Wanted, ItemOf}
+use Rattle.pid_moderation.specs.History.{TooLong, Faulty, Good, Deed, Ranks, Submits, Comments, Withdraws, Approves, Rejects, Imports, Asked, Accepted, History}
+use Rattle.pid_moderation.specs.Items.{Items}
+use Rattle.pid_moderation.specs.Judgement.{Outcome, Refused, Repeated, Accepts, unless, unless_kept, judge, answer}
+use Rattle.pid_moderation.specs.Views.{Views, views_of}
+use Rattle.pid_lives.specs.Outcomes.{is_outcome}
+
+abbrev pub asks : List ℕ → Option (List ℕ) → Deed → Asked
+asks account key deed = record { account = account; key = key; deed = deed }
+
+abbrev pub entry : Asked → Reply → Accepted
+entry c reply = record { asked = c; reply = reply }
+
+-- THE KEPT REPLY
+
+with_item-kept : (v : Views) (o : Option Named) (f : Facts) → (with_item v o f).kept ≡ f.kept
+with_item-kept v None f = refl
+with_item-kept v (Some s) f = refl
+
+looked_at-kept : (v : Views) (w : Wanted) (f : Facts) → (looked_at v w f).kept ≡ f.kept
+looked_at-kept v (ItemOf n) f = with_item-kept v (named v n) f
+looked_at-kept v w f = refl
+
+with_file-kept : (items : Items) (deed : Deed) (f : Facts) → (with_file items deed f).kept ≡ f.kept
+with_file-kept items (Imports reading) f = refl
+with_file-kept items deed f = refl
+
+facts-kept : (v : Views) (c : Asked) → (facts_of v c).kept ≡ kept_in v c.account c.key
+facts-kept v c = with_file-kept v.items c.deed (looked_at v (wanted c.deed) (known v c.account c.key)) ∙ looked_at-kept v (wanted c.deed) (known v c.account c.key)
+
+-- a judgement, of what it looks at
+abbrev shown : Bool → Option Reply → Option Refusal → Reply → Outcome
+shown ill kept failing reply = cond ill (Refused BadText) (unless_kept kept (unless failing reply))
+
+not_accepted : (o : Option Refusal) (r reply : Reply) → unless o r ≡ Repeated reply → ⊥
+not_accepted None r reply h = absurd cc
+not_accepted (Some e) r reply h = absurd cc
+
+shown-accepts : (ill : Bool) (kept : Option Reply) (failing : Option Refusal) (r reply : Reply) → shown ill kept failing r ≡ Accepts reply → (ill ≡ false) × (kept ≡ None)
+shown-accepts true kept failing r reply h = absurd cc
+shown-accepts false None failing r reply h = (refl, refl)
+shown-accepts false (Some k) failing r reply h = absurd cc
+
+shown-repeats : (ill : Bool) (kept : Option Reply) (failing : Option Refusal) (r reply : Reply) → shown ill kept failing r ≡ Repeated reply → kept ≡ Some reply
+shown-repeats true kept failing r reply h = absurd cc
+shown-repeats false None failing r reply h = absurd (not_accepted failing r reply h)
+shown-repeats false (Some k) failing r reply h = let e : k ≡ reply = cc in ap Some e
+
+shown-kept : (ill : Bool) (kept : Option Reply) (failing : Option Refusal) (r reply : Reply) → ill ≡ false → kept ≡ Some reply → shown ill kept failing r ≡ Repeated reply
+shown-kept ill kept failing r reply i k = rw (i, k) refl
+
+-- what is accepted is well formed
+pub formed : (h : History) (c : Asked) (reply : Reply) → judge (views_of h) c ≡ Accepts reply → is_ill_formed (facts_of (views_of h) c) c.deed ≡ false
+formed h c reply is = let f = facts_of (views_of h) c in (shown-accepts (is_ill_formed f c.deed) f.kept (first_failing (checks f c)) (reply_to f c.deed) reply is).0
+
+-- and had no reply kept
+pub new_key : (h : History) (c : Asked) (reply : Reply) → judge (views_of h) c ≡ Accepts reply → kept_in (views_of h) c.account c.key ≡ None
+new_key h c reply is =
+    let f = facts_of (views_of h) c in
+    sym (facts-kept (views_of h) c) ∙ (shown-accepts (is_ill_formed f c.deed) f.kept (first_failing (checks f c)) (reply_to f c.deed) reply is).1
+
+-- what is repeated was kept
+pub old_key : (h : History) (c : Asked) (reply : Reply) → judge (views_of h) c ≡ Repeated reply → kept_in (views_of h) c.account c.key ≡ Some reply
+old_key h c reply is =
+    let f = facts_of (views_of h) c in
+    sym (facts-kept (views_of h) c) ∙ shown-repeats (is_ill_formed f c.deed) f.kept (first_failing (checks f c)) (reply_to f c.deed) reply is
+
+-- what is well formed and was kept is repeated
+pub repeats : (v : Views) (c : Asked) (reply : Reply) → is_ill_formed (facts_of v c) c.deed ≡ false → kept_in v c.account c.key ≡ Some reply → judge v c ≡ Repeated reply
+repeats v c reply well kept =
+    let f = facts_of v c in
+    shown-kept (is_ill_formed f c.deed) f.kept (first_failing (checks f c)) (reply_to f c.deed) reply well (facts-kept v c ∙ kept)
+
+-- the form is that of the command alone
+pub same_form : (v w : Views) (account : List ℕ) (key : Option (List ℕ)) (deed : Deed) → is_ill_formed (facts_of v (asks account key deed)) deed ≡ is_ill_formed (facts_of w (asks account key deed)) deed
+same_form v w account key (Imports TooLong) = refl
+same_form v w account key (Imports (Faulty fault)) = refl
+same_form v w account key (Imports (Good pairs)) = refl
+same_form v w account key deed = refl
+
+-- WHICH REFUSALS
+
+abbrev Judges : Bool × Refusal → Type 0
+Judges check = nat_le (refusal_number check.1) 15 ≡ true
+
+abbrev AllJudge : Checks → Type 0
+AllJudge cs = AllByRecursion Judges cs
+
+named_judge : (o : Option Named) (cs : Named → Checks) → ((s : Named) → AllJudge (cs s)) → AllJudge (if_named o cs)
+named_judge None cs all = (refl, tt)
+named_judge (Some s) cs all = all s
+
+file_judge : (o : Option Verdict) → AllJudge (file_checks o)
+file_judge None = (refl, tt)
+file_judge (Some (verdicts.Faulty fault)) = (refl, tt)
+file_judge (Some (verdicts.Good added renamed same items)) = (refl, tt)
+
+checks_judge : (f : Facts) (account : List ℕ) (key : Option (List ℕ)) (deed : Deed) → AllJudge (checks f (asks account key deed))
+checks_judge f account key (Ranks who rank) = (refl, (refl, (refl, (refl, tt))))
+checks_judge f account key (Submits path proposal note) = (refl, (refl, tt))
+checks_judge f account key (Comments n text) = (refl, named_judge f.named comment_checks (λ s. (refl, tt)))
+checks_judge f account key (Withdraws n) = (refl, named_judge f.named (withdraw_checks account) (λ s. (refl, (refl, tt))))
+checks_judge f account key (Approves n) = (refl, named_judge f.named (approval_checks account f) (λ s. (refl, (refl, (refl, (refl, (refl, (refl, (refl, tt)))))))))
+checks_judge f account key (Rejects n reason) = (refl, named_judge f.named (decision_checks account f.rank) (λ s. (refl, (refl, (refl, tt)))))
+checks_judge f account key (Imports reading) = (refl, (refl, file_judge f.file))
+
+one_judges : (b : Bool) (r : Refusal) (cs : Checks) (reply : Reply) → nat_le (refusal_number r) 15 ≡ true → is_outcome (answer (unless (first_failing cs) reply)) ≡ true
+    → is_outcome (answer (unless (option_map (λ (x : Bool × Refusal). x.1) (cond b (Some (b, r)) (find (λ x. x.0) cs))) reply)) ≡ true
+one_judges true r cs reply here rest = here
+one_judges false r cs reply here rest = rest
+
+first_judges : (cs : Checks) (reply : Reply) → AllJudge cs → is_outcome (answer (unless (first_failing cs) reply)) ≡ true
+first_judges [] reply all = refl
+first_judges (c ∷ cs) reply all = one_judges c.0 c.1 cs reply all.0 (first_judges cs reply all.1)
+
+shown_judges : (ill : Bool) (kept : Option Reply) (failing : Option Refusal) (reply : Reply) → is_outcome (answer (unless failing reply)) ≡ true → is_outcome (answer (shown ill kept failing reply)) ≡ true
+shown_judges true kept failing reply h = refl
+shown_judges false None failing reply h = h
+shown_judges false (Some k) failing reply h = refl
+
+pub outcome_of : (v : Views) (c : Asked) → is_outcome (answer (judge v c)) ≡ true
+outcome_of v c =
+    let f = facts_of v c in
+    shown_judges (is_ill_formed f c.deed) f.kept (first_failing (checks f c)) (reply_to f c.deed)
+    (first_judges (checks f c) (reply_to f c.deed) (checks_judge f c.account c.key c.deed))

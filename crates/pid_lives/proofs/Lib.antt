@@ -1,0 +1,9 @@
+pub mod Judging
+pub mod Staying
+pub mod Holding
+pub mod Keeping
+pub mod Joining
+pub mod Settling
+pub mod Calling
+pub mod WorkedLives
+pub mod WorkedRegistry

@@ -1,0 +1,8 @@
+-- A command in doubt: a choice of this project.
+use Rattle.std.specs.Prelude.{Bool, if◌then◌else◌}
+use Rattle.pid_moderation.specs.History.{Asked, History}
+use Rattle.pid_moderation.specs.Judgement.{after}
+
+-- the history that a stop leaves at a command, where it stands and where it does not
+abbrev pub left : History → Asked → Bool → History
+left h c stands = if stands then after h c else h
