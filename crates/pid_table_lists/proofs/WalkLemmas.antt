@@ -4,7 +4,7 @@ use Rattle.std.proofs.lemmas.List.{reverse-append, length-map}
 use Rattle.std.proofs.Math.Seq.{take-length}
 use Rattle.sqlite.specs.Order.{Row}
 use Rattle.sqlite.specs.Tree.{Trees}
-use Rattle.sqlite.specs.State.{State, HasCleanDisk, IsUnchanged, IsRolledBack, Survives, Fails, FailsToQuery, CommitsShowing, Shown}
+use Rattle.sqlite.specs.State.{State, HasCleanDisk, IsUnchanged, Survives, FailsToQuery, CommitsShowing, Shown}
 use Rattle.sqlite.specs.Held.{Held, state}
 use Rattle.sqlite.specs.Given.{HasGiven, HasBegun, IsRefused, FailsToAdvance}
 use Rattle.sqlite.specs.declared.error.Error.{Error}
@@ -30,11 +30,11 @@ use Rattle.pid_rows.proofs.CauseLemmas.{caused, caused_later}
 use Rattle.pid_rows.proofs.ReadBack.{among}
 use Rattle.pid_rows.proofs.UnreadLemmas.{caused_unread, path_utf8, name_utf8}
 use Rattle.std.specs.Str.{is_utf8}
-use Rattle.pid_rows.specs.Shows.{Shows, counts_of}
+use Rattle.pid_rows.specs.Shows.{counts_of}
 use Rattle.pid_rows.proofs.GoingLemmas.{earlier}
 use Rattle.pid_rows.proofs.ReadLemmas.{fails_to_query}
 use Rattle.pid_rows.proofs.OnlyReading.{Keeps, keeps_same, keeps_back, keeps_then, rests_on}
-use Rattle.pid_table_lists.specs.EachItem.{TakesOne, TakesEach, IsCausedEnd, IsUnreadEnd, placed_from}
+use Rattle.pid_table_lists.specs.EachItem.{TakesOne, TakesEach, TakesSome, IsCausedEnd, IsUnreadEnd, placed_from}
 use Rattle.pid_table_lists.specs.declared.walk.EachEnd.{EachEnd}
 use Rattle.pid_table_lists.specs.declared.walk.EachEnd.TheVariants.{Tables, Fault}
 use Rattle.pid_table_lists.proofs.ItemLists.{select_all, select_all_shows, all_query, all_found, front_found}
@@ -260,3 +260,23 @@ module _ {S K F : Type 0} (g : Ghosts S) (takes : K → Numbered → K → Type 
       let long : length (was.0 ++ front.0) ≡ length v.items = ap length front.1 ∙ length-map v.items item_shown in
       let count = was.1 in
       omega (arith, long, length-append was.0 front.0, count, many, readable.item_count)
+
+-- ---- whatever the tables hold and the disk does
+
+module _ {S F : Type 0} (takes : S → Numbered → S → Type 0) (faults : S → Numbered → F → S → Type 0) (old sink after : S) where
+  -- one more item
+  pub took_more : {X : Type 0} (r : Result X (EachEnd F)) (x : X) → r ≡ Ok x → ((items : List Numbered) × Took takes old items sink) → ((item : Numbered) × TakesOne takes faults r item sink after) → (items : List Numbered) × Took takes old items after
+  took_more r x is (items, took) (item, one) = (item ∷ items, (sink, took, subst (λ r. TakesOne takes faults r item sink after) is one))
+
+  -- the walk ended at an item
+  pub some_stopped : {X Y : Type 0} (r : Result X (EachEnd F)) (e : EachEnd F) (end : Result Y (EachEnd F)) → r ≡ Err e → end ≡ Err e → ((items : List Numbered) × Took takes old items sink) → ((item : Numbered) × TakesOne takes faults r item sink after)
+      → TakesSome takes faults end old after
+  some_stopped {X = X} {Y = Y} r e end is ended (items, took) (item, one) = subst (λ r. TakesSome takes faults r old after) (sym ended) (by_end e (subst (λ r. TakesOne takes faults r item sink after) is one))
+    where
+      by_end : (e : EachEnd F) → TakesOne {X = X} takes faults (Err e) item sink after → TakesSome {X = Y} takes faults (Err e) old after
+      by_end (Fault f) h = (items, item, sink, took, h)
+      by_end (Tables t) h = (items, subst (Took takes old items) (sym h) took)
+
+  -- or between two
+  pub some_left : {Y : Type 0} (t : TableFault) (end : Result Y (EachEnd F)) → end ≡ Err (Tables t) → ((items : List Numbered) × Took takes old items sink) → TakesSome takes faults end old sink
+  some_left t end ended some = subst (λ r. TakesSome takes faults r old sink) (sym ended) some

@@ -37,3 +37,9 @@ TakesEach takes faults (Ok x) items old new = Took takes old (reverse items) new
 TakesEach takes faults (Err (Fault f)) items old new =
     (front : List Numbered) × (item : Numbered) × (behind : List Numbered) × (between : _) × (items ≡ front ++ item ∷ behind) × Took takes old (reverse front) between × faults between item f new
 TakesEach takes faults (Err (Tables t)) items old new = (front : List Numbered) × (behind : List Numbered) × (items ≡ front ++ behind) × Took takes old (reverse front) new
+
+-- whatever the tables hold and the disk does: the sink took some items, and where it faulted it did so at one behind them
+abbrev pub TakesSome : {S F X : Type 0} → (S → Numbered → S → Type 0) → (S → Numbered → F → S → Type 0) → Result X (EachEnd F) → S → S → Type 0
+TakesSome takes faults (Ok x) old new = (items : List Numbered) × Took takes old items new
+TakesSome takes faults (Err (Fault f)) old new = (items : List Numbered) × (item : Numbered) × (between : _) × Took takes old items between × faults between item f new
+TakesSome takes faults (Err (Tables t)) old new = (items : List Numbered) × Took takes old items new

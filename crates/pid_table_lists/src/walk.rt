@@ -7,11 +7,12 @@ ghost use Rattle.pid_ident.specs.PathTexts.{path_text};
 ghost use Rattle.pid_ident.specs.Words.{is_name as name_test};
 ghost use Rattle.pid_moderation.specs.Views.{Views};
 ghost use Rattle.pid_reader.specs.LookingBack.{Item};
+ghost use Rattle.pid_reader.specs.Numbered.{Numbered};
 ghost use Rattle.pid_rows.specs.Answers.{item_shown};
 ghost use Rattle.pid_rows.specs.Causes.{IsReadable};
 ghost use Rattle.pid_rows.specs.Faults.{fault_of};
 ghost use Rattle.pid_rows.specs.Unread.{IsUnread, IsItemRow, IsWord};
-ghost use Rattle.pid_table_lists.specs.EachItem.{TakesOne, TakesEach, IsUnreadEnd, placed_from};
+ghost use Rattle.pid_table_lists.specs.EachItem.{TakesOne, TakesEach, TakesSome, IsUnreadEnd, placed_from};
 ghost use Rattle.pid_table_lists.specs.declared.walk.EachEnd.TheVariants as ends;
 ghost use Rattle.pid_rows.specs.Clauses.{AtRest, HasCleanDisk, OnlyReads};
 ghost use Rattle.pid_table_lists.specs.Clauses.{IsCausedEnd};
@@ -77,6 +78,7 @@ fn entry_of(row: &Row, line: usize) -> Result<Entry<'_>, TableFault>
 
 fn hand_on<K: Sink>(row: &Row, line: usize, sink: &mut K) -> Result<(), EachEnd<K::Fault>>
     ensures takes { (item : Item) → row.now ≡ item_shown item → TakesOne K.takes K.faults result (line, item) sink.old sink.new }
+    ensures some { (item : Numbered) × TakesOne K.takes K.faults result item sink.old sink.new }
     ensures unread { IfErr result (IsUnreadEnd (IsItemRow row.now)) }
 {
     let entry = entry_of(row, line)?;
@@ -95,6 +97,7 @@ pub fn each_item<S: Alter, K: Sink>(
     requires { conn.old.in_transaction ≡ false }
     ensures rests { OnlyReads S.Store conn.old conn.new }
     ensures told { HasCleanDisk S.Store conn.new → (v : Views) → AtRest S.Store conn.old v → TakesEach K.takes K.faults result (placed_from 1 v.items) sink.old sink.new }
+    ensures some { TakesSome K.takes K.faults result sink.old sink.new }
     ensures caused { HasCleanDisk S.Store conn.new → (v : Views) → AtRest S.Store conn.old v → IsReadable v → IfErr result (IsCausedEnd S.Store conn.old conn.new) }
 {
     let mut rows = conn.query("SELECT path, name FROM item ORDER BY path", &[])?;

@@ -18,7 +18,7 @@ ghost use Rattle.pid_rows.specs.Schema.{pid_schema};
 ghost use Rattle.pid_rows.specs.ItemPairs.{pair_of};
 ghost use Rattle.pid_table_lists.specs.Children.{children_of};
 ghost use Rattle.pid_table_lists.specs.Discussions.{discussion_in, shown_of};
-ghost use Rattle.pid_table_lists.specs.EachItem.{TakesEach, placed_from};
+ghost use Rattle.pid_table_lists.specs.EachItem.{TakesEach, TakesSome, placed_from};
 ghost use Rattle.pid_table_lists.specs.PendingPages.{pending_in, told_of};
 ghost use Rattle.pid_rows.specs.Clauses.{AtRest, HasCleanDisk, OnlyReads, Reads, Tells, is_open, seen};
 ghost use Rattle.pid_table_lists.specs.Clauses.{IsCausedEnd};
@@ -77,6 +77,7 @@ impl<S: Alter + Drop> Tables<S> {
         requires { self.old.conn.in_transaction ≡ false }
         ensures rests { OnlyReads S.Store self.old.conn self.new.conn }
         ensures told { HasCleanDisk S.Store self.new.conn → (v : Views) → AtRest S.Store self.old.conn v → TakesEach K.takes K.faults result (placed_from 1 v.items) sink.old sink.new }
+        ensures some { TakesSome K.takes K.faults result sink.old sink.new }
         ensures caused { HasCleanDisk S.Store self.new.conn → (v : Views) → AtRest S.Store self.old.conn v → IsReadable v → IfErr result (IsCausedEnd S.Store self.old.conn self.new.conn) }
     {
         each_item(&mut self.conn, sink)

@@ -6,7 +6,7 @@ use Rattle.sqlite.proofs.StateLemmas.{clean_if_open}
 use Rattle.pid_rows.specs.Leaves.{OnlyReads}
 use Rattle.pid_table_lists.specs.EachItem.{IsCausedEnd, placed_from}
 use Rattle.pid_table_lists.proofs.ItemLists.{select_all}
-use Rattle.pid_table_lists.proofs.WalkLemmas.{refused, refused_caused, step_caused, unread_caused, end_caused, tables_caused, never_so_many, begun, walked_rests, walk_rests, faulted, taken, not_taken, all_taken}
+use Rattle.pid_table_lists.proofs.WalkLemmas.{refused, refused_caused, step_caused, unread_caused, end_caused, tables_caused, never_so_many, begun, walked_rests, walk_rests, faulted, taken, not_taken, all_taken, took_more, some_stopped, some_left}
 use Rattle.pid_rows.proofs.OnlyReading.{keeps_same, keeps_either}
 use Rattle.pid_table_lists.proofs.walk.each_item.Goals as goal
 
@@ -18,7 +18,7 @@ returns-in_err-rows-clause-rests g c =
 pub rows-init : goal.rows-init
 rows-init g c =
     let made = c.in_ok-rows.ensures in
-    (begun g.S.Store g.K.Sink.takes g.K.Sink.faults c.args.conn.now c.args.sink.now c.in_ok-rows.rows.conn.now c.requires (made.mode c.requires) made.survives made.begun, refl)
+    (begun g.S.Store g.K.Sink.takes g.K.Sink.faults c.args.conn.now c.args.sink.now c.in_ok-rows.rows.conn.now c.requires (made.mode c.requires) made.survives made.begun, refl, ([], refl))
 
 pub returns-in_err-row-clause-rests : goal.returns-in_err-row-clause-rests
 returns-in_err-row-clause-rests g c =
@@ -87,6 +87,7 @@ rows-preserved g c =
       taken g.S.Store g.K.Sink.takes g.K.Sink.faults c.args.conn.now c.args.sink.now c.rows.rows.conn.now now c.rows.sink c.hand_on.new.sink c.rows.at c.in-Some.row.now c.hand_on.result _ w moved.survives (moved.mode w.settled)
           (λ late. rw c.in_ok-row.was at (moved.same late)) (λ late rows given. (rw (c.in_ok-row.was, c.in-Some.is) at (moved.ok late)) select_all [] rows given) c.in_ok-hand_on.was c.hand_on.ensures.takes,
       moved.same_reference ∙ c.rows.invariant.1,
+      took_more g.K.Sink.takes g.K.Sink.faults c.args.sink.now c.rows.sink c.hand_on.new.sink c.hand_on.result _ c.in_ok-hand_on.was c.rows.invariant.2 c.hand_on.ensures.some,
     )
 
 pub returns-clause-rests : goal.returns-clause-rests
@@ -136,3 +137,20 @@ pub returns-clause-caused : goal.returns-clause-caused
 returns-clause-caused g c clean v rest readable =
     let late : HasCleanDisk (state g.S.Store c.rows.rows.conn.now) = search rules in
     never_so_many g.S.Store g.K.Sink.takes g.K.Sink.faults c.args.conn.now c.args.sink.now c.rows.rows.conn.now c.rows.sink c.rows.at c.rows.invariant.0 late v rest readable (let many = c.rows-test.false in omega (arith, many))
+
+-- ---- the sink, whatever the tables hold and the disk does
+
+pub returns-in_err-rows-clause-some : goal.returns-in_err-rows-clause-some
+returns-in_err-rows-clause-some g c =
+    let p = err_from_is_err_and c.from_residual.result c.from_residual.ensures.1 in
+    some_left g.K.Sink.takes g.K.Sink.faults c.args.sink.now c.args.sink.now c.args.sink.now _ c.from_residual.result (p.1 ∙ ap Err p.2) ([], refl)
+
+pub returns-in_err-row-clause-some : goal.returns-in_err-row-clause-some
+returns-in_err-row-clause-some g c =
+    let p = err_from_is_err_and c.from_residual-in_err-row.result c.from_residual-in_err-row.ensures.1 in
+    some_left g.K.Sink.takes g.K.Sink.faults c.args.sink.now c.rows.sink c.rows.sink _ c.from_residual-in_err-row.result (p.1 ∙ ap Err p.2) c.rows.invariant.2
+
+pub returns-in_err-hand_on-clause-some : goal.returns-in_err-hand_on-clause-some
+returns-in_err-hand_on-clause-some g c =
+    let p = err_from_is_err_and c.from_residual-in_err-hand_on.result c.from_residual-in_err-hand_on.ensures.1 in
+    some_stopped g.K.Sink.takes g.K.Sink.faults c.args.sink.now c.rows.sink c.hand_on.new.sink c.hand_on.result c.in_err-hand_on.field-0.0 c.from_residual-in_err-hand_on.result c.in_err-hand_on.was (p.1 ∙ ap Err p.2) c.rows.invariant.2 c.hand_on.ensures.some
