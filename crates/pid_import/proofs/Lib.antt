@@ -1,0 +1,10 @@
+pub mod FileEntries
+pub mod Readings
+pub mod Counting
+pub mod Refused
+pub mod Judged
+pub mod FilePut
+pub mod PutLemmas
+pub mod PutInto
+pub mod BringIn
+pub mod WorkedRows

@@ -1,0 +1,25 @@
+-- What clauses say of the connection of an import: the words of Putting and Importing, said of what the connection shows; `store` is
+-- `S.Store`.
+use Rattle.std.specs.Prelude.{Result}
+use Rattle.sqlite.specs.Held.{Held, state}
+use Rattle.sqlite_trees.specs.declared.store.Store.{Ghosts}
+use Rattle.pid_moderation.specs.declared.command.Reply.{Reply}
+use Rattle.pid_moderation.specs.History.{Asked, History}
+use Rattle.pid_reader.specs.LookingBack.{Item}
+use Rattle.pid_tables.specs.declared.putting.Put.{Put}
+use Rattle.pid_import.specs.declared.put_file.Stop.{Stop}
+use Rattle.pid_import.specs.Importing as importing
+use Rattle.pid_import.specs.Putting as putting
+
+module _ {S : Type 0} (store : Ghosts S) where
+  abbrev pub Puts : Held S → Held S → Item → Put → Type 0
+  Puts old new item put = putting.Puts (state store old) (state store new) item put
+
+  abbrev pub GivesUp : Held S → Held S → Type 0
+  GivesUp old new = putting.GivesUp (state store old) (state store new)
+
+  abbrev pub Applies : Held S → Result Reply Stop → History → Asked → Type 0
+  Applies conn result h c = importing.Applies result (state store conn) h c
+
+  abbrev pub StopsAt : Held S → Result Reply Stop → History → Asked → Type 0
+  StopsAt conn result h c = importing.StopsAt result (state store conn) h c

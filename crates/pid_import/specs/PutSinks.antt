@@ -1,0 +1,17 @@
+-- What a sink does to what it puts names into.
+use Rattle.std.specs.Prelude.{◌≡◌, ◌⊎◌}
+use Rattle.std.specs.declared.alloc.Global.{Global}
+use Rattle.pid_reader.specs.LookingBack.{Item}
+use Rattle.pid_reader.specs.Numbered.{Numbered, item_in}
+use Rattle.pid_rows.specs.declared.fault.TableFault.{TableFault}
+use Rattle.pid_tables.specs.declared.putting.Put.{Put}
+use Rattle.pid_import.specs.declared.putting.PutSink.{PutSink}
+use Rattle.pid_import.specs.Tallies.{tallied}
+
+-- one entry is put behind the same borrow, and counted
+abbrev pub TakesEntry : {K : Type 0} → (K → Item → Put → K → Type 0) → PutSink K Global → Numbered → PutSink K Global → Type 0
+TakesEntry puts s entry t = (t.batch.ghost_name ≡ s.batch.ghost_name) × ((put : Put) × puts s.batch.now (item_in entry) put t.batch.now × (t.tally ≡ tallied put s.tally))
+
+-- one entry is not put, or not counted
+abbrev pub LeavesEntry : {K : Type 0} → (K → Item → Put → K → Type 0) → (K → K → Type 0) → PutSink K Global → Numbered → TableFault → PutSink K Global → Type 0
+LeavesEntry puts gives_up s entry f t = (t.batch.ghost_name ≡ s.batch.ghost_name) × (gives_up s.batch.now t.batch.now ⊎ ((put : Put) × puts s.batch.now (item_in entry) put t.batch.now))
