@@ -1,0 +1,4 @@
+pub mod ItemTexts
+pub mod Exports
+pub mod ExportSinks
+pub mod EndsOfWalks
