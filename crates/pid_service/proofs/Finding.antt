@@ -1,0 +1,94 @@
+-- From the end of a life to the next opening.
+use Rattle.std.proofs.Common.{◌≡◌, ◌⊎◌, inl, inr, [], Bool, true, false, Ok, Err, refl, sym, subst}
+use Rattle.sqlite.specs.Held.{Held, state}
+use Rattle.sqlite_trees.specs.declared.store.Store.{Ghosts}
+use Rattle.pid_moderation.specs.History.{History}
+use Rattle.pid_moderation.specs.Views.{views_of}
+use Rattle.pid_lives.specs.Registries.{Finds}
+use Rattle.pid_rows.specs.declared.fault.TableFault.{TableFault}
+use Rattle.pid_rows.specs.Clauses as clauses
+use Rattle.pid_rows.specs.Clauses.{AtRest}
+use Rattle.pid_rows.specs.Faults.{IsUntold}
+use Rattle.pid_tables.specs.Clauses.{IsOpened, ShowsOrBlank}
+use Rattle.pid_tables.specs.Creation.{IsBare}
+use Rattle.pid_tables.proofs.OpenLemmas.{LeavesCommitted, opened_bare, opened_shown}
+use Rattle.pid_service.specs.declared.registry.Registry.{Registry}
+use Rattle.pid_service.specs.Histories.{FailsBetween, IsReached, Shows}
+use Rattle.pid_service.specs.Lives.{FindsTables, IsAfterStop, OpensTo, showing}
+use Rattle.pid_service.specs.Opening.{LeavesHistory}
+use Rattle.pid_service.specs.Registries.{HasCleanDisk, connection, is_live}
+
+none_reached : IsReached []
+none_reached = record { commands = []; made = tt; reached = refl }
+
+pub live_never_failed : {X : Type 0} (live : Bool) → live ≡ true → live ≡ false → X
+live_never_failed live on off = let no : ⊥ = cc in absurd no
+
+module _ {S : Type 0} (store : Ghosts S) where
+  -- while a connection is open, a crash leaves what was committed
+  abbrev pub IsSettled : Type 0
+  IsSettled = (conn : Held S) → LeavesCommitted (state store conn)
+
+  left_found : IsSettled → (earlier conn : Held S) (h : History) → IsAfterStop store earlier conn → LeavesHistory store earlier h → ShowsOrBlank store conn h
+  left_found law earlier conn h stop left = elim (left.each stop.clean _ stop.found) [
+    | inl shows ↦ inl (opened_shown (state store conn) (views_of h) (law conn) stop.opened.0 stop.opened.1 shows)
+    | inr bare ↦ inr (opened_bare (state store conn) (law conn) stop.opened.0 stop.opened.1 bare.0, bare.1)
+  ]
+
+  pub stop_finds : IsSettled → (ended : Registry S store) (conn : Held S) → IsAfterStop store (connection ended) conn → FindsTables store ended conn
+  stop_finds law ended conn stop =
+      let rest : (h : History) → _ → ShowsOrBlank store conn h = λ h shows. inl (opened_shown (state store conn) (views_of h) (law conn) stop.opened.0 stop.opened.1 shows) in
+      record {
+        clean = λ clean. stop.clean;
+        shown = λ h shows. rest h (shows.tables.leaves.each stop.clean _ stop.found);
+        either = λ h next between. elim (between.leaves.each stop.clean _ stop.found) [ inl shows ↦ inl (rest h shows) | inr shows ↦ inr (rest next shows) ];
+      }
+
+  pub close_finds : (ended : Registry S store) (conn : Held S) → is_live ended ≡ true → conn ≡ connection ended → FindsTables store ended conn
+  close_finds ended conn live same = record {
+    clean = λ clean. subst (clauses.HasCleanDisk store) same clean;
+    shown = λ h shows. inl (subst (λ k. AtRest store k (views_of h)) (sym same) shows.tables);
+    either = λ h next between. live_never_failed (is_live ended) live between.has_failed;
+  }
+
+  pub opening_finds : (ended opened : Registry S store) (conn : Held S) → FindsTables store ended conn → OpensTo store conn (Ok opened) → Finds (showing store) ended opened
+  opening_finds ended opened conn finds opens = record {
+    clean = λ clean. finds.clean (opens.clean clean);
+    shown = λ clean h shows. opens.opened h shows.history (finds.shown h shows) clean;
+    either = λ clean h next between. elim (finds.either h next between) [
+      | inl shows ↦ inl (opens.opened h between.before shows clean)
+      | inr shows ↦ inr (opens.opened next between.next shows clean)
+    ];
+  }
+
+  pub failure_untold : (ended : Registry S store) (conn back : Held S) (fault : TableFault) (h : History) → FindsTables store ended conn → OpensTo store conn (Err (fault, back)) → clauses.HasCleanDisk store back
+      → Shows store ended h ⊎ ((next : History) × FailsBetween store ended h next) → IsUntold fault
+  failure_untold ended conn back fault h finds opens clean (inl shows) = (opens.opened h shows.history (finds.shown h shows) clean).0
+  failure_untold ended conn back fault h finds opens clean (inr b) = elim (finds.either h b.0 b.1) [
+    | inl shows ↦ (opens.opened h b.1.before shows clean).0
+    | inr shows ↦ (opens.opened b.0 b.1.next shows clean).0
+  ]
+
+  pub failure_finds : IsSettled → (ended : Registry S store) (conn back next : Held S) (fault : TableFault) → FindsTables store ended conn → OpensTo store conn (Err (fault, back))
+      → IsAfterStop store back next → FindsTables store ended next
+  failure_finds law ended conn back next fault finds opens stop = record {
+    clean = λ clean. finds.clean (opens.clean stop.clean);
+    shown = λ h shows. left_found law back next h stop (opens.opened h shows.history (finds.shown h shows) stop.clean).1;
+    either = λ h other between. elim (finds.either h other between) [
+      | inl shows ↦ inl (left_found law back next h stop (opens.opened h between.before shows stop.clean).1)
+      | inr shows ↦ inr (left_found law back next other stop (opens.opened other between.next shows stop.clean).1)
+    ];
+  }
+
+  -- the first opening
+  pub bare_shows_none : IsSettled → (conn : Held S) → IsOpened store conn → IsBare (clauses.seen store conn).trees → ShowsOrBlank store conn []
+  bare_shows_none law conn opens bare = inr (opened_bare (state store conn) (law conn) opens.0 opens.1 bare, refl)
+
+  pub first_shows_none : (conn : Held S) (first : Registry S store) → ShowsOrBlank store conn [] → OpensTo store conn (Ok first) → HasCleanDisk store first → Shows store first []
+  first_shows_none conn first shows opens clean = opens.opened [] none_reached shows clean
+
+  pub failure_shows_none : IsSettled → (conn back next : Held S) (fault : TableFault) → ShowsOrBlank store conn [] → OpensTo store conn (Err (fault, back)) → IsAfterStop store back next → ShowsOrBlank store next []
+  failure_shows_none law conn back next fault shows opens stop = left_found law back next [] stop (opens.opened [] none_reached shows stop.clean).1
+
+  pub still_between : (old new : Registry S store) (h next : History) → new ≡ old → FailsBetween store old h next → FailsBetween store new h next
+  still_between old new h next same between = subst (λ r. FailsBetween store r h next) (sym same) between

@@ -1,0 +1,46 @@
+-- What an import of an input promises is what lives ask of it.
+use Rattle.std.proofs.Common.{◌≡◌, ◌⊎◌, inl, inr, false, Result, Ok, Err, refl, ap, ◌∙◌}
+use Rattle.sqlite_trees.specs.declared.store.Store.{Ghosts}
+use Rattle.pid_moderation.specs.declared.command.Reply.{Reply}
+use Rattle.pid_moderation.specs.declared.refusal.Refusal.{Refusal}
+use Rattle.pid_moderation.specs.declared.refusal.Refusal.TheVariants.{Failed}
+use Rattle.pid_moderation.specs.History.{Asked, History}
+use Rattle.pid_lives.specs.Calls.{nothing_sent, obeyed}
+use Rattle.pid_lives.specs.Registries.{Does}
+use Rattle.pid_service.specs.declared.importing.ImportEnd.{ImportEnd}
+use Rattle.pid_service.specs.declared.importing.ImportEnd.TheVariants.{Refused, Body}
+use Rattle.pid_service.specs.declared.registry.Registry.{Registry}
+use Rattle.pid_service.specs.Histories.{Shows}
+use Rattle.pid_service.specs.Importing.{ObeysImport}
+use Rattle.pid_service.specs.Lives.{import_sent, showing}
+use Rattle.pid_service.specs.Obeying.{Obeys}
+use Rattle.pid_service.specs.Registries.{HasCleanDisk, is_live}
+
+-- what a registry that has failed answers
+abbrev pub IsOfFailed : Result Reply ImportEnd → Type 0
+IsOfFailed result = (result ≡ Err (Refused Failed)) ⊎ (result ≡ Err Body)
+
+never_ok : (reply : Reply) (result : Result Reply Refusal) → IsOfFailed (Ok reply) → result ≡ Err Failed
+never_ok reply result (inl is) = absurd (let no : ⊥ = cc in no)
+never_ok reply result (inr is) = absurd (let no : ⊥ = cc in no)
+
+then_failed : (e : Refusal) (result : Result Reply Refusal) → IsOfFailed (Err (Refused e)) → result ≡ Err e → result ≡ Err Failed
+then_failed e result (inl is) told = let same : e ≡ Failed = cc in told ∙ ap Err same
+then_failed e result (inr is) told = absurd (let no : ⊥ = cc in no)
+
+module _ {S : Type 0} (store : Ghosts S) where
+  -- the laws of commands and of questions
+  abbrev pub ObeysLaw : Type 0
+  ObeysLaw = (old new : Registry S store) (c : Asked) (result : Result Reply Refusal) → (HasCleanDisk store new → HasCleanDisk store old) → (is_live old ≡ false → (result ≡ Err Failed) × (new ≡ old))
+      → (HasCleanDisk store new → (h : History) → Shows store old h → Obeys store result new h c) → Does (showing store) old (obeyed c result) new
+
+  abbrev pub LooksLaw : Type 0
+  LooksLaw = (old new : Registry S store) → (HasCleanDisk store new → HasCleanDisk store old) → (is_live old ≡ false → new ≡ old)
+      → (HasCleanDisk store new → (h : History) → Shows store old h → Shows store new h) → Does (showing store) old nothing_sent new
+
+  pub import_lives : ObeysLaw → LooksLaw → (old new : Registry S store) (c : Asked) (result : Result Reply ImportEnd) → (HasCleanDisk store new → HasCleanDisk store old)
+      → (is_live old ≡ false → IsOfFailed result × (new ≡ old)) → (HasCleanDisk store new → (h : History) → Shows store old h → ObeysImport store result new h c)
+      → Does (showing store) old (import_sent c result) new
+  import_lives obeys looks old new c (Ok reply) clean failed told = obeys old new c (Ok reply) clean (λ off. let is = failed off in (never_ok reply (Ok reply) is.0, is.1)) told
+  import_lives obeys looks old new c (Err (Refused e)) clean failed told = obeys old new c (Err e) clean (λ off. let is = failed off in (then_failed e (Err e) is.0 refl, is.1)) told
+  import_lives obeys looks old new c (Err Body) clean failed told = looks old new clean (λ off. (failed off).1) told

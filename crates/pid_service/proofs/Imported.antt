@@ -1,0 +1,134 @@
+-- What a registry shows after an import, by how far it came.
+use Rattle.std.proofs.Common.{◌≡◌, ◌≢◌, inl, inr, ℕ, ◌<◌, ◌≤◌, ◌+◌, ◌↔◌, true, false, List, [], ◌++◌, length, Some, Result, Ok, Err, refl, sym, ap, subst, ◌∙◌, arith, length-append, append-nil}
+use Rattle.std.proofs.lemmas.Bool.Decides.{nat_tests}
+use Rattle.sqlite_trees.specs.declared.store.Store.{Ghosts}
+use Rattle.pid_moderation.specs.declared.command.Act.{Act}
+use Rattle.pid_moderation.specs.declared.command.Act.TheVariants.{Account, Submit, Comment, Withdraw, Approve, Reject, Import}
+use Rattle.pid_moderation.specs.declared.command.Command.{Command}
+use Rattle.pid_moderation.specs.declared.command.Reply.{Reply}
+use Rattle.pid_moderation.specs.declared.refusal.Refusal.{Refusal}
+use Rattle.pid_moderation.specs.declared.refusal.Refusal.TheVariants.{BadText}
+use Rattle.pid_moderation.specs.BeforeFile.{SettlesImport, import_of}
+use Rattle.pid_moderation.specs.CheckTables.{is_broken, most_file_bytes}
+use Rattle.pid_moderation.specs.History.{Asked, Deed, History, Imports, Reading, TooLong, asked, deed_of, is_import}
+use Rattle.pid_moderation.specs.Judgement.{judge, answer, after}
+use Rattle.pid_moderation.specs.Views.{views_of}
+use Rattle.pid_rows.specs.Clauses.{AtRest}
+use Rattle.pid_import.specs.declared.put_file.Stop.TheVariants as stops
+use Rattle.pid_import.specs.Clauses.{StopsAt}
+use Rattle.pid_import.specs.Files.{asks, file_reading, reading_of}
+use Rattle.pid_import.specs.Importing.{Refuses}
+use Rattle.pid_import.specs.Judging.{IsSettled}
+use Rattle.pid_service.specs.declared.importing.ImportEnd.{ImportEnd}
+use Rattle.pid_service.specs.declared.importing.ImportEnd.TheVariants as imports
+use Rattle.pid_service.specs.declared.registry.Registry.{Registry}
+use Rattle.pid_service.specs.Histories.{IsReached, Shows}
+use Rattle.pid_service.specs.Importing.{AnswersPast, IsPlain, ObeysImport, ReadsImport}
+use Rattle.pid_service.specs.KeptNames.{KeepsNames}
+use Rattle.pid_service.specs.Obeying.{Obeys}
+use Rattle.pid_service.specs.Registries.{connection, is_live}
+
+-- an import asks the same, whatever file its command has
+
+import_deed : (act : Act) (reading : Reading) → is_import act ≡ true → Imports reading ≡ deed_of act reading
+import_deed (Account who rank) reading is = absurd (let no : ⊥ = cc in no)
+import_deed (Submit path proposal note) reading is = absurd (let no : ⊥ = cc in no)
+import_deed (Comment number text) reading is = absurd (let no : ⊥ = cc in no)
+import_deed (Withdraw number) reading is = absurd (let no : ⊥ = cc in no)
+import_deed (Approve number) reading is = absurd (let no : ⊥ = cc in no)
+import_deed (Reject number reason) reading is = absurd (let no : ⊥ = cc in no)
+import_deed (Import file) reading is = refl
+
+import_asks : (command : Command) (reading : Reading) → is_import command.act ≡ true → import_of command.account command.key reading ≡ asked command reading
+import_asks command reading is = ap (λ (d : Deed). record { account = command.account; key = command.key; deed = d }) (import_deed command.act reading is)
+
+-- what is known of files that are too long
+abbrev pub LongFiles : Type 0
+LongFiles = (text : List ℕ) → (file_reading text ≡ TooLong) ↔ (most_file_bytes < length text)
+
+abbrev pub LongRefused : Type 0
+LongRefused = (h : History) (command : Command) (text : List ℕ) → is_import command.act ≡ true → most_file_bytes < length text
+    → (answer (judge (views_of h) (asked command (file_reading text))) ≡ Err BadText) × (after h (asked command (file_reading text)) ≡ h)
+
+fits : (text : List ℕ) → LongFiles → length text ≤ most_file_bytes → file_reading text ≢ TooLong
+fits text law short long = let over : most_file_bytes < length text = (law text).0 long in omega (arith, over, short)
+
+module _ {S : Type 0} (store : Ghosts S) where
+  told_so : (r : Registry S store) (h : History) (c : Asked) (result : Result Reply Refusal) → Shows store r h → answer (judge (views_of h) c) ≡ result → after h c ≡ h → Obeys store result r h c
+  told_so r h c result shows told same = inl (sym told, subst (Shows store r) (sym same) shows)
+
+  settled : (r : Registry S store) (h : History) (command : Command) (text : List ℕ) (result : Result Reply Refusal) → is_import command.act ≡ true → Shows store r h → file_reading text ≢ TooLong
+      → SettlesImport h command.account command.key result → Obeys store result r h (asked command (file_reading text))
+  settled r h command text result is shows short told =
+      subst (λ (c : Asked). Obeys store result r h c) (import_asks command (file_reading text) is) (told_so r h (import_of command.account command.key (file_reading text)) result shows (told (file_reading text) short).0 (told (file_reading text) short).1)
+
+  settled_err : (r : Registry S store) (h : History) (command : Command) (text : List ℕ) (e : Refusal) → is_import command.act ≡ true → Shows store r h → file_reading text ≢ TooLong
+      → IsSettled h command (Err e) → Obeys store (Err e) r h (asked command (file_reading text))
+  settled_err r h command text e is shows short (inl told) = settled r h command text (Err e) is shows short told
+  settled_err r h command text e is shows short (inr fault) = inr (fault, inl shows)
+
+  -- an import that was answered before its file was read
+  pub past_obeyed : (r : Registry S store) (h : History) (command : Command) (given : Result Reply Refusal) (result : Result Reply ImportEnd) (text : List ℕ) → LongFiles → LongRefused → is_import command.act ≡ true → Shows store r h
+      → IsSettled h command given → AnswersPast given result text → ObeysImport store result r h (asked command (file_reading text))
+  past_obeyed r h command given (Ok reply) text long refused is shows told past =
+      settled r h command text (Ok reply) is shows (fits text long past.1) (subst (IsSettled h command) past.0 told)
+  past_obeyed r h command given (Err (imports.Refused e)) text long refused is shows told (inl past) =
+      settled_err r h command text e is shows (fits text long past.1) (subst (IsSettled h command) past.0 told)
+  past_obeyed r h command given (Err (imports.Refused e)) text long refused is shows told (inr past) =
+      let over : most_file_bytes < length text = let n = past.1 in omega (arith, n) in
+      let no = refused h command text is over in
+      subst (λ (x : Refusal). Obeys store (Err x) r h (asked command (file_reading text))) (sym past.0) (told_so r h (asked command (file_reading text)) (Err BadText) shows no.0 no.1)
+  past_obeyed r h command given (Err imports.Body) text long refused is shows told past = shows
+
+  -- an import whose file was brought in
+
+  shows_still : (old new : Registry S store) (h : History) → Shows store old h → is_live new ≡ is_live old → AtRest store (connection new) (views_of h) → KeepsNames store new h → Shows store new h
+  shows_still old new h shows same rest names = record { lives = same ∙ shows.lives; history = shows.history; tables = rest; names = names }
+
+  pub ok_obeyed : (old new : Registry S store) (h : History) (c : Asked) (reply : Reply) → Shows store old h → is_live new ≡ is_live old → IsReached (after h c) → KeepsNames store new (after h c) → StopsAt store (connection new) (Ok reply) h c → ObeysImport store (Ok reply) new h c
+  ok_obeyed old new h c reply shows same reached names stops = inl (sym stops.0, record { lives = same ∙ shows.lives; history = reached; tables = stops.1; names = names })
+
+  pub body_obeyed : (old new : Registry S store) (h : History) (c : Asked) → Shows store old h → is_live new ≡ is_live old → KeepsNames store new h → StopsAt store (connection new) (Err stops.Body) h c → ObeysImport store (Err imports.Body) new h c
+  body_obeyed old new h c shows same names stops = shows_still old new h shows same stops names
+
+  refused_by : (r : Registry S store) (h : History) (c : Asked) (e : Refusal) → Shows store r h → Refuses h c e → Obeys store (Err e) r h c
+  refused_by r h c e shows (inl told) = told_so r h c (Err e) shows told.0 told.1
+  refused_by r h c e shows (inr fault) = inr (fault, inl shows)
+
+  pub refused_obeyed : (old new : Registry S store) (h : History) (c : Asked) (e : Refusal) → Shows store old h → is_live new ≡ is_live old → KeepsNames store new h → StopsAt store (connection new) (Err (stops.Refused e)) h c → ObeysImport store (Err (imports.Refused e)) new h c
+  refused_obeyed old new h c e shows same names stops = refused_by new h c e (shows_still old new h shows same stops.0 names) stops.1
+
+  pub failed_obeyed : (old new : Registry S store) (h : History) (c : Asked) (e : Refusal) → Shows store old h → is_live new ≡ false → IsReached (after h c) → StopsAt store (connection new) (Err (stops.Failed e)) h c → ObeysImport store (Err (imports.Refused e)) new h c
+  failed_obeyed old new h c e shows off reached stops = inr (stops.1, inr (record { has_failed = off; before = shows.history; next = reached; leaves = stops.0 }))
+
+  -- bytes in memory
+
+  too_short : (file text rest : List ℕ) → file ≡ text ++ rest → length text ≡ most_file_bytes + 1 → length file ≤ most_file_bytes → ⊥
+  too_short file text rest parts long short = let n : length file ≡ length text + length rest = ap length parts ∙ length-append text rest in omega (arith, n, long, short)
+
+  whole_text : (file text rest : List ℕ) → file ≡ text ++ rest → rest ≡ [] → text ≡ file
+  whole_text file text rest parts none = sym (parts ∙ ap (λ (l : List ℕ). text ++ l) none ∙ append-nil text)
+
+  whole_or_long : (file text rest : List ℕ) (e : Refusal) → file ≡ text ++ rest → ReadsImport (Err (imports.Refused e)) (Some rest) text → length file ≤ most_file_bytes → text ≡ file
+  whole_or_long file text rest e parts (inl whole) short = whole_text file text rest parts whole.at_end
+  whole_or_long file text rest e parts (inr long) short = absurd (too_short file text rest parts long short)
+
+  pub bytes_obeyed : (given : Result Reply ImportEnd) (result : Result Reply Refusal) (r : Registry S store) (h : History) (command : Command) (file text rest : List ℕ) → IsPlain given result → given ≢ Err imports.Body → file ≡ text ++ rest → ReadsImport given (Some rest) text
+      → length file ≤ most_file_bytes → ObeysImport store given r h (asked command (file_reading text)) → Obeys store result r h (asked command (file_reading file))
+  bytes_obeyed (Ok reply) result r h command file text rest plain sure parts read short obeyed =
+      subst (λ (t : List ℕ). Obeys store result r h (asked command (file_reading t))) (whole_text file text rest parts read.at_end)
+      (subst (λ (x : Result Reply Refusal). Obeys store x r h (asked command (file_reading text))) (sym plain) obeyed)
+  bytes_obeyed (Err (imports.Refused e)) result r h command file text rest plain sure parts read short obeyed =
+      subst (λ (t : List ℕ). Obeys store result r h (asked command (file_reading t))) (whole_or_long file text rest e parts read short)
+      (subst (λ (x : Result Reply Refusal). Obeys store x r h (asked command (file_reading text))) (sym plain) obeyed)
+  bytes_obeyed (Err imports.Body) result r h command file text rest plain sure parts read short obeyed = absurd (sure refl)
+
+  not_broken : (file : List ℕ) → is_broken (Import file) ≡ false → length file ≤ most_file_bytes
+  not_broken file off = grind (arith, nat_tests)
+
+  pub file_obeyed : (result : Result Reply Refusal) (r : Registry S store) (h : History) (command : Command) (file bytes : List ℕ) → command.act ≡ Import file → bytes ≡ file → is_broken command.act ≡ false
+      → (is_import command.act ≡ true → length bytes ≤ most_file_bytes → Obeys store result r h (asked command (file_reading bytes))) → Obeys store result r h (asks command)
+  file_obeyed result r h command file bytes is same sound obeyed =
+      let short : length file ≤ most_file_bytes = not_broken file (sym (ap is_broken is) ∙ sound) in
+      let full = obeyed (ap is_import is) (subst (λ (b : List ℕ). length b ≤ most_file_bytes) (sym same) short) in
+      subst (λ (x : Reading). Obeys store result r h (asked command x)) (ap file_reading same ∙ sym (ap reading_of is)) full

@@ -1,0 +1,82 @@
+-- What the judgement says of the history after a command.
+use Rattle.std.proofs.Common.{◌≡◌, ◌≢◌, ◌⊎◌, inl, inr, Bool, true, false, [], Option, Some, None, Err, refl, subst, if◌then◌else◌, is_some}
+use Rattle.std.proofs.lemmas.Bool.{false≢true}
+use Rattle.pid_moderation.specs.declared.change.Change.{Change}
+use Rattle.pid_moderation.specs.declared.command.Act.{Act}
+use Rattle.pid_moderation.specs.declared.command.Act.TheVariants.{Account, Submit, Comment, Withdraw, Approve, Reject, Import}
+use Rattle.pid_moderation.specs.declared.command.Command.{Command}
+use Rattle.pid_moderation.specs.declared.command.Reply.{Reply}
+use Rattle.pid_moderation.specs.declared.refusal.Refusal.{Refusal}
+use Rattle.pid_moderation.specs.declared.refusal.Refusal.TheVariants.{BadPath, BadName, BadText, NoAccount, RankTooLow, NoSubmission, NotPending, NotAuthor, OwnDecision, ParentMissing, HasChildren, NothingToDo, FileFault, Full, Memory, Store, Failed}
+use Rattle.pid_moderation.specs.Changes.{changed, with_pairs, Fits}
+use Rattle.pid_moderation.specs.CheckTables.{checks, first_failing, is_ill_formed, reply_to}
+use Rattle.pid_moderation.specs.Effects.{new_pairs, LeadsOn, FitsHistory}
+use Rattle.pid_moderation.specs.FactsOfViews.{facts_of}
+use Rattle.pid_moderation.specs.History.{Asked, History, Reading, asked, deed_of, is_import}
+use Rattle.pid_moderation.specs.Items.{Items}
+use Rattle.pid_moderation.specs.Judgement.{Outcome, Refused, Repeated, Accepts, unless, unless_kept, judge, answer, added, after}
+use Rattle.pid_moderation.specs.Views.{views_of}
+use Rattle.pid_service.specs.Histories.{IsFault}
+
+refusal_adds : (h : History) (c : Asked) (o : Outcome) (e : Refusal) → answer o ≡ Err e → added h c o ≡ h
+refusal_adds h c (Refused r) e same = refl
+refusal_adds h c (Repeated r) e same = refl
+refusal_adds h c (Accepts r) e same = absurd (let no : ⊥ = cc in no)
+
+pub refused_stays : (h : History) (c : Asked) (e : Refusal) → answer (judge (views_of h) c) ≡ Err e → after h c ≡ h
+refused_stays h c e same = refusal_adds h c (judge (views_of h) c) e same
+
+-- the outcome by its parts
+abbrev outcome : Bool → Option Reply → Option Refusal → Reply → Outcome
+outcome ill kept failing reply = if ill then Refused BadText else unless_kept kept (unless failing reply)
+
+old_stays : (ill : Bool) (kept : Option Reply) (failing : Option Refusal) (to : Reply) (h : History) (c : Asked) → is_some kept ≡ true → added h c (outcome ill kept failing to) ≡ h
+old_stays true kept failing to h c e = refl
+old_stays false (Some reply) failing to h c e = refl
+old_stays false None failing to h c e = absurd (false≢true e)
+
+pub repeated_stays : (h : History) (c : Asked) → is_some (facts_of (views_of h) c).kept ≡ true → after h c ≡ h
+repeated_stays h c e = let f = facts_of (views_of h) c in old_stays (is_ill_formed f c.deed) f.kept (first_failing (checks f c)) (reply_to f c.deed) h c e
+
+-- a command other than an import brings no pairs
+
+no_pairs : (act : Act) (reading : Reading) (o : Outcome) → is_import act ≡ false → new_pairs o (deed_of act reading) ≡ []
+no_pairs act reading (Refused r) other = refl
+no_pairs act reading (Repeated r) other = refl
+no_pairs (Account who rank) reading (Accepts r) other = refl
+no_pairs (Submit path proposal note) reading (Accepts r) other = refl
+no_pairs (Comment n text) reading (Accepts r) other = refl
+no_pairs (Withdraw n) reading (Accepts r) other = refl
+no_pairs (Approve n) reading (Accepts r) other = refl
+no_pairs (Reject n reason) reading (Accepts r) other = refl
+no_pairs (Import file) reading (Accepts r) other = absurd (let no : ⊥ = cc in no)
+
+pub leads : (h : History) (command : Command) (reading : Reading) (change : Change) → is_import command.act ≡ false → LeadsOn h (asked command reading) change → views_of (after h (asked command reading)) ≡ changed change (views_of h)
+leads h command reading change other led =
+    subst (λ (ps : Items). views_of (after h (asked command reading)) ≡ changed change (with_pairs ps (views_of h))) (no_pairs command.act reading (judge (views_of h) (asked command reading)) other) led
+
+pub fits : (h : History) (command : Command) (reading : Reading) (change : Change) → is_import command.act ≡ false → FitsHistory h (asked command reading) change → Fits change (views_of h)
+fits h command reading change other fit =
+    subst (λ (ps : Items). Fits change (with_pairs ps (views_of h))) (no_pairs command.act reading (judge (views_of h) (asked command reading)) other) fit
+
+told_by : (h : History) (c : Asked) (e : Refusal) → answer (judge (views_of h) c) ≡ Err e → ((answer (judge (views_of h) c) ≡ Err e) × (after h c ≡ h)) ⊎ IsFault e
+told_by h c e same = inl (same, refused_stays h c e same)
+
+pub refusal_told : (h : History) (c : Asked) (e : Refusal) → (e ≢ Memory → answer (judge (views_of h) c) ≡ Err e) → ((answer (judge (views_of h) c) ≡ Err e) × (after h c ≡ h)) ⊎ IsFault e
+refusal_told h c BadPath told = told_by h c BadPath (told (λ bad. let no : ⊥ = cc in no))
+refusal_told h c BadName told = told_by h c BadName (told (λ bad. let no : ⊥ = cc in no))
+refusal_told h c BadText told = told_by h c BadText (told (λ bad. let no : ⊥ = cc in no))
+refusal_told h c NoAccount told = told_by h c NoAccount (told (λ bad. let no : ⊥ = cc in no))
+refusal_told h c RankTooLow told = told_by h c RankTooLow (told (λ bad. let no : ⊥ = cc in no))
+refusal_told h c NoSubmission told = told_by h c NoSubmission (told (λ bad. let no : ⊥ = cc in no))
+refusal_told h c NotPending told = told_by h c NotPending (told (λ bad. let no : ⊥ = cc in no))
+refusal_told h c NotAuthor told = told_by h c NotAuthor (told (λ bad. let no : ⊥ = cc in no))
+refusal_told h c OwnDecision told = told_by h c OwnDecision (told (λ bad. let no : ⊥ = cc in no))
+refusal_told h c ParentMissing told = told_by h c ParentMissing (told (λ bad. let no : ⊥ = cc in no))
+refusal_told h c HasChildren told = told_by h c HasChildren (told (λ bad. let no : ⊥ = cc in no))
+refusal_told h c NothingToDo told = told_by h c NothingToDo (told (λ bad. let no : ⊥ = cc in no))
+refusal_told h c (FileFault f) told = told_by h c (FileFault f) (told (λ bad. let no : ⊥ = cc in no))
+refusal_told h c Full told = told_by h c Full (told (λ bad. let no : ⊥ = cc in no))
+refusal_told h c Memory told = inr (inl refl)
+refusal_told h c Store told = told_by h c Store (told (λ bad. let no : ⊥ = cc in no))
+refusal_told h c Failed told = told_by h c Failed (told (λ bad. let no : ⊥ = cc in no))

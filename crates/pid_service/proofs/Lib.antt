@@ -1,0 +1,12 @@
+pub mod Leading
+pub mod Judged
+pub mod WriteLemmas
+pub mod ReadFiles
+pub mod Obeyed
+pub mod Opened
+pub mod Finding
+pub mod Imported
+pub mod Exported
+pub mod Runs
+pub mod ImportLives
+pub mod RunLives

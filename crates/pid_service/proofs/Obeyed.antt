@@ -1,0 +1,90 @@
+-- What a registry shows after a command, by how far it came.
+use Rattle.std.proofs.Common.{◌≡◌, inl, inr, false, Ok, Err, refl, sym, subst, ap, ◌∙◌, arith}
+use Rattle.sqlite_trees.specs.declared.store.Store.{Ghosts}
+use Rattle.pid_moderation.specs.declared.change.Change.{Change}
+use Rattle.pid_moderation.specs.declared.command.Reply.{Reply}
+use Rattle.pid_moderation.specs.declared.refusal.Refusal.{Refusal}
+use Rattle.pid_moderation.specs.declared.refusal.Refusal.TheVariants.{BadText}
+use Rattle.pid_moderation.specs.Changes.{changed, Fits}
+use Rattle.pid_moderation.specs.declared.command.Act.{Act}
+use Rattle.pid_moderation.specs.declared.command.Act.TheVariants.{Account, Submit, Comment, Withdraw, Approve, Reject, Import}
+use Rattle.pid_moderation.specs.declared.command.Command.{Command}
+use Rattle.pid_moderation.specs.History.{Asked, Deed, History, Reading, TooLong, asked, deed_of, is_import}
+use Rattle.pid_moderation.specs.Judgement.{judge, answer, after}
+use Rattle.pid_moderation.specs.Judgement as Outcomes
+use Rattle.pid_moderation.specs.Views.{Views, views_of}
+use Rattle.pid_moderation.specs.WellMade.{HasGoodFile, IsWellMade}
+use Rattle.pid_rows.specs.Clauses.{AtRest, LeavesEither}
+use Rattle.pid_name_cache.specs.Entries.{Entries}
+use Rattle.pid_service.specs.declared.judging.Judged.TheVariants.{Kept, Accepted}
+use Rattle.pid_service.specs.declared.registry.Registry.{Registry}
+use Rattle.pid_service.specs.Histories.{IsReached, Shows, IsFault}
+use Rattle.pid_service.specs.Judging.{Judges}
+use Rattle.pid_service.specs.KeptNames.{AreNamesOf, kept_names}
+use Rattle.pid_service.specs.Obeying.{Obeys}
+use Rattle.pid_service.specs.Registries.{HasCleanDisk, OnlyReads, connection, is_live}
+use Rattle.pid_service.proofs.Judged.{refused_stays}
+
+module _ {S : Type 0} (store : Ghosts S) where
+  pub only_read : (old new : Registry S store) (h : History) → is_live new ≡ is_live old → OnlyReads store old new → kept_names new ≡ kept_names old → Shows store old h → Shows store new h
+  only_read old new h same reads names shows = record { lives = same ∙ shows.lives; history = shows.history; tables = reads.kept (views_of h) shows.tables; names = λ clean. subst (λ (n : Entries). AreNamesOf n (views_of h)) (sym names) (shows.names (reads.clean clean)) }
+
+  pub refused : (r : Registry S store) (h : History) (c : Asked) (e : Refusal) → Shows store r h → Judges h c (Err e) → Obeys store (Err e) r h c
+  refused r h c e shows (inl told) = inl (sym told.0, subst (Shows store r) (sym told.1) shows)
+  refused r h c e shows (inr fault) = inr (fault, inl shows)
+
+  pub kept : (r : Registry S store) (h : History) (c : Asked) (reply : Reply) → Shows store r h → Judges h c (Ok (Kept reply)) → Obeys store (Ok reply) r h c
+  kept r h c reply shows told = inl (sym told.0, subst (Shows store r) (sym told.1) shows)
+
+  pub accepted : (old new : Registry S store) (h : History) (c : Asked) (change : Change) (reply : Reply) → Shows store old h → Judges h c (Ok (Accepted change reply)) → IsReached (after h c)
+      → ((v : Views) → AtRest store (connection old) v → Fits change v → AtRest store (connection new) (changed change v)) → is_live new ≡ is_live old
+      → (HasCleanDisk store new → HasCleanDisk store old) → ((v : Views) → AreNamesOf (kept_names old) v → AreNamesOf (kept_names new) (changed change v)) → Obeys store (Ok reply) new h c
+  accepted old new h c change reply shows told reached stands same back names = inl (
+    sym told.0,
+    record {
+      lives = same ∙ shows.lives;
+      history = reached;
+      tables = subst (AtRest store (connection new)) (sym told.1) (stands (views_of h) shows.tables told.2);
+      names = λ clean. subst (AreNamesOf (kept_names new)) (sym told.1) (names (views_of h) (shows.names (back clean)));
+    },
+  )
+
+  pub failed : (old new : Registry S store) (h : History) (c : Asked) (change : Change) (reply : Reply) (e : Refusal) → Shows store old h → Judges h c (Ok (Accepted change reply)) → IsReached (after h c)
+      → ((v : Views) → AtRest store (connection old) v → Fits change v → LeavesEither store (connection new) v (changed change v)) → is_live new ≡ false → IsFault e → Obeys store (Err e) new h c
+  failed old new h c change reply e shows told reached either off fault = inr (
+    fault,
+    inr (record {
+      has_failed = off;
+      before = shows.history;
+      next = reached;
+      leaves = subst (λ (w : Views). LeavesEither store (connection new) (views_of h) w) (sym told.1) (either (views_of h) shows.tables told.2);
+    }),
+  )
+
+  pub broken_form : (r : Registry S store) (h : History) (c : Asked) → Shows store r h → judge (views_of h) c ≡ Outcomes.Refused BadText → Obeys store (Err BadText) r h c
+  broken_form r h c shows is =
+      let told : answer (judge (views_of h) c) ≡ Err BadText = ap answer is in
+      inl (sym told, subst (Shows store r) (sym (refused_stays h c BadText told)) shows)
+
+-- commands without a file
+
+no_file : HasGoodFile TooLong
+no_file = record {
+  items = tt;
+  apart = tt;
+  tree = record { parents = λ path there. absurd (let no : ⊥ = cc in no) };
+  limit = omega arith;
+}
+
+same_deed : (act : Act) (reading : Reading) → is_import act ≡ false → deed_of act TooLong ≡ deed_of act reading
+same_deed (Account who rank) reading other = refl
+same_deed (Submit path proposal note) reading other = refl
+same_deed (Comment number text) reading other = refl
+same_deed (Withdraw number) reading other = refl
+same_deed (Approve number) reading other = refl
+same_deed (Reject number reason) reading other = refl
+same_deed (Import file) reading other = absurd (let no : ⊥ = cc in no)
+
+pub well_made : (command : Command) (reading : Reading) → is_import command.act ≡ false → ((r : Reading) → HasGoodFile r → IsWellMade (asked command r)) → IsWellMade (asked command reading)
+well_made command reading other law =
+    subst (λ (d : Deed). IsWellMade (record { account = command.account; key = command.key; deed = d })) (same_deed command.act reading other) (law TooLong no_file)

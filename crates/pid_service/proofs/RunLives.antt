@@ -1,0 +1,65 @@
+-- What a run of a list promises is what lives ask of it.
+use Rattle.std.proofs.Common.{◌≡◌, ◌⊎◌, inl, inr, ℕ, zero, suc, ◌+◌, ◌<◌, List, [], ◌∷◌, ◌++◌, length, take, drop, add-one, Option, Some, None, refl, sym, subst, ap, ◌∙◌, arith}
+use Rattle.std.specs.Prelude.{IsSomeAnd}
+use Rattle.sqlite_trees.specs.declared.store.Store.{Ghosts}
+use Rattle.pid_moderation.specs.declared.refusal.Refusal.{Refusal}
+use Rattle.pid_moderation.specs.History.{Asked, History}
+use Rattle.pid_moderation.specs.Judgement.{after, after_all}
+use Rattle.pid_lives.specs.Registries as lives
+use Rattle.pid_service.specs.declared.registry.Registry.{Registry}
+use Rattle.pid_service.specs.declared.running.RunReport.{RunReport}
+use Rattle.pid_service.specs.Histories.{FailsBetween, IsFault, Shows}
+use Rattle.pid_service.specs.Lives.{showing}
+use Rattle.pid_service.specs.Running.{EndsRun, Runs}
+
+-- the next command, behind the first ones
+record IsNext (commands : List Asked) (n : ℕ) (c : Asked) : Type 0 where
+  pub more : n < length commands
+  pub taken : take (n + 1) commands ≡ take n commands ++ c ∷ []
+
+next_taken : (commands : List Asked) (n : ℕ) (c : Asked) (rest : List Asked) → drop n commands ≡ c ∷ rest → (n < length commands) × (take (suc n) commands ≡ take n commands ++ c ∷ [])
+next_taken [] zero c rest is = absurd (let no : ⊥ = cc in no)
+next_taken [] (suc n) c rest is = absurd (let no : ⊥ = cc in no)
+next_taken (x ∷ commands) zero c rest is = let same : x ≡ c = cc in (omega arith, ap (λ y. y ∷ []) same)
+next_taken (x ∷ commands) (suc n) c rest is = let below = next_taken commands n c rest is in let low = below.0 in (omega (arith, low), ap (λ l. x ∷ l) below.1)
+
+is_next : (commands : List Asked) (n : ℕ) (c : Asked) (rest : List Asked) → drop n commands ≡ c ∷ rest → IsNext commands n c
+is_next commands n c rest is = let next = next_taken commands n c rest is in record { more = next.0; taken = ap (λ k. take k commands) (add-one n) ∙ next.1 }
+
+after_next : (commands : List Asked) (h : History) (c : Asked) → after_all h (commands ++ c ∷ []) ≡ after (after_all h commands) c
+after_next [] h c = refl
+after_next (x ∷ commands) h c = after_next commands (after h x) c
+
+module _ {S : Type 0} (store : Ghosts S) where
+  -- it failed at the next command
+  record FailsNext (fault : Option Refusal) (rest : List Asked) (r : Registry S store) (h : History) : Type 0 where
+    pub is_fault : IsSomeAnd fault IsFault
+    pub next : Asked
+    pub behind : List Asked
+    pub is_next : rest ≡ next ∷ behind
+    pub fails : FailsBetween store r h (after h next)
+
+  ended : (fault : Option Refusal) (rest : List Asked) (r : Registry S store) (h : History) → EndsRun store fault rest r h → Shows store r h ⊎ FailsNext fault rest r h
+  ended None [] r h ends = inl ends
+  ended None (c ∷ rest) r h ends = absurd ends
+  ended (Some e) [] r h ends = absurd ends
+  ended (Some e) (c ∷ rest) r h (fault, inl shows) = inl shows
+  ended (Some e) (c ∷ rest) r h (fault, inr fails) = inr (record { is_fault = fault; next = c; behind = rest; is_next = refl; fails = fails })
+
+  pub run_lives : (report : RunReport) (r : Registry S store) (h : History) (commands : List Asked) → Runs store report r h commands → lives.Runs (showing store) report.replies.items report.fault r h commands
+  run_lives report r h commands runs =
+      let n = length report.replies.items in
+      let so_far = after_all h (take n commands) in
+      record {
+        replied = runs.replied;
+        ends = elim (ended report.fault (drop n commands) r so_far runs.ends) [
+          | inl shows ↦ inl shows
+          | inr failed ↦
+              let next = is_next commands n failed.next failed.behind failed.is_next in
+              inr (
+                failed.is_fault,
+                next.more,
+                subst (λ (g : History). FailsBetween store r so_far g) (sym (ap (after_all h) next.taken ∙ after_next (take n commands) h failed.next)) failed.fails,
+              )
+        ];
+      }

@@ -1,0 +1,116 @@
+-- Commands of a list, obeyed one after another.
+use Rattle.std.proofs.Common.{◌≡◌, ◌≢◌, ◌⊎◌, inl, inr, ℕ, zero, suc, ◌+◌, ◌<◌, List, [], ◌∷◌, ◌++◌, length, take, drop, map, get_or, add-one, Option, Some, None, Result, Ok, Err, IsErrAnd, is_some, true, false, refl, sym, subst, ap, ◌∙◌, arith}
+use Rattle.sqlite_trees.specs.declared.store.Store.{Ghosts}
+use Rattle.pid_moderation.specs.declared.command.Reply.{Reply}
+use Rattle.pid_moderation.specs.declared.refusal.Refusal.{Refusal}
+use Rattle.pid_moderation.specs.declared.refusal.Refusal.TheVariants.{BadPath, BadName, BadText, NoAccount, RankTooLow, NoSubmission, NotPending, NotAuthor, OwnDecision, ParentMissing, HasChildren, NothingToDo, FileFault, Full, Memory, Store, Failed}
+use Rattle.pid_moderation.specs.History.{Asked, History}
+use Rattle.pid_moderation.specs.Judgement.{judge, answer, answers, after, after_all}
+use Rattle.pid_moderation.specs.Views.{views_of}
+use Rattle.pid_service.specs.declared.registry.Registry.{Registry}
+use Rattle.pid_service.specs.Histories.{Shows, FailsBetween, IsFault}
+use Rattle.pid_service.specs.Obeying.{Obeys}
+use Rattle.pid_service.specs.declared.running.RunReport.{RunReport}
+use Rattle.pid_service.specs.Running.{EndsRun, Runs, fault_in}
+use Rattle.pid_service.proofs.Judged.{refused_stays}
+
+-- one command more
+
+pub answers_then : (cs : List Asked) (h : History) (c : Asked) → answers h (cs ++ c ∷ []) ≡ answers h cs ++ answer (judge (views_of (after_all h cs)) c) ∷ []
+answers_then [] h c = refl
+answers_then (x ∷ cs) h c = ap (λ rest. answer (judge (views_of h) x) ∷ rest) (answers_then cs (after h x) c)
+
+pub after_then : (cs : List Asked) (h : History) (c : Asked) → after_all h (cs ++ c ∷ []) ≡ after (after_all h cs) c
+after_then [] h c = refl
+after_then (x ∷ cs) h c = after_then cs (after h x) c
+
+pub answers_length : (cs : List Asked) (h : History) → length (answers h cs) ≡ length cs
+answers_length [] h = refl
+answers_length (c ∷ cs) h = ap suc (answers_length cs (after h c))
+
+-- a place in the list
+
+module _ {X : Type 0} (f : X → Asked) where
+  placed : (cs : List X) (i : ℕ) (x : X) → i < length cs → get_or cs i x ≡ x → (take (suc i) (map f cs) ≡ take i (map f cs) ++ f x ∷ []) × (drop i (map f cs) ≡ f x ∷ drop (suc i) (map f cs)) × (length (take i (map f cs)) ≡ i)
+  placed [] i x low is = absurd (omega (arith, low))
+  placed (y ∷ cs) zero x low is = (ap (λ z. f z ∷ []) is, ap (λ z. f z ∷ map f cs) is, refl)
+  placed (y ∷ cs) (suc i) x low is = let below = placed cs i x (omega (arith, low)) is in (ap (λ l. f y ∷ l) below.0, below.1, ap suc below.2)
+
+  pub one_more : (cs : List X) (i : ℕ) (x : X) → i < length cs → get_or cs i x ≡ x → take (i + 1) (map f cs) ≡ take i (map f cs) ++ f x ∷ []
+  one_more cs i x low is = ap (λ k. take k (map f cs)) (add-one i) ∙ (placed cs i x low is).0
+
+  pub next_is : (cs : List X) (i : ℕ) (x : X) → i < length cs → get_or cs i x ≡ x → drop i (map f cs) ≡ f x ∷ drop (suc i) (map f cs)
+  next_is cs i x low is = (placed cs i x low is).1
+
+  pub so_many : (cs : List X) (i : ℕ) (x : X) (h : History) → i < length cs → get_or cs i x ≡ x → length (answers h (take i (map f cs))) ≡ i
+  so_many cs i x h low is = answers_length (take i (map f cs)) h ∙ (placed cs i x low is).2
+
+-- an answer is a fault
+
+pub told_fault : (r : Result Reply Refusal) (e : Refusal) → fault_in r ≡ Some e → (r ≡ Err e) × IsFault e
+told_fault (Err Memory) e is = let same : Memory ≡ e = cc in (ap Err same, inl (sym same))
+told_fault (Err Store) e is = let same : Store ≡ e = cc in (ap Err same, inr (sym same))
+told_fault (Ok reply) e is = absurd (let no : ⊥ = cc in no)
+told_fault (Err BadPath) e is = absurd (let no : ⊥ = cc in no)
+told_fault (Err BadName) e is = absurd (let no : ⊥ = cc in no)
+told_fault (Err BadText) e is = absurd (let no : ⊥ = cc in no)
+told_fault (Err NoAccount) e is = absurd (let no : ⊥ = cc in no)
+told_fault (Err RankTooLow) e is = absurd (let no : ⊥ = cc in no)
+told_fault (Err NoSubmission) e is = absurd (let no : ⊥ = cc in no)
+told_fault (Err NotPending) e is = absurd (let no : ⊥ = cc in no)
+told_fault (Err NotAuthor) e is = absurd (let no : ⊥ = cc in no)
+told_fault (Err OwnDecision) e is = absurd (let no : ⊥ = cc in no)
+told_fault (Err ParentMissing) e is = absurd (let no : ⊥ = cc in no)
+told_fault (Err HasChildren) e is = absurd (let no : ⊥ = cc in no)
+told_fault (Err NothingToDo) e is = absurd (let no : ⊥ = cc in no)
+told_fault (Err (FileFault f)) e is = absurd (let no : ⊥ = cc in no)
+told_fault (Err Full) e is = absurd (let no : ⊥ = cc in no)
+told_fault (Err Failed) e is = absurd (let no : ⊥ = cc in no)
+
+pub none_of : {X : Type 0} (o : Option X) → is_some o ≡ false → o ≡ None
+none_of None off = refl
+none_of (Some x) off = absurd (let no : ⊥ = cc in no)
+
+no_fault : (r : Result Reply Refusal) → fault_in r ≡ None → IsErrAnd r IsFault → ⊥
+no_fault (Err e) is (inl memory) = let no : ⊥ = let bad : Some Memory ≡ None = subst (λ x. fault_in (Err x) ≡ None) memory is in cc in no
+no_fault (Err e) is (inr store) = let no : ⊥ = let bad : Some Store ≡ None = subst (λ x. fault_in (Err x) ≡ None) store is in cc in no
+no_fault (Ok reply) is bad = absurd bad
+
+module _ {S : Type 0} (store : Ghosts S) where
+  -- it goes on
+  pub goes_on : (r : Result Reply Refusal) (new : Registry S store) (h : History) (c : Asked) → Obeys store r new h c → fault_in r ≡ None → (r ≡ answer (judge (views_of h) c)) × Shows store new (after h c)
+  goes_on r new h c (inl told) none = told
+  goes_on r new h c (inr fault) none = absurd (no_fault r none fault.0)
+
+  -- it stops
+  pub stops : (r : Result Reply Refusal) (e : Refusal) (new : Registry S store) (h : History) (c : Asked) (rest : List Asked) → Obeys store r new h c → fault_in r ≡ Some e → EndsRun store (Some e) (c ∷ rest) new h
+  stops r e new h c rest (inl told) is =
+      let fault = told_fault r e is in
+      (fault.1, inl (subst (Shows store new) (refused_stays h c e (sym told.0 ∙ fault.0)) told.1))
+  stops r e new h c rest (inr fault) is = ((told_fault r e is).1, fault.1)
+
+  -- one command more was obeyed
+  pub obeyed_more : (r : Result Reply Refusal) (old new : Registry S store) (h : History) (cs more : List Asked) (c : Asked) (replies : List (Result Reply Refusal))
+      → more ≡ cs ++ c ∷ [] → (replies ≡ answers h cs) × Shows store old (after_all h cs) → (Shows store old (after_all h cs) → Obeys store r new (after_all h cs) c) → fault_in r ≡ None
+      → (replies ++ r ∷ [] ≡ answers h more) × Shows store new (after_all h more)
+  obeyed_more r old new h cs more c replies is so obeys none =
+      let on = goes_on r new (after_all h cs) c (obeys so.1) none in (
+        ap (λ l. l ++ r ∷ []) so.0 ∙ ap (λ x. answers h cs ++ x ∷ []) on.0 ∙ sym (answers_then cs h c) ∙ ap (answers h) (sym is),
+        subst (Shows store new) (sym (after_then cs h c) ∙ ap (after_all h) (sym is)) on.1,
+      )
+
+  -- the list ends at a fault
+  by_fault : (r : Result Reply Refusal) (fault : Option Refusal) (new : Registry S store) (h : History) (c : Asked) (rest : List Asked) → Obeys store r new h c → fault ≡ fault_in r → is_some fault ≡ true → EndsRun store fault (c ∷ rest) new h
+  by_fault r None new h c rest obeys same some = absurd (let no : ⊥ = cc in no)
+  by_fault r (Some e) new h c rest obeys same some = stops r e new h c rest obeys (sym same)
+
+  pub ends_at : (r : Result Reply Refusal) (report : RunReport) (old new : Registry S store) (h : History) (i : ℕ) (all rest : List Asked) (c : Asked)
+      → drop i all ≡ c ∷ rest → length (answers h (take i all)) ≡ i → (report.replies.items ≡ answers h (take i all)) × Shows store old (after_all h (take i all))
+      → (Shows store old (after_all h (take i all)) → Obeys store r new (after_all h (take i all)) c) → report.fault ≡ fault_in r → is_some report.fault ≡ true → Runs store report new h all
+  ends_at r report old new h i all rest c is many so obeys same some =
+      let count : length report.replies.items ≡ i = ap length so.0 ∙ many in
+      record {
+        replied = so.0 ∙ ap (λ n. answers h (take n all)) (sym count);
+        ends = subst (λ n. EndsRun store report.fault (drop n all) new (after_all h (take n all))) (sym count)
+            (subst (λ l. EndsRun store report.fault l new (after_all h (take i all))) (sym is) (by_fault r report.fault new (after_all h (take i all)) c rest (obeys so.1) same some));
+      }

@@ -1,0 +1,17 @@
+use Rattle.std.proofs.Common.{◌≡◌, false, Option, Some, None, refl, rules, subst, sym, ◌∙◌}
+use Rattle.pid_moderation.specs.declared.change.Receipt.{Receipt}
+use Rattle.pid_moderation.specs.Changes.{affected, changed, keeping}
+use Rattle.pid_moderation.specs.Items.{Items, name_at}
+use Rattle.pid_moderation.specs.Views.{Views}
+use Rattle.pid_name_cache.specs.Agreement.{Agrees}
+use Rattle.pid_service.proofs.forgetting.forget_for.Goals as goal
+
+kept_items : (r : Option Receipt) (v : Views) → (keeping r v).items ≡ v.items
+kept_items None v = refl
+kept_items (Some r) v = refl
+
+pub returns-then-not-writes_items : goal.returns-then-not-writes_items
+returns-then-not-writes_items c v names =
+    let off : c.writes_items.result ≡ false = search rules in
+    let same : (changed c.args.change.now v).items ≡ v.items = kept_items c.args.change.now.receipt (affected c.args.change.now.effect v) ∙ c.writes_items.ensures v off in
+    subst (λ (items : Items). Agrees c.args.names.now (λ path. name_at path items)) (sym same) names

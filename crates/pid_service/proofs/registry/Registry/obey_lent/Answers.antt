@@ -1,0 +1,10 @@
+use Rattle.pid_moderation.specs.Views.{views_of}
+use Rattle.pid_import.specs.Files.{asks, file_of, file_reading}
+use Rattle.pid_service.proofs.Obeyed.{broken_form}
+use Rattle.pid_service.proofs.ReadFiles.{tells_any}
+use Rattle.pid_service.proofs.registry.Registry.obey_lent.Goals as goal
+
+pub returns-then-breaks_form-clause-obeyed : goal.returns-then-breaks_form-clause-obeyed
+returns-then-breaks_form-clause-obeyed g c clean h shows =
+    broken_form g.S.Store c.args.self.now h (asks c.args.command.now) shows
+    (c.breaks_form.ensures.refused (views_of h) (file_reading (file_of c.args.command.now.act)) (tells_any c.args.command.now.act) c.if-breaks_form.true)

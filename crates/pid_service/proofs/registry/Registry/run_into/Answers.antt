@@ -1,0 +1,38 @@
+use Rattle.std.proofs.Common.{◌≡◌, ℕ, ◌+◌, List, [], ◌∷◌, length, length-append, take, drop, map, suc, not, true, is_ok, sym, ap, ◌∙◌, arith}
+use Rattle.pid_moderation.specs.History.{Asked}
+use Rattle.pid_moderation.specs.Judgement.{after_all}
+use Rattle.pid_import.specs.Files.{asks}
+use Rattle.pid_service.proofs.Runs.{one_more, next_is, none_of, so_many, obeyed_more, ends_at}
+use Rattle.pid_service.proofs.registry.Registry.run_into.Goals as goal
+
+pub returns-then-is_some-clause-ran : goal.returns-then-is_some-clause-ran
+returns-then-is_some-clause-ran g c clean h shows =
+    let i : ℕ = c.loop-command.command-index in
+    let all : List Asked = map asks c.args.commands.now in
+    let was = c.obey_lent-outcome.ensures.clean clean in
+    ends_at g.S.Store c.obey_lent-outcome.result _ c.loop-command.self c.obey_lent-outcome.new.self h i all (drop (suc i) all) (asks c.command-item.result)
+    (next_is asks c.args.commands.now i c.command-item.result (omega (arith, c.loop-command-test.true)) (sym c.command-item.is))
+    (so_many asks c.args.commands.now i c.command-item.result h (omega (arith, c.loop-command-test.true)) (sym c.command-item.is))
+    (c.loop-command.invariant.4 was h shows)
+    (λ so. c.obey_lent-outcome.ensures.obeyed clean (after_all h (take i all)) so)
+    c.fault_of-fault.ensures.told
+    (sym c.is_some.ensures ∙ c.if-is_some.true)
+
+pub loop-command-preserved : goal.loop-command-preserved
+loop-command-preserved g c =
+    let i : ℕ = c.loop-command.command-index in
+    let all : List Asked = map asks c.args.commands.now in
+    let good : is_ok c.push.result ≡ true = c.is_err.ensures.negation ∙ ap not c.if-is_err.false in
+    let none = sym c.fault_of-fault.ensures.told ∙ none_of c.fault_of-fault.result (sym c.is_some.ensures ∙ c.if-is_some.false) in (
+      rw good at c.push.ensures.len ∙ ap (λ n. n + 1) c.loop-command.invariant.0,
+      ap length (rw good at c.push.ensures.items) ∙ length-append c.loop-command.replies.items (c.obey_lent-outcome.result ∷ []) ∙ ap (λ n. n + 1) c.loop-command.invariant.1,
+      omega (arith, c.loop-command.invariant.2, c.push.ensures.capacity),
+      λ clean. c.loop-command.invariant.3 (c.obey_lent-outcome.ensures.clean clean),
+      λ clean h shows.
+          let more = obeyed_more g.S.Store c.obey_lent-outcome.result c.loop-command.self c.obey_lent-outcome.new.self h (take i all) (take (i + 1) all) (asks c.command-item.result) c.loop-command.replies.items
+          (one_more asks c.args.commands.now i c.command-item.result (omega (arith, c.loop-command-test.true)) (sym c.command-item.is))
+          (c.loop-command.invariant.4 (c.obey_lent-outcome.ensures.clean clean) h shows)
+          (λ so. c.obey_lent-outcome.ensures.obeyed clean (after_all h (take i all)) so)
+          none in
+          (rw good at c.push.ensures.items ∙ more.0, more.1),
+    )

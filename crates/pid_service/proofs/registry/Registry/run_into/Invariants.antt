@@ -1,0 +1,14 @@
+use Rattle.std.proofs.Common.{◌≡◌, ℕ, ◌≤◌, length, take, map, vec_capacity, vec_len}
+use Rattle.pid_moderation.specs.History.{History}
+use Rattle.pid_moderation.specs.Judgement.{answers, after_all}
+use Rattle.pid_import.specs.Files.{asks}
+use Rattle.pid_service.specs.Histories.{Shows}
+use Rattle.pid_service.specs.Registries.{HasCleanDisk}
+use Rattle.pid_service.proofs.registry.Registry.run_into.Given as goal
+
+abbrev pub invariant-loop-command : goal.invariant-loop-command
+invariant-loop-command g l =
+    (vec_len l.replies ≡ l.command-index) × (length l.replies.items ≡ l.command-index) × (length l.commands ≤ vec_capacity l.replies)
+    × (HasCleanDisk g.S.Store l.self → HasCleanDisk g.S.Store l.fn.self)
+    × (HasCleanDisk g.S.Store l.self → (h : History) → Shows g.S.Store l.fn.self h
+    → (l.replies.items ≡ answers h (take l.command-index (map asks l.commands))) × Shows g.S.Store l.self (after_all h (take l.command-index (map asks l.commands))))

@@ -1,0 +1,18 @@
+use Rattle.std.proofs.Common.{Ok, subst}
+use Rattle.pid_service.specs.declared.judging.Judged.{Judged}
+use Rattle.pid_service.specs.Judging.{Judges}
+use Rattle.pid_service.proofs.Obeyed.{kept, accepted, failed}
+use Rattle.pid_service.proofs.registry.Registry.settle.Goals as goal
+
+pub returns-in-Kept-clause-settled : goal.returns-in-Kept-clause-settled
+returns-in-Kept-clause-settled g c h asks shows reached told = kept g.S.Store _ h asks c.in-Kept.reply shows (subst (λ (j : Judged). Judges h asks (Ok j)) c.in-Kept.is told)
+
+pub returns-in-Ok-clause-settled : goal.returns-in-Ok-clause-settled
+returns-in-Ok-clause-settled g c h asks shows reached told =
+    accepted g.S.Store c.args.self.now c.carry_out.new.self h asks c.in-Accepted.change c.in-Accepted.reply
+    shows (subst (λ (j : Judged). Judges h asks (Ok j)) c.in-Accepted.is told) reached (λ v rest fit. c.in-Ok.ensures.stands v rest fit) c.in-Ok.ensures.lives c.carry_out.ensures.clean (λ v kept. c.in-Ok.ensures.names v kept)
+
+pub returns-clause-settled : goal.returns-clause-settled
+returns-clause-settled g c h asks shows reached told =
+    failed g.S.Store c.args.self.now c.carry_out.new.self h asks c.in-Accepted.change c.in-Accepted.reply c.in-Err.refusal
+    shows (subst (λ (j : Judged). Judges h asks (Ok j)) c.in-Accepted.is told) reached (λ v rest fit. c.in-Err.ensures.either v rest fit) c.in-Err.ensures.fails c.in-Err.ensures.fault

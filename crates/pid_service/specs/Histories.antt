@@ -1,0 +1,34 @@
+-- Histories that commands lead to, and registries that show them: choices of this project.
+use Rattle.std.specs.Prelude.{◌≡◌, [], List, true, false}
+use Rattle.sqlite_trees.specs.declared.store.Store.{Ghosts}
+pub use Rattle.pid_import.specs.Faults.{IsFault}
+use Rattle.pid_moderation.specs.History.{Asked, History}
+use Rattle.pid_moderation.specs.Judgement.{after_all}
+use Rattle.pid_moderation.specs.Views.{views_of}
+use Rattle.pid_moderation.specs.WellMade.{AreWellMade}
+use Rattle.pid_rows.specs.Clauses.{AtRest, LeavesEither}
+use Rattle.pid_service.specs.declared.registry.Registry.{Registry}
+use Rattle.pid_service.specs.Registries.{connection, is_live}
+use Rattle.pid_service.specs.KeptNames.{KeepsNames}
+
+-- commands lead to the history from the one without any
+pub record IsReached (h : History) : Type 0 where
+  pub commands : List Asked
+  pub made : AreWellMade commands
+  pub reached : h ≡ after_all [] commands
+
+module _ {S : Type 0} (store : Ghosts S) where
+  -- The registry is live, and outside a transaction its tables show the history, while no fault has shut the connection. So does everything that a crash may leave, and so
+  -- do the names that are kept in memory.
+  pub record Shows (r : Registry S store) (h : History) : Type 0 where
+    pub lives : is_live r ≡ true
+    pub history : IsReached h
+    pub tables : AtRest store (connection r) (views_of h)
+    pub names : KeepsNames store r h
+
+  -- The registry has failed. Everything that a crash may leave shows the one history or the other, and commands lead to both.
+  pub record FailsBetween (r : Registry S store) (h after : History) : Type 0 where
+    pub has_failed : is_live r ≡ false
+    pub before : IsReached h
+    pub next : IsReached after
+    pub leaves : LeavesEither store (connection r) (views_of h) (views_of after)

@@ -1,0 +1,49 @@
+-- What an import is answered whose file comes as an input, and what the registry shows afterwards.
+use Rattle.std.specs.Prelude.{◌≡◌, ◌⊎◌, ◌≤◌, ◌+◌, ℕ, List, length, Option, Result, Ok, Err}
+use Rattle.std.specs.Io.KnownBytes.{Consumes}
+use Rattle.sqlite_trees.specs.declared.store.Store.{Ghosts}
+use Rattle.pid_reader.specs.WholeInputs.{IsWhole}
+use Rattle.pid_moderation.specs.declared.command.Reply.{Reply}
+use Rattle.pid_moderation.specs.declared.refusal.Refusal.{Refusal}
+use Rattle.pid_moderation.specs.declared.refusal.Refusal.TheVariants.{BadText}
+use Rattle.pid_moderation.specs.CheckTables.{most_file_bytes}
+use Rattle.pid_moderation.specs.History.{Asked, History}
+use Rattle.pid_service.specs.declared.importing.ImportEnd.{ImportEnd}
+use Rattle.pid_service.specs.declared.importing.ImportEnd.TheVariants.{Refused, Body}
+use Rattle.pid_service.specs.declared.registry.Registry.{Registry}
+use Rattle.pid_service.specs.Histories.{Shows}
+use Rattle.pid_service.specs.Obeying.{Obeys}
+
+-- how much of the input was read: all of it, if it is not too long; one byte more than a file may have, where it is; or what stands
+-- before its fault
+abbrev pub ReadsImport : Result Reply ImportEnd → Option (List ℕ) → List ℕ → Type 0
+ReadsImport (Ok reply) rest text = IsWhole most_file_bytes rest text
+ReadsImport (Err (Refused e)) rest text = IsWhole most_file_bytes rest text ⊎ (length text ≡ most_file_bytes + 1)
+ReadsImport (Err Body) rest text = length text ≤ most_file_bytes
+
+-- this text was read of the input, and of it this holds
+pub record HasRead (result : Result Reply ImportEnd) (to_come left : Option (List ℕ)) (Holds : List ℕ → Type 0) : Type 0 where
+  pub text : List ℕ
+  pub consumed : Consumes to_come left text
+  pub read : ReadsImport result left text
+  pub holds : Holds text
+
+-- as a command is obeyed; where the input failed, the registry shows the history as before
+abbrev pub ObeysImport : {S : Type 0} → (store : Ghosts S) → Result Reply ImportEnd → Registry S store → History → Asked → Type 0
+ObeysImport store (Ok reply) r h c = Obeys store (Ok reply) r h c
+ObeysImport store (Err (Refused e)) r h c = Obeys store (Err e) r h c
+ObeysImport store (Err Body) r h c = Shows store r h
+
+-- The rest serves private functions alone.
+
+-- the answer that was known before, unless the text is too long or the input failed
+abbrev pub AnswersPast : Result Reply Refusal → Result Reply ImportEnd → List ℕ → Type 0
+AnswersPast given (Ok reply) text = (given ≡ Ok reply) × (length text ≤ most_file_bytes)
+AnswersPast given (Err (Refused e)) text = ((given ≡ Err e) × (length text ≤ most_file_bytes)) ⊎ ((e ≡ BadText) × (length text ≡ most_file_bytes + 1))
+AnswersPast given (Err Body) text = Unit {0}
+
+-- what an import of bytes in memory is answered, whose input does not fail
+abbrev pub IsPlain : Result Reply ImportEnd → Result Reply Refusal → Type 0
+IsPlain (Ok reply) result = result ≡ Ok reply
+IsPlain (Err (Refused e)) result = result ≡ Err e
+IsPlain (Err Body) result = Unit {0}

@@ -1,0 +1,11 @@
+pub mod Registries
+pub mod KeptNames
+pub mod Histories
+pub mod Judging
+pub mod Obeying
+pub mod Importing
+pub mod Exporting
+pub mod Opening
+pub mod Asking
+pub mod Lives
+pub mod Running

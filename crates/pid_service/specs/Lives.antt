@@ -1,0 +1,69 @@
+-- Registries as `pid_lives` speaks of them, and what stands between one opening and the next. Choices of this project.
+use Rattle.std.specs.Prelude.{◌≡◌, ◌⊎◌, ◌↔◌, List, Result, Ok, Err, MatchResult}
+use Rattle.sqlite.specs.Held.{Held, state}
+use Rattle.sqlite.specs.Tree.{Trees}
+use Rattle.sqlite_trees.specs.declared.store.Store.{Ghosts}
+use Rattle.pid_ident.specs.Trees.{TreeMap}
+use Rattle.pid_tree.specs.Printing.{print}
+use Rattle.pid_reader.specs.Reading.{Reads}
+use Rattle.pid_moderation.specs.declared.command.Reply.{Reply}
+use Rattle.pid_moderation.specs.History.{Asked, History}
+use Rattle.pid_moderation.specs.Sound.{IsSound}
+use Rattle.pid_moderation.specs.Writes.{tree_of}
+use Rattle.pid_lives.specs.Calls.{Call, nothing_sent, obeyed}
+use Rattle.pid_lives.specs.CrashPrefix.{IsAfterPrefixes}
+use Rattle.pid_lives.specs.Registries.{Showing}
+use Rattle.pid_rows.specs.declared.fault.TableFault.{TableFault}
+use Rattle.pid_rows.specs.Clauses as clauses
+use Rattle.pid_tables.specs.Clauses.{IsOpened, ShowsOrBlank}
+use Rattle.pid_service.specs.declared.importing.ImportEnd.{ImportEnd}
+use Rattle.pid_service.specs.declared.importing.ImportEnd.TheVariants.{Refused, Body}
+use Rattle.pid_service.specs.declared.registry.Registry.{Registry}
+use Rattle.pid_service.specs.Histories.{IsReached, Shows, FailsBetween}
+use Rattle.pid_service.specs.Opening.{Opens}
+use Rattle.pid_service.specs.Registries.{HasCleanDisk}
+
+-- an import whose file comes as an input sends its command, unless the input failed
+abbrev pub import_sent : Asked → Result Reply ImportEnd → Call
+import_sent c (Ok reply) = obeyed c (Ok reply)
+import_sent c (Err (Refused e)) = obeyed c (Err e)
+import_sent c (Err Body) = nothing_sent
+
+module _ {S : Type 0} (store : Ghosts S) where
+  -- how lives see a registry
+  abbrev pub showing : Showing (Registry S store)
+  showing = record { is_clean = HasCleanDisk store; shows = Shows store; fails_between = FailsBetween store }
+
+  -- what an open after a crash at this moment may find
+  abbrev pub may_leave : Held S → Trees → Type 0
+  may_leave conn = (state store conn).may_leave
+
+  -- A connection was just opened on trees that a crash of an earlier one may leave. That one's disk returned what was written, which
+  -- the new connection cannot tell.
+  pub record IsAfterStop (earlier conn : Held S) : Type 0 where
+    pub clean : clauses.HasCleanDisk store earlier
+    pub opened : IsOpened store conn
+    pub found : may_leave earlier (clauses.seen store conn).trees
+
+  -- the tables of a connection are what a registry showed; where that had failed, they are of the one history or the other
+  pub record FindsTables (ended : Registry S store) (conn : Held S) : Type 0 where
+    pub clean : clauses.HasCleanDisk store conn → HasCleanDisk store ended
+    pub shown : (h : History) → Shows store ended h → ShowsOrBlank store conn h
+    pub either : (h next : History) → FailsBetween store ended h next → ShowsOrBlank store conn h ⊎ ShowsOrBlank store conn next
+
+  -- `open` was called on a connection and answered this: its clauses `clean` and `opened`
+  pub record OpensTo (conn : Held S) (result : Result (Registry S store) (TableFault × Held S)) : Type 0 where
+    pub clean : MatchResult result
+        (λ r. HasCleanDisk store r → clauses.HasCleanDisk store conn)
+        (λ e. clauses.HasCleanDisk store e.1 → clauses.HasCleanDisk store conn)
+    pub opened : (h : History) → IsReached h → ShowsOrBlank store conn h → Opens store result h
+
+  -- a registry shows the history after a prefix of the commands of each life, told by its calls
+  pub record ShowsPrefixes (r : Registry S store) (calls : List (List Call)) : Type 0 where
+    pub history : History
+    pub shown : Shows store r history
+    pub prefixes : IsAfterPrefixes calls history
+    -- the history has a tree of names, and all that tables ask of one
+    pub sound : IsSound history
+    -- the printed text of that tree reads back to it, and to no other tree
+    pub read_back : (t : TreeMap) → Reads (print (tree_of history)) t ↔ (t ≡ tree_of history)

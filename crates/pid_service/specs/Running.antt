@@ -1,0 +1,31 @@
+-- A list of commands, obeyed in order up to a fault.
+use Rattle.std.specs.Prelude.{◌≡◌, ◌⊎◌, List, [], ◌∷◌, length, take, drop, Option, Some, None, Result, Err}
+use Rattle.sqlite_trees.specs.declared.store.Store.{Ghosts}
+use Rattle.pid_moderation.specs.declared.command.Reply.{Reply}
+use Rattle.pid_moderation.specs.declared.refusal.Refusal.{Refusal}
+use Rattle.pid_moderation.specs.declared.refusal.Refusal.TheVariants.{Memory, Store}
+use Rattle.pid_moderation.specs.History.{Asked, History}
+use Rattle.pid_moderation.specs.Judgement.{after, after_all, answers}
+use Rattle.pid_service.specs.declared.registry.Registry.{Registry}
+use Rattle.pid_service.specs.declared.running.RunReport.{RunReport}
+use Rattle.pid_service.specs.Histories.{Shows, FailsBetween, IsFault}
+
+-- the fault that an answer is, where it is one
+abbrev pub fault_in : Result Reply Refusal → Option Refusal
+fault_in (Err Memory) = Some Memory
+fault_in (Err Store) = Some Store
+fault_in answer = None
+
+module _ {S : Type 0} (store : Ghosts S) where
+  -- where a list ends: all commands were obeyed; or at the next one memory was short or the store failed, and the registry shows the
+  -- history so far, or has failed between that and the history after this command
+  abbrev pub EndsRun : Option Refusal → List Asked → Registry S store → History → Type 0
+  EndsRun None [] r h = Shows store r h
+  EndsRun None (c ∷ rest) r h = ⊥
+  EndsRun (Some e) [] r h = ⊥
+  EndsRun (Some e) (c ∷ rest) r h = IsFault e × (Shows store r h ⊎ FailsBetween store r h (after h c))
+
+  -- the replies are the answers to the first commands, so many, and the registry shows the history after these
+  pub record Runs (report : RunReport) (r : Registry S store) (h : History) (commands : List Asked) : Type 0 where
+    pub replied : report.replies.items ≡ answers h (take (length report.replies.items) commands)
+    pub ends : EndsRun report.fault (drop (length report.replies.items) commands) r (after_all h (take (length report.replies.items) commands))

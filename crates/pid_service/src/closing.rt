@@ -1,0 +1,39 @@
+//! What a registry says of itself, and its end.
+ghost use Rattle.std.specs.Prelude.{◌≡◌, ◌≤◌, false, length};
+ghost use Rattle.pid_moderation.specs.History.{History};
+ghost use Rattle.pid_moderation.specs.Views.{views_of};
+ghost use Rattle.pid_rows.specs.Clauses.{AtRest};
+ghost use Rattle.pid_service.specs.Histories.{Shows};
+ghost use Rattle.pid_service.specs.KeptNames.{kept_names};
+ghost use Rattle.pid_service.specs.Registries.{connection, is_live as lives};
+
+use crate::registry::Registry;
+use sqlite::{Alter, Connection};
+
+impl<S: Alter + Drop> Registry<S> {
+    /// Whether the registry is live: one that has failed answers `Failed` until it is opened anew.
+    pub fn is_live(&self) -> bool
+        ensures { result ≡ lives self.now }
+    {
+        self.live
+    }
+
+    /// How many paths it keeps in memory, each with its name or the absence of one: at most 1,024.
+    pub fn cached(&self) -> u32
+        ensures count { result ≡ length (kept_names self.now) }
+        ensures limit { result ≤ 1024 }
+    {
+        self.names.len()
+    }
+
+    /// Hands the connection back, outside a transaction. Of a registry that has failed, open the files anew.
+    pub fn close(self) -> Connection<S>
+        ensures same { result ≡ connection self }
+        ensures settled { result.in_transaction ≡ false }
+        // Of a registry that shows a history the tables show it.
+        ensures shown { (h : History) → Shows S.Store self h → AtRest S.Store result (views_of h) }
+    {
+        let Registry { tables, .. } = self;
+        tables.into_conn()
+    }
+}

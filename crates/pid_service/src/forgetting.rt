@@ -1,0 +1,31 @@
+//! Names in memory, before a change is written.
+ghost use Rattle.std.specs.Prelude.{◌≡◌, false};
+ghost use Rattle.pid_moderation.specs.Changes.{affected, changed};
+ghost use Rattle.pid_moderation.specs.Views.{Views};
+ghost use Rattle.pid_service.specs.KeptNames.{AreNamesOf};
+
+use pid_moderation::{Change, Effect};
+use pid_name_cache::NameCache;
+
+fn writes_items(effect: &Effect) -> bool
+    ensures { (v : Views) → result ≡ false → (affected effect.now v).items ≡ v.items }
+{
+    match effect {
+        Effect::Decided { write, .. } => write.is_some(),
+        Effect::Imported { .. } => true,
+        Effect::Nothing
+        | Effect::Ranked { .. }
+        | Effect::Submitted { .. }
+        | Effect::Remarked { .. } => false,
+    }
+}
+
+/// Forgets all names where the change writes an item.
+pub(crate) fn forget_for(names: &mut NameCache, change: &Change)
+    ensures { (v : Views) → AreNamesOf names.old v → AreNamesOf names.new (changed change.now v) }
+{
+    if !writes_items(&change.effect) {
+        return;
+    }
+    names.clear();
+}

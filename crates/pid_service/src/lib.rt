@@ -1,0 +1,29 @@
+//! The registry: each command is one transaction on its tables.
+#![tactic(auto)]
+
+mod closing;
+mod exporting;
+mod forgetting;
+mod importing;
+mod judging;
+mod laws;
+mod lives;
+mod looking_up;
+mod names;
+mod obeying;
+mod opening;
+mod reading;
+mod registry;
+mod running;
+mod writing;
+
+pub use exporting::ExportFault;
+pub use importing::ImportEnd;
+pub use laws::{commands_lead_on, reached_histories_are_kept};
+pub use lives::{
+    clauses_meet_lives, first_openings_show_nothing, openings_find_histories,
+    reopened_registries_show_prefixes, repeats_end_doubts,
+};
+pub use opening::open;
+pub use registry::Registry;
+pub use running::RunReport;

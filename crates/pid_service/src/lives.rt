@@ -1,0 +1,126 @@
+//! From the calls on registries to the crash prefix. Each law is the contract of a function that does nothing of its own.
+//!
+//! The calls of a life each do what `clauses_meet_lives` says of their clauses; from the end of a life to the next opening leads
+//! `openings_find_histories`. So lives lead from a first opening, of which `first_openings_show_nothing` speaks, to a last one,
+//! and `reopened_registries_show_prefixes` says what that shows.
+ghost use Rattle.std.specs.Prelude.{◌≡◌, ◌⊎◌, ℕ, true, false, List, [], Option, Some, Ok, Err, Result};
+ghost use Rattle.sqlite.specs.Held.{Held};
+ghost use Rattle.pid_moderation.specs.declared.command.Reply.{Reply};
+ghost use Rattle.pid_moderation.specs.declared.refusal.Refusal.{Refusal};
+ghost use Rattle.pid_moderation.specs.declared.refusal.Refusal.TheVariants.{Failed};
+ghost use Rattle.pid_moderation.specs.History.{Asked, History};
+ghost use Rattle.pid_moderation.specs.Judgement.{after, answer, judge};
+ghost use Rattle.pid_moderation.specs.Views.{views_of};
+ghost use Rattle.pid_lives.specs.Calls.{Call, nothing_sent, obeyed, ran, sent_in};
+ghost use Rattle.pid_lives.specs.Outcomes.{is_outcome};
+ghost use Rattle.pid_lives.specs.Registries.{CallsLead, Does, Finds, LivesLead};
+ghost use Rattle.pid_rows.specs.declared.fault.TableFault.{TableFault};
+ghost use Rattle.pid_rows.specs.Clauses as clauses;
+ghost use Rattle.pid_rows.specs.Faults.{IsUntold};
+ghost use Rattle.pid_tables.specs.Clauses.{IsOpened, ShowsOrBlank};
+ghost use Rattle.pid_tables.specs.Creation.{IsBare};
+ghost use Rattle.pid_service.specs.declared.importing.ImportEnd as ends;
+ghost use Rattle.pid_service.specs.declared.importing.ImportEnd.TheVariants.{Body, Refused};
+ghost use Rattle.pid_service.specs.declared.registry.Registry as registry;
+ghost use Rattle.pid_service.specs.declared.running.RunReport as runs;
+ghost use Rattle.pid_service.specs.Histories.{FailsBetween, Shows};
+ghost use Rattle.pid_service.specs.Importing.{ObeysImport};
+ghost use Rattle.pid_service.specs.Lives.{FindsTables, IsAfterStop, OpensTo, ShowsPrefixes, import_sent, showing as registry_showing};
+ghost use Rattle.pid_service.specs.Obeying.{Obeys};
+ghost use Rattle.pid_service.specs.Registries.{HasCleanDisk, connection, is_live as lives};
+ghost use Rattle.pid_service.specs.Running.{Runs};
+
+use crate::laws::reached_histories_are_kept;
+use crate::registry::Registry;
+use pid_lives::{ShowsHistories, calls_do, doubts_end_when_sent_again, openings_find_prefixes};
+use pid_reader::laws::printed_trees_read_back;
+use sqlite::Alter;
+
+impl<S: Alter + Drop> ShowsHistories for Registry<S> {
+    ghost showing = { registry_showing S.Store };
+}
+
+/// The clauses of a call say what lives ask of it.
+///
+/// `obeys` is of `obey` and `import`, `imports` of `import_from`, `runs` of `run`; the premises are their clauses `clean`, `failed`, and `obeyed` or
+/// `ran`. Every other call `looks`: `read`, `children`, `submission`, `pending`, `lookup` and `export`.
+pub fn clauses_meet_lives<S: Alter + Drop>()
+    ensures obeys { (old new : registry.Registry S S.Store) (c : Asked) (result : Result Reply Refusal)
+        → (HasCleanDisk S.Store new → HasCleanDisk S.Store old)
+        → (lives old ≡ false → (result ≡ Err Failed) × (new ≡ old))
+        → (HasCleanDisk S.Store new → (h : History) → Shows S.Store old h → Obeys S.Store result new h c)
+        → Does (registry_showing S.Store) old (obeyed c result) new }
+    ensures imports { (old new : registry.Registry S S.Store) (c : Asked) (result : Result Reply ends.ImportEnd)
+        → (HasCleanDisk S.Store new → HasCleanDisk S.Store old)
+        → (lives old ≡ false → ((result ≡ Err (Refused Failed)) ⊎ (result ≡ Err Body)) × (new ≡ old))
+        → (HasCleanDisk S.Store new → (h : History) → Shows S.Store old h → ObeysImport S.Store result new h c)
+        → Does (registry_showing S.Store) old (import_sent c result) new }
+    ensures runs { (old new : registry.Registry S S.Store) (commands : List Asked) (report : runs.RunReport)
+        → (HasCleanDisk S.Store new → HasCleanDisk S.Store old)
+        → (lives old ≡ false → (report.replies.items ≡ []) × (report.fault ≡ Some Failed) × (new ≡ old))
+        → (HasCleanDisk S.Store new → (h : History) → Shows S.Store old h → Runs S.Store report new h commands)
+        → Does (registry_showing S.Store) old (ran commands report.replies.items report.fault) new }
+    ensures looks { (old new : registry.Registry S S.Store)
+        → (HasCleanDisk S.Store new → HasCleanDisk S.Store old)
+        → (lives old ≡ false → new ≡ old)
+        → (HasCleanDisk S.Store new → (h : History) → Shows S.Store old h → Shows S.Store new h)
+        → Does (registry_showing S.Store) old nothing_sent new }
+{
+    calls_do::<Registry<S>>();
+}
+
+/// The first opening. A database without tables has what the history without commands shows, and the registry that is opened there
+/// shows that history. Where the opening failed, what it leaves to a stop still shows it.
+pub fn first_openings_show_nothing<S: Alter + Drop>()
+    ensures bare { (conn : Held S) → IsOpened S.Store conn → IsBare (clauses.seen S.Store conn).trees → ShowsOrBlank S.Store conn [] }
+    ensures opened { (conn : Held S) (first : registry.Registry S S.Store) → ShowsOrBlank S.Store conn [] → OpensTo S.Store conn (Ok first)
+        → HasCleanDisk S.Store first → Shows S.Store first [] }
+    ensures failed { (conn back next : Held S) (fault : TableFault) → ShowsOrBlank S.Store conn [] → OpensTo S.Store conn (Err (fault, back))
+        → IsAfterStop S.Store back next → ShowsOrBlank S.Store next [] }
+{}
+
+/// From the end of a life to the next opening.
+///
+/// After a stop a new connection finds what a crash may leave; a live registry that was closed gives its own connection back. Either has
+/// the tables that the registry showed, or those of one of the two histories between which it had failed, and a registry that is opened
+/// there shows them. An opening that fails tells of no damage and no later schema. It is no life: what it leaves to a further stop
+/// shows the same history.
+pub fn openings_find_histories<S: Alter + Drop>()
+    ensures stopped { (ended : registry.Registry S S.Store) (conn : Held S) → IsAfterStop S.Store (connection ended) conn → FindsTables S.Store ended conn }
+    ensures closed { (ended : registry.Registry S S.Store) (conn : Held S) → lives ended ≡ true → conn ≡ connection ended → FindsTables S.Store ended conn }
+    ensures opened { (ended opened : registry.Registry S S.Store) (conn : Held S) → FindsTables S.Store ended conn → OpensTo S.Store conn (Ok opened)
+        → Finds (registry_showing S.Store) ended opened }
+    ensures untold { (ended : registry.Registry S S.Store) (conn back : Held S) (fault : TableFault) (h : History) → FindsTables S.Store ended conn
+        → OpensTo S.Store conn (Err (fault, back)) → clauses.HasCleanDisk S.Store back
+        → Shows S.Store ended h ⊎ ((next : History) × FailsBetween S.Store ended h next) → IsUntold fault }
+    ensures failed { (ended : registry.Registry S S.Store) (conn back next : Held S) (fault : TableFault) → FindsTables S.Store ended conn
+        → OpensTo S.Store conn (Err (fault, back)) → IsAfterStop S.Store back next → FindsTables S.Store ended next }
+{}
+
+/// The crash prefix. Let the first registry show no command, and let each further one be opened on what the one before it left, after any
+/// calls, over a stop at any place, a fault or a close. Then the last one shows the history after a prefix of the commands of each
+/// life, joined in order, which holds every acknowledged one. The printed text of its tree reads back to that tree, and to no other.
+///
+/// That text is what `export` writes of a registry that shows the history, and `lookup` answers over the same tree. All
+/// while the disk returns what was written.
+pub fn reopened_registries_show_prefixes<S: Alter + Drop>()
+    ensures { (first last : registry.Registry S S.Store) (calls : List (List Call)) → Shows S.Store first []
+        → LivesLead (registry_showing S.Store) first calls last → HasCleanDisk S.Store last → ShowsPrefixes S.Store last calls }
+{
+    openings_find_prefixes::<Registry<S>>();
+    reached_histories_are_kept();
+    printed_trees_read_back();
+}
+
+/// A command under a key was in doubt as a registry failed, and after the next opening it is sent again, as the first with an
+/// outcome. Then its outcome is that of the judgement before the doubt, and the registry shows the history after the one command,
+/// whichever way the doubt went.
+pub fn repeats_end_doubts<S: Alter + Drop>()
+    ensures { (ended opened between last : registry.Registry S S.Store) (h : History) (c : Asked) (key : List ℕ) (calls : List Call) (result : Result Reply Refusal)
+        → c.key ≡ Some key → FailsBetween S.Store ended h (after h c) → Finds (registry_showing S.Store) ended opened
+        → CallsLead (registry_showing S.Store) opened calls between → sent_in calls ≡ []
+        → Does (registry_showing S.Store) between (obeyed c result) last → is_outcome result ≡ true → HasCleanDisk S.Store last
+        → (result ≡ answer (judge (views_of h) c)) × Shows S.Store last (after h c) }
+{
+    doubts_end_when_sent_again::<Registry<S>>();
+}

@@ -1,0 +1,80 @@
+//! A registry as a holder of names, for look-ups. Names that were asked for it keeps in memory.
+ghost use Rattle.std.specs.Prelude.{◌≡◌, IfOk, IfErr, IfSome};
+ghost use Rattle.pid_ident.specs.PathTexts.{path_text};
+ghost use Rattle.pid_moderation.specs.History.{History};
+ghost use Rattle.pid_moderation.specs.Items.{name_at};
+ghost use Rattle.pid_moderation.specs.Views.{items_of};
+ghost use Rattle.pid_service.specs.Histories.{IsFault, Shows};
+ghost use Rattle.pid_service.specs.Registries.{HasCleanDisk, is_live as lives};
+
+use crate::registry::Registry;
+use pid_ident::{Name, Path};
+use pid_import::refusal_of;
+use pid_lookup::Names;
+use pid_moderation::{Refusal, trees_are_last_writes};
+use sqlite::Alter;
+
+impl<S: Alter + Drop> Registry<S> {
+    // What is kept in memory for a path; none where nothing is.
+    fn known(&mut self, path: &Path) -> Option<Result<Option<Name>, Refusal>>
+        ensures clean { HasCleanDisk S.Store self.new → HasCleanDisk S.Store self.old }
+        ensures lives { lives self.new ≡ lives self.old }
+        ensures shown { (h : History) → Shows S.Store self.old h → Shows S.Store self.new h }
+        ensures found { HasCleanDisk S.Store self.new → (h : History) → Shows S.Store self.old h → IfSome result (λ r. IfOk r (λ name. name ≡ name_at (path_text path.now) (items_of h))) }
+        ensures fault { IfSome result (λ r. IfErr r IsFault) }
+    {
+        match self.names.get(path) {
+            Ok(None) => None,
+            Ok(Some(name)) => Some(Ok(name)),
+            Err(_) => Some(Err(Refusal::Memory)),
+        }
+    }
+
+    // The name of a path by the tables, which is then kept in memory.
+    fn ask(&mut self, path: &Path) -> Result<Option<Name>, Refusal>
+        ensures clean { HasCleanDisk S.Store self.new → HasCleanDisk S.Store self.old }
+        ensures lives { lives self.new ≡ lives self.old }
+        ensures shown { (h : History) → Shows S.Store self.old h → Shows S.Store self.new h }
+        ensures found { HasCleanDisk S.Store self.new → (h : History) → Shows S.Store self.old h → IfOk result (λ name. name ≡ name_at (path_text path.now) (items_of h)) }
+        ensures fault { IfErr result IsFault }
+    {
+        match self.tables.item(self.alloc, path) {
+            Ok(name) => {
+                self.names.put(path, &name);
+                Ok(name)
+            }
+            Err(fault) => Err(refusal_of(fault)),
+        }
+    }
+}
+
+impl<S: Alter + Drop> Names for Registry<S> {
+    ghost use Rattle.pid_moderation.specs.History.{History};
+    ghost use Rattle.pid_moderation.specs.Writes.{tree_of};
+    ghost use Rattle.pid_service.specs.Asking.{MayGive};
+    ghost use Rattle.pid_service.specs.Histories.{Shows};
+    ghost use Rattle.pid_service.specs.Registries.{HasCleanDisk, is_live};
+
+    type Fault = Refusal;
+
+    ghost Shown = { History };
+
+    ghost map_of = { tree_of };
+
+    ghost shows = { λ r h. Shows S.Store r h };
+
+    ghost is_honest = { λ r. HasCleanDisk S.Store r };
+
+    ghost may_give = { λ r f. MayGive (is_live r) f };
+
+    fn name_of(&mut self, path: &Path) -> Result<Option<Name>, Refusal> {
+        trees_are_last_writes();
+        if !self.live {
+            return Err(Refusal::Failed);
+        }
+        if let Some(answer) = self.known(path) {
+            return answer;
+        }
+        self.ask(path)
+    }
+}
