@@ -1,6 +1,6 @@
 //! The form of each command, row by row.
-use crate::rows::command_in;
 use pid_moderation::{Reply, Verb, reply_line};
+use pid_test_rows::command_in;
 use std::alloc::Global;
 use std::process::Abort;
 use std::test::Fail;

@@ -1,10 +1,10 @@
 //! What each command is answered over facts, row by row.
-use crate::rows::{command_in, fields_of, text_at, value};
 use pid_ident::{Account, LineKind, Name, Path, Text};
 use pid_moderation::{
     Act, Facts, FileFault, Named, Proposal, Rank, Refusal, Reply, State, Verdict, before_file,
     breaks_form, decide, reply_line,
 };
+use pid_test_rows::{command_in, fields_of, text_at, value};
 use std::alloc::Global;
 use std::process::Abort;
 use std::test::Fail;

@@ -8,6 +8,4 @@ mod judgements;
 #[cfg(test)]
 mod replies;
 #[cfg(test)]
-mod rows;
-#[cfg(test)]
 mod runs;

@@ -1,8 +1,8 @@
 //! Worked runs of the plain registry. A row is a command with its reply, or `items` with what the registry holds.
-use crate::rows::{command_by, command_in, fields_of};
 use pid_ident::{Account, LineKind, Name, Path};
 use pid_moderation::{Command, FileFault, Rank, Refusal, Reply, Verb, reply_line};
 use pid_plain_registry::{FileReading, PlainRegistry};
+use pid_test_rows::{command_by, command_in, fields_of};
 use std::alloc::Global;
 use std::process::Abort;
 use std::test::Fail;

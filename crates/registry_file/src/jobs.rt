@@ -1,26 +1,31 @@
-//! What is asked of a file again and again, for the benchmarks.
-ghost use Rattle.std.specs.Prelude.{◌≡◌, false, OnOk};
-
-use crate::Fault;
-use pid_ident::Path;
-use pid_reader::Counter;
-use pid_tables::{EachEnd, Tables};
+//! What is asked of a registry again and again, for the benchmarks.
+use crate::{Fault, opened, submit_and_approve};
+use pid_ident::{Path, Plain};
+use pid_lookup::Args;
+use pid_service::{ExportFault, Registry};
 use sqlite::Alter;
 use std::alloc::Global;
+use std::io;
 
 #[derive(Clone, Copy)]
 pub(crate) enum Job {
     Nothing,
     /// The name of one item by its path.
     Item,
-    /// All items in their order.
-    Each,
+    /// The text of all items.
+    Export,
     /// The devices of the last vendor.
     Children,
     /// The first page of the pending submissions.
     Pending,
-    /// Whether the file is a registry's.
-    Check,
+    /// A vendor and a device by one look-up, always the same.
+    Known,
+    /// The same, of another vendor each time.
+    Unknown,
+    /// The registry is closed and opened again.
+    Open,
+    /// A name is submitted and approved, each command under a key.
+    Keyed,
 }
 
 impl Job {
@@ -28,10 +33,13 @@ impl Job {
         match word {
             "nothing" => Some(Job::Nothing),
             "item" => Some(Job::Item),
-            "each" => Some(Job::Each),
+            "export" => Some(Job::Export),
             "children" => Some(Job::Children),
             "pending" => Some(Job::Pending),
-            "check" => Some(Job::Check),
+            "known" => Some(Job::Known),
+            "unknown" => Some(Job::Unknown),
+            "open" => Some(Job::Open),
+            "keyed" => Some(Job::Keyed),
             _ => None,
         }
     }
@@ -39,50 +47,69 @@ impl Job {
 
 /// Does the job so many times.
 pub(crate) fn repeat<S: Alter + Drop>(
-    tables: &mut Tables<S>,
+    registry: Registry<S>,
     alloc: Global,
     job: Job,
     times: u32,
-) -> Result<(), Fault>
-    requires { tables.old.conn.in_transaction ≡ false }
-    ensures { OnOk result (tables.new.conn.in_transaction ≡ false) }
-{
+) -> Result<Registry<S>, Fault> {
+    let mut registry = registry;
     for turn in 0..times {
-        ask(tables, alloc, job, (turn % 65536) as u16)?;
+        if let Job::Open = job {
+            registry = opened(registry.close(), alloc)?;
+        } else {
+            ask(&mut registry, alloc, job, turn)?;
+        }
+    }
+    Ok(registry)
+}
+
+fn ask<S: Alter + Drop>(
+    registry: &mut Registry<S>,
+    alloc: Global,
+    job: Job,
+    turn: u32,
+) -> Result<(), Fault> {
+    let vendor = (turn % 65536) as u16;
+    match job {
+        Job::Nothing | Job::Open => {}
+        Job::Keyed => {
+            let key = format!(in alloc; "k{turn}")?;
+            submit_and_approve(registry, alloc, Some(key.as_str()), vendor)?;
+        }
+        Job::Item => {
+            registry.read(&Path::Vendor { vendor })?;
+        }
+        Job::Export => export(registry)?,
+        Job::Children => {
+            registry.children(Some(Path::Vendor { vendor: 0xffff }))?;
+        }
+        Job::Pending => {
+            registry.pending(0)?;
+        }
+        Job::Known => look_up(registry, 0)?,
+        Job::Unknown => look_up(registry, vendor)?,
     }
     Ok(())
 }
 
-fn ask<S: Alter + Drop>(
-    tables: &mut Tables<S>,
-    alloc: Global,
-    job: Job,
-    vendor: u16,
-) -> Result<(), Fault>
-    requires { tables.old.conn.in_transaction ≡ false }
-    ensures { OnOk result (tables.new.conn.in_transaction ≡ false) }
-{
-    match job {
-        Job::Nothing => Ok(()),
-        Job::Item => {
-            tables.item(alloc, &Path::Vendor { vendor })?;
-            Ok(())
-        }
-        Job::Each => {
-            let mut counter = Counter { count: 0 };
-            match tables.each_item(&mut counter) {
-                Ok(()) | Err(EachEnd::Fault(_)) => Ok(()),
-                Err(EachEnd::Tables(fault)) => Err(Fault::Tables(fault)),
-            }
-        }
-        Job::Children => {
-            tables.children(alloc, Some(Path::Vendor { vendor: 0xffff }))?;
-            Ok(())
-        }
-        Job::Pending => {
-            tables.pending_page(alloc, 0)?;
-            Ok(())
-        }
-        Job::Check => Ok(tables.check(alloc)?),
+fn export<S: Alter + Drop>(registry: &mut Registry<S>) -> Result<(), Fault> {
+    match registry.export(&mut Plain::new(io::sink())) {
+        Ok(()) => Ok(()),
+        Err(ExportFault::Refused(refusal)) => Err(Fault::Refused(refusal)),
+        Err(ExportFault::Write(_)) => Err(Fault::Question),
+    }
+}
+
+// `PCI_LOOKUP_VENDOR` and `PCI_LOOKUP_DEVICE`.
+const PAIR: u32 = 3;
+
+fn look_up<S: Alter + Drop>(registry: &mut Registry<S>, vendor: u16) -> Result<(), Fault> {
+    let args = Args {
+        vendor,
+        ..Args::default()
+    };
+    match registry.lookup(PAIR, &args, 1_024) {
+        Ok(_) => Ok(()),
+        Err(_) => Err(Fault::Question),
     }
 }

@@ -1,4 +1,6 @@
-//! Rows of tests: a command is a line such as `comment alice num=1&text=seen`.
+//! What the rows of tests are made of: a command is a line such as `comment alice num=1&text=seen`. No part of the program.
+#![tactic(auto)]
+
 use pid_moderation::{Command, Refusal, Verb, command_of};
 use std::alloc::Global;
 use std::test::Fail;
