@@ -1,0 +1,61 @@
+-- The field of the key among the fields of a command.
+use Rattle.std.proofs.Common.{◌≡◌, ℕ, zero, suc, ◌<◌, ◌≤◌, Bool, true, false, cond, List, [], ◌∷◌, length, Some, None, refl, sym, ap, ◌∙◌, arith, String, get_or, subst}
+use Rattle.std.specs.Prelude.{string_bytes, nat_lt, codes, slice_get, ◌+◌, not}
+use Rattle.std.specs.List.{position, position_or_len, remove}
+use Rattle.std.specs.Str.{bytes_eq}
+use Rattle.std.proofs.lemmas.Bool.Decides.{nat_tests}
+use Rattle.std.proofs.lemmas.List.Folds.{find_at}
+use Rattle.pid_moderation.specs.Fields.{texts_of, value}
+use Rattle.pid_moderation.proofs.FieldLemmas.{value_found, value_missing}
+use Rattle.pid_script.specs.Asking.{is_key_field, other_fields}
+
+abbrev pub is_key : {A : Type 0} → String A × String A → Bool
+is_key f = bytes_eq (string_bytes f.0) (codes "key")
+
+place_same : {A : Type 0} (fs : List (String A × String A)) → position_or_len is_key_field (texts_of fs) ≡ position_or_len is_key fs
+place_same [] = refl
+place_same (f ∷ fs) = ap (λ n. cond (not (is_key f)) (1 + n) 0) (place_same fs)
+
+texts_removed : {A : Type 0} (fs : List (String A × String A)) (i : ℕ) → texts_of (remove fs i) ≡ remove (texts_of fs) i
+texts_removed [] zero = refl
+texts_removed [] (suc i) = refl
+texts_removed (f ∷ fs) zero = refl
+texts_removed (f ∷ fs) (suc i) = ap (λ l. (string_bytes f.0, string_bytes f.1) ∷ l) (texts_removed fs i)
+
+none_removed : {X : Type 0} (xs : List X) (i : ℕ) → length xs ≤ i → remove xs i ≡ xs
+none_removed [] zero h = refl
+none_removed [] (suc i) h = refl
+none_removed (x ∷ xs) zero h = absurd (omega arith)
+none_removed (x ∷ xs) (suc i) h = ap (λ l. x ∷ l) (none_removed xs i (omega arith))
+
+some_place : (n m i : ℕ) (b : Bool) → nat_lt n m ≡ b → cond b (Some n) None ≡ Some i → (n ≡ i) × (n < m)
+some_place n m i true e h = (cc, grind (arith, nat_tests))
+some_place n m i false e h = absurd cc
+
+no_place : (n m : ℕ) (b : Bool) → nat_lt n m ≡ b → cond b (Some n) None ≡ None → m ≤ n
+no_place n m true e h = absurd cc
+no_place n m false e h = grind (arith, nat_tests)
+
+pub others_at : {A : Type 0} (fs : List (String A × String A)) (i : ℕ) → position is_key fs ≡ Some i → texts_of (remove fs i) ≡ other_fields (texts_of fs)
+others_at fs i h = texts_removed fs i ∙ ap (remove (texts_of fs)) (sym (some_place _ _ i _ refl h).0 ∙ sym (place_same fs))
+
+pub others_all : {A : Type 0} (fs : List (String A × String A)) → position is_key fs ≡ None → texts_of fs ≡ other_fields (texts_of fs)
+others_all fs h = ap texts_of (sym (none_removed fs (position_or_len is_key fs) (no_place _ _ _ refl h))) ∙ texts_removed fs _ ∙ ap (remove (texts_of fs)) (sym (place_same fs))
+
+pub key_none : {A : Type 0} (fs : List (String A × String A)) → position is_key fs ≡ None → value (codes "key") (texts_of fs) ≡ None
+key_none fs h = value_missing (codes "key") fs (find_at is_key fs ∙ beyond fs _ (no_place _ _ _ refl h))
+  where
+    beyond : {X : Type 0} (xs : List X) (i : ℕ) → length xs ≤ i → slice_get xs i ≡ None
+    beyond [] i h = refl
+    beyond (x ∷ xs) zero h = absurd (omega arith)
+    beyond (x ∷ xs) (suc i) h = beyond xs i (omega arith)
+
+got : {X : Type 0} (xs : List X) (i : ℕ) (x : X) → i < length xs → x ≡ get_or xs i x → slice_get xs i ≡ Some x
+got [] i x h e = absurd (omega arith)
+got (y ∷ ys) zero x h e = ap Some (sym e)
+got (y ∷ ys) (suc i) x h e = got ys i x (omega arith) e
+
+pub key_at : {A : Type 0} (fs : List (String A × String A)) (f : String A × String A) (i : ℕ) → position is_key fs ≡ Some i → f ≡ get_or fs i f → value (codes "key") (texts_of fs) ≡ Some (string_bytes f.1)
+key_at fs f i h is =
+    let place = some_place _ _ i _ refl h in
+    value_found (codes "key") fs f (find_at is_key fs ∙ ap (slice_get fs) place.0 ∙ got fs i f (subst (λ n. n < length fs) place.0 place.1) is)

@@ -1,0 +1,9 @@
+mod AnswerLemmas
+mod Cases
+mod KeyFields
+mod LookUps
+mod NoStops
+mod PieceLemmas
+mod ReadLemmas
+mod SayLemmas
+mod ScriptAsks

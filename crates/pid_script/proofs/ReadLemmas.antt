@@ -1,0 +1,130 @@
+-- The reads of a script.
+use Rattle.std.proofs.Common.{◌≡◌, ℕ, ◌+◌, ◌-◌, ◌^◌, ◌<◌, min, List, [], ◌∷◌, ◌++◌, take, Option, Some, None, Result, Ok, Err, refl, sym, ap, subst, ◌∙◌, append_assoc, arith}
+use Rattle.std.proofs.lemmas.List.{append-nil}
+use Rattle.std.specs.Prelude.{IfSome}
+use Rattle.std.specs.Io.KnownBytes.{Consumes, Keeps, IsAtEnd}
+use Rattle.pid_reader.specs.Lines.{lines_of}
+use Rattle.pid_moderation.specs.History.{History}
+use Rattle.pid_script.specs.declared.line_end.LineEnd.{LineEnd}
+use Rattle.pid_script.specs.declared.line_end.LineEnd.TheVariants as line_ends
+use Rattle.pid_script.specs.declared.moderated.Moderated.{Ghosts}
+use Rattle.pid_script.specs.declared.script_end.ScriptEnd.TheVariants.{TurnsSpent}
+use Rattle.pid_script.specs.Progress.{HasAnswered, Ended, Ends, script_end}
+use Rattle.pid_script.specs.Saying.{Out, out}
+use Rattle.pid_script.specs.Scripts.{passage, IsCutOff, IsScript}
+use Rattle.pid_script.specs.Standing.{Stands}
+use Rattle.pid_script.proofs.PieceLemmas.{answers_out}
+use Rattle.pid_script.proofs.SayLemmas.{Appends-nil}
+
+Consumes-then : (a b c : Option (List ℕ)) (x y : List ℕ) → Consumes a b x → Consumes b c y → Consumes a c (x ++ y)
+Consumes-then None b c x y p q = tt
+Consumes-then (Some a) None c x y p q = absurd p
+Consumes-then (Some a) (Some b) None x y p q = absurd q
+Consumes-then (Some a) (Some b) (Some c) x y p q = p ∙ ap (λ (l : List ℕ). x ++ l) q ∙ sym (append_assoc x y c)
+
+Consumes-nil : (a : Option (List ℕ)) → Consumes a a []
+Consumes-nil None = tt
+Consumes-nil (Some x) = refl
+
+Consumes-kept : (a b c : Option (List ℕ)) (x : List ℕ) → Consumes a b x → Keeps b c → Consumes a c x
+Consumes-kept None b c x p q = tt
+Consumes-kept (Some a) None c x p q = absurd p
+Consumes-kept (Some a) (Some b) None x p q = absurd q
+Consumes-kept (Some a) (Some b) (Some c) x p q = p ∙ ap (λ (l : List ℕ). x ++ l) (sym q)
+
+-- so much was read, and its whole lines were answered; nothing is held
+pub record HasRead {R : Type 0} (m : Ghosts R) (old now : R) (taken : Option (List ℕ)) (left : Out) (come come_now : Option (List ℕ)) (kept : List ℕ) (reads reads_now turn : ℕ) : Type 0 where
+  pub was_honest : m.is_honest now → m.is_honest old
+  pub front : List ℕ
+  pub consumed : Consumes come come_now front
+  pub answered : m.is_honest now → (h : History) → Stands m old h → HasAnswered m h taken old now left kept front
+  pub empty : left.held ≡ []
+  pub counted : reads < 2 ^ 64 → reads_now ≡ min (reads + turn) (2 ^ 64 - 1)
+
+pub one_more : (reads turn now next : ℕ) → now ≡ min (reads + turn) (2 ^ 64 - 1) → next ≡ min (now + 1) (2 ^ 64 - 1) → next ≡ min (reads + (turn + 1)) (2 ^ 64 - 1)
+one_more reads turn now next p q = omega arith
+
+pub cut_off : {R : Type 0} (m : Ghosts R) (h : History) (taken : Option (List ℕ)) (old new : R) (left : Out) (kept front : List ℕ) (come now next : Option (List ℕ)) → Consumes come now front → Keeps now next → left.held ≡ [] → HasAnswered m h taken old new left kept front → IfSome come (λ text. IsCutOff m h (passage old new taken left.taken) text next)
+cut_off m h taken old new left kept front None now next p q none a = tt
+cut_off m h taken old new left kept front (Some text) now next p q none a = record { front = front; read = Consumes-kept (Some text) now next front p q; answers = answers_out m h taken old new left _ a.answered none }
+
+Keeps-same : (a : Option (List ℕ)) → Keeps a a
+Keeps-same None = tt
+Keeps-same (Some x) = refl
+
+pub turns_over : {R : Type 0} (m : Ghosts R) (h : History) (taken : Option (List ℕ)) (old new : R) (left : Out) (kept front : List ℕ) (come now : Option (List ℕ)) → Consumes come now front → left.held ≡ [] → HasAnswered m h taken old new left kept front → IfSome come (λ text. IsCutOff m h (passage old new taken left.taken) text now)
+turns_over m h taken old new left kept front come now p none a = cut_off m h taken old new left kept front come now now p (Keeps-same now) none a
+
+is_script : {R : Type 0} (m : Ghosts R) (r : Result (Unit {0}) LineEnd) (h : History) (taken : Option (List ℕ)) (old new : R) (left : Out) (text : List ℕ) (rest : Option (List ℕ)) → Ends m r h taken old new left text → IsScript m (script_end r) h (passage old new taken left.taken) text rest
+is_script m (Ok x) h taken old new left text rest e = e
+is_script m (Err line_ends.Stopped) h taken old new left text rest e = e
+is_script m (Err line_ends.WriteFault) h taken old new left text rest e = e
+is_script m (Err line_ends.TooLong) h taken old new left text rest e = e
+
+pub not_spent : (r : Result (Unit {0}) LineEnd) → script_end r ≡ TurnsSpent → ⊥
+not_spent (Ok x) e = absurd cc
+not_spent (Err line_ends.Stopped) e = absurd cc
+not_spent (Err line_ends.WriteFault) e = absurd cc
+not_spent (Err line_ends.TooLong) e = absurd cc
+
+pub none_read : {R : Type 0} (m : Ghosts R) (old : R) (taken come : Option (List ℕ)) (reads : ℕ) (held kept : List ℕ) → held ≡ [] → kept ≡ [] → HasRead m old old taken (out taken held) come come kept reads reads 0
+none_read m old taken come reads held kept nothing none = record {
+  was_honest = λ x. x;
+  front = [];
+  consumed = Consumes-nil come;
+  answered = λ _ h stands. record {
+    open_line = none;
+    answered = record {
+      before = [];
+      waiting = [];
+      parts = refl;
+      asked = refl;
+      between = taken;
+      told = Appends-nil taken;
+      sent = [];
+      went = Appends-nil taken;
+      rest = nothing;
+      fits = tt;
+      leaves = record { shows = λ s. s; failed = λ f. refl };
+      lives = λ f. tt;
+    };
+  };
+  empty = nothing;
+  counted = λ small. omega arith;
+}
+
+-- one more piece was read and answered
+pub read_more : {R : Type 0} (m : Ghosts R) (old now next : R) (taken : Option (List ℕ)) (left left_next : Out) (come come_now come_next : Option (List ℕ)) (kept kept_next piece : List ℕ) (reads reads_now reads_next turn : ℕ)
+    → HasRead m old now taken left come come_now kept reads reads_now turn → Consumes come_now come_next piece → reads_next ≡ min (reads_now + 1) (2 ^ 64 - 1) → (m.is_honest next → m.is_honest now) → left_next.held ≡ []
+    → (m.is_honest next → (h : History) (start : Option (List ℕ)) (first : R) (text : List ℕ) → Stands m first h → HasAnswered m h start first now left kept text → HasAnswered m h start first next left_next kept_next (text ++ piece))
+    → HasRead m old next taken left_next come come_next kept_next reads reads_next (turn + 1)
+read_more m old now next taken left left_next come come_now come_next kept kept_next piece reads reads_now reads_next turn r consumed counted was none answered = record {
+  was_honest = λ t. r.was_honest (was t);
+  front = r.front ++ piece;
+  consumed = Consumes-then come come_now come_next r.front piece r.consumed consumed;
+  answered = λ t h stands. answered t h taken old r.front stands (r.answered (was t) h stands);
+  empty = none;
+  counted = λ small. one_more reads turn reads_now reads_next (r.counted small) counted;
+}
+
+-- the end of the input
+pub all_read : {R : Type 0} (m : Ghosts R) (r : Result (Unit {0}) LineEnd) (h : History) (taken : Option (List ℕ)) (old new : R) (left : Out) (front : List ℕ) (come now next : Option (List ℕ)) → Consumes come now front → Consumes now next [] → IsAtEnd next → Ends m r h taken old new left front → IfSome come (λ text. IsScript m (script_end r) h (passage old new taken left.taken) text next)
+all_read m r h taken old new left front None now next p q end e = tt
+all_read m r h taken old new left front (Some text) now None p q end e = absurd (Consumes-then (Some text) now None front [] p q)
+all_read m r h taken old new left front (Some text) now (Some rest) p q end e =
+    let whole : text ≡ front = Consumes-then (Some text) now (Some rest) front [] p q ∙ ap (λ (l : List ℕ). (front ++ []) ++ l) end ∙ append-nil (front ++ []) ∙ append-nil front in
+    is_script m r h taken old new left text (Some rest) (subst (Ends m r h taken old new left) (sym whole) e)
+
+-- a line ended it
+pub ended : {R : Type 0} (m : Ghosts R) (e : LineEnd) (h : History) (taken : Option (List ℕ)) (old new : R) (left : Out) (front piece : List ℕ) (come now next : Option (List ℕ)) → Consumes come now front → Consumes now next piece → ((more : List ℕ) → Ended m e h taken old new left (lines_of ((front ++ piece) ++ more))) → IfSome come (λ text. IsScript m (script_end (Err e)) h (passage old new taken left.taken) text next)
+ended m e h taken old new left front piece None now next p q ends = tt
+ended m e h taken old new left front piece (Some text) now None p q ends = absurd (Consumes-then (Some text) now None front piece p q)
+ended m e h taken old new left front piece (Some text) now (Some rest) p q ends =
+    is_script m (Err e) h taken old new left text (Some rest) (subst (λ (l : List ℕ). Ended m e h taken old new left (lines_of l)) (sym (Consumes-then (Some text) now (Some rest) front piece p q)) (ends rest))
+
+pub consumed_none : (now new : Option (List ℕ)) (count : ℕ) (buffer : List ℕ) → count ≡ 0 → Consumes now new (take count buffer) → Consumes now new []
+consumed_none now new count buffer zero_is p = subst (Consumes now new) (ap (λ n. take n buffer) zero_is ∙ take_none buffer) p
+  where
+    take_none : (buffer : List ℕ) → take 0 buffer ≡ []
+    take_none [] = refl
+    take_none (b ∷ bs) = refl

@@ -1,0 +1,9 @@
+-- So much was read, and its whole lines were answered.
+use Rattle.pid_script.specs.Saying.{out}
+use Rattle.pid_script.proofs.ReadLemmas.{HasRead}
+use Rattle.pid_script.proofs.script.run_script.Given as goal
+
+abbrev pub invariant-loop-turn : goal.invariant-loop-turn
+invariant-loop-turn g l =
+    HasRead g.R.Moderated l.fn.registry l.registry (g.O.Output.taken l.fn.output) (out (g.O.Output.taken l.output) l.held.items) (g.I.Input.to_come l.fn.input) (g.I.Input.to_come l.input) l.kept.items (g.I.Input.reads l.fn.input) (g.I.Input.reads l.input) l._turn
+    × g.I.Input.goes l.fn.input l.input

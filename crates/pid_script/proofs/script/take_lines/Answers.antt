@@ -1,0 +1,37 @@
+use Rattle.std.proofs.Common.{◌≡◌, ◌<◌, length, ap, arith}
+use Rattle.std.proofs.lemmas.Bool.Decides.{nat_tests}
+use Rattle.std.proofs.lemmas.List.{nil_from_length}
+use Rattle.pid_script.specs.Saying.{out}
+use Rattle.pid_script.proofs.PieceLemmas.{half_start, half_stop, half_more, half_whole, half_kept_on, half_unfit_on}
+use Rattle.pid_script.proofs.script.take_lines.Goals as goal
+
+pub loop-front-init : goal.loop-front-init
+loop-front-init g c = half_start g.R.Moderated c.args.piece.now c.args.registry.now (out (g.O.Output.taken c.args.output.now) c.args.held.now.items) c.args.kept.now.items
+
+pub returns-in-Err-clause-ended : goal.returns-in-Err-clause-ended
+returns-in-Err-clause-ended g c =
+    half_stop g.R.Moderated c.in-Err.end c.args.piece.now c.loop-front.rest.now c.in-Some.front.now c.in-Some.behind.now c.args.registry.now c.loop-front.registry c.end_line.new.registry
+    (out (g.O.Output.taken c.args.output.now) c.args.held.now.items) (out (g.O.Output.taken c.loop-front.output) c.loop-front.held.items) (out (g.O.Output.taken c.end_line.new.output) c.end_line.new.held.items) c.args.kept.now.items c.loop-front.kept.items
+    c.loop-front.invariant c.in-Some.ensures.parts.0 c.in-Some.ensures.parts.1 c.end_line.ensures.honest c.in-Err.ensures.ends
+
+pub loop-front-preserved : goal.loop-front-preserved
+loop-front-preserved g c =
+    half_more g.R.Moderated _ c.args.piece.now c.loop-front.rest.now c.in-Some.front.now c.in-Some.behind.now c.args.registry.now c.loop-front.registry c.end_line.new.registry
+    (out (g.O.Output.taken c.args.output.now) c.args.held.now.items) (out (g.O.Output.taken c.loop-front.output) c.loop-front.held.items) (out (g.O.Output.taken c.end_line.new.output) c.end_line.new.held.items) c.args.kept.now.items c.loop-front.kept.items c.end_line.new.kept.items
+    c.loop-front.invariant c.in-Some.ensures.parts.0 c.in-Some.ensures.parts.1 c.end_line.ensures.honest c.in_default-end_line.ensures.empty c.in_default-end_line.ensures.ends
+
+pub returns-then-is_empty-clause-answered : goal.returns-then-is_empty-clause-answered
+returns-then-is_empty-clause-answered g c =
+    half_whole g.R.Moderated c.args.piece.now c.loop-front.rest.now c.args.registry.now c.loop-front.registry (out (g.O.Output.taken c.args.output.now) c.args.held.now.items) (out (g.O.Output.taken c.loop-front.output) c.loop-front.held.items) c.args.kept.now.items c.loop-front.kept.items
+    c.loop-front.invariant (nil_from_length c.loop-front.rest.now (grind (arith, nat_tests, c.if-is_empty.ensures)))
+
+pub returns-clause-answered : goal.returns-clause-answered
+returns-clause-answered g c =
+    half_kept_on g.R.Moderated g.O.Output.taken c.keep.result c.args.piece.now c.loop-front.rest.now c.args.registry.now c.loop-front.registry (out (g.O.Output.taken c.args.output.now) c.args.held.now.items) c.loop-front.output c.keep.new.output c.loop-front.held.items c.keep.new.held.items c.args.kept.now.items c.loop-front.kept.items c.keep.new.kept.items
+    c.loop-front.invariant c.in_default.ensures.parts c.keep.ensures.kept c.keep.ensures.silent c.keep.ensures.still
+
+pub returns-clause-ended : goal.returns-clause-ended
+returns-clause-ended g c =
+    let some : 0 < length c.loop-front.rest.now = grind (arith, nat_tests, c.if-is_empty.ensures) in
+    half_unfit_on g.R.Moderated c.keep.result c.args.piece.now c.loop-front.rest.now c.args.registry.now c.loop-front.registry (out (g.O.Output.taken c.args.output.now) c.args.held.now.items) (out (g.O.Output.taken c.loop-front.output) c.loop-front.held.items) (out (g.O.Output.taken c.keep.new.output) c.keep.new.held.items) c.args.kept.now.items c.loop-front.kept.items
+    c.loop-front.invariant c.in_default.ensures.parts (λ e. let none : length c.loop-front.rest.now ≡ 0 = ap length e in omega arith) c.keep.ensures.unfit

@@ -1,0 +1,11 @@
+-- The lines so far were answered, and what stands behind them is kept.
+use Rattle.std.proofs.Common.{length}
+use Rattle.pid_script.specs.Saying.{out}
+use Rattle.pid_script.proofs.PieceLemmas.{IsHalfway}
+use Rattle.pid_script.proofs.script.take_lines.Given as goal
+
+abbrev pub invariant-loop-front : goal.invariant-loop-front
+invariant-loop-front g l = IsHalfway g.R.Moderated l.fn.piece l.rest l.fn.registry l.registry (out (g.O.Output.taken l.fn.output) l.fn.held.items) (out (g.O.Output.taken l.output) l.held.items) l.fn.kept.items l.kept.items
+
+abbrev pub decreases-loop-front : goal.decreases-loop-front
+decreases-loop-front g l = length l.rest

@@ -1,0 +1,21 @@
+-- What a call that exports leaves of its writer.
+use Rattle.std.specs.Prelude.{ℕ, List, Option, Result, Ok, Err}
+use Rattle.std.specs.Io.KnownBytes.{Appends}
+use Rattle.pid_ident.specs.Sending.{SendsFront}
+use Rattle.pid_script.specs.declared.moderated.ExportFault.{ExportFault}
+use Rattle.pid_script.specs.declared.moderated.ExportFault.TheVariants.{Refused, Write}
+use Rattle.pid_script.specs.Obeying.{IsFault}
+use Rattle.pid_script.specs.WholeFronts.{IsWholeFront}
+
+-- whole lines of the text went out
+pub record TakesWholeFront (old new : Option (List ℕ)) (text : List ℕ) : Type 0 where
+  pub front : List ℕ
+  pub whole : IsWholeFront text front
+  pub told : Appends old new front
+
+-- The whole text; a front of it, and not all, where the writer failed; or whole lines of it, where memory was short or the
+-- store failed.
+abbrev pub Exports : {X : Type 0} → Result X ExportFault → Option (List ℕ) → Option (List ℕ) → List ℕ → Type 0
+Exports (Ok x) old new text = Appends old new text
+Exports (Err (Write fault)) old new text = SendsFront old new text
+Exports (Err (Refused refusal)) old new text = IsFault refusal × TakesWholeFront old new text

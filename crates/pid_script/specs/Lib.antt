@@ -1,0 +1,16 @@
+pub mod Files
+pub mod ScriptLines
+pub mod LineAsks
+pub mod LookUpFields
+pub mod Asking
+pub mod Replies
+pub mod Obeying
+pub mod LookingUp
+pub mod WholeFronts
+pub mod Exporting
+pub mod Standing
+pub mod StopLines
+pub mod Scripts
+pub mod EndStatus
+pub mod Saying
+pub mod Progress

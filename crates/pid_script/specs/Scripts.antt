@@ -1,0 +1,110 @@
+-- What a script comes to: the replies to its lines, and how it ends. All are choices of this project.
+use Rattle.std.specs.Prelude.{◌≡◌, ◌⊎◌, ◌<◌, ℕ, false, List, [], ◌∷◌, ◌++◌, length, Some, Option}
+use Rattle.std.specs.Io.KnownBytes.{Appends, Consumes}
+use Rattle.pid_ident.specs.Sending.{SendsFront}
+use Rattle.pid_reader.specs.Lines.{lines_of}
+use Rattle.pid_reader.specs.WholeLines.{whole_lines}
+use Rattle.pid_moderation.specs.History.{History}
+use Rattle.pid_script.specs.declared.moderated.Moderated.{Ghosts}
+use Rattle.pid_script.specs.declared.script_end.ScriptEnd.{ScriptEnd}
+use Rattle.pid_script.specs.declared.script_end.ScriptEnd.TheVariants.{Done, ReadFault, WriteFault, TooLong, Stopped, TurnsSpent}
+use Rattle.pid_script.specs.ScriptLines as asks
+use Rattle.pid_script.specs.ScriptLines.{ask_of}
+use Rattle.pid_script.specs.Replies.{replies, commands_in, history_after, is_call}
+use Rattle.pid_script.specs.Standing.{Becomes, BecomesEither}
+use Rattle.pid_script.specs.StopLines.{IsBegun, IsCause, IsStopText}
+
+-- none of the lines is too long
+abbrev pub NoneTooLong : List (List ℕ) → Type 0
+NoneTooLong [] = Unit {0}
+NoneTooLong (line ∷ lines) = (ask_of line ≡ asks.TooLong → ⊥) × NoneTooLong lines
+
+-- none of the lines asks something of the registry
+abbrev pub NoneCalls : List (List ℕ) → Type 0
+NoneCalls [] = Unit {0}
+NoneCalls (line ∷ lines) = (is_call (ask_of line) ≡ false) × NoneCalls lines
+
+-- the registry before the script and behind it, and what the writer had taken before and has taken now
+pub record Passage (R : Type 0) : Type 0 where
+  pub old : R
+  pub new : R
+  pub taken : Option (List ℕ)
+  pub taken_now : Option (List ℕ)
+
+-- a passage of the script between two moments
+abbrev pub passage : {R : Type 0} → R → R → Option (List ℕ) → Option (List ℕ) → Passage R
+passage old new taken taken_now = record { old = old; new = new; taken = taken; taken_now = taken_now }
+
+module _ {R : Type 0} (registry : Ghosts R) where
+  -- each of the lines got its reply, and the registry shows the history behind them; one that had failed was asked nothing
+  pub record Answers (h : History) (p : Passage R) (lines : List (List ℕ)) : Type 0 where
+    pub fits : NoneTooLong lines
+    pub told : Appends p.taken p.taken_now (replies h lines)
+    pub leaves : Becomes registry p.old h p.new (history_after h lines)
+    pub lives : registry.has_failed p.old → NoneCalls lines
+
+  -- what stops a script at a line, whose history is the one behind the lines before
+  abbrev pub IsStop : R → History → History → List ℕ → List ℕ → Type 0
+  IsStop r h at line text = IsStopText (IsCause registry r h) (IsBegun (ask_of line) at) text
+
+  -- the lines before one got their replies, and in place of its reply, or behind what was begun of it, a refusal stopped the script
+  pub record StopsAtLine (h : History) (p : Passage R) (lines : List (List ℕ)) : Type 0 where
+    pub before : List (List ℕ)
+    pub line : List ℕ
+    pub behind : List (List ℕ)
+    pub parts : lines ≡ before ++ line ∷ behind
+    pub fits : NoneTooLong before
+    pub lives : registry.has_failed p.old → NoneCalls before
+    pub text : List ℕ
+    pub stop : IsStop p.old h (history_after h before) line text
+    pub told : Appends p.taken p.taken_now (replies h before ++ text)
+    pub leaves : BecomesEither registry p.old h p.new (history_after h before) (history_after h (before ++ line ∷ []))
+
+  -- the lines before one got their replies, and that one is too long, and was told so
+  pub record EndsTooLong (h : History) (p : Passage R) (lines : List (List ℕ)) : Type 0 where
+    pub before : List (List ℕ)
+    pub line : List ℕ
+    pub behind : List (List ℕ)
+    pub parts : lines ≡ before ++ line ∷ behind
+    pub long : ask_of line ≡ asks.TooLong
+    pub fits : NoneTooLong before
+    pub lives : registry.has_failed p.old → NoneCalls before
+    pub told : Appends p.taken p.taken_now (replies h (before ++ line ∷ []))
+    pub leaves : Becomes registry p.old h p.new (history_after h before)
+
+  -- the text for lines: their replies, of which the last may be a stop
+  abbrev pub IsToldFor : R → History → History → List (List ℕ) → List ℕ → Type 0
+  IsToldFor r h at lines text =
+      (text ≡ replies at lines)
+      ⊎ ((before : List (List ℕ)) × (line stop : List ℕ) × (lines ≡ before ++ line ∷ []) × IsStop r h (history_after at before) line stop × (text ≡ replies at before ++ stop))
+
+  -- The replies to the lines before went out whole, and of those to the lines that wait a front and not all. Among these is at
+  -- most one command, and the registry shows the history before it or behind it.
+  pub record BreaksOff (h : History) (p : Passage R) (lines : List (List ℕ)) : Type 0 where
+    pub before : List (List ℕ)
+    pub waiting : List (List ℕ)
+    pub behind : List (List ℕ)
+    pub parts : lines ≡ before ++ (waiting ++ behind)
+    pub few : length (commands_in waiting) < 2
+    -- what the writer had taken with the replies to the lines before
+    pub between : Option (List ℕ)
+    pub told : Appends p.taken between (replies h before)
+    pub text : List ℕ
+    pub is : IsToldFor p.old h (history_after h before) waiting text
+    pub front : SendsFront between p.taken_now text
+    pub leaves : BecomesEither registry p.old h p.new (history_after h before) (history_after h (before ++ waiting))
+
+  -- part of the text was read, and its whole lines got their replies
+  pub record IsCutOff (h : History) (p : Passage R) (text : List ℕ) (rest : Option (List ℕ)) : Type 0 where
+    pub front : List ℕ
+    pub read : Consumes (Some text) rest front
+    pub answers : Answers h p (whole_lines front)
+
+  -- a script with this text, of which this rest was not read
+  abbrev pub IsScript : ScriptEnd → History → Passage R → List ℕ → Option (List ℕ) → Type 0
+  IsScript Done h p text rest = Answers h p (lines_of text)
+  IsScript TooLong h p text rest = EndsTooLong h p (lines_of text)
+  IsScript Stopped h p text rest = StopsAtLine h p (lines_of text)
+  IsScript WriteFault h p text rest = BreaksOff h p (lines_of text)
+  IsScript ReadFault h p text rest = IsCutOff h p text rest
+  IsScript TurnsSpent h p text rest = IsCutOff h p text rest

@@ -1,0 +1,44 @@
+-- The line that stops a script: choices of this project.
+use Rattle.std.specs.Prelude.{◌≡◌, ◌⊎◌, ℕ, Bool, true, false, List, [], ◌++◌}
+use Rattle.pid_tree.specs.Printing.{print}
+use Rattle.pid_moderation.specs.declared.refusal.Refusal.{Refusal}
+use Rattle.pid_moderation.specs.declared.refusal.Refusal.TheVariants.{Memory, Store, Failed}
+use Rattle.pid_moderation.specs.History.{History}
+use Rattle.pid_moderation.specs.ReplyLines.{refused_line}
+use Rattle.pid_moderation.specs.Writes.{tree_of}
+use Rattle.pid_script.specs.declared.moderated.Moderated.{Ghosts}
+use Rattle.pid_script.specs.Obeying.{IsFault}
+use Rattle.pid_script.specs.ScriptLines.{Ask, Nothing, Commands, Exports, Reads, LooksUp, Unclear, TooLong}
+use Rattle.pid_script.specs.WholeFronts.{IsWholeFront}
+
+-- a refusal of memory, of the store, or of a registry that has failed: it judges nothing, and stops the script
+abbrev pub is_stop : Refusal → Bool
+is_stop Memory = true
+is_stop Store = true
+is_stop Failed = true
+is_stop refusal = false
+
+-- what stands before the line: of an export whole lines of its text, else nothing
+abbrev pub IsBegun : Ask → History → List ℕ → Type 0
+IsBegun Exports h = λ begun. IsWholeFront (print (tree_of h)) begun
+IsBegun Nothing h = λ begun. begun ≡ []
+IsBegun (Commands verb account fields) h = λ begun. begun ≡ []
+IsBegun (Reads fields) h = λ begun. begun ≡ []
+IsBegun (LooksUp fields) h = λ begun. begun ≡ []
+IsBegun Unclear h = λ begun. begun ≡ []
+IsBegun TooLong h = λ begun. begun ≡ []
+
+module _ {R : Type 0} (registry : Ghosts R) where
+  -- why: a live registry refuses for want of memory or because its store failed, one that has failed refuses all; and memory
+  -- may be short for the script itself
+  pub record IsCause (r : R) (h : History) (refusal : Refusal) : Type 0 where
+    pub live : registry.shows r h → IsFault refusal
+    pub failed : registry.has_failed r → (refusal ≡ Failed) ⊎ (refusal ≡ Memory)
+
+-- the text of a stop in place of a reply: the line of such a refusal, behind what was begun
+pub record IsStopText (Cause : Refusal → Type 0) (Begun : List ℕ → Type 0) (text : List ℕ) : Type 0 where
+  pub begun : List ℕ
+  pub front : Begun begun
+  pub refusal : Refusal
+  pub cause : Cause refusal
+  pub is : text ≡ begun ++ refused_line refusal

@@ -1,0 +1,139 @@
+//! The answer to a line.
+ghost use Rattle.std.specs.Prelude.{◌≡◌, IsSome, Err};
+ghost use Rattle.pid_moderation.specs.History.{History};
+ghost use Rattle.pid_script.specs.ScriptLines as asks;
+ghost use Rattle.pid_script.specs.ScriptLines.{ask_of};
+ghost use Rattle.pid_script.specs.Saying.{out, LineEnds};
+ghost use Rattle.pid_script.specs.Standing.{Stands};
+
+use crate::fields::{read_command, read_path};
+use crate::line::{LineAsk, line_asks};
+use crate::line_end::LineEnd;
+use crate::look_up::read_look_up;
+use crate::moderated::{ExportFault, Moderated};
+use crate::reply::{
+    refuse_long, send_answer, send_bad_text, send_found, send_name, stop_for_memory,
+};
+use crate::saying::flush;
+use pid_ident::Output;
+use pid_moderation::Verb;
+use std::alloc::Global;
+
+// Obeys the command that a form says.
+fn obey<R: Moderated, O: Output>(
+    alloc: Global,
+    registry: &mut R,
+    output: &mut O,
+    held: &mut Vec<u8>,
+    verb: Verb,
+    account: &str,
+    form: &str,
+) -> Result<(), LineEnd>
+    ensures honest { R.is_honest registry.new → R.is_honest registry.old }
+    ensures ends { R.is_honest registry.new → (h : History) → Stands R.Moderated registry.old h
+        → LineEnds R.Moderated result (asks.Commands verb account.now form.now) h registry.old (out (O.taken output.old) held.old.items) registry.new (out (O.taken output.new) held.new.items) }
+    ensures fault { result ≡ Err LineEnd.WriteFault → IsSome (O.write_fault output.new) }
+{
+    match read_command(alloc, verb, account, form) {
+        Ok(command) => {
+            let answer = registry.obey(command);
+            send_answer(alloc, output, held, answer)
+        }
+        Err(refusal) => send_answer(alloc, output, held, Err(refusal)),
+    }
+}
+
+// Tells the name of the path that a form says.
+fn read<R: Moderated, O: Output>(
+    alloc: Global,
+    registry: &mut R,
+    output: &mut O,
+    held: &mut Vec<u8>,
+    form: &str,
+) -> Result<(), LineEnd>
+    ensures honest { R.is_honest registry.new → R.is_honest registry.old }
+    ensures ends { R.is_honest registry.new → (h : History) → Stands R.Moderated registry.old h
+        → LineEnds R.Moderated result (asks.Reads form.now) h registry.old (out (O.taken output.old) held.old.items) registry.new (out (O.taken output.new) held.new.items) }
+    ensures fault { result ≡ Err LineEnd.WriteFault → IsSome (O.write_fault output.new) }
+{
+    match read_path(alloc, form) {
+        Ok(path) => {
+            let name = registry.read(&path);
+            send_name(alloc, output, held, name)
+        }
+        Err(refusal) => send_answer(alloc, output, held, Err(refusal)),
+    }
+}
+
+// Answers the look-up that a form says.
+fn look_up<R: Moderated, O: Output>(
+    alloc: Global,
+    registry: &mut R,
+    output: &mut O,
+    held: &mut Vec<u8>,
+    form: &str,
+) -> Result<(), LineEnd>
+    ensures honest { R.is_honest registry.new → R.is_honest registry.old }
+    ensures ends { R.is_honest registry.new → (h : History) → Stands R.Moderated registry.old h
+        → LineEnds R.Moderated result (asks.LooksUp form.now) h registry.old (out (O.taken output.old) held.old.items) registry.new (out (O.taken output.new) held.new.items) }
+    ensures fault { result ≡ Err LineEnd.WriteFault → IsSome (O.write_fault output.new) }
+{
+    match read_look_up(alloc, form) {
+        Ok(Some((flags, args, size))) => {
+            let found = registry.look_up(flags, &args, size);
+            send_found(alloc, output, held, found)
+        }
+        Ok(None) => send_bad_text(output, held),
+        Err(_) => Err(stop_for_memory(output, held)),
+    }
+}
+
+// Writes the canonical text, behind what is held.
+fn export<R: Moderated, O: Output>(
+    alloc: Global,
+    registry: &mut R,
+    output: &mut O,
+    held: &mut Vec<u8>,
+) -> Result<(), LineEnd>
+    ensures honest { R.is_honest registry.new → R.is_honest registry.old }
+    ensures ends { R.is_honest registry.new → (h : History) → Stands R.Moderated registry.old h
+        → LineEnds R.Moderated result asks.Exports h registry.old (out (O.taken output.old) held.old.items) registry.new (out (O.taken output.new) held.new.items) }
+    ensures fault { result ≡ Err LineEnd.WriteFault → IsSome (O.write_fault output.new) }
+{
+    if let Err(end) = flush(output, held) {
+        return Err(end);
+    }
+    match registry.export(output) {
+        Ok(()) => Ok(()),
+        Err(ExportFault::Write(_)) => Err(LineEnd::WriteFault),
+        Err(ExportFault::Refused(refusal)) => send_answer(alloc, output, held, Err(refusal)),
+    }
+}
+
+/// Answers a line, whose CR is dropped.
+pub fn answer_line<R: Moderated, O: Output>(
+    alloc: Global,
+    registry: &mut R,
+    output: &mut O,
+    held: &mut Vec<u8>,
+    line: &[u8],
+) -> Result<(), LineEnd>
+    ensures honest { R.is_honest registry.new → R.is_honest registry.old }
+    ensures ends { R.is_honest registry.new → (h : History) → Stands R.Moderated registry.old h
+        → LineEnds R.Moderated result (ask_of line.now) h registry.old (out (O.taken output.old) held.old.items) registry.new (out (O.taken output.new) held.new.items) }
+    ensures fault { result ≡ Err LineEnd.WriteFault → IsSome (O.write_fault output.new) }
+{
+    match line_asks(line) {
+        LineAsk::Nothing => Ok(()),
+        LineAsk::Command {
+            verb,
+            account,
+            form,
+        } => obey(alloc, registry, output, held, verb, account, form),
+        LineAsk::Export => export(alloc, registry, output, held),
+        LineAsk::Read(form) => read(alloc, registry, output, held, form),
+        LineAsk::LookUp(form) => look_up(alloc, registry, output, held, form),
+        LineAsk::Unclear => send_bad_text(output, held),
+        LineAsk::TooLong => Err(refuse_long(output, held)),
+    }
+}

@@ -1,0 +1,121 @@
+//! What the fields of a line say.
+ghost use Rattle.std.specs.Prelude.{◌≡◌, ◌≢◌, ◌↔◌, ◌&&◌, ◌==◌, ℕ, true, false, codes, find, count_by, string_bytes, length, slice_index, Option, Some, None, Ok, Err, MatchResult, IfOk, IfErr, IsErr};
+ghost use Rattle.std.specs.Option.{option_copied, option_map};
+ghost use Rattle.std.specs.List.{position, position_or_len, remove};
+ghost use Rattle.std.specs.Str.{bytes_eq};
+ghost use Rattle.pid_moderation.specs.Fields.{Fields, texts_of, value as value_in, is_once as once_in, times as times_in};
+ghost use Rattle.pid_ident.specs.PathReading.{path_of};
+ghost use Rattle.pid_script.specs.Asking.{command_in, command_asked, other_fields, path_in as path_said, path_asked};
+ghost use Rattle.pid_script.specs.LookUpFields.{LookUp, look_up_in, look_up_said, are_bad};
+
+use pid_fields::fields_of;
+use pid_ident::Path;
+use pid_lookup::{Args, BadField, args_of};
+use pid_moderation::{Command, Refusal, Verb, command_of};
+use std::alloc::{AllocError, Global};
+
+fn key_place(fields: &[(String, String)]) -> Option<usize>
+    ensures { result ≡ position (λ f. bytes_eq (string_bytes f.0) (codes "key")) fields.now }
+{
+    fields.iter().position(|field| field.0.as_str() == "key")
+}
+
+// Takes the key out of the fields.
+fn take_key(fields: &mut Vec<(String, String)>) -> Option<String>
+    ensures key { option_map string_bytes result ≡ value_in (codes "key") (texts_of fields.old.items) }
+    ensures others { texts_of fields.new.items ≡ other_fields (texts_of fields.old.items) }
+{
+    let place = key_place(fields)?;
+    let (_, key) = fields.remove(place);
+    Some(key)
+}
+
+fn command_with(
+    alloc: Global,
+    verb: Verb,
+    account: &str,
+    key: &Option<String>,
+    fields: &[(String, String)],
+) -> Result<Command, Refusal>
+    ensures ok { (all : Fields) → option_map string_bytes key.now ≡ value_in (codes "key") all → texts_of fields.now ≡ other_fields all
+        → IfOk result (λ c. command_in verb account.now all ≡ Ok c) }
+    ensures err { (all : Fields) → option_map string_bytes key.now ≡ value_in (codes "key") all → texts_of fields.now ≡ other_fields all
+        → IfErr result (λ e. e ≢ Refusal.Memory → command_in verb account.now all ≡ Err e) }
+{
+    match key {
+        Some(key) => command_of(alloc, verb, account, Some(key.as_str()), fields),
+        None => command_of(alloc, verb, account, None, fields),
+    }
+}
+
+/// The command that a form says, or the first form check that fails; or memory is short.
+pub fn read_command(
+    alloc: Global,
+    verb: Verb,
+    account: &str,
+    form: &str,
+) -> Result<Command, Refusal>
+    ensures ok { IfOk result (λ c. command_asked verb account.now form.now ≡ Ok c) }
+    ensures err { IfErr result (λ e. e ≢ Refusal.Memory → command_asked verb account.now form.now ≡ Err e) }
+{
+    let mut fields = fields_of(alloc, form)?;
+    let key = take_key(&mut fields);
+    command_with(alloc, verb, account, &key, &fields)
+}
+
+fn times(fields: &[(String, String)], name: &str) -> usize
+    ensures { result ≡ count_by (λ f. bytes_eq (string_bytes f.0) name.now) fields.now }
+{
+    fields
+        .iter()
+        .filter(|field| field.0.as_str() == name)
+        .count()
+}
+
+fn first<'a>(fields: &'a [(String, String)], name: &str) -> Option<&'a (String, String)>
+    ensures { option_copied result ≡ find (λ f. bytes_eq (string_bytes f.0) name.now) fields.now }
+{
+    fields.iter().find(|field| field.0.as_str() == name)
+}
+
+fn value<'a>(fields: &'a [(String, String)], name: &str) -> Option<&'a str>
+    ensures { option_copied result ≡ value_in name.now (texts_of fields.now) }
+{
+    match first(fields, name) {
+        Some(field) => Some(field.1.as_str()),
+        None => None,
+    }
+}
+
+fn is_path_alone(fields: &[(String, String)]) -> bool
+    ensures { result ≡ (once_in (codes "path") (texts_of fields.now) && length (texts_of fields.now) == 1) }
+{
+    times(fields, "path") == 1 && fields.len() == 1
+}
+
+fn path_of_text(text: &str) -> Option<Path>
+    ensures { result ≡ path_of text.now }
+{
+    Path::parse(text)
+}
+
+fn path_in(fields: &[(String, String)]) -> Result<Path, Refusal>
+    ensures { result ≡ path_said (texts_of fields.now) }
+{
+    if !is_path_alone(fields) {
+        return Err(Refusal::BadText);
+    }
+    match path_of_text(value(fields, "path").unwrap_or("")) {
+        Some(path) => Ok(path),
+        None => Err(Refusal::BadPath),
+    }
+}
+
+/// The path that a form says; or memory is short.
+pub fn read_path(alloc: Global, form: &str) -> Result<Path, Refusal>
+    ensures ok { IfOk result (λ p. path_asked form.now ≡ Ok p) }
+    ensures err { IfErr result (λ e. e ≢ Refusal.Memory → path_asked form.now ≡ Err e) }
+{
+    let fields = fields_of(alloc, form)?;
+    path_in(&fields)
+}

@@ -1,0 +1,18 @@
+//! Scripts: lines of commands and questions to a registry, each with its reply.
+#![tactic(auto)]
+
+mod answering;
+mod fields;
+mod line;
+mod line_end;
+mod look_up;
+mod moderated;
+mod pieces;
+mod reply;
+mod saying;
+mod script;
+mod script_end;
+
+pub use moderated::{ExportFault, Moderated};
+pub use script::run_script;
+pub use script_end::ScriptEnd;

@@ -1,0 +1,25 @@
+//! Lines within a piece of a text.
+ghost use Rattle.std.specs.Prelude.{◌≡◌, ◌<◌, ◌∷◌, ◌++◌, [], MatchOption, IfSome, length};
+ghost use Rattle.pid_reader.specs.Lines.{drop_cr};
+ghost use Rattle.pid_reader.specs.WholeLines.{ended_pieces};
+
+use memchr::memchr;
+
+/// What stands before the first LF, and behind it.
+pub fn split_line(text: &[u8]) -> Option<(&[u8], &[u8])>
+    ensures parts { MatchOption result (ended_pieces text.now ≡ []) (λ x. (text.now ≡ x.0.now ++ 10 ∷ x.1.now) × (ended_pieces x.0.now ≡ [])) }
+    ensures shorter { IfSome result (λ x. length x.1.now < length text.now) }
+{
+    let end = memchr(b'\n', text)?;
+    Some((&text[..end], &text[end + 1..]))
+}
+
+/// Without one CR at its end.
+pub fn without_cr(piece: &[u8]) -> &[u8]
+    ensures { result.now ≡ drop_cr piece.now }
+{
+    match piece {
+        [front @ .., b'\r'] => front,
+        _ => piece,
+    }
+}

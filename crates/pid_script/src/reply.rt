@@ -1,0 +1,175 @@
+//! The replies to lines.
+ghost use Rattle.std.specs.Prelude.{◌≡◌, ◌++◌, ◌∷◌, ℕ, List, [], Option, true, false, if◌then◌else◌, Ok, Err, IfOk, IfErr, OnOk, IsSome, IsErrOf, MatchResult};
+ghost use Rattle.pid_lookup.specs.declared.answering.LookupRefusal.TheVariants as look_ups;
+ghost use Rattle.pid_moderation.specs.ReplyLines.{refused_line};
+ghost use Rattle.pid_moderation.specs.declared.refusal.Refusal.TheVariants as refusals;
+ghost use Rattle.pid_lookup.specs.Flags.{is_bad};
+ghost use Rattle.pid_script.specs.StopLines.{is_stop as is_stopping};
+ghost use Rattle.pid_script.specs.Saying.{out, Tells, Says, SaysFront, IsGiven, IsNothing, IsAnswer, GoesOn, refusal_in, refusal_of_names};
+ghost use Rattle.pid_script.specs.Replies.{name_line, answer_line, BAD_FLAGS};
+
+use crate::line_end::LineEnd;
+use crate::saying::{say, say_all};
+use pid_ident::{Name, Output};
+use pid_lookup::{Answer, LookupRefusal};
+use pid_moderation::{Refusal, Reply, reply_line};
+use std::alloc::Global;
+
+// Whether a refusal stops a script.
+fn is_stop(refusal: Refusal) -> bool
+    ensures { result ≡ is_stopping refusal }
+{
+    matches!(refusal, Refusal::Memory | Refusal::Store | Refusal::Failed)
+}
+
+/// Says that memory is short, which takes none.
+pub fn stop_for_memory<O: Output>(output: &mut O, held: &mut Vec<u8>) -> LineEnd
+    ensures told { (given : Option Refusal) (reply : List ℕ) → Tells (IsGiven given) IsNothing (Err result) reply (out (O.taken output.old) held.old.items) (out (O.taken output.new) held.new.items) }
+    ensures fault { result ≡ LineEnd.WriteFault → IsSome (O.write_fault output.new) }
+    ensures fits { result ≡ LineEnd.TooLong → ⊥ }
+{
+    match say_all(output, held, b"refused 16 Memory\n") {
+        Ok(()) => LineEnd::Stopped,
+        Err(_) => LineEnd::WriteFault,
+    }
+}
+
+/// Says that a line is too long.
+pub fn refuse_long<O: Output>(output: &mut O, held: &mut Vec<u8>) -> LineEnd
+    ensures told { (given : Option Refusal) → Tells (IsGiven given) IsNothing (Err result) (refused_line refusals.BadText) (out (O.taken output.old) held.old.items) (out (O.taken output.new) held.new.items) }
+    ensures fault { result ≡ LineEnd.WriteFault → IsSome (O.write_fault output.new) }
+    ensures goes { result ≡ LineEnd.Stopped → ⊥ }
+{
+    match say_all(output, held, b"refused 3 BadText\n") {
+        Ok(()) => LineEnd::TooLong,
+        Err(_) => LineEnd::WriteFault,
+    }
+}
+
+fn stops(answer: Result<Reply, Refusal>) -> bool
+    ensures true_at { result ≡ true → (e : _) × (answer ≡ Err e) × (is_stopping e ≡ true) }
+    ensures false_at { result ≡ false → (e : _) → answer ≡ Err e → is_stopping e ≡ false }
+{
+    match answer {
+        Ok(_) => false,
+        Err(refusal) => is_stop(refusal),
+    }
+}
+
+/// Says the line of an answer, with all that is held.
+pub fn send_answer<O: Output>(
+    alloc: Global,
+    output: &mut O,
+    held: &mut Vec<u8>,
+    answer: Result<Reply, Refusal>,
+) -> Result<(), LineEnd>
+    ensures told { (reply : List ℕ) → IsAnswer reply answer → Tells (IsGiven (refusal_in answer)) IsNothing result reply (out (O.taken output.old) held.old.items) (out (O.taken output.new) held.new.items) }
+    ensures goes_on { GoesOn result (refusal_in answer) }
+    ensures empty { OnOk result (held.new.items ≡ []) }
+    ensures fault { result ≡ Err LineEnd.WriteFault → IsSome (O.write_fault output.new) }
+    ensures fits { result ≡ Err LineEnd.TooLong → ⊥ }
+{
+    let Ok(text) = reply_line(alloc, answer) else {
+        return Err(stop_for_memory(output, held));
+    };
+    if let Err(end) = say_all(output, held, text.as_bytes()) {
+        return Err(end);
+    }
+    if stops(answer) {
+        return Err(LineEnd::Stopped);
+    }
+    Ok(())
+}
+
+fn say_lf<O: Output>(output: &mut O, held: &mut Vec<u8>) -> Result<(), LineEnd>
+    ensures told { MatchResult result
+        (λ _. Says (out (O.taken output.old) held.old.items) (out (O.taken output.new) held.new.items) (10 ∷ []))
+        (λ _. SaysFront (out (O.taken output.old) held.old.items) (out (O.taken output.new) held.new.items) (10 ∷ [])) }
+    ensures end { IfErr result (λ e. e ≡ LineEnd.WriteFault) }
+    ensures fault { result ≡ Err LineEnd.WriteFault → IsSome (O.write_fault output.new) }
+{
+    say(output, held, b"\n")
+}
+
+// Says a text and an LF.
+fn say_ended<O: Output>(output: &mut O, held: &mut Vec<u8>, text: &[u8]) -> Result<(), LineEnd>
+    ensures told { MatchResult result
+        (λ _. Says (out (O.taken output.old) held.old.items) (out (O.taken output.new) held.new.items) (text.now ++ 10 ∷ []))
+        (λ _. SaysFront (out (O.taken output.old) held.old.items) (out (O.taken output.new) held.new.items) (text.now ++ 10 ∷ [])) }
+    ensures end { IfErr result (λ e. e ≡ LineEnd.WriteFault) }
+    ensures fault { result ≡ Err LineEnd.WriteFault → IsSome (O.write_fault output.new) }
+{
+    if let Err(end) = say(output, held, text) {
+        return Err(end);
+    }
+    say_lf(output, held)
+}
+
+// Says a word, a text and an LF.
+fn say_line<O: Output>(
+    output: &mut O,
+    held: &mut Vec<u8>,
+    word: &[u8],
+    text: &[u8],
+) -> Result<(), LineEnd>
+    ensures tells { (given : Option Refusal) → Tells (IsGiven given) IsNothing result (word.now ++ text.now ++ 10 ∷ []) (out (O.taken output.old) held.old.items) (out (O.taken output.new) held.new.items) }
+    ensures end { IfErr result (λ e. e ≡ LineEnd.WriteFault) }
+    ensures fault { result ≡ Err LineEnd.WriteFault → IsSome (O.write_fault output.new) }
+{
+    if let Err(end) = say(output, held, word) {
+        return Err(end);
+    }
+    say_ended(output, held, text)
+}
+
+/// Says that a line is not understood.
+pub fn send_bad_text<O: Output>(output: &mut O, held: &mut Vec<u8>) -> Result<(), LineEnd>
+    ensures told { (given : Option Refusal) → Tells (IsGiven given) IsNothing result (refused_line refusals.BadText) (out (O.taken output.old) held.old.items) (out (O.taken output.new) held.new.items) }
+    ensures end { IfErr result (λ e. e ≡ LineEnd.WriteFault) }
+    ensures fault { result ≡ Err LineEnd.WriteFault → IsSome (O.write_fault output.new) }
+{
+    say(output, held, b"refused 3 BadText\n")
+}
+
+/// Says the name of a path, or that it has none.
+pub fn send_name<O: Output>(
+    alloc: Global,
+    output: &mut O,
+    held: &mut Vec<u8>,
+    name: Result<Option<Name>, Refusal>,
+) -> Result<(), LineEnd>
+    ensures told { (good : Option (List ℕ)) → IfOk name (λ name. name ≡ good) → IfErr name (λ e. is_stopping e ≡ true) →
+        Tells (IsGiven (refusal_in name)) IsNothing result (name_line good) (out (O.taken output.old) held.old.items) (out (O.taken output.new) held.new.items) }
+    ensures goes_on { GoesOn result (refusal_in name) }
+    ensures fault { result ≡ Err LineEnd.WriteFault → IsSome (O.write_fault output.new) }
+    ensures fits { result ≡ Err LineEnd.TooLong → ⊥ }
+{
+    match name {
+        Ok(Some(name)) => say_line(output, held, b"name ", name.as_str().as_bytes()),
+        Ok(None) => say(output, held, b"refused 25 NoItem\n"),
+        Err(refusal) => send_answer(alloc, output, held, Err(refusal)),
+    }
+}
+
+/// Says the answer to a look-up.
+pub fn send_found<O: Output>(
+    alloc: Global,
+    output: &mut O,
+    held: &mut Vec<u8>,
+    found: Result<Answer, LookupRefusal<Refusal>>,
+) -> Result<(), LineEnd>
+    ensures told { (flags : ℕ) (good : _) → IfOk found (λ answer. (is_bad flags ≡ false) × (answer ≡ good)) → (IsErrOf found look_ups.BadFlags → is_bad flags ≡ true) →
+        ((e : _) → IsErrOf found (look_ups.Names e) → is_stopping e ≡ true) →
+        Tells (IsGiven (refusal_of_names found)) IsNothing result (if is_bad flags then BAD_FLAGS else answer_line good) (out (O.taken output.old) held.old.items) (out (O.taken output.new) held.new.items) }
+    ensures goes_on { GoesOn result (refusal_of_names found) }
+    ensures fault { result ≡ Err LineEnd.WriteFault → IsSome (O.write_fault output.new) }
+    ensures fits { result ≡ Err LineEnd.TooLong → ⊥ }
+{
+    match found {
+        Ok(Answer::Text(text)) => say_line(output, held, b"text ", text.as_bytes()),
+        Ok(Answer::NoAnswer) => say(output, held, b"none\n"),
+        Err(LookupRefusal::BadFlags) => say(output, held, b"refused 26 BadFlags\n"),
+        Err(LookupRefusal::Names(refusal)) => send_answer(alloc, output, held, Err(refusal)),
+        Err(LookupRefusal::Memory) => Err(stop_for_memory(output, held)),
+    }
+}

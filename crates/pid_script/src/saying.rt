@@ -1,0 +1,88 @@
+//! The text that is held for a writer.
+//!
+//! Replies are held until a command was answered, a read ends or there is no more room, so that many go out by one write.
+//! Where there is no memory to hold them they go out at once.
+ghost use Rattle.std.specs.Prelude.{◌≡◌, ◌++◌, true, false, [], Option, Err, IfErr, IsSome, OnOk, OnErr, MatchResult};
+ghost use Rattle.std.specs.Io.KnownBytes.{Appends};
+ghost use Rattle.pid_ident.specs.Sending.{SendsFront};
+ghost use Rattle.pid_moderation.specs.declared.refusal.Refusal.{Refusal};
+ghost use Rattle.pid_script.specs.Saying.{out, Says, SaysFront, Tells, IsGiven, IsNothing};
+
+use crate::line_end::LineEnd;
+use pid_ident::{Output, write_all};
+
+/// The most bytes that are held.
+pub const ROOM: usize = 65_536;
+
+// Holds more bytes, where there is room and memory for them.
+fn holds(held: &mut Vec<u8>, text: &[u8]) -> bool
+    ensures held { result ≡ true → held.new.items ≡ held.old.items ++ text.now }
+    ensures same { result ≡ false → held.new.items ≡ held.old.items }
+{
+    if ROOM.saturating_sub(held.len()) < text.len() {
+        return false;
+    }
+    match held.extend_from_slice(text) {
+        Ok(()) => true,
+        Err(_) => false,
+    }
+}
+
+fn send<O: Output>(output: &mut O, text: &[u8]) -> Result<(), LineEnd>
+    ensures sent { OnOk result (Appends (O.taken output.old) (O.taken output.new) text.now) }
+    ensures front { OnErr result (SendsFront (O.taken output.old) (O.taken output.new) text.now) }
+    ensures end { IfErr result (λ e. e ≡ LineEnd.WriteFault) }
+    ensures fault { result ≡ Err LineEnd.WriteFault → IsSome (O.write_fault output.new) }
+{
+    match write_all(output, text) {
+        Ok(()) => Ok(()),
+        Err(_) => Err(LineEnd::WriteFault),
+    }
+}
+
+/// Writes what is held.
+pub fn flush<O: Output>(output: &mut O, held: &mut Vec<u8>) -> Result<(), LineEnd>
+    ensures sent { OnOk result (Appends (O.taken output.old) (O.taken output.new) held.old.items) }
+    ensures empty { OnOk result (held.new.items ≡ []) }
+    ensures front { OnErr result (SendsFront (O.taken output.old) (O.taken output.new) held.old.items) }
+    ensures end { IfErr result (λ e. e ≡ LineEnd.WriteFault) }
+    ensures fault { result ≡ Err LineEnd.WriteFault → IsSome (O.write_fault output.new) }
+{
+    if let Err(end) = send(output, held.as_slice()) {
+        return Err(end);
+    }
+    held.clear();
+    Ok(())
+}
+
+/// Says a text: it is held behind what is held already, or goes out behind that.
+pub fn say<O: Output>(output: &mut O, held: &mut Vec<u8>, text: &[u8]) -> Result<(), LineEnd>
+    ensures told { MatchResult result
+        (λ _. Says (out (O.taken output.old) held.old.items) (out (O.taken output.new) held.new.items) text.now)
+        (λ _. SaysFront (out (O.taken output.old) held.old.items) (out (O.taken output.new) held.new.items) text.now) }
+    ensures tells { (given : Option Refusal) → Tells (IsGiven given) IsNothing result text.now (out (O.taken output.old) held.old.items) (out (O.taken output.new) held.new.items) }
+    ensures end { IfErr result (λ e. e ≡ LineEnd.WriteFault) }
+    ensures fault { result ≡ Err LineEnd.WriteFault → IsSome (O.write_fault output.new) }
+{
+    if holds(held, text) {
+        return Ok(());
+    }
+    if let Err(end) = flush(output, held) {
+        return Err(end);
+    }
+    send(output, text)
+}
+
+/// Says a text, and writes all that is held.
+pub fn say_all<O: Output>(output: &mut O, held: &mut Vec<u8>, text: &[u8]) -> Result<(), LineEnd>
+    ensures sent { OnOk result (Appends (O.taken output.old) (O.taken output.new) (held.old.items ++ text.now)) }
+    ensures empty { OnOk result (held.new.items ≡ []) }
+    ensures front { OnErr result (SendsFront (O.taken output.old) (O.taken output.new) (held.old.items ++ text.now)) }
+    ensures end { IfErr result (λ e. e ≡ LineEnd.WriteFault) }
+    ensures fault { result ≡ Err LineEnd.WriteFault → IsSome (O.write_fault output.new) }
+{
+    if let Err(end) = say(output, held, text) {
+        return Err(end);
+    }
+    flush(output, held)
+}

@@ -1,0 +1,224 @@
+//! Scripts: lines of commands and questions, each with its reply.
+ghost use Rattle.std.specs.Prelude.{◌≡◌, ◌+◌, ◌^◌, ◌-◌, ◌<◌, ◌≤◌, min, ◌++◌, ℕ, List, [], Option, length, IsSome, IfSome, IfErr, OnOk, Err};
+ghost use Rattle.pid_reader.specs.Lines.{drop_cr, lines_of};
+ghost use Rattle.pid_moderation.specs.History.{History};
+ghost use Rattle.pid_script.specs.ScriptLines.{ask_of};
+ghost use Rattle.pid_script.specs.Progress.{Answered, HasAnswered, Ended, Ends, script_end};
+ghost use Rattle.pid_script.specs.Saying.{out, LineEnds, Unfit};
+ghost use Rattle.pid_script.specs.Scripts.{passage, IsScript};
+ghost use Rattle.pid_script.specs.Standing.{Stands};
+
+use crate::answering::answer_line;
+use crate::line::LONGEST_LINE;
+use crate::line_end::LineEnd;
+use crate::moderated::Moderated;
+use crate::pieces::{split_line, without_cr};
+use crate::reply::{refuse_long, stop_for_memory};
+use crate::saying::flush;
+use crate::script_end::ScriptEnd;
+use pid_ident::{Input, Output};
+use std::alloc::Global;
+
+/// The most that one read asks for, in bytes.
+pub const BUFFER: usize = 65_536;
+
+// Keeps more bytes of the open line.
+fn keep<O: Output>(
+    output: &mut O,
+    held: &mut Vec<u8>,
+    kept: &mut Vec<u8>,
+    piece: &[u8],
+) -> Result<(), LineEnd>
+    ensures kept { OnOk result (kept.new.items ≡ kept.old.items ++ piece.now) }
+    ensures silent { OnOk result (output.new ≡ output.old) }
+    ensures still { OnOk result (held.new.items ≡ held.old.items) }
+    ensures unfit { IfErr result (λ e. Unfit e (kept.old.items ++ piece.now) (out (O.taken output.old) held.old.items) (out (O.taken output.new) held.new.items)) }
+    ensures fault { result ≡ Err LineEnd.WriteFault → IsSome (O.write_fault output.new) }
+{
+    if (LONGEST_LINE + 1).saturating_sub(kept.len()) < piece.len() {
+        return Err(refuse_long(output, held));
+    }
+    match kept.extend_from_slice(piece) {
+        Ok(()) => Ok(()),
+        Err(_) => Err(stop_for_memory(output, held)),
+    }
+}
+
+// Answers the open line, which ends with these bytes. A line that came whole is not kept.
+fn end_line<R: Moderated, O: Output>(
+    alloc: Global,
+    registry: &mut R,
+    output: &mut O,
+    held: &mut Vec<u8>,
+    kept: &mut Vec<u8>,
+    front: &[u8],
+) -> Result<(), LineEnd>
+    ensures empty { OnOk result (kept.new.items ≡ []) }
+    ensures honest { R.is_honest registry.new → R.is_honest registry.old }
+    ensures ends { R.is_honest registry.new → (h : History) → Stands R.Moderated registry.old h
+        → LineEnds R.Moderated result (ask_of (drop_cr (kept.old.items ++ front.now))) h registry.old (out (O.taken output.old) held.old.items) registry.new (out (O.taken output.new) held.new.items) }
+    ensures fault { result ≡ Err LineEnd.WriteFault → IsSome (O.write_fault output.new) }
+{
+    if kept.is_empty() {
+        return answer_line(alloc, registry, output, held, without_cr(front));
+    }
+    if let Err(end) = keep(output, held, kept, front) {
+        return Err(end);
+    }
+    let answered = answer_line(alloc, registry, output, held, without_cr(kept));
+    kept.clear();
+    answered
+}
+
+// Answers the lines of the next piece of the text, and keeps what stands behind them.
+fn take_lines<R: Moderated, O: Output>(
+    alloc: Global,
+    registry: &mut R,
+    output: &mut O,
+    held: &mut Vec<u8>,
+    kept: &mut Vec<u8>,
+    piece: &[u8],
+) -> Result<(), LineEnd>
+    ensures honest { R.is_honest registry.new → R.is_honest registry.old }
+    ensures answered { R.is_honest registry.new → (h : History) (start : Option (List ℕ)) (first : _) (text : List ℕ) → Stands R.Moderated first h
+        → HasAnswered R.Moderated h start first registry.old (out (O.taken output.old) held.old.items) kept.old.items text
+        → OnOk result (HasAnswered R.Moderated h start first registry.new (out (O.taken output.new) held.new.items) kept.new.items (text ++ piece.now)) }
+    ensures ended { R.is_honest registry.new → (h : History) (start : Option (List ℕ)) (first : _) (text more : List ℕ) → Stands R.Moderated first h
+        → HasAnswered R.Moderated h start first registry.old (out (O.taken output.old) held.old.items) kept.old.items text
+        → IfErr result (λ e. Ended R.Moderated e h start first registry.new (out (O.taken output.new) held.new.items) (lines_of ((text ++ piece.now) ++ more))) }
+    ensures fault { result ≡ Err LineEnd.WriteFault → IsSome (O.write_fault output.new) }
+{
+    let mut rest = piece;
+    while let Some((front, behind)) = split_line(rest) {
+        if let Err(end) = end_line(alloc, registry, output, held, kept, front) {
+            return Err(end);
+        }
+        rest = behind;
+    }
+    if rest.is_empty() {
+        return Ok(());
+    }
+    keep(output, held, kept, rest)
+}
+
+// Takes the next piece of the text, and writes the replies that are held.
+fn take_piece<R: Moderated, O: Output>(
+    alloc: Global,
+    registry: &mut R,
+    output: &mut O,
+    held: &mut Vec<u8>,
+    kept: &mut Vec<u8>,
+    piece: &[u8],
+) -> Result<(), LineEnd>
+    ensures honest { R.is_honest registry.new → R.is_honest registry.old }
+    ensures empty { OnOk result (held.new.items ≡ []) }
+    ensures answered { R.is_honest registry.new → (h : History) (start : Option (List ℕ)) (first : _) (text : List ℕ) → Stands R.Moderated first h
+        → HasAnswered R.Moderated h start first registry.old (out (O.taken output.old) held.old.items) kept.old.items text
+        → OnOk result (HasAnswered R.Moderated h start first registry.new (out (O.taken output.new) held.new.items) kept.new.items (text ++ piece.now)) }
+    ensures ended { R.is_honest registry.new → (h : History) (start : Option (List ℕ)) (first : _) (text more : List ℕ) → Stands R.Moderated first h
+        → HasAnswered R.Moderated h start first registry.old (out (O.taken output.old) held.old.items) kept.old.items text
+        → IfErr result (λ e. Ended R.Moderated e h start first registry.new (out (O.taken output.new) held.new.items) (lines_of ((text ++ piece.now) ++ more))) }
+    ensures fault { result ≡ Err LineEnd.WriteFault → IsSome (O.write_fault output.new) }
+{
+    if let Err(end) = take_lines(alloc, registry, output, held, kept, piece) {
+        return Err(end);
+    }
+    flush(output, held)
+}
+
+// Answers a last line without LF.
+fn answer_last<R: Moderated, O: Output>(
+    alloc: Global,
+    registry: &mut R,
+    output: &mut O,
+    held: &mut Vec<u8>,
+    kept: &[u8],
+) -> Result<(), LineEnd>
+    ensures honest { R.is_honest registry.new → R.is_honest registry.old }
+    ensures answered { R.is_honest registry.new → (h : History) (start : Option (List ℕ)) (first : _) (text : List ℕ) → Stands R.Moderated first h
+        → HasAnswered R.Moderated h start first registry.old (out (O.taken output.old) held.old.items) kept.now text
+        → OnOk result (Answered R.Moderated h start first registry.new (out (O.taken output.new) held.new.items) (lines_of text)) }
+    ensures ended { R.is_honest registry.new → (h : History) (start : Option (List ℕ)) (first : _) (text : List ℕ) → Stands R.Moderated first h
+        → HasAnswered R.Moderated h start first registry.old (out (O.taken output.old) held.old.items) kept.now text
+        → IfErr result (λ e. Ended R.Moderated e h start first registry.new (out (O.taken output.new) held.new.items) (lines_of text)) }
+    ensures fault { result ≡ Err LineEnd.WriteFault → IsSome (O.write_fault output.new) }
+{
+    if kept.is_empty() {
+        return Ok(());
+    }
+    answer_line(alloc, registry, output, held, without_cr(kept))
+}
+
+// The text has ended.
+fn end_text<R: Moderated, O: Output>(
+    alloc: Global,
+    registry: &mut R,
+    output: &mut O,
+    held: &mut Vec<u8>,
+    kept: &[u8],
+) -> Result<(), LineEnd>
+    ensures honest { R.is_honest registry.new → R.is_honest registry.old }
+    ensures ends { R.is_honest registry.new → (h : History) (start : Option (List ℕ)) (first : _) (text : List ℕ) → Stands R.Moderated first h
+        → HasAnswered R.Moderated h start first registry.old (out (O.taken output.old) held.old.items) kept.now text
+        → Ends R.Moderated result h start first registry.new (out (O.taken output.new) held.new.items) text }
+    ensures fault { result ≡ Err LineEnd.WriteFault → IsSome (O.write_fault output.new) }
+{
+    if let Err(end) = answer_last(alloc, registry, output, held, kept) {
+        return Err(end);
+    }
+    flush(output, held)
+}
+
+fn end_of(answered: Result<(), LineEnd>) -> ScriptEnd
+    ensures { result ≡ script_end answered }
+{
+    match answered {
+        Ok(()) => ScriptEnd::Done,
+        Err(LineEnd::Stopped) => ScriptEnd::Stopped,
+        Err(LineEnd::WriteFault) => ScriptEnd::WriteFault,
+        Err(LineEnd::TooLong) => ScriptEnd::TooLong,
+    }
+}
+
+/// Answers the lines of a script, one after the other.
+///
+/// A line ends with an LF, before which one CR is dropped; a last line without LF counts. It is a command
+/// (`VERB ACCOUNT FIELDS`), `export`, `read FIELDS` or `lookup FIELDS`; an empty line and a comment (`#`) get no reply, and
+/// any other line is refused as 3. After a refusal as 16, 17 or 18 nothing more is answered, nor after a line of more than
+/// 16,777,216 bytes. Want of memory for the script itself is refused as 16, which takes none.
+///
+/// At most so many reads are made, each of at most 65,536 bytes. Replies are written at the latest when a command was
+/// answered and when a read is answered whole. A line costs memory only while it is open.
+pub fn run_script<R: Moderated, I: Input, O: Output>(
+    alloc: Global,
+    registry: &mut R,
+    input: &mut I,
+    output: &mut O,
+    turns: u64,
+) -> ScriptEnd
+    ensures honest { R.is_honest registry.new → R.is_honest registry.old }
+    // The replies are those of the lines of the text, and the registry shows the history behind them.
+    ensures script { R.is_honest registry.new → (h : History) → Stands R.Moderated registry.old h → IfSome (I.to_come input.old) (λ text.
+        IsScript R.Moderated result h (passage registry.old registry.new (O.taken output.old) (O.taken output.new)) text (I.to_come input.new)) }
+    ensures read_fault { result ≡ ScriptEnd.ReadFault → IsSome (I.read_fault input.new) }
+    ensures write_fault { result ≡ ScriptEnd.WriteFault → IsSome (O.write_fault output.new) }
+    ensures turns { I.reads input.old < 2 ^ 64 → (made : ℕ) × (made ≤ turns) × (I.reads input.new ≡ min (I.reads input.old + made) (2 ^ 64 - 1)) × (result ≡ ScriptEnd.TurnsSpent → made ≡ turns) }
+    ensures goes { I.goes input.old input.new }
+{
+    let mut buffer = [0u8; BUFFER];
+    let mut held = Vec::new(alloc);
+    let mut kept = Vec::new(alloc);
+    for _turn in 0..turns {
+        let Ok(count) = input.read(&mut buffer) else {
+            return ScriptEnd::ReadFault;
+        };
+        if count == 0 {
+            return end_of(end_text(alloc, registry, output, &mut held, &kept));
+        }
+        let piece = &buffer[..count];
+        if let Err(end) = take_piece(alloc, registry, output, &mut held, &mut kept, piece) {
+            return end_of(Err(end));
+        }
+    }
+    ScriptEnd::TurnsSpent
+}
