@@ -1,0 +1,246 @@
+-- What came of asking the handler over a reader.
+use Rattle.std.proofs.Common.{◌≡◌, ℕ, ◌+◌, ◌-◌, ◌<◌, ◌≤◌, List, [], ◌∷◌, ◌++◌, length, take, drop, Option, Some, None, refl, sym, ap, subst, ◌∙◌, append_assoc, length-append, arith, inl, inr}
+use Rattle.std.specs.Prelude.{option_map, min, IfSome, IfOk, ◌⊎◌, Result, Ok, Err, Bool, true, false, zero, suc, ◌==◌, if◌then◌else◌}
+use Rattle.std.specs.Io.KnownBytes.{Consumes, IsAtEnd}
+use Rattle.std.proofs.lemmas.Bool.{cases_lt, eqb-true}
+use Rattle.std.proofs.lemmas.List.{take_all, drop_all, take-append-drop, append-nil, length-take-le, length-take, drop-drop}
+use Rattle.httparse.specs.Spans.{IsRequestAt}
+use Rattle.httparse.specs.declared.spans.HeaderSpan.{HeaderSpan}
+use Rattle.httparse.specs.declared.spans.RequestSpans.{RequestSpans}
+use Rattle.pid_http_stream.specs.Bodies.{padded, BodyState, HasBrokenOff, IsTold, HasReadBody}
+use Rattle.pid_http_stream.specs.Conducts.{Conduct, StandsStill}
+use Rattle.pid_http_stream.specs.Endings.{IsShort}
+use Rattle.pid_http_stream.specs.Handling.{MayReply, IsAsked}
+use Rattle.pid_http_stream.specs.Intakes.{StandsAt}
+use Rattle.pid_http_stream.specs.Requests.{Request, IsRequest, HasNoRequest}
+use Rattle.pid_http_stream.specs.Steps.{Around, IsAskedOver, Asks, whole_so, broken_so, asked_so}
+use Rattle.pid_http_stream.specs.declared.asking.Asked.{Asked}
+use Rattle.pid_http_stream.specs.declared.asking.Asked.TheVariants as asked
+use Rattle.pid_http_stream.specs.declared.body_input.BodyFault.{BodyFault}
+use Rattle.pid_http_stream.specs.declared.body_input.BodyFault.TheVariants as faults
+use Rattle.pid_http_stream.specs.declared.handler.Reply.{Reply}
+use Rattle.pid_http_stream.proofs.BodyReads.{whole_padded, none_wanted, nothing}
+use Rattle.pid_http_stream.proofs.Heads.{stands_request, stands_short, short_is_none}
+
+-- the bytes that came with the head and those of the reader, where all that is wanted was used
+whole_body : (d came used : List ℕ) (w n : ℕ) → n ≡ min w (length d) → take n d ++ came ≡ used → length used ≡ w → d ++ came ≡ used ++ drop w d
+whole_body d came used w n e given sized = by_length (cases_lt (length d) w)
+  where
+    by_length : (length d < w) ⊎ (w ≤ length d) → d ++ came ≡ used ++ drop w d
+    by_length (inl more) =
+        let all : n ≡ length d = omega (arith, e, more) in
+        ap (λ (l : List ℕ). l ++ came) (sym (ap (λ (k : ℕ). take k d) all ∙ take_all (length d) d (omega arith))) ∙ given ∙ sym (append-nil used) ∙ ap (λ (l : List ℕ). used ++ l) (sym (drop_all w d (omega arith)))
+    by_length (inr here) =
+        let all : n ≡ w = omega (arith, e, here) in
+        let first : length (take n d) ≡ n = length-take-le n d (omega arith) in
+        let lengths : length (take n d) + length came ≡ length used = sym (length-append (take n d) came) ∙ ap length given in
+        let none = nothing came (omega arith) in
+        let same : take n d ≡ used = sym (append-nil (take n d)) ∙ ap (λ (l : List ℕ). take n d ++ l) (sym none) ∙ given in
+        ap (λ (l : List ℕ). d ++ l) none ∙ append-nil d ∙ sym (take-append-drop w d) ∙ ap (λ (k : ℕ). take k d ++ drop w d) (sym all) ∙ ap (λ (l : List ℕ). l ++ drop w d) same
+
+-- and where less was used, none is left
+short_body : (d came used : List ℕ) (w n : ℕ) → n ≡ min w (length d) → take n d ++ came ≡ used → length used < w → length (d ++ came) < w
+short_body d came used w n e given less =
+    let first : length (take n d) ≡ n = length-take-le n d (omega arith) in
+    let lengths : length (take n d) + length came ≡ length used = sym (length-append (take n d) came) ∙ ap length given in
+    let both = length-append d came in
+    omega arith
+
+-- a body, its reader before and after, and the head before it
+pub record Reading (held : List ℕ) (headers : List HeaderSpan) (spans : RequestSpans) (w : ℕ) (A B : BodyState) : Type 0 where
+  pub stands : StandsAt held headers spans w
+  pub n : ℕ
+  pub n_is : n ≡ min w (length (drop spans.len held))
+  pub held_is : A.held ≡ take n (drop spans.len held)
+  pub wanted_is : A.wanted ≡ w
+  pub no_fault : A.fault ≡ None
+  pub read : HasReadBody A B
+  pub fits : length B.held ≤ B.wanted
+
+known : (s : List ℕ) (o : Option (List ℕ)) (came : List ℕ) → Consumes (Some s) o came → (more : List ℕ) × (o ≡ Some more) × (s ≡ came ++ more)
+known s None came c = absurd c
+known s (Some more) came c = (more, refl, c)
+
+-- the body that its reader is to give, where the bytes are known
+abbrev body_of : BodyState → List ℕ → List ℕ
+body_of A s = padded A.wanted (A.held ++ s)
+
+all_used : (held : List ℕ) (headers : List HeaderSpan) (spans : RequestSpans) (w : ℕ) (A B : BodyState) (r : Reading held headers spans w A B) → B.wanted ≡ 0
+    → (B.held ≡ []) × (length r.read.used ≡ w) × (take r.n (drop spans.len held) ++ r.read.came ≡ r.read.used)
+all_used held headers spans w A B r none =
+    let fits = r.fits in
+    let counted = r.read.counted in
+    let wanted = r.wanted_is in
+    let empty = nothing B.held (omega arith) in
+    (empty, omega arith, ap (λ (l : List ℕ). l ++ r.read.came) (sym r.held_is) ∙ r.read.given ∙ ap (λ (l : List ℕ). r.read.used ++ l) empty ∙ append-nil r.read.used)
+
+-- the request whose body was read whole
+whole_request : (held : List ℕ) (headers : List HeaderSpan) (spans : RequestSpans) (w : ℕ) (A B : BodyState) (r : Reading held headers spans w A B) (s more : List ℕ) → B.wanted ≡ 0 → s ≡ r.read.came ++ more
+    → IsRequest (held ++ r.read.came) (record { head = r.stands.found.0; body = body_of A s }) (drop (spans.len + w) held)
+whole_request held headers spans w A B r s more none e =
+    let u = all_used held headers spans w A B r none in
+    let body : body_of A s ≡ r.read.used =
+    ap (padded A.wanted) (ap (λ (l : List ℕ). A.held ++ l) e ∙ sym (append_assoc A.held r.read.came more) ∙ ap (λ (l : List ℕ). l ++ more) (ap (λ (l : List ℕ). l ++ r.read.came) r.held_is ∙ u.2))
+    ∙ whole_padded r.read.used more A.wanted (u.1 ∙ sym r.wanted_is) in
+    subst (λ (b : List ℕ). IsRequest (held ++ r.read.came) (record { head = r.stands.found.0; body = b }) (drop (spans.len + w) held)) (sym body)
+    (stands_request held headers spans w r.stands r.read.came r.read.used (drop (spans.len + w) held)
+    (whole_body (drop spans.len held) r.read.came r.read.used w r.n r.n_is u.2 u.1 ∙ ap (λ (l : List ℕ). r.read.used ++ l) (behind held spans.len w)) u.1)
+  where
+    behind : (xs : List ℕ) (a b : ℕ) → drop b (drop a xs) ≡ drop (a + b) xs
+    behind xs a b = drop-drop b a xs
+
+-- what holds of each request with this head, and the body that its reader was to give
+abbrev Told : (Request → Type 0) → List ℕ → List HeaderSpan → RequestSpans → BodyState → Type 0
+Told P held headers spans A = (request : Request) → IsRequestAt held headers spans request.head → option_map (λ s. padded A.wanted (A.held ++ s)) A.to_come ≡ Some request.body → P request
+
+told_at : (P : Request → Type 0) (held : List ℕ) (headers : List HeaderSpan) (spans : RequestSpans) (w : ℕ) (A B : BodyState) (r : Reading held headers spans w A B) (s : List ℕ)
+    → A.to_come ≡ Some s → Told P held headers spans A → P (record { head = r.stands.found.0; body = body_of A s })
+told_at P held headers spans w A B r s e told =
+    told (record { head = r.stands.found.0; body = body_of A s }) r.stands.found.1 (ap (option_map (λ x. padded A.wanted (A.held ++ x))) e)
+
+pub reply_made : {H : Type 0} (conduct : Conduct H) (a b : H) (held : List ℕ) (headers : List HeaderSpan) (spans : RequestSpans) (w : ℕ) (A B : BodyState) → Reading held headers spans w A B → (reply : Reply)
+    → B.wanted ≡ 0 → Told (λ request. MayReply conduct a request reply b) held headers spans A
+    → IfSome A.to_come (λ _. Asks conduct (record { a = a; b = b; input = A.to_come; input_after = B.to_come }) held headers spans w (asked.Reply reply))
+reply_made conduct a b held headers spans w A B r reply none told = by_known A.to_come refl
+  where
+    by_known : (o : Option (List ℕ)) → A.to_come ≡ o → IfSome o (λ _. Asks conduct (record { a = a; b = b; input = A.to_come; input_after = B.to_come }) held headers spans w (asked.Reply reply))
+    by_known None e = tt
+    by_known (Some s) e =
+        let k = known s B.to_come r.read.came (subst (λ (x : Option (List ℕ)). Consumes x B.to_come r.read.came) e r.read.consumed) in
+        record {
+          came = r.read.came;
+          more = k.0;
+          before = e ∙ ap Some k.2;
+          after = k.1;
+          is = (record { head = r.stands.found.0; body = body_of A s }, whole_request held headers spans w A B r s k.0 none k.2, r.stands.found.1, told_at (λ request. MayReply conduct a request reply b) held headers spans w A B r s e told);
+        }
+
+-- the handler stands still, or lacked memory with the body read to its end
+abbrev Lacks : {H : Type 0} → Conduct H → H → H → BodyState → Request → Type 0
+Lacks conduct a b B request = StandsStill conduct a b ⊎ (IsAtEnd (option_map (λ y. padded B.wanted (B.held ++ y)) B.to_come) × conduct.leaves a request b)
+
+pub no_memory : {H : Type 0} (conduct : Conduct H) (a b : H) (held : List ℕ) (headers : List HeaderSpan) (spans : RequestSpans) (w : ℕ) (A B : BodyState) → Reading held headers spans w A B
+    → B.wanted ≡ 0 → Told (Lacks conduct a b B) held headers spans A
+    → IfSome A.to_come (λ _. Asks conduct (record { a = a; b = b; input = A.to_come; input_after = B.to_come }) held headers spans w asked.NoMemory)
+no_memory conduct a b held headers spans w A B r none told = by_known A.to_come refl
+  where
+    lacks : (s more : List ℕ) → s ≡ r.read.came ++ more → Lacks conduct a b B (record { head = r.stands.found.0; body = body_of A s })
+        → StandsStill conduct a b ⊎ ((request : Request) × IsRequest (held ++ r.read.came) request (drop (spans.len + w) held) × conduct.leaves a request b)
+    lacks s more e (inl stands) = inl stands
+    lacks s more e (inr (end, left)) = inr (record { head = r.stands.found.0; body = body_of A s }, whole_request held headers spans w A B r s more none e, left)
+
+    by_known : (o : Option (List ℕ)) → A.to_come ≡ o → IfSome o (λ _. Asks conduct (record { a = a; b = b; input = A.to_come; input_after = B.to_come }) held headers spans w asked.NoMemory)
+    by_known None e = tt
+    by_known (Some s) e =
+        let k = known s B.to_come r.read.came (subst (λ (y : Option (List ℕ)). Consumes y B.to_come r.read.came) e r.read.consumed) in
+        record { came = r.read.came; more = k.0; before = e ∙ ap Some k.2; after = k.1; is = lacks s k.0 k.2 (told_at (Lacks conduct a b B) held headers spans w A B r s e told) }
+
+-- where bytes are still wanted, their reader is not at its end
+not_ended : (B : BodyState) (more : List ℕ) → B.to_come ≡ Some more → 0 < B.wanted → ¬ (IsAtEnd (option_map (λ y. padded B.wanted (B.held ++ y)) B.to_come))
+not_ended B more e some end =
+    let none = none_wanted B.wanted (B.held ++ more) (subst (λ (o : Option (List ℕ)). IsAtEnd (option_map (λ y. padded B.wanted (B.held ++ y)) o)) e end) in
+    omega arith
+
+stands_of : {H E : Type 0} (conduct : Conduct H) (a b : H) (request : Request) (result : Result Reply E) (left : Option (List ℕ)) → IsAsked conduct a request result left b → IfOk result (λ _. IsAtEnd left) → ¬ (IsAtEnd left) → StandsStill conduct a b
+stands_of conduct a b request (Ok reply) left is whole on = absurd (on whole)
+stands_of conduct a b request (Err x) left (inl stands) whole on = stands
+stands_of conduct a b request (Err x) left (inr (end, leaves)) whole on = absurd (on end)
+
+-- the body was not read to its end
+pub record IsLeft {H : Type 0} (conduct : Conduct H) (a b : H) (held came more : List ℕ) (input input_after : Option (List ℕ)) : Type 0 where
+  pub before : input ≡ Some (came ++ more)
+  pub after : input_after ≡ Some more
+  pub stands : StandsStill conduct a b
+
+is_left : {H E : Type 0} (conduct : Conduct H) (a b : H) (held : List ℕ) (headers : List HeaderSpan) (spans : RequestSpans) (w : ℕ) (A B : BodyState) (r : Reading held headers spans w A B) (result : Result Reply E) (s : List ℕ)
+    → A.to_come ≡ Some s → 0 < B.wanted → Told (λ request. IsAsked conduct a request result (option_map (λ y. padded B.wanted (B.held ++ y)) B.to_come) b) held headers spans A → IfOk result (λ _. IsAtEnd (option_map (λ y. padded B.wanted (B.held ++ y)) B.to_come))
+    → (more : List ℕ) × IsLeft conduct a b held r.read.came more A.to_come B.to_come
+is_left conduct a b held headers spans w A B r result s e some told whole =
+    let k = known s B.to_come r.read.came (subst (λ (y : Option (List ℕ)). Consumes y B.to_come r.read.came) e r.read.consumed) in (
+      k.0,
+      record {
+        before = e ∙ ap Some k.2;
+        after = k.1;
+        stands = stands_of conduct a b (record { head = r.stands.found.0; body = body_of A s }) result (option_map (λ y. padded B.wanted (B.held ++ y)) B.to_come) (told_at (λ request. IsAsked conduct a request result (option_map (λ y. padded B.wanted (B.held ++ y)) B.to_come) b) held headers spans w A B r s e told) whole (not_ended B k.0 k.1 some);
+      },
+    )
+
+pub left_unread : {H E : Type 0} (conduct : Conduct H) (a b : H) (held : List ℕ) (headers : List HeaderSpan) (spans : RequestSpans) (w : ℕ) (A B : BodyState) (r : Reading held headers spans w A B) (result : Result Reply E)
+    → 0 < B.wanted → Told (λ request. IsAsked conduct a request result (option_map (λ y. padded B.wanted (B.held ++ y)) B.to_come) b) held headers spans A → IfOk result (λ _. IsAtEnd (option_map (λ y. padded B.wanted (B.held ++ y)) B.to_come))
+    → IfSome A.to_come (λ _. Asks conduct (record { a = a; b = b; input = A.to_come; input_after = B.to_come }) held headers spans w asked.NoMemory)
+left_unread {H} conduct a b held headers spans w A B r result some told whole = by_known A.to_come refl
+  where
+    by_known : (o : Option (List ℕ)) → A.to_come ≡ o → IfSome o (λ _. Asks conduct (record { a = a; b = b; input = A.to_come; input_after = B.to_come }) held headers spans w asked.NoMemory)
+    by_known None e = tt
+    by_known (Some s) e =
+        let l = is_left conduct a b held headers spans w A B r result s e some told whole in
+        record { came = r.read.came; more = l.0; before = l.1.before; after = l.1.after; is = inl l.1.stands }
+
+broken_told : (held : List ℕ) (headers : List HeaderSpan) (spans : RequestSpans) (w : ℕ) (A B : BodyState) (r : Reading held headers spans w A B) (fault : BodyFault) → B.fault ≡ Some fault → HasBrokenOff B fault
+broken_told held headers spans w A B r fault e =
+    subst (λ (f : Option BodyFault). IfSome f (HasBrokenOff B)) e (r.read.told (subst (λ (f : Option BodyFault). IfSome f (HasBrokenOff A)) (sym r.no_fault) tt))
+
+broken_short : (held : List ℕ) (headers : List HeaderSpan) (spans : RequestSpans) (w : ℕ) (A B : BodyState) (r : Reading held headers spans w A B) (fault : BodyFault) → HasBrokenOff B fault → IsShort (held ++ r.read.came)
+broken_short held headers spans w A B r fault off =
+    let counted = r.read.counted in
+    let wanted = r.wanted_is in
+    let wants = off.wants in
+    stands_short held headers spans w r.stands r.read.came
+    (short_body (drop spans.len held) r.read.came r.read.used w r.n r.n_is
+    (ap (λ (l : List ℕ). l ++ r.read.came) (sym r.held_is) ∙ r.read.given ∙ ap (λ (l : List ℕ). r.read.used ++ l) off.none_held ∙ append-nil r.read.used) (omega arith))
+
+broken_as : {H : Type 0} (conduct : Conduct H) (a b : H) (held : List ℕ) (headers : List HeaderSpan) (spans : RequestSpans) (all rest : List ℕ) (B : BodyState) (fault : BodyFault) (input : Option (List ℕ)) → HasBrokenOff B fault → StandsStill conduct a b → IsShort all
+    → IsAskedOver conduct (record { a = a; b = b; input = input; input_after = B.to_come }) held headers spans all rest (asked.Broken fault)
+broken_as conduct a b held headers spans all rest B faults.Short input off stands short = (stands, off.cause, short)
+broken_as conduct a b held headers spans all rest B faults.ReadFault input off stands short = (stands, short_is_none all short)
+broken_as conduct a b held headers spans all rest B faults.TurnsSpent input off stands short = (stands, short_is_none all short)
+
+-- the body broke off
+pub broken : {H E : Type 0} (conduct : Conduct H) (a b : H) (held : List ℕ) (headers : List HeaderSpan) (spans : RequestSpans) (w : ℕ) (A B : BodyState) (r : Reading held headers spans w A B) (result : Result Reply E) (fault : BodyFault)
+    → B.fault ≡ Some fault → Told (λ request. IsAsked conduct a request result (option_map (λ y. padded B.wanted (B.held ++ y)) B.to_come) b) held headers spans A → IfOk result (λ _. IsAtEnd (option_map (λ y. padded B.wanted (B.held ++ y)) B.to_come))
+    → IfSome A.to_come (λ _. Asks conduct (record { a = a; b = b; input = A.to_come; input_after = B.to_come }) held headers spans w (asked.Broken fault))
+broken {H} conduct a b held headers spans w A B r result fault f told whole = by_known A.to_come refl
+  where
+    by_known : (o : Option (List ℕ)) → A.to_come ≡ o → IfSome o (λ _. Asks conduct (record { a = a; b = b; input = A.to_come; input_after = B.to_come }) held headers spans w (asked.Broken fault))
+    by_known None e = tt
+    by_known (Some s) e =
+        let off = broken_told held headers spans w A B r fault f in
+        let l = is_left conduct a b held headers spans w A B r result s e off.wants told whole in
+        record { came = r.read.came; more = l.0; before = l.1.before; after = l.1.after; is = broken_as conduct a b held headers spans (held ++ r.read.came) (drop (spans.len + w) held) B fault A.to_come off l.1.stands (broken_short held headers spans w A B r fault off) }
+
+-- ---- all of it, by what the code tells
+
+asked_whole : {H E : Type 0} (conduct : Conduct H) (a b : H) (held : List ℕ) (headers : List HeaderSpan) (spans : RequestSpans) (w : ℕ) (A B : BodyState) (r : Reading held headers spans w A B) (result : Result Reply E)
+    → B.wanted ≡ 0 → Told (λ request. IsAsked conduct a request result (option_map (λ y. padded B.wanted (B.held ++ y)) B.to_come) b) held headers spans A
+    → IfSome A.to_come (λ _. Asks conduct (record { a = a; b = b; input = A.to_come; input_after = B.to_come }) held headers spans w (whole_so result))
+asked_whole conduct a b held headers spans w A B r (Ok reply) none told = reply_made conduct a b held headers spans w A B r reply none told
+asked_whole conduct a b held headers spans w A B r (Err x) none told = no_memory conduct a b held headers spans w A B r none told
+
+asked_broken : {H E : Type 0} (conduct : Conduct H) (a b : H) (held : List ℕ) (headers : List HeaderSpan) (spans : RequestSpans) (w : ℕ) (A B : BodyState) (r : Reading held headers spans w A B) (result : Result Reply E) (fault : Option BodyFault)
+    → B.fault ≡ fault → 0 < B.wanted → Told (λ request. IsAsked conduct a request result (option_map (λ y. padded B.wanted (B.held ++ y)) B.to_come) b) held headers spans A → IfOk result (λ _. IsAtEnd (option_map (λ y. padded B.wanted (B.held ++ y)) B.to_come))
+    → IfSome A.to_come (λ _. Asks conduct (record { a = a; b = b; input = A.to_come; input_after = B.to_come }) held headers spans w (broken_so fault))
+asked_broken conduct a b held headers spans w A B r result None e some told whole = left_unread conduct a b held headers spans w A B r result some told whole
+asked_broken conduct a b held headers spans w A B r result (Some fault) e some told whole = broken conduct a b held headers spans w A B r result fault e told whole
+
+some_left : (n : ℕ) → (n == 0) ≡ false → 0 < n
+some_left zero e = cc
+some_left (suc n) e = omega arith
+
+pub asked_is : {H E : Type 0} (conduct : Conduct H) (a b : H) (held : List ℕ) (headers : List HeaderSpan) (spans : RequestSpans) (w : ℕ) (A B : BodyState) (r : Reading held headers spans w A B) (result : Result Reply E)
+    → Told (λ request. IsAsked conduct a request result (option_map (λ y. padded B.wanted (B.held ++ y)) B.to_come) b) held headers spans A → IfOk result (λ _. IsAtEnd (option_map (λ y. padded B.wanted (B.held ++ y)) B.to_come))
+    → IfSome A.to_come (λ _. Asks conduct (record { a = a; b = b; input = A.to_come; input_after = B.to_come }) held headers spans w (asked_so result B.wanted B.fault))
+asked_is {H} {E} conduct a b held headers spans w A B r result told whole = by_test (B.wanted == 0) refl
+  where
+    by_test : (t : Bool) → (B.wanted == 0) ≡ t → IfSome A.to_come (λ _. Asks conduct (record { a = a; b = b; input = A.to_come; input_after = B.to_come }) held headers spans w (if t then whole_so result else broken_so B.fault))
+    by_test true e = asked_whole conduct a b held headers spans w A B r result (eqb-true B.wanted 0 e) told
+    by_test false e = asked_broken conduct a b held headers spans w A B r result B.fault refl (some_left B.wanted e) told whole
+
+from_broken : {E : Type 0} (t : Bool) (result : Result Reply E) (f : Option BodyFault) (fault : BodyFault) → (if t then whole_so result else broken_so f) ≡ asked.Broken fault → f ≡ Some fault
+from_broken true (Ok reply) f fault e = cc
+from_broken true (Err x) f fault e = cc
+from_broken false result None fault e = cc
+from_broken false result (Some g) fault e = cc
+
+-- why it broke off
+pub broken_cause : {E : Type 0} (held : List ℕ) (headers : List HeaderSpan) (spans : RequestSpans) (w : ℕ) (A B : BodyState) → Reading held headers spans w A B → (result : Result Reply E) (fault : BodyFault) → asked_so result B.wanted B.fault ≡ asked.Broken fault → HasBrokenOff B fault
+broken_cause held headers spans w A B r result fault e = broken_told held headers spans w A B r fault (from_broken (B.wanted == 0) result B.fault fault e)

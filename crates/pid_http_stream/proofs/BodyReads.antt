@@ -1,0 +1,123 @@
+-- What one read of a body leaves of it.
+use Rattle.std.proofs.Common.{◌≡◌, ℕ, zero, suc, ◌+◌, ◌-◌, ◌^◌, ◌<◌, ◌≤◌, List, [], ◌∷◌, ◌++◌, length, take, drop, Option, Some, None, refl, sym, ap, subst, ◌∙◌, append_assoc, arith}
+use Rattle.std.specs.Prelude.{option_map, min, IfSome, IsSome, is_some, false}
+use Rattle.std.specs.Io.KnownBytes.{Consumes, IsAtEnd, Keeps}
+use Rattle.std.proofs.KnownBytes.{Consumes-nil, Consumes-trans}
+use Rattle.std.proofs.lemmas.List.{take-append-le, take_all, append-nil}
+use Rattle.pid_ident.specs.Reading.{StaysKept}
+use Rattle.pid_ident.specs.declared.io.ReadFault.{ReadFault}
+use Rattle.pid_http_stream.specs.Bodies.{padded, Turns, SpendsTurns, BodyState, IsCauseOf, HasBrokenOff, IsTold, HasReadBody}
+use Rattle.pid_http_stream.specs.BodyLaws.{no_turns, stays_kept}
+use Rattle.pid_http_stream.specs.declared.body_input.BodyFault.{BodyFault}
+
+-- bytes given from the front leave the others
+padded_front : (piece rest : List ℕ) (w n : ℕ) → length piece ≡ n → n ≤ w → padded w (piece ++ rest) ≡ piece ++ padded (w - n) rest
+padded_front [] rest w zero e h = let none : w - 0 ≡ w = omega arith in rw none refl
+padded_front [] rest w (suc n) e h = absurd (omega arith)
+padded_front (b ∷ piece) rest zero n e h = absurd (omega arith)
+padded_front (b ∷ piece) rest (suc w) zero e h = absurd (omega arith)
+padded_front (b ∷ piece) rest (suc w) (suc n) e h = let less : suc w - suc n ≡ w - n = omega arith in rw less (ap (λ (l : List ℕ). b ∷ l) (padded_front piece rest w n (omega arith) (omega arith)))
+
+pub whole_padded : (used rest : List ℕ) (w : ℕ) → length used ≡ w → padded w (used ++ rest) ≡ used
+whole_padded [] rest zero e = refl
+whole_padded [] rest (suc w) e = absurd (omega arith)
+whole_padded (b ∷ used) rest zero e = absurd (omega arith)
+whole_padded (b ∷ used) rest (suc w) e = ap (λ (l : List ℕ). b ∷ l) (whole_padded used rest w (omega arith))
+
+pub none_wanted : (w : ℕ) (bytes : List ℕ) → padded w bytes ≡ [] → w ≡ 0
+none_wanted zero bytes e = refl
+none_wanted (suc w) [] e = cc
+none_wanted (suc w) (b ∷ bytes) e = cc
+
+pub at_end : (o : Option (List ℕ)) (held : List ℕ) (w : ℕ) → w ≡ 0 → IsAtEnd (option_map (λ s. padded w (held ++ s)) o)
+at_end None held w e = tt
+at_end (Some s) held w e = rw e refl
+
+pub held_given : (known : Option (List ℕ)) (wanted n : ℕ) (held behind piece got : List ℕ) → held ≡ piece ++ behind → length piece ≡ n → n ≤ wanted → got ≡ piece
+    → Consumes (option_map (λ s. padded wanted (held ++ s)) known) (option_map (λ s. padded (wanted - n) (behind ++ s)) known) got
+held_given None wanted n held behind piece got e l h g = tt
+held_given (Some s) wanted n held behind piece got e l h g =
+    ap (λ (x : List ℕ). padded wanted (x ++ s)) e ∙ ap (padded wanted) (append_assoc piece behind s) ∙ padded_front piece (behind ++ s) wanted n l h ∙ ap (λ (x : List ℕ). x ++ padded (wanted - n) (behind ++ s)) (sym g)
+
+pub read_given : (known left : Option (List ℕ)) (wanted n : ℕ) (held piece got : List ℕ) → held ≡ [] → Consumes known left piece → length piece ≡ n → n ≤ wanted → got ≡ piece
+    → Consumes (option_map (λ s. padded wanted (held ++ s)) known) (option_map (λ s. padded (wanted - n) (held ++ s)) left) got
+read_given None left wanted n held piece got e c l h g = tt
+read_given (Some s) None wanted n held piece got e c l h g = absurd c
+read_given (Some s) (Some t) wanted n held piece got e c l h g =
+    ap (λ (x : List ℕ). padded wanted (x ++ s)) e ∙ ap (padded wanted) c ∙ padded_front piece t wanted n l h ∙ ap (λ (x : List ℕ). x ++ padded (wanted - n) t) (sym g) ∙ ap (λ (x : List ℕ). got ++ padded (wanted - n) (x ++ t)) (sym e)
+
+pub whole_front : (x y : List ℕ) (n : ℕ) → length x ≡ n → take n (x ++ y) ≡ x
+whole_front x y n e = take-append-le n x y (omega arith) ∙ take_all n x (omega arith)
+
+pub nothing : (x : List ℕ) → length x ≡ 0 → x ≡ []
+nothing [] e = refl
+nothing (b ∷ x) e = absurd (omega arith)
+
+pub keeps_nil : (a b : Option (List ℕ)) → Keeps a b → Consumes a b []
+keeps_nil None b k = tt
+keeps_nil (Some x) None k = absurd k
+keeps_nil (Some x) (Some y) k = sym k
+
+pub none_of : {A : Type 0} (o : Option A) → is_some o ≡ false → o ≡ None
+none_of None e = refl
+none_of (Some x) e = cc
+
+pub some_told : {A : Type 0} (o : Option A) (x : A) → o ≡ Some x → IsSome o
+some_told None x e = cc
+some_told (Some y) x e = refl
+
+pub more_read : (a b c : Option (List ℕ)) (x y z : List ℕ) → Consumes a b x → Consumes b c y → z ≡ x ++ y → Consumes a c z
+more_read a b c x y z p q e = subst (Consumes a c) (sym e) (Consumes-trans a b c x y p q)
+
+-- ---- what a read leaves, as the states tell it
+
+-- nothing was told before, and nothing is now
+untold : (f : Option BodyFault) (s : BodyState) → f ≡ None → s.fault ≡ f → IsTold s
+untold f s e same = subst (λ (x : Option BodyFault). IfSome x (HasBrokenOff s)) (sym (same ∙ e)) tt
+
+-- some of what was held was given
+pub gave_held : (f : Option BodyFault) (known : Option (List ℕ)) (kept : Option ReadFault) (turns : Turns) (wanted n : ℕ) (held behind piece : List ℕ) → f ≡ None → held ≡ piece ++ behind → length piece ≡ n → n ≤ wanted
+    → HasReadBody (record { held = held; wanted = wanted; fault = f; to_come = known; kept = kept; turns = turns }) (record { held = behind; wanted = wanted - n; fault = f; to_come = known; kept = kept; turns = turns })
+gave_held f known kept turns wanted n held behind piece none e l h = record {
+  used = piece;
+  came = [];
+  consumed = Consumes-nil known;
+  given = append-nil held ∙ e;
+  counted = omega arith;
+  turns = no_turns turns;
+  fault = stays_kept f;
+  told = λ t. untold f (record { held = behind; wanted = wanted - n; fault = f; to_come = known; kept = kept; turns = turns }) none refl;
+}
+
+-- a turn was spent
+pub one_turn : (reads left reads_after : ℕ) → 0 < left → reads_after ≡ min (reads + 1) (2 ^ 64 - 1) → SpendsTurns (record { reads = reads; left = left }) (record { reads = reads_after; left = left - 1 })
+one_turn reads left reads_after some count = record { spent = omega arith; exact = λ h. omega arith; fewer = omega arith }
+
+-- some of the reader's bytes were given
+pub gave_read : (f : Option BodyFault) (known left : Option (List ℕ)) (kept still : Option ReadFault) (a b : Turns) (wanted n : ℕ) (held piece : List ℕ) → f ≡ None → held ≡ [] → Consumes known left piece → length piece ≡ n → n ≤ wanted → SpendsTurns a b
+    → HasReadBody (record { held = held; wanted = wanted; fault = f; to_come = known; kept = kept; turns = a }) (record { held = held; wanted = wanted - n; fault = f; to_come = left; kept = still; turns = b })
+gave_read f known left kept still a b wanted n held piece none e c l h spent = record {
+  used = piece;
+  came = piece;
+  consumed = c;
+  given = ap (λ (x : List ℕ). x ++ piece) e ∙ sym (append-nil piece) ∙ ap (λ (x : List ℕ). piece ++ x) (sym e);
+  counted = omega arith;
+  turns = spent;
+  fault = stays_kept f;
+  told = λ t. untold f (record { held = held; wanted = wanted - n; fault = f; to_come = left; kept = still; turns = b }) none refl;
+}
+
+-- no byte was given, and this is the fault now
+pub broke_off : (f : Option BodyFault) (known left : Option (List ℕ)) (kept still : Option ReadFault) (a b : Turns) (wanted : ℕ) (held : List ℕ) (fault : BodyFault) → f ≡ None → Consumes known left [] → SpendsTurns a b
+    → 0 < wanted → held ≡ [] → IsCauseOf fault (record { held = held; wanted = wanted; fault = Some fault; to_come = left; kept = still; turns = b })
+    → HasReadBody (record { held = held; wanted = wanted; fault = f; to_come = known; kept = kept; turns = a }) (record { held = held; wanted = wanted; fault = Some fault; to_come = left; kept = still; turns = b })
+broke_off f known left kept still a b wanted held fault none c spent wants none_held cause = record {
+  used = [];
+  came = [];
+  consumed = c;
+  given = append-nil held;
+  counted = omega arith;
+  turns = spent;
+  fault = subst (λ (x : Option BodyFault). StaysKept x (Some fault)) (sym none) tt;
+  told = λ t. record { wants = wants; none_held = none_held; cause = cause };
+}

@@ -1,0 +1,48 @@
+-- What comes in up to the end of a head.
+use Rattle.std.proofs.Common.{◌≡◌, ℕ, ◌+◌, ◌≤◌, List, [], ◌∷◌, ◌++◌, Option, Some, None, length, take, drop, refl, sym, ap, subst, ◌∙◌, append_assoc, length-append, arith, inl}
+use Rattle.std.specs.Prelude.{IfSome, IsTrue, ◌↔◌, Bool, false}
+use Rattle.std.proofs.lemmas.Bool.{iff_false}
+use Rattle.std.specs.Io.KnownBytes.{Consumes, IsAtEnd}
+use Rattle.std.proofs.KnownBytes.{Consumes-nil, Consumes-trans}
+use Rattle.std.proofs.lemmas.List.{append-nil, take_all, take-append-drop, take-append-le}
+use Rattle.httparse.specs.Grammar.{HasNoRequest as HasNoRequestHead}
+use Rattle.pid_http_stream.specs.Bodies.{Turns, SpendsTurns}
+use Rattle.pid_http_stream.specs.Endings.{HasFault, IsNoHead}
+use Rattle.pid_http_stream.specs.Intakes.{ComesIn, HasNoLineEnd, WantsMore}
+use Rattle.pid_http_stream.specs.Leftovers.{AreLineEnds}
+use Rattle.pid_http_stream.specs.Requests.{HasNoRequest}
+use Rattle.pid_http_stream.specs.declared.judging.StreamFault.{StreamFault}
+use Rattle.pid_http_stream.specs.declared.judging.StreamFault.TheVariants.{BadHead}
+use Rattle.pid_http_stream.proofs.Heads.{end_within_head, no_head_behind}
+
+pub nothing_came : (held : List ℕ) (input : Option (List ℕ)) → ComesIn held held input input
+nothing_came held input = record { piece = []; consumed = Consumes-nil input; kept = sym (append-nil held) }
+
+pub comes_then : (a b c : List ℕ) (x y z : Option (List ℕ)) → ComesIn a b x y → ComesIn b c y z → ComesIn a c x z
+comes_then a b c x y z p q = record {
+  piece = p.piece ++ q.piece;
+  consumed = Consumes-trans x y z p.piece q.piece p.consumed q.consumed;
+  kept = q.kept ∙ ap (λ (l : List ℕ). l ++ q.piece) p.kept ∙ append_assoc a p.piece q.piece;
+}
+
+pub end_faulty : (held : List ℕ) → HasNoRequestHead held → ¬ (AreLineEnds held) → (left : Option (List ℕ)) → IsAtEnd left → IfSome left (λ more. HasFault (held ++ more) BadHead)
+end_faulty held none other None e = tt
+end_faulty held none other (Some more) e = inl (subst IsNoHead (sym (append-nil held) ∙ ap (λ (l : List ℕ). held ++ l) (sym e)) (end_within_head held none other))
+
+pub any_faulty : (held : List ℕ) (fault : StreamFault) → ((more : List ℕ) → HasFault (held ++ more) fault) → (left : Option (List ℕ)) → IfSome left (λ more. HasFault (held ++ more) fault)
+any_faulty held fault has None = tt
+any_faulty held fault has (Some more) = has more
+
+pub no_request_yet : (held : List ℕ) → HasNoRequestHead held → HasNoRequest held
+no_request_yet held none = λ request rest is. none request.head _ is.head.reads
+
+pub still_none : (after : List ℕ) (n : ℕ) → WantsMore (take n after) → HasNoLineEnd (drop n after) → HasNoRequestHead after
+still_none after n wants quiet = subst HasNoRequestHead (take-append-drop n after) (no_head_behind (take n after) (drop n after) wants.none quiet)
+
+-- what came goes on from what was held
+pub held_first : (held after piece : List ℕ) (n : ℕ) → WantsMore held → after ≡ held ++ piece → n ≡ length held → WantsMore (take n after)
+held_first held after piece n wants e same =
+    subst WantsMore (sym (ap (λ (k : ℕ). take k after) same ∙ ap (take (length held)) e ∙ take-append-le (length held) held piece (omega arith) ∙ take_all (length held) held (omega arith))) wants
+
+pub not_line_ends : (b : Bool) (held : List ℕ) → IsTrue b ↔ AreLineEnds held → b ≡ false → ¬ (AreLineEnds held)
+not_line_ends b held both no_end x = iff_false both no_end x

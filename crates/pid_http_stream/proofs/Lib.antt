@@ -1,0 +1,11 @@
+pub mod FieldWalks
+pub mod EndsOfLines
+pub mod Heads
+pub mod HeadReads
+pub mod Lines
+pub mod Closing
+pub mod BodyReads
+pub mod Asked
+pub mod Stepping
+pub mod Serving
+pub mod Uniqueness

@@ -1,0 +1,51 @@
+-- The parts of a reply in one list.
+use Rattle.std.proofs.Common.{◌≡◌, ℕ, List, [], ◌++◌, ◌+◌, ◌<◌, ◌≤◌, take, Option, Result, refl, sym, ap, ◌∙◌, append_assoc, length-append, subst, arith}
+use Rattle.std.proofs.lemmas.List.{append-nil}
+use Rattle.std.specs.Prelude.{Bool, length, codes, decimal}
+use Rattle.pid_ident.specs.Sending.{Sends, SendsFront}
+use Rattle.std.specs.Io.KnownBytes.{Appends}
+use Rattle.std.proofs.KnownBytes.{Appends-trans}
+use Rattle.std.proofs.Math.Seq.{take-append-add}
+use Rattle.pid_http_stream.specs.Handling.{WritesBody}
+use Rattle.pid_http_stream.specs.Replies.{Answer, status_line, type_line, allow_line, close_line, reply_head, reply_text}
+use Rattle.pid_http_stream.specs.Serving.{WritesFront}
+use Rattle.pid_http_stream.specs.declared.reply.ReplyHead.{ReplyHead}
+
+nine : (a b c d e f g h i : List ℕ) → a ++ (b ++ (c ++ (d ++ (e ++ (f ++ (g ++ (h ++ (i ++ [])))))))) ≡ a ++ b ++ c ++ d ++ e ++ f ++ g ++ h ++ i
+nine a b c d e f g h i = simp (append_assoc, append-nil)
+
+pub in_one : {X E : Type 0} (r : Result X E) (old new : Option (List ℕ)) (a b c d e f g h i : List ℕ) → Sends r old new (a ++ (b ++ (c ++ (d ++ (e ++ (f ++ (g ++ (h ++ (i ++ [])))))))))
+    → Sends r old new (a ++ b ++ c ++ d ++ e ++ f ++ g ++ h ++ i)
+in_one r old new a b c d e f g h i s = subst (Sends r old new) (nine a b c d e f g h i) s
+
+pub reply_is : {X E : Type 0} (r : Result X E) (old new : Option (List ℕ)) (answer : Answer) (closes : Bool) (status content len allow close : List ℕ) → status ≡ status_line answer.status → content ≡ type_line answer.content
+    → len ≡ decimal answer.told → allow ≡ allow_line answer.content → close ≡ close_line closes
+    → Sends r old new (status ++ content ++ codes "Content-Length: " ++ len ++ codes "\r\n" ++ allow ++ close ++ codes "\r\n" ++ answer.body)
+    → Sends r old new (reply_text answer closes)
+unfolding reply_text
+reply_is r old new answer closes status content len allow close p q l a k s = subst (Sends r old new) (λ i. p i ++ q i ++ codes "Content-Length: " ++ l i ++ codes "\r\n" ++ a i ++ k i ++ codes "\r\n" ++ answer.body) s
+
+-- ---- a reply whose body is written by itself
+
+-- the reply with no body is its head
+pub head_only : (head : ReplyHead) (told : ℕ) (closes : Bool) → reply_text (record { status = head.status; content = head.content; told = told; body = [] }) closes ≡ reply_head head.status head.content told closes
+unfolding reply_text
+head_only head told closes = append-nil (reply_head head.status head.content told closes)
+
+pub front_of_it : (old new : Option (List ℕ)) (bytes : List ℕ) → SendsFront old new bytes → WritesFront old new bytes
+front_of_it old new bytes (n, less, appended) = (n, omega arith, appended)
+
+pub head_then_body : (head : ReplyHead) (told : ℕ) (closes : Bool) (t u v : Option (List ℕ)) (body : List ℕ) → Appends t u (reply_head head.status head.content told closes) → Appends u v body
+    → Appends t v (reply_text (record { status = head.status; content = head.content; told = told; body = body }) closes)
+unfolding reply_text
+head_then_body head told closes t u v body p q = Appends-trans t u v (reply_head head.status head.content told closes) body p q
+
+pub head_then_front : (head : ReplyHead) (told : ℕ) (closes : Bool) (t u v : Option (List ℕ)) (body : List ℕ) → Appends t u (reply_head head.status head.content told closes) → WritesFront u v body
+    → WritesFront t v (reply_text (record { status = head.status; content = head.content; told = told; body = body }) closes)
+unfolding reply_text
+head_then_front head told closes t u v body p (n, less, q) =
+    let front = reply_head head.status head.content told closes in (
+      length front + n,
+      (let both = length-append front body in omega arith),
+      subst (Appends t v) (sym (take-append-add front body n)) (Appends-trans t u v front (take n body) p q),
+    )

@@ -1,0 +1,328 @@
+-- The serving loop, over plain values.
+use Rattle.std.proofs.Common.{◌≡◌, ℕ, ◌+◌, ◌≤◌, Bool, true, false, List, [], ◌∷◌, ◌++◌, Option, Some, None, length, take, drop, refl, sym, ap, subst, ◌∙◌, arith, append_assoc, length-append, inl, inr}
+use Rattle.std.specs.Prelude.{IfSome, ◌⊎◌}
+use Rattle.std.specs.Io.KnownBytes.{Appends, Consumes, IsAtEnd}
+use Rattle.std.proofs.lemmas.List.{append-nil}
+use Rattle.std.proofs.KnownBytes.{Consumes-nil, Appends-nil, Appends-trans, Consumes-trans}
+use Rattle.pid_http_stream.specs.Conducts.{Conduct, StandsStill, AreReplies}
+use Rattle.pid_http_stream.specs.Endings.{HasFault}
+use Rattle.pid_http_stream.specs.Intakes.{ComesIn}
+use Rattle.pid_http_stream.specs.Leftovers.{IsLeftover}
+use Rattle.pid_http_stream.specs.Replies.{Answer, reply_text, fault_answer}
+use Rattle.pid_http_stream.specs.Requests.{Request, IsRequest, HasNoRequest}
+use Rattle.pid_http_stream.specs.Serving.{counted, Outside, WritesFront, RestsBehind, AnswersAll, AnswersFront, BreaksOff, StopsReading, LacksMemory, IsReplyNext, IsWrittenNext, is_head_fault, IsServed}
+use Rattle.pid_http_stream.specs.Steps.{Around, IsReplied, IsRefused, EndsWithin, Steps, stop_end}
+use Rattle.pid_http_stream.specs.Streams.{closes, Ending, clean, closed, faulty, Ends, Fronts, Splits}
+use Rattle.pid_http_stream.specs.declared.intake.Stop.{Stop}
+use Rattle.pid_http_stream.specs.declared.intake.Stop.TheVariants as stops
+use Rattle.pid_http_stream.specs.declared.judging.StreamFault.{StreamFault}
+use Rattle.pid_http_stream.specs.declared.judging.StreamFault.TheVariants.{BadHead, Encoding, BodyTooLong, BodyShort}
+use Rattle.pid_http_stream.specs.declared.stream.Answered.TheVariants as answered
+use Rattle.pid_http_stream.specs.declared.stream.StreamEnd.{StreamEnd}
+use Rattle.pid_http_stream.specs.declared.stream.StreamEnd.TheVariants.{Clean, Closed, HeadFault, BodyFault, ReadFault, WriteFault, StoreFault, Memory, TurnsSpent}
+use Rattle.pid_http_stream.proofs.Heads.{IsRequest-append}
+
+-- ---- requests at the front of a stream
+
+Fronts-append : (s : List ℕ) (rs : List Request) (rest more : List ℕ) → Fronts s rs rest → Fronts (s ++ more) rs (rest ++ more)
+Fronts-append s [] rest more e = ap (λ (l : List ℕ). l ++ more) e
+Fronts-append s (r ∷ rs) rest more (behind, is, stays, later) = (behind ++ more, IsRequest-append s r behind more is, stays, Fronts-append behind rs rest more later)
+
+Fronts-snoc : (s : List ℕ) (rs : List Request) (rest : List ℕ) (r : Request) (behind : List ℕ) → Fronts s rs rest → IsRequest rest r behind → closes r ≡ false → Fronts s (rs ++ r ∷ []) behind
+Fronts-snoc s [] rest r behind e is stays = (behind, subst (λ (l : List ℕ). IsRequest l r behind) (sym e) is, stays, refl)
+Fronts-snoc s (q ∷ rs) rest r behind (middle, was, before, later) is stays = (middle, was, before, Fronts-snoc middle rs rest r behind later is stays)
+
+Splits-end : (s : List ℕ) (rs : List Request) (rest : List ℕ) (e : Ending) → Fronts s rs rest → Ends rest e → Splits s rs e
+Splits-end s [] rest e same ends = subst (λ (l : List ℕ). Ends l e) (sym same) ends
+Splits-end s (r ∷ rs) rest e (behind, is, stays, later) ends = (behind, is, inr (stays, Splits-end behind rs rest e later ends))
+
+Splits-closed : (s : List ℕ) (rs : List Request) (rest : List ℕ) (r : Request) (behind : List ℕ) → Fronts s rs rest → IsRequest rest r behind → closes r ≡ true → Splits s (rs ++ r ∷ []) closed
+Splits-closed s [] rest r behind e is shut = (behind, subst (λ (l : List ℕ). IsRequest l r behind) (sym e) is, inl (shut, refl, refl))
+Splits-closed s (q ∷ rs) rest r behind (middle, was, before, later) is shut = (middle, was, inr (before, Splits-closed middle rs rest r behind later is shut))
+
+replies_snoc : {H : Type 0} (conduct : Conduct H) (a b c : H) (rs : List Request) (r : Request) (bytes : List ℕ) (answer : Answer) → AreReplies conduct a rs bytes b → conduct.answers b r answer c
+    → AreReplies conduct a (rs ++ r ∷ []) (bytes ++ reply_text answer (closes r)) c
+replies_snoc conduct a b c [] r bytes answer (e, same) is =
+    (c, answer, [], subst (λ x. conduct.answers x r answer c) (sym same) is, ap (λ (l : List ℕ). l ++ reply_text answer (closes r)) e ∙ sym (append-nil (reply_text answer (closes r))), (refl, refl))
+replies_snoc conduct a b c (q ∷ rs) r bytes answer (mid, first, later, was, e, rest) is =
+    (mid, first, later ++ reply_text answer (closes r), was, ap (λ (l : List ℕ). l ++ reply_text answer (closes r)) e ∙ append_assoc (reply_text first (closes q)) later (reply_text answer (closes r)), replies_snoc conduct mid b c rs r later answer rest is)
+
+-- ---- what the loop keeps
+
+-- what was read of the stream is the requests that were answered, and what is held
+pub record IsServing {H : Type 0} (conduct : Conduct H) (o : Outside H) (stream : List ℕ) (left : Option (List ℕ)) (held : List ℕ) (count : ℕ) : Type 0 where
+  pub read : List ℕ
+  pub consumed : Consumes (Some stream) left read
+  pub before : AnswersFront conduct o read held count
+
+pub if_some : {A : Type 0} (o : Option A) (P Q : A → Type 0) → ((x : A) → P x → Q x) → IfSome o P → IfSome o Q
+if_some None P Q f h = tt
+if_some (Some x) P Q f h = f x h
+
+pub begins : {H : Type 0} (conduct : Conduct H) (h : H) (t input : Option (List ℕ)) → IfSome input (λ s. IsServing conduct (record { handler = h; handler_after = h; taken = t; taken_after = t }) s input [] 0)
+begins conduct h t None = tt
+begins conduct h t (Some s) = record {
+  read = [];
+  consumed = refl;
+  before = record { requests = []; replies = []; fronts = refl; answered = (refl, refl); written = Appends-nil t; counts = refl };
+}
+
+front_append : {H : Type 0} (conduct : Conduct H) (o : Outside H) (s rest more : List ℕ) (count : ℕ) → AnswersFront conduct o s rest count → AnswersFront conduct o (s ++ more) (rest ++ more) count
+front_append conduct o s rest more count f = record {
+  requests = f.requests;
+  replies = f.replies;
+  fronts = Fronts-append s f.requests rest more f.fronts;
+  answered = f.answered;
+  written = f.written;
+  counts = f.counts;
+}
+
+-- a piece came
+pub comes : {H : Type 0} (conduct : Conduct H) (o : Outside H) (stream : List ℕ) (mid after : Option (List ℕ)) (held held_after : List ℕ) (count : ℕ) → IsServing conduct o stream mid held count
+    → ComesIn held held_after mid after → IsServing conduct o stream after held_after count
+comes conduct o stream mid after held held_after count s c = record {
+  read = s.read ++ c.piece;
+  consumed = Consumes-trans (Some stream) mid after s.read c.piece s.consumed c.consumed;
+  before = subst (λ (l : List ℕ). AnswersFront conduct o (s.read ++ c.piece) l count) (sym c.kept) (front_append conduct o s.read held c.piece count s.before);
+}
+
+brought : {H : Type 0} (conduct : Conduct H) (o : Outside H) (stream : List ℕ) (mid after : Option (List ℕ)) (held came more : List ℕ) (count : ℕ) → IsServing conduct o stream mid held count
+    → mid ≡ Some (came ++ more) → after ≡ Some more → IsServing conduct o stream after (held ++ came) count
+brought conduct o stream mid after held came more count s before behind = comes conduct o stream mid after held (held ++ came) count s (record {
+  piece = came;
+  consumed = subst (λ (k : Option (List ℕ)). Consumes k after came) (sym before) (subst (λ (k : Option (List ℕ)). Consumes (Some (came ++ more)) k came) (sym behind) refl);
+  kept = refl;
+})
+
+-- what is left of the reader goes on from what was read
+whole : (s : List ℕ) (left : Option (List ℕ)) (read : List ℕ) → Consumes (Some s) left read → (more : List ℕ) × (left ≡ Some more) × (s ≡ read ++ more)
+whole s None read c = absurd c
+whole s (Some more) read c = (more, refl, c)
+
+counted_more : (n count after : ℕ) → count ≡ counted n → after ≡ counted (count + 1) → after ≡ counted (n + 1)
+counted_more n count after e f = omega arith
+
+count_snoc : (rs : List Request) (r : Request) (count after : ℕ) → count ≡ counted (length rs) → after ≡ counted (count + 1) → after ≡ counted (length (rs ++ r ∷ []))
+count_snoc rs r count after e f = counted_more (length rs) count after e f ∙ ap counted (sym (length-append rs (r ∷ [])))
+
+-- a request was answered, and the stream goes on
+answered_open : {H : Type 0} (conduct : Conduct H) (a b c : H) (t u v : Option (List ℕ)) (stream : List ℕ) (left : Option (List ℕ)) (held behind : List ℕ) (count count_after : ℕ)
+    → IsServing conduct (record { handler = a; handler_after = b; taken = t; taken_after = u }) stream left held count
+    → IsReplied conduct b c held behind u v false → count_after ≡ counted (count + 1)
+    → IsServing conduct (record { handler = a; handler_after = c; taken = t; taken_after = v }) stream left behind count_after
+answered_open conduct a b c t u v stream left held behind count count_after s r counts = record {
+  read = s.read;
+  consumed = s.consumed;
+  before = record {
+    requests = s.before.requests ++ r.request ∷ [];
+    replies = s.before.replies ++ reply_text r.answer (closes r.request);
+    fronts = Fronts-snoc s.read s.before.requests held r.request behind s.before.fronts r.is r.closes_so;
+    answered = replies_snoc conduct a b c s.before.requests r.request s.before.replies r.answer s.before.answered r.answered;
+    written = Appends-trans t u v s.before.replies (reply_text r.answer (closes r.request)) s.before.written r.written;
+    counts = count_snoc s.before.requests r.request count count_after s.before.counts counts;
+  };
+}
+
+-- one step of the loop
+pub steps_open : {H : Type 0} (conduct : Conduct H) (a b c : H) (t u v : Option (List ℕ)) (stream : List ℕ) (mid after : Option (List ℕ)) (held behind left : List ℕ) (count count_after : ℕ)
+    → IsServing conduct (record { handler = a; handler_after = b; taken = t; taken_after = u }) stream mid held count
+    → Steps conduct (record { a = b; b = c; input = mid; input_after = after }) held behind u v answered.Open → count_after ≡ counted (count + 1) → left ≡ behind
+    → IsServing conduct (record { handler = a; handler_after = c; taken = t; taken_after = v }) stream after left count_after
+steps_open conduct a b c t u v stream mid after held behind left count count_after s step counts same =
+    subst (λ (l : List ℕ). IsServing conduct (record { handler = a; handler_after = c; taken = t; taken_after = v }) stream after l count_after) (sym same)
+    (answered_open conduct a b c t u v stream after (held ++ step.came) behind count count_after (brought conduct _ stream mid after held step.came step.more count s step.before step.after) step.is counts)
+
+-- ---- the ends
+
+-- the front that was answered, as a front of the whole stream
+front_of : {H : Type 0} (conduct : Conduct H) (o : Outside H) (stream : List ℕ) (left : Option (List ℕ)) (held more : List ℕ) (count : ℕ) → IsServing conduct o stream left held count → left ≡ Some more
+    → AnswersFront conduct o stream (held ++ more) count
+front_of conduct o stream left held more count s e =
+    subst (λ (l : List ℕ). AnswersFront conduct o l (held ++ more) count) (sym (subst (λ (k : Option (List ℕ)). Consumes (Some stream) k s.read) e s.consumed)) (front_append conduct o s.read held more count s.before)
+
+all_answered : {H : Type 0} (conduct : Conduct H) (a b c : H) (t u v : Option (List ℕ)) (stream rest : List ℕ) (ending : Ending) (tail : List ℕ) (count : ℕ)
+    → AnswersFront conduct (record { handler = a; handler_after = b; taken = t; taken_after = u }) stream rest count → Ends rest ending → RestsBehind conduct ending b c → Appends u v tail
+    → AnswersAll conduct (record { handler = a; handler_after = c; taken = t; taken_after = v }) stream ending tail count
+all_answered conduct a b c t u v stream rest ending tail count f ends rests written = record {
+  requests = f.requests;
+  replies = f.replies;
+  last = b;
+  splits = Splits-end stream f.requests rest ending f.fronts ends;
+  answered = f.answered;
+  rests = rests;
+  written = Appends-trans t u v f.replies tail f.written written;
+  counts = f.counts;
+}
+
+pub ends_clean : {H : Type 0} (conduct : Conduct H) (a b : H) (t u : Option (List ℕ)) (stream : List ℕ) (left : Option (List ℕ)) (held : List ℕ) (count : ℕ)
+    → IsServing conduct (record { handler = a; handler_after = b; taken = t; taken_after = u }) stream left held count
+    → IsAtEnd left → IsLeftover held → AnswersAll conduct (record { handler = a; handler_after = b; taken = t; taken_after = u }) stream clean [] count
+ends_clean conduct a b t u stream left held count s end rest =
+    let w = whole stream left s.read s.consumed in
+    let none : w.0 ≡ [] = subst IsAtEnd w.1 end in
+    all_answered conduct a b b t u u stream held clean [] count
+    (subst (λ (l : List ℕ). AnswersFront conduct (record { handler = a; handler_after = b; taken = t; taken_after = u }) stream l count) (ap (λ (l : List ℕ). held ++ l) none ∙ append-nil held) (front_of conduct _ stream left held w.0 count s w.1))
+    rest refl (Appends-nil u)
+
+pub steps_closed : {H : Type 0} (conduct : Conduct H) (a b c : H) (t u v : Option (List ℕ)) (stream : List ℕ) (mid after : Option (List ℕ)) (held behind : List ℕ) (count count_after : ℕ)
+    → IsServing conduct (record { handler = a; handler_after = b; taken = t; taken_after = u }) stream mid held count
+    → Steps conduct (record { a = b; b = c; input = mid; input_after = after }) held behind u v answered.Closed → count_after ≡ counted (count + 1)
+    → AnswersAll conduct (record { handler = a; handler_after = c; taken = t; taken_after = v }) stream closed [] count_after
+steps_closed conduct a b c t u v stream mid after held behind count count_after s step counts =
+    let f = front_of conduct _ stream after (held ++ step.came) step.more count (brought conduct _ stream mid after held step.came step.more count s step.before step.after) step.after in
+    let r = step.is in
+    record {
+      requests = f.requests ++ r.request ∷ [];
+      replies = f.replies ++ reply_text r.answer (closes r.request);
+      last = c;
+      splits = Splits-closed stream f.requests ((held ++ step.came) ++ step.more) r.request (behind ++ step.more) f.fronts (IsRequest-append (held ++ step.came) r.request behind step.more r.is) r.closes_so;
+      answered = replies_snoc conduct a b c f.requests r.request f.replies r.answer f.answered r.answered;
+      rests = refl;
+      written = subst (Appends t v) (sym (append-nil (f.replies ++ reply_text r.answer (closes r.request)))) (Appends-trans t u v f.replies (reply_text r.answer (closes r.request)) f.written r.written);
+      counts = count_snoc f.requests r.request count count_after f.counts counts;
+    }
+
+rests_same : {H : Type 0} (conduct : Conduct H) (fault : StreamFault) (a : H) → RestsBehind conduct (faulty fault) a a
+rests_same conduct BadHead a = refl
+rests_same conduct Encoding a = refl
+rests_same conduct BodyTooLong a = refl
+rests_same conduct BodyShort a = inl refl
+
+breaks_off : {H : Type 0} (conduct : Conduct H) (next : H → List ℕ → List ℕ → H → Type 0) (a b c : H) (t u v : Option (List ℕ)) (stream rest bytes : List ℕ) (count : ℕ)
+    → AnswersFront conduct (record { handler = a; handler_after = b; taken = t; taken_after = u }) stream rest count → next b rest bytes c → WritesFront u v bytes
+    → BreaksOff next conduct (record { handler = a; handler_after = c; taken = t; taken_after = v }) stream count
+breaks_off conduct next a b c t u v stream rest bytes count f is written = record { rest = rest; mid = b; taken = u; before = f; bytes = bytes; next_is = is; written = written }
+
+-- what stands at the front is refused
+refused : {H : Type 0} (conduct : Conduct H) (a b : H) (t u v : Option (List ℕ)) (stream rest : List ℕ) (left : Option (List ℕ)) (count : ℕ) (fault : StreamFault) (end : StreamEnd)
+    → AnswersFront conduct (record { handler = a; handler_after = b; taken = t; taken_after = u }) stream rest count → HasFault rest fault → IsRefused fault u v end
+    → IsServed conduct (record { handler = a; handler_after = b; taken = t; taken_after = v }) stream left end count
+refused conduct a b t u v stream rest left count fault HeadFault f has (kind, written) = (fault, kind, all_answered conduct a b b t u v stream rest (faulty fault) _ count f has (rests_same conduct fault b) written)
+refused conduct a b t u v stream rest left count fault BodyFault f has (kind, written) = (fault, kind, all_answered conduct a b b t u v stream rest (faulty fault) _ count f has (rests_same conduct fault b) written)
+refused conduct a b t u v stream rest left count fault WriteFault f has written =
+    breaks_off conduct (IsWrittenNext conduct) a b b t u v stream rest _ count f (inr (inr (fault, has, refl, rests_same conduct fault b))) written
+refused conduct a b t u v stream rest left count fault Clean f has r = absurd r
+refused conduct a b t u v stream rest left count fault Closed f has r = absurd r
+refused conduct a b t u v stream rest left count fault ReadFault f has r = absurd r
+refused conduct a b t u v stream rest left count fault StoreFault f has r = absurd r
+refused conduct a b t u v stream rest left count fault Memory f has r = absurd r
+refused conduct a b t u v stream rest left count fault TurnsSpent f has r = absurd r
+
+pub ends_refused : {H : Type 0} (conduct : Conduct H) (a b : H) (t u v : Option (List ℕ)) (stream : List ℕ) (left : Option (List ℕ)) (held : List ℕ) (count : ℕ) (fault : StreamFault) (end : StreamEnd)
+    → IsServing conduct (record { handler = a; handler_after = b; taken = t; taken_after = u }) stream left held count
+    → IfSome left (λ more. HasFault (held ++ more) fault) → IsRefused fault u v end
+    → IsServed conduct (record { handler = a; handler_after = b; taken = t; taken_after = v }) stream left end count
+ends_refused conduct a b t u v stream left held count fault end s has r =
+    let w = whole stream left s.read s.consumed in
+    refused conduct a b t u v stream (held ++ w.0) left count fault end (front_of conduct _ stream left held w.0 count s w.1) (subst (λ (k : Option (List ℕ)). IfSome k (λ more. HasFault (held ++ more) fault)) w.1 has) r
+
+stops_reading : {H : Type 0} (conduct : Conduct H) (a b c : H) (t u v : Option (List ℕ)) (stream : List ℕ) (left : Option (List ℕ)) (held : List ℕ) (count : ℕ)
+    → IsServing conduct (record { handler = a; handler_after = b; taken = t; taken_after = u }) stream left held count
+    → StandsStill conduct b c → HasNoRequest held → v ≡ u
+    → StopsReading conduct (record { handler = a; handler_after = c; taken = t; taken_after = v }) stream left count
+stops_reading conduct a b c t u v stream left held count s stands none same = record {
+  read = s.read;
+  consumed = s.consumed;
+  rest = held;
+  last = b;
+  before = subst (λ (k : Option (List ℕ)). AnswersFront conduct (record { handler = a; handler_after = b; taken = t; taken_after = k }) s.read held count) (sym same) s.before;
+  stands = stands;
+  none = none;
+}
+
+lacks_memory : {H : Type 0} (conduct : Conduct H) (a b c : H) (t u v : Option (List ℕ)) (stream rest : List ℕ) (count : ℕ)
+    → AnswersFront conduct (record { handler = a; handler_after = b; taken = t; taken_after = u }) stream rest count
+    → StandsStill conduct b c ⊎ ((request : Request) × (behind : List ℕ) × IsRequest rest request behind × conduct.leaves b request c) → v ≡ u
+    → LacksMemory conduct (record { handler = a; handler_after = c; taken = t; taken_after = v }) stream count
+lacks_memory conduct a b c t u v stream rest count f after same = record {
+  rest = rest;
+  mid = b;
+  before = subst (λ (k : Option (List ℕ)). AnswersFront conduct (record { handler = a; handler_after = b; taken = t; taken_after = k }) stream rest count) (sym same) f;
+  after = after;
+}
+
+-- reading stops at a head
+pub ends_stopped : {H : Type 0} (conduct : Conduct H) (a b : H) (t u : Option (List ℕ)) (stream : List ℕ) (left : Option (List ℕ)) (held : List ℕ) (count : ℕ) (stop : Stop)
+    → IsServing conduct (record { handler = a; handler_after = b; taken = t; taken_after = u }) stream left held count → HasNoRequest held
+    → IsServed conduct (record { handler = a; handler_after = b; taken = t; taken_after = u }) stream left (stop_end stop) count
+ends_stopped conduct a b t u stream left held count stops.ReadFault s none = stops_reading conduct a b b t u u stream left held count s (inl refl) none refl
+ends_stopped conduct a b t u stream left held count stops.TurnsSpent s none = stops_reading conduct a b b t u u stream left held count s (inl refl) none refl
+ends_stopped conduct a b t u stream left held count stops.Memory s none =
+    let w = whole stream left s.read s.consumed in
+    lacks_memory conduct a b b t u u stream (held ++ w.0) count (front_of conduct _ stream left held w.0 count s w.1) (inl (inl refl)) refl
+
+within : {H : Type 0} (conduct : Conduct H) (a b c : H) (t u v : Option (List ℕ)) (stream : List ℕ) (left : Option (List ℕ)) (came more : List ℕ) (count : ℕ) (end : StreamEnd)
+    → IsServing conduct (record { handler = a; handler_after = b; taken = t; taken_after = u }) stream left came count → left ≡ Some more
+    → EndsWithin conduct b c came (came ++ more) u v end
+    → IsServed conduct (record { handler = a; handler_after = c; taken = t; taken_after = v }) stream left end count
+within conduct a b c t u v stream left came more count StoreFault s e (bytes, is, written) = breaks_off conduct (IsReplyNext conduct) a b c t u v stream (came ++ more) bytes count (front_of conduct _ stream left came more count s e) is written
+within conduct a b c t u v stream left came more count WriteFault s e (bytes, is, written) = breaks_off conduct (IsWrittenNext conduct) a b c t u v stream (came ++ more) bytes count (front_of conduct _ stream left came more count s e) is written
+within conduct a b c t u v stream left came more count BodyFault s e (has, stands, written) =
+    (BodyShort, refl, all_answered conduct a b c t u v stream (came ++ more) (faulty BodyShort) _ count (front_of conduct _ stream left came more count s e) has stands written)
+within conduct a b c t u v stream left came more count ReadFault s e (stands, none, same) = stops_reading conduct a b c t u v stream left came count s stands none same
+within conduct a b c t u v stream left came more count TurnsSpent s e (stands, none, same) = stops_reading conduct a b c t u v stream left came count s stands none same
+within conduct a b c t u v stream left came more count Memory s e (after, same) = lacks_memory conduct a b c t u v stream (came ++ more) count (front_of conduct _ stream left came more count s e) after same
+within conduct a b c t u v stream left came more count Clean s e r = absurd r
+within conduct a b c t u v stream left came more count Closed s e r = absurd r
+within conduct a b c t u v stream left came more count HeadFault s e r = absurd r
+
+-- the stream ends within a request
+pub steps_ended : {H : Type 0} (conduct : Conduct H) (a b c : H) (t u v : Option (List ℕ)) (stream : List ℕ) (mid after : Option (List ℕ)) (held behind : List ℕ) (count : ℕ) (end : StreamEnd)
+    → IsServing conduct (record { handler = a; handler_after = b; taken = t; taken_after = u }) stream mid held count
+    → Steps conduct (record { a = b; b = c; input = mid; input_after = after }) held behind u v (answered.Ended end)
+    → IsServed conduct (record { handler = a; handler_after = c; taken = t; taken_after = v }) stream after end count
+steps_ended conduct a b c t u v stream mid after held behind count end s step =
+    within conduct a b c t u v stream after (held ++ step.came) step.more count end (brought conduct _ stream mid after held step.came step.more count s step.before step.after) step.after step.is
+
+-- ---- as the loop calls them: what was served so far, what came for a head, and then the step or the end
+
+-- a fact that hangs on known bytes, where they are known
+where_known : (o : Option (List ℕ)) (P : Type 0) (s read : List ℕ) → Consumes (Some s) o read → IfSome o (λ _. P) → P
+where_known None P s read c p = absurd c
+where_known (Some x) P s read c p = p
+
+pub loop_nothing : {H : Type 0} (conduct : Conduct H) (a b : H) (t u input mid left : Option (List ℕ)) (held after : List ℕ) (count : ℕ)
+    → IfSome input (λ s. IsServing conduct (record { handler = a; handler_after = b; taken = t; taken_after = u }) s mid held count) → ComesIn held after mid left → IsAtEnd left × IsLeftover after
+    → IfSome input (λ s. IsServed conduct (record { handler = a; handler_after = b; taken = t; taken_after = u }) s left Clean count)
+loop_nothing conduct a b t u input mid left held after count serving c (end, rest) =
+    if_some input _ _ (λ s x. ends_clean conduct a b t u s left after count (comes conduct _ s mid left held after count x c) end rest) serving
+
+pub loop_faulty : {H : Type 0} (conduct : Conduct H) (a b : H) (t u v input mid left : Option (List ℕ)) (held after : List ℕ) (count : ℕ) (fault : StreamFault) (end : StreamEnd)
+    → IfSome input (λ s. IsServing conduct (record { handler = a; handler_after = b; taken = t; taken_after = u }) s mid held count) → ComesIn held after mid left
+    → IfSome left (λ more. HasFault (after ++ more) fault) → IsRefused fault u v end
+    → IfSome input (λ s. IsServed conduct (record { handler = a; handler_after = b; taken = t; taken_after = v }) s left end count)
+loop_faulty conduct a b t u v input mid left held after count fault end serving c has r =
+    if_some input _ _ (λ s x. ends_refused conduct a b t u v s left after count fault end (comes conduct _ s mid left held after count x c) has r) serving
+
+pub loop_stopped : {H : Type 0} (conduct : Conduct H) (a b : H) (t u input mid left : Option (List ℕ)) (held after : List ℕ) (count : ℕ) (stop : Stop)
+    → IfSome input (λ s. IsServing conduct (record { handler = a; handler_after = b; taken = t; taken_after = u }) s mid held count) → ComesIn held after mid left → HasNoRequest after
+    → IfSome input (λ s. IsServed conduct (record { handler = a; handler_after = b; taken = t; taken_after = u }) s left (stop_end stop) count)
+loop_stopped conduct a b t u input mid left held after count stop serving c none =
+    if_some input _ _ (λ s x. ends_stopped conduct a b t u s left after count stop (comes conduct _ s mid left held after count x c) none) serving
+
+pub loop_open : {H : Type 0} (conduct : Conduct H) (a b c : H) (t u v input mid read left : Option (List ℕ)) (held after lent kept : List ℕ) (n count count_after : ℕ)
+    → IfSome input (λ s. IsServing conduct (record { handler = a; handler_after = b; taken = t; taken_after = u }) s mid held count) → ComesIn held after mid read → lent ≡ after
+    → IfSome read (λ _. Steps conduct (record { a = b; b = c; input = read; input_after = left }) lent (drop n lent) u v answered.Open) → count_after ≡ counted (count + 1) → kept ≡ drop n after
+    → IfSome input (λ s. IsServing conduct (record { handler = a; handler_after = c; taken = t; taken_after = v }) s left kept count_after)
+loop_open conduct a b c t u v input mid read left held after lent kept n count count_after serving came same step counts rest =
+    if_some input _ _ (λ s x.
+    let y = subst (λ (l : List ℕ). IsServing conduct (record { handler = a; handler_after = b; taken = t; taken_after = u }) s read l count) (sym same) (comes conduct _ s mid read held after count x came) in
+    steps_open conduct a b c t u v s read left lent (drop n lent) kept count count_after y (where_known read _ s y.read y.consumed step) counts (rest ∙ ap (drop n) (sym same))) serving
+
+pub loop_closed : {H : Type 0} (conduct : Conduct H) (a b c : H) (t u v input mid read left : Option (List ℕ)) (held after lent behind : List ℕ) (count count_after : ℕ)
+    → IfSome input (λ s. IsServing conduct (record { handler = a; handler_after = b; taken = t; taken_after = u }) s mid held count) → ComesIn held after mid read → lent ≡ after
+    → IfSome read (λ _. Steps conduct (record { a = b; b = c; input = read; input_after = left }) lent behind u v answered.Closed) → count_after ≡ counted (count + 1)
+    → IfSome input (λ s. IsServed conduct (record { handler = a; handler_after = c; taken = t; taken_after = v }) s left Closed count_after)
+loop_closed conduct a b c t u v input mid read left held after lent behind count count_after serving came same step counts =
+    if_some input _ _ (λ s x.
+    let y = subst (λ (l : List ℕ). IsServing conduct (record { handler = a; handler_after = b; taken = t; taken_after = u }) s read l count) (sym same) (comes conduct _ s mid read held after count x came) in
+    steps_closed conduct a b c t u v s read left lent behind count count_after y (where_known read _ s y.read y.consumed step) counts) serving
+
+pub loop_ended : {H : Type 0} (conduct : Conduct H) (a b c : H) (t u v input mid read left : Option (List ℕ)) (held after lent behind : List ℕ) (count : ℕ) (end : StreamEnd)
+    → IfSome input (λ s. IsServing conduct (record { handler = a; handler_after = b; taken = t; taken_after = u }) s mid held count) → ComesIn held after mid read → lent ≡ after
+    → IfSome read (λ _. Steps conduct (record { a = b; b = c; input = read; input_after = left }) lent behind u v (answered.Ended end))
+    → IfSome input (λ s. IsServed conduct (record { handler = a; handler_after = c; taken = t; taken_after = v }) s left end count)
+loop_ended conduct a b c t u v input mid read left held after lent behind count end serving came same step =
+    if_some input _ _ (λ s x.
+    let y = subst (λ (l : List ℕ). IsServing conduct (record { handler = a; handler_after = b; taken = t; taken_after = u }) s read l count) (sym same) (comes conduct _ s mid read held after count x came) in
+    steps_ended conduct a b c t u v s read left lent behind count end y (where_known read _ s y.read y.consumed step)) serving

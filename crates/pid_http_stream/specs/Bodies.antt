@@ -1,0 +1,68 @@
+-- Serves private functions alone; no promise rests on it.
+-- A reader of a request's body, and what reads leave of it.
+use Rattle.std.specs.Prelude.{◌≡◌, ℕ, zero, suc, ◌+◌, ◌-◌, ◌^◌, ◌<◌, ◌≤◌, List, [], ◌∷◌, ◌++◌, length, Option, Some, None, IfSome, IsSome}
+use Rattle.std.specs.Io.KnownBytes.{Consumes, IsAtEnd}
+use Rattle.pid_ident.specs.declared.io.ReadFault.{ReadFault}
+use Rattle.pid_ident.specs.declared.io.ReadFault.TheVariants.{Device}
+use Rattle.pid_ident.specs.Reading.{StaysKept}
+use Rattle.pid_http_stream.specs.declared.body_input.BodyFault.{BodyFault}
+use Rattle.pid_http_stream.specs.declared.body_input.BodyFault.TheVariants as faults
+
+-- the first n bytes, with zeros for those that are missing: a body that is short never comes to its end, for its reader
+-- fails where they would stand
+abbrev pub padded : ℕ → List ℕ → List ℕ
+padded zero bytes = []
+padded (suc n) [] = 0 ∷ padded n []
+padded (suc n) (b ∷ bytes) = b ∷ padded n bytes
+
+-- the reader of a body has a fault of its own for each of its reasons
+abbrev pub fault_told : Option BodyFault → Option ReadFault
+fault_told None = None
+fault_told (Some fault) = Some Device
+
+-- how often the reader was read and how often it may still be
+pub record Turns : Type 0 where
+  pub reads : ℕ
+  pub left : ℕ
+
+-- turns are spent on reads, one for each, as far as the reader counts
+pub record SpendsTurns (a b : Turns) : Type 0 where
+  pub spent : b.reads + b.left ≤ a.reads + a.left
+  pub exact : a.reads + a.left ≤ 2 ^ 64 - 1 → b.reads + b.left ≡ a.reads + a.left
+  pub fewer : b.left ≤ a.left
+
+-- the reader of a body: what came with the head, how many bytes are wanted, its fault, and the reader under it
+pub record BodyState : Type 0 where
+  pub held : List ℕ
+  pub wanted : ℕ
+  pub fault : Option BodyFault
+  pub to_come : Option (List ℕ)
+  pub kept : Option ReadFault
+  pub turns : Turns
+
+-- why there is this fault
+abbrev pub IsCauseOf : BodyFault → BodyState → Type 0
+IsCauseOf faults.Short s = IsAtEnd s.to_come
+IsCauseOf faults.ReadFault s = IsSome s.kept
+IsCauseOf faults.TurnsSpent s = s.turns.left ≡ 0
+
+-- where there is a fault bytes are still wanted, and none are held
+pub record HasBrokenOff (s : BodyState) (fault : BodyFault) : Type 0 where
+  pub wants : 0 < s.wanted
+  pub none_held : s.held ≡ []
+  pub cause : IsCauseOf fault s
+
+-- a fault has its cause
+abbrev pub IsTold : BodyState → Type 0
+IsTold s = IfSome s.fault (HasBrokenOff s)
+
+-- bytes were used from the front: those that were held, and those that came
+pub record HasReadBody (a b : BodyState) : Type 0 where
+  pub used : List ℕ
+  pub came : List ℕ
+  pub consumed : Consumes a.to_come b.to_come came
+  pub given : a.held ++ came ≡ used ++ b.held
+  pub counted : length used + b.wanted ≡ a.wanted
+  pub turns : SpendsTurns a.turns b.turns
+  pub fault : StaysKept a.fault b.fault
+  pub told : IsTold a → IsTold b

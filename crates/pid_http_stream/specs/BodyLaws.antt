@@ -1,0 +1,51 @@
+-- Proofs alone, no definitions: the laws that the reader of a body gives for `stays` and `joins` of `Input`.
+use Rattle.std.proofs.Common.{◌≡◌, ℕ, List, [], ◌++◌, Option, Some, None, length, refl, sym, ap, ◌∙◌, append_assoc, length-append, arith}
+use Rattle.std.specs.Io.KnownBytes.{Consumes}
+use Rattle.std.proofs.lemmas.List.{append-nil}
+use Rattle.std.proofs.KnownBytes.{Consumes-nil, Consumes-trans}
+use Rattle.pid_ident.specs.Reading.{StaysKept}
+use Rattle.pid_http_stream.specs.Bodies.{Turns, SpendsTurns, BodyState, HasReadBody}
+use Rattle.pid_http_stream.specs.declared.body_input.BodyFault.{BodyFault}
+
+pub no_turns : (a : Turns) → SpendsTurns a a
+no_turns a = record { spent = omega arith; exact = λ h. refl; fewer = omega arith }
+
+pub more_turns : (a b c : Turns) → SpendsTurns a b → SpendsTurns b c → SpendsTurns a c
+more_turns a b c p q = record {
+  spent = omega (arith, p.spent, q.spent);
+  exact = λ h. let e = p.exact h in q.exact (omega (arith, e, h)) ∙ e;
+  fewer = omega (arith, p.fewer, q.fewer);
+}
+
+pub stays_kept : (f : Option BodyFault) → StaysKept f f
+stays_kept None = tt
+stays_kept (Some f) = refl
+
+kept_then : (f g h : Option BodyFault) → StaysKept f g → StaysKept g h → StaysKept f h
+kept_then None g h p q = tt
+kept_then (Some x) None h p q = absurd cc
+kept_then (Some x) (Some y) h p q = q ∙ p
+
+pub no_body_reads : (s : BodyState) → HasReadBody s s
+no_body_reads s = record {
+  used = [];
+  came = [];
+  consumed = Consumes-nil s.to_come;
+  given = append-nil s.held;
+  counted = omega arith;
+  turns = no_turns s.turns;
+  fault = stays_kept s.fault;
+  told = λ h. h;
+}
+
+pub more_body_reads : (a b c : BodyState) → HasReadBody a b → HasReadBody b c → HasReadBody a c
+more_body_reads a b c p q = record {
+  used = p.used ++ q.used;
+  came = p.came ++ q.came;
+  consumed = Consumes-trans a.to_come b.to_come c.to_come p.came q.came p.consumed q.consumed;
+  given = sym (append_assoc a.held p.came q.came) ∙ ap (λ (l : List ℕ). l ++ q.came) p.given ∙ append_assoc p.used b.held q.came ∙ ap (λ (l : List ℕ). p.used ++ l) q.given ∙ sym (append_assoc p.used q.used c.held);
+  counted = omega (arith, length-append p.used q.used, p.counted, q.counted);
+  turns = more_turns a.turns b.turns c.turns p.turns q.turns;
+  fault = kept_then a.fault b.fault c.fault p.fault q.fault;
+  told = λ h. q.told (p.told h);
+}

@@ -1,0 +1,27 @@
+-- What a handler of requests may do, over its own states: the relations that each handler tells of itself.
+use Rattle.std.specs.Prelude.{◌≡◌, ℕ, ◌⊎◌, List, [], ◌∷◌, ◌++◌}
+use Rattle.pid_http_stream.specs.Replies.{Answer, reply_text}
+use Rattle.pid_http_stream.specs.Requests.{Request}
+use Rattle.pid_http_stream.specs.Streams.{closes}
+use Rattle.pid_http_stream.specs.declared.reply.ReplyHead.{ReplyHead}
+
+-- answers: how it may answer a request, and its state behind that
+-- leaves: its state where a reply to a whole request lacks memory
+-- gives_up: its state where it was asked and gave the request up, whose body it did not get whole
+-- promises: what it may say of a body that it is to write itself, to a request, behind this head, so many bytes; and its state
+pub record Conduct (H : Type 0) : Type 1 where
+  pub answers : H → Request → Answer → H → Type 0
+  pub leaves : H → Request → H → Type 0
+  pub gives_up : H → H → Type 0
+  pub promises : H → Request → ReplyHead → ℕ → H → Type 0
+
+-- no request was answered: it was not asked, or gave the request up
+abbrev pub StandsStill : {H : Type 0} → Conduct H → H → H → Type 0
+StandsStill conduct a b = (a ≡ b) ⊎ conduct.gives_up a b
+
+-- the replies to requests one after another, from one state to another
+abbrev pub AreReplies : {H : Type 0} → Conduct H → H → List Request → List ℕ → H → Type 0
+AreReplies conduct a [] bytes b = (bytes ≡ []) × (a ≡ b)
+AreReplies {H} conduct a (request ∷ requests) bytes b =
+    (mid : H) × (answer : Answer) × (later : List ℕ) × conduct.answers a request answer mid
+    × (bytes ≡ reply_text answer (closes request) ++ later) × AreReplies conduct mid requests later b

@@ -1,0 +1,39 @@
+-- What is refused at the front of a stream where neither a request nor a leftover stands there: choices of this project.
+use Rattle.std.specs.Prelude.{◌≡◌, ℕ, ◌<◌, ◌⊎◌, List, length}
+use Rattle.httparse.specs.Grammar.{RequestHead}
+use Rattle.pid_http_stream.specs.BodyLengths.{body_length}
+use Rattle.pid_http_stream.specs.Heads.{HasHead, HasNoHead}
+use Rattle.pid_http_stream.specs.Leftovers.{IsLeftover}
+use Rattle.pid_http_stream.specs.Requests.{fields_of}
+use Rattle.pid_http_stream.specs.declared.body_length.BodyLength.{BodyLength}
+use Rattle.pid_http_stream.specs.declared.body_length.BodyLength.TheVariants.{Encoded, Bad, TooLong, Bytes}
+use Rattle.pid_http_stream.specs.declared.judging.StreamFault.{StreamFault}
+use Rattle.pid_http_stream.specs.declared.judging.StreamFault.TheVariants.{BadHead, Encoding, BodyTooLong, BodyShort}
+
+-- a head stands at the front, and says this of its body
+pub record Says (stream : List ℕ) (said : BodyLength) : Type 0 where
+  pub head : RequestHead
+  pub rest : List ℕ
+  pub has : HasHead stream head rest
+  pub says : body_length (fields_of head) ≡ said
+
+-- the stream ends within the body
+pub record IsShort (stream : List ℕ) : Type 0 where
+  pub head : RequestHead
+  pub rest : List ℕ
+  pub has : HasHead stream head rest
+  pub wanted : ℕ
+  pub says : body_length (fields_of head) ≡ Bytes wanted
+  pub short : length rest < wanted
+
+-- there is something, and it is no head
+pub record IsNoHead (stream : List ℕ) : Type 0 where
+  pub none : HasNoHead stream
+  pub some : ¬ (IsLeftover stream)
+
+-- the stream has this fault at its front
+abbrev pub HasFault : List ℕ → StreamFault → Type 0
+HasFault stream BadHead = IsNoHead stream ⊎ Says stream Bad
+HasFault stream Encoding = Says stream Encoded
+HasFault stream BodyTooLong = Says stream TooLong
+HasFault stream BodyShort = IsShort stream

@@ -1,0 +1,22 @@
+-- The head of a request at the front of a stream, by the grammar of RFC 9112, sections 2 to 5, as `httparse` keeps it. The two
+-- limits are choices of this project.
+use Rattle.std.specs.Prelude.{ℕ, ◌≤◌, List, length}
+use Rattle.httparse.specs.Grammar.{RequestHead, ReadsRequest, print_request}
+
+-- the most fields of a head
+abbrev pub most_fields : ℕ
+most_fields = 32
+
+-- the longest head, in bytes, with the empty lines before it
+abbrev pub longest_head : ℕ
+longest_head = 16384
+
+-- the stream is this head, and then the rest
+pub record HasHead (stream : List ℕ) (head : RequestHead) (rest : List ℕ) : Type 0 where
+  pub reads : ReadsRequest stream head rest
+  pub few : length head.fields ≤ most_fields
+  pub short : length (print_request head) ≤ longest_head
+
+-- no head stands at the front
+abbrev pub HasNoHead : List ℕ → Type 0
+HasNoHead stream = (head : RequestHead) (rest : List ℕ) → ¬ (HasHead stream head rest)

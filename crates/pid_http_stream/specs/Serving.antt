@@ -1,0 +1,128 @@
+-- What is read and written where the requests of a stream are answered in turn, by each way in which that may end.
+use Rattle.std.specs.Prelude.{◌≡◌, ℕ, ◌-◌, ◌^◌, ◌≤◌, ◌⊎◌, min, Bool, true, false, List, [], ◌++◌, length, take, Option, Some}
+use Rattle.std.specs.Io.KnownBytes.{Appends, Consumes}
+use Rattle.pid_http_stream.specs.Conducts.{Conduct, StandsStill, AreReplies}
+use Rattle.pid_http_stream.specs.Endings.{HasFault}
+use Rattle.pid_http_stream.specs.Replies.{Answer, reply_head, reply_text, fault_answer}
+use Rattle.pid_http_stream.specs.Requests.{Request, IsRequest, HasNoRequest}
+use Rattle.pid_http_stream.specs.Streams.{closes, Ending, clean, closed, faulty, Fronts, Splits}
+use Rattle.pid_http_stream.specs.declared.judging.StreamFault.{StreamFault}
+use Rattle.pid_http_stream.specs.declared.judging.StreamFault.TheVariants.{BadHead, Encoding, BodyTooLong, BodyShort}
+use Rattle.pid_http_stream.specs.declared.reply.ReplyHead.{ReplyHead}
+use Rattle.pid_http_stream.specs.declared.stream.StreamEnd.{StreamEnd}
+use Rattle.pid_http_stream.specs.declared.stream.StreamEnd.TheVariants.{Clean, Closed, HeadFault, BodyFault, ReadFault, WriteFault, StoreFault, Memory, TurnsSpent}
+
+-- a count that stops at its greatest value
+abbrev pub counted : ℕ → ℕ
+counted n = min n (2 ^ 64 - 1)
+
+-- before and after: the handler, and what the writer had taken
+pub record Outside (H : Type 0) : Type 0 where
+  pub handler : H
+  pub handler_after : H
+  pub taken : Option (List ℕ)
+  pub taken_after : Option (List ℕ)
+
+-- a front of the bytes was written, perhaps all of them
+abbrev pub WritesFront : Option (List ℕ) → Option (List ℕ) → List ℕ → Type 0
+WritesFront old new bytes = (n : ℕ) × (n ≤ length bytes) × Appends old new (take n bytes)
+
+-- behind the last request the handler is as it was; only where a body is short may it have been asked
+abbrev pub RestsBehind : {H : Type 0} → Conduct H → Ending → H → H → Type 0
+RestsBehind conduct clean a b = a ≡ b
+RestsBehind conduct closed a b = a ≡ b
+RestsBehind conduct (faulty BadHead) a b = a ≡ b
+RestsBehind conduct (faulty Encoding) a b = a ≡ b
+RestsBehind conduct (faulty BodyTooLong) a b = a ≡ b
+RestsBehind conduct (faulty BodyShort) a b = StandsStill conduct a b
+
+-- the whole stream was answered, and then this was written
+pub record AnswersAll {H : Type 0} (conduct : Conduct H) (o : Outside H) (stream : List ℕ) (ending : Ending) (tail : List ℕ) (count : ℕ) : Type 0 where
+  pub requests : List Request
+  pub replies : List ℕ
+  pub last : H
+  pub splits : Splits stream requests ending
+  pub answered : AreReplies conduct o.handler requests replies last
+  pub rests : RestsBehind conduct ending last o.handler_after
+  pub written : Appends o.taken o.taken_after (replies ++ tail)
+  pub counts : count ≡ counted (length requests)
+
+-- the requests at the front of the stream were answered, up to this rest
+pub record AnswersFront {H : Type 0} (conduct : Conduct H) (o : Outside H) (stream rest : List ℕ) (count : ℕ) : Type 0 where
+  pub requests : List Request
+  pub replies : List ℕ
+  pub fronts : Fronts stream requests rest
+  pub answered : AreReplies conduct o.handler requests replies o.handler_after
+  pub written : Appends o.taken o.taken_after replies
+  pub counts : count ≡ counted (length requests)
+
+-- these bytes are the reply to the request at the front of what is left
+abbrev pub IsReplyNext : {H : Type 0} → Conduct H → H → List ℕ → List ℕ → H → Type 0
+IsReplyNext conduct a rest bytes b =
+    (request : Request) × (behind : List ℕ) × (answer : Answer) × IsRequest rest request behind × conduct.answers a request answer b × (bytes ≡ reply_text answer (closes request))
+
+-- these bytes are the head of a reply to it, whose body the handler promised to write and was not asked for
+abbrev pub IsHeadNext : {H : Type 0} → Conduct H → H → List ℕ → List ℕ → H → Type 0
+IsHeadNext conduct a rest bytes b =
+    (request : Request) × (behind : List ℕ) × (head : ReplyHead) × (told : ℕ) × IsRequest rest request behind × conduct.promises a request head told b
+    × (bytes ≡ reply_head head.status head.content told (closes request))
+
+-- these bytes are the refusal of what is left
+abbrev pub IsRefusalNext : {H : Type 0} → Conduct H → H → List ℕ → List ℕ → H → Type 0
+IsRefusalNext conduct a rest bytes b =
+    (fault : StreamFault) × HasFault rest fault × (bytes ≡ reply_text (fault_answer fault) true) × RestsBehind conduct (faulty fault) a b
+
+-- these bytes are what is written next
+abbrev pub IsWrittenNext : {H : Type 0} → Conduct H → H → List ℕ → List ℕ → H → Type 0
+IsWrittenNext conduct a rest bytes b = IsReplyNext conduct a rest bytes b ⊎ (IsHeadNext conduct a rest bytes b ⊎ IsRefusalNext conduct a rest bytes b)
+
+-- the requests at the front of the stream were answered, and a front of what is written next stands behind their replies
+pub record BreaksOff {H : Type 0} (next : H → List ℕ → List ℕ → H → Type 0) (conduct : Conduct H) (o : Outside H) (stream : List ℕ) (count : ℕ) : Type 0 where
+  pub rest : List ℕ
+  pub mid : H
+  pub taken : Option (List ℕ)
+  pub before : AnswersFront conduct (record { handler = o.handler; handler_after = mid; taken = o.taken; taken_after = taken }) stream rest count
+  pub bytes : List ℕ
+  pub next_is : next mid rest bytes o.handler_after
+  pub written : WritesFront taken o.taken_after bytes
+
+-- what was read of the stream is the requests that were answered, and a rest that holds no whole request
+pub record StopsReading {H : Type 0} (conduct : Conduct H) (o : Outside H) (stream : List ℕ) (left : Option (List ℕ)) (count : ℕ) : Type 0 where
+  pub read : List ℕ
+  pub consumed : Consumes (Some stream) left read
+  pub rest : List ℕ
+  pub last : H
+  pub before : AnswersFront conduct (record { handler = o.handler; handler_after = last; taken = o.taken; taken_after = o.taken_after }) read rest count
+  pub stands : StandsStill conduct last o.handler_after
+  pub none : HasNoRequest rest
+
+-- the requests at the front of the stream were answered; the handler stands still, or lacked memory for the reply to the next
+pub record LacksMemory {H : Type 0} (conduct : Conduct H) (o : Outside H) (stream : List ℕ) (count : ℕ) : Type 0 where
+  pub rest : List ℕ
+  pub mid : H
+  pub before : AnswersFront conduct (record { handler = o.handler; handler_after = mid; taken = o.taken; taken_after = o.taken_after }) stream rest count
+  pub after : StandsStill conduct mid o.handler_after ⊎ ((request : Request) × (behind : List ℕ) × IsRequest rest request behind × conduct.leaves mid request o.handler_after)
+
+-- a fault of a head, or of a body
+abbrev pub is_head_fault : StreamFault → Bool
+is_head_fault BadHead = true
+is_head_fault Encoding = true
+is_head_fault BodyTooLong = false
+is_head_fault BodyShort = false
+
+-- all requests of the stream were answered, then its fault, and nothing else was written
+abbrev pub RefusesLast : {H : Type 0} → Bool → Conduct H → Outside H → List ℕ → ℕ → Type 0
+RefusesLast of_head conduct o stream count =
+    (fault : StreamFault) × (is_head_fault fault ≡ of_head) × AnswersAll conduct o stream (faulty fault) (reply_text (fault_answer fault) true) count
+
+-- the stream was served, and so many replies were written whole: what is known at each end
+abbrev pub IsServed : {H : Type 0} → Conduct H → Outside H → List ℕ → Option (List ℕ) → StreamEnd → ℕ → Type 0
+IsServed conduct o stream left Clean count = AnswersAll conduct o stream clean [] count
+IsServed conduct o stream left Closed count = AnswersAll conduct o stream closed [] count
+IsServed conduct o stream left HeadFault count = RefusesLast true conduct o stream count
+IsServed conduct o stream left BodyFault count = RefusesLast false conduct o stream count
+IsServed conduct o stream left ReadFault count = StopsReading conduct o stream left count
+IsServed conduct o stream left TurnsSpent count = StopsReading conduct o stream left count
+IsServed conduct o stream left Memory count = LacksMemory conduct o stream count
+IsServed conduct o stream left WriteFault count = BreaksOff (IsWrittenNext conduct) conduct o stream count
+IsServed conduct o stream left StoreFault count = BreaksOff (IsReplyNext conduct) conduct o stream count

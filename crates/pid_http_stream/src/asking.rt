@@ -1,0 +1,145 @@
+//! One request over its reader: the body is read, and the handler asked.
+ghost use Rattle.std.specs.Prelude.{◌≡◌, ℕ, ◌+◌, ◌≤◌, List, length, take, drop, min, Some, IfOk, IfSome, IsSome};
+ghost use Rattle.std.specs.Io.KnownBytes.{Consumes, IsAtEnd};
+ghost use Rattle.httparse.specs.Spans.{IsRequestAt};
+ghost use Rattle.pid_http_stream.specs.Bodies.{SpendsTurns};
+ghost use Rattle.pid_http_stream.specs.Handling.{IsAsked};
+ghost use Rattle.pid_http_stream.specs.Intakes.{StandsAt};
+ghost use Rattle.pid_http_stream.specs.Requests.{Request};
+ghost use Rattle.pid_http_stream.specs.Steps.{Asks, asked_so};
+
+use crate::body_input::{BodyFault, BodyInput};
+use crate::handler::{Handler, NoReply, Reply, Wanted};
+use crate::head::Head;
+use crate::intake::READ_SIZE;
+use pid_ident::Input;
+use std::alloc::Global;
+
+/// What came of asking the handler.
+#[derive(Drop)]
+pub(crate) enum Asked {
+    Reply(Reply),
+    /// No reply: memory was refused.
+    NoMemory,
+    /// The body did not come whole.
+    Broken(BodyFault),
+}
+
+// Reads a body to its end, of at most so many bytes.
+fn read_whole<B: Input>(alloc: Global, told: usize, body: &mut B) -> Result<Vec<u8>, NoReply>
+    ensures whole { IfOk result (λ v. Consumes (B.to_come body.old) (B.to_come body.new) v.items × IsAtEnd (B.to_come body.new)) }
+    ensures goes { B.goes body.old body.new }
+{
+    let Ok(mut bytes) = Vec::with_capacity(alloc, told) else {
+        return Err(NoReply);
+    };
+    let mut buffer = [0u8; READ_SIZE];
+    for _ in 0..=told {
+        let Ok(count) = body.read(&mut buffer) else {
+            return Err(NoReply);
+        };
+        if count == 0 {
+            return Ok(bytes);
+        }
+        if bytes.extend_from_slice(&buffer[..count]).is_err() {
+            return Err(NoReply);
+        }
+    }
+    Err(NoReply)
+}
+
+// Has a request answered whose body is in memory.
+fn ask_buffered<H: Handler, B: Input>(
+    alloc: Global,
+    handler: &mut H,
+    head: &Head<'_>,
+    told: usize,
+    body: &mut B,
+) -> Result<Reply, NoReply>
+    ensures goes { B.goes body.old body.new }
+    ensures whole { IfOk result (λ _. IsAtEnd (B.to_come body.new)) }
+    ensures answered { (request : Request) → IsRequestAt head.now.bytes.now head.now.fields.now head.now.spans request.head → B.to_come body.old ≡ Some request.body
+        → IsAsked (record { answers = H.answers; leaves = H.leaves; gives_up = H.gives_up; promises = H.promises }) handler.old request result (B.to_come body.new) handler.new }
+{
+    match read_whole(alloc, told, body) {
+        Err(end) => Err(end),
+        Ok(bytes) => handler.answer(head, &bytes),
+    }
+}
+
+// Has a request answered, its body as the handler wants it.
+fn ask<H: Handler, B: Input>(
+    alloc: Global,
+    handler: &mut H,
+    head: &Head<'_>,
+    told: usize,
+    body: &mut B,
+) -> Result<Reply, NoReply>
+    ensures goes { B.goes body.old body.new }
+    ensures whole { IfOk result (λ _. IsAtEnd (B.to_come body.new)) }
+    ensures answered { (request : Request) → IsRequestAt head.now.bytes.now head.now.fields.now head.now.spans request.head → B.to_come body.old ≡ Some request.body
+        → IsAsked (record { answers = H.answers; leaves = H.leaves; gives_up = H.gives_up; promises = H.promises }) handler.old request result (B.to_come body.new) handler.new }
+{
+    match handler.wants(head) {
+        Wanted::Buffered => ask_buffered(alloc, handler, head, told, body),
+        Wanted::Streamed => handler.answer_streamed(head, body),
+    }
+}
+
+// What came of a body with its head: at most so many of the bytes behind that.
+fn came_with<'b>(head: &Head<'b>, told: usize) -> &'b [u8]
+    ensures front { result.now ≡ take (min told (length (drop head.now.spans.len head.now.bytes.now))) (drop head.now.spans.len head.now.bytes.now) }
+    ensures fits { length result.now ≤ told }
+{
+    let (_, behind) = head.bytes.split_at(head.spans.len);
+    let (front, _) = behind.split_at(told.min(behind.len()));
+    front
+}
+
+// What came of it: the body is whole where none of it is wanted any more.
+fn asked_of(reply: Result<Reply, NoReply>, wanted: usize, fault: Option<BodyFault>) -> Asked
+    ensures { result ≡ asked_so reply wanted fault }
+{
+    if wanted == 0 {
+        match reply {
+            Ok(reply) => Asked::Reply(reply),
+            Err(_) => Asked::NoMemory,
+        }
+    } else {
+        match fault {
+            Some(fault) => Asked::Broken(fault),
+            None => Asked::NoMemory,
+        }
+    }
+}
+
+/// Has a request answered whose head stands at the front of the bytes held, and whose body has so many bytes: those that came
+/// with the head, and then those of the reader.
+pub(crate) fn ask_over<H: Handler, I: Input>(
+    alloc: Global,
+    handler: &mut H,
+    head: &Head<'_>,
+    told: usize,
+    input: &mut I,
+    left: &mut u64,
+) -> Asked
+    requires { StandsAt head.now.bytes.now head.now.fields.now head.now.spans told }
+    ensures asked { IfSome (I.to_come input.old) (λ _. Asks (record { answers = H.answers; leaves = H.leaves; gives_up = H.gives_up; promises = H.promises })
+        (record { a = handler.old; b = handler.new; input = I.to_come input.old; input_after = I.to_come input.new }) head.now.bytes.now head.now.fields.now head.now.spans told result) }
+    ensures turns { SpendsTurns (record { reads = I.reads input.old; left = left.old }) (record { reads = I.reads input.new; left = left.new }) }
+    ensures fault { result ≡ Asked.Broken BodyFault.ReadFault → IsSome (I.read_fault input.new) }
+    ensures spent { result ≡ Asked.Broken BodyFault.TurnsSpent → left.new ≡ 0 }
+    ensures goes { I.goes input.old input.new }
+{
+    let mut body = BodyInput {
+        held: came_with(head, told),
+        wanted: told,
+        input,
+        left: *left,
+        reads: 0,
+        fault: None,
+    };
+    let reply = ask(alloc, handler, head, told, &mut body);
+    *left = body.left;
+    asked_of(reply, body.wanted, body.fault)
+}

@@ -1,0 +1,94 @@
+//! The body of a request as a reader of its own.
+ghost use Rattle.std.specs.Prelude.{◌≡◌, ◌≤◌, length};
+
+use pid_ident::{Input, ReadFault};
+
+/// Why a body was not read to its end.
+#[derive(Clone, Copy, Debug, PartialEq, Eq)]
+pub(crate) enum BodyFault {
+    /// The reader ended before it.
+    Short,
+    /// The reader failed.
+    ReadFault,
+    /// No read was left.
+    TurnsSpent,
+}
+
+/// The body of a request: what came with its head, and then the reader under it, up to the length that the head said. It keeps
+/// its fault.
+#[derive(Drop)]
+pub(crate) struct BodyInput<'h, 'i, I: Input> {
+    /// What came with the head and was not given yet.
+    pub(crate) held: &'h [u8],
+    /// How many bytes are still to be given.
+    pub(crate) wanted: usize,
+    /// The reader under it.
+    pub(crate) input: &'i mut I,
+    /// How many reads of that may still be made.
+    pub(crate) left: u64,
+    /// How many reads were made of the body.
+    pub(crate) reads: u64,
+    /// The fault that is kept.
+    pub(crate) fault: Option<BodyFault>,
+    ghost fits: { length held.now ≤ wanted },
+}
+
+impl<I: Input> Input for BodyInput<'_, '_, I> {
+    ghost use Rattle.std.specs.Prelude.{◌≡◌, ◌++◌, option_map};
+    ghost use Rattle.std.proofs.Common.{refl, ◌∙◌};
+    ghost use Rattle.pid_http_stream.specs.Bodies.{padded, fault_told, HasReadBody};
+    ghost use Rattle.pid_http_stream.specs.BodyLaws.{no_body_reads, more_body_reads};
+
+    ghost to_come = { λ b. option_map (λ s. padded b.wanted (b.held.now ++ s)) (I.to_come b.input.now) };
+
+    ghost read_fault = { λ b. fault_told b.fault };
+
+    ghost reads = { λ b. b.reads };
+
+    ghost goes = { λ a b. (b.input.ghost_name ≡ a.input.ghost_name) × I.goes a.input.now b.input.now
+        × HasReadBody
+        (record { held = a.held.now; wanted = a.wanted; fault = a.fault; to_come = I.to_come a.input.now; kept = I.read_fault a.input.now; turns = record { reads = I.reads a.input.now; left = a.left } })
+        (record { held = b.held.now; wanted = b.wanted; fault = b.fault; to_come = I.to_come b.input.now; kept = I.read_fault b.input.now; turns = record { reads = I.reads b.input.now; left = b.left } }) };
+
+    ghost stays = { λ a. (refl, I.stays a.input.now, no_body_reads (record { held = a.held.now; wanted = a.wanted; fault = a.fault; to_come = I.to_come a.input.now; kept = I.read_fault a.input.now; turns = record { reads = I.reads a.input.now; left = a.left } })) };
+
+    ghost joins = { λ a b c p q. (q.0 ∙ p.0, I.joins a.input.now b.input.now c.input.now p.1 q.1, more_body_reads _ (record { held = b.held.now; wanted = b.wanted; fault = b.fault; to_come = I.to_come b.input.now; kept = I.read_fault b.input.now; turns = record { reads = I.reads b.input.now; left = b.left } }) _ p.2 q.2) };
+
+    fn read(&mut self, buffer: &mut [u8]) -> Result<usize, ReadFault> {
+        self.reads = self.reads.saturating_add(1);
+        if self.fault.is_some() {
+            return Err(ReadFault::Device);
+        }
+        if self.wanted == 0 || buffer.is_empty() {
+            return Ok(0);
+        }
+        if !self.held.is_empty() {
+            let count = buffer.len().min(self.held.len());
+            let (front, behind) = self.held.split_at(count);
+            buffer[..count].copy_from_slice(front);
+            self.held = behind;
+            self.wanted -= count;
+            return Ok(count);
+        }
+        if self.left == 0 {
+            self.fault = Some(BodyFault::TurnsSpent);
+            return Err(ReadFault::Device);
+        }
+        self.left -= 1;
+        let room = buffer.len().min(self.wanted);
+        match self.input.read(&mut buffer[..room]) {
+            Err(_) => {
+                self.fault = Some(BodyFault::ReadFault);
+                Err(ReadFault::Device)
+            }
+            Ok(count) => {
+                if count == 0 {
+                    self.fault = Some(BodyFault::Short);
+                    return Err(ReadFault::Device);
+                }
+                self.wanted -= count;
+                Ok(count)
+            }
+        }
+    }
+}

@@ -1,0 +1,26 @@
+//! A body that nobody wants.
+ghost use Rattle.std.specs.Prelude.{◌≡◌, IfOk};
+ghost use Rattle.std.specs.Io.KnownBytes.{IsAtEnd};
+
+use crate::body_length::LONGEST_BODY;
+use crate::handler::NoReply;
+use crate::intake::READ_SIZE;
+use pid_ident::Input;
+
+/// Reads a body to its end, and drops it: for a handler that replies whatever the body is. `NoReply` where the body fails, or
+/// has more bytes than a body may.
+pub fn discard<B: Input>(body: &mut B) -> Result<(), NoReply>
+    ensures whole { IfOk result (λ _. IsAtEnd (B.to_come body.new)) }
+    ensures goes { B.goes body.old body.new }
+{
+    let mut buffer = [0u8; READ_SIZE];
+    for _ in 0..=LONGEST_BODY {
+        let Ok(count) = body.read(&mut buffer) else {
+            return Err(NoReply);
+        };
+        if count == 0 {
+            return Ok(());
+        }
+    }
+    Err(NoReply)
+}

@@ -1,0 +1,99 @@
+//! What answers requests.
+ghost use Rattle.std.specs.Prelude.{◌≡◌, ℕ, List, [], Some, Err, IfOk, IsSome};
+ghost use Rattle.std.specs.Io.KnownBytes.{IsAtEnd};
+ghost use Rattle.httparse.specs.Spans.{IsRequestAt};
+ghost use Rattle.pid_http_stream.specs.Handling.{MayReply, IsAsked, WritesBody};
+ghost use Rattle.pid_http_stream.specs.Replies.{Answer};
+ghost use Rattle.pid_http_stream.specs.Requests.{Request};
+
+use crate::head::Head;
+use crate::reply::ReplyHead;
+use pid_ident::{Input, Output};
+use thiserror::Error;
+
+/// How a handler wants the body of a request.
+#[derive(Clone, Copy, Debug, PartialEq, Eq)]
+pub enum Wanted {
+    /// Whole, in memory.
+    Buffered,
+    /// As a reader of its own.
+    Streamed,
+}
+
+/// The body of a reply.
+#[derive(Drop)]
+pub enum ReplyBody {
+    /// These bytes.
+    Bytes(Vec<u8>),
+    /// So many bytes, which the handler writes itself.
+    Written(u64),
+}
+
+/// A reply.
+#[derive(Drop)]
+pub struct Reply {
+    pub head: ReplyHead,
+    pub body: ReplyBody,
+}
+
+/// No reply was made: memory was refused, or the body of the request did not come whole.
+#[derive(Clone, Copy, Debug, PartialEq, Eq, Error)]
+#[error("no reply was made")]
+pub struct NoReply;
+
+/// Why a handler did not write a body whole.
+#[derive(Clone, Copy, Debug, PartialEq, Eq, Error)]
+pub enum BodyStop {
+    #[error("the writer failed")]
+    Writer,
+    #[error("the body could not be gone on with")]
+    Store,
+}
+
+/// What answers requests, one after another.
+pub trait Handler {
+    ghost use Rattle.pid_http_stream.specs.Replies.{Answer};
+    ghost use Rattle.pid_http_stream.specs.Requests.{Request};
+    ghost use Rattle.pid_http_stream.specs.declared.reply.ReplyHead.{ReplyHead};
+
+    /// How it may answer a request, and what it is behind that.
+    ghost answers: { Self → Request → Answer → Self → Type 0 };
+
+    /// What it may be where a whole request came and memory for its reply is refused.
+    ghost leaves: { Self → Request → Self → Type 0 };
+
+    /// What it may be where it gave a request up, whose body did not come whole.
+    ghost gives_up: { Self → Self → Type 0 };
+
+    /// What it may say of a body that it is to write itself: to a request, behind this head, so many bytes; and what it
+    /// is then.
+    ghost promises: { Self → Request → ReplyHead → ℕ → Self → Type 0 };
+
+    /// Which bytes it may write as the body that it promised, and what it is behind that.
+    ghost writes: { Self → List ℕ → Self → Type 0 };
+
+    /// How it wants the body of the request with this head.
+    fn wants(&self, head: &Head<'_>) -> Wanted;
+
+    /// Answers a request.
+    fn answer(&mut self, head: &Head<'_>, body: &[u8]) -> Result<Reply, NoReply>
+        ensures { (request : Request) → IsRequestAt head.now.bytes.now head.now.fields.now head.now.spans request.head → request.body ≡ body.now
+            → IsAsked (record { answers = answers; leaves = leaves; gives_up = gives_up; promises = promises }) self.old request result (Some []) self.new };
+
+    /// Answers a request whose body is still to be read. It is to read the body to its end before it replies; where the body
+    /// fails it gives the request up.
+    fn answer_streamed<B: Input>(&mut self, head: &Head<'_>, body: &mut B) -> Result<Reply, NoReply>
+        ensures goes { B.goes body.old body.new }
+        ensures whole { IfOk result (λ _. IsAtEnd (B.to_come body.new)) }
+        ensures answered { (request : Request) → IsRequestAt head.now.bytes.now head.now.fields.now head.now.spans request.head → B.to_come body.old ≡ Some request.body
+            → IsAsked (record { answers = answers; leaves = leaves; gives_up = gives_up; promises = promises }) self.old request result (B.to_come body.new) self.new };
+
+    /// Writes the body that the last reply promised, or at a fault a front of it.
+    fn write_body<W: Output>(&mut self, out: &mut W) -> Result<(), BodyStop>
+        ensures written { (body : List ℕ) × writes self.old body self.new × WritesBody result (W.taken out.old) (W.taken out.new) body }
+        ensures fault { result ≡ Err BodyStop.Writer → IsSome (W.write_fault out.new) };
+
+    /// A body that was promised and written is that of an answer.
+    ghost kept: { (a : Self) (request : Request) (head : ReplyHead) (told : ℕ) (b : Self) (body : List ℕ) (c : Self) → promises a request head told b → writes b body c
+        → answers a request (record { status = head.status; content = head.content; told = told; body = body }) c };
+}

@@ -1,0 +1,157 @@
+//! What comes in from a reader, up to the end of a head.
+ghost use Rattle.std.specs.Prelude.{◌≡◌, ◌≢◌, ℕ, ◌+◌, ◌*◌, ◌<◌, ◌≤◌, List, length, take, ◌++◌, false, Option, IsSome, vec_len, vec_capacity};
+ghost use Rattle.std.specs.Io.KnownBytes.{IsAtEnd};
+ghost use Rattle.httparse.specs.Grammar.{HasNoRequest as HasNoHeadYet};
+ghost use Rattle.httparse.specs.declared.spans.HeaderSpan.{HeaderSpan as FieldSpan};
+ghost use Rattle.pid_http_stream.specs.Bodies.{SpendsTurns};
+ghost use Rattle.pid_http_stream.specs.Intakes.{ComesIn, HasNoLineEnd, IsHeadRead, IsJudged, StaysBut, WantsMore};
+
+use crate::judging::{Judged, LONGEST_HEAD, StreamFault, are_line_ends, judge, judge_unended};
+use httparse::spans::{HeaderSpan, RequestSpans};
+use pid_ident::Input;
+
+/// The most that one read asks for, in bytes.
+pub(crate) const READ_SIZE: usize = 4096;
+
+/// Why reading stops.
+#[derive(Clone, Copy, Debug, PartialEq, Eq)]
+pub(crate) enum Stop {
+    ReadFault,
+    TurnsSpent,
+    Memory,
+}
+
+/// What one read brought.
+#[derive(Clone, Copy, Debug, PartialEq, Eq)]
+pub(crate) enum Filled {
+    Piece,
+    End,
+    Stopped(Stop),
+}
+
+/// What stands at the front, once a head has come or can't come any more.
+#[derive(Clone, Copy, Debug)]
+pub(crate) enum HeadRead {
+    /// A head, and the length of the body behind it.
+    Head { spans: RequestSpans, body: usize },
+    /// The stream ended, and nothing is left.
+    Nothing,
+    Faulty(StreamFault),
+    Stopped(Stop),
+}
+
+// Keeps a piece, for which there is room.
+fn keep(held: &mut Vec<u8>, piece: &[u8]) -> Filled
+    requires { vec_len held.old + length piece.now ≤ vec_capacity held.old }
+    ensures kept { held.new.items ≡ held.old.items ++ piece.now }
+    ensures piece { result ≡ Filled.Piece }
+{
+    match held.extend_from_slice(piece) {
+        Ok(()) => Filled::Piece,
+        Err(_) => Filled::Stopped(Stop::Memory),
+    }
+}
+
+// Reads once, and keeps what came. Room is made first, so that nothing is read that can't be kept.
+fn fill<I: Input>(held: &mut Vec<u8>, left: &mut u64, input: &mut I) -> Filled
+    ensures comes { ComesIn held.old.items held.new.items (I.to_come input.old) (I.to_come input.new) }
+    ensures stays { StaysBut held.old.items held.new.items result }
+    ensures end { result ≡ Filled.End → IsAtEnd (I.to_come input.new) }
+    ensures turns { SpendsTurns (record { reads = I.reads input.old; left = left.old }) (record { reads = I.reads input.new; left = left.new }) }
+    ensures pace { result ≡ Filled.Piece → left.new * 4096 + length held.new.items ≤ left.old * 4096 + length held.old.items }
+    ensures goes_on { result ≡ Filled.Piece → left.new < left.old }
+    ensures fault { result ≡ Filled.Stopped Stop.ReadFault → IsSome (I.read_fault input.new) }
+    ensures spent { result ≡ Filled.Stopped Stop.TurnsSpent → left.new ≡ 0 }
+    ensures goes { I.goes input.old input.new }
+{
+    if *left == 0 {
+        return Filled::Stopped(Stop::TurnsSpent);
+    }
+    if held.reserve(READ_SIZE).is_err() {
+        return Filled::Stopped(Stop::Memory);
+    }
+    *left -= 1;
+    let mut buffer = [0u8; READ_SIZE];
+    match input.read(&mut buffer) {
+        Err(_) => Filled::Stopped(Stop::ReadFault),
+        Ok(0) => Filled::End,
+        Ok(count) => keep(held, &buffer[..count]),
+    }
+}
+
+// Whether a line ends in the bytes.
+fn ends_line(bytes: &[u8]) -> bool
+    ensures { result ≡ false → HasNoLineEnd bytes.now }
+{
+    for byte in bytes {
+        if *byte == b'\n' {
+            return true;
+        }
+    }
+    false
+}
+
+// The bytes that are left at the end of the stream, in which no head has ended.
+fn judge_end(held: &[u8]) -> HeadRead
+    requires none { HasNoHeadYet held.now }
+    requires short { length held.now ≤ LONGEST_HEAD }
+    ensures judged { (fields : List FieldSpan) → (left : Option (List ℕ)) → IsAtEnd left → IsHeadRead held.now fields left result }
+    ensures no_fault { result ≢ HeadRead.Stopped Stop.ReadFault }
+    ensures not_spent { result ≢ HeadRead.Stopped Stop.TurnsSpent }
+{
+    if are_line_ends(held) {
+        HeadRead::Nothing
+    } else {
+        HeadRead::Faulty(StreamFault::BadHead)
+    }
+}
+
+// Judges what came, of which so many bytes hold no head. They are parsed anew only where a line ends behind these: no head ends
+// but with a line.
+fn judge_more(held: &[u8], before: usize, fields: &mut [HeaderSpan]) -> Judged
+    requires wants { WantsMore (take before held.now) }
+    requires before { before ≤ length held.now }
+    requires room { length fields.old ≡ 32 }
+    ensures { IsJudged held.now fields.new result }
+{
+    let (_, piece) = held.split_at(before);
+    if ends_line(piece) {
+        judge(held, fields)
+    } else {
+        judge_unended(held)
+    }
+}
+
+/// Reads until a head has come, or none can come.
+pub(crate) fn read_head<I: Input>(
+    held: &mut Vec<u8>,
+    left: &mut u64,
+    input: &mut I,
+    fields: &mut [HeaderSpan],
+) -> HeadRead
+    requires { length fields.old ≡ 32 }
+    ensures comes { ComesIn held.old.items held.new.items (I.to_come input.old) (I.to_come input.new) }
+    ensures head { IsHeadRead held.new.items fields.new (I.to_come input.new) result }
+    ensures turns { SpendsTurns (record { reads = I.reads input.old; left = left.old }) (record { reads = I.reads input.new; left = left.new }) }
+    ensures pace { left.new * 4096 + length held.new.items ≤ left.old * 4096 + length held.old.items }
+    ensures fault { result ≡ HeadRead.Stopped Stop.ReadFault → IsSome (I.read_fault input.new) }
+    ensures spent { result ≡ HeadRead.Stopped Stop.TurnsSpent → left.new ≡ 0 }
+    ensures goes { I.goes input.old input.new }
+{
+    let mut judged = judge(held, fields);
+    'reading: loop {
+        match judged {
+            Judged::Head { spans, body } => return HeadRead::Head { spans, body },
+            Judged::Faulty(fault) => return HeadRead::Faulty(fault),
+            Judged::More => {}
+        }
+        let before = held.len();
+        match fill(held, left, input) {
+            Filled::Stopped(stop) => return HeadRead::Stopped(stop),
+            Filled::End => return judge_end(held),
+            Filled::Piece => {
+                judged = judge_more(held, before, fields);
+            }
+        }
+    }
+}

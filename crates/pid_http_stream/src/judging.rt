@@ -1,0 +1,110 @@
+//! What stands at the front of the bytes that came.
+ghost use Rattle.std.specs.Prelude.{◌≡◌, ◌↔◌, ℕ, ◌≤◌, ◌<◌, IsTrue, false, List, length, take, drop, map, All};
+ghost use Rattle.httparse.specs.Grammar.{HasNoRequest as HasNoHeadYet};
+ghost use Rattle.httparse.specs.Spans.{header_bytes, IsRequestWithin, IsRequestOf};
+ghost use Rattle.httparse.specs.declared.spans.HeaderSpan.{HeaderSpan as FieldSpan};
+ghost use Rattle.pid_http_stream.specs.Intakes.{IsJudged};
+ghost use Rattle.pid_http_stream.specs.Leftovers.{AreLineEnds};
+ghost use Rattle.pid_http_stream.specs.LineScans.{blank_after};
+
+use crate::body_length::{BodyLength, length_of};
+use httparse::Status;
+use httparse::spans::{HeaderSpan, RequestSpans, parse_request};
+
+/// The most fields of a head.
+pub const MOST_FIELDS: usize = 32;
+
+/// The longest head, in bytes, with the empty lines before it.
+pub const LONGEST_HEAD: usize = 16_384;
+
+/// Why a stream is refused.
+#[derive(Clone, Copy, Debug, PartialEq, Eq)]
+pub enum StreamFault {
+    /// What stands there is no head, has too many fields or is too long, or its Content-Length is no length.
+    BadHead,
+    /// The body is sent in a transfer encoding.
+    Encoding,
+    /// The body is longer than a body may be.
+    BodyTooLong,
+    /// The stream ends within the body.
+    BodyShort,
+}
+
+/// What stands at the front of the bytes that came.
+#[derive(Clone, Copy, Debug)]
+pub(crate) enum Judged {
+    /// No whole head yet: more bytes can make it one.
+    More,
+    /// A head, and the length of the body behind it.
+    Head { spans: RequestSpans, body: usize },
+    /// The stream has this fault here.
+    Faulty(StreamFault),
+}
+
+// Whether there are line ends and nothing else, the last perhaps without its LF.
+fn scan_line_ends(bytes: &[u8]) -> bool
+    ensures { result ≡ blank_after false bytes.now }
+{
+    let mut cr = false;
+    for byte in bytes {
+        if *byte == b'\n' {
+            cr = false;
+        } else if *byte == b'\r' && !cr {
+            cr = true;
+        } else {
+            return false;
+        }
+    }
+    true
+}
+
+/// Whether there are line ends and nothing else, the last perhaps without its LF.
+pub(crate) fn are_line_ends(bytes: &[u8]) -> bool
+    ensures { IsTrue result ↔ AreLineEnds bytes.now }
+{
+    scan_line_ends(bytes)
+}
+
+// What a head that was found says of its body.
+fn judge_length(held: &[u8], fields: &[HeaderSpan], spans: RequestSpans) -> Judged
+    requires within { IsRequestWithin held.now fields.now spans }
+    requires found { IsRequestOf held.now fields.now spans }
+    requires short { spans.len ≤ LONGEST_HEAD }
+    requires few { spans.headers ≤ MOST_FIELDS }
+    ensures { IsJudged held.now fields.now result }
+{
+    match length_of(held, &fields[..spans.headers]) {
+        BodyLength::Encoded => Judged::Faulty(StreamFault::Encoding),
+        BodyLength::Bad => Judged::Faulty(StreamFault::BadHead),
+        BodyLength::TooLong => Judged::Faulty(StreamFault::BodyTooLong),
+        BodyLength::Bytes(body) => Judged::Head { spans, body },
+    }
+}
+
+// Judges bytes in which no head has ended.
+pub(crate) fn judge_unended(held: &[u8]) -> Judged
+    requires { HasNoHeadYet held.now }
+    ensures { (fields : List FieldSpan) → IsJudged held.now fields result }
+{
+    if held.len() > LONGEST_HEAD {
+        return Judged::Faulty(StreamFault::BadHead);
+    }
+    Judged::More
+}
+
+/// Judges the bytes that came so far; the spans of a head's fields go into `fields`.
+pub(crate) fn judge(held: &[u8], fields: &mut [HeaderSpan]) -> Judged
+    requires { length fields.old ≡ MOST_FIELDS }
+    ensures { IsJudged held.now fields.new result }
+{
+    match parse_request(held, fields) {
+        Ok(Status::Complete(spans)) => {
+            if spans.len > LONGEST_HEAD {
+                return Judged::Faulty(StreamFault::BadHead);
+            }
+            judge_length(held, fields, spans)
+        }
+        Ok(Status::Partial) => judge_unended(held),
+        Err(_) => Judged::Faulty(StreamFault::BadHead),
+    }
+}

@@ -1,0 +1,12 @@
+//! Laws on streams of requests. Each is the contract of a function that does nothing of its own.
+ghost use Rattle.pid_http_stream.specs.Laws.{StreamsAreUnique, RequestsStay};
+
+/// A stream splits in one way: it has one list of requests, and one ending.
+pub fn streams_are_unique()
+    ensures { StreamsAreUnique }
+{}
+
+/// A request at the front of some bytes stays what it is, whatever comes behind them.
+pub fn requests_stay()
+    ensures { RequestsStay }
+{}

@@ -1,0 +1,32 @@
+//! A stream of HTTP requests, answered one after another by any handler (RFC 9112, message framing by Content-Length).
+//!
+//! `serve_stream` reads heads by `httparse`, judges them, hands each request to a `Handler` and writes its reply before it
+//! reads on. It holds one buffer for the head and one for the body, whatever a client sends: a head has at most 16,384 bytes
+//! and 32 fields, a body at most 4,194,304 bytes. A body that the handler wants as a stream is not held at all, and neither is
+//! the body of a reply that the handler writes itself.
+#![tactic(auto)]
+
+mod asking;
+mod body_input;
+mod body_length;
+mod connection;
+mod draining;
+mod fields;
+mod handler;
+mod head;
+mod intake;
+mod judging;
+mod laws;
+mod reply;
+mod sending;
+mod stream;
+
+pub use body_length::{BodyLength, LONGEST_BODY};
+pub use draining::discard;
+pub use fields::{count_named, first_named};
+pub use handler::{BodyStop, Handler, NoReply, Reply, ReplyBody, Wanted};
+pub use head::Head;
+pub use judging::{LONGEST_HEAD, MOST_FIELDS, StreamFault};
+pub use laws::{requests_stay, streams_are_unique};
+pub use reply::{Content, ReplyHead, Status};
+pub use stream::{Served, StreamEnd, serve_stream};

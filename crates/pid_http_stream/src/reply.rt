@@ -1,0 +1,182 @@
+//! The bytes of a reply.
+ghost use Rattle.std.specs.Prelude.{◌≡◌, ◌++◌, codes, ℕ, IfErr, Some, true};
+ghost use Rattle.pid_ident.specs.Sending.{Sends};
+ghost use Rattle.pid_http_stream.specs.Replies.{Answer, status_line as line_of_status, type_line as line_of_type, allow_line as line_of_allow, close_line as line_of_close, reply_text, fault_answer, answer_with};
+
+use crate::judging::StreamFault;
+use itoa::Buffer;
+use pid_ident::{Output, WriteFault, write_parts};
+
+/// The statuses of replies.
+#[derive(Clone, Copy, Debug, PartialEq, Eq)]
+pub enum Status {
+    Okay,
+    BadRequest,
+    Forbidden,
+    NotFound,
+    MethodNotAllowed,
+    Conflict,
+    PayloadTooLarge,
+    UnprocessableEntity,
+    NotImplemented,
+    ServiceUnavailable,
+}
+
+/// What a reply's body is. Only a reply that names the methods allowed has none.
+#[derive(Clone, Copy, Debug, PartialEq, Eq)]
+pub enum Content {
+    Json,
+    Text,
+    Bytes,
+    AllowGet,
+    AllowPost,
+    AllowBoth,
+}
+
+/// A reply without its body.
+#[derive(Clone, Copy, Debug, PartialEq, Eq)]
+pub struct ReplyHead {
+    pub status: Status,
+    pub content: Content,
+}
+
+fn status_line(status: Status) -> &'static [u8]
+    ensures { result.now ≡ line_of_status status }
+{
+    match status {
+        Status::Okay => b"HTTP/1.1 200 OK\r\n",
+        Status::BadRequest => b"HTTP/1.1 400 Bad Request\r\n",
+        Status::Forbidden => b"HTTP/1.1 403 Forbidden\r\n",
+        Status::NotFound => b"HTTP/1.1 404 Not Found\r\n",
+        Status::MethodNotAllowed => b"HTTP/1.1 405 Method Not Allowed\r\n",
+        Status::Conflict => b"HTTP/1.1 409 Conflict\r\n",
+        Status::PayloadTooLarge => b"HTTP/1.1 413 Payload Too Large\r\n",
+        Status::UnprocessableEntity => b"HTTP/1.1 422 Unprocessable Entity\r\n",
+        Status::NotImplemented => b"HTTP/1.1 501 Not Implemented\r\n",
+        Status::ServiceUnavailable => b"HTTP/1.1 503 Service Unavailable\r\n",
+    }
+}
+
+fn type_line(content: Content) -> &'static [u8]
+    ensures { result.now ≡ line_of_type content }
+{
+    match content {
+        Content::Json => b"Content-Type: application/json\r\n",
+        Content::Text => b"Content-Type: text/plain; charset=utf-8\r\n",
+        Content::Bytes => b"Content-Type: text/plain\r\n",
+        Content::AllowGet | Content::AllowPost | Content::AllowBoth => b"",
+    }
+}
+
+fn allow_line(content: Content) -> &'static [u8]
+    ensures { result.now ≡ line_of_allow content }
+{
+    match content {
+        Content::Json | Content::Text | Content::Bytes => b"",
+        Content::AllowGet => b"Allow: GET\r\n",
+        Content::AllowPost => b"Allow: POST\r\n",
+        Content::AllowBoth => b"Allow: GET, POST\r\n",
+    }
+}
+
+fn close_line(closes: bool) -> &'static [u8]
+    ensures { result.now ≡ line_of_close closes }
+{
+    if closes {
+        b"Connection: close\r\n"
+    } else {
+        b""
+    }
+}
+
+fn write_lines<'x, W: Output>(
+    out: &mut W,
+    status: &'x [u8],
+    content: &'x [u8],
+    length: &'x [u8],
+    allow: &'x [u8],
+    close: &'x [u8],
+    body: &'x [u8],
+) -> Result<(), WriteFault>
+    ensures sent { Sends result (W.taken out.old) (W.taken out.new) (status.now ++ content.now ++ codes "Content-Length: " ++ length.now ++ codes "\r\n" ++ allow.now ++ close.now ++ codes "\r\n" ++ body.now) }
+    ensures fault { IfErr result (λ f. W.write_fault out.new ≡ Some f) }
+{
+    write_parts(
+        out,
+        &[
+            status,
+            content,
+            b"Content-Length: ",
+            length,
+            b"\r\n",
+            allow,
+            close,
+            b"\r\n",
+            body,
+        ],
+    )
+}
+
+/// Writes the head of a reply whose body has so many bytes, and then the bytes.
+pub(crate) fn write_reply<W: Output>(
+    head: ReplyHead,
+    told: u64,
+    body: &[u8],
+    closes: bool,
+    out: &mut W,
+) -> Result<(), WriteFault>
+    ensures sent { Sends result (W.taken out.old) (W.taken out.new) (reply_text (record { status = head.status; content = head.content; told = told; body = body.now }) closes) }
+    ensures fault { IfErr result (λ f. W.write_fault out.new ≡ Some f) }
+{
+    let mut digits = Buffer::new();
+    let length = digits.format(told).as_bytes();
+    let status = status_line(head.status);
+    let content = type_line(head.content);
+    let allow = allow_line(head.content);
+    let close = close_line(closes);
+    write_lines(out, status, content, length, allow, close, body)
+}
+
+// Writes a refusal, which ends its stream.
+fn write_refusal<W: Output>(status: Status, body: &[u8], out: &mut W) -> Result<(), WriteFault>
+    ensures sent { Sends result (W.taken out.old) (W.taken out.new) (reply_text (answer_with status Content.Json body.now) true) }
+    ensures fault { IfErr result (λ f. W.write_fault out.new ≡ Some f) }
+{
+    let content = Content::Json;
+    write_reply(
+        ReplyHead { status, content },
+        body.len() as u64,
+        body,
+        true,
+        out,
+    )
+}
+
+/// Writes the reply to a stream that ends with a fault.
+pub(crate) fn write_fault<W: Output>(fault: StreamFault, out: &mut W) -> Result<(), WriteFault>
+    ensures sent { Sends result (W.taken out.old) (W.taken out.new) (reply_text (fault_answer fault) true) }
+    ensures fault { IfErr result (λ f. W.write_fault out.new ≡ Some f) }
+{
+    match fault {
+        StreamFault::BadHead => write_refusal(
+            Status::BadRequest,
+            br#"{"ok":false,"refused":20,"word":"BadHead"}"#,
+            out,
+        ),
+        StreamFault::Encoding => write_refusal(
+            Status::NotImplemented,
+            br#"{"ok":false,"refused":22,"word":"Encoding"}"#,
+            out,
+        ),
+        StreamFault::BodyTooLong => write_refusal(
+            Status::PayloadTooLarge,
+            br#"{"ok":false,"refused":21,"word":"BodyTooLong"}"#,
+            out,
+        ),
+        StreamFault::BodyShort => write_refusal(
+            Status::BadRequest,
+            br#"{"ok":false,"refused":23,"word":"BodyShort"}"#,
+            out,
+        ),
+    }
+}

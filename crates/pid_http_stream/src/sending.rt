@@ -1,0 +1,83 @@
+//! A reply, written to its end.
+ghost use Rattle.std.specs.Prelude.{◌≡◌, IsSome};
+ghost use Rattle.pid_http_stream.specs.Handling.{MayReply};
+ghost use Rattle.pid_http_stream.specs.Replies.{answer_with, reply_head, reply_text};
+ghost use Rattle.pid_http_stream.specs.Requests.{Request};
+ghost use Rattle.pid_http_stream.specs.Steps.{IsSent, SendsText};
+
+use crate::handler::{BodyStop, Handler, Reply, ReplyBody};
+use crate::reply::{ReplyHead, write_reply};
+use pid_ident::Output;
+
+/// How far a reply was written.
+#[derive(Clone, Copy, Debug, PartialEq, Eq)]
+pub(crate) enum Sent {
+    Whole,
+    WriteFault,
+    /// The handler could not go on with the body.
+    StoreFault,
+}
+
+// Writes a reply whose body is there.
+fn send_bytes<W: Output>(head: ReplyHead, body: &[u8], closes: bool, out: &mut W) -> Sent
+    ensures sent { SendsText result (W.taken out.old) (W.taken out.new) (reply_text (answer_with head.status head.content body.now) closes) }
+    ensures fault { result ≡ Sent.WriteFault → IsSome (W.write_fault out.new) }
+{
+    match write_reply(head, body.len() as u64, body, closes, out) {
+        Ok(()) => Sent::Whole,
+        Err(_) => Sent::WriteFault,
+    }
+}
+
+// Writes the head of a reply.
+fn send_head<W: Output>(head: ReplyHead, told: u64, closes: bool, out: &mut W) -> Sent
+    ensures sent { SendsText result (W.taken out.old) (W.taken out.new) (reply_head head.status head.content told closes) }
+    ensures fault { result ≡ Sent.WriteFault → IsSome (W.write_fault out.new) }
+{
+    match write_reply(head, told, b"", closes, out) {
+        Ok(()) => Sent::Whole,
+        Err(_) => Sent::WriteFault,
+    }
+}
+
+// Writes the head of a reply, and lets the handler write the body that it promised.
+fn send_written<H: Handler, W: Output>(
+    handler: &mut H,
+    head: ReplyHead,
+    told: u64,
+    closes: bool,
+    out: &mut W,
+) -> Sent
+    ensures sent { (a : H) (request : Request) → H.promises a request head told handler.old
+        → IsSent (record { answers = H.answers; leaves = H.leaves; gives_up = H.gives_up; promises = H.promises }) a request handler.new closes (W.taken out.old) (W.taken out.new) result }
+    ensures fault { result ≡ Sent.WriteFault → IsSome (W.write_fault out.new) }
+{
+    match send_head(head, told, closes, out) {
+        Sent::Whole => {}
+        Sent::WriteFault => return Sent::WriteFault,
+        Sent::StoreFault => return Sent::StoreFault,
+    }
+    match handler.write_body(out) {
+        Ok(()) => Sent::Whole,
+        Err(BodyStop::Writer) => Sent::WriteFault,
+        Err(BodyStop::Store) => Sent::StoreFault,
+    }
+}
+
+/// Writes a reply, with a body that is there or that the handler writes.
+pub(crate) fn send<H: Handler, W: Output>(
+    handler: &mut H,
+    reply: Reply,
+    closes: bool,
+    out: &mut W,
+) -> Sent
+    ensures sent { (a : H) (request : Request) → MayReply (record { answers = H.answers; leaves = H.leaves; gives_up = H.gives_up; promises = H.promises }) a request reply handler.old
+        → IsSent (record { answers = H.answers; leaves = H.leaves; gives_up = H.gives_up; promises = H.promises }) a request handler.new closes (W.taken out.old) (W.taken out.new) result }
+    ensures fault { result ≡ Sent.WriteFault → IsSome (W.write_fault out.new) }
+{
+    let Reply { head, body } = reply;
+    match body {
+        ReplyBody::Bytes(bytes) => send_bytes(head, &bytes, closes, out),
+        ReplyBody::Written(told) => send_written(handler, head, told, closes, out),
+    }
+}

@@ -1,0 +1,213 @@
+//! A stream of requests, answered one after another.
+ghost use Rattle.std.specs.Prelude.{◌≡◌, ℕ, ◌+◌, ◌-◌, ◌*◌, ◌^◌, ◌<◌, ◌≤◌, List, length, drop, IsSome, IfSome};
+ghost use Rattle.pid_http_stream.specs.Bodies.{SpendsTurns};
+ghost use Rattle.pid_http_stream.specs.Intakes.{StandsAt};
+ghost use Rattle.pid_http_stream.specs.Serving.{IsServed};
+ghost use Rattle.pid_http_stream.specs.Steps.{EndsBroken, IsRefused, Steps, answered_so, stop_end};
+
+use crate::asking::{Asked, ask_over};
+use crate::body_input::BodyFault;
+use crate::handler::Handler;
+use crate::head::Head;
+use crate::intake::{HeadRead, Stop, read_head};
+use crate::judging::{MOST_FIELDS, StreamFault};
+use crate::reply::write_fault;
+use crate::sending::{Sent, send};
+use httparse::spans::EMPTY_HEADER_SPAN;
+use pid_ident::{Input, Output};
+use std::alloc::Global;
+
+/// How the serving of a stream ended.
+#[derive(Clone, Copy, Debug, PartialEq, Eq)]
+pub enum StreamEnd {
+    /// The stream ended behind its last request.
+    Clean,
+    /// The last request asked for it.
+    Closed,
+    /// What came is refused for its head; the refusal was written.
+    HeadFault,
+    /// What came is refused for its body; the refusal was written.
+    BodyFault,
+    /// The reader failed.
+    ReadFault,
+    /// The writer failed, or took no byte; a front of the next reply was written.
+    WriteFault,
+    /// The handler could not go on with a body that it wrote itself; a front of the reply was written.
+    StoreFault,
+    /// Memory was refused.
+    Memory,
+    /// All reads were made that might be.
+    TurnsSpent,
+}
+
+/// How many replies were written whole, and how it ended.
+#[derive(Clone, Copy, Debug, PartialEq, Eq)]
+pub struct Served {
+    /// The count, up to the greatest of its type. A refusal that ends the stream is not counted.
+    pub answered: u64,
+    pub end: StreamEnd,
+}
+
+/// What became of one request.
+#[derive(Clone, Copy, Debug, PartialEq, Eq)]
+pub(crate) enum Answered {
+    /// The reply was written, and the stream goes on.
+    Open,
+    /// The reply was written, and the stream ends.
+    Closed,
+    /// The stream ends within the request or its reply.
+    Ended(StreamEnd),
+}
+
+// Drops so many bytes from the front, or all where there are fewer.
+fn drop_front(held: &mut Vec<u8>, count: usize)
+    ensures { held.new.items ≡ drop count held.old.items }
+{
+    let count = count.min(held.len());
+    held.drain(..count);
+}
+
+// Writes a refusal.
+fn refuse<W: Output>(fault: StreamFault, out: &mut W) -> StreamEnd
+    ensures refused { IsRefused fault (W.taken out.old) (W.taken out.new) result }
+    ensures fault { result ≡ StreamEnd.WriteFault → IsSome (W.write_fault out.new) }
+{
+    match write_fault(fault, out) {
+        Err(_) => StreamEnd::WriteFault,
+        Ok(()) => match fault {
+            StreamFault::BadHead | StreamFault::Encoding => StreamEnd::HeadFault,
+            StreamFault::BodyTooLong | StreamFault::BodyShort => StreamEnd::BodyFault,
+        },
+    }
+}
+
+// Ends a stream whose body broke off; only where it is short that is told.
+fn end_broken<W: Output>(fault: BodyFault, out: &mut W) -> StreamEnd
+    ensures ended { EndsBroken fault (W.taken out.old) (W.taken out.new) result }
+    ensures fault { result ≡ StreamEnd.WriteFault → IsSome (W.write_fault out.new) }
+{
+    match fault {
+        BodyFault::Short => refuse(StreamFault::BodyShort, out),
+        BodyFault::ReadFault => StreamEnd::ReadFault,
+        BodyFault::TurnsSpent => StreamEnd::TurnsSpent,
+    }
+}
+
+// What became of a request whose reply was sent so far.
+fn answered_by(sent: Sent, closes: bool) -> Answered
+    ensures { result ≡ answered_so sent closes }
+{
+    match sent {
+        Sent::Whole => {
+            if closes {
+                Answered::Closed
+            } else {
+                Answered::Open
+            }
+        }
+        Sent::WriteFault => Answered::Ended(StreamEnd::WriteFault),
+        Sent::StoreFault => Answered::Ended(StreamEnd::StoreFault),
+    }
+}
+
+// Serves the request whose head stands at the front of the bytes held, and whose body has so many bytes.
+fn serve_request<H: Handler, I: Input, W: Output>(
+    alloc: Global,
+    handler: &mut H,
+    head: &Head<'_>,
+    told: usize,
+    input: &mut I,
+    left: &mut u64,
+    out: &mut W,
+) -> Answered
+    requires { StandsAt head.now.bytes.now head.now.fields.now head.now.spans told }
+    ensures stepped { IfSome (I.to_come input.old) (λ _. Steps (record { answers = H.answers; leaves = H.leaves; gives_up = H.gives_up; promises = H.promises })
+        (record { a = handler.old; b = handler.new; input = I.to_come input.old; input_after = I.to_come input.new }) head.now.bytes.now (drop (head.now.spans.len + told) head.now.bytes.now)
+        (W.taken out.old) (W.taken out.new) result) }
+    ensures turns { SpendsTurns (record { reads = I.reads input.old; left = left.old }) (record { reads = I.reads input.new; left = left.new }) }
+    ensures read_fault { result ≡ Answered.Ended StreamEnd.ReadFault → IsSome (I.read_fault input.new) }
+    ensures write_fault { result ≡ Answered.Ended StreamEnd.WriteFault → IsSome (W.write_fault out.new) }
+    ensures spent { result ≡ Answered.Ended StreamEnd.TurnsSpent → left.new ≡ 0 }
+    ensures goes { I.goes input.old input.new }
+{
+    match ask_over(alloc, handler, head, told, input, left) {
+        Asked::Reply(reply) => {
+            let closes = head.closes();
+            answered_by(send(handler, reply, closes, out), closes)
+        }
+        Asked::NoMemory => Answered::Ended(StreamEnd::Memory),
+        Asked::Broken(fault) => Answered::Ended(end_broken(fault, out)),
+    }
+}
+
+fn end_of(stop: Stop) -> StreamEnd
+    ensures { result ≡ stop_end stop }
+{
+    match stop {
+        Stop::ReadFault => StreamEnd::ReadFault,
+        Stop::TurnsSpent => StreamEnd::TurnsSpent,
+        Stop::Memory => StreamEnd::Memory,
+    }
+}
+
+/// Answers the requests of a stream, one after another, in at most so many reads.
+///
+/// The reply to each is written before more is read than it needs. Where the writer takes all and neither memory, turns nor the
+/// store fail, the bytes written are the replies to the requests of the whole stream, in their order, however the bytes come
+/// cut; then the one refusal where the stream ends with a fault.
+pub fn serve_stream<H: Handler, I: Input, W: Output>(
+    alloc: Global,
+    handler: &mut H,
+    input: &mut I,
+    output: &mut W,
+    turns: u64,
+) -> Served
+    ensures served { IfSome (I.to_come input.old) (λ stream. IsServed (record { answers = H.answers; leaves = H.leaves; gives_up = H.gives_up; promises = H.promises })
+        (record { handler = handler.old; handler_after = handler.new; taken = W.taken output.old; taken_after = W.taken output.new }) stream (I.to_come input.new) result.end result.answered) }
+    ensures reads { I.reads input.new ≤ I.reads input.old + turns }
+    ensures turns { result.end ≡ StreamEnd.TurnsSpent → I.reads input.old + turns ≤ 2 ^ 64 - 1 → I.reads input.new ≡ I.reads input.old + turns }
+    ensures read_fault { result.end ≡ StreamEnd.ReadFault → IsSome (I.read_fault input.new) }
+    ensures write_fault { result.end ≡ StreamEnd.WriteFault → IsSome (W.write_fault output.new) }
+    ensures goes { I.goes input.old input.new }
+{
+    let mut fields = [EMPTY_HEADER_SPAN; MOST_FIELDS];
+    let mut held = Vec::new(alloc);
+    let mut left = turns;
+    let mut answered: u64 = 0;
+    'serving: loop {
+        match read_head(&mut held, &mut left, input, &mut fields) {
+            HeadRead::Nothing => return Served {
+                answered,
+                end: StreamEnd::Clean,
+            },
+            HeadRead::Faulty(fault) => {
+                let end = refuse(fault, output);
+                return Served { answered, end };
+            }
+            HeadRead::Stopped(stop) => {
+                let end = end_of(stop);
+                return Served { answered, end };
+            }
+            HeadRead::Head { spans, body } => {
+                let head = Head {
+                    bytes: &held,
+                    fields: &fields,
+                    spans,
+                };
+                match serve_request(alloc, handler, &head, body, input, &mut left, output) {
+                    Answered::Open => {
+                        answered = answered.saturating_add(1);
+                        drop_front(&mut held, spans.len + body);
+                    }
+                    Answered::Closed => {
+                        return Served {
+                            answered: answered.saturating_add(1),
+                            end: StreamEnd::Closed,
+                        };
+                    }
+                    Answered::Ended(end) => return Served { answered, end },
+                }
+            }
+        }
+    }
+}
