@@ -1,9 +1,10 @@
-/* What the tool registry_file does to a registry's file, done by C SQLite: the same statements, in the same order, over a
- * file with a write-ahead log that is synced at each commit.
+/* What the tool registry_file has a registry do, done by C SQLite: the same statements, in the same order, over a file with a
+ * write-ahead log that is synced at each commit.
  *
  *   registry FILE make < LINES     a new registry; each line is a path, a tab and a name; one transaction
  *   registry FILE rows COUNT       a new registry with COUNT rows in each table
- *   registry FILE JOB TIMES        JOB: nothing, item, each, children, pending, check, command
+ *   registry FILE submissions N    a new registry with N submissions, all decided
+ *   registry FILE JOB TIMES        JOB: nothing, item, export, children, pending, open, unknown, keyed
  */
 #include <sqlite3.h>
 #include <stdio.h>
@@ -131,10 +132,62 @@ static void fill(int count)
     run("COMMIT");
 }
 
-/* A submission of a name and its approval: two transactions, with the selects by which each is judged. */
+/* The submissions alone, of one author, each approved. */
+static void fill_submissions(int count)
+{
+    run("BEGIN");
+    create();
+    sqlite3_stmt *submission = prepared("INSERT INTO submission VALUES (?1, 'bob', 'PC/0001', 0, 'a', '', 1, 'root', '')");
+    for (int at = 1; at <= count; at++) {
+        sqlite3_bind_int(submission, 1, at);
+        rows(submission);
+    }
+    sqlite3_stmt *counts = prepared("UPDATE meta SET value = ?1 WHERE label = 'submissions'");
+    sqlite3_bind_int(counts, 1, count);
+    rows(counts);
+    run("COMMIT");
+}
+
+/* The canonical text, as the program prints it. */
+static void print_items(void)
+{
+    char open[5] = "";
+    sqlite3_stmt *all = prepared("SELECT path, name FROM item ORDER BY path");
+    puts("# PCI ID registry");
+    while (sqlite3_step(all) == SQLITE_ROW) {
+        const char *path = (const char *)sqlite3_column_text(all, 0), *name = (const char *)sqlite3_column_text(all, 1);
+        size_t length = strlen(path);
+        if (path[1] == 'S') {
+            if (strncmp(open, path + 3, 4) != 0)
+                printf("S %.4s\n", path + 3);
+            memcpy(open, path + 3, 4);
+            printf("\t%s  %s\n", path + 8, name);
+        } else if (path[1] == 'D')
+            printf(length == 5 ? "C %s  %s\n" : length == 8 ? "\t%s  %s\n" : "\t\t%s  %s\n", path + length - 2, name);
+        else if (length == 21)
+            printf("\t\t%.4s %s  %s\n", path + 13, path + 17, name);
+        else
+            printf(length == 7 ? "%s  %s\n" : "\t%s  %s\n", path + length - 4, name);
+    }
+    sqlite3_finalize(all);
+}
+
+/* A receipt under the key is looked for, and the reply kept there. */
+static void keep(sqlite3_stmt *receipt, const char *account, const char *key, int kind, int number)
+{
+    text(receipt, 1, account);
+    text(receipt, 2, key);
+    sqlite3_bind_int(receipt, 3, kind);
+    sqlite3_bind_int(receipt, 4, number);
+    rows(receipt);
+}
+
+/* A submission of a name and its approval, each under a key: two transactions, with the selects by which each is judged. */
 static void commands(int times)
 {
-    char path[16];
+    char path[16], key[16];
+    sqlite3_stmt *kept = prepared("SELECT kind, a, b, c FROM receipt WHERE account = ?1 AND token = ?2");
+    sqlite3_stmt *receipt = prepared("INSERT INTO receipt (account, token, kind, a, b, c) VALUES (?1, ?2, ?3, ?4, 0, 0)");
     sqlite3_stmt *rank = prepared("SELECT rank FROM account WHERE name = ?1");
     sqlite3_stmt *label = prepared("SELECT value FROM meta WHERE label = ?1");
     sqlite3_stmt *named = prepared("SELECT author, path, form, name, note, state, decider, reason FROM submission WHERE num = ?1");
@@ -154,8 +207,12 @@ static void commands(int times)
         char low[32], high[32];
         number++;
         snprintf(path, sizeof path, "PC/%04x", at & 0xffff);
+        snprintf(key, sizeof key, "k%d", at);
         text(rank, 1, "bob");
         rows(rank);
+        text(kept, 1, "bob");
+        text(kept, 2, key);
+        rows(kept);
         text(label, 1, "submissions");
         rows(label);
         run("BEGIN IMMEDIATE");
@@ -169,10 +226,14 @@ static void commands(int times)
         text(count, 1, "submissions");
         sqlite3_bind_int(count, 2, number);
         rows(count);
+        keep(receipt, "bob", key, 1, number);
         run("COMMIT");
 
         text(rank, 1, "root");
         rows(rank);
+        text(kept, 1, "root");
+        text(kept, 2, key);
+        rows(kept);
         sqlite3_bind_int(named, 1, number);
         rows(named);
         sqlite3_bind_int(places, 1, number);
@@ -200,32 +261,43 @@ static void commands(int times)
         sqlite3_bind_int(count, 2, 0);
         text(count, 1, "none");
         rows(count);
+        keep(receipt, "root", key, 0, 0);
         run("COMMIT");
     }
 }
 
 static int job(const char *name, int times)
 {
-    char path[16];
+    char path[32];
     if (strcmp(name, "nothing") == 0)
         return 0;
-    if (strcmp(name, "command") == 0) {
+    if (strcmp(name, "keyed") == 0) {
         commands(times);
         return 0;
     }
-    const char *sql = strcmp(name, "item") == 0 ? "SELECT name FROM item WHERE path = ?1"
-        : strcmp(name, "each") == 0 ? "SELECT path, name FROM item ORDER BY path"
+    if (strcmp(name, "export") == 0) {
+        for (int at = 0; at < times; at++)
+            print_items();
+        return 0;
+    }
+    int is_pair = strcmp(name, "unknown") == 0;
+    const char *sql = is_pair || strcmp(name, "item") == 0 ? "SELECT name FROM item WHERE path = ?1"
         : strcmp(name, "children") == 0 ? "SELECT path, name FROM item WHERE path > 'PC/ffff/' AND path < 'PC/ffff0' ORDER BY path"
         : strcmp(name, "pending") == 0 ? "SELECT num, author, path, form, name, note, state, decider, reason FROM submission WHERE state = 0 AND num > 0 ORDER BY num LIMIT 100"
-        : strcmp(name, "check") == 0 ? "PRAGMA integrity_check" : NULL;
+        : strcmp(name, "open") == 0 ? "PRAGMA integrity_check" : NULL;
     if (sql == NULL)
         return 1;
     sqlite3_stmt *statement = prepared(sql);
     for (int at = 0; at < times; at++) {
         snprintf(path, sizeof path, "PC/%04x", at & 0xffff);
-        if (strcmp(name, "item") == 0)
+        if (is_pair || strcmp(name, "item") == 0)
             text(statement, 1, path);
         rows(statement);
+        if (is_pair) {
+            strcat(path, "/0000");
+            text(statement, 1, path);
+            rows(statement);
+        }
     }
     sqlite3_finalize(statement);
     return 0;
@@ -240,6 +312,8 @@ int main(int count, char **words)
         make();
     else if (count == 4 && strcmp(words[2], "rows") == 0)
         fill(atoi(words[3]));
+    else if (count == 4 && strcmp(words[2], "submissions") == 0)
+        fill_submissions(atoi(words[3]));
     else if (count != 4 || job(words[2], atoi(words[3])) != 0)
         return 2;
     return 0;
