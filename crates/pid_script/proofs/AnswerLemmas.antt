@@ -35,13 +35,14 @@ use Rattle.pid_script.specs.declared.line_end.LineEnd.TheVariants.{Stopped, Writ
 use Rattle.pid_script.specs.declared.moderated.Moderated.{Ghosts}
 use Rattle.pid_script.specs.Asking.{command_asked, path_asked, look_up_asked, other_fields, refused_or, path_checks}
 use Rattle.pid_ident.specs.declared.io.WriteFault.{WriteFault as OutputFault}
-use Rattle.pid_script.specs.declared.moderated.ExportFault.{ExportFault}
-use Rattle.pid_script.specs.declared.moderated.ExportFault.TheVariants.{Refused, Write}
+use Rattle.pid_service.specs.declared.exporting.ExportFault.{ExportFault}
+use Rattle.pid_service.specs.declared.exporting.ExportFault.TheVariants.{Refused, Write}
 use Rattle.pid_script.specs.Exporting.{Exports, TakesWholeFront}
-use Rattle.pid_script.specs.Files.{asks}
+use Rattle.pid_import.specs.Files.{asks}
 use Rattle.pid_script.specs.LookUpFields.{look_up_told}
 use Rattle.pid_script.specs.LookingUp.{LooksUp}
-use Rattle.pid_script.specs.Obeying.{IsFault, Obeys}
+use Rattle.pid_import.specs.Faults.{IsFault}
+use Rattle.pid_script.specs.Obeying.{Obeys}
 use Rattle.pid_script.specs.Replies.{reply_to, command_of, those_sent, outcome_of, is_call, looked_up, answer_line, BAD_FLAGS}
 use Rattle.pid_script.specs.Saying.{Out, out, Says, SaysFront, IsGiven, IsNothing, Tells, IsAnswer, refusal_in, refusal_of_names, GoesOn, IsUnfit, Unfit, Leaves, LineEnds}
 use Rattle.pid_script.specs.ScriptLines as lines
