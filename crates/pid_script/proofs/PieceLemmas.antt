@@ -1,5 +1,5 @@
 -- The lines of a script, one behind another.
-use Rattle.std.proofs.Common.{◌≡◌, ℕ, ◌<◌, List, [], ◌∷◌, ◌++◌, length, Option, Result, Ok, Err, refl, sym, ap, subst, ◌∙◌, append_assoc, arith, inl, inr, eqb, cond, true, false, map}
+use Rattle.std.proofs.Common.{◌≡◌, ℕ, List, [], ◌∷◌, ◌++◌, Option, Result, Ok, Err, refl, sym, ap, subst, ◌∙◌, append_assoc, inl, inr, eqb, cond, true, false, map}
 use Rattle.std.proofs.lemmas.List.{append-nil}
 use Rattle.std.specs.Io.KnownBytes.{Appends}
 use Rattle.std.specs.Prelude.{◌⊎◌, OnOk, OnErr, IfErr}
@@ -7,20 +7,18 @@ use Rattle.pid_ident.specs.Sending.{SendsFront}
 use Rattle.pid_reader.specs.Lines.{pieces_of, onto_first, lines_of, drop_cr}
 use Rattle.pid_reader.specs.WholeLines.{ended_pieces, open_part, whole_lines, onto_ended}
 use Rattle.pid_reader.proofs.Cuts.{whole_line, open_behind, whole_same, open_longer, lines_split, last_line, lines_more, open_no_lf, open_then, piece_first}
-use Rattle.pid_moderation.specs.declared.command.Command.{Command}
 use Rattle.pid_moderation.specs.declared.refusal.Refusal.{Refusal}
 use Rattle.pid_moderation.specs.History.{Asked, History}
 use Rattle.pid_moderation.specs.Judgement.{after, after_all}
 use Rattle.pid_script.specs.declared.line_end.LineEnd.{LineEnd}
 use Rattle.pid_script.specs.declared.line_end.LineEnd.TheVariants.{Stopped, WriteFault, TooLong}
 use Rattle.pid_script.specs.declared.moderated.Moderated.{Ghosts}
-use Rattle.pid_script.specs.Asking.{command_asked}
 use Rattle.pid_script.specs.Progress.{Answered, HasAnswered, Ended, Ends}
-use Rattle.pid_script.specs.Replies.{reply_to, those_sent, command_of, commands_in, history_after, replies, is_call}
+use Rattle.pid_script.specs.Replies.{reply_to, command_of, commands_in, history_after, replies, is_call}
 use Rattle.pid_script.specs.Saying.{Out, out, Says, LineEnds, Unfit}
 use Rattle.pid_script.specs.ScriptLines as asks
 use Rattle.pid_script.specs.ScriptLines.{Ask, ask_of}
-use Rattle.pid_script.specs.Scripts.{NoneTooLong, NoneCalls, passage, Answers, IsToldFor, BreaksOff}
+use Rattle.pid_script.specs.Scripts.{NoneTooLong, NoneCalls, QuietButLast, passage, Answers, IsToldFor, BreaksOff}
 use Rattle.pid_script.specs.Standing.{Stands, Becomes, BecomesEither}
 use Rattle.pid_script.specs.StopLines.{IsBegun, IsCause, IsStopText}
 use Rattle.pid_script.proofs.AnswerLemmas.{unfit_ends}
@@ -61,19 +59,25 @@ calls_more : (xs : List (List ℕ)) (line : List ℕ) → NoneCalls xs → is_ca
 calls_more [] line f g = (g, tt)
 calls_more (x ∷ xs) line f g = (f.0, calls_more xs line f.1 g)
 
-few_sent : (asked : Result Command Refusal) → length (those_sent asked) < 2
-few_sent (Ok command) = omega arith
-few_sent (Err refusal) = omega arith
+none_first : (xs ys : List Asked) → xs ++ ys ≡ [] → xs ≡ []
+none_first [] ys is = refl
+none_first (x ∷ xs) ys is = absurd cc
 
--- a line is one command at most
-few : (ask : Ask) → length (command_of ask) < 2
-few asks.Nothing = omega arith
-few (asks.Commands verb account fields) = few_sent (command_asked verb account fields)
-few asks.Exports = omega arith
-few (asks.Reads fields) = omega arith
-few (asks.LooksUp fields) = omega arith
-few asks.Unclear = omega arith
-few asks.TooLong = omega arith
+none_behind : (xs ys : List Asked) → xs ++ ys ≡ [] → ys ≡ []
+none_behind [] ys is = is
+none_behind (x ∷ xs) ys is = absurd cc
+
+-- lines without a command
+quiet_lines : (lines : List (List ℕ)) → commands_in lines ≡ [] → QuietButLast lines
+quiet_lines [] none = tt
+quiet_lines (x ∷ []) none = tt
+quiet_lines (x ∷ y ∷ lines) none = (none_first (command_of (ask_of x)) (commands_in (y ∷ lines)) none, quiet_lines (y ∷ lines) (none_behind (command_of (ask_of x)) (commands_in (y ∷ lines)) none))
+
+-- and one line more
+quiet_before : (lines : List (List ℕ)) (line : List ℕ) → commands_in lines ≡ [] → QuietButLast (lines ++ line ∷ [])
+quiet_before [] line none = tt
+quiet_before (x ∷ []) line none = (none_first (command_of (ask_of x)) [] none, tt)
+quiet_before (x ∷ y ∷ lines) line none = (none_first (command_of (ask_of x)) (commands_in (y ∷ lines)) none, quiet_before (y ∷ lines) line (none_behind (command_of (ask_of x)) (commands_in (y ∷ lines)) none))
 
 becomes_then : {R : Type 0} (m : Ghosts R) (a b c : R) (h k l : History) → Becomes m a h b k → Becomes m b k c l → Becomes m a h c l
 becomes_then m a b c h k l p q = record { shows = λ s. q.shows (p.shows s); failed = λ f. q.failed (subst m.has_failed (sym (p.failed f)) f) ∙ p.failed f }
@@ -149,7 +153,7 @@ broken m h start first r old new all lines behind parts a front = record {
   waiting = a.waiting;
   behind = behind;
   parts = parts ∙ ap (λ (l : List (List ℕ)). l ++ behind) a.parts ∙ append_assoc a.before a.waiting behind;
-  few = omega (arith, ap length a.asked);
+  quiet = quiet_lines a.waiting a.asked;
   between = a.between;
   told = a.told;
   text = replies (history_after h a.before) a.waiting;
@@ -263,7 +267,7 @@ ends_at m WriteFault h start first r new old left all lines line behind parts a 
       waiting = a.waiting ++ line ∷ [];
       behind = behind;
       parts = parts ∙ ap (λ (l : List (List ℕ)). l ++ line ∷ behind) a.parts ∙ append_assoc a.before a.waiting (line ∷ behind) ∙ ap (λ (l : List (List ℕ)). a.before ++ l) (sym (append_assoc a.waiting (line ∷ []) behind));
-      few = subst (λ cs. length cs < 2) (sym (commands_more a.waiting (line ∷ []) ∙ ap (λ (l : List Asked). l ++ commands_in (line ∷ [])) a.asked ∙ commands_one line)) (few (ask_of line));
+      quiet = quiet_before a.waiting line a.asked;
       between = a.between;
       told = a.told;
       text = replies at a.waiting ++ e.tells.text;
