@@ -1,5 +1,4 @@
 -- What a registry exports and answers to look-ups, in the words of scripts.
-use mathlib.Core.Bool.{true≢false}
 use Rattle.std.proofs.Common.{◌≡◌, ◌↔◌, ℕ, Bool, true, false, List, [], ◌∷◌, ◌++◌, Option, Result, Ok, Err, IfOk, refl, sym, ap, subst, ◌∙◌, append_assoc}
 use Rattle.std.specs.Prelude.{IsErrOf}
 use Rattle.pid_export.proofs.ItemLines.{last_path, text_behind, text_joined}
