@@ -41,7 +41,7 @@ use Rattle.pid_script.specs.Exporting.{Exports, TakesWholeFront}
 use Rattle.pid_import.specs.Files.{asks}
 use Rattle.pid_script.specs.LookUpFields.{look_up_told}
 use Rattle.pid_script.specs.LookingUp.{LooksUp}
-use Rattle.pid_import.specs.Faults.{IsFault}
+use Rattle.pid_moderation.specs.Faults.{IsFault}
 use Rattle.pid_script.specs.Obeying.{Obeys}
 use Rattle.pid_script.specs.Replies.{reply_to, command_of, those_sent, outcome_of, is_call, looked_up, answer_line, BAD_FLAGS}
 use Rattle.pid_script.specs.Saying.{Out, out, Says, SaysFront, IsGiven, IsNothing, Tells, IsAnswer, refusal_in, refusal_of_names, GoesOn, IsUnfit, Unfit, Leaves, LineEnds}

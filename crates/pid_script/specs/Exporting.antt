@@ -4,7 +4,7 @@ use Rattle.std.specs.Io.KnownBytes.{Appends}
 use Rattle.pid_ident.specs.Sending.{SendsFront}
 use Rattle.pid_service.specs.declared.exporting.ExportFault.{ExportFault}
 use Rattle.pid_service.specs.declared.exporting.ExportFault.TheVariants.{Refused, Write}
-use Rattle.pid_import.specs.Faults.{IsFault}
+use Rattle.pid_moderation.specs.Faults.{IsFault}
 use Rattle.pid_script.specs.WholeFronts.{IsWholeFront}
 
 -- whole lines of the text went out

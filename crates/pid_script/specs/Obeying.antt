@@ -1,6 +1,6 @@
 -- What a registry answers to a command, and what it shows afterwards.
 use Rattle.std.specs.Prelude.{◌≡◌, ◌⊎◌, Result, IsErrAnd}
-use Rattle.pid_import.specs.Faults.{IsFault}
+use Rattle.pid_moderation.specs.Faults.{IsFault}
 use Rattle.pid_moderation.specs.declared.command.Reply.{Reply}
 use Rattle.pid_moderation.specs.declared.refusal.Refusal.{Refusal}
 use Rattle.pid_moderation.specs.History.{Asked, History}

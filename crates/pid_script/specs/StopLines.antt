@@ -7,7 +7,7 @@ use Rattle.pid_moderation.specs.History.{History}
 use Rattle.pid_moderation.specs.ReplyLines.{refused_line}
 use Rattle.pid_moderation.specs.Writes.{tree_of}
 use Rattle.pid_script.specs.declared.moderated.Moderated.{Ghosts}
-use Rattle.pid_import.specs.Faults.{IsFault}
+use Rattle.pid_moderation.specs.Faults.{IsFault}
 use Rattle.pid_script.specs.Replies.{is_call}
 use Rattle.pid_script.specs.ScriptLines.{Ask, Nothing, Commands, Exports, Reads, LooksUp, Unclear, TooLong}
 use Rattle.pid_script.specs.WholeFronts.{IsWholeFront}

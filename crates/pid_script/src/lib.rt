@@ -7,7 +7,6 @@ mod line;
 mod line_end;
 mod look_up;
 mod moderated;
-mod pieces;
 mod registry;
 mod reply;
 mod saying;

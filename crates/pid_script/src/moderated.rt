@@ -8,7 +8,7 @@ ghost use Rattle.pid_moderation.specs.Items.{name_at};
 ghost use Rattle.pid_moderation.specs.Views.{items_of};
 ghost use Rattle.pid_moderation.specs.Writes.{tree_of};
 ghost use Rattle.pid_moderation.specs.declared.refusal.Refusal.TheVariants.{Failed};
-ghost use Rattle.pid_import.specs.Faults.{IsFault};
+ghost use Rattle.pid_moderation.specs.Faults.{IsFault};
 ghost use Rattle.pid_import.specs.Files.{asks};
 ghost use Rattle.pid_script.specs.Exporting.{Exports};
 ghost use Rattle.pid_script.specs.LookingUp.{LooksUp};

@@ -12,11 +12,11 @@ use crate::answering::answer_line;
 use crate::line::LONGEST_LINE;
 use crate::line_end::LineEnd;
 use crate::moderated::Moderated;
-use crate::pieces::{split_line, without_cr};
 use crate::reply::{refuse_long, stop_for_memory};
 use crate::saying::flush;
 use crate::script_end::ScriptEnd;
 use pid_ident::{Input, Output};
+use pid_reader::{split_line, without_cr};
 use std::alloc::Global;
 
 /// The most that one read asks for, in bytes.
