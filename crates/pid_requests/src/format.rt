@@ -1,9 +1,9 @@
-//! The formats of replies.
+//! The two forms of replies.
 
 /// How a reply is written.
 #[derive(Clone, Copy, Debug, PartialEq, Eq)]
 pub enum Format {
-    /// As JSON.
+    /// As one JSON value (RFC 8259). Also where a request names no format.
     Json,
     /// As lines of text.
     Text,

@@ -1,0 +1,6 @@
+//! What an HTTP request asks for.
+#![tactic(auto)]
+
+mod format;
+
+pub use format::Format;
