@@ -1,5 +1,4 @@
 //! One connection.
-ghost use Rattle.std.specs.Prelude.{◌≡◌};
 
 use crate::closing::close;
 use crate::server::StreamServer;
@@ -12,13 +11,13 @@ use std::io::{BufReader, BufWriter, Read, Write};
 use std::net::TcpStream;
 
 /// The most that is read ahead of what is asked for, in bytes.
-pub(crate) const READ_AHEAD: usize = 65_536;
+const READ_AHEAD: usize = 65_536;
 
 /// The most of a reply that is held back, in bytes.
-pub(crate) const HELD_BACK: usize = 65_536;
+const HELD_BACK: usize = 65_536;
 
 /// The most reads of one stream.
-pub const TURNS: u64 = 1_000_000;
+const TURNS: u64 = 1_000_000;
 
 // Serves what a reader gives, and sends all replies.
 fn serve_sides<S: StreamServer, R: Read + Drop, W: Write + Drop>(

@@ -1,5 +1,5 @@
 //! What serves the streams of connections.
-ghost use Rattle.std.specs.Prelude.{◌≡◌, ℕ, ◌+◌, ◌≤◌, Bool};
+ghost use Rattle.std.specs.Prelude.{◌≡◌, ◌+◌, ◌≤◌};
 
 use pid_http_stream::Served;
 use pid_ident::{Input, Output};

@@ -1,5 +1,5 @@
 //! One connection after the other.
-ghost use Rattle.std.specs.Prelude.{◌≡◌, ◌≤◌, true, false};
+ghost use Rattle.std.specs.Prelude.{◌≡◌, ◌≢◌, ◌<◌, ◌≤◌, true, false};
 
 use crate::connection::serve_connection;
 use crate::server::StreamServer;
@@ -53,7 +53,8 @@ pub fn serve_on<S: StreamServer>(
     ensures goes { S.goes server.old server.new }
     ensures streams { result.streams ≤ connections }
     ensures all { result.end ≡ ServingEnd.All → result.streams ≡ connections }
-    ensures live { result.end ≡ ServingEnd.NotLive → S.live server.new ≡ false }
+    ensures not_live { result.end ≡ ServingEnd.NotLive → S.live server.new ≡ false }
+    ensures live { result.end ≢ ServingEnd.NotLive → 0 < result.streams → S.live server.new ≡ true }
 {
     for begun in 0..connections {
         let Some(stream) = next_connection(listener) else {

@@ -1,6 +1,4 @@
 //! The two sides of a connection: a reader that first sends what the writer holds back.
-ghost use Rattle.std.specs.Prelude.{◌≡◌};
-
 use std::cell::RefCell;
 use std::io;
 use std::io::{BufReader, BufWriter, ErrorKind, Read, Write};
@@ -13,7 +11,8 @@ pub(crate) fn send_held<W: Write + Drop>(writer: &RefCell<BufWriter<W>>) -> io::
     }
 }
 
-/// What a client sends. Before more of it is waited for, all replies to what it sent so far are sent.
+/// What a client sends. Before more of it is waited for, all replies to what it sent so far are sent; where that fails no more is
+/// read.
 #[derive(Drop)]
 pub(crate) struct Requests<'w, R: Drop, W: Write + Drop> {
     pub(crate) reader: BufReader<R>,

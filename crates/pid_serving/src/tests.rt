@@ -1,6 +1,4 @@
 //! Connections over the loopback interface of this machine.
-ghost use Rattle.std.specs.Prelude.{◌≡◌, true};
-
 use crate::{Serving, ServingEnd, StreamServer, serve_on};
 use pid_http_stream::{Served, StreamEnd};
 use pid_ident::{Input, Output, write_all};
