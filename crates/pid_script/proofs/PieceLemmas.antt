@@ -85,11 +85,11 @@ pub stands_then : {R : Type 0} (m : Ghosts R) (a b : R) (h k : History) → Beco
 stands_then m a b h k p (inl s) = inl (p.shows s)
 stands_then m a b h k p (inr f) = inr (subst m.has_failed (sym (p.failed f)) f)
 
-cause_then : {R : Type 0} (m : Ghosts R) (a b : R) (h k : History) → Becomes m a h b k → (e : Refusal) → IsCause m b k e → IsCause m a h e
-cause_then m a b h k p e c = record { live = λ s. c.live (p.shows s); failed = λ f. c.failed (subst m.has_failed (sym (p.failed f)) f) }
+cause_then : {R : Type 0} (m : Ghosts R) (a b : R) (h k : History) → Becomes m a h b k → (ask : Ask) (e : Refusal) → IsCause m b k ask e → IsCause m a h ask e
+cause_then m a b h k p ask e c = record { live = λ s. c.live (p.shows s); failed = λ f. c.failed (subst m.has_failed (sym (p.failed f)) f); unasked = c.unasked }
 
-stop_then : {R : Type 0} (m : Ghosts R) (a b : R) (h k : History) (Begun : List ℕ → Type 0) (text : List ℕ) → Becomes m a h b k → IsStopText (IsCause m b k) Begun text → IsStopText (IsCause m a h) Begun text
-stop_then m a b h k Begun text p s = record { begun = s.begun; front = s.front; refusal = s.refusal; cause = cause_then m a b h k p s.refusal s.cause; is = s.is }
+stop_then : {R : Type 0} (m : Ghosts R) (a b : R) (h k : History) (ask : Ask) (Begun : List ℕ → Type 0) (text : List ℕ) → Becomes m a h b k → IsStopText (IsCause m b k ask) Begun text → IsStopText (IsCause m a h ask) Begun text
+stop_then m a b h k ask Begun text p s = record { begun = s.begun; front = s.front; refusal = s.refusal; cause = cause_then m a b h k p ask s.refusal s.cause; is = s.is }
 
 -- what has gone out of the replies, and more behind
 gone_on : (x y z w : List ℕ) → x ++ y ≡ z → x ++ (y ++ w) ≡ z ++ w
@@ -218,12 +218,12 @@ more_answered m x h start first r new old left lines line a e = by e.leaves.flus
 
 -- the text of the lines that wait, and of one more
 told_for : {R : Type 0} (m : Ghosts R) (first r : R) (h at k : History) (waiting : List (List ℕ)) (line text : List ℕ) → k ≡ history_after at waiting → Becomes m first h r k
-    → (text ≡ reply_to (ask_of line) k) ⊎ IsStopText (IsCause m r k) (IsBegun (ask_of line) k) text
+    → (text ≡ reply_to (ask_of line) k) ⊎ IsStopText (IsCause m r k (ask_of line)) (IsBegun (ask_of line) k) text
     → IsToldFor m first h at (waiting ++ line ∷ []) (replies at waiting ++ text)
 told_for m first r h at k waiting line text same becomes (inl is) =
     inl (ap (λ (l : List ℕ). replies at waiting ++ l) (is ∙ ap (reply_to (ask_of line)) same ∙ sym (replies_one line (history_after at waiting))) ∙ sym (replies_on waiting (line ∷ []) at))
 told_for m first r h at k waiting line text same becomes (inr stop) =
-    inr (waiting, line, text, refl, subst (λ g. IsStopText (IsCause m first h) (IsBegun (ask_of line) g) text) same (stop_then m first r h k (IsBegun (ask_of line) k) text becomes stop), refl)
+    inr (waiting, line, text, refl, subst (λ g. IsStopText (IsCause m first h (ask_of line)) (IsBegun (ask_of line) g) text) same (stop_then m first r h k (ask_of line) (IsBegun (ask_of line) k) text becomes stop), refl)
 
 -- a line ended it
 pub ends_at : {R : Type 0} (m : Ghosts R) (end : LineEnd) (h : History) (start : Option (List ℕ)) (first r new : R) (old left : Out) (all lines : List (List ℕ)) (line : List ℕ) (behind : List (List ℕ))
@@ -237,7 +237,7 @@ ends_at m Stopped h start first r new old left all lines line behind parts a e =
   fits = a.fits;
   lives = a.lives;
   text = e.tells.text;
-  stop = stop_then m first r h (history_after h lines) (IsBegun (ask_of line) (history_after h lines)) e.tells.text a.leaves e.tells.stop;
+  stop = stop_then m first r h (history_after h lines) (ask_of line) (IsBegun (ask_of line) (history_after h lines)) e.tells.text a.leaves e.tells.stop;
   told = all_told m h start first r old left.taken lines e.tells.text a e.tells.told;
   leaves = subst (BecomesEither m first h new (history_after h lines)) (sym (history_more h lines line)) (either_then m first r new h (history_after h lines) (history_after h lines) (after_all (history_after h lines) (command_of (ask_of line))) a.leaves e.leaves);
 }

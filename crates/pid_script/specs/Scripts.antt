@@ -45,7 +45,7 @@ module _ {R : Type 0} (registry : Ghosts R) where
 
   -- what stops a script at a line, whose history is the one behind the lines before
   abbrev pub IsStop : R → History → History → List ℕ → List ℕ → Type 0
-  IsStop r h at line text = IsStopText (IsCause registry r h) (IsBegun (ask_of line) at) text
+  IsStop r h at line text = IsStopText (IsCause registry r h (ask_of line)) (IsBegun (ask_of line) at) text
 
   -- the lines before one got their replies, and in place of its reply, or behind what was begun of it, a refusal stopped the script
   pub record StopsAtLine (h : History) (p : Passage R) (lines : List (List ℕ)) : Type 0 where

@@ -34,8 +34,8 @@ A text is also refused as 'too many entries' (over 100,000) or 'too large' (over
 const LOOK_UPS: &str = "\
 Example: pciids lookup --ids pci.ids --flags 3 --vendor 8086 --device 1237
 
-Flags are those of libpci's pci_lookup_name, in hex: 1 the vendor, 2 the device, 4 the subsystem, 8 the class, 10 the
-programming interface (3 and 5 two of them); with 10000 numbers alone, 20000 no numbers, 40000 both.
+Flags are those of libpci's pci_lookup_name, in hex: 1 the vendor, 2 the device, 3 both; 9, A and B the same of the
+subsystem; 4 the class, 10 the programming interface. With 10000 numbers alone, 20000 no numbers, 40000 both.
 The reply is 'text NAME' (status 0), 'none' or 'refused N Word' (status 1).";
 
 const SCRIPTS: &str = "\
