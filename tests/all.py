@@ -3,6 +3,7 @@ import resource
 import sys
 
 import fault_gallery
+import jobs
 import limits
 import lspci
 import memory
@@ -14,7 +15,7 @@ import words
 import worked_rows
 from program import Cases
 
-PARTS = {it.__name__: it for it in (worked_rows, words, fault_gallery, limits, real_file, lspci, registry, stops, scripts, memory)}
+PARTS = {it.__name__: it for it in (worked_rows, words, fault_gallery, limits, real_file, lspci, registry, jobs, stops, scripts, memory)}
 
 
 def processor_seconds():
