@@ -15,3 +15,5 @@ mod look_ups;
 mod openings;
 #[cfg(test)]
 mod runs;
+#[cfg(test)]
+mod stops;
