@@ -5,6 +5,7 @@ import sys
 import fault_gallery
 import jobs
 import limits
+import lookups
 import lspci
 import memory
 import real_file
@@ -15,7 +16,7 @@ import words
 import worked_rows
 from program import Cases
 
-PARTS = {it.__name__: it for it in (worked_rows, words, fault_gallery, limits, real_file, lspci, registry, jobs, stops, scripts, memory)}
+PARTS = {it.__name__: it for it in (worked_rows, words, fault_gallery, limits, real_file, lspci, lookups, registry, jobs, stops, scripts, memory)}
 
 
 def processor_seconds():
