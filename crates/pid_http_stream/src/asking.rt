@@ -3,6 +3,7 @@ ghost use Rattle.std.specs.Prelude.{◌≡◌, ℕ, ◌+◌, ◌≤◌, List, le
 ghost use Rattle.std.specs.Io.KnownBytes.{Consumes, IsAtEnd};
 ghost use Rattle.httparse.specs.Spans.{IsRequestAt};
 ghost use Rattle.pid_http_stream.specs.Bodies.{SpendsTurns};
+ghost use Rattle.pid_http_stream.specs.BodyLengths.{longest_body};
 ghost use Rattle.pid_http_stream.specs.Handling.{IsAsked};
 ghost use Rattle.pid_http_stream.specs.Intakes.{StandsAt};
 ghost use Rattle.pid_http_stream.specs.Requests.{Request};
@@ -58,7 +59,7 @@ fn ask_buffered<H: Handler, B: Input>(
 ) -> Result<Reply, NoReply>
     ensures goes { B.goes body.old body.new }
     ensures whole { IfOk result (λ _. IsAtEnd (B.to_come body.new)) }
-    ensures answered { (request : Request) → IsRequestAt head.now.bytes.now head.now.fields.now head.now.spans request.head → B.to_come body.old ≡ Some request.body
+    ensures answered { (request : Request) → IsRequestAt head.now.bytes.now head.now.fields.now head.now.spans request.head → B.to_come body.old ≡ Some request.body → length request.body ≤ longest_body
         → IsAsked (record { answers = H.answers; leaves = H.leaves; gives_up = H.gives_up; promises = H.promises }) handler.old request result (B.to_come body.new) handler.new }
 {
     match read_whole(alloc, told, body) {
@@ -77,7 +78,7 @@ fn ask<H: Handler, B: Input>(
 ) -> Result<Reply, NoReply>
     ensures goes { B.goes body.old body.new }
     ensures whole { IfOk result (λ _. IsAtEnd (B.to_come body.new)) }
-    ensures answered { (request : Request) → IsRequestAt head.now.bytes.now head.now.fields.now head.now.spans request.head → B.to_come body.old ≡ Some request.body
+    ensures answered { (request : Request) → IsRequestAt head.now.bytes.now head.now.fields.now head.now.spans request.head → B.to_come body.old ≡ Some request.body → length request.body ≤ longest_body
         → IsAsked (record { answers = H.answers; leaves = H.leaves; gives_up = H.gives_up; promises = H.promises }) handler.old request result (B.to_come body.new) handler.new }
 {
     match handler.wants(head) {

@@ -1,7 +1,8 @@
 //! What answers requests.
-ghost use Rattle.std.specs.Prelude.{◌≡◌, ℕ, List, [], Some, Err, IfOk, IsSome};
+ghost use Rattle.std.specs.Prelude.{◌≡◌, ◌≤◌, ℕ, List, [], length, Some, Err, IfOk, IsSome};
 ghost use Rattle.std.specs.Io.KnownBytes.{IsAtEnd};
 ghost use Rattle.httparse.specs.Spans.{IsRequestAt};
+ghost use Rattle.pid_http_stream.specs.BodyLengths.{longest_body};
 ghost use Rattle.pid_http_stream.specs.Handling.{MayReply, IsAsked, WritesBody};
 ghost use Rattle.pid_http_stream.specs.Replies.{Answer};
 ghost use Rattle.pid_http_stream.specs.Requests.{Request};
@@ -80,12 +81,12 @@ pub trait Handler {
         ensures { (request : Request) → IsRequestAt head.now.bytes.now head.now.fields.now head.now.spans request.head → request.body ≡ body.now
             → IsAsked (record { answers = answers; leaves = leaves; gives_up = gives_up; promises = promises }) self.old request result (Some []) self.new };
 
-    /// Answers a request whose body is still to be read. It is to read the body to its end before it replies; where the body
-    /// fails it gives the request up.
+    /// Answers a request whose body is still to be read, of at most `LONGEST_BODY` bytes. It is to read the body to its end before
+    /// it replies; where the body fails it gives the request up.
     fn answer_streamed<B: Input>(&mut self, head: &Head<'_>, body: &mut B) -> Result<Reply, NoReply>
         ensures goes { B.goes body.old body.new }
         ensures whole { IfOk result (λ _. IsAtEnd (B.to_come body.new)) }
-        ensures answered { (request : Request) → IsRequestAt head.now.bytes.now head.now.fields.now head.now.spans request.head → B.to_come body.old ≡ Some request.body
+        ensures answered { (request : Request) → IsRequestAt head.now.bytes.now head.now.fields.now head.now.spans request.head → B.to_come body.old ≡ Some request.body → length request.body ≤ longest_body
             → IsAsked (record { answers = answers; leaves = leaves; gives_up = gives_up; promises = promises }) self.old request result (B.to_come body.new) self.new };
 
     /// Writes the body that the last reply promised, or at a fault a front of it.
