@@ -1,21 +1,20 @@
 -- What came of asking the handler over a reader.
-use Rattle.std.proofs.Common.{◌≡◌, ℕ, ◌+◌, ◌-◌, ◌<◌, ◌≤◌, List, [], ◌∷◌, ◌++◌, length, take, drop, Option, Some, None, refl, sym, ap, subst, ◌∙◌, append_assoc, length-append, arith, inl, inr}
+use Rattle.std.proofs.Common.{◌≡◌, ℕ, ◌+◌, ◌<◌, ◌≤◌, List, [], ◌∷◌, ◌++◌, length, take, drop, Option, Some, None, refl, sym, ap, subst, ◌∙◌, append_assoc, length-append, arith, inl, inr}
 use Rattle.std.specs.Prelude.{option_map, min, IfSome, IfOk, ◌⊎◌, Result, Ok, Err, Bool, true, false, zero, suc, ◌==◌, if◌then◌else◌}
 use Rattle.std.specs.Io.KnownBytes.{Consumes, IsAtEnd}
 use Rattle.std.proofs.lemmas.Bool.{cases_lt, eqb-true}
-use Rattle.std.proofs.lemmas.List.{take_all, drop_all, take-append-drop, append-nil, length-take-le, length-take, drop-drop}
+use Rattle.std.proofs.lemmas.List.{take_all, drop_all, take-append-drop, append-nil, length-take-le, drop-drop}
 use Rattle.httparse.specs.Spans.{IsRequestAt}
 use Rattle.httparse.specs.declared.spans.HeaderSpan.{HeaderSpan}
 use Rattle.httparse.specs.declared.spans.RequestSpans.{RequestSpans}
-use Rattle.pid_http_stream.specs.Bodies.{padded, BodyState, HasBrokenOff, IsTold, HasReadBody}
+use Rattle.pid_http_stream.specs.Bodies.{padded, BodyState, HasBrokenOff, HasReadBody}
 use Rattle.pid_http_stream.specs.BodyLengths.{longest_body}
 use Rattle.pid_http_stream.specs.Conducts.{Conduct, StandsStill}
 use Rattle.pid_http_stream.specs.Endings.{IsShort}
 use Rattle.pid_http_stream.specs.Handling.{MayReply, IsAsked}
 use Rattle.pid_http_stream.specs.Intakes.{StandsAt}
-use Rattle.pid_http_stream.specs.Requests.{Request, IsRequest, HasNoRequest}
-use Rattle.pid_http_stream.specs.Steps.{Around, IsAskedOver, Asks, whole_so, broken_so, asked_so}
-use Rattle.pid_http_stream.specs.declared.asking.Asked.{Asked}
+use Rattle.pid_http_stream.specs.Requests.{Request, IsRequest}
+use Rattle.pid_http_stream.specs.Steps.{IsAskedOver, Asks, whole_so, broken_so, asked_so}
 use Rattle.pid_http_stream.specs.declared.asking.Asked.TheVariants as asked
 use Rattle.pid_http_stream.specs.declared.body_input.BodyFault.{BodyFault}
 use Rattle.pid_http_stream.specs.declared.body_input.BodyFault.TheVariants as faults
