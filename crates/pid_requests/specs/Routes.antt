@@ -1,0 +1,59 @@
+-- The routes and their methods: choices of this project.
+use Rattle.std.specs.Prelude.{ℕ, List, [], ◌∷◌, ◌++◌, Option, codes}
+use Rattle.matchit.specs.Rows.{RowsOf}
+use Rattle.matchit.specs.Router.{RouteOf, map_key}
+use Rattle.matchit.specs.Seek.{first}
+use Rattle.pid_requests.specs.declared.method.Method.{Method}
+use Rattle.pid_requests.specs.declared.method.Method.TheVariants.{Get, Post}
+use Rattle.pid_requests.specs.declared.route.Route.{Route}
+use Rattle.pid_requests.specs.declared.route.Route.TheVariants.{Export, Read, Children, LookUp, Submission, Pending, Account, Submit, Comment, Withdraw, Approve, Reject, Import}
+
+-- a route with this path alone
+abbrev pub literal : List ℕ → Route → List ℕ × RouteOf Route
+literal text route = (text, record { pattern = text; text = text; names = []; value = route })
+
+-- one or more bytes behind `/read/`
+abbrev pub read_row : List ℕ × RouteOf Route
+read_row = (codes "/read/" ++ 257 ∷ [], record { pattern = codes "/read/" ++ 257 ∷ []; text = codes "/read/{*path}"; names = (8, 12) ∷ []; value = Read })
+
+-- one or more bytes behind `/submission/`, none of them a slash
+abbrev pub submission_row : List ℕ × RouteOf Route
+submission_row = (codes "/submission/" ++ 256 ∷ [], record { pattern = codes "/submission/" ++ 256 ∷ []; text = codes "/submission/{num}"; names = (13, 16) ∷ []; value = Submission })
+
+-- all routes, in the order of their patterns, as a router keeps them
+abbrev pub table : RowsOf (RouteOf Route)
+table =
+    literal (codes "/account") Account
+    ∷ literal (codes "/approve") Approve
+    ∷ literal (codes "/children") Children
+    ∷ literal (codes "/comment") Comment
+    ∷ literal (codes "/import") Import
+    ∷ literal (codes "/lookup") LookUp
+    ∷ literal (codes "/pci.ids") Export
+    ∷ literal (codes "/pending") Pending
+    ∷ read_row
+    ∷ literal (codes "/reject") Reject
+    ∷ submission_row
+    ∷ literal (codes "/submit") Submit
+    ∷ literal (codes "/withdraw") Withdraw
+    ∷ []
+
+-- the route of a path
+unfoldable pub route_at : List ℕ → Option Route
+route_at path = map_key (λ found. found.value) (first table path)
+
+-- questions are got, commands are posted
+abbrev pub method_at : Route → Method
+method_at Export = Get
+method_at Read = Get
+method_at Children = Get
+method_at LookUp = Get
+method_at Submission = Get
+method_at Pending = Get
+method_at Account = Post
+method_at Submit = Post
+method_at Comment = Post
+method_at Withdraw = Post
+method_at Approve = Post
+method_at Reject = Post
+method_at Import = Post

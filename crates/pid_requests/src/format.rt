@@ -1,0 +1,10 @@
+//! The two forms of replies.
+
+/// How a reply is written.
+#[derive(Clone, Copy, Debug, PartialEq, Eq)]
+pub enum Format {
+    /// As one JSON value (RFC 8259). Also where a request names no format.
+    Json,
+    /// As lines of text.
+    Text,
+}

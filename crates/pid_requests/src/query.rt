@@ -1,0 +1,102 @@
+//! The values of a query's fields.
+ghost use Rattle.std.specs.Prelude.{◌≡◌, ◌+◌, ◌==◌, ◌&&◌, nat_le, codes, length, None, Some};
+ghost use Rattle.std.specs.Option.{option_copied};
+ghost use Rattle.pid_moderation.specs.Fields.{texts_of};
+ghost use Rattle.pid_requests.specs.Queries.{is_format_alone as format_alone, are_both as both, format_said, format_in, format_beside as format_in_both, after_said, above_said};
+
+use crate::fields::{number_of, times, value};
+use crate::format::Format;
+use pid_ident::Path;
+
+/// Below what children are asked for.
+#[derive(Clone, Copy, Debug)]
+pub enum Above {
+    /// Below nothing: the vendors and the classes.
+    Top,
+    /// Below the item with this path.
+    Below(Path),
+    /// Below a text that is no path.
+    BadPath,
+}
+
+// The format that a value says: JSON where none is said.
+fn format_named(value: Option<&str>) -> Option<Format>
+    ensures { result ≡ format_said (option_copied value.entry) }
+{
+    match value {
+        None => Some(Format::Json),
+        Some(text) => {
+            if text == "json" {
+                Some(Format::Json)
+            } else if text == "text" {
+                Some(Format::Text)
+            } else {
+                None
+            }
+        }
+    }
+}
+
+fn is_format_alone(fields: &[(String, String)]) -> bool
+    ensures { result ≡ format_alone (texts_of fields.now) }
+{
+    let formats = times(fields, "format");
+    formats <= 1 && fields.len() == formats
+}
+
+fn are_both(fields: &[(String, String)], other: &str) -> bool
+    ensures { result ≡ both other.now (texts_of fields.now) }
+{
+    let formats = times(fields, "format");
+    let others = times(fields, other);
+    formats <= 1 && others <= 1 && fields.len() == others + formats
+}
+
+// The format, of fields that may say nothing else.
+pub(crate) fn format_of(fields: &[(String, String)]) -> Option<Format>
+    ensures { result ≡ format_in (texts_of fields.now) }
+{
+    if !is_format_alone(fields) {
+        return None;
+    }
+    format_named(value(fields, "format"))
+}
+
+// The format, of fields that may say one thing beside it.
+pub(crate) fn format_beside(fields: &[(String, String)], other: &str) -> Option<Format>
+    ensures { result ≡ format_in_both other.now (texts_of fields.now) }
+{
+    if !are_both(fields, other) {
+        return None;
+    }
+    format_named(value(fields, "format"))
+}
+
+// The number that a page begins behind: 0 where none is said.
+pub(crate) fn after_named(value: Option<&str>) -> Option<u32>
+    ensures { result ≡ after_said (option_copied value.entry) }
+{
+    match value {
+        None => Some(0),
+        Some(text) => {
+            if text == "0" {
+                Some(0)
+            } else {
+                number_of(text)
+            }
+        }
+    }
+}
+
+// What a text says that children stand below.
+pub(crate) fn above_named(text: &str) -> Above
+    ensures { result ≡ above_said text.now }
+{
+    if text.is_empty() {
+        return Above::Top;
+    }
+    match Path::parse(text) {
+        Some(path) => Above::Below(path),
+        None => Above::BadPath,
+    }
+}

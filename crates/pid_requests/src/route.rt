@@ -1,0 +1,95 @@
+//! The routes.
+ghost use Rattle.std.specs.Prelude.{◌≡◌, IfOk, None, Some, MatchOption};
+ghost use Rattle.matchit.specs.Seek.{first};
+ghost use Rattle.pid_requests.specs.Routes.{table, method_at};
+
+use crate::method::Method;
+use matchit::{InsertError, Router};
+use std::alloc::Global;
+
+/// What a path is the way to.
+#[derive(Clone, Copy, Debug, PartialEq, Eq)]
+pub enum Route {
+    /// `/pci.ids`
+    Export,
+    /// `/read/` and a path text
+    Read,
+    /// `/children`
+    Children,
+    /// `/lookup`
+    LookUp,
+    /// `/submission/` and a number
+    Submission,
+    /// `/pending`
+    Pending,
+    /// `/account`
+    Account,
+    /// `/submit`
+    Submit,
+    /// `/comment`
+    Comment,
+    /// `/withdraw`
+    Withdraw,
+    /// `/approve`
+    Approve,
+    /// `/reject`
+    Reject,
+    /// `/import`
+    Import,
+}
+
+/// All the routes.
+///
+/// # Errors
+///
+/// There is no memory for them.
+pub fn build_routes(alloc: Global) -> Result<Router<Route>, InsertError>
+    ensures { IfOk result (λ routes. routes ≡ table) }
+{
+    let mut routes = Router::new(alloc);
+    routes.insert("/pci.ids", Route::Export)?;
+    routes.insert("/read/{*path}", Route::Read)?;
+    routes.insert("/children", Route::Children)?;
+    routes.insert("/lookup", Route::LookUp)?;
+    routes.insert("/submission/{num}", Route::Submission)?;
+    routes.insert("/pending", Route::Pending)?;
+    routes.insert("/account", Route::Account)?;
+    routes.insert("/submit", Route::Submit)?;
+    routes.insert("/comment", Route::Comment)?;
+    routes.insert("/withdraw", Route::Withdraw)?;
+    routes.insert("/approve", Route::Approve)?;
+    routes.insert("/reject", Route::Reject)?;
+    routes.insert("/import", Route::Import)?;
+    Ok(routes)
+}
+
+// The route of a path.
+pub(crate) fn route_of(routes: &Router<Route>, path: &str) -> Option<Route>
+    ensures { MatchOption (first routes.now path.now) (result ≡ None) (λ found. result ≡ Some found.value) }
+{
+    match routes.at(path) {
+        Ok(found) => Some(*found.value),
+        Err(_) => None,
+    }
+}
+
+// The method that a route takes.
+pub(crate) fn method_for(route: Route) -> Method
+    ensures { result ≡ method_at route }
+{
+    match route {
+        Route::Export
+        | Route::Read
+        | Route::Children
+        | Route::LookUp
+        | Route::Submission
+        | Route::Pending => Method::Get,
+        Route::Account
+        | Route::Submit
+        | Route::Comment
+        | Route::Withdraw
+        | Route::Approve
+        | Route::Reject
+        | Route::Import => Method::Post,
+    }
+}
