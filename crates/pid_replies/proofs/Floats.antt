@@ -1,0 +1,43 @@
+-- No answer has a float.
+use Rattle.std.proofs.Common.{◌≡◌, false, ℕ, List, [], ◌∷◌, map, refl, Result, Ok, Err}
+use Rattle.serde_json.specs.Data.{Data}
+use Rattle.serde_json.specs.View.{items_of}
+use Rattle.serde_json.specs.Written.{has_float, items_have_float}
+use Rattle.pid_moderation.specs.Views.{Remark}
+use Rattle.pid_moderation.specs.declared.command.Proposal.{Proposal}
+use Rattle.pid_moderation.specs.declared.command.Proposal.TheVariants.{Name, Removal}
+use Rattle.pid_moderation.specs.declared.command.Reply.{Reply}
+use Rattle.pid_moderation.specs.declared.command.Reply.TheVariants.{Done, Numbered, Counts}
+use Rattle.pid_moderation.specs.declared.refusal.FileFault.TheVariants.{Line, TooMany}
+use Rattle.pid_moderation.specs.declared.refusal.Refusal.{Refusal}
+use Rattle.pid_moderation.specs.declared.refusal.Refusal.TheVariants.{FileFault}
+use Rattle.pid_rows.specs.TableRows.{Standing}
+use Rattle.pid_replies.specs.Outcomes.{outcome_data}
+use Rattle.pid_replies.specs.PendingAnswers.{pending_data, proposed_data}
+use Rattle.pid_replies.specs.SubmissionAnswers.{remark_data, remarks_data, submission_data}
+
+-- an array whose items have none has none
+pub items_have_none : {A : Type 0} (f : A → Data) (none : (x : A) → has_float (f x) ≡ false) (xs : List A) → items_have_float (items_of (map f xs)) ≡ false
+items_have_none f none [] = refl
+items_have_none f none (x ∷ xs) = rw (none x) (items_have_none f none xs)
+
+pub outcome_has_none : (outcome : Result Reply Refusal) → has_float (outcome_data outcome) ≡ false
+outcome_has_none (Ok Done) = refl
+outcome_has_none (Ok (Numbered n)) = refl
+outcome_has_none (Ok (Counts added renamed same)) = refl
+outcome_has_none (Err (FileFault (Line line kind))) = refl
+outcome_has_none (Err (FileFault TooMany)) = refl
+outcome_has_none (Err _) = refl
+
+pub proposed_has_none : (proposal : Proposal) → has_float (proposed_data proposal) ≡ false
+proposed_has_none (Name name) = refl
+proposed_has_none Removal = refl
+
+pub pending_has_none : (s : ℕ × Standing) → has_float (pending_data s) ≡ false
+pending_has_none s = rw (proposed_has_none s.1.submitted.proposal) refl
+
+pub remarks_have_none : (remarks : List Remark) → has_float (remarks_data remarks) ≡ false
+remarks_have_none remarks = items_have_none remark_data (λ r. refl) remarks
+
+pub submission_has_none : (n : ℕ) (s : Standing × List Remark) → has_float (submission_data n s) ≡ false
+submission_has_none n s = rw (proposed_has_none s.0.submitted.proposal, remarks_have_none s.1) refl

@@ -1,0 +1,2 @@
+pub mod Floats
+mod Rows

@@ -1,0 +1,19 @@
+-- The answers to requests that come to no call: choices of this project, but that a method which is not allowed is answered with
+-- those that are (RFC 9110, section 15.5.6).
+use Rattle.std.specs.Prelude.{[], codes, Err}
+use Rattle.pid_moderation.specs.declared.refusal.Refusal.TheVariants.{BadText}
+use Rattle.pid_http_stream.specs.Replies.{Answer, answer_with}
+use Rattle.pid_http_stream.specs.declared.reply.Content.TheVariants.{AllowGet, AllowPost, AllowBoth}
+use Rattle.pid_http_stream.specs.declared.reply.Status.TheVariants.{BadRequest, NotFound, MethodNotAllowed}
+use Rattle.pid_replies.specs.Outcomes.{json_refusal, outcome_answer}
+use Rattle.pid_replies.specs.declared.early.Early.{Early}
+use Rattle.pid_replies.specs.declared.early.Early.TheVariants as early
+use Rattle.pid_replies.specs.declared.format.Format.TheVariants.{Json}
+
+abbrev pub early_answer : Early → Answer
+early_answer early.AnotherMethod = answer_with MethodNotAllowed AllowBoth []
+early_answer early.WantsGet = answer_with MethodNotAllowed AllowGet []
+early_answer early.WantsPost = answer_with MethodNotAllowed AllowPost []
+early_answer early.BadTarget = json_refusal BadRequest 28 (codes "BadTarget")
+early_answer early.NoRoute = json_refusal NotFound 24 (codes "NoRoute")
+early_answer early.BadQuery = outcome_answer Json (Err BadText)

@@ -1,0 +1,98 @@
+//! Replies with items.
+ghost use Rattle.std.specs.Prelude.{◌≡◌, ◌++◌, map, string_bytes, IfOk, OnOk};
+ghost use Rattle.std.specs.List.{flat_map};
+ghost use Rattle.pid_ident.specs.PathTexts.{path_text};
+ghost use Rattle.pid_rows.specs.ItemPairs.{pair_of};
+ghost use Rattle.serde_json.specs.View.{view};
+ghost use Rattle.pid_replies.specs.ItemAnswers.{item_answer, item_data, item_line, items_answer, items_data};
+ghost use Rattle.pid_replies.specs.Replying.{IsReplyOf};
+
+use crate::format::Format;
+use crate::reply::{array_value, json_reply, text_reply};
+use crate::text::push_line;
+use pid_http_stream::{Reply, Status};
+use pid_ident::{Name, Path};
+use pid_rows::item::Item;
+use serde_json::{Value, json};
+use std::alloc::{AllocError, Global};
+
+fn item_value(alloc: Global, path: &Path, name: &Name) -> Result<Value, AllocError>
+    ensures { IfOk result (λ value. view value ≡ item_data (path_text path.now, name.now)) }
+{
+    let path = path.path_text(alloc)?;
+    json!(in alloc; {"name": name.as_str(), "path": path.as_str()})
+}
+
+/// The reply with an item. The text is its name.
+pub fn item_reply(
+    alloc: Global,
+    format: Format,
+    path: &Path,
+    name: &Name,
+) -> Result<Reply, AllocError>
+    ensures { IfOk result (λ reply. IsReplyOf reply (item_answer format (path_text path.now, name.now))) }
+{
+    match format {
+        Format::Json => {
+            let value = item_value(alloc, path, name)?;
+            json_reply(alloc, Status::Okay, value)
+        }
+        Format::Text => {
+            let mut text = String::from_str(alloc, name.as_str())?;
+            text.push_str("\n")?;
+            Ok(text_reply(Status::Okay, text))
+        }
+    }
+}
+
+// The values of items, in their order.
+fn item_values(alloc: Global, items: &[Item]) -> Result<Vec<Value>, AllocError>
+    ensures { IfOk result (λ values. map view values.items ≡ map item_data (map pair_of items.now)) }
+{
+    let mut values = Vec::new(alloc);
+    for item in items {
+        let value = item_value(alloc, &item.path, &item.name)?;
+        values.push(value)?;
+    }
+    Ok(values)
+}
+
+fn items_value(alloc: Global, items: &[Item]) -> Result<Value, AllocError>
+    ensures { IfOk result (λ value. view value ≡ items_data (map pair_of items.now)) }
+{
+    let values = item_values(alloc, items)?;
+    Ok(array_value(values))
+}
+
+fn push_item(alloc: Global, text: &mut String, item: &Item) -> Result<(), AllocError>
+    ensures { OnOk result (string_bytes text.new ≡ string_bytes text.old ++ item_line (pair_of item.now)) }
+{
+    let path = item.path.path_text(alloc)?;
+    push_line(text, path.as_str(), item.name.as_str())
+}
+
+fn items_text(alloc: Global, items: &[Item]) -> Result<String, AllocError>
+    ensures { IfOk result (λ text. string_bytes text ≡ flat_map item_line (map pair_of items.now)) }
+{
+    let mut text = String::new(alloc);
+    for item in items {
+        push_item(alloc, &mut text, item)?;
+    }
+    Ok(text)
+}
+
+/// The reply with items, in their order. The text has a line for each: its path, a space and its name.
+pub fn items_reply(alloc: Global, format: Format, items: &[Item]) -> Result<Reply, AllocError>
+    ensures { IfOk result (λ reply. IsReplyOf reply (items_answer format (map pair_of items.now))) }
+{
+    match format {
+        Format::Json => {
+            let value = items_value(alloc, items)?;
+            json_reply(alloc, Status::Okay, value)
+        }
+        Format::Text => {
+            let text = items_text(alloc, items)?;
+            Ok(text_reply(Status::Okay, text))
+        }
+    }
+}

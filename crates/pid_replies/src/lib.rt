@@ -1,0 +1,25 @@
+//! Replies to HTTP requests, as JSON (RFC 8259) or as lines of text.
+//!
+//! Each function makes the reply to one kind of outcome: its status, and its body whole in memory. JSON is compact, with the
+//! keys of each object in bytewise order; each line of a text ends with a line feed. Nothing here asks a registry.
+#![tactic(auto)]
+
+mod early;
+mod format;
+mod items;
+mod look_up;
+mod outcome;
+mod pending;
+mod reply;
+mod submission;
+#[cfg(test)]
+mod tests;
+mod text;
+
+pub use early::{Early, early_reply};
+pub use format::Format;
+pub use items::{item_reply, items_reply};
+pub use look_up::look_up_reply;
+pub use outcome::{missing_reply, outcome_reply, refusal_reply};
+pub use pending::pending_reply;
+pub use submission::submission_reply;

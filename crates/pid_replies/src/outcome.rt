@@ -1,0 +1,148 @@
+//! Replies to commands.
+ghost use Rattle.std.specs.Prelude.{◌≡◌, IfOk};
+ghost use Rattle.serde_json.specs.View.{view};
+ghost use Rattle.pid_replies.specs.Outcomes.{counts_data, done_data, fault_data, json_refusal, missing_answer, numbered_data, outcome_answer, outcome_data, refusal_data, status_of_outcome};
+ghost use Rattle.pid_replies.specs.Replying.{IsReplyOf};
+
+use crate::format::Format;
+use crate::reply::{json_reply, text_reply};
+use pid_http_stream::{Reply as HttpReply, Status};
+use pid_moderation::{FileFault, Refusal, Reply, reply_line};
+use serde_json::{Value, json};
+use std::alloc::{AllocError, Global};
+
+fn status_of(outcome: Result<Reply, Refusal>) -> Status
+    ensures { result ≡ status_of_outcome outcome }
+{
+    match outcome {
+        Ok(_) => Status::Okay,
+        Err(Refusal::BadPath | Refusal::BadName | Refusal::BadText) => Status::BadRequest,
+        Err(Refusal::NoAccount | Refusal::RankTooLow | Refusal::NotAuthor | Refusal::OwnDecision) =>
+            Status::Forbidden,
+        Err(Refusal::NoSubmission) => Status::NotFound,
+        Err(
+            Refusal::NotPending
+            | Refusal::ParentMissing
+            | Refusal::HasChildren
+            | Refusal::NothingToDo,
+        ) => Status::Conflict,
+        Err(Refusal::FileFault(_)) => Status::UnprocessableEntity,
+        Err(Refusal::Full | Refusal::Memory | Refusal::Store | Refusal::Failed) => {
+            Status::ServiceUnavailable
+        }
+    }
+}
+
+fn done_value(alloc: Global) -> Result<Value, AllocError>
+    ensures { IfOk result (λ value. view value ≡ done_data) }
+{
+    json!(in alloc; {"ok": true})
+}
+
+fn numbered_value(alloc: Global, number: u32) -> Result<Value, AllocError>
+    ensures { IfOk result (λ value. view value ≡ numbered_data number) }
+{
+    json!(in alloc; {"num": number, "ok": true})
+}
+
+fn counts_value(alloc: Global, added: u32, renamed: u32, same: u32) -> Result<Value, AllocError>
+    ensures { IfOk result (λ value. view value ≡ counts_data added renamed same) }
+{
+    json!(in alloc; {"added": added, "ok": true, "renamed": renamed, "same": same})
+}
+
+fn fault_value(alloc: Global, line: u64, kind: u8) -> Result<Value, AllocError>
+    ensures { IfOk result (λ value. view value ≡ fault_data line kind) }
+{
+    json!(in alloc; {"kind": kind, "line": line, "ok": false, "refused": 14, "word": "FileFault"})
+}
+
+fn refusal_value(alloc: Global, number: u8, word: &str) -> Result<Value, AllocError>
+    ensures { IfOk result (λ value. view value ≡ refusal_data number word.now) }
+{
+    json!(in alloc; {"ok": false, "refused": number, "word": word})
+}
+
+fn outcome_value(alloc: Global, outcome: Result<Reply, Refusal>) -> Result<Value, AllocError>
+    ensures { IfOk result (λ value. view value ≡ outcome_data outcome) }
+{
+    match outcome {
+        Ok(Reply::Done) => done_value(alloc),
+        Ok(Reply::Numbered(number)) => numbered_value(alloc, number),
+        Ok(
+            Reply::Counts {
+                added,
+                renamed,
+                same,
+            },
+        ) => counts_value(alloc, added, renamed, same),
+        Err(Refusal::FileFault(FileFault::Line { line, kind })) => {
+            fault_value(alloc, line, kind.number())
+        }
+        Err(Refusal::FileFault(FileFault::TooMany)) => fault_value(alloc, 0, 0),
+        Err(refusal) => refusal_value(alloc, refusal.number(), refusal.word()),
+    }
+}
+
+/// The reply to a command, imports too: what it was answered, or why it was refused. A refusal has its number and its word,
+/// and that of a faulty file the line, counted from 1, and the kind of its fault; both are 0 where the file has too many
+/// entries. The text is the reply line of scripts.
+pub fn outcome_reply(
+    alloc: Global,
+    format: Format,
+    outcome: Result<Reply, Refusal>,
+) -> Result<HttpReply, AllocError>
+    ensures { IfOk result (λ reply. IsReplyOf reply (outcome_answer format outcome)) }
+{
+    let status = status_of(outcome);
+    match format {
+        Format::Json => {
+            let value = outcome_value(alloc, outcome)?;
+            json_reply(alloc, status, value)
+        }
+        Format::Text => {
+            let line = reply_line(alloc, outcome)?;
+            Ok(text_reply(status, line))
+        }
+    }
+}
+
+/// The reply with a refusal.
+pub fn refusal_reply(
+    alloc: Global,
+    format: Format,
+    refusal: Refusal,
+) -> Result<HttpReply, AllocError>
+    ensures { IfOk result (λ reply. IsReplyOf reply (outcome_answer format (Err refusal))) }
+{
+    outcome_reply(alloc, format, Err(refusal))
+}
+
+/// The reply with a refusal that is no refusal of a command, as JSON.
+pub(crate) fn refused_reply(
+    alloc: Global,
+    status: Status,
+    number: u8,
+    word: &str,
+) -> Result<HttpReply, AllocError>
+    ensures { IfOk result (λ reply. IsReplyOf reply (json_refusal status number word.now)) }
+{
+    let value = refusal_value(alloc, number, word)?;
+    json_reply(alloc, status, value)
+}
+
+/// The reply where no item is at a path.
+pub fn missing_reply(alloc: Global, format: Format) -> Result<HttpReply, AllocError>
+    ensures { IfOk result (λ reply. IsReplyOf reply (missing_answer format)) }
+{
+    match format {
+        Format::Json => {
+            let value = refusal_value(alloc, 25, "NoItem")?;
+            json_reply(alloc, Status::NotFound, value)
+        }
+        Format::Text => {
+            let line = String::from_str(alloc, "refused 25 NoItem\n")?;
+            Ok(text_reply(Status::NotFound, line))
+        }
+    }
+}

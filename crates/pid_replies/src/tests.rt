@@ -1,0 +1,193 @@
+//! Each reply once, with ample memory. The bodies are those of the documents.
+use super::*;
+use pid_http_stream::{Content, Reply as HttpReply, ReplyBody, Status};
+use pid_ident::{Account, Name, Path, Text};
+use pid_lookup::Answer;
+use pid_moderation::{FileFault, Proposal, Refusal, Reply, State};
+use pid_rows::item::Item;
+use pid_rows::remark::Comment;
+use pid_rows::submission::Submission;
+use pid_table_lists::{Discussion, Pending};
+use std::alloc::Global;
+use std::process::Abort;
+use std::test::Fail;
+
+fn expect(rt: &impl Abort, reply: &HttpReply, status: Status, content: Content, body: &str) {
+    assert_eq!(rt; reply.head.status, status);
+    assert_eq!(rt; reply.head.content, content);
+    match &reply.body {
+        ReplyBody::Bytes(bytes) => assert_eq!(rt; bytes.as_slice(), body.as_bytes()),
+        ReplyBody::Written(_) => panic!(rt; "the body is not there"),
+    }
+}
+
+fn intel(alloc: Global, proposal: Proposal, state: State) -> Result<Submission, Fail> {
+    Ok(Submission {
+        author: Account::of(alloc, "alice")?,
+        path: Path::Vendor { vendor: 0x8086 },
+        proposal,
+        note: Text::of(alloc, "")?,
+        state,
+    })
+}
+
+#[test]
+fn outcomes(rt: HostRuntime) -> Result<(), Fail> {
+    let alloc = rt.alloc();
+    let done = outcome_reply(alloc, Format::Json, Ok(Reply::Done))?;
+    expect(&rt, &done, Status::Okay, Content::Json, r#"{"ok":true}"#);
+    let numbered = outcome_reply(alloc, Format::Text, Ok(Reply::Numbered(1)))?;
+    expect(&rt, &numbered, Status::Okay, Content::Text, "ok 1\n");
+    let refused = refusal_reply(alloc, Format::Json, Refusal::RankTooLow)?;
+    expect(
+        &rt,
+        &refused,
+        Status::Forbidden,
+        Content::Json,
+        r#"{"ok":false,"refused":5,"word":"RankTooLow"}"#,
+    );
+    let faulty = refusal_reply(alloc, Format::Json, Refusal::FileFault(FileFault::TooMany))?;
+    expect(
+        &rt,
+        &faulty,
+        Status::UnprocessableEntity,
+        Content::Json,
+        r#"{"kind":0,"line":0,"ok":false,"refused":14,"word":"FileFault"}"#,
+    );
+    let missing = missing_reply(alloc, Format::Json)?;
+    expect(
+        &rt,
+        &missing,
+        Status::NotFound,
+        Content::Json,
+        r#"{"ok":false,"refused":25,"word":"NoItem"}"#,
+    );
+    Ok(())
+}
+
+#[test]
+fn early_ones(rt: HostRuntime) -> Result<(), Fail> {
+    let alloc = rt.alloc();
+    let other = early_reply(alloc, Early::AnotherMethod)?;
+    expect(
+        &rt,
+        &other,
+        Status::MethodNotAllowed,
+        Content::AllowBoth,
+        "",
+    );
+    let lost = early_reply(alloc, Early::NoRoute)?;
+    expect(
+        &rt,
+        &lost,
+        Status::NotFound,
+        Content::Json,
+        r#"{"ok":false,"refused":24,"word":"NoRoute"}"#,
+    );
+    Ok(())
+}
+
+#[test]
+fn look_ups(rt: HostRuntime) -> Result<(), Fail> {
+    let alloc = rt.alloc();
+    let nothing = look_up_reply(alloc, Ok(Answer::NoAnswer))?;
+    expect(
+        &rt,
+        &nothing,
+        Status::NotFound,
+        Content::Json,
+        r#"{"ok":false,"refused":27,"word":"NoAnswer"}"#,
+    );
+    Ok(())
+}
+
+#[test]
+fn items(rt: HostRuntime) -> Result<(), Fail> {
+    let alloc = rt.alloc();
+    let path = Path::Vendor { vendor: 0x8086 };
+    let name = Name::of(alloc, "Intel")?;
+    let one = item_reply(alloc, Format::Json, &path, &name)?;
+    expect(
+        &rt,
+        &one,
+        Status::Okay,
+        Content::Json,
+        r#"{"name":"Intel","path":"PC/8086"}"#,
+    );
+    let name = Name::of(alloc, "Intel Corporation")?;
+    let list = vec![in alloc; Item { path, name }]?;
+    let all = items_reply(alloc, Format::Text, list.as_slice())?;
+    expect(
+        &rt,
+        &all,
+        Status::Okay,
+        Content::Text,
+        "PC/8086 Intel Corporation\n",
+    );
+    let none = items_reply(alloc, Format::Json, &[])?;
+    expect(&rt, &none, Status::Okay, Content::Json, "[]");
+    Ok(())
+}
+
+#[test]
+fn submissions(rt: HostRuntime) -> Result<(), Fail> {
+    let alloc = rt.alloc();
+    let name = Name::of(alloc, "Intel Corporation")?;
+    let decider = Account::of(alloc, "root")?;
+    let approved = Discussion {
+        submission: intel(alloc, Proposal::Name(name), State::Approved { decider })?,
+        remarks: Vec::new(alloc),
+    };
+    let told = submission_reply(alloc, Format::Json, 1, &approved)?;
+    expect(
+        &rt,
+        &told,
+        Status::Okay,
+        Content::Json,
+        r#"{"author":"alice","decider":"root","name":"Intel Corporation","note":"","num":1,"path":"PC/8086","reason":"","remarks":[],"state":"approved"}"#,
+    );
+    let author = Account::of(alloc, "alice")?;
+    let text = Text::of(alloc, "seen")?;
+    let remarked = Discussion {
+        submission: intel(alloc, Proposal::Removal, State::Withdrawn)?,
+        remarks: vec![in alloc; Comment { author, text }]?,
+    };
+    let told = submission_reply(alloc, Format::Text, 2, &remarked)?;
+    expect(
+        &rt,
+        &told,
+        Status::Okay,
+        Content::Text,
+        "num 2\nauthor alice\npath PC/8086\nremove\nnote \nstate withdrawn\ndecider alice\nreason \nremark alice seen\n",
+    );
+    Ok(())
+}
+
+#[test]
+fn pending_ones(rt: HostRuntime) -> Result<(), Fail> {
+    let alloc = rt.alloc();
+    let submission = intel(alloc, Proposal::Removal, State::Pending)?;
+    let page = vec![in alloc;
+        Pending {
+            number: 1,
+            submission
+        },
+    ]?;
+    let json = pending_reply(alloc, Format::Json, page.as_slice())?;
+    expect(
+        &rt,
+        &json,
+        Status::Okay,
+        Content::Json,
+        r#"[{"author":"alice","name":null,"num":1,"path":"PC/8086"}]"#,
+    );
+    let text = pending_reply(alloc, Format::Text, page.as_slice())?;
+    expect(
+        &rt,
+        &text,
+        Status::Okay,
+        Content::Text,
+        "1 alice remove PC/8086\n",
+    );
+    Ok(())
+}
