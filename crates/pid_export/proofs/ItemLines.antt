@@ -32,7 +32,7 @@ text_joined before (x ∷ xs) ys =
     text_first before x (xs ++ ys) ∙ ap (λ (l : List ℕ). one ++ l) (text_joined x.0 xs ys) ∙ sym (append_assoc one (text_behind x.0 xs) (text_behind (last_path x.0 xs) ys))
     ∙ ap (λ (l : List ℕ). l ++ text_behind (last_path x.0 xs) ys) (sym (text_first before x xs))
 
-last_joined : (before : List ℕ) (xs : Items) (y : List ℕ × List ℕ) → last_path before (xs ++ y ∷ []) ≡ y.0
+pub last_joined : (before : List ℕ) (xs : Items) (y : List ℕ × List ℕ) → last_path before (xs ++ y ∷ []) ≡ y.0
 last_joined before [] y = refl
 last_joined before (x ∷ xs) y = last_joined x.0 xs y
 

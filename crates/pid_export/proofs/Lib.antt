@@ -1,2 +1,3 @@
 pub mod ItemLines
 pub mod WalkEnds
+pub mod CountedLines

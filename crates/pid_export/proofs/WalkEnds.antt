@@ -23,7 +23,7 @@ use Rattle.pid_export.specs.declared.exporting.ExportEnd.TheVariants as ends
 use Rattle.pid_export.specs.declared.sink.ExportSink.{ExportSink}
 use Rattle.pid_export.proofs.ItemLines.{HasPrinted, last_path, text_behind, text_first, text_joined, took_printed}
 
-placed_items : (place : ℕ) (items : Items) → map item_in (placed_from place items) ≡ items
+pub placed_items : (place : ℕ) (items : Items) → map item_in (placed_from place items) ≡ items
 placed_items place [] = refl
 placed_items place (item ∷ items) = ap (λ (l : Items). item ∷ l) (placed_items (place + 1) items)
 

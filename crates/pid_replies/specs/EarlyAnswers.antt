@@ -8,7 +8,7 @@ use Rattle.pid_http_stream.specs.declared.reply.Status.TheVariants.{BadRequest, 
 use Rattle.pid_replies.specs.Outcomes.{json_refusal, outcome_answer}
 use Rattle.pid_replies.specs.declared.early.Early.{Early}
 use Rattle.pid_replies.specs.declared.early.Early.TheVariants as early
-use Rattle.pid_replies.specs.declared.format.Format.TheVariants.{Json}
+use Rattle.pid_requests.specs.declared.format.Format.TheVariants.{Json}
 
 abbrev pub early_answer : Early → Answer
 early_answer early.AnotherMethod = answer_with MethodNotAllowed AllowBoth []

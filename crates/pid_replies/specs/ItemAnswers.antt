@@ -7,7 +7,7 @@ use Rattle.pid_http_stream.specs.Replies.{Answer}
 use Rattle.pid_http_stream.specs.declared.reply.Status.TheVariants.{Okay}
 use Rattle.pid_replies.specs.Replying.{answer_in}
 use Rattle.pid_replies.specs.WordLines.{word_line}
-use Rattle.pid_replies.specs.declared.format.Format.{Format}
+use Rattle.pid_requests.specs.declared.format.Format.{Format}
 
 -- {"name":"Intel","path":"PC/8086"}
 abbrev pub item_data : List ℕ × List ℕ → Data

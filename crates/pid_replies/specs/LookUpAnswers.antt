@@ -10,7 +10,7 @@ use Rattle.pid_http_stream.specs.Replies.{Answer, answer_with}
 use Rattle.pid_http_stream.specs.declared.reply.Content.TheVariants.{Bytes}
 use Rattle.pid_http_stream.specs.declared.reply.Status.TheVariants.{Okay, BadRequest, NotFound}
 use Rattle.pid_replies.specs.Outcomes.{json_refusal, outcome_answer}
-use Rattle.pid_replies.specs.declared.format.Format.TheVariants as formats
+use Rattle.pid_requests.specs.declared.format.Format.TheVariants as formats
 
 -- the text, with nothing behind it; where there is none, why not
 abbrev pub look_up_answer : Result Found (LookupRefusal Refusal) → Answer

@@ -15,7 +15,7 @@ use Rattle.pid_http_stream.specs.declared.reply.Content.TheVariants.{Json}
 use Rattle.pid_http_stream.specs.declared.reply.Status.{Status}
 use Rattle.pid_http_stream.specs.declared.reply.Status.TheVariants.{Okay, BadRequest, Forbidden, NotFound, Conflict, UnprocessableEntity, ServiceUnavailable}
 use Rattle.pid_replies.specs.Replying.{answer_in}
-use Rattle.pid_replies.specs.declared.format.Format.{Format}
+use Rattle.pid_requests.specs.declared.format.Format.{Format}
 
 -- ill-formed; not allowed to this account; not there; against how things stand; a faulty file; full, or failed
 abbrev pub status_of_refusal : Refusal → Status

@@ -10,7 +10,7 @@ use Rattle.pid_rows.specs.TableRows.{Standing}
 use Rattle.pid_http_stream.specs.Replies.{Answer}
 use Rattle.pid_http_stream.specs.declared.reply.Status.TheVariants.{Okay}
 use Rattle.pid_replies.specs.Replying.{answer_in}
-use Rattle.pid_replies.specs.declared.format.Format.{Format}
+use Rattle.pid_requests.specs.declared.format.Format.{Format}
 
 -- the name that is proposed; null for a removal
 abbrev pub proposed_data : Proposal → Data

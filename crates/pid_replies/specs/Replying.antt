@@ -9,8 +9,8 @@ use Rattle.pid_http_stream.specs.declared.handler.ReplyBody.TheVariants.{Bytes, 
 use Rattle.pid_http_stream.specs.declared.reply.Content.TheVariants as contents
 use Rattle.pid_http_stream.specs.declared.reply.ReplyHead.{ReplyHead}
 use Rattle.pid_http_stream.specs.declared.reply.Status.{Status}
-use Rattle.pid_replies.specs.declared.format.Format.{Format}
-use Rattle.pid_replies.specs.declared.format.Format.TheVariants.{Json, Text}
+use Rattle.pid_requests.specs.declared.format.Format.{Format}
+use Rattle.pid_requests.specs.declared.format.Format.TheVariants.{Json, Text}
 
 -- an answer in either format: a value as compact JSON (RFC 8259), or a text. That both say the same is a choice of this project
 abbrev pub answer_in : Format → Status → Data → List ℕ → Answer

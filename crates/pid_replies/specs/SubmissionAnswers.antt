@@ -15,7 +15,7 @@ use Rattle.pid_http_stream.specs.declared.reply.Status.TheVariants.{Okay}
 use Rattle.pid_replies.specs.PendingAnswers.{proposed_data}
 use Rattle.pid_replies.specs.Replying.{answer_in}
 use Rattle.pid_replies.specs.WordLines.{word_line}
-use Rattle.pid_replies.specs.declared.format.Format.{Format}
+use Rattle.pid_requests.specs.declared.format.Format.{Format}
 
 -- how it stands, in one word
 abbrev pub state_word : State → List ℕ

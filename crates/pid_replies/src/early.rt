@@ -4,11 +4,11 @@ ghost use Rattle.pid_http_stream.specs.Replies.{answer_with};
 ghost use Rattle.pid_replies.specs.EarlyAnswers.{early_answer};
 ghost use Rattle.pid_replies.specs.Replying.{IsReplyOf};
 
-use crate::format::Format;
 use crate::outcome::{refusal_reply, refused_reply};
 use crate::reply::reply_with;
 use pid_http_stream::{Content, Reply, Status};
 use pid_moderation::Refusal;
+use pid_requests::Format;
 use std::alloc::{AllocError, Global};
 
 /// Why a request comes to no call.

@@ -7,11 +7,11 @@ ghost use Rattle.serde_json.specs.View.{view};
 ghost use Rattle.pid_replies.specs.ItemAnswers.{item_answer, item_data, item_line, items_answer, items_data};
 ghost use Rattle.pid_replies.specs.Replying.{IsReplyOf};
 
-use crate::format::Format;
 use crate::reply::{array_value, json_reply, text_reply};
 use crate::text::push_line;
 use pid_http_stream::{Reply, Status};
 use pid_ident::{Name, Path};
+use pid_requests::Format;
 use pid_rows::item::Item;
 use serde_json::{Value, json};
 use std::alloc::{AllocError, Global};

@@ -5,7 +5,6 @@
 #![tactic(auto)]
 
 mod early;
-mod format;
 mod items;
 mod look_up;
 mod outcome;
@@ -17,7 +16,6 @@ mod tests;
 mod text;
 
 pub use early::{Early, early_reply};
-pub use format::Format;
 pub use items::{item_reply, items_reply};
 pub use look_up::look_up_reply;
 pub use outcome::{missing_reply, outcome_reply, refusal_reply};

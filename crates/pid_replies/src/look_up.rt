@@ -3,12 +3,12 @@ ghost use Rattle.std.specs.Prelude.{◌≡◌, IfOk};
 ghost use Rattle.pid_replies.specs.LookUpAnswers.{look_up_answer};
 ghost use Rattle.pid_replies.specs.Replying.{IsReplyOf};
 
-use crate::format::Format;
 use crate::outcome::{refusal_reply, refused_reply};
 use crate::reply::reply_with;
 use pid_http_stream::{Content, Reply, Status};
 use pid_lookup::{Answer, LookupRefusal};
 use pid_moderation::Refusal;
+use pid_requests::Format;
 use std::alloc::{AllocError, Global};
 
 /// The reply to a look-up: its bytes, which may hold a part of a character at their end, or why there are none, as JSON.

@@ -4,10 +4,10 @@ ghost use Rattle.serde_json.specs.View.{view};
 ghost use Rattle.pid_replies.specs.Outcomes.{counts_data, done_data, fault_data, json_refusal, missing_answer, numbered_data, outcome_answer, outcome_data, refusal_data, status_of_outcome};
 ghost use Rattle.pid_replies.specs.Replying.{IsReplyOf};
 
-use crate::format::Format;
 use crate::reply::{json_reply, text_reply};
 use pid_http_stream::{Reply as HttpReply, Status};
 use pid_moderation::{FileFault, Refusal, Reply, reply_line};
+use pid_requests::Format;
 use serde_json::{Value, json};
 use std::alloc::{AllocError, Global};
 

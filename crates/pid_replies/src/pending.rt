@@ -6,11 +6,11 @@ ghost use Rattle.serde_json.specs.View.{view};
 ghost use Rattle.pid_replies.specs.PendingAnswers.{pending_answer, pending_data, pending_line, pendings_data, proposal_words, proposed_data};
 ghost use Rattle.pid_replies.specs.Replying.{IsReplyOf};
 
-use crate::format::Format;
 use crate::reply::{array_value, json_reply, text_reply};
 use crate::text::push_number;
 use pid_http_stream::{Reply, Status};
 use pid_moderation::Proposal;
+use pid_requests::Format;
 use pid_table_lists::Pending;
 use serde_json::{Value, json};
 use std::alloc::{AllocError, Global};

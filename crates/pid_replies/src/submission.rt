@@ -9,13 +9,13 @@ ghost use Rattle.pid_rows.specs.Standings.{standing_of};
 ghost use Rattle.pid_replies.specs.Replying.{IsReplyOf};
 ghost use Rattle.pid_replies.specs.SubmissionAnswers.{proposal_line, remark_data, remark_line, remarks_data, standing_text, state_word, submission_answer, submission_data};
 
-use crate::format::Format;
 use crate::pending::proposed_value;
 use crate::reply::{array_value, json_reply, text_reply};
 use crate::text::push_line;
 use itoa::Buffer;
 use pid_http_stream::{Reply, Status};
 use pid_moderation::{Proposal, State};
+use pid_requests::Format;
 use pid_rows::remark::Comment;
 use pid_rows::submission::Submission;
 use pid_table_lists::Discussion;

@@ -4,6 +4,7 @@ use pid_http_stream::{Content, Reply as HttpReply, ReplyBody, Status};
 use pid_ident::{Account, Name, Path, Text};
 use pid_lookup::Answer;
 use pid_moderation::{FileFault, Proposal, Refusal, Reply, State};
+use pid_requests::Format;
 use pid_rows::item::Item;
 use pid_rows::remark::Comment;
 use pid_rows::submission::Submission;

@@ -1,16 +1,19 @@
 //! The items of a registry as the text of their tree.
-ghost use Rattle.std.specs.Prelude.{◌≡◌, false, true, Err, Some};
+ghost use Rattle.std.specs.Prelude.{◌≡◌, false, true, Err, Some, length};
 ghost use Rattle.pid_ident.specs.declared.io.WriteFault.{WriteFault as OutputFault};
 ghost use Rattle.pid_moderation.specs.History.{History};
 ghost use Rattle.pid_moderation.specs.declared.refusal.Refusal.{Refusal as RefusalValue};
-ghost use Rattle.pid_service.specs.Asking.{MayGive};
+ghost use Rattle.pid_moderation.specs.Writes.{tree_of};
+ghost use Rattle.pid_tree.specs.Printing.{print};
+ghost use Rattle.pid_service.specs.Asking.{Answers, MayGive};
 ghost use Rattle.pid_service.specs.Exporting.{ExportsTree, IsToldAs};
 ghost use Rattle.pid_service.specs.Histories.{Shows};
 ghost use Rattle.pid_service.specs.Registries.{HasCleanDisk, OnlyReads, is_live as lives};
 ghost use Rattle.pid_service.specs.declared.exporting.ExportFault.TheVariants as faults;
 
+use crate::laws::reached_histories_are_kept;
 use crate::registry::Registry;
-use pid_export::{ExportEnd, export_items, items_print_as_their_tree};
+use pid_export::{ExportEnd, export_items, items_length, items_print_as_their_tree};
 use pid_ident::{Output, WriteFault};
 use pid_import::refusal_of;
 use pid_moderation::Refusal;
@@ -58,6 +61,21 @@ impl<S: Alter + Drop> Registry<S> {
         match export_items(&mut self.tables, output) {
             Ok(()) => Ok(()),
             Err(end) => Err(fault_of(end)),
+        }
+    }
+
+    /// How many bytes `export` would write. The items are read one by one, and no list of them is made.
+    pub fn export_length(&mut self) -> Result<u64, Refusal>
+        ensures { Answers S.Store self.old self.new result (λ h n. n ≡ length (print (tree_of h))) }
+    {
+        if !self.live {
+            return Err(Refusal::Failed);
+        }
+        reached_histories_are_kept();
+        items_print_as_their_tree();
+        match items_length(&mut self.tables) {
+            Ok(bytes) => Ok(bytes),
+            Err(fault) => Err(refusal_of(fault)),
         }
     }
 }

@@ -43,7 +43,8 @@ impl<S: Alter + Drop> ShowsHistories for Registry<S> {
 /// The clauses of a call say what lives ask of it.
 ///
 /// `obeys` is of `obey` and `import`, `imports` of `import_from`, `runs` of `run`; the premises are their clauses `clean`, `failed`, and `obeyed` or
-/// `ran`. Every other call `looks`: `read`, `children`, `submission`, `pending`, `lookup` and `export`.
+/// `ran`. Every other call `looks`: `read`, `children`, `submission`, `pending`, `lookup`, `export` and
+/// `export_length`.
 pub fn clauses_meet_lives<S: Alter + Drop>()
     ensures obeys { (old new : registry.Registry S S.Store) (c : Asked) (result : Result Reply Refusal)
         → (HasCleanDisk S.Store new → HasCleanDisk S.Store old)
