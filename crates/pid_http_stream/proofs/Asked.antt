@@ -1,20 +1,20 @@
 -- What came of asking the handler over a reader.
-use Rattle.std.proofs.Common.{◌≡◌, ℕ, ◌+◌, ◌-◌, ◌<◌, ◌≤◌, List, [], ◌∷◌, ◌++◌, length, take, drop, Option, Some, None, refl, sym, ap, subst, ◌∙◌, append_assoc, length-append, arith, inl, inr}
+use Rattle.std.proofs.Common.{◌≡◌, ℕ, ◌+◌, ◌<◌, ◌≤◌, List, [], ◌∷◌, ◌++◌, length, take, drop, Option, Some, None, refl, sym, ap, subst, ◌∙◌, append_assoc, length-append, arith, inl, inr}
 use Rattle.std.specs.Prelude.{option_map, min, IfSome, IfOk, ◌⊎◌, Result, Ok, Err, Bool, true, false, zero, suc, ◌==◌, if◌then◌else◌}
 use Rattle.std.specs.Io.KnownBytes.{Consumes, IsAtEnd}
 use Rattle.std.proofs.lemmas.Bool.{cases_lt, eqb-true}
-use Rattle.std.proofs.lemmas.List.{take_all, drop_all, take-append-drop, append-nil, length-take-le, length-take, drop-drop}
+use Rattle.std.proofs.lemmas.List.{take_all, drop_all, take-append-drop, append-nil, length-take-le, drop-drop}
 use Rattle.httparse.specs.Spans.{IsRequestAt}
 use Rattle.httparse.specs.declared.spans.HeaderSpan.{HeaderSpan}
 use Rattle.httparse.specs.declared.spans.RequestSpans.{RequestSpans}
-use Rattle.pid_http_stream.specs.Bodies.{padded, BodyState, HasBrokenOff, IsTold, HasReadBody}
+use Rattle.pid_http_stream.specs.Bodies.{padded, BodyState, HasBrokenOff, HasReadBody}
+use Rattle.pid_http_stream.specs.BodyLengths.{longest_body}
 use Rattle.pid_http_stream.specs.Conducts.{Conduct, StandsStill}
 use Rattle.pid_http_stream.specs.Endings.{IsShort}
 use Rattle.pid_http_stream.specs.Handling.{MayReply, IsAsked}
 use Rattle.pid_http_stream.specs.Intakes.{StandsAt}
-use Rattle.pid_http_stream.specs.Requests.{Request, IsRequest, HasNoRequest}
-use Rattle.pid_http_stream.specs.Steps.{Around, IsAskedOver, Asks, whole_so, broken_so, asked_so}
-use Rattle.pid_http_stream.specs.declared.asking.Asked.{Asked}
+use Rattle.pid_http_stream.specs.Requests.{Request, IsRequest}
+use Rattle.pid_http_stream.specs.Steps.{IsAskedOver, Asks, whole_so, broken_so, asked_so}
 use Rattle.pid_http_stream.specs.declared.asking.Asked.TheVariants as asked
 use Rattle.pid_http_stream.specs.declared.body_input.BodyFault.{BodyFault}
 use Rattle.pid_http_stream.specs.declared.body_input.BodyFault.TheVariants as faults
@@ -89,14 +89,22 @@ whole_request held headers spans w A B r s more none e =
     behind : (xs : List ℕ) (a b : ℕ) → drop b (drop a xs) ≡ drop (a + b) xs
     behind xs a b = drop-drop b a xs
 
+length-padded : (n : ℕ) (bytes : List ℕ) → length (padded n bytes) ≡ n
+length-padded zero bytes = refl
+length-padded (suc n) [] = ap suc (length-padded n [])
+length-padded (suc n) (b ∷ bytes) = ap suc (length-padded n bytes)
+
 -- what holds of each request with this head, and the body that its reader was to give
 abbrev Told : (Request → Type 0) → List ℕ → List HeaderSpan → RequestSpans → BodyState → Type 0
-Told P held headers spans A = (request : Request) → IsRequestAt held headers spans request.head → option_map (λ s. padded A.wanted (A.held ++ s)) A.to_come ≡ Some request.body → P request
+Told P held headers spans A = (request : Request) → IsRequestAt held headers spans request.head → option_map (λ s. padded A.wanted (A.held ++ s)) A.to_come ≡ Some request.body → length request.body ≤ longest_body → P request
 
 told_at : (P : Request → Type 0) (held : List ℕ) (headers : List HeaderSpan) (spans : RequestSpans) (w : ℕ) (A B : BodyState) (r : Reading held headers spans w A B) (s : List ℕ)
     → A.to_come ≡ Some s → Told P held headers spans A → P (record { head = r.stands.found.0; body = body_of A s })
 told_at P held headers spans w A B r s e told =
-    told (record { head = r.stands.found.0; body = body_of A s }) r.stands.found.1 (ap (option_map (λ x. padded A.wanted (A.held ++ x))) e)
+    let sized = length-padded A.wanted (A.held ++ s) in
+    let wanted = r.wanted_is in
+    let fits = r.stands.fits in
+    told (record { head = r.stands.found.0; body = body_of A s }) r.stands.found.1 (ap (option_map (λ x. padded A.wanted (A.held ++ x))) e) (omega arith)
 
 pub reply_made : {H : Type 0} (conduct : Conduct H) (a b : H) (held : List ℕ) (headers : List HeaderSpan) (spans : RequestSpans) (w : ℕ) (A B : BodyState) → Reading held headers spans w A B → (reply : Reply)
     → B.wanted ≡ 0 → Told (λ request. MayReply conduct a request reply b) held headers spans A

@@ -1,6 +1,6 @@
 -- Line ends and nothing else: what the code scans, and what the definition says of the bytes.
 use Rattle.std.proofs.Common.{◌≡◌, ℕ, Bool, true, false, List, [], ◌∷◌, ◌++◌, refl, sym, ap, ◌∙◌, inl, inr}
-use Rattle.std.specs.Prelude.{IsTrue, ◌↔◌, ◌==◌, not, ◌&&◌, if◌then◌else◌, ◌⊎◌, All}
+use Rattle.std.specs.Prelude.{IsTrue, ◌↔◌, ◌==◌, not, ◌&&◌, if◌then◌else◌, ◌⊎◌}
 use Rattle.std.proofs.lemmas.Bool.{eqb-true, eq-eqb}
 use Rattle.std.proofs.lemmas.List.Elements.{All-cons, All-nil, All-head, All-tail}
 use Rattle.pid_http_stream.specs.Leftovers.{AreLineEnds}

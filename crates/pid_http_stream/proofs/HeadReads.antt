@@ -1,12 +1,11 @@
 -- What comes in up to the end of a head.
-use Rattle.std.proofs.Common.{◌≡◌, ℕ, ◌+◌, ◌≤◌, List, [], ◌∷◌, ◌++◌, Option, Some, None, length, take, drop, refl, sym, ap, subst, ◌∙◌, append_assoc, length-append, arith, inl}
+use Rattle.std.proofs.Common.{◌≡◌, ℕ, List, [], ◌++◌, Option, Some, None, length, take, drop, sym, ap, subst, ◌∙◌, append_assoc, arith, inl}
 use Rattle.std.specs.Prelude.{IfSome, IsTrue, ◌↔◌, Bool, false}
 use Rattle.std.proofs.lemmas.Bool.{iff_false}
-use Rattle.std.specs.Io.KnownBytes.{Consumes, IsAtEnd}
+use Rattle.std.specs.Io.KnownBytes.{IsAtEnd}
 use Rattle.std.proofs.KnownBytes.{Consumes-nil, Consumes-trans}
 use Rattle.std.proofs.lemmas.List.{append-nil, take_all, take-append-drop, take-append-le}
 use Rattle.httparse.specs.Grammar.{HasNoRequest as HasNoRequestHead}
-use Rattle.pid_http_stream.specs.Bodies.{Turns, SpendsTurns}
 use Rattle.pid_http_stream.specs.Endings.{HasFault, IsNoHead}
 use Rattle.pid_http_stream.specs.Intakes.{ComesIn, HasNoLineEnd, WantsMore}
 use Rattle.pid_http_stream.specs.Leftovers.{AreLineEnds}

@@ -1,12 +1,12 @@
 -- What bytes behind a head, or behind what is no head, change.
-use Rattle.std.proofs.Common.{◌≡◌, ℕ, zero, suc, get_or, ◌+◌, ◌-◌, ◌<◌, ◌≤◌, Bool, true, false, List, [], ◌∷◌, ◌++◌, length, map, take, drop, refl, sym, ap, subst, ◌∙◌, arith, append_assoc, length-append, inl, inr}
+use Rattle.std.proofs.Common.{◌≡◌, ℕ, zero, suc, get_or, ◌+◌, ◌<◌, ◌≤◌, Bool, true, false, List, [], ◌∷◌, ◌++◌, length, map, take, drop, refl, sym, ap, subst, ◌∙◌, arith, append_assoc, length-append, inl, inr}
 use Rattle.std.specs.Prelude.{IsTrue, ◌⊎◌, ◌==◌, not, ◌&&◌, if◌then◌else◌, codes}
 use Rattle.std.specs.List.{flat_map}
 use Rattle.std.proofs.lemmas.Bool.{eqb-true, cases_lt}
 use Rattle.std.proofs.lemmas.Str.{IsUtf8-from_ascii}
 use Rattle.std.proofs.lemmas.List.Elements.{All-cons, All-nil, All-head, All-tail, All-push}
-use Rattle.std.proofs.lemmas.List.{take_all, take_more, length-map, length-take, length-take-le, length-drop, take-append-drop, drop-drop, append-nil}
-use Rattle.httparse.specs.Grammar.{is_token_byte, is_uri_byte, LineEnd, crlf, lf, print_blank, print_end, print_version, print_field, print_section, RequestHead, IsRequestHead, ReadsRequest, HasNoRequest as HasNoRequestHead, print_request}
+use Rattle.std.proofs.lemmas.List.{take_all, take_more, length-map, length-take, length-take-le, take-append-drop}
+use Rattle.httparse.specs.Grammar.{is_token_byte, is_uri_byte, LineEnd, crlf, lf, print_blank, print_end, print_field, RequestHead, IsRequestHead, ReadsRequest, HasNoRequest as HasNoRequestHead, print_request}
 use Rattle.httparse.specs.Spans.{header_bytes, name_and_value, IsRequestWithin, IsRequestAt, IsRequestOf, RequestOverflows}
 use Rattle.httparse.specs.declared.spans.HeaderSpan.{HeaderSpan}
 use Rattle.httparse.specs.declared.spans.RequestSpans.{RequestSpans}

@@ -1,3 +1,4 @@
+pub mod Leading
 pub mod FieldWalks
 pub mod EndsOfLines
 pub mod Heads

@@ -1,12 +1,11 @@
 -- The parts of a reply in one list.
-use Rattle.std.proofs.Common.{◌≡◌, ℕ, List, [], ◌++◌, ◌+◌, ◌<◌, ◌≤◌, take, Option, Result, refl, sym, ap, ◌∙◌, append_assoc, length-append, subst, arith}
+use Rattle.std.proofs.Common.{◌≡◌, ℕ, List, [], ◌++◌, ◌+◌, take, Option, Result, sym, append_assoc, length-append, subst, arith}
 use Rattle.std.proofs.lemmas.List.{append-nil}
 use Rattle.std.specs.Prelude.{Bool, length, codes, decimal}
 use Rattle.pid_ident.specs.Sending.{Sends, SendsFront}
 use Rattle.std.specs.Io.KnownBytes.{Appends}
 use Rattle.std.proofs.KnownBytes.{Appends-trans}
 use Rattle.std.proofs.Math.Seq.{take-append-add}
-use Rattle.pid_http_stream.specs.Handling.{WritesBody}
 use Rattle.pid_http_stream.specs.Replies.{Answer, status_line, type_line, allow_line, close_line, reply_head, reply_text}
 use Rattle.pid_http_stream.specs.Serving.{WritesFront}
 use Rattle.pid_http_stream.specs.declared.reply.ReplyHead.{ReplyHead}

@@ -1,17 +1,17 @@
 -- The serving loop, over plain values.
-use Rattle.std.proofs.Common.{◌≡◌, ℕ, ◌+◌, ◌≤◌, Bool, true, false, List, [], ◌∷◌, ◌++◌, Option, Some, None, length, take, drop, refl, sym, ap, subst, ◌∙◌, arith, append_assoc, length-append, inl, inr}
+use Rattle.std.proofs.Common.{◌≡◌, ℕ, ◌+◌, true, false, List, [], ◌∷◌, ◌++◌, Option, Some, None, length, drop, refl, sym, ap, subst, ◌∙◌, arith, append_assoc, length-append, inl, inr}
 use Rattle.std.specs.Prelude.{IfSome, ◌⊎◌}
 use Rattle.std.specs.Io.KnownBytes.{Appends, Consumes, IsAtEnd}
 use Rattle.std.proofs.lemmas.List.{append-nil}
-use Rattle.std.proofs.KnownBytes.{Consumes-nil, Appends-nil, Appends-trans, Consumes-trans}
+use Rattle.std.proofs.KnownBytes.{Appends-nil, Appends-trans, Consumes-trans}
 use Rattle.pid_http_stream.specs.Conducts.{Conduct, StandsStill, AreReplies}
 use Rattle.pid_http_stream.specs.Endings.{HasFault}
 use Rattle.pid_http_stream.specs.Intakes.{ComesIn}
 use Rattle.pid_http_stream.specs.Leftovers.{IsLeftover}
-use Rattle.pid_http_stream.specs.Replies.{Answer, reply_text, fault_answer}
+use Rattle.pid_http_stream.specs.Replies.{Answer, reply_text}
 use Rattle.pid_http_stream.specs.Requests.{Request, IsRequest, HasNoRequest}
-use Rattle.pid_http_stream.specs.Serving.{counted, Outside, WritesFront, RestsBehind, AnswersAll, AnswersFront, BreaksOff, StopsReading, LacksMemory, IsReplyNext, IsWrittenNext, is_head_fault, IsServed}
-use Rattle.pid_http_stream.specs.Steps.{Around, IsReplied, IsRefused, EndsWithin, Steps, stop_end}
+use Rattle.pid_http_stream.specs.Serving.{counted, Outside, WritesFront, RestsBehind, AnswersAll, AnswersFront, BreaksOff, StopsReading, LacksMemory, IsReplyNext, IsWrittenNext, IsServed}
+use Rattle.pid_http_stream.specs.Steps.{IsReplied, IsRefused, EndsWithin, Steps, stop_end}
 use Rattle.pid_http_stream.specs.Streams.{closes, Ending, clean, closed, faulty, Ends, Fronts, Splits}
 use Rattle.pid_http_stream.specs.declared.intake.Stop.{Stop}
 use Rattle.pid_http_stream.specs.declared.intake.Stop.TheVariants as stops

@@ -1,6 +1,6 @@
 -- One request, from what its handler was asked to what was written.
-use Rattle.std.proofs.Common.{◌≡◌, ℕ, ◌+◌, ◌-◌, ◌^◌, ◌≤◌, Bool, true, false, List, [], ◌∷◌, ◌++◌, Option, Some, None, length, take, drop, refl, sym, ap, subst, ◌∙◌, append_assoc, arith, inl, inr}
-use Rattle.std.specs.Prelude.{IfSome, IsSome, ◌⊎◌}
+use Rattle.std.proofs.Common.{◌≡◌, ℕ, ◌+◌, ◌-◌, ◌^◌, ◌≤◌, Bool, true, false, List, [], ◌++◌, Option, Some, None, drop, refl, sym, ap, subst, ◌∙◌, arith, inl, inr}
+use Rattle.std.specs.Prelude.{IfSome, ◌⊎◌}
 use Rattle.std.specs.Io.KnownBytes.{Appends, IsAtEnd}
 use Rattle.std.proofs.lemmas.List.{append-nil}
 use Rattle.httparse.specs.Grammar.{RequestHead}
@@ -11,10 +11,9 @@ use Rattle.pid_http_stream.specs.Conducts.{Conduct, StandsStill}
 use Rattle.pid_http_stream.specs.Connections.{asks_to_close}
 use Rattle.pid_http_stream.specs.Endings.{IsShort}
 use Rattle.pid_http_stream.specs.Handling.{MayReply}
-use Rattle.pid_http_stream.specs.Replies.{Answer, reply_head, reply_text, fault_answer}
-use Rattle.pid_http_stream.specs.Requests.{Request, IsRequest, HasNoRequest, fields_of}
-use Rattle.pid_http_stream.specs.Serving.{WritesFront}
-use Rattle.pid_http_stream.specs.Steps.{Around, Asks, IsSent, IsRefused, IsReplied, IsStep, EndsWithin, Steps, EndsBroken, answered_so, stop_end}
+use Rattle.pid_http_stream.specs.Replies.{reply_head, reply_text, fault_answer}
+use Rattle.pid_http_stream.specs.Requests.{Request, IsRequest, fields_of}
+use Rattle.pid_http_stream.specs.Steps.{Asks, IsSent, IsRefused, IsStep, EndsWithin, Steps, EndsBroken, answered_so, stop_end}
 use Rattle.pid_http_stream.specs.Streams.{closes}
 use Rattle.pid_http_stream.specs.Bodies.{Turns, SpendsTurns}
 use Rattle.pid_http_stream.specs.declared.asking.Asked.TheVariants as asked
@@ -25,10 +24,8 @@ use Rattle.pid_http_stream.specs.declared.intake.HeadRead.TheVariants as heads
 use Rattle.pid_http_stream.specs.declared.intake.Stop.{Stop}
 use Rattle.pid_http_stream.specs.declared.intake.Stop.TheVariants as stops
 use Rattle.pid_http_stream.specs.declared.judging.StreamFault.TheVariants.{BodyShort}
-use Rattle.pid_http_stream.specs.declared.reply.ReplyHead.{ReplyHead}
 use Rattle.pid_http_stream.specs.declared.sending.Sent.{Sent}
 use Rattle.pid_http_stream.specs.declared.sending.Sent.TheVariants as sent
-use Rattle.pid_http_stream.specs.declared.stream.Answered.{Answered}
 use Rattle.pid_http_stream.specs.declared.stream.Answered.TheVariants as answered
 use Rattle.pid_http_stream.specs.declared.stream.StreamEnd.{StreamEnd}
 use Rattle.pid_http_stream.specs.declared.stream.StreamEnd.TheVariants as ends

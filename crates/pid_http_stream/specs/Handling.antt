@@ -1,8 +1,8 @@
 -- What a handler answers to one call.
-use Rattle.std.specs.Prelude.{◌≡◌, ℕ, ◌⊎◌, List, Option, Result, Ok, Err, MatchResult}
+use Rattle.std.specs.Prelude.{ℕ, ◌⊎◌, List, Option, Result, MatchResult}
 use Rattle.std.specs.Io.KnownBytes.{Appends, IsAtEnd}
 use Rattle.pid_http_stream.specs.Conducts.{Conduct, StandsStill}
-use Rattle.pid_http_stream.specs.Replies.{Answer, answer_with}
+use Rattle.pid_http_stream.specs.Replies.{answer_with}
 use Rattle.pid_http_stream.specs.Requests.{Request}
 use Rattle.pid_http_stream.specs.Serving.{WritesFront}
 use Rattle.pid_http_stream.specs.declared.reply.ReplyHead.{ReplyHead}

@@ -8,6 +8,7 @@ pub mod Endings
 pub mod Connections
 pub mod Streams
 pub mod Replies
+pub mod Leading
 pub mod Conducts
 pub mod Serving
 pub mod Handling

@@ -3,8 +3,10 @@ ghost use Rattle.std.specs.Prelude.{◌≡◌, ℕ, ◌+◌, ◌≤◌, List, le
 ghost use Rattle.std.specs.Io.KnownBytes.{Consumes, IsAtEnd};
 ghost use Rattle.httparse.specs.Spans.{IsRequestAt};
 ghost use Rattle.pid_http_stream.specs.Bodies.{SpendsTurns};
+ghost use Rattle.pid_http_stream.specs.BodyLengths.{longest_body};
 ghost use Rattle.pid_http_stream.specs.Handling.{IsAsked};
 ghost use Rattle.pid_http_stream.specs.Intakes.{StandsAt};
+ghost use Rattle.pid_http_stream.specs.Leading.{Leads};
 ghost use Rattle.pid_http_stream.specs.Requests.{Request};
 ghost use Rattle.pid_http_stream.specs.Steps.{Asks, asked_so};
 
@@ -58,8 +60,10 @@ fn ask_buffered<H: Handler, B: Input>(
 ) -> Result<Reply, NoReply>
     ensures goes { B.goes body.old body.new }
     ensures whole { IfOk result (λ _. IsAtEnd (B.to_come body.new)) }
-    ensures answered { (request : Request) → IsRequestAt head.now.bytes.now head.now.fields.now head.now.spans request.head → B.to_come body.old ≡ Some request.body
-        → IsAsked (record { answers = H.answers; leaves = H.leaves; gives_up = H.gives_up; promises = H.promises }) handler.old request result (B.to_come body.new) handler.new }
+    ensures becomes { H.becomes handler.old handler.new }
+    ensures answered { Leads H.is_good H.stands handler.old handler.new (λ v w. (request : Request) → IsRequestAt head.now.bytes.now head.now.fields.now head.now.spans request.head
+        → B.to_come body.old ≡ Some request.body → length request.body ≤ longest_body
+        → IsAsked (record { answers = H.answers; leaves = H.leaves; gives_up = H.gives_up; promises = H.promises }) v request result (B.to_come body.new) w) }
 {
     match read_whole(alloc, told, body) {
         Err(end) => Err(end),
@@ -77,8 +81,10 @@ fn ask<H: Handler, B: Input>(
 ) -> Result<Reply, NoReply>
     ensures goes { B.goes body.old body.new }
     ensures whole { IfOk result (λ _. IsAtEnd (B.to_come body.new)) }
-    ensures answered { (request : Request) → IsRequestAt head.now.bytes.now head.now.fields.now head.now.spans request.head → B.to_come body.old ≡ Some request.body
-        → IsAsked (record { answers = H.answers; leaves = H.leaves; gives_up = H.gives_up; promises = H.promises }) handler.old request result (B.to_come body.new) handler.new }
+    ensures becomes { H.becomes handler.old handler.new }
+    ensures answered { Leads H.is_good H.stands handler.old handler.new (λ v w. (request : Request) → IsRequestAt head.now.bytes.now head.now.fields.now head.now.spans request.head
+        → B.to_come body.old ≡ Some request.body → length request.body ≤ longest_body
+        → IsAsked (record { answers = H.answers; leaves = H.leaves; gives_up = H.gives_up; promises = H.promises }) v request result (B.to_come body.new) w) }
 {
     match handler.wants(head) {
         Wanted::Buffered => ask_buffered(alloc, handler, head, told, body),
@@ -124,8 +130,9 @@ pub(crate) fn ask_over<H: Handler, I: Input>(
     left: &mut u64,
 ) -> Asked
     requires { StandsAt head.now.bytes.now head.now.fields.now head.now.spans told }
-    ensures asked { IfSome (I.to_come input.old) (λ _. Asks (record { answers = H.answers; leaves = H.leaves; gives_up = H.gives_up; promises = H.promises })
-        (record { a = handler.old; b = handler.new; input = I.to_come input.old; input_after = I.to_come input.new }) head.now.bytes.now head.now.fields.now head.now.spans told result) }
+    ensures becomes { H.becomes handler.old handler.new }
+    ensures asked { Leads H.is_good H.stands handler.old handler.new (λ v w. IfSome (I.to_come input.old) (λ _. Asks (record { answers = H.answers; leaves = H.leaves; gives_up = H.gives_up; promises = H.promises })
+        (record { a = v; b = w; input = I.to_come input.old; input_after = I.to_come input.new }) head.now.bytes.now head.now.fields.now head.now.spans told result)) }
     ensures turns { SpendsTurns (record { reads = I.reads input.old; left = left.old }) (record { reads = I.reads input.new; left = left.new }) }
     ensures fault { result ≡ Asked.Broken BodyFault.ReadFault → IsSome (I.read_fault input.new) }
     ensures spent { result ≡ Asked.Broken BodyFault.TurnsSpent → left.new ≡ 0 }

@@ -1,6 +1,7 @@
 //! A reply, written to its end.
 ghost use Rattle.std.specs.Prelude.{◌≡◌, IsSome};
 ghost use Rattle.pid_http_stream.specs.Handling.{MayReply};
+ghost use Rattle.pid_http_stream.specs.Leading.{Leads};
 ghost use Rattle.pid_http_stream.specs.Replies.{answer_with, reply_head, reply_text};
 ghost use Rattle.pid_http_stream.specs.Requests.{Request};
 ghost use Rattle.pid_http_stream.specs.Steps.{IsSent, SendsText};
@@ -48,8 +49,9 @@ fn send_written<H: Handler, W: Output>(
     closes: bool,
     out: &mut W,
 ) -> Sent
-    ensures sent { (a : H) (request : Request) → H.promises a request head told handler.old
-        → IsSent (record { answers = H.answers; leaves = H.leaves; gives_up = H.gives_up; promises = H.promises }) a request handler.new closes (W.taken out.old) (W.taken out.new) result }
+    ensures becomes { H.becomes handler.old handler.new }
+    ensures sent { Leads H.is_good H.stands handler.old handler.new (λ v w. (a : H.View) (request : Request) → H.promises a request head told v
+        → IsSent (record { answers = H.answers; leaves = H.leaves; gives_up = H.gives_up; promises = H.promises }) a request w closes (W.taken out.old) (W.taken out.new) result) }
     ensures fault { result ≡ Sent.WriteFault → IsSome (W.write_fault out.new) }
 {
     match send_head(head, told, closes, out) {
@@ -71,8 +73,9 @@ pub(crate) fn send<H: Handler, W: Output>(
     closes: bool,
     out: &mut W,
 ) -> Sent
-    ensures sent { (a : H) (request : Request) → MayReply (record { answers = H.answers; leaves = H.leaves; gives_up = H.gives_up; promises = H.promises }) a request reply handler.old
-        → IsSent (record { answers = H.answers; leaves = H.leaves; gives_up = H.gives_up; promises = H.promises }) a request handler.new closes (W.taken out.old) (W.taken out.new) result }
+    ensures becomes { H.becomes handler.old handler.new }
+    ensures sent { Leads H.is_good H.stands handler.old handler.new (λ v w. (a : H.View) (request : Request) → MayReply (record { answers = H.answers; leaves = H.leaves; gives_up = H.gives_up; promises = H.promises }) a request reply v
+        → IsSent (record { answers = H.answers; leaves = H.leaves; gives_up = H.gives_up; promises = H.promises }) a request w closes (W.taken out.old) (W.taken out.new) result) }
     ensures fault { result ≡ Sent.WriteFault → IsSome (W.write_fault out.new) }
 {
     let Reply { head, body } = reply;

@@ -2,6 +2,7 @@
 ghost use Rattle.std.specs.Prelude.{◌≡◌, ℕ, ◌+◌, ◌-◌, ◌*◌, ◌^◌, ◌<◌, ◌≤◌, List, length, drop, IsSome, IfSome};
 ghost use Rattle.pid_http_stream.specs.Bodies.{SpendsTurns};
 ghost use Rattle.pid_http_stream.specs.Intakes.{StandsAt};
+ghost use Rattle.pid_http_stream.specs.Leading.{Leads};
 ghost use Rattle.pid_http_stream.specs.Serving.{IsServed};
 ghost use Rattle.pid_http_stream.specs.Steps.{EndsBroken, IsRefused, Steps, answered_so, stop_end};
 
@@ -121,9 +122,10 @@ fn serve_request<H: Handler, I: Input, W: Output>(
     out: &mut W,
 ) -> Answered
     requires { StandsAt head.now.bytes.now head.now.fields.now head.now.spans told }
-    ensures stepped { IfSome (I.to_come input.old) (λ _. Steps (record { answers = H.answers; leaves = H.leaves; gives_up = H.gives_up; promises = H.promises })
-        (record { a = handler.old; b = handler.new; input = I.to_come input.old; input_after = I.to_come input.new }) head.now.bytes.now (drop (head.now.spans.len + told) head.now.bytes.now)
-        (W.taken out.old) (W.taken out.new) result) }
+    ensures becomes { H.becomes handler.old handler.new }
+    ensures stepped { Leads H.is_good H.stands handler.old handler.new (λ v w. IfSome (I.to_come input.old) (λ _. Steps (record { answers = H.answers; leaves = H.leaves; gives_up = H.gives_up; promises = H.promises })
+        (record { a = v; b = w; input = I.to_come input.old; input_after = I.to_come input.new }) head.now.bytes.now (drop (head.now.spans.len + told) head.now.bytes.now)
+        (W.taken out.old) (W.taken out.new) result)) }
     ensures turns { SpendsTurns (record { reads = I.reads input.old; left = left.old }) (record { reads = I.reads input.new; left = left.new }) }
     ensures read_fault { result ≡ Answered.Ended StreamEnd.ReadFault → IsSome (I.read_fault input.new) }
     ensures write_fault { result ≡ Answered.Ended StreamEnd.WriteFault → IsSome (W.write_fault out.new) }
@@ -162,8 +164,9 @@ pub fn serve_stream<H: Handler, I: Input, W: Output>(
     output: &mut W,
     turns: u64,
 ) -> Served
-    ensures served { IfSome (I.to_come input.old) (λ stream. IsServed (record { answers = H.answers; leaves = H.leaves; gives_up = H.gives_up; promises = H.promises })
-        (record { handler = handler.old; handler_after = handler.new; taken = W.taken output.old; taken_after = W.taken output.new }) stream (I.to_come input.new) result.end result.answered) }
+    ensures becomes { H.becomes handler.old handler.new }
+    ensures served { Leads H.is_good H.stands handler.old handler.new (λ v w. IfSome (I.to_come input.old) (λ stream. IsServed (record { answers = H.answers; leaves = H.leaves; gives_up = H.gives_up; promises = H.promises })
+        (record { handler = v; handler_after = w; taken = W.taken output.old; taken_after = W.taken output.new }) stream (I.to_come input.new) result.end result.answered)) }
     ensures reads { I.reads input.new ≤ I.reads input.old + turns }
     ensures turns { result.end ≡ StreamEnd.TurnsSpent → I.reads input.old + turns ≤ 2 ^ 64 - 1 → I.reads input.new ≡ I.reads input.old + turns }
     ensures read_fault { result.end ≡ StreamEnd.ReadFault → IsSome (I.read_fault input.new) }

@@ -41,6 +41,18 @@ fn write_text<W: Output>(text: &[u8], stops: bool, out: &mut W) -> Result<(), Bo
 impl Handler for Desk {
     ghost use Rattle.std.specs.Prelude.{⊤};
 
+    ghost View = { Unit {0} };
+
+    ghost stands = { λ a v. ⊤ };
+
+    ghost is_good = { λ a. ⊤ };
+
+    ghost becomes = { λ a b. ⊤ };
+
+    ghost stays = { λ a. tt };
+
+    ghost joins = { λ a b c p q. tt };
+
     ghost answers = { λ a request answer b. ⊤ };
 
     ghost leaves = { λ a request b. ⊤ };

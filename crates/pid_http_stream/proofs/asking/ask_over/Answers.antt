@@ -3,6 +3,7 @@ use Rattle.std.specs.Prelude.{IfSome, IsSome}
 use Rattle.pid_http_stream.specs.Bodies.{BodyState}
 use Rattle.pid_http_stream.specs.Steps.{Asks, asked_so}
 use Rattle.pid_http_stream.proofs.Asked.{Reading, asked_is, broken_cause}
+use Rattle.pid_http_stream.proofs.Leading.{turned}
 use Rattle.pid_http_stream.proofs.asking.ask_over.Goals as goal
 
 pub returns-clause-asked : goal.returns-clause-asked
@@ -13,9 +14,9 @@ returns-clause-asked g c =
     let reading : Reading c.args.head.now.bytes.now c.args.head.now.fields.now c.args.head.now.spans c.args.told old new =
     record { stands = c.requires; n = _; n_is = refl; held_is = c.came_with.ensures.front; wanted_is = refl; no_fault = refl; read = c.ask-reply.ensures.goes.2; fits = body.fits } in
     let same : c.ask-reply.new.body.input.now ≡ c.input-1.given.0 = search rules in
-    rw c.asked_of.ensures (subst (λ i. IfSome (g.I.Input.to_come c.args.input.now) (λ _. Asks (record { answers = g.H.Handler.answers; leaves = g.H.Handler.leaves; gives_up = g.H.Handler.gives_up; promises = g.H.Handler.promises }) (record { a = c.args.handler.now; b = c.ask-reply.new.handler; input = g.I.Input.to_come c.args.input.now; input_after = g.I.Input.to_come i })
+    turned _ _ _ _ (λ v w told. rw c.asked_of.ensures (subst (λ i. IfSome (g.I.Input.to_come c.args.input.now) (λ _. Asks (record { answers = g.H.Handler.answers; leaves = g.H.Handler.leaves; gives_up = g.H.Handler.gives_up; promises = g.H.Handler.promises }) (record { a = v; b = w; input = g.I.Input.to_come c.args.input.now; input_after = g.I.Input.to_come i })
     c.args.head.now.bytes.now c.args.head.now.fields.now c.args.head.now.spans c.args.told (asked_so c.ask-reply.result c.ask-reply.new.body.wanted c.ask-reply.new.body.fault))) same
-    (asked_is _ _ _ c.args.head.now.bytes.now c.args.head.now.fields.now c.args.head.now.spans c.args.told old new reading c.ask-reply.result c.ask-reply.ensures.answered c.ask-reply.ensures.whole))
+    (asked_is (record { answers = g.H.Handler.answers; leaves = g.H.Handler.leaves; gives_up = g.H.Handler.gives_up; promises = g.H.Handler.promises }) v w c.args.head.now.bytes.now c.args.head.now.fields.now c.args.head.now.spans c.args.told old new reading c.ask-reply.result told c.ask-reply.ensures.whole))) c.ask-reply.ensures.answered
 
 pub returns-clause-fault : goal.returns-clause-fault
 returns-clause-fault g c = λ e.

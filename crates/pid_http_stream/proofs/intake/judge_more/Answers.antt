@@ -1,4 +1,3 @@
-use Rattle.std.proofs.Common.{rules}
 use Rattle.pid_http_stream.proofs.HeadReads.{still_none}
 use Rattle.pid_http_stream.proofs.intake.judge_more.Goals as goal
 

@@ -1,26 +1,28 @@
-use Rattle.std.proofs.Common.{rules, refl, arith}
+use Rattle.std.proofs.Common.{rules, arith}
 use Rattle.pid_http_stream.specs.BodyLaws.{more_turns}
+use Rattle.pid_http_stream.proofs.Leading.{turned, joined}
 use Rattle.pid_http_stream.proofs.Serving.{loop_nothing, loop_faulty, loop_stopped, loop_open, loop_closed, loop_ended}
 use Rattle.pid_http_stream.proofs.stream.serve_stream.Goals as goal
 
 pub returns-in-Nothing-clause-served : goal.returns-in-Nothing-clause-served
-returns-in-Nothing-clause-served g c = loop_nothing _ _ _ _ _ _ _ _ _ _ _ c.serving.invariant.serving c.in-Nothing.ensures.comes c.in-Nothing.ensures.head
+returns-in-Nothing-clause-served g c = turned _ _ _ _ (λ v w serving. loop_nothing _ _ _ _ _ _ _ _ _ _ _ serving c.in-Nothing.ensures.comes c.in-Nothing.ensures.head) c.serving.invariant.serving
 
 pub returns-in-Faulty-clause-served : goal.returns-in-Faulty-clause-served
-returns-in-Faulty-clause-served g c = loop_faulty _ _ _ _ _ _ _ _ _ _ _ _ _ _ c.serving.invariant.serving c.in-Faulty.ensures.comes c.in-Faulty.ensures.head c.refuse-end.ensures.refused
+returns-in-Faulty-clause-served g c = turned _ _ _ _ (λ v w serving. loop_faulty _ _ _ _ _ _ _ _ _ _ _ _ _ _ serving c.in-Faulty.ensures.comes c.in-Faulty.ensures.head c.refuse-end.ensures.refused) c.serving.invariant.serving
 
 pub returns-in-Stopped-clause-served : goal.returns-in-Stopped-clause-served
-returns-in-Stopped-clause-served g c = rw c.end_of-end.ensures (loop_stopped _ _ _ _ _ _ _ _ _ _ _ _ c.serving.invariant.serving c.in-Stopped.ensures.comes c.in-Stopped.ensures.head)
+returns-in-Stopped-clause-served g c = turned _ _ _ _ (λ v w serving. rw c.end_of-end.ensures (loop_stopped _ _ _ _ _ _ _ _ _ _ _ _ serving c.in-Stopped.ensures.comes c.in-Stopped.ensures.head)) c.serving.invariant.serving
 
 pub returns-in-Closed-clause-served : goal.returns-in-Closed-clause-served
-returns-in-Closed-clause-served g c = loop_closed _ _ _ _ _ _ _ _ _ _ _ _ _ _ _ _ _ c.serving.invariant.serving c.in-Head.ensures.comes c.deref.ensures.value c.in-Closed.ensures.stepped c.saturating_add.ensures
+returns-in-Closed-clause-served g c = joined _ _ _ _ _ _ (λ u v w serving stepped. loop_closed _ _ _ _ _ _ _ _ _ _ _ _ _ _ _ _ _ serving c.in-Head.ensures.comes c.deref.ensures.value stepped c.saturating_add.ensures) c.serving.invariant.serving c.in-Closed.ensures.stepped
 
 pub returns-in-Ended-clause-served : goal.returns-in-Ended-clause-served
-returns-in-Ended-clause-served g c = loop_ended _ _ _ _ _ _ _ _ _ _ _ _ _ _ _ _ _ c.serving.invariant.serving c.in-Head.ensures.comes c.deref.ensures.value c.in-Ended.ensures.stepped
+returns-in-Ended-clause-served g c = joined _ _ _ _ _ _ (λ u v w serving stepped. loop_ended _ _ _ _ _ _ _ _ _ _ _ _ _ _ _ _ _ serving c.in-Head.ensures.comes c.deref.ensures.value stepped) c.serving.invariant.serving c.in-Ended.ensures.stepped
 
 pub serving-preserved : goal.serving-preserved
 serving-preserved g c = record {
-  serving = loop_open _ _ _ _ _ _ _ _ _ _ _ _ _ _ _ _ _ _ c.serving.invariant.serving c.in-Head.ensures.comes c.deref.ensures.value c.in-Open.ensures.stepped c.saturating_add-answered.ensures c.drop_front.ensures;
+  serving = joined _ _ _ _ _ _ (λ u v w serving stepped. loop_open _ _ _ _ _ _ _ _ _ _ _ _ _ _ _ _ _ _ serving c.in-Head.ensures.comes c.deref.ensures.value stepped c.saturating_add-answered.ensures c.drop_front.ensures) c.serving.invariant.serving c.in-Open.ensures.stepped;
+  becomes = g.met.H.Handler.joins _ _ _ c.serving.invariant.becomes c.serve_request.ensures.becomes;
   room = search rules;
   turns = more_turns _ _ _ c.serving.invariant.turns (more_turns _ _ _ c.read_head.ensures.turns c.serve_request.ensures.turns);
   goes = g.met.I.Input.joins _ _ _ (g.met.I.Input.joins _ _ _ c.serving.invariant.goes c.read_head.ensures.goes) c.serve_request.ensures.goes;

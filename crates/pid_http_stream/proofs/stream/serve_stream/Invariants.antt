@@ -1,13 +1,15 @@
 use Rattle.std.proofs.Common.{◌≡◌, ◌+◌, ◌*◌, length}
 use Rattle.std.specs.Prelude.{IfSome}
 use Rattle.pid_http_stream.specs.Bodies.{SpendsTurns}
+use Rattle.pid_http_stream.specs.Leading.{Leads}
 use Rattle.pid_http_stream.proofs.Serving.{IsServing}
 use Rattle.pid_http_stream.proofs.stream.serve_stream.Given as goal
 
 abbrev pub invariant-serving : goal.invariant-serving
 invariant-serving g l = record {
-  serving : IfSome (g.I.Input.to_come l.fn.input) (λ s. IsServing (record { answers = g.H.Handler.answers; leaves = g.H.Handler.leaves; gives_up = g.H.Handler.gives_up; promises = g.H.Handler.promises })
-      (record { handler = l.fn.handler; handler_after = l.handler; taken = g.W.Output.taken l.fn.output; taken_after = g.W.Output.taken l.output }) s (g.I.Input.to_come l.input) l.held.items l.answered);
+  serving : Leads g.H.Handler.is_good g.H.Handler.stands l.fn.handler l.handler (λ v w. IfSome (g.I.Input.to_come l.fn.input) (λ s. IsServing (record { answers = g.H.Handler.answers; leaves = g.H.Handler.leaves; gives_up = g.H.Handler.gives_up; promises = g.H.Handler.promises })
+      (record { handler = v; handler_after = w; taken = g.W.Output.taken l.fn.output; taken_after = g.W.Output.taken l.output }) s (g.I.Input.to_come l.input) l.held.items l.answered));
+  becomes : g.H.Handler.becomes l.fn.handler l.handler;
   room : length l.fields ≡ 32;
   turns : SpendsTurns (record { reads = g.I.Input.reads l.fn.input; left = l.turns }) (record { reads = g.I.Input.reads l.input; left = l.left });
   goes : g.I.Input.goes l.fn.input l.input;

@@ -1,0 +1,5 @@
+pub mod Meeting
+pub mod Imports
+pub mod Exports
+pub mod Handled
+pub mod Served

@@ -1,0 +1,62 @@
+//! Commands, each with its reply.
+ghost use Rattle.std.specs.Prelude.{◌≡◌, Err};
+ghost use Rattle.pid_import.specs.Files.{asks};
+ghost use Rattle.pid_requests.specs.Commands.{command_made};
+ghost use Rattle.pid_http.specs.Calls as calls;
+ghost use Rattle.pid_http.specs.Calls.{commanded, sent};
+ghost use Rattle.pid_http.specs.Replying.{Replies, sending_in, sending_of};
+
+use pid_http_stream::Reply;
+use pid_moderation::{Command, Refusal, Verb};
+use pid_replies::{outcome_reply, refusal_reply};
+use pid_requests::{Format, Sender, command_in};
+use pid_service::Registry;
+use sqlite::Alter;
+use std::alloc::{AllocError, Global};
+
+// Has a command obeyed.
+fn obey<S: Alter + Drop>(
+    alloc: Global,
+    registry: &mut Registry<S>,
+    command: Command,
+    format: Format,
+) -> Result<Reply, AllocError>
+    ensures { Replies S.Store registry.old registry.new (calls.Obeys (asks command) format) result }
+{
+    let outcome = registry.obey(command);
+    outcome_reply(alloc, format, outcome)
+}
+
+// Has the command obeyed that the form of a sender makes.
+fn command_of<S: Alter + Drop>(
+    alloc: Global,
+    registry: &mut Registry<S>,
+    verb: Verb,
+    format: Format,
+    sender: Sender<'_>,
+    body: &[u8],
+) -> Result<Reply, AllocError>
+    ensures { Replies S.Store registry.old registry.new (commanded format (command_made verb (sending_of sender.entry) body.now)) result }
+{
+    match command_in(alloc, verb, sender, body) {
+        Err(refusal) => refusal_reply(alloc, format, refusal),
+        Ok(command) => obey(alloc, registry, command, format),
+    }
+}
+
+/// Has the command obeyed that a sender's form makes. The sender is judged before the form.
+pub(crate) fn command<S: Alter + Drop>(
+    alloc: Global,
+    registry: &mut Registry<S>,
+    verb: Verb,
+    format: Format,
+    sender: Option<Sender<'_>>,
+    body: &[u8],
+) -> Result<Reply, AllocError>
+    ensures { Replies S.Store registry.old registry.new (sent format (λ s. command_made verb s body.now) (sending_in sender.entry)) result }
+{
+    match sender {
+        None => refusal_reply(alloc, format, Refusal::BadText),
+        Some(sender) => command_of(alloc, registry, verb, format, sender, body),
+    }
+}

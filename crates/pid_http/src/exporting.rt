@@ -1,0 +1,30 @@
+//! The canonical text of all items, whose length is told before it is written.
+ghost use Rattle.std.specs.Prelude.{◌≡◌, Ok};
+ghost use Rattle.pid_http.specs.Calls as calls;
+ghost use Rattle.pid_http.specs.Replying.{Replies};
+
+use pid_http_stream::{Content, Reply, ReplyBody, ReplyHead, Status};
+use pid_replies::refusal_reply;
+use pid_requests::Format;
+use pid_service::Registry;
+use sqlite::Alter;
+use std::alloc::{AllocError, Global};
+
+/// The head of the reply with the text, which is written behind it, item by item.
+pub(crate) fn export<S: Alter + Drop>(
+    alloc: Global,
+    registry: &mut Registry<S>,
+) -> Result<Reply, AllocError>
+    ensures { Replies S.Store registry.old registry.new calls.Exports result }
+{
+    match registry.export_length() {
+        Ok(length) => Ok(Reply {
+            head: ReplyHead {
+                status: Status::Okay,
+                content: Content::Text,
+            },
+            body: ReplyBody::Written(length),
+        }),
+        Err(refusal) => refusal_reply(alloc, Format::Json, refusal),
+    }
+}

@@ -1,0 +1,87 @@
+//! The service as what answers the requests of a stream.
+ghost use Rattle.std.specs.Prelude.{◌≡◌, IfOk};
+
+use crate::answering::answer;
+use crate::importing::import;
+use crate::service::Service;
+use pid_export::items_print_as_their_tree;
+use pid_http_stream::{BodyStop, Handler, Head, NoReply, Reply, Wanted};
+use pid_ident::{Input, Output};
+use pid_requests::{Question, question_of, sender_of};
+use pid_service::ExportFault;
+use sqlite::Alter;
+
+impl<S: Alter + Drop> Handler for Service<'_, '_, S> {
+    ghost use Rattle.std.specs.Prelude.{◌≡◌, false, refl};
+    ghost use Rattle.pid_http.specs.Handling.{Writes, exports_text, rests_on, same_on};
+    ghost use Rattle.pid_http.specs.Serving.{serving};
+    ghost use Rattle.pid_http.specs.Standings.{Standing, Stands};
+    ghost use Rattle.pid_service.specs.Registries.{HasCleanDisk, is_live};
+
+    ghost View = { Standing };
+
+    ghost stands = { λ a s. Stands S.Store a.registry.now s };
+
+    ghost is_good = { λ a. HasCleanDisk S.Store a.registry.now };
+
+    ghost becomes = { λ a b. (b.registry.ghost_name ≡ a.registry.ghost_name) × (is_live a.registry.now ≡ false → b.registry.now ≡ a.registry.now) };
+
+    ghost answers = { serving.answers };
+
+    ghost leaves = { serving.leaves };
+
+    ghost gives_up = { serving.gives_up };
+
+    ghost promises = { serving.promises };
+
+    ghost writes = { Writes };
+
+    ghost kept = { exports_text };
+
+    ghost stays = { λ a. (refl, λ off. refl) };
+
+    ghost joins = { λ a b c p q. (same_on a.registry.ghost_name b.registry.ghost_name c.registry.ghost_name p.0 q.0, rests_on (λ r. is_live r) a.registry.now b.registry.now c.registry.now p.1 q.1) };
+
+    fn wants(&self, head: &Head<'_>) -> Wanted {
+        match question_of(self.alloc, self.routes, head.method(), head.target()) {
+            Ok(Question::Import { .. }) => Wanted::Streamed,
+            Ok(_) | Err(_) => Wanted::Buffered,
+        }
+    }
+
+    fn answer(&mut self, head: &Head<'_>, body: &[u8]) -> Result<Reply, NoReply> {
+        match question_of(self.alloc, self.routes, head.method(), head.target()) {
+            Ok(question) => {
+                let sender = sender_of(head);
+                match answer(self.alloc, self.registry, question, sender, body) {
+                    Ok(reply) => Ok(reply),
+                    Err(_) => Err(NoReply),
+                }
+            }
+            Err(_) => Err(NoReply),
+        }
+    }
+
+    fn answer_streamed<B: Input>(
+        &mut self,
+        head: &Head<'_>,
+        body: &mut B,
+    ) -> Result<Reply, NoReply> {
+        match question_of(self.alloc, self.routes, head.method(), head.target()) {
+            Ok(Question::Import { format }) => {
+                let sender = sender_of(head);
+                import(self.alloc, self.registry, format, sender, body)
+            }
+            Ok(_) | Err(_) => Err(NoReply),
+        }
+    }
+
+    fn write_body<W: Output>(&mut self, out: &mut W) -> Result<(), BodyStop> {
+        items_print_as_their_tree();
+        match self.registry.export(out) {
+            Ok(()) => Ok(()),
+            Err(ExportFault::Write(_)) => Err(BodyStop::Writer),
+            Err(ExportFault::Refused(_)) => Err(BodyStop::Store),
+        }
+    }
+}

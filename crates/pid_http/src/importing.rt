@@ -1,0 +1,155 @@
+//! Imports, whose file is the body of the request, read as it comes.
+ghost use Rattle.std.specs.Prelude.{◌≡◌, ◌≤◌, ℕ, List, [], length, Some, Err, IfOk, IfSome, option_copied};
+ghost use Rattle.std.specs.Io.KnownBytes.{IsAtEnd};
+ghost use Rattle.pid_import.specs.Files.{file_reading};
+ghost use Rattle.pid_moderation.specs.BeforeFile.{import_of};
+ghost use Rattle.pid_http_stream.specs.BodyLengths.{longest_body};
+ghost use Rattle.pid_replies.specs.Outcomes.{outcome_answer};
+ghost use Rattle.pid_replies.specs.Replying.{IsReplyOf};
+ghost use Rattle.pid_http.specs.Calls as calls;
+ghost use Rattle.pid_http.specs.Calls.{imported};
+ghost use Rattle.pid_http.specs.Replying.{IsRepliedBehind, sending_in, sending_of};
+ghost use Rattle.pid_http.specs.Standings.{Leads};
+
+use pid_http_stream::{LONGEST_BODY, NoReply, Reply, discard};
+use pid_ident::{Account, Input, Key, WordFault};
+use pid_moderation::{Refusal, Reply as Outcome};
+use pid_reader::skip_input;
+use pid_replies::outcome_reply;
+use pid_requests::{Format, Sender};
+use pid_service::{ImportEnd, Registry};
+use sqlite::Alter;
+use std::alloc::Global;
+
+fn reply_with(
+    alloc: Global,
+    format: Format,
+    outcome: Result<Outcome, Refusal>,
+) -> Result<Reply, NoReply>
+    ensures { IfOk result (λ reply. IsReplyOf reply (outcome_answer format outcome)) }
+{
+    match outcome_reply(alloc, format, outcome) {
+        Ok(reply) => Ok(reply),
+        Err(_) => Err(NoReply),
+    }
+}
+
+// Refuses an import whose file is not wanted, which is read to its end.
+fn deny<B: Input>(
+    alloc: Global,
+    format: Format,
+    refusal: Refusal,
+    body: &mut B,
+) -> Result<Reply, NoReply>
+    ensures goes { B.goes body.old body.new }
+    ensures whole { IfOk result (λ _. IsAtEnd (B.to_come body.new)) }
+    ensures replied { IfOk result (λ reply. IsReplyOf reply (outcome_answer format (Err refusal))) }
+{
+    match discard(body) {
+        Ok(()) => reply_with(alloc, format, Err(refusal)),
+        Err(end) => Err(end),
+    }
+}
+
+// Refuses an import that the registry refused: what is left of a file that is too long is read to its end.
+fn refuse<B: Input>(
+    alloc: Global,
+    format: Format,
+    refusal: Refusal,
+    body: &mut B,
+) -> Result<Reply, NoReply>
+    ensures goes { B.goes body.old body.new }
+    ensures whole { IfOk result (λ _. IsAtEnd (B.to_come body.new)) }
+    ensures ended { B.to_come body.old ≡ Some [] → B.to_come body.new ≡ Some [] }
+    ensures replied { IfOk result (λ reply. IsReplyOf reply (outcome_answer format (Err refusal))) }
+{
+    match skip_input(LONGEST_BODY, body) {
+        Ok(()) => reply_with(alloc, format, Err(refusal)),
+        Err(_) => Err(NoReply),
+    }
+}
+
+// Has an import obeyed.
+fn take_in<S: Alter + Drop, B: Input>(
+    alloc: Global,
+    registry: &mut Registry<S>,
+    format: Format,
+    account: Account,
+    key: Option<Key>,
+    body: &mut B,
+) -> Result<Reply, NoReply>
+    ensures goes { B.goes body.old body.new }
+    ensures whole { IfOk result (λ _. IsAtEnd (B.to_come body.new)) }
+    ensures replied { Leads S.Store registry.old registry.new (λ s t. (file : List ℕ) → B.to_come body.old ≡ Some file → length file ≤ longest_body
+        → IsRepliedBehind s (calls.Obeys (import_of account key (file_reading file)) format) result (B.to_come body.new) t) }
+{
+    match registry.import_from(account, key, body) {
+        Ok(reply) => reply_with(alloc, format, Ok(reply)),
+        Err(ImportEnd::Refused(refusal)) => refuse(alloc, format, refusal, body),
+        Err(ImportEnd::Body) => Err(NoReply),
+    }
+}
+
+// The key, where there is one.
+fn key_of(alloc: Global, key: Option<&str>) -> Result<Option<Key>, WordFault>
+    ensures { IfOk result (λ k. k ≡ option_copied key.entry) }
+{
+    match key {
+        None => Ok(None),
+        Some(text) => match Key::of(alloc, text) {
+            Ok(key) => Ok(Some(key)),
+            Err(fault) => Err(fault),
+        },
+    }
+}
+
+// The account and the key of a sender; none where there is no memory for them.
+fn owner_of(alloc: Global, sender: Sender<'_>) -> Option<(Account, Option<Key>)>
+    ensures { IfSome result (λ owner. (owner.0 ≡ sender.entry.account.now) × (owner.1 ≡ option_copied sender.entry.key)) }
+{
+    match Account::of(alloc, sender.account) {
+        Ok(account) => match key_of(alloc, sender.key) {
+            Ok(key) => Some((account, key)),
+            Err(_) => None,
+        },
+        Err(_) => None,
+    }
+}
+
+// Has an import of a sender obeyed.
+fn import_of_sender<S: Alter + Drop, B: Input>(
+    alloc: Global,
+    registry: &mut Registry<S>,
+    format: Format,
+    sender: Sender<'_>,
+    body: &mut B,
+) -> Result<Reply, NoReply>
+    ensures goes { B.goes body.old body.new }
+    ensures whole { IfOk result (λ _. IsAtEnd (B.to_come body.new)) }
+    ensures replied { Leads S.Store registry.old registry.new (λ s t. (file : List ℕ) → B.to_come body.old ≡ Some file → length file ≤ longest_body
+        → IsRepliedBehind s (imported format (Some (sending_of sender.entry)) file) result (B.to_come body.new) t) }
+{
+    match owner_of(alloc, sender) {
+        None => deny(alloc, format, Refusal::Memory, body),
+        Some((account, key)) => take_in(alloc, registry, format, account, key, body),
+    }
+}
+
+/// Has an import obeyed whose file is the body. The sender is judged first, but told only behind the body.
+pub(crate) fn import<S: Alter + Drop, B: Input>(
+    alloc: Global,
+    registry: &mut Registry<S>,
+    format: Format,
+    sender: Option<Sender<'_>>,
+    body: &mut B,
+) -> Result<Reply, NoReply>
+    ensures goes { B.goes body.old body.new }
+    ensures whole { IfOk result (λ _. IsAtEnd (B.to_come body.new)) }
+    ensures replied { Leads S.Store registry.old registry.new (λ s t. (file : List ℕ) → B.to_come body.old ≡ Some file → length file ≤ longest_body
+        → IsRepliedBehind s (imported format (sending_in sender.entry) file) result (B.to_come body.new) t) }
+{
+    match sender {
+        None => deny(alloc, format, Refusal::BadText, body),
+        Some(sender) => import_of_sender(alloc, registry, format, sender, body),
+    }
+}

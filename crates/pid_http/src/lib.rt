@@ -1,0 +1,13 @@
+//! A registry over HTTP: each request of a stream is answered over the history that the registry shows (RFC 9112, RFC 8259).
+#![tactic(auto)]
+
+mod answering;
+mod asking;
+mod commanding;
+mod exporting;
+mod handling;
+mod importing;
+mod service;
+mod stream;
+
+pub use stream::serve_stream;

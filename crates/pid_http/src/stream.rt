@@ -1,0 +1,80 @@
+//! A stream of requests over a registry.
+ghost use Rattle.std.specs.Prelude.{◌≡◌, ℕ, ◌+◌, ◌-◌, ◌^◌, ◌≤◌, IfSome, IsSome};
+ghost use Rattle.pid_http_stream.specs.Serving.{IsServed};
+ghost use Rattle.pid_requests.specs.Routes.{table};
+ghost use Rattle.pid_http.specs.Serving.{serving};
+ghost use Rattle.pid_http.specs.Standings.{Leads};
+
+use crate::service::Service;
+use matchit::Router;
+use pid_http_stream::{Served, StreamEnd, serve_stream as serve_requests};
+use pid_ident::{Input, Output};
+use pid_requests::{Route, build_routes};
+use pid_service::Registry;
+use sqlite::Alter;
+use std::alloc::Global;
+
+// Answers the requests of a stream by these routes.
+fn serve_by<S: Alter + Drop, I: Input, W: Output>(
+    alloc: Global,
+    registry: &mut Registry<S>,
+    routes: &Router<Route>,
+    reader: &mut I,
+    writer: &mut W,
+    turns: u64,
+) -> Served
+    requires { routes.now ≡ table }
+    ensures served { Leads S.Store registry.old registry.new (λ s t. IfSome (I.to_come reader.old) (λ stream. IsServed serving
+        (record { handler = s; handler_after = t; taken = W.taken writer.old; taken_after = W.taken writer.new }) stream (I.to_come reader.new) result.end result.answered)) }
+    ensures reads { I.reads reader.new ≤ I.reads reader.old + turns }
+    ensures turns { result.end ≡ StreamEnd.TurnsSpent → I.reads reader.old + turns ≤ 2 ^ 64 - 1 → I.reads reader.new ≡ I.reads reader.old + turns }
+    ensures read_fault { result.end ≡ StreamEnd.ReadFault → IsSome (I.read_fault reader.new) }
+    ensures write_fault { result.end ≡ StreamEnd.WriteFault → IsSome (W.write_fault writer.new) }
+    ensures goes { I.goes reader.old reader.new }
+{
+    let mut service = Service {
+        alloc,
+        registry,
+        routes,
+    };
+    serve_requests(alloc, &mut service, reader, writer, turns)
+}
+
+/// Answers the requests of a stream over a registry, one after another, in at most so many reads.
+///
+/// Each reply is that to the request over the history that the registry shows then, and it is written before more is read than it
+/// needs. Where memory is short or the store fails the reply is that refusal; where the registry failed so at a command, each later
+/// request that asks something of it is told so, and it has to be opened anew. A body is held in memory but that of an import, of
+/// which only what the registry needs is.
+///
+/// # How it ends
+///
+/// - `Clean`, `Closed`, `HeadFault`, `BodyFault`: all requests of the stream were answered, behind them the refusal of what is none.
+/// - `ReadFault`, `TurnsSpent`: the requests that came whole were answered.
+/// - `Memory`: the requests before were answered; the next may have been obeyed.
+/// - `WriteFault`: the requests before were answered, and a front of the next reply was written; the next may have been obeyed.
+/// - `StoreFault`: the same within the text of all items, which the store failed or memory cut short.
+pub fn serve_stream<S: Alter + Drop, I: Input, W: Output>(
+    alloc: Global,
+    registry: &mut Registry<S>,
+    reader: &mut I,
+    writer: &mut W,
+    turns: u64,
+) -> Served
+    // The bytes are the replies to the stream's requests over the histories that the registry shows, and it shows the one behind them.
+    ensures served { Leads S.Store registry.old registry.new (λ s t. IfSome (I.to_come reader.old) (λ stream. IsServed serving
+        (record { handler = s; handler_after = t; taken = W.taken writer.old; taken_after = W.taken writer.new }) stream (I.to_come reader.new) result.end result.answered)) }
+    ensures reads { I.reads reader.new ≤ I.reads reader.old + turns }
+    ensures turns { result.end ≡ StreamEnd.TurnsSpent → I.reads reader.old + turns ≤ 2 ^ 64 - 1 → I.reads reader.new ≡ I.reads reader.old + turns }
+    ensures read_fault { result.end ≡ StreamEnd.ReadFault → IsSome (I.read_fault reader.new) }
+    ensures write_fault { result.end ≡ StreamEnd.WriteFault → IsSome (W.write_fault writer.new) }
+    ensures goes { I.goes reader.old reader.new }
+{
+    let Ok(routes) = build_routes(alloc) else {
+        return Served {
+            answered: 0,
+            end: StreamEnd::Memory,
+        };
+    };
+    serve_by(alloc, registry, &routes, reader, writer, turns)
+}
