@@ -1,4 +1,6 @@
 //! Connections over the loopback interface of this machine.
+ghost use Rattle.std.specs.Prelude.{◌+◌, ◌≤◌};
+
 use crate::{Serving, ServingEnd, StreamServer, serve_on};
 use pid_http_stream::{Served, StreamEnd};
 use pid_ident::{Input, Output, write_all};
@@ -6,10 +8,24 @@ use std::io::{Read, Write};
 use std::net::{Shutdown, SocketAddr, TcpListener, TcpStream};
 use std::test::Fail;
 
+fn give_back<I: Input, O: Output>(input: &mut I, output: &mut O, turns: u64)
+    ensures { I.reads input.new ≤ I.reads input.old + turns }
+{
+    let mut piece = [0u8; 1000];
+    for _ in 0..turns {
+        match input.read(&mut piece) {
+            Ok(count) if count > 0 => {
+                let _ = write_all(output, &piece[..count]);
+            }
+            _ => return,
+        }
+    }
+}
+
 // Gives back what it reads, up to so many reads of each stream, and is live for so many streams.
 #[derive(Drop)]
 struct Echo {
-    reads: u32,
+    reads: u64,
     streams_left: u32,
 }
 
@@ -30,15 +46,7 @@ impl StreamServer for Echo {
 
     fn serve<I: Input, O: Output>(&mut self, input: &mut I, output: &mut O, turns: u64) -> Served {
         self.streams_left = self.streams_left.saturating_sub(1);
-        let mut piece = [0u8; 1000];
-        for _ in 0..self.reads {
-            match input.read(&mut piece) {
-                Ok(count) if count > 0 => {
-                    let _ = write_all(output, &piece[..count]);
-                }
-                _ => break,
-            }
-        }
+        give_back(input, output, turns.min(self.reads));
         Served {
             answered: 1,
             end: StreamEnd::Clean,
