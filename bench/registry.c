@@ -1,4 +1,4 @@
-/* What the tool registry_file has a registry do, done by C SQLite: the same statements, in the same order, over a file with a
+/* What the words of pciids have a registry do, done by C SQLite: the same statements, in the same order, over a file with a
  * write-ahead log that is synced at each commit.
  *
  *   registry FILE make < LINES     a new registry; each line is a path, a tab and a name; one transaction

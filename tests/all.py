@@ -3,17 +3,20 @@ import resource
 import sys
 
 import fault_gallery
+import jobs
 import limits
+import lookups
 import lspci
 import memory
 import real_file
 import registry
+import scripts
 import stops
 import words
 import worked_rows
 from program import Cases
 
-PARTS = {it.__name__: it for it in (worked_rows, words, fault_gallery, limits, real_file, lspci, registry, stops, memory)}
+PARTS = {it.__name__: it for it in (worked_rows, words, fault_gallery, limits, real_file, lspci, lookups, registry, jobs, stops, scripts, memory)}
 
 
 def processor_seconds():

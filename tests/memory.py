@@ -20,14 +20,21 @@ def run_refusing(shim, at, text, *words):
     return (ran.stdout, ran.stderr, ran.returncode), was_refused
 
 
+def built_shim(folder):
+    """The library that refuses, built in a folder; None where gcc could not."""
+    shim = os.path.join(folder, "refuse_malloc.so")
+    source = os.path.join(os.path.dirname(os.path.abspath(__file__)), "refuse_malloc.c")
+    built = subprocess.run(["gcc", "-O1", "-shared", "-fPIC", source, "-o", shim, "-ldl"])
+    return shim if built.returncode == 0 else None
+
+
 def run(cases):
     if shutil.which("gcc") is None:
         cases.skipped("refused memory", "gcc is not installed")
         return
     with tempfile.TemporaryDirectory() as folder:
-        shim = os.path.join(folder, "refuse_malloc.so")
-        source = os.path.join(os.path.dirname(os.path.abspath(__file__)), "refuse_malloc.c")
-        if subprocess.run(["gcc", "-O1", "-shared", "-fPIC", source, "-o", shim, "-ldl"]).returncode != 0:
+        shim = built_shim(folder)
+        if shim is None:
             cases.skipped("refused memory", "gcc could not build the shim")
             return
         # A line that comes in two pieces too, which the reader keeps.

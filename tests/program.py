@@ -4,6 +4,8 @@ import subprocess
 
 TOP = os.path.dirname(os.path.dirname(os.path.abspath(__file__)))
 PROGRAM = os.path.join(TOP, "pciids")
+WHOLE = os.path.join(TOP, "crates", "pid_cli", "out", "pid_cli")
+SMALL = os.path.join(TOP, "crates", "pid_tidy", "out", "pid_tidy")
 REAL_FILE = "/usr/share/misc/pci.ids"
 HEADER = b"# PCI ID registry\n"
 

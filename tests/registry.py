@@ -1,20 +1,39 @@
-"""A registry's file, made through the tables by the tool registry_file, as the real sqlite3 sees it."""
+"""A registry's file, made by the program's words, as the real sqlite3 sees it."""
 import os
 import re
 import shutil
 import subprocess
 import tempfile
 
-from program import REAL_FILE, TOP
+from program import REAL_FILE, TOP, WHOLE
 
-TOOL = os.path.join(TOP, "crates", "registry_file", "out", "registry_file")
 VENDORS = b"8086  Intel\n\t1237  440FX\n1af4  Red Hat\nS 1af4\n\t1100  Qemu\nC 01  Mass\n"
 
 
-def make(path, text, commands):
-    """Imports the text into the file, and then has that many vendors submitted and approved."""
-    ran = subprocess.run([TOOL, path, str(commands)], input=text, stdout=subprocess.PIPE, stderr=subprocess.PIPE, timeout=120)
+def work(text, *words, **how):
+    """What the program with these words prints, says and ends with."""
+    ran = subprocess.run([WHOLE, *words], input=text, stdout=subprocess.PIPE, stderr=subprocess.PIPE, timeout=120, **how)
     return ran.stdout, ran.stderr, ran.returncode
+
+
+def script(path, *lines):
+    return work(b"".join(line.encode() + b"\n" for line in lines), "script", "--db", path)
+
+
+def moderated(vendors):
+    """A moderator's vendors, each submitted and approved."""
+    lines = ["account root who=bob&rank=1"]
+    for number in range(vendors):
+        lines += [f"submit bob path=PC/{number:04x}&name=renamed", f"approve root num={number + 1}"]
+    return lines
+
+
+def bring_in(path, text):
+    """The text imported by the word for it."""
+    with tempfile.NamedTemporaryFile() as file:
+        file.write(text)
+        file.flush()
+        return work(b"", "import", "--db", path, "--account", "root", file.name)
 
 
 def asked(path, sql):
@@ -72,9 +91,9 @@ CHANGED = {
 }
 
 TOLD = {
-    None: (b"7 items\n", b"", 0),
-    "damaged": (b"", b"the tables do not keep their conditions\n", 2),
-    "newer": (b"", b"the tables are of schema 2\n", 2),
+    None: (b"", b"", 0),
+    "damaged": (b"", b"open: Damaged\n", 3),
+    "newer": (b"", b"open: NewerSchema 2\n", 3),
 }
 
 
@@ -88,7 +107,7 @@ def try_changed(cases, path):
             elif os.path.exists(changed + end):
                 os.remove(changed + end)
         said = asked(changed, sql)
-        cases.equal(f"changed: {name}", (said, make(changed, b"", 0)), ("", TOLD[what]))
+        cases.equal(f"changed: {name}", (said, script(changed)), ("", TOLD[what]))
 
 
 def run(cases):
@@ -99,15 +118,35 @@ def run(cases):
         try_small(cases, os.path.join(folder, "small.db"))
         if os.path.exists(REAL_FILE):
             try_real(cases, os.path.join(folder, "real.db"))
-        cases.equal("no such folder", make(os.path.join(folder, "none", "x.db"), b"", 0)[2], 2)
-        broken = os.path.join(folder, "broken.db")
-        with open(broken, "wb") as file:
-            file.write(b"no database" * 1000)
-        cases.equal("a file that is no database is refused", make(broken, b"", 0)[2], 2)
+        try_unopened(cases, folder)
+
+
+def try_unopened(cases, folder):
+    """Files that are no registry, or cannot be had: told, and left as they are."""
+    store = (b"", b"open: Store\n", 3)
+    broken, empty, locked = (os.path.join(folder, name) for name in ("broken.db", "empty.db", "locked.db"))
+    with open(broken, "wb") as file:
+        file.write(b"no database" * 1000)
+    cases.equal("no such folder", script(os.path.join(folder, "none", "x.db")), store)
+    cases.equal("a folder", script(folder), store)
+    for words in (("script", "--db", broken), ("export", "--db", broken), ("import", "--db", broken, "--account", "root", "/dev/null")):
+        cases.equal(f"no database: {words[0]}", work(b"", *words), store)
+    with open(broken, "rb") as file:
+        cases.equal("no database: it stays", file.read(), b"no database" * 1000)
+    open(empty, "wb").close()
+    cases.equal("an empty file becomes a registry", (script(empty), asked(empty, "SELECT count(*) FROM meta")), ((b"", b"", 0), "3\n"))
+    holder = subprocess.Popen([WHOLE, "script", "--db", locked], stdin=subprocess.PIPE, stdout=subprocess.PIPE)
+    holder.stdin.write(b"import root file=8086++Intel\n")
+    holder.stdin.flush()
+    cases.equal("two programs: the first answers", holder.stdout.readline(), b"ok added=1 renamed=0 same=0\n")
+    cases.equal("two programs: the second is told", script(locked, "export"), store)
+    cases.equal("two programs: the first goes on", (holder.communicate(b"read path=PC/8086\n")[0], holder.wait()), (b"name Intel\n", 0))
+    cases.equal("two programs: then the second", script(locked, "read path=PC/8086"), (b"name Intel\n", b"", 0))
 
 
 def try_small(cases, path):
-    cases.equal("a small file", make(path, VENDORS, 2), (b"7 items\n", b"", 0))
+    cases.equal("a small file", bring_in(path, VENDORS), (b"ok added=5 renamed=0 same=0\n", b"", 0))
+    cases.equal("a moderator's vendors", script(path, *moderated(2)), (b"ok\nok 1\nok\nok 2\nok\n", b"", 0))
     cases.equal("integrity", asked(path, "PRAGMA integrity_check"), "ok\n")
     cases.equal("references", asked(path, "PRAGMA foreign_key_check"), "")
     schema = asked(path, "SELECT sql FROM sqlite_master WHERE sql IS NOT NULL").splitlines()
@@ -118,8 +157,9 @@ def try_small(cases, path):
     cases.equal("items", asked(path, "SELECT * FROM item ORDER BY path"), items)
     submissions = "1|bob|PC/0000|0|renamed||1|root|\n2|bob|PC/0001|0|renamed||1|root|\n"
     cases.equal("submissions", asked(path, "SELECT * FROM submission"), submissions)
-    cases.equal("opened again", make(path, VENDORS, 0), (b"7 items\n", b"", 0))
-    cases.equal("a faulty text changes nothing", make(path, b"9999  New\n9999 \n", 0)[2], 2)
+    cases.equal("opened again", bring_in(path, VENDORS), (b"ok added=0 renamed=0 same=5\n", b"", 0))
+    faulty = (b"refused 14 FileFault line=2 kind=5 NoName\n", b"", 1)
+    cases.equal("a faulty text changes nothing", bring_in(path, b"9999  New\n9999 \n"), faulty)
     try_changed(cases, path)
     cases.equal("items as before", asked(path, "SELECT * FROM item ORDER BY path"), items)
 
@@ -127,10 +167,11 @@ def try_small(cases, path):
 def try_real(cases, path):
     with open(REAL_FILE, "rb") as file:
         text = file.read()
-    out, err, status = make(path, text, 0)
+    out, err, status = work(b"", "import", "--db", path, "--account", "root", REAL_FILE)
     cases.equal("the real file: made", (err, status), (b"", 0))
-    cases.equal("the real file: items", asked(path, "SELECT count(*) || ' items' FROM item").encode(), out)
-    cases.equal("the real file: meta", asked(path, "SELECT value || ' items' FROM meta WHERE label = 'items'").encode(), out)
+    cases.equal("the real file: items", f"ok added={asked(path, 'SELECT count(*) FROM item').strip()} renamed=0 same=0\n".encode(), out)
+    cases.equal("the real file: meta", asked(path, "SELECT value FROM meta WHERE label = 'items'"), asked(path, "SELECT count(*) FROM item"))
+    cases.equal("the real file: its canonical text", work(b"", "export", "--db", path), work(text, "tidy"))
     cases.equal("the real file: integrity", asked(path, "PRAGMA integrity_check; PRAGMA foreign_key_check"), "ok\n")
     intel = subprocess.run(["grep", "-m1", "^8086  ", REAL_FILE], stdout=subprocess.PIPE).stdout.decode()[6:]
     cases.equal("the real file: a name", asked(path, "SELECT name FROM item WHERE path = 'PC/8086'"), intel)

@@ -1,13 +1,16 @@
-"""The tool registry_file with its disk stopped at each call in turn, and with every seventh request for memory refused: the
-file holds what some of the commands came to, the first ones, and all of them where the tool said that it was done."""
+"""A script over a file with its disk stopped at each call in turn, and with every seventh request for memory refused: the
+file holds what some of the commands came to, the first ones, and at least those that were answered."""
 import os
 import shutil
 import subprocess
 import tempfile
 
-from registry import TOOL, asked, make
+from program import WHOLE
+from registry import asked, script
 
-TEXT = b"8086  Intel\n"
+LINES = ["account root who=bob&rank=1", "import root file=8086++Intel", "submit bob path=PC/0000&name=renamed", "approve root num=1"]
+REPLIES = [b"ok\n", b"ok added=1 renamed=0 same=0\n", b"ok 1\n", b"ok\n"]
+TEXT = "".join(line + "\n" for line in LINES).encode()
 
 # In memory where that can be had, so that no run waits for a disk.
 ROOM = "/dev/shm" if os.access("/dev/shm", os.W_OK) else None
@@ -33,13 +36,22 @@ def state(path):
 
 
 def run_refusing(shim, at, path):
-    """The tool's status with its call number `at` refused, and whether there was one."""
+    """The replies and the status of a script whose call number `at` is refused, and whether there was one."""
     told, telling = os.pipe()
     environment = dict(os.environ, LD_PRELOAD=shim, REFUSE_AT=str(at), REFUSE_FD=str(telling))
-    ran = subprocess.run([TOOL, path, "1"], input=TEXT, stdout=subprocess.PIPE, stderr=subprocess.PIPE, env=environment, pass_fds=[telling], timeout=60)
+    ran = subprocess.run([WHOLE, "script", "--db", path], input=TEXT, stdout=subprocess.PIPE, stderr=subprocess.PIPE, env=environment, pass_fds=[telling], timeout=60)
     os.close(telling)
     with os.fdopen(told, "rb") as pipe:
-        return ran.returncode, pipe.read(1) == b"!"
+        return ran.stdout.splitlines(True), ran.returncode, pipe.read(1) == b"!"
+
+
+def is_allowed(replies, status, found):
+    """The replies are the first ones, and where it stopped a refusal; the file holds what they acknowledge and at most one command more."""
+    kept = replies[:-1] if replies and replies[-1].startswith(b"refused 1") else replies
+    states = STATES[len(kept) + 1:len(kept) + 3] if kept else STATES[:3]
+    if status == 0:
+        return replies == REPLIES and found == STATES[-1]
+    return status == 3 and kept == REPLIES[:len(kept)] and found in states
 
 
 def refuse_in_turn(cases, shim, name, step):
@@ -48,21 +60,20 @@ def refuse_in_turn(cases, shim, name, step):
     for at in range(1, 100_000, step):
         with tempfile.TemporaryDirectory(dir=ROOM) as folder:
             path = os.path.join(folder, "r.db")
-            status, was_refused = run_refusing(shim, at, path)
+            replies, status, was_refused = run_refusing(shim, at, path)
             found = state(path)
-            allowed = found == STATES[-1] if status == 0 else status == 2 and found in STATES
-            if not allowed:
-                cases.equal(f"{name} {at}: status {status}", found, STATES)
+            if not is_allowed(replies, status, found):
+                cases.equal(f"{name} {at}: replies {replies}, status {status}", found, STATES)
                 return refusals
             if not was_refused:
-                cases.equal(f"{name}: none refused", (status, found), (0, STATES[-1]))
+                cases.equal(f"{name}: none refused", (replies, status, found), (REPLIES, 0, STATES[-1]))
                 return refusals
             refusals += 1
-            # Also a file in which sqlite3 finds no table, or no database yet, is one that the tool goes on with.
+            # Also a file in which sqlite3 finds no table, or no database yet, is one that the program goes on with.
             if refusals % 5 == 0 or found == "nothing":
-                again = make(path, TEXT, 0)
-                if again[2] != 0 or asked(path, "PRAGMA integrity_check") != "ok\n":
-                    cases.equal(f"{name} {at}: opened again", again, (b"..", b"", 0))
+                again = script(path)
+                if again != (b"", b"", 0) or asked(path, "PRAGMA integrity_check") != "ok\n":
+                    cases.equal(f"{name} {at}: opened again", again, (b"", b"", 0))
                     return refusals
 
 

@@ -3,7 +3,7 @@ import os
 import subprocess
 
 import program
-from program import HEADER, PROGRAM
+from program import HEADER
 
 TEXT = b"8086  I\n"
 KINDS = ("NotUtf8", "TooDeep", "NoParent", "BadId", "NoName", "BadName", "Duplicate", "VendorMissing")
@@ -12,7 +12,7 @@ KINDS = ("NotUtf8", "TooDeep", "NoParent", "BadId", "NoName", "BadName", "Duplic
 def into_full(*words):
     """What the program says where its standard output has no room."""
     with open("/dev/full", "wb") as full:
-        ran = subprocess.run([PROGRAM, *words], input=TEXT, stdout=full, stderr=subprocess.PIPE, timeout=60)
+        ran = subprocess.run([program.PROGRAM, *words], input=TEXT, stdout=full, stderr=subprocess.PIPE, timeout=60)
     return ran.stderr, ran.returncode
 
 
@@ -20,7 +20,7 @@ def of_folder(*words):
     """What the program says where its standard input is a folder, which cannot be read."""
     folder = os.open("/", os.O_RDONLY)
     try:
-        ran = subprocess.run([PROGRAM, *words], stdin=folder, stdout=subprocess.PIPE, stderr=subprocess.PIPE, timeout=60)
+        ran = subprocess.run([program.PROGRAM, *words], stdin=folder, stdout=subprocess.PIPE, stderr=subprocess.PIPE, timeout=60)
     finally:
         os.close(folder)
     return ran.stdout, ran.stderr, ran.returncode
@@ -31,7 +31,7 @@ def into_left(text, *words):
     there, here = os.pipe()
     os.close(there)
     try:
-        ran = subprocess.run([PROGRAM, *words], input=text, stdout=here, stderr=subprocess.PIPE, timeout=60)
+        ran = subprocess.run([program.PROGRAM, *words], input=text, stdout=here, stderr=subprocess.PIPE, timeout=60)
     finally:
         os.close(here)
     return ran.stderr, ran.returncode
@@ -39,7 +39,7 @@ def into_left(text, *words):
 
 def first_line(text):
     """What the program says, and the first line of what it prints, where that is all that is read."""
-    program_run = subprocess.Popen([PROGRAM], stdin=subprocess.PIPE, stdout=subprocess.PIPE, stderr=subprocess.PIPE)
+    program_run = subprocess.Popen([program.PROGRAM], stdin=subprocess.PIPE, stdout=subprocess.PIPE, stderr=subprocess.PIPE)
     program_run.stdin.write(text)
     program_run.stdin.close()
     line = program_run.stdout.readline()
@@ -98,9 +98,53 @@ def files_that_fail(cases):
     cases.equal("the first line alone is read", first_line(many), (HEADER, b"", 3))
 
 
+REGISTRY_WORDS = (
+    ["lookup", "--ids", "x", "--flags", "1"],
+    ["script"],
+    ["script", "--db", "x"],
+    ["import", "--db", "x", "--account", "root", "y"],
+    ["export", "--db", "x"],
+    ["serve", "--db", "x", "--port", "80"],
+)
+# What is missing, there twice, or no number in its range.
+WRONG_WORDS = (
+    ["lookup"], ["lookup", "--ids", "x"], ["lookup", "--flags", "1"], ["lookup", "--ids", "x", "--flags", "1", "y"],
+    ["lookup", "--ids", "x", "--flags", "1", "--flags", "2"], ["script", "x"], ["script", "--db"], ["import", "--db", "x", "y"],
+    ["import", "--db", "x", "--account", "root"], ["import", "--account", "root", "y"], ["export"], ["export", "x"],
+    ["serve", "--db", "x"], ["serve", "--port", "80"], ["serve", "--db", "x", "--port", "0"], ["serve", "--db", "x", "--port", "65536"],
+    ["serve", "--db", "x", "--port", "http"], ["serve", "--db", "x", "--port", "80", "--connections", "0"],
+    ["serve", "--db", "x", "--port", "80", "--connections", "1000001"],
+)
+
+
+def registry_words(cases):
+    """Help of the words that ask for more than a text, and faults of them."""
+    for words in REGISTRY_WORDS:
+        ran = program.run(TEXT, words[0], "--help")
+        cases.equal(f"{words[0]} --help", (ran.err, ran.status), (b"", 0))
+        cases.equal(f"{words[0]} --help: an example", b"Example: pciids " + words[0].encode() in ran.out, True)
+    for words in WRONG_WORDS:
+        ran = program.run(TEXT, *words)
+        cases.equal(f"{words}: nothing is done", (ran.out, ran.status), (b"", 2))
+        cases.equal(f"{words}: the fault is told", ran.err.startswith(b"error: "), True)
+
+
+def left_alone(cases):
+    """What needs the whole program is left to it by the small one, which says nothing."""
+    for words in REGISTRY_WORDS:
+        ran = program.run(TEXT, *words)
+        cases.equal(f"{words}: left to the whole program", (ran.out, ran.err, ran.status), (b"", b"", 4))
+
+
 def run(cases):
-    ran = program.run(TEXT, "tidy")
-    cases.equal("tidy", (ran.out, ran.err, ran.status), (HEADER + TEXT, b"", 0))
-    asked_for(cases)
-    wrong_words(cases)
-    files_that_fail(cases)
+    whole = program.PROGRAM
+    for it in (whole, program.SMALL):
+        program.PROGRAM = it
+        ran = program.run(TEXT, "tidy")
+        cases.equal("tidy", (ran.out, ran.err, ran.status), (HEADER + TEXT, b"", 0))
+        asked_for(cases)
+        wrong_words(cases)
+        registry_words(cases)
+        files_that_fail(cases)
+    left_alone(cases)
+    program.PROGRAM = whole

@@ -14,6 +14,8 @@ use Rattle.pid_moderation.specs.declared.command.Command.{Command}
 use Rattle.pid_moderation.specs.declared.command.Reply.{Reply}
 use Rattle.pid_moderation.specs.declared.facts.Facts.{Facts}
 use Rattle.pid_moderation.specs.declared.refusal.FileFault.TheVariants as faults
+use Rattle.pid_moderation.specs.declared.refusal.Refusal.{Refusal}
+use Rattle.pid_moderation.specs.declared.refusal.Refusal.TheVariants as refusals
 use Rattle.pid_moderation.specs.CheckTables.{most_file_bytes}
 use Rattle.pid_moderation.specs.History.{Asked, History, asked, is_import}
 use Rattle.pid_moderation.specs.Views.{Views, views_of}
@@ -24,7 +26,8 @@ use Rattle.pid_import.specs.declared.put_file.Stop.{Stop}
 use Rattle.pid_import.specs.declared.put_file.Stop.TheVariants as stops
 use Rattle.pid_import.specs.declared.tally.Tally.{Tally}
 use Rattle.pid_import.specs.Files.{file_reading, read_as}
-use Rattle.pid_import.specs.Importing.{Applies, IsStopOf, ReadsFile, StopsAt}
+use Rattle.pid_import.specs.Faults.{IsFault}
+use Rattle.pid_import.specs.Importing.{Applies, IsStopOf, IsStopOfLive, ReadsFile, EndsImport}
 use Rattle.pid_import.specs.Judging.{IsOpen}
 use Rattle.pid_import.specs.PutFiles.{PutsFile}
 use Rattle.pid_import.proofs.Judged.{faulty, long_refused}
@@ -50,22 +53,22 @@ module _ {K : Type 0} (puts : K → Item → Put → K → Type 0) (gives_up : K
   left_read (ends.Cut (cuts.Fault f)) stop is put = subst (λ (s : Stop). ReadsFile (Err s) rest text) (sym is.1) put.0
 
   pub left_stops : (end : InputEnd TableFault) (stop : Stop) (s : State) (h : History) (command : Command) (g : Facts) → IsStopOf end stop → PutsFile puts gives_up (Err end) rest text old new → is_import command.act ≡ true → IsOpen h command g
-      → AtRest s (views_of h) → StopsAt (Err stop) s h (asked command (file_reading text))
-  left_stops ends.ReadFault stop s h command g is put import open_ at = subst (λ (x : Stop). StopsAt (Err x) s h (asked command (file_reading text))) (sym is) at
+      → AtRest s (views_of h) → EndsImport (Err stop) s h (asked command (file_reading text))
+  left_stops ends.ReadFault stop s h command g is put import open_ at = subst (λ (x : Stop). EndsImport (Err x) s h (asked command (file_reading text))) (sym is) at
   left_stops ends.TooLong stop s h command g is put import open_ at =
-      subst (λ (x : Stop). StopsAt (Err x) s h (asked command (file_reading text))) (sym is) (at, inl (long_refused h command text import (one_over (length text) put.0)))
+      subst (λ (x : Stop). EndsImport (Err x) s h (asked command (file_reading text))) (sym is) (at, inl (long_refused h command text import (one_over (length text) put.0)))
   left_stops (ends.Cut (cuts.Refused (reads.Line line kind))) stop s h command g is put import open_ at =
       let no = refused_as (reads.Line line kind) (refused text) (λ (e : reads.Line line kind ≡ reads.Memory). let none : ⊥ = cc in none) put.1 in
-      subst (λ (x : Stop). StopsAt (Err x) s h (asked command (file_reading text))) (sym is)
+      subst (λ (x : Stop). EndsImport (Err x) s h (asked command (file_reading text))) (sym is)
       (at, faulty h command g (file_reading text) (faults.Line line kind) import open_ (short_reading text put.0.short ∙ ap (λ (o : Option ReadRefusal). read_as o (entries_of (lines_of text))) no))
   left_stops (ends.Cut (cuts.Refused reads.TooManyEntries)) stop s h command g is put import open_ at =
       let no = refused_as reads.TooManyEntries (refused text) (λ (e : reads.TooManyEntries ≡ reads.Memory). let none : ⊥ = cc in none) put.1 in
-      subst (λ (x : Stop). StopsAt (Err x) s h (asked command (file_reading text))) (sym is)
+      subst (λ (x : Stop). EndsImport (Err x) s h (asked command (file_reading text))) (sym is)
       (at, faulty h command g (file_reading text) faults.TooMany import open_ (short_reading text put.0.short ∙ ap (λ (o : Option ReadRefusal). read_as o (entries_of (lines_of text))) no))
   left_stops (ends.Cut (cuts.Refused reads.Memory)) stop s h command g is put import open_ at =
-      subst (λ (x : Stop). StopsAt (Err x) s h (asked command (file_reading text))) (sym is) (leaves_first s _ _ at, inl refl)
+      subst (λ (x : Stop). EndsImport (Err x) s h (asked command (file_reading text))) (sym is) (leaves_first s _ _ at, inl refl)
   left_stops (ends.Cut (cuts.Fault f)) stop s h command g (e, is, fault) put import open_ at =
-      subst (λ (x : Stop). StopsAt (Err x) s h (asked command (file_reading text))) (sym is) (leaves_first s _ _ at, fault)
+      subst (λ (x : Stop). EndsImport (Err x) s h (asked command (file_reading text))) (sym is) (leaves_first s _ _ at, fault)
 
 pub body_end : (end : InputEnd TableFault) (stop : Stop) → IsStopOf end stop → stop ≡ stops.Body → end ≡ ends.ReadFault
 body_end ends.ReadFault stop is body = refl
@@ -78,7 +81,7 @@ body_end (ends.Cut (cuts.Fault f)) stop (x, is, fault) body = absurd (let e = sy
 pub end_body : (end : InputEnd TableFault) (stop : Stop) → IsStopOf end stop → end ≡ ends.ReadFault → stop ≡ stops.Body
 end_body end stop is fault = subst (λ (e : InputEnd TableFault). IsStopOf e stop) fault is
 
-pub applied_stops : (stop : Stop) (s t : State) (h : History) (c : Asked) → Applies (Err stop) t h c → AtRest s (views_of h) → StopsAt (Err stop) s h c
+pub applied_stops : (stop : Stop) (s t : State) (h : History) (c : Asked) → Applies (Err stop) t h c → AtRest s (views_of h) → EndsImport (Err stop) s h c
 applied_stops stops.Body s t h c applied at = absurd applied
 applied_stops (stops.Refused e) s t h c applied at = (at, applied)
 applied_stops (stops.Failed e) s t h c applied at = (leaves_first s _ _ at, applied)
@@ -93,3 +96,15 @@ err_is a b e = cc
 
 pub end_is : (a b : InputEnd TableFault) → ◌≡◌ {A = Result Tally (InputEnd TableFault)} (Err a) (Err b) → a ≡ b
 end_is a b e = cc
+
+fault_live : (e : Refusal) → IsFault e → e ≢ refusals.Failed
+fault_live e (inl memory) bad = let both = sym memory ∙ bad in let no : ⊥ = cc in no
+fault_live e (inr store) bad = let both = sym store ∙ bad in let no : ⊥ = cc in no
+
+pub stop_live : (end : InputEnd TableFault) (stop : Stop) → IsStopOf end stop → IsStopOfLive stop
+stop_live ends.ReadFault stop is = subst IsStopOfLive (sym is) tt
+stop_live ends.TooLong stop is = subst IsStopOfLive (sym is) (λ bad. let no : ⊥ = cc in no)
+stop_live (ends.Cut (cuts.Refused (reads.Line line kind))) stop is = subst IsStopOfLive (sym is) (λ bad. let no : ⊥ = cc in no)
+stop_live (ends.Cut (cuts.Refused reads.TooManyEntries)) stop is = subst IsStopOfLive (sym is) (λ bad. let no : ⊥ = cc in no)
+stop_live (ends.Cut (cuts.Refused reads.Memory)) stop is = subst IsStopOfLive (sym is) (λ bad. let no : ⊥ = cc in no)
+stop_live (ends.Cut (cuts.Fault f)) stop (e, is, fault) = subst IsStopOfLive (sym is) (fault_live e fault)

@@ -21,5 +21,5 @@ module _ {S : Type 0} (store : Ghosts S) where
   abbrev pub Applies : Held S → Result Reply Stop → History → Asked → Type 0
   Applies conn result h c = importing.Applies result (state store conn) h c
 
-  abbrev pub StopsAt : Held S → Result Reply Stop → History → Asked → Type 0
-  StopsAt conn result h c = importing.StopsAt result (state store conn) h c
+  abbrev pub EndsImport : Held S → Result Reply Stop → History → Asked → Type 0
+  EndsImport conn result h c = importing.EndsImport result (state store conn) h c

@@ -1,13 +1,9 @@
 -- What a fault of the tables is told as: choices of this project.
-use Rattle.std.specs.Prelude.{◌≡◌, ◌⊎◌}
 use Rattle.pid_moderation.specs.declared.refusal.Refusal.{Refusal}
 use Rattle.pid_moderation.specs.declared.refusal.Refusal.TheVariants.{Memory, Store}
+pub use Rattle.pid_moderation.specs.Faults.{IsFault}
 use Rattle.pid_rows.specs.declared.fault.TableFault.{TableFault}
 use Rattle.pid_rows.specs.declared.fault.TableFault.TheVariants as faults
-
--- memory was short, or the store failed
-abbrev pub IsFault : Refusal → Type 0
-IsFault e = (e ≡ Memory) ⊎ (e ≡ Store)
 
 -- want of memory is told as such, every other fault as one of the store
 abbrev pub refusal_for : TableFault → Refusal

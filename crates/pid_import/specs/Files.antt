@@ -19,6 +19,7 @@ fault_as (reads.Line line kind) = faults.Line line kind
 fault_as reads.TooManyEntries = faults.TooMany
 fault_as reads.Memory = faults.TooMany
 
+-- what a text reads to, of which this is the first refusal, if there is one, and these are the entries
 abbrev pub read_as : Option ReadRefusal → Items → Reading
 read_as None pairs = Good pairs
 read_as (Some refusal) pairs = Faulty (fault_as refusal)
@@ -32,6 +33,7 @@ abbrev pub file_of : Act → List ℕ
 file_of (acts.Import file) = file
 file_of act = []
 
+-- what the file of a command reads to
 abbrev pub reading_of : Act → Reading
 reading_of act = file_reading (file_of act)
 

@@ -1,5 +1,5 @@
 -- An import whose file is brought in, step by step.
-use Rattle.std.specs.Prelude.{◌≡◌, ◌⊎◌, ◌+◌, ◌≤◌, ℕ, List, length, Option, None, Result, Ok, Err}
+use Rattle.std.specs.Prelude.{◌≡◌, ◌≢◌, ◌⊎◌, ◌+◌, ◌≤◌, ℕ, List, length, Option, None, Result, Ok, Err}
 use Rattle.sqlite.specs.State.{State}
 use Rattle.pid_reader.specs.Lines.{lines_of}
 use Rattle.pid_reader.specs.Reading.{entries_of, refused}
@@ -33,19 +33,19 @@ use Rattle.pid_import.specs.Tallies.{tally_of}
 abbrev pub Refuses : History → Asked → Refusal → Type 0
 Refuses h c e = ((answer (judge (views_of h) c) ≡ Err e) × (after h c ≡ h)) ⊎ IsFault e
 
--- a file that was read whole and put
+-- Serves private functions alone: a file that was read whole and put.
 pub record IsPut (h : History) (text : List ℕ) (t : Tally) : Type 0 where
   pub short : length text ≤ most_file_bytes
   pub good : refused text ≡ None
   pub tally : t ≡ tally_of (items_of h) (entries_of (lines_of text))
 
--- an import whose pairs were put is accepted with a change for the views with these, or it is refused
+-- Serves private functions alone: an import whose pairs were put is accepted with a change for the views with these, or it is refused.
 abbrev pub JudgesFile : History → Asked → Items → Result (Change × Reply) Refusal → Type 0
 JudgesFile h c pairs (Ok d) = (answer (judge (views_of h) c) ≡ Ok d.1) × (views_of (after h c) ≡ changed d.0 (with_pairs pairs (views_of h)))
     × Fits d.0 (with_pairs pairs (views_of h)) × IsCounted d.0.effect (counts_of (views_of h)) (with_pairs pairs (views_of h))
 JudgesFile h c pairs (Err e) = Refuses h c e
 
--- what a transaction shows in which the file was put and the rest of the import was written, or not
+-- Serves private functions alone: what a transaction shows in which the file was put and the rest of the import was written, or not.
 abbrev pub Applies : Result Reply Stop → State → History → Asked → Type 0
 Applies (Ok reply) s h c = (answer (judge (views_of h) c) ≡ Ok reply) × Written (counts_of (views_of (after h c))) s (views_of h) (views_of (after h c))
 Applies (Err stops.Body) s h c = ⊥
@@ -54,12 +54,13 @@ Applies (Err (stops.Failed e)) s h c = IsFault e
 
 -- what the tables show after the transaction: the history with the import; or the one before it; or, where the store failed, what a
 -- crash may leave shows the one or the other
-abbrev pub StopsAt : Result Reply Stop → State → History → Asked → Type 0
-StopsAt (Ok reply) s h c = (answer (judge (views_of h) c) ≡ Ok reply) × AtRest s (views_of (after h c))
-StopsAt (Err stops.Body) s h c = AtRest s (views_of h)
-StopsAt (Err (stops.Refused e)) s h c = AtRest s (views_of h) × Refuses h c e
-StopsAt (Err (stops.Failed e)) s h c = LeavesEither s (views_of h) (views_of (after h c)) × IsFault e
+abbrev pub EndsImport : Result Reply Stop → State → History → Asked → Type 0
+EndsImport (Ok reply) s h c = (answer (judge (views_of h) c) ≡ Ok reply) × AtRest s (views_of (after h c))
+EndsImport (Err stops.Body) s h c = AtRest s (views_of h)
+EndsImport (Err (stops.Refused e)) s h c = AtRest s (views_of h) × Refuses h c e
+EndsImport (Err (stops.Failed e)) s h c = LeavesEither s (views_of h) (views_of (after h c)) × IsFault e
 
+-- Serves private functions alone: how the end of a reading stops an import.
 abbrev pub IsStopOf : InputEnd TableFault → Stop → Type 0
 IsStopOf ends.ReadFault stop = stop ≡ stops.Body
 IsStopOf ends.TooLong stop = stop ≡ stops.Refused refusals.BadText
@@ -75,3 +76,9 @@ ReadsFile (Ok reply) rest text = IsWhole most_file_bytes rest text
 ReadsFile (Err stops.Body) rest text = length text ≤ most_file_bytes
 ReadsFile (Err (stops.Refused e)) rest text = IsWhole most_file_bytes rest text ⊎ ((e ≡ refusals.BadText) × (length text ≡ most_file_bytes + 1))
 ReadsFile (Err (stops.Failed e)) rest text = IsWhole most_file_bytes rest text
+
+-- it is not told as by a registry that had failed before
+abbrev pub IsStopOfLive : Stop → Type 0
+IsStopOfLive stops.Body = Unit {0}
+IsStopOfLive (stops.Refused e) = e ≢ refusals.Failed
+IsStopOfLive (stops.Failed e) = e ≢ refusals.Failed

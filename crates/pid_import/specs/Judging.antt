@@ -1,9 +1,10 @@
 -- What is known of an import before its file is read.
-use Rattle.std.specs.Prelude.{◌≡◌, ◌⊎◌, length, Result, Ok, Err}
+use Rattle.std.specs.Prelude.{◌≡◌, ◌≢◌, ◌⊎◌, length, Result, Ok, Err, IfErr}
 use Rattle.pid_moderation.specs.declared.command.Command.{Command}
 use Rattle.pid_moderation.specs.declared.command.Reply.{Reply}
 use Rattle.pid_moderation.specs.declared.facts.Facts.{Facts}
 use Rattle.pid_moderation.specs.declared.refusal.Refusal.{Refusal}
+use Rattle.pid_moderation.specs.declared.refusal.Refusal.TheVariants.{Failed}
 use Rattle.pid_moderation.specs.BeforeFile.{SettlesImport, WaitsForFile}
 use Rattle.pid_moderation.specs.FactsOfViews.{NoRows, facts_at}
 use Rattle.pid_moderation.specs.History.{History}
@@ -26,3 +27,8 @@ IsSettled h command (Err e) = SettlesImport h command.account command.key (Err e
 abbrev pub IsJudgedEarly : History → Command → Early → Type 0
 IsJudgedEarly h command (Answered result) = IsSettled h command result
 IsJudgedEarly h command (Open facts items) = IsOpen h command facts × (items ≡ length (items_of h))
+
+-- it is not answered as by a registry that has failed
+abbrev pub IsEarlyOfLive : Early → Type 0
+IsEarlyOfLive (Answered result) = IfErr result (λ e. e ≢ Failed)
+IsEarlyOfLive (Open facts items) = Unit {0}

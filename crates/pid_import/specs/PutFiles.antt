@@ -1,3 +1,4 @@
+-- Serves private functions alone; no promise rests on it.
 -- What putting a whole file does.
 use Rattle.std.specs.Prelude.{◌≡◌, ◌⊎◌, ◌+◌, ◌≤◌, ℕ, List, [], ◌∷◌, length, Option, Some, None, Result, Ok, Err}
 use Rattle.pid_reader.specs.declared.refusal.ReadRefusal.TheVariants.{Memory}

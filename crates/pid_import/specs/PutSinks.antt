@@ -1,3 +1,4 @@
+-- Serves private functions alone; no promise rests on it.
 -- What a sink does to what it puts names into.
 use Rattle.std.specs.Prelude.{◌≡◌, ◌⊎◌}
 use Rattle.std.specs.declared.alloc.Global.{Global}

@@ -1,3 +1,4 @@
+-- Serves private functions alone; no promise rests on it.
 -- What putting an entry of a file does to a transaction.
 use Rattle.std.specs.Prelude.{◌≡◌}
 use Rattle.sqlite.specs.State.{State, HasCleanDisk}

@@ -1,3 +1,4 @@
+-- Serves private functions alone; no promise rests on it.
 -- What the paths of a file were to the items, counted while they are put in turn.
 use Rattle.std.specs.Prelude.{◌+◌, [], ◌∷◌}
 use Rattle.pid_moderation.specs.Items.{Items, name_at, imported}

@@ -1,5 +1,5 @@
 //! Faults of the tables as refusals.
-ghost use Rattle.std.specs.Prelude.{◌≡◌};
+ghost use Rattle.std.specs.Prelude.{◌≡◌, ◌≢◌};
 ghost use Rattle.pid_import.specs.Faults.{IsFault, refusal_for};
 
 use pid_moderation::Refusal;
@@ -9,6 +9,7 @@ use pid_tables::TableFault;
 pub fn refusal_of(fault: TableFault) -> Refusal
     ensures same { result ≡ refusal_for fault }
     ensures fault { IsFault result }
+    ensures alive { result ≢ Refusal.Failed }
 {
     match fault {
         TableFault::Memory => Refusal::Memory,

@@ -8,9 +8,9 @@ ghost use Rattle.pid_moderation.specs.History.{History, asked, is_import};
 ghost use Rattle.pid_moderation.specs.Views.{Views, views_of, items_of};
 ghost use Rattle.pid_rows.specs.Clauses.{AtRest, HasCleanDisk, Holds, Within};
 ghost use Rattle.pid_rows.specs.Shows.{Counts, counts_of};
-ghost use Rattle.pid_import.specs.Clauses.{Applies, StopsAt};
+ghost use Rattle.pid_import.specs.Clauses.{Applies, EndsImport};
 ghost use Rattle.pid_import.specs.Files.{file_reading};
-ghost use Rattle.pid_import.specs.Importing.{IsPut, IsStopOf, JudgesFile, ReadsFile};
+ghost use Rattle.pid_import.specs.Importing.{IsPut, IsStopOf, IsStopOfLive, JudgesFile, ReadsFile};
 ghost use Rattle.pid_import.specs.Judging.{IsOpen};
 ghost use Rattle.pid_import.specs.PutFiles.{PutsFile};
 
@@ -94,8 +94,9 @@ fn judge_file(
     tally: Tally,
     command: &Command,
 ) -> Result<(Change, Reply), Refusal>
-    ensures { (h : History) (text : List ℕ) → is_import command.now.act ≡ true → IsOpen h command.now facts.old → items ≡ length (items_of h) → IsPut h text tally
+    ensures judged { (h : History) (text : List ℕ) → is_import command.now.act ≡ true → IsOpen h command.now facts.old → items ≡ length (items_of h) → IsPut h text tally
         → JudgesFile h (asked command.now (file_reading text)) (entries_of (lines_of text)) result }
+    ensures alive { IfErr result (λ e. e ≢ Refusal.Failed) }
 {
     texts_read_to_files();
     items_are_sorted();
@@ -127,6 +128,7 @@ fn apply_file<S: Alter>(
         → Within S.Store batch.old.conn.now (counts_of (views_of h)) (views_of h) (with_pairs (entries_of (lines_of text)) (views_of h))
         → Applies S.Store batch.new.conn.now result h (asked command.now (file_reading text)) }
     ensures reads { IfErr result (λ e. e ≢ Stop.Body) }
+    ensures alive { IfErr result IsStopOfLive }
 {
     match judge_file(facts, items, tally, command) {
         Err(refusal) => Err(Stop::Refused(refusal)),
@@ -156,10 +158,12 @@ pub fn bring_in<S: Alter, I: Input>(
     // Some text was read; the import is answered, and the tables are left, as of a command with this file.
     ensures stops { (text : List ℕ) × Consumes (I.to_come input.old) (I.to_come input.new) text × ReadsFile result (I.to_come input.new) text
         × (HasCleanDisk S.Store conn.new → (h : History) → AtRest S.Store conn.old (views_of h) → is_import command.now.act ≡ true → IsOpen h command.now facts.old → items ≡ length (items_of h)
-        → StopsAt S.Store conn.new result h (asked command.now (file_reading text))) }
+        → EndsImport S.Store conn.new result h (asked command.now (file_reading text))) }
     ensures fault { result ≡ Err Stop.Body → IsSome (I.read_fault input.new) }
     ensures fault_first { IsSome (I.read_fault input.new) → result ≡ Err Stop.Body }
     ensures goes { I.goes input.old input.new }
+    // Only a registry that has failed is told as such.
+    ensures alive { IfErr result IsStopOfLive }
 {
     let mut batch = begin(conn);
     match put_file(&mut batch, alloc, input) {

@@ -1,6 +1,6 @@
 -- From the calls on a registry to lives.
 use Rattle.std.proofs.Common.{◌≡◌, ◌⊎◌, ◌<◌, ◌≤◌, ◌+◌, ℕ, suc, Bool, true, false, cond, List, [], ◌∷◌, ◌++◌, length, take, Option, Some, None, Result, Ok, Err, refl, sym, ap, subst, ◌∙◌, inl, inr, arith}
-use Rattle.std.specs.Prelude.{IsErrAnd, IsSomeAnd, nat_le, slice_get}
+use Rattle.std.specs.Prelude.{IsErrAnd, IsSomeAnd, nat_le, not, ◌&&◌, slice_get}
 use Rattle.std.specs.List.{AllZip, flat_map}
 use Rattle.pid_moderation.specs.declared.command.Reply.{Reply}
 use Rattle.pid_moderation.specs.declared.refusal.Refusal.{Refusal}
@@ -15,7 +15,7 @@ use Rattle.pid_lives.specs.Lives.{Sent, NoDoubt, InDoubt, Life, AreJudged, AreLi
 use Rattle.pid_lives.specs.Calls.{AreNothing, Call, IsLifeOf, StopsAt, life_of, nothing_sent, obeyed, paired, ran, refusal_in, sent_in, stopped_by}
 use Rattle.pid_lives.specs.CrashPrefix.{IsAfterPrefixes}
 use Rattle.pid_lives.specs.Doubts.{left}
-use Rattle.pid_lives.specs.Registries.{CallsLead, Does, EndsLife, Finds, Leaves, LivesLead, Obeys, Runs, Showing}
+use Rattle.pid_lives.specs.Registries.{CallsLead, Does, EndsLife, Finds, Leaves, LivesLead, CommandLeaves, ListLeaves, Showing}
 use Rattle.pid_lives.proofs.Joining.{after_more, after_parts, joined, joins, lives_hold, lives_keep, lives_own}
 use Rattle.pid_lives.proofs.Judging.{outcome_of}
 use Rattle.pid_lives.proofs.Settling.{doubt_settled}
@@ -73,84 +73,91 @@ ran_stops [] rs few = let none : ⊥ = omega arith in absurd none
 ran_stops (c ∷ cs) [] few = record { next = c; stopped = refl; more = refl }
 ran_stops (c ∷ cs) (r ∷ rs) few = one_later c cs r rs (ran_stops cs rs (omega arith))
 
-ran_none : (cs : List Asked) → ran cs [] (Some Failed) ≡ nothing_sent
-ran_none [] = refl
-ran_none (c ∷ cs) = refl
+ran_none : (cs : List Asked) (live : Bool) → ran cs [] (Some Failed) live ≡ nothing_sent
+ran_none [] live = refl
+ran_none (c ∷ cs) live = refl
 
-fault_stops : (fault : Option Refusal) (next : Option Asked) → IsSomeAnd fault IsFault → stopped_by fault next ≡ next
-fault_stops None next f = absurd f
-fault_stops (Some e) next (inl is) = ap (λ (r : Refusal). stopped_by (Some r) next) is
-fault_stops (Some e) next (inr is) = ap (λ (r : Refusal). stopped_by (Some r) next) is
+fault_stops : (fault : Option Refusal) (live : Bool) (next : Option Asked) → IsSomeAnd fault IsFault → live ≡ false → stopped_by fault live next ≡ next
+fault_stops None live next f off = absurd f
+fault_stops (Some e) live next (inl is) off = λ i. stopped_by (Some (is i)) (off i) next
+fault_stops (Some e) live next (inr is) off = λ i. stopped_by (Some (is i)) (off i) next
 
 -- AN ANSWER
 
-obeyed-fault : (c : Asked) (result : Result Reply Refusal) → IsErrAnd result IsFault → obeyed c result ≡ record { sent = []; stopped = Some c }
-obeyed-fault c (Ok reply) f = absurd f
-obeyed-fault c (Err e) (inl is) = ap (λ (r : Refusal). obeyed c (Err r)) is
-obeyed-fault c (Err e) (inr is) = ap (λ (r : Refusal). obeyed c (Err r)) is
+obeyed-fault : (c : Asked) (result : Result Reply Refusal) (live : Bool) → IsErrAnd result IsFault → obeyed c result live ≡ record { sent = []; stopped = cond (not live) (Some c) None }
+obeyed-fault c (Ok reply) live f = absurd f
+obeyed-fault c (Err e) live (inl is) = ap (λ (r : Refusal). obeyed c (Err r) live) is
+obeyed-fault c (Err e) live (inr is) = ap (λ (r : Refusal). obeyed c (Err r) live) is
 
 judges_no_fault : (e : Refusal) → nat_le (refusal_number e) 15 ≡ true → is_fault e ≡ false
 judges_no_fault Memory h = absurd cc
 judges_no_fault Store h = absurd cc
 judges_no_fault e h = refl
 
-stopped-outcome : (c : Asked) (result : Result Reply Refusal) → is_outcome result ≡ true → stopped_by (refusal_in result) (Some c) ≡ None
-stopped-outcome c (Ok reply) is = refl
-stopped-outcome c (Err e) is = ap (λ b. cond b (Some c) None) (judges_no_fault e is)
+stopped-outcome : (c : Asked) (result : Result Reply Refusal) (live : Bool) → is_outcome result ≡ true → stopped_by (refusal_in result) live (Some c) ≡ None
+stopped-outcome c (Ok reply) live is = refl
+stopped-outcome c (Err e) live is = ap (λ b. cond (b && not live) (Some c) None) (judges_no_fault e is)
 
-pub obeyed-outcome : (c : Asked) (result : Result Reply Refusal) → is_outcome result ≡ true → obeyed c result ≡ record { sent = record { command = c; outcome = result } ∷ []; stopped = None }
-obeyed-outcome c result is = λ i. record { sent = cond (is i) (record { command = c; outcome = result } ∷ []) []; stopped = stopped-outcome c result is i }
+pub obeyed-outcome : (c : Asked) (result : Result Reply Refusal) (live : Bool) → is_outcome result ≡ true → obeyed c result live ≡ record { sent = record { command = c; outcome = result } ∷ []; stopped = None }
+obeyed-outcome c result live is = λ i. record { sent = cond (is i) (record { command = c; outcome = result } ∷ []) []; stopped = stopped-outcome c result live is i }
 
 module _ {R : Type 0} (w : Showing R) where
   -- WHAT EACH CALL DOES
 
-  fault_leaves : (new : R) (h : History) (c : Asked) → w.shows new h ⊎ w.fails_between new h (after h c) → Leaves w (record { sent = []; stopped = Some c }) new h
-  fault_leaves new h c (inl s) = (tt, inl s)
-  fault_leaves new h c (inr f) = (tt, inr (c, refl, f))
+  -- one that has failed is not live
+  abbrev pub IsTold : Bool → R → Type 0
+  IsTold live new = (h next : History) → w.fails_between new h next → live ≡ false
 
-  obeyed_leaves : (c : Asked) (result : Result Reply Refusal) (new : R) (h : History) → Obeys w result new h c → Leaves w (obeyed c result) new h
-  obeyed_leaves c result new h (inl o) =
-      subst (λ (call : Call). Leaves w call new h) (sym (obeyed-outcome c result (ap is_outcome o.0 ∙ outcome_of (views_of h) c))) ((o.0, tt), inl o.1)
-  obeyed_leaves c result new h (inr o) =
-      subst (λ (call : Call). Leaves w call new h) (sym (obeyed-fault c result o.0)) (fault_leaves new h c o.1)
+  fault_leaves : (new : R) (h : History) (c : Asked) (live : Bool) → IsTold live new → w.shows new h ⊎ w.fails_between new h (after h c) → Leaves w (record { sent = []; stopped = cond (not live) (Some c) None }) new h
+  fault_leaves new h c live told (inl s) = (tt, inl s)
+  fault_leaves new h c live told (inr f) = (tt, inr (c, ap (λ (b : Bool). cond (not b) (Some c) None) (told h (after h c) f), f))
 
-  pub obeyed_does : (old new : R) (c : Asked) (result : Result Reply Refusal) → (w.is_clean new → w.is_clean old)
-      → (w.is_clean new → (h : History) → w.shows old h → Obeys w result new h c)
+  obeyed_leaves : (c : Asked) (result : Result Reply Refusal) (live : Bool) (new : R) (h : History) → IsTold live new → CommandLeaves w result new h c → Leaves w (obeyed c result live) new h
+  obeyed_leaves c result live new h told (inl o) =
+      subst (λ (call : Call). Leaves w call new h) (sym (obeyed-outcome c result live (ap is_outcome o.0 ∙ outcome_of (views_of h) c))) ((o.0, tt), inl o.1)
+  obeyed_leaves c result live new h told (inr o) =
+      subst (λ (call : Call). Leaves w call new h) (sym (obeyed-fault c result live o.0)) (fault_leaves new h c live told o.1)
+
+  pub obeyed_does : (old new : R) (c : Asked) (result : Result Reply Refusal) (live : Bool) → (w.is_clean new → w.is_clean old)
+      → (w.is_clean new → (h : History) → w.shows old h → CommandLeaves w result new h c)
       → ((h next : History) → w.fails_between old h next → (result ≡ Err Failed) × w.fails_between new h next)
-      → Does w old (obeyed c result) new
-  obeyed_does old new c result clean obeys failed = record {
+      → IsTold live new
+      → Does w old (obeyed c result live) new
+  obeyed_does old new c result live clean obeys failed told = record {
     clean = clean;
-    live = λ k h s. obeyed_leaves c result new h (obeys k h s);
-    failed = λ h next f. let d = failed h next f in (ap (obeyed c) d.0, d.1);
+    live = λ k h s. obeyed_leaves c result live new h told (obeys k h s);
+    failed = λ h next f. let d = failed h next f in (ap (λ (r : Result Reply Refusal). obeyed c r live) d.0, d.1);
   }
 
-  ran_ends : (commands : List Asked) (replies : List (Result Reply Refusal)) (fault : Option Refusal) (new : R) (h g : History) → g ≡ after_all h (take (length replies) commands)
+  ran_ends : (commands : List Asked) (replies : List (Result Reply Refusal)) (fault : Option Refusal) (live : Bool) (new : R) (h g : History) → IsTold live new → g ≡ after_all h (take (length replies) commands)
       → w.shows new (after_all h (take (length replies) commands))
       ⊎ (IsSomeAnd fault IsFault × (length replies < length commands)
       × w.fails_between new (after_all h (take (length replies) commands)) (after_all h (take (length replies + 1) commands)))
-      → w.shows new g ⊎ ((c : Asked) × ((ran commands replies fault).stopped ≡ Some c) × w.fails_between new (left g c false) (left g c true))
-  ran_ends commands replies fault new h g is (inl s) = inl (subst (λ x. w.shows new x) (sym is) s)
-  ran_ends commands replies fault new h g is (inr f) =
+      → w.shows new g ⊎ ((c : Asked) × ((ran commands replies fault live).stopped ≡ Some c) × w.fails_between new (left g c false) (left g c true))
+  ran_ends commands replies fault live new h g told is (inl s) = inl (subst (λ x. w.shows new x) (sym is) s)
+  ran_ends commands replies fault live new h g told is (inr f) =
       let s = ran_stops commands replies f.1 in
       let so_far = take (length replies) commands in
       let next : after_all h (take (length replies + 1) commands) ≡ after g s.next =
       ap (after_all h) s.more ∙ after_more so_far h (s.next ∷ []) ∙ ap (λ x. after x s.next) (sym is) in
-      inr (s.next, fault_stops fault (slice_get commands (length replies)) f.0 ∙ s.stopped, subst (λ x. w.fails_between new g x) next (subst (λ x. w.fails_between new x (after_all h (take (length replies + 1) commands))) (sym is) f.2))
+      inr (s.next, fault_stops fault live (slice_get commands (length replies)) f.0 (told _ _ f.2) ∙ s.stopped, subst (λ x. w.fails_between new g x) next (subst (λ x. w.fails_between new x (after_all h (take (length replies + 1) commands))) (sym is) f.2))
 
-  ran_leaves : (commands : List Asked) (replies : List (Result Reply Refusal)) (fault : Option Refusal) (new : R) (h : History) → Runs w replies fault new h commands → Leaves w (ran commands replies fault) new h
-  ran_leaves commands replies fault new h r = (
+  ran_leaves : (commands : List Asked) (replies : List (Result Reply Refusal)) (fault : Option Refusal) (live : Bool) (new : R) (h : History) → IsTold live new → ListLeaves w replies fault new h commands
+      → Leaves w (ran commands replies fault live) new h
+  ran_leaves commands replies fault live new h told r = (
     ran_judged commands replies h r.replied,
-    ran_ends commands replies fault new h (after_sent h (paired commands replies)) (ap (after_all h) (ran_sent commands replies)) r.ends,
+    ran_ends commands replies fault live new h (after_sent h (paired commands replies)) told (ap (after_all h) (ran_sent commands replies)) r.ends,
   )
 
-  pub ran_does : (old new : R) (commands : List Asked) (replies : List (Result Reply Refusal)) (fault : Option Refusal) → (w.is_clean new → w.is_clean old)
-      → (w.is_clean new → (h : History) → w.shows old h → Runs w replies fault new h commands)
+  pub ran_does : (old new : R) (commands : List Asked) (replies : List (Result Reply Refusal)) (fault : Option Refusal) (live : Bool) → (w.is_clean new → w.is_clean old)
+      → (w.is_clean new → (h : History) → w.shows old h → ListLeaves w replies fault new h commands)
       → ((h next : History) → w.fails_between old h next → (replies ≡ []) × (fault ≡ Some Failed) × w.fails_between new h next)
-      → Does w old (ran commands replies fault) new
-  ran_does old new commands replies fault clean runs failed = record {
+      → IsTold live new
+      → Does w old (ran commands replies fault live) new
+  ran_does old new commands replies fault live clean runs failed told = record {
     clean = clean;
-    live = λ k h s. ran_leaves commands replies fault new h (runs k h s);
-    failed = λ h next f. let d = failed h next f in ((λ i. ran commands (d.0 i) (d.1 i)) ∙ ran_none commands, d.2);
+    live = λ k h s. ran_leaves commands replies fault live new h told (runs k h s);
+    failed = λ h next f. let d = failed h next f in ((λ i. ran commands (d.0 i) (d.1 i) live) ∙ ran_none commands live, d.2);
   }
 
   pub looked_does : (old new : R) → (w.is_clean new → w.is_clean old)
@@ -328,36 +335,36 @@ module _ {R : Type 0} (w : Showing R) where
   one_judged new g c result (judged, inl s) = record { outcome = judged.0; shown = s }
   one_judged new g c result (judged, inr (other, stopped, f)) = let none : ⊥ = cc in absurd none
 
-  something_sent : (c : Asked) (result : Result Reply Refusal) → is_outcome result ≡ true → obeyed c result ≡ nothing_sent → ⊥
-  something_sent c result is none = not_empty (record { command = c; outcome = result }) (ap (λ (call : Call). call.sent) (sym (obeyed-outcome c result is) ∙ none))
+  something_sent : (c : Asked) (result : Result Reply Refusal) (live : Bool) → is_outcome result ≡ true → obeyed c result live ≡ nothing_sent → ⊥
+  something_sent c result live is none = not_empty (record { command = c; outcome = result }) (ap (λ (call : Call). call.sent) (sym (obeyed-outcome c result live is) ∙ none))
     where
       not_empty : (s : Sent) → s ∷ [] ≡ [] → ⊥
       not_empty s e = cc
 
-  judged_behind : (between last : R) (g : History) (c : Asked) (result : Result Reply Refusal) → is_outcome result ≡ true → w.is_clean last → Does w between (obeyed c result) last
+  judged_behind : (between last : R) (g : History) (c : Asked) (result : Result Reply Refusal) (live : Bool) → is_outcome result ≡ true → w.is_clean last → Does w between (obeyed c result live) last
       → w.shows between g ⊎ ((next : History) × w.fails_between between g next) → Judges g c result last
-  judged_behind between last g c result is k does (inl s) =
-      one_judged last g c result (subst (λ (call : Call). Leaves w call last g) (obeyed-outcome c result is) (does.live k g s))
-  judged_behind between last g c result is k does (inr (next, f)) = absurd (something_sent c result is (does.failed g next f).0)
+  judged_behind between last g c result live is k does (inl s) =
+      one_judged last g c result (subst (λ (call : Call). Leaves w call last g) (obeyed-outcome c result live is) (does.live k g s))
+  judged_behind between last g c result live is k does (inr (next, f)) = absurd (something_sent c result live is (does.failed g next f).0)
 
   settled_by : (h : History) (c : Asked) (key : List ℕ) (stands : Bool) (result : Result Reply Refusal) (last : R) → c.key ≡ Some key → Judges (left h c stands) c result last → (result ≡ answer (judge (views_of h) c)) × w.shows last (after h c)
   settled_by h c key stands result last keyed j =
       let s = doubt_settled h c key stands keyed in
       (j.outcome ∙ s.outcome, subst (λ g. w.shows last g) s.history j.shown)
 
-  pub sent_again : (ended opened between last : R) (h : History) (c : Asked) (key : List ℕ) (calls : List Call) (result : Result Reply Refusal)
+  pub sent_again : (ended opened between last : R) (h : History) (c : Asked) (key : List ℕ) (calls : List Call) (result : Result Reply Refusal) (live : Bool)
       → c.key ≡ Some key → w.fails_between ended h (after h c) → Finds w ended opened
       → CallsLead w opened calls between → sent_in calls ≡ []
-      → Does w between (obeyed c result) last → is_outcome result ≡ true → w.is_clean last
+      → Does w between (obeyed c result live) last → is_outcome result ≡ true → w.is_clean last
       → (result ≡ answer (judge (views_of h) c)) × w.shows last (after h c)
-  sent_again ended opened between last h c key calls result keyed fails finds lead none does is k =
+  sent_again ended opened between last h c key calls result live keyed fails finds lead none does is k =
       by_found (finds.either (calls_clean calls opened between lead (does.clean k)) h (after h c) fails)
     where
       over : (stands : Bool) → w.shows opened (left h c stands) → (result ≡ answer (judge (views_of h) c)) × w.shows last (after h c)
       over stands s =
           let g = left h c stands in
           settled_by h c key stands result last keyed
-          (judged_behind between last g c result is k does (sent_nothing calls between g none (calls_end calls opened between g s lead (does.clean k))))
+          (judged_behind between last g c result live is k does (sent_nothing calls between g none (calls_end calls opened between g s lead (does.clean k))))
 
       by_found : w.shows opened h ⊎ w.shows opened (after h c) → (result ≡ answer (judge (views_of h) c)) × w.shows last (after h c)
       by_found (inl s) = over false s

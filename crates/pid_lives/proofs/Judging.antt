@@ -1,22 +1,17 @@
 -- What the judgement of a command tells of the reply that is kept, and which refusals it gives.
-use Rattle.std.proofs.Common.{◌≡◌, ℕ, Bool, true, false, cond, List, [], ◌∷◌, Option, Some, None, refl, sym, ap, ◌∙◌}
-use Rattle.std.specs.Prelude.{find, nat_le}
-use Rattle.std.specs.Option.{option_map}
-use Rattle.std.specs.List.{AllByRecursion}
+use Rattle.std.proofs.Common.{◌≡◌, ℕ, Bool, true, false, cond, List, Option, Some, None, Result, Ok, Err, refl, sym, ap, ◌∙◌}
 use Rattle.pid_moderation.specs.declared.command.Reply.{Reply}
 use Rattle.pid_moderation.specs.declared.facts.Facts.{Facts}
 use Rattle.pid_moderation.specs.declared.facts.Named.{Named}
-use Rattle.pid_moderation.specs.declared.facts.Verdict.{Verdict}
-use Rattle.pid_moderation.specs.declared.facts.Verdict.TheVariants as verdicts
 use Rattle.pid_moderation.specs.declared.refusal.Refusal.{Refusal}
 use Rattle.pid_moderation.specs.declared.refusal.Refusal.TheVariants.{BadText}
-use Rattle.pid_moderation.specs.Refusals.{refusal_number}
-use Rattle.pid_moderation.specs.CheckTables.{Checks, checks, comment_checks, decision_checks, approval_checks, withdraw_checks, file_checks, first_failing, if_named, is_ill_formed, reply_to}
+use Rattle.pid_moderation.specs.CheckTables.{checks, first_failing, is_ill_formed, reply_to}
 use Rattle.pid_moderation.specs.FactsOfViews.{facts_of, kept_in, known, looked_at, named, wanted, with_file, with_item, Wanted, ItemOf}
-use Rattle.pid_moderation.specs.History.{TooLong, Faulty, Good, Deed, Ranks, Submits, Comments, Withdraws, Approves, Rejects, Imports, Asked, Accepted, History}
+use Rattle.pid_moderation.specs.History.{TooLong, Faulty, Good, Deed, Imports, Asked, Accepted, History}
 use Rattle.pid_moderation.specs.Items.{Items}
 use Rattle.pid_moderation.specs.Judgement.{Outcome, Refused, Repeated, Accepts, unless, unless_kept, judge, answer}
 use Rattle.pid_moderation.specs.Views.{Views, views_of}
+use Rattle.pid_moderation.proofs.NeverFailed.{is_judged, judged_answer}
 use Rattle.pid_lives.specs.Outcomes.{is_outcome}
 
 abbrev pub asks : List ℕ → Option (List ℕ) → Deed → Asked
@@ -94,46 +89,9 @@ same_form v w account key deed = refl
 
 -- WHICH REFUSALS
 
-abbrev Judges : Bool × Refusal → Type 0
-Judges check = nat_le (refusal_number check.1) 15 ≡ true
-
-abbrev AllJudge : Checks → Type 0
-AllJudge cs = AllByRecursion Judges cs
-
-named_judge : (o : Option Named) (cs : Named → Checks) → ((s : Named) → AllJudge (cs s)) → AllJudge (if_named o cs)
-named_judge None cs all = (refl, tt)
-named_judge (Some s) cs all = all s
-
-file_judge : (o : Option Verdict) → AllJudge (file_checks o)
-file_judge None = (refl, tt)
-file_judge (Some (verdicts.Faulty fault)) = (refl, tt)
-file_judge (Some (verdicts.Good added renamed same items)) = (refl, tt)
-
-checks_judge : (f : Facts) (account : List ℕ) (key : Option (List ℕ)) (deed : Deed) → AllJudge (checks f (asks account key deed))
-checks_judge f account key (Ranks who rank) = (refl, (refl, (refl, (refl, tt))))
-checks_judge f account key (Submits path proposal note) = (refl, (refl, tt))
-checks_judge f account key (Comments n text) = (refl, named_judge f.named comment_checks (λ s. (refl, tt)))
-checks_judge f account key (Withdraws n) = (refl, named_judge f.named (withdraw_checks account) (λ s. (refl, (refl, tt))))
-checks_judge f account key (Approves n) = (refl, named_judge f.named (approval_checks account f) (λ s. (refl, (refl, (refl, (refl, (refl, (refl, (refl, tt)))))))))
-checks_judge f account key (Rejects n reason) = (refl, named_judge f.named (decision_checks account f.rank) (λ s. (refl, (refl, (refl, tt)))))
-checks_judge f account key (Imports reading) = (refl, (refl, file_judge f.file))
-
-one_judges : (b : Bool) (r : Refusal) (cs : Checks) (reply : Reply) → nat_le (refusal_number r) 15 ≡ true → is_outcome (answer (unless (first_failing cs) reply)) ≡ true
-    → is_outcome (answer (unless (option_map (λ (x : Bool × Refusal). x.1) (cond b (Some (b, r)) (find (λ x. x.0) cs))) reply)) ≡ true
-one_judges true r cs reply here rest = here
-one_judges false r cs reply here rest = rest
-
-first_judges : (cs : Checks) (reply : Reply) → AllJudge cs → is_outcome (answer (unless (first_failing cs) reply)) ≡ true
-first_judges [] reply all = refl
-first_judges (c ∷ cs) reply all = one_judges c.0 c.1 cs reply all.0 (first_judges cs reply all.1)
-
-shown_judges : (ill : Bool) (kept : Option Reply) (failing : Option Refusal) (reply : Reply) → is_outcome (answer (unless failing reply)) ≡ true → is_outcome (answer (shown ill kept failing reply)) ≡ true
-shown_judges true kept failing reply h = refl
-shown_judges false None failing reply h = h
-shown_judges false (Some k) failing reply h = refl
+is_same : (r : Result Reply Refusal) → is_judged r ≡ true → is_outcome r ≡ true
+is_same (Ok reply) is = refl
+is_same (Err e) is = is
 
 pub outcome_of : (v : Views) (c : Asked) → is_outcome (answer (judge v c)) ≡ true
-outcome_of v c =
-    let f = facts_of v c in
-    shown_judges (is_ill_formed f c.deed) f.kept (first_failing (checks f c)) (reply_to f c.deed)
-    (first_judges (checks f c) (reply_to f c.deed) (checks_judge f c.account c.key c.deed))
+outcome_of v c = is_same (answer (judge v c)) (judged_answer (facts_of v c) c)

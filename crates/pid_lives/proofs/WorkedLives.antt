@@ -37,16 +37,23 @@ approval = by root (Approves 1)
 -- want of memory, and counts as not sent; it is sent again, and the store fails; what comes then is not obeyed
 abbrev pub first_calls : List Call
 first_calls =
-    obeyed welcome (Ok Done)
+    obeyed welcome (Ok Done) true
     ∷ nothing_sent
-    ∷ obeyed (by alice (Approves 1)) (Err NoSubmission)
-    ∷ obeyed submission (Err Memory)
-    ∷ obeyed submission (Err Store)
-    ∷ obeyed approval (Err Failed)
+    ∷ obeyed (by alice (Approves 1)) (Err NoSubmission) true
+    ∷ obeyed submission (Err Memory) true
+    ∷ obeyed submission (Err Store) false
+    ∷ obeyed approval (Err Failed) false
     ∷ []
 
 first_sent : sent_in first_calls ≡ record { command = welcome; outcome = Ok Done } ∷ record { command = by alice (Approves 1); outcome = Err NoSubmission } ∷ []
 first_sent = refl
+
+-- a fault that left the registry live sent nothing, and is no doubt
+nothing_in_doubt : obeyed submission (Err Memory) true ≡ nothing_sent
+nothing_in_doubt = refl
+
+in_doubt : obeyed submission (Err Store) false ≡ record { sent = []; stopped = Some submission }
+in_doubt = refl
 
 abbrev pub first_life : Bool → Life
 first_life stands = life_of first_calls (InDoubt submission stands)
@@ -61,7 +68,7 @@ doubt_falls = refl
 
 -- the submission is sent again, and then approved: a list of three, of which the last one met want of memory
 abbrev pub second_calls : List Call
-second_calls = ran (submission ∷ approval ∷ welcome ∷ []) (Ok (Numbered 1) ∷ Ok Done ∷ []) (Some Memory) ∷ []
+second_calls = ran (submission ∷ approval ∷ welcome ∷ []) (Ok (Numbered 1) ∷ Ok Done ∷ []) (Some Memory) true ∷ []
 
 abbrev pub second_life : Life
 second_life = life_of second_calls NoDoubt

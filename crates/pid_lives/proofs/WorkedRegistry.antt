@@ -74,19 +74,19 @@ ended = after (after welcomed submission) approval
 first_lead : CallsLead model (Live []) first_calls (Torn welcomed (after welcomed submission))
 first_lead = (
   Live welcomed,
-  live_does [] (obeyed welcome (Ok Done)) (Live welcomed) ((refl, tt), inl (refl, refl)),
+  live_does [] (obeyed welcome (Ok Done) true) (Live welcomed) ((refl, tt), inl (refl, refl)),
   (
     Live welcomed,
     live_does welcomed nothing_sent (Live welcomed) (tt, inl (refl, refl)),
     (
       Live welcomed,
-      live_does welcomed (obeyed (by alice (Approves 1)) (Err NoSubmission)) (Live welcomed) ((refl, tt), inl (refl, refl)),
+      live_does welcomed (obeyed (by alice (Approves 1)) (Err NoSubmission) true) (Live welcomed) ((refl, tt), inl (refl, refl)),
       (
         Live welcomed,
-        live_does welcomed (obeyed submission (Err Memory)) (Live welcomed) (tt, inl (refl, refl)),
+        live_does welcomed (obeyed submission (Err Memory) true) (Live welcomed) (tt, inl (refl, refl)),
         (
           Torn welcomed (after welcomed submission),
-          live_does welcomed (obeyed submission (Err Store)) (Torn welcomed (after welcomed submission)) (tt, inr (submission, refl, (refl, refl, refl))),
+          live_does welcomed (obeyed submission (Err Store) false) (Torn welcomed (after welcomed submission)) (tt, inr (submission, refl, (refl, refl, refl))),
           (Torn welcomed (after welcomed submission), torn_does welcomed (after welcomed submission), refl),
         ),
       ),

@@ -1,5 +1,5 @@
 -- What calls on a registry send, told by what they answer. A choice of this project.
-use Rattle.std.specs.Prelude.{◌≡◌, ◌⊎◌, List, [], ◌∷◌, ◌++◌, length, slice_get, if◌then◌else◌, Option, Some, None, Result, Ok, Err}
+use Rattle.std.specs.Prelude.{◌≡◌, ◌⊎◌, Bool, not, ◌&&◌, List, [], ◌∷◌, ◌++◌, length, slice_get, if◌then◌else◌, Option, Some, None, Result, Ok, Err}
 use Rattle.std.specs.List.{AllByRecursion}
 use Rattle.pid_moderation.specs.declared.command.Reply.{Reply}
 use Rattle.pid_moderation.specs.declared.refusal.Refusal.{Refusal}
@@ -11,28 +11,29 @@ use Rattle.pid_lives.specs.Lives.{Sent, Doubt, NoDoubt, InDoubt, Life}
 pub record Call : Type 0 where
   -- the commands that have an outcome, the first one first
   pub sent : List Sent
-  -- the command at which memory was short or the store failed, if it came to that; later ones were not reached
+  -- the command that met a fault of memory or of the store by which the registry failed, if one did; later ones were not reached
   pub stopped : Option Asked
 
 -- a question, an export, or an import whose input failed; and every call on a registry that has failed before
 abbrev pub nothing_sent : Call
 nothing_sent = record { sent = []; stopped = None }
 
--- a fault 16 or 17 stops at the next command; 18 stops at none, since the registry has failed before
-abbrev pub stopped_by : Option Refusal → Option Asked → Option Asked
-stopped_by None next = None
-stopped_by (Some refusal) next = if is_fault refusal then next else None
+-- A fault 16 or 17 stops at the next command where it left the registry failed; one that is still live may be sent the command again.
+-- 18 stops at none, since the registry has failed before.
+abbrev pub stopped_by : Option Refusal → (live : Bool) → Option Asked → Option Asked
+stopped_by None live next = None
+stopped_by (Some refusal) live next = if is_fault refusal && not live then next else None
 
 -- the refusal, if it is one
 abbrev pub refusal_in : Result Reply Refusal → Option Refusal
 refusal_in (Ok reply) = None
 refusal_in (Err refusal) = Some refusal
 
--- a command that was answered so
-abbrev pub obeyed : Asked → Result Reply Refusal → Call
-obeyed c answer = record {
+-- a command that was answered so, by a registry that then was live, or had failed
+abbrev pub obeyed : Asked → Result Reply Refusal → (live : Bool) → Call
+obeyed c answer live = record {
   sent = if is_outcome answer then record { command = c; outcome = answer } ∷ [] else [];
-  stopped = stopped_by (refusal_in answer) (Some c);
+  stopped = stopped_by (refusal_in answer) live (Some c);
 }
 
 -- the first commands, with these outcomes
@@ -41,11 +42,12 @@ paired [] outcomes = []
 paired (c ∷ cs) [] = []
 paired (c ∷ cs) (outcome ∷ outcomes) = record { command = c; outcome = outcome } ∷ paired cs outcomes
 
--- a list of commands, of which the first ones have these outcomes, and the next one met the fault, if there was one
-abbrev pub ran : List Asked → List (Result Reply Refusal) → Option Refusal → Call
-ran commands outcomes fault = record {
+-- a list of commands, of which the first ones have these outcomes, and the next one met the fault, if there was one; the registry then
+-- was live, or had failed
+abbrev pub ran : List Asked → List (Result Reply Refusal) → Option Refusal → (live : Bool) → Call
+ran commands outcomes fault live = record {
   sent = paired commands outcomes;
-  stopped = stopped_by fault (slice_get commands (length outcomes));
+  stopped = stopped_by fault live (slice_get commands (length outcomes));
 }
 
 -- what the calls of a life sent, in turn

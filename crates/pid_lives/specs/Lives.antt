@@ -29,6 +29,7 @@ pub record Life : Type 0 where
 abbrev pub commands_in : List Sent → List Asked
 commands_in sent = map (λ s. s.command) sent
 
+-- the command in doubt, if there is one
 abbrev pub doubted : Doubt → List Asked
 doubted NoDoubt = []
 doubted (InDoubt command stands) = command ∷ []
@@ -58,6 +59,7 @@ after_sent h sent = after_all h (commands_in sent)
 abbrev pub after_life : History → Life → History
 after_life h life = after_all h (prefix_of life)
 
+-- the history that lives leave, from the first one on
 abbrev pub after_lives : History → List Life → History
 after_lives h [] = h
 after_lives h (life ∷ lives) = after_lives (after_life h life) lives

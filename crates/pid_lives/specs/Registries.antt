@@ -26,14 +26,14 @@ pub record Showing (R : Type 0) : Type 1 where
 module _ {R : Type 0} (w : Showing R) where
   -- After a command over a history: the answer is that of the judgement, and the registry shows the history after it. Or memory
   -- was short or the store failed: then it shows the history as before, or it has failed between the two.
-  abbrev pub Obeys : Result Reply Refusal → R → History → Asked → Type 0
-  Obeys result new h c =
+  abbrev pub CommandLeaves : Result Reply Refusal → R → History → Asked → Type 0
+  CommandLeaves result new h c =
       ((result ≡ answer (judge (views_of h) c)) × w.shows new (after h c))
       ⊎ (IsErrAnd result IsFault × (w.shows new h ⊎ w.fails_between new h (after h c)))
 
   -- After a list of commands over a history: the replies are the answers to the first ones, and the registry shows the history
   -- after these. Or memory was short or the store failed, and it has failed at the next one.
-  pub record Runs (replies : List (Result Reply Refusal)) (fault : Option Refusal) (new : R) (h : History) (commands : List Asked) : Type 0 where
+  pub record ListLeaves (replies : List (Result Reply Refusal)) (fault : Option Refusal) (new : R) (h : History) (commands : List Asked) : Type 0 where
     pub replied : replies ≡ answers h (take (length replies) commands)
     pub ends : w.shows new (after_all h (take (length replies) commands))
         ⊎ (IsSomeAnd fault IsFault × (length replies < length commands)

@@ -1,5 +1,5 @@
 //! From the calls on a registry to lives. Each law is the contract of a function that does nothing of its own.
-ghost use Rattle.std.specs.Prelude.{◌≡◌, ℕ, true, List, [], Option, Some, Err, Result};
+ghost use Rattle.std.specs.Prelude.{◌≡◌, ℕ, Bool, true, false, List, [], Option, Some, Err, Result};
 ghost use Rattle.pid_moderation.specs.declared.command.Reply.{Reply};
 ghost use Rattle.pid_moderation.specs.declared.refusal.Refusal.{Refusal};
 ghost use Rattle.pid_moderation.specs.declared.refusal.Refusal.TheVariants.{Failed};
@@ -9,7 +9,7 @@ ghost use Rattle.pid_moderation.specs.Views.{views_of};
 ghost use Rattle.pid_lives.specs.Calls.{Call, nothing_sent, obeyed, ran, sent_in};
 ghost use Rattle.pid_lives.specs.CrashPrefix.{IsAfterPrefixes};
 ghost use Rattle.pid_lives.specs.Outcomes.{is_outcome};
-ghost use Rattle.pid_lives.specs.Registries.{CallsLead, Does, EndsLife, Finds, LivesLead, Obeys, Runs, Showing};
+ghost use Rattle.pid_lives.specs.Registries.{CallsLead, Does, EndsLife, Finds, LivesLead, CommandLeaves, ListLeaves, Showing};
 
 use pid_moderation::keys_stand_once;
 
@@ -20,18 +20,20 @@ pub trait ShowsHistories {
 }
 
 /// What calls promise is what lives ask: the clauses of a call that obeys a command or runs a list of commands, and of one that
-/// leaves the registry showing what it showed, say what such a call does.
+/// leaves the registry showing what it showed, say what such a call does. `live` is whether the registry is live behind the call.
 pub fn calls_do<R: ShowsHistories>()
-    ensures obeys { (old new : R) (c : Asked) (result : Result Reply Refusal) → (R.showing.is_clean new → R.showing.is_clean old)
-        → (R.showing.is_clean new → (h : History) → R.showing.shows old h → Obeys R.showing result new h c)
+    ensures obeys { (old new : R) (c : Asked) (result : Result Reply Refusal) (live : Bool) → (R.showing.is_clean new → R.showing.is_clean old)
+        → (R.showing.is_clean new → (h : History) → R.showing.shows old h → CommandLeaves R.showing result new h c)
         → ((h next : History) → R.showing.fails_between old h next → (result ≡ Err Failed) × R.showing.fails_between new h next)
-        → Does R.showing old (obeyed c result) new }
-    ensures runs { (old new : R) (commands : List Asked) (replies : List (Result Reply Refusal)) (fault : Option Refusal)
+        → ((h next : History) → R.showing.fails_between new h next → live ≡ false)
+        → Does R.showing old (obeyed c result live) new }
+    ensures runs { (old new : R) (commands : List Asked) (replies : List (Result Reply Refusal)) (fault : Option Refusal) (live : Bool)
         → (R.showing.is_clean new → R.showing.is_clean old)
-        → (R.showing.is_clean new → (h : History) → R.showing.shows old h → Runs R.showing replies fault new h commands)
+        → (R.showing.is_clean new → (h : History) → R.showing.shows old h → ListLeaves R.showing replies fault new h commands)
         → ((h next : History) → R.showing.fails_between old h next
         → (replies ≡ []) × (fault ≡ Some Failed) × R.showing.fails_between new h next)
-        → Does R.showing old (ran commands replies fault) new }
+        → ((h next : History) → R.showing.fails_between new h next → live ≡ false)
+        → Does R.showing old (ran commands replies fault live) new }
     ensures looks { (old new : R) → (R.showing.is_clean new → R.showing.is_clean old)
         → (R.showing.is_clean new → (h : History) → R.showing.shows old h → R.showing.shows new h)
         → ((h next : History) → R.showing.fails_between old h next → R.showing.fails_between new h next)
@@ -59,9 +61,9 @@ pub fn openings_find_prefixes<R: ShowsHistories>()
 /// questions, and others that count as not sent. Then its outcome is that of the judgement before the doubt, and the registry
 /// shows the history after the one command, whichever way the doubt went.
 pub fn doubts_end_when_sent_again<R: ShowsHistories>()
-    ensures { (ended opened between last : R) (h : History) (c : Asked) (key : List ℕ) (calls : List Call) (result : Result Reply Refusal)
+    ensures { (ended opened between last : R) (h : History) (c : Asked) (key : List ℕ) (calls : List Call) (result : Result Reply Refusal) (live : Bool)
         → c.key ≡ Some key → R.showing.fails_between ended h (after h c) → Finds R.showing ended opened
         → CallsLead R.showing opened calls between → sent_in calls ≡ []
-        → Does R.showing between (obeyed c result) last → is_outcome result ≡ true → R.showing.is_clean last
+        → Does R.showing between (obeyed c result live) last → is_outcome result ≡ true → R.showing.is_clean last
         → (result ≡ answer (judge (views_of h) c)) × R.showing.shows last (after h c) }
 {}

@@ -58,7 +58,7 @@ pub fn lookup<N: Names>(
     ensures fault { (f : _) → IsErrOf result (LookupRefusal.Names f) → N.may_give names.old f }
     ensures unasked { (switches_of flags).numeric ≡ true → (f : _) → result ≢ Err (LookupRefusal.Names f) }
     ensures unrequested { IsNone (request_of flags) → (f : _) → result ≢ Err (LookupRefusal.Names f) }
-    ensures kept { Keeps N.shows N.is_honest N.may_give names.old names.new }
+    ensures kept { Keeps N.shows N.is_honest N.may_give N.only_asked names.old names.new }
 {
     let Some(flags) = read_flags(flags) else {
         return Err(LookupRefusal::BadFlags);
@@ -89,7 +89,7 @@ fn answer_request<N: Names>(
     ensures good_flags { result ≢ Err LookupRefusal.BadFlags }
     ensures unasked { (switches style).numeric ≡ true → (f : _) → result ≢ Err (LookupRefusal.Names f) }
     ensures fault { (f : _) → IsErrOf result (LookupRefusal.Names f) → N.may_give names.old f }
-    ensures kept { Keeps N.shows N.is_honest N.may_give names.old names.new }
+    ensures kept { Keeps N.shows N.is_honest N.may_give N.only_asked names.old names.new }
 {
     match style {
         Style::Numeric => Ok(show_number(alloc, request, args, size)?),

@@ -29,7 +29,7 @@ pub fn find<N: Names>(names: &mut N, request: Request, args: &Args) -> Result<Fo
     ensures found { N.is_honest names.new → (s : N.Shown) → N.shows names.old s
         → IfOk result (λ found. IsFor found (name_in (N.map_of s)) request args.now) }
     ensures fault { IfErr result (λ f. N.may_give names.old f) }
-    ensures kept { Keeps N.shows N.is_honest N.may_give names.old names.new }
+    ensures kept { Keeps N.shows N.is_honest N.may_give N.only_asked names.old names.new }
 {
     match request {
         Request::Vendor => Ok(Found::One(find_vendor(names, args.vendor)?)),
@@ -47,7 +47,7 @@ fn find_vendor<N: Names>(names: &mut N, vendor: Id16) -> Result<Option<Name>, N:
     ensures found { N.is_honest names.new → (s : N.Shown) → N.shows names.old s
         → IfOk result (λ name. name ≡ name_in (N.map_of s) (paths.Vendor vendor)) }
     ensures fault { IfErr result (λ f. N.may_give names.old f) }
-    ensures kept { Keeps N.shows N.is_honest N.may_give names.old names.new }
+    ensures kept { Keeps N.shows N.is_honest N.may_give N.only_asked names.old names.new }
 {
     names.name_of(&Path::Vendor { vendor })
 }
@@ -56,7 +56,7 @@ fn find_device<N: Names>(names: &mut N, args: &Args) -> Result<Option<Name>, N::
     ensures found { N.is_honest names.new → (s : N.Shown) → N.shows names.old s
         → IfOk result (λ name. name ≡ name_in (N.map_of s) (paths.Device args.now.vendor args.now.device)) }
     ensures fault { IfErr result (λ f. N.may_give names.old f) }
-    ensures kept { Keeps N.shows N.is_honest N.may_give names.old names.new }
+    ensures kept { Keeps N.shows N.is_honest N.may_give N.only_asked names.old names.new }
 {
     names.name_of(&Path::Device {
         vendor: args.vendor,
@@ -68,7 +68,7 @@ fn find_device_pair<N: Names>(names: &mut N, args: &Args) -> Result<Found, N::Fa
     ensures found { N.is_honest names.new → (s : N.Shown) → N.shows names.old s
         → IfOk result (λ found. IsFor found (name_in (N.map_of s)) Request.VendorAndDevice args.now) }
     ensures fault { IfErr result (λ f. N.may_give names.old f) }
-    ensures kept { Keeps N.shows N.is_honest N.may_give names.old names.new }
+    ensures kept { Keeps N.shows N.is_honest N.may_give N.only_asked names.old names.new }
 {
     let vendor = find_vendor(names, args.vendor)?;
     let device = find_device(names, args)?;
@@ -79,7 +79,7 @@ fn find_subsystem_pair<N: Names>(names: &mut N, args: &Args) -> Result<Found, N:
     ensures found { N.is_honest names.new → (s : N.Shown) → N.shows names.old s
         → IfOk result (λ found. IsFor found (name_in (N.map_of s)) Request.SubvendorAndSubsystem args.now) }
     ensures fault { IfErr result (λ f. N.may_give names.old f) }
-    ensures kept { Keeps N.shows N.is_honest N.may_give names.old names.new }
+    ensures kept { Keeps N.shows N.is_honest N.may_give N.only_asked names.old names.new }
 {
     let vendor = find_vendor(names, args.subvendor)?;
     let device = find_subsystem(names, args)?;
@@ -90,7 +90,7 @@ fn find_subsystem<N: Names>(names: &mut N, args: &Args) -> Result<Option<Name>, 
     ensures found { N.is_honest names.new → (s : N.Shown) → N.shows names.old s
         → IfOk result (λ name. name ≡ subsystem_name (name_in (N.map_of s)) args.now) }
     ensures fault { IfErr result (λ f. N.may_give names.old f) }
-    ensures kept { Keeps N.shows N.is_honest N.may_give names.old names.new }
+    ensures kept { Keeps N.shows N.is_honest N.may_give N.only_asked names.old names.new }
 {
     if let Some(name) = find_under_device(names, args)? {
         return Ok(Some(name));
@@ -107,7 +107,7 @@ fn find_under_device<N: Names>(names: &mut N, args: &Args) -> Result<Option<Name
         → IfOk result (λ name. name ≡ where_true (nat_lt 0 args.now.vendor && nat_lt 0 args.now.device)
         (name_in (N.map_of s) (paths.Subsystem args.now.vendor args.now.device args.now.subvendor args.now.subdevice))) }
     ensures fault { IfErr result (λ f. N.may_give names.old f) }
-    ensures kept { Keeps N.shows N.is_honest N.may_give names.old names.new }
+    ensures kept { Keeps N.shows N.is_honest N.may_give N.only_asked names.old names.new }
 {
     if args.vendor == 0 || args.device == 0 {
         return Ok(None);
@@ -125,7 +125,7 @@ fn find_generic<N: Names>(names: &mut N, args: &Args) -> Result<Option<Name>, N:
     ensures found { N.is_honest names.new → (s : N.Shown) → N.shows names.old s
         → IfOk result (λ name. name ≡ name_in (N.map_of s) (paths.Generic args.now.subvendor args.now.subdevice)) }
     ensures fault { IfErr result (λ f. N.may_give names.old f) }
-    ensures kept { Keeps N.shows N.is_honest N.may_give names.old names.new }
+    ensures kept { Keeps N.shows N.is_honest N.may_give N.only_asked names.old names.new }
 {
     names.name_of(&Path::Generic {
         vendor: args.subvendor,
@@ -139,7 +139,7 @@ fn find_own_device<N: Names>(names: &mut N, args: &Args) -> Result<Option<Name>,
         → IfOk result (λ name. name ≡ where_true (args.now.subvendor == args.now.vendor && args.now.subdevice == args.now.device)
         (name_in (N.map_of s) (paths.Device args.now.vendor args.now.device))) }
     ensures fault { IfErr result (λ f. N.may_give names.old f) }
-    ensures kept { Keeps N.shows N.is_honest N.may_give names.old names.new }
+    ensures kept { Keeps N.shows N.is_honest N.may_give N.only_asked names.old names.new }
 {
     if !is_own_subsystem(args) {
         return Ok(None);
@@ -157,7 +157,7 @@ fn find_class<N: Names>(names: &mut N, args: &Args) -> Result<Found, N::Fault>
     ensures found { N.is_honest names.new → (s : N.Shown) → N.shows names.old s
         → IfOk result (λ found. IsFor found (name_in (N.map_of s)) Request.Class args.now) }
     ensures fault { IfErr result (λ f. N.may_give names.old f) }
-    ensures kept { Keeps N.shows N.is_honest N.may_give names.old names.new }
+    ensures kept { Keeps N.shows N.is_honest N.may_give N.only_asked names.old names.new }
 {
     let class = class_byte(args);
     let subclass = subclass_byte(args);
@@ -174,7 +174,7 @@ fn find_progif<N: Names>(names: &mut N, args: &Args) -> Result<Found, N::Fault>
     ensures found { N.is_honest names.new → (s : N.Shown) → N.shows names.old s
         → IfOk result (λ found. IsFor found (name_in (N.map_of s)) Request.ProgIf args.now) }
     ensures fault { IfErr result (λ f. N.may_give names.old f) }
-    ensures kept { Keeps N.shows N.is_honest N.may_give names.old names.new }
+    ensures kept { Keeps N.shows N.is_honest N.may_give N.only_asked names.old names.new }
 {
     let path = Path::ProgIf {
         class: class_byte(args),

@@ -9,7 +9,7 @@ use pid_ident::{Name, Path};
 /// A holder of names: a tree, or a registry over a disk.
 ///
 /// What it tells is the map of what it shows, where it is honest as the call ends. No question changes what is shown
-/// or which faults may come.
+/// or which faults may come, nor, honest or not, more of the holder than `only_asked` allows.
 pub trait Names {
     type Fault;
 
@@ -28,10 +28,13 @@ pub trait Names {
     /// Whether the holder may give this fault.
     ghost may_give: { Self → Self.Fault → Type 0 };
 
+    /// Whether a holder that was the first may be the second where it was asked for names, and nothing else was done to it.
+    ghost only_asked: { Self → Self → Type 0 };
+
     /// A copy of the name of a path.
     fn name_of(&mut self, path: &Path) -> Result<Option<Name>, Self::Fault>
         ensures found { is_honest self.new → (s : Shown) → shows self.old s
             → IfOk result (λ name. name ≡ name_in (map_of s) path.now) }
         ensures fault { IfErr result (λ f. may_give self.old f) }
-        ensures kept { Keeps shows is_honest may_give self.old self.new };
+        ensures kept { Keeps shows is_honest may_give only_asked self.old self.new };
 }

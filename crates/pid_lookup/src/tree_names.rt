@@ -38,6 +38,8 @@ impl Names for TreeNames<'_> {
 
     ghost may_give = { λ _ _. ⊤ };
 
+    ghost only_asked = { λ start names. names ≡ start };
+
     fn name_of(&mut self, path: &Path) -> Result<Option<Name>, AllocError> {
         match self.tree.get(path) {
             Some(name) => Ok(Some(name.copy()?)),

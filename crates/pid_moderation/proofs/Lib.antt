@@ -16,3 +16,4 @@ pub mod Soundness
 pub mod Fitting
 pub mod TreesAreFiles
 pub mod BrokenForms
+pub mod NeverFailed

@@ -1,5 +1,6 @@
 pub mod Ranks
 pub mod Refusals
+pub mod Faults
 pub mod History
 pub mod Items
 pub mod Views

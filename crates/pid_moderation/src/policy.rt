@@ -291,8 +291,10 @@ fn reject(
 }
 
 // What an import is refused for, whatever its file comes to.
+#[tactic(auto, using(crate::proofs::NeverFailed::early_live))]
 fn import_refusal(facts: &Facts) -> Option<Refusal>
-    ensures { result ≡ first_that_fails ((is_none facts.now.rank, Refusal.NoAccount) ∷ import_checks facts.now) }
+    ensures first { result ≡ first_that_fails ((is_none facts.now.rank, Refusal.NoAccount) ∷ import_checks facts.now) }
+    ensures alive { IfSome result (λ e. e ≢ Refusal.Failed) }
 {
     first_failing(&[
         (is_unknown(facts.rank), Refusal::NoAccount),
@@ -346,6 +348,8 @@ pub fn before_file(facts: &Facts) -> Option<Result<Reply, Refusal>>
         facts.now ≡ facts_at (views_of h) account key NoRows → IfSome result (SettlesImport h account key) }
     // None where there is no kept reply, and no check before those of the file fails.
     ensures open { IfNone result (WaitsForFile facts.now) }
+    // Whatever the facts are.
+    ensures alive { IfSome result (λ r. IfErr r (λ e. e ≢ Refusal.Failed)) }
 {
     if let Some(kept) = facts.kept {
         return Some(Ok(kept));
@@ -433,6 +437,8 @@ pub fn decide(facts: &Facts, command: &Command) -> Result<(Change, Reply), Refus
         IfOk result (λ d. FitsHistory h (asked command.now reading) d.0) }
     // And what the facts say is all of the change.
     ensures decides { (reading : Reading) → Decides facts.now (asked command.now reading) result }
+    // Only a registry that has failed is told as such.
+    ensures alive { IfErr result (λ e. e ≢ Refusal.Failed) }
 {
     by_facts(facts, command)
 }

@@ -5,6 +5,7 @@ use Rattle.std.specs.Map.{lookup}
 use Rattle.lru.specs.LruCache.{lru_cache, promoted, put_entries}
 use Rattle.pid_name_cache.specs.declared.cache.TheConstants.{CAPACITY}
 
+-- from the latest used on
 abbrev pub Entries : Type 0
 Entries = List (List ℕ × Option (List ℕ))
 

@@ -20,6 +20,5 @@ pub mod TreeSinks
 pub mod Feeders
 pub mod Counters
 pub mod LinesLeft
-pub mod EntryCounters
 pub mod WholeInputs
 pub mod InputTexts

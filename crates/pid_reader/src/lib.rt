@@ -3,7 +3,6 @@
 
 mod counter;
 mod cutter;
-mod entry_counter;
 mod entry_line;
 mod feeder;
 mod input_text;
@@ -22,10 +21,11 @@ mod whole_input;
 
 pub use counter::{Counter, Never};
 pub use cutter::Cutter;
-pub use entry_counter::EntryCounter;
 pub use feeder::{Feeder, read_ids};
 pub use input_text::{count_input, read_input};
+pub use line::without_cr;
 pub use lines::Lines;
+pub use pieces::split_line;
 pub use refusal::{LineFault, ReadRefusal};
 pub use sink::{CutEnd, Entry, Sink};
 pub use slice_input::SliceInput;

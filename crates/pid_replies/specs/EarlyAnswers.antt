@@ -10,6 +10,7 @@ use Rattle.pid_replies.specs.declared.early.Early.{Early}
 use Rattle.pid_replies.specs.declared.early.Early.TheVariants as early
 use Rattle.pid_requests.specs.declared.format.Format.TheVariants.{Json}
 
+-- the methods of the route; or the refusal
 abbrev pub early_answer : Early → Answer
 early_answer early.AnotherMethod = answer_with MethodNotAllowed AllowBoth []
 early_answer early.WantsGet = answer_with MethodNotAllowed AllowGet []

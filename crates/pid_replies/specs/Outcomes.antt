@@ -37,6 +37,7 @@ status_of_refusal refusals.Memory = ServiceUnavailable
 status_of_refusal refusals.Store = ServiceUnavailable
 status_of_refusal refusals.Failed = ServiceUnavailable
 
+-- an accepted command is Okay
 abbrev pub status_of_outcome : Result Reply Refusal → Status
 status_of_outcome (Ok reply) = Okay
 status_of_outcome (Err refusal) = status_of_refusal refusal
@@ -71,6 +72,7 @@ refused_data (refusals.FileFault (Line line kind)) = fault_data line (line_kinds
 refused_data (refusals.FileFault TooMany) = fault_data 0 0
 refused_data refusal = refusal_data (refusal_number refusal) (refusal_word refusal)
 
+-- what was answered, or why it was refused
 abbrev pub outcome_data : Result Reply Refusal → Data
 outcome_data (Ok Done) = done_data
 outcome_data (Ok (Numbered n)) = numbered_data n

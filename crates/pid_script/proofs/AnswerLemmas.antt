@@ -3,7 +3,7 @@ use mathlib.Core.Bool.{true≢false}
 use Rattle.std.proofs.Common.{◌≡◌, ◌≢◌, ℕ, ◌+◌, ◌<◌, ◌≤◌, true, false, cond, eqb, List, [], ◌∷◌, ◌++◌, length, Option, Some, None, Result, Ok, Err, refl, sym, ap, ◌∙◌, subst, inl, inr, arith, length-append}
 use Rattle.std.proofs.lemmas.List.{append-nil}
 use Rattle.std.specs.Io.KnownBytes.{Appends}
-use Rattle.std.specs.Prelude.{◌⊎◌, IsErrOf, is_some, OnOk, IfOk, IfErr, IsErrAnd, MatchResult, codes}
+use Rattle.std.specs.Prelude.{◌⊎◌, IsErrOf, is_ok, is_some, OnOk, IfOk, IfErr, IsErrAnd, MatchResult, codes}
 use Rattle.pid_ident.specs.Sending.{SendsFront}
 use Rattle.pid_ident.specs.Trees.{TreeMap}
 use Rattle.pid_lookup.specs.declared.answer.Answer.{Answer}
@@ -35,13 +35,14 @@ use Rattle.pid_script.specs.declared.line_end.LineEnd.TheVariants.{Stopped, Writ
 use Rattle.pid_script.specs.declared.moderated.Moderated.{Ghosts}
 use Rattle.pid_script.specs.Asking.{command_asked, path_asked, look_up_asked, other_fields, refused_or, path_checks}
 use Rattle.pid_ident.specs.declared.io.WriteFault.{WriteFault as OutputFault}
-use Rattle.pid_script.specs.declared.moderated.ExportFault.{ExportFault}
-use Rattle.pid_script.specs.declared.moderated.ExportFault.TheVariants.{Refused, Write}
+use Rattle.pid_service.specs.declared.exporting.ExportFault.{ExportFault}
+use Rattle.pid_service.specs.declared.exporting.ExportFault.TheVariants.{Refused, Write}
 use Rattle.pid_script.specs.Exporting.{Exports, TakesWholeFront}
-use Rattle.pid_script.specs.Files.{asks}
+use Rattle.pid_import.specs.Files.{asks}
 use Rattle.pid_script.specs.LookUpFields.{look_up_told}
 use Rattle.pid_script.specs.LookingUp.{LooksUp}
-use Rattle.pid_script.specs.Obeying.{IsFault, Obeys}
+use Rattle.pid_moderation.specs.Faults.{IsFault}
+use Rattle.pid_script.specs.Obeying.{Obeys}
 use Rattle.pid_script.specs.Replies.{reply_to, command_of, those_sent, outcome_of, is_call, looked_up, answer_line, BAD_FLAGS}
 use Rattle.pid_script.specs.Saying.{Out, out, Says, SaysFront, IsGiven, IsNothing, Tells, IsAnswer, refusal_in, refusal_of_names, GoesOn, IsUnfit, Unfit, Leaves, LineEnds}
 use Rattle.pid_script.specs.ScriptLines as lines
@@ -94,12 +95,16 @@ err_in : {X : Type 0} (answer : Result X Refusal) (e : Refusal) → refusal_in a
 err_in (Ok x) e is = absurd cc
 err_in (Err f) e is = let same : f ≡ e = cc in ap Err same
 
+-- memory is short, whatever is asked
+short_cause : {R : Type 0} (m : Ghosts R) (r : R) (h : History) (ask : Ask) (e : Refusal) → e ≡ Memory → IsCause m r h ask e
+short_cause m r h ask e memory = record { live = λ s. inl memory; failed = λ f. inr memory; unasked = λ off. memory }
+
 -- why an answer stops
-pub obey_cause : {R : Type 0} (m : Ghosts R) (answer : Result Reply Refusal) (c : Command) (h : History) (r new : R)
+pub obey_cause : {R : Type 0} (m : Ghosts R) (answer : Result Reply Refusal) (c : Command) (ask : Ask) (h : History) (r new : R) → is_call ask ≡ true
     → (m.shows r h → Obeys m.shows m.fails_between answer new h (asks c)) → (m.has_failed r → answer ≡ Err Failed)
-    → (e : Refusal) → IsGiven (refusal_in answer) e → IsCause m r h e
-obey_cause m answer c h r new obeys failed e (inl memory) = record { live = λ s. inl memory; failed = λ f. inr memory }
-obey_cause m answer c h r new obeys failed e (inr given) = record { live = λ s. by (obeys s); failed = λ f. inl (let same : Err e ≡ Err Failed = sym (err_in answer e given.0) ∙ failed f in cc) }
+    → (e : Refusal) → IsGiven (refusal_in answer) e → IsCause m r h ask e
+obey_cause m answer c ask h r new called obeys failed e (inl memory) = short_cause m r h ask e memory
+obey_cause m answer c ask h r new called obeys failed e (inr given) = record { live = λ s. by (obeys s); failed = λ f. inl (let same : Err e ≡ Err Failed = sym (err_in answer e given.0) ∙ failed f in cc); unasked = λ off. absurd (true≢false (sym called ∙ off)) }
   where
     by : Obeys m.shows m.fails_between answer new h (asks c) → IsFault e
     by (inl judged) = absurd (true≢false (sym given.1 ∙ judged_no_stop (views_of h) (asks c) e (sym judged.0 ∙ err_in answer e given.0)))
@@ -159,8 +164,8 @@ pub obeyed : {R : Type 0} (m : Ghosts R) (result : Result (Unit {0}) LineEnd) (a
     → GoesOn result (refusal_in answer) → OnOk result (left.held ≡ []) → (result ≡ Err TooLong → ⊥)
     → Stands m r h → LineEnds m result (lines.Commands verb account form) h r old new left
 obeyed m result answer c verb account form h r new old left is obeys failed told goes empty fits stands = record {
-  tells = recast (IsGiven (refusal_in answer)) (IsCause m r h) IsNothing (IsBegun (lines.Commands verb account form) h) result (outcome_of (command_asked verb account form) h) old left
-      (obey_cause m answer c h r new obeys (λ f. (failed f).0)) (λ b none. none)
+  tells = recast (IsGiven (refusal_in answer)) (IsCause m r h (lines.Commands verb account form)) IsNothing (IsBegun (lines.Commands verb account form) h) result (outcome_of (command_asked verb account form) h) old left
+      (obey_cause m answer c (lines.Commands verb account form) h r new (ap is_ok is) obeys (λ f. (failed f).0)) (λ b none. none)
       (subst (λ a. Tells (IsGiven (refusal_in answer)) IsNothing result (outcome_of a h) old left) (sym is) (told _ (obey_answer m answer c h r new obeys (λ f. (failed f).0) stands)));
   leaves = obey_leaves m result answer c (command_asked verb account form) verb account form h r new left is obeys failed goes empty fits;
 }
@@ -188,18 +193,18 @@ question_leaves m (Err TooLong) ask h r new left given none short becomes called
 
 -- a line was answered that holds no command
 pub asked : {R : Type 0} (m : Ghosts R) (result : Result (Unit {0}) LineEnd) (ask : Ask) (h : History) (r new : R) (old left : Out) (given : Option Refusal)
-    → command_of ask ≡ [] → (ask ≡ lines.TooLong → ⊥) → Becomes m r h new h → ((e : Refusal) → IsGiven given e → IsCause m r h e) → OnOk result (m.has_failed r → (is_call ask ≡ false) ⊎ (given ≡ Some Failed))
+    → command_of ask ≡ [] → (ask ≡ lines.TooLong → ⊥) → Becomes m r h new h → ((e : Refusal) → IsGiven given e → IsCause m r h ask e) → OnOk result (m.has_failed r → (is_call ask ≡ false) ⊎ (given ≡ Some Failed))
     → GoesOn result given → (result ≡ Err TooLong → ⊥) → Tells (IsGiven given) IsNothing result (reply_to ask h) old left
     → LineEnds m result ask h r old new left
 asked m result ask h r new old left given none short becomes cause called goes fits told = record {
-  tells = recast (IsGiven given) (IsCause m r h) IsNothing (IsBegun ask h) result (reply_to ask h) old left cause (none_begun ask h) told;
+  tells = recast (IsGiven given) (IsCause m r h ask) IsNothing (IsBegun ask h) result (reply_to ask h) old left cause (none_begun ask h) told;
   leaves = question_leaves m result ask h r new left given none short becomes called goes fits;
 }
 
 -- want of memory alone
-pub own_cause : {R : Type 0} (m : Ghosts R) (r : R) (h : History) (e : Refusal) → IsGiven None e → IsCause m r h e
-own_cause m r h e (inl memory) = record { live = λ s. inl memory; failed = λ f. inr memory }
-own_cause m r h e (inr given) = let none : None ≡ Some e = given.0 in absurd cc
+pub own_cause : {R : Type 0} (m : Ghosts R) (r : R) (h : History) (ask : Ask) (e : Refusal) → IsGiven None e → IsCause m r h ask e
+own_cause m r h ask e (inl memory) = short_cause m r h ask e memory
+own_cause m r h ask e (inr given) = let none : None ≡ Some e = given.0 in absurd cc
 
 is_memory : (e : Refusal) → (e ≡ Memory) ⊎ (e ≢ Memory)
 is_memory BadPath = inr (λ e. cc)
@@ -221,15 +226,15 @@ is_memory Store = inr (λ e. cc)
 is_memory Failed = inr (λ e. cc)
 
 -- the refusal of a form, or want of memory for it
-pub form_cause : {R X : Type 0} (m : Ghosts R) (said : Result X Refusal) (r : R) (h : History) (e : Refusal) → (e ≢ Memory → said ≡ Err e) → ((g : Refusal) → said ≡ Err g → is_stop g ≡ false) → (f : Refusal) → IsGiven (Some e) f → IsCause m r h f
-form_cause m said r h e told none f (inl memory) = record { live = λ s. inl memory; failed = λ f. inr memory }
-form_cause m said r h e told none f (inr given) = by (is_memory e)
+pub form_cause : {R X : Type 0} (m : Ghosts R) (said : Result X Refusal) (r : R) (h : History) (ask : Ask) (e : Refusal) → (e ≢ Memory → said ≡ Err e) → ((g : Refusal) → said ≡ Err g → is_stop g ≡ false) → (f : Refusal) → IsGiven (Some e) f → IsCause m r h ask f
+form_cause m said r h ask e told none f (inl memory) = short_cause m r h ask f memory
+form_cause m said r h ask e told none f (inr given) = by (is_memory e)
   where
     equal : e ≡ f
     equal = cc given.0
 
-    by : (e ≡ Memory) ⊎ (e ≢ Memory) → IsCause m r h f
-    by (inl memory) = record { live = λ s. inl (sym equal ∙ memory); failed = λ g. inr (sym equal ∙ memory) }
+    by : (e ≡ Memory) ⊎ (e ≢ Memory) → IsCause m r h ask f
+    by (inl memory) = short_cause m r h ask f (sym equal ∙ memory)
     by (inr other) = absurd (true≢false (sym given.1 ∙ (ap is_stop (sym equal) ∙ none e (told other))))
 
 -- the line of a form was refused, or memory was short for it
@@ -239,7 +244,7 @@ pub form_refused : {R X : Type 0} (m : Ghosts R) (result : Result (Unit {0}) Lin
     → ((reply : List ℕ) → IsAnswer reply (Err e) → Tells (IsGiven (Some e)) IsNothing result reply old left) → GoesOn result (Some e) → (result ≡ Err TooLong → ⊥)
     → LineEnds m result ask h r old r left
 form_refused m result ask said h r old left e told none reply command call short sends goes fits = record {
-  tells = recast (IsGiven (Some e)) (IsCause m r h) IsNothing (IsBegun ask h) result (reply_to ask h) old left (form_cause m said r h e told none) (none_begun ask h) (sends (reply_to ask h) (by (is_memory e)));
+  tells = recast (IsGiven (Some e)) (IsCause m r h ask) IsNothing (IsBegun ask h) result (reply_to ask h) old left (form_cause m said r h ask e told none) (none_begun ask h) (sends (reply_to ask h) (by (is_memory e)));
   leaves = leaves result goes fits;
 }
   where
@@ -272,9 +277,9 @@ unfolding path_asked
 path_no_stop form g is = refused_no_stop (first_failing (path_checks (fields_in form))) (path_of (text_at (codes "path") (fields_in form))) (none_stops (path_checks (fields_in form)) (refl, (refl, tt))) g is
 
 -- the causes of what a question is answered
-pub fault_cause : {R X : Type 0} (m : Ghosts R) (answer : Result X Refusal) (r : R) (h : History) → (m.shows r h → (e : Refusal) → answer ≡ Err e → IsFault e) → (m.has_failed r → answer ≡ Err Failed) → (e : Refusal) → IsGiven (refusal_in answer) e → IsCause m r h e
-fault_cause m answer r h live failed e (inl memory) = record { live = λ s. inl memory; failed = λ f. inr memory }
-fault_cause m answer r h live failed e (inr given) = record { live = λ s. live s e (err_in answer e given.0); failed = λ f. inl (let same : Err e ≡ Err Failed = sym (err_in answer e given.0) ∙ failed f in cc) }
+pub fault_cause : {R X : Type 0} (m : Ghosts R) (answer : Result X Refusal) (r : R) (h : History) (ask : Ask) → is_call ask ≡ true → (m.shows r h → (e : Refusal) → answer ≡ Err e → IsFault e) → (m.has_failed r → answer ≡ Err Failed) → (e : Refusal) → IsGiven (refusal_in answer) e → IsCause m r h ask e
+fault_cause m answer r h ask called live failed e (inl memory) = short_cause m r h ask e memory
+fault_cause m answer r h ask called live failed e (inr given) = record { live = λ s. live s e (err_in answer e given.0); failed = λ f. inl (let same : Err e ≡ Err Failed = sym (err_in answer e given.0) ∙ failed f in cc); unasked = λ off. absurd (true≢false (sym called ∙ off)) }
 
 names_in : (found : Result Answer (LookupRefusal Refusal)) (e : Refusal) → refusal_of_names found ≡ Some e → (e ≡ Memory) ⊎ (found ≡ Err (look_ups.Names e))
 names_in (Ok text) e is = absurd cc
@@ -282,13 +287,13 @@ names_in (Err look_ups.BadFlags) e is = absurd cc
 names_in (Err (look_ups.Names f)) e is = inr (let same : f ≡ e = cc in ap (λ g. Err (look_ups.Names g)) same)
 names_in (Err look_ups.Memory) e is = inl (let same : Memory ≡ e = cc in sym same)
 
-pub names_cause : {R : Type 0} (m : Ghosts R) (found : Result Answer (LookupRefusal Refusal)) (r : R) (h : History) → (m.shows r h → (e : Refusal) → found ≡ Err (look_ups.Names e) → IsFault e) → (m.has_failed r → found ≡ Err (look_ups.Names Failed)) → (e : Refusal) → IsGiven (refusal_of_names found) e → IsCause m r h e
-names_cause m found r h live failed e (inl memory) = record { live = λ s. inl memory; failed = λ f. inr memory }
-names_cause m found r h live failed e (inr given) = by (names_in found e given.0)
+pub names_cause : {R : Type 0} (m : Ghosts R) (found : Result Answer (LookupRefusal Refusal)) (r : R) (h : History) (ask : Ask) → is_call ask ≡ true → (m.shows r h → (e : Refusal) → found ≡ Err (look_ups.Names e) → IsFault e) → (m.has_failed r → found ≡ Err (look_ups.Names Failed)) → (e : Refusal) → IsGiven (refusal_of_names found) e → IsCause m r h ask e
+names_cause m found r h ask called live failed e (inl memory) = short_cause m r h ask e memory
+names_cause m found r h ask called live failed e (inr given) = by (names_in found e given.0)
   where
-    by : (e ≡ Memory) ⊎ (found ≡ Err (look_ups.Names e)) → IsCause m r h e
-    by (inl memory) = record { live = λ s. inl memory; failed = λ f. inr memory }
-    by (inr is) = record { live = λ s. live s e is; failed = λ f. inl (let same : Err (look_ups.Names e) ≡ Err (look_ups.Names Failed) = sym is ∙ failed f in cc) }
+    by : (e ≡ Memory) ⊎ (found ≡ Err (look_ups.Names e)) → IsCause m r h ask e
+    by (inl memory) = short_cause m r h ask e memory
+    by (inr is) = record { live = λ s. live s e is; failed = λ f. inl (let same : Err (look_ups.Names e) ≡ Err (look_ups.Names Failed) = sym is ∙ failed f in cc); unasked = λ off. absurd (true≢false (sym called ∙ off)) }
 
 pub always : (r : Result (Unit {0}) LineEnd) (P : Type 0) → P → OnOk r P
 always (Ok x) P p = p
@@ -381,7 +386,7 @@ pub record BegunExport (a b : Option (List ℕ)) (text : List ℕ) : Type 0 wher
   pub told : Appends a b front
 
 behind_begun : {R : Type 0} (m : Ghosts R) (result : Result (Unit {0}) LineEnd) (e : Refusal) (h : History) (r new : R) (a b c d : Option (List ℕ)) (was now left : List ℕ)
-    → Appends a b was → now ≡ [] → BegunExport b c (print (tree_of h)) → ((f : Refusal) → IsGiven (Some e) f → IsCause m r h f) → is_stop e ≡ true → (m.shows r h → m.shows new h) → (m.has_failed r → new ≡ r)
+    → Appends a b was → now ≡ [] → BegunExport b c (print (tree_of h)) → ((f : Refusal) → IsGiven (Some e) f → IsCause m r h lines.Exports f) → is_stop e ≡ true → (m.shows r h → m.shows new h) → (m.has_failed r → new ≡ r)
     → Tells (IsGiven (Some e)) IsNothing result (refused_line e) (out c now) (out d left) → GoesOn result (Some e) → (result ≡ Err TooLong → ⊥)
     → LineEnds m result lines.Exports h r (out a was) new (out d left)
 behind_begun m (Ok x) e h r new a b c d was now left went none begun cause stop kept failed t goes fits = absurd (true≢false (sym stop ∙ goes))
@@ -408,7 +413,7 @@ behind_begun m (Err WriteFault) e h r new a b c d was now left went none begun c
   leaves = record { shows = λ s. inl (kept s); failed = failed };
 }
   where
-    by : (t.text ≡ refused_line e) ⊎ IsStopText (IsGiven (Some e)) IsNothing t.text → IsStopText (IsCause m r h) (λ b. IsWholeFront (print (tree_of h)) b) (begun.front ++ t.text)
+    by : (t.text ≡ refused_line e) ⊎ IsStopText (IsGiven (Some e)) IsNothing t.text → IsStopText (IsCause m r h lines.Exports) (λ b. IsWholeFront (print (tree_of h)) b) (begun.front ++ t.text)
     by (inl is) = record { begun = begun.front; front = begun.whole; refusal = e; cause = cause e (inr (refl, stop)); is = ap (λ (l : List ℕ). begun.front ++ l) is }
     by (inr s) = record {
       begun = begun.front;
@@ -434,9 +439,9 @@ export_refused m result e h r new a b c d was now left went none told failed kep
     stops (inl s) = faults_stop e (told s).0
     stops (inr f) = ap is_stop (failed f).0
 
-    cause : (f : Refusal) → IsGiven (Some e) f → IsCause m r h f
-    cause f (inl memory) = record { live = λ s. inl memory; failed = λ g. inr memory }
-    cause f (inr given) = record { live = λ s. (let same : e ≡ f = cc given.0 in subst IsFault same (told s).0); failed = λ g. inl (let same : e ≡ f = cc given.0 in sym same ∙ (failed g).0) }
+    cause : (f : Refusal) → IsGiven (Some e) f → IsCause m r h lines.Exports f
+    cause f (inl memory) = short_cause m r h lines.Exports f memory
+    cause f (inr given) = record { live = λ s. (let same : e ≡ f = cc given.0 in subst IsFault same (told s).0); failed = λ g. inl (let same : e ≡ f = cc given.0 in sym same ∙ (failed g).0); unasked = λ off. absurd (true≢false off) }
 
 -- a look-up was answered
 look_up_facts : {R : Type 0} (m : Ghosts R) (found : Result Answer (LookupRefusal Refusal)) (h : History) (r : R) (flags size : ℕ) (args : Args) → (m.shows r h → LooksUp found (tree_of h) flags args size) → (m.has_failed r → found ≡ Err (look_ups.Names Failed)) → Stands m r h
@@ -465,7 +470,7 @@ pub looked_for : {R : Type 0} (m : Ghosts R) (result : Result (Unit {0}) LineEnd
 looked_for m result found form l h r new old left is told kept failed sends goes fits stands =
     let facts = look_up_facts m found h r l.0 l.2 l.1 told (λ f. (failed f).0) stands in
     asked m result (lines.LooksUp form) h r new old left (refusal_of_names found) refl (λ e. cc) (record { shows = kept; failed = λ f. (failed f).1 })
-    (names_cause m found r h (λ s. faults_named found (tree_of h) l.0 l.2 l.1 (told s)) (λ f. (failed f).0))
+    (names_cause m found r h (lines.LooksUp form) (ap is_some is) (λ s. faults_named found (tree_of h) l.0 l.2 l.1 (told s)) (λ f. (failed f).0))
     (always result (m.has_failed r → (is_call (lines.LooksUp form) ≡ false) ⊎ (refusal_of_names found ≡ Some Failed)) (λ f. inr (ap refusal_of_names (failed f).0)))
     goes fits
     (subst (λ o. Tells (IsGiven (refusal_of_names found)) IsNothing result (looked_up o h) old left) (sym is) (sends l.0 (answer_of (tree_of h) l.0 l.1 l.2) facts.0 facts.1 facts.2))
@@ -473,13 +478,13 @@ looked_for m result found form l h r new old left is told kept failed sends goes
 -- a look-up whose fields are bad
 pub bad_look_up : {R : Type 0} (m : Ghosts R) (result : Result (Unit {0}) LineEnd) (form : List ℕ) (h : History) (r : R) (old left : Out) → look_up_asked form ≡ None → ((given : Option Refusal) → Tells (IsGiven given) IsNothing result (refused_line BadText) old left) → IfErr result (λ e. e ≡ WriteFault) → LineEnds m result (lines.LooksUp form) h r old r left
 bad_look_up m result form h r old left is told end =
-    asked m result (lines.LooksUp form) h r r old left None refl (λ e. cc) (same m r h) (own_cause m r h) (always result (m.has_failed r → (is_call (lines.LooksUp form) ≡ false) ⊎ (None ≡ Some Failed)) (λ _. inl (ap is_some is))) (none_goes result) (only_fault result end)
+    asked m result (lines.LooksUp form) h r r old left None refl (λ e. cc) (same m r h) (own_cause m r h (lines.LooksUp form)) (always result (m.has_failed r → (is_call (lines.LooksUp form) ≡ false) ⊎ (None ≡ Some Failed)) (λ _. inl (ap is_some is))) (none_goes result) (only_fault result end)
     (subst (λ o. Tells (IsGiven None) IsNothing result (looked_up o h) old left) (sym is) (told None))
 
 -- memory is short for a look-up
 pub no_look_up : {R : Type 0} (m : Ghosts R) (e : LineEnd) (form : List ℕ) (h : History) (r : R) (old left : Out) → ((given : Option Refusal) (reply : List ℕ) → Tells (IsGiven given) IsNothing (Err e) reply old left) → (e ≡ TooLong → ⊥) → LineEnds m (Err e) (lines.LooksUp form) h r old r left
 no_look_up m e form h r old left told fits =
-    asked m (Err e) (lines.LooksUp form) h r r old left None refl (λ e. cc) (same m r h) (own_cause m r h) tt (none_goes (Err e)) (λ is. fits (cc is)) (told None (reply_to (lines.LooksUp form) h))
+    asked m (Err e) (lines.LooksUp form) h r r old left None refl (λ e. cc) (same m r h) (own_cause m r h (lines.LooksUp form)) tt (none_goes (Err e)) (λ is. fits (cc is)) (told None (reply_to (lines.LooksUp form) h))
 
 -- a line that holds no question
 pub idle : {R : Type 0} (m : Ghosts R) (h : History) (r : R) (taken : Option (List ℕ)) (held : List ℕ) → LineEnds m (Ok tt) lines.Nothing h r (out taken held) r (out taken held)
@@ -490,13 +495,13 @@ idle m h r taken held = record {
 
 -- a line that is no line of a script
 pub unclear : {R : Type 0} (m : Ghosts R) (result : Result (Unit {0}) LineEnd) (h : History) (r : R) (old left : Out) → ((given : Option Refusal) → Tells (IsGiven given) IsNothing result (refused_line BadText) old left) → IfErr result (λ e. e ≡ WriteFault) → LineEnds m result lines.Unclear h r old r left
-unclear m result h r old left told end = asked m result lines.Unclear h r r old left None refl (λ e. cc) (same m r h) (own_cause m r h) (always result (m.has_failed r → (false ≡ false) ⊎ (None ≡ Some Failed)) (λ _. inl refl)) (none_goes result) (only_fault result end) (told None)
+unclear m result h r old left told end = asked m result lines.Unclear h r r old left None refl (λ e. cc) (same m r h) (own_cause m r h lines.Unclear) (always result (m.has_failed r → (false ≡ false) ⊎ (None ≡ Some Failed)) (λ _. inl refl)) (none_goes result) (only_fault result end) (told None)
 
 -- a line that is too long
 pub long : {R : Type 0} (m : Ghosts R) (e : LineEnd) (h : History) (r : R) (old left : Out) → ((given : Option Refusal) → Tells (IsGiven given) IsNothing (Err e) (refused_line BadText) old left) → (e ≡ Stopped → ⊥) → LineEnds m (Err e) lines.TooLong h r old r left
 long m Stopped h r old left told goes = absurd (goes refl)
 long m WriteFault h r old left told goes = record {
-  tells = recast (IsGiven None) (IsCause m r h) IsNothing (IsBegun lines.TooLong h) (Err WriteFault) (refused_line BadText) old left (own_cause m r h) (none_begun lines.TooLong h) (told None);
+  tells = recast (IsGiven None) (IsCause m r h lines.TooLong) IsNothing (IsBegun lines.TooLong h) (Err WriteFault) (refused_line BadText) old left (own_cause m r h lines.TooLong) (none_begun lines.TooLong h) (told None);
   leaves = record { shows = λ s. inl s; failed = λ _. refl };
 }
 long m TooLong h r old left told goes = record { tells = told None; leaves = record { becomes = same m r h; long = refl } }
@@ -510,10 +515,10 @@ dropped (b ∷ c ∷ bs) = let rest = dropped (c ∷ bs) in omega arith
 long_line : (bytes tail : List ℕ) → LONGEST + 1 < length bytes → ask_of (drop_cr (bytes ++ tail)) ≡ lines.TooLong
 long_line bytes tail h = sym (too_long (drop_cr (bytes ++ tail)) (let all : length (bytes ++ tail) ≡ length bytes + length tail = length-append bytes tail in let d = dropped (bytes ++ tail) in omega arith))
 
-own_stop : {R : Type 0} (m : Ghosts R) (r : R) (ask : Ask) (h : History) (text : List ℕ) → text ≡ refused_line Memory → IsStopText (IsCause m r h) (IsBegun ask h) text
-own_stop m r ask h text is = record { begun = []; front = none_begun ask h [] refl; refusal = Memory; cause = own_cause m r h Memory (inl refl); is = is }
+own_stop : {R : Type 0} (m : Ghosts R) (r : R) (ask : Ask) (h : History) (text : List ℕ) → text ≡ refused_line Memory → IsStopText (IsCause m r h ask) (IsBegun ask h) text
+own_stop m r ask h text is = record { begun = []; front = none_begun ask h [] refl; refusal = Memory; cause = own_cause m r h ask Memory (inl refl); is = is }
 
-unfit_reply : {R : Type 0} (m : Ghosts R) (r : R) (bytes tail : List ℕ) (h : History) (text : List ℕ) → IsUnfit bytes text → (text ≡ reply_to (ask_of (drop_cr (bytes ++ tail))) h) ⊎ IsStopText (IsCause m r h) (IsBegun (ask_of (drop_cr (bytes ++ tail))) h) text
+unfit_reply : {R : Type 0} (m : Ghosts R) (r : R) (bytes tail : List ℕ) (h : History) (text : List ℕ) → IsUnfit bytes text → (text ≡ reply_to (ask_of (drop_cr (bytes ++ tail))) h) ⊎ IsStopText (IsCause m r h (ask_of (drop_cr (bytes ++ tail)))) (IsBegun (ask_of (drop_cr (bytes ++ tail))) h) text
 unfit_reply m r bytes tail h text (inl memory) = inr (own_stop m r (ask_of (drop_cr (bytes ++ tail))) h text memory)
 unfit_reply m r bytes tail h text (inr long) = inl (long.0 ∙ ap (λ a. reply_to a h) (sym (long_line bytes tail long.1)))
 

@@ -5,5 +5,6 @@ mod LookUps
 mod NoStops
 mod PieceLemmas
 mod ReadLemmas
+mod RegistryWords
 mod SayLemmas
 mod ScriptAsks

@@ -1,5 +1,5 @@
 -- The lines of a script, one behind another.
-use Rattle.std.proofs.Common.{◌≡◌, ℕ, ◌<◌, List, [], ◌∷◌, ◌++◌, length, Option, Result, Ok, Err, refl, sym, ap, subst, ◌∙◌, append_assoc, arith, inl, inr, eqb, cond, true, false, map}
+use Rattle.std.proofs.Common.{◌≡◌, ℕ, List, [], ◌∷◌, ◌++◌, Option, Result, Ok, Err, refl, sym, ap, subst, ◌∙◌, append_assoc, inl, inr, eqb, cond, true, false, map}
 use Rattle.std.proofs.lemmas.List.{append-nil}
 use Rattle.std.specs.Io.KnownBytes.{Appends}
 use Rattle.std.specs.Prelude.{◌⊎◌, OnOk, OnErr, IfErr}
@@ -7,20 +7,18 @@ use Rattle.pid_ident.specs.Sending.{SendsFront}
 use Rattle.pid_reader.specs.Lines.{pieces_of, onto_first, lines_of, drop_cr}
 use Rattle.pid_reader.specs.WholeLines.{ended_pieces, open_part, whole_lines, onto_ended}
 use Rattle.pid_reader.proofs.Cuts.{whole_line, open_behind, whole_same, open_longer, lines_split, last_line, lines_more, open_no_lf, open_then, piece_first}
-use Rattle.pid_moderation.specs.declared.command.Command.{Command}
 use Rattle.pid_moderation.specs.declared.refusal.Refusal.{Refusal}
 use Rattle.pid_moderation.specs.History.{Asked, History}
 use Rattle.pid_moderation.specs.Judgement.{after, after_all}
 use Rattle.pid_script.specs.declared.line_end.LineEnd.{LineEnd}
 use Rattle.pid_script.specs.declared.line_end.LineEnd.TheVariants.{Stopped, WriteFault, TooLong}
 use Rattle.pid_script.specs.declared.moderated.Moderated.{Ghosts}
-use Rattle.pid_script.specs.Asking.{command_asked}
 use Rattle.pid_script.specs.Progress.{Answered, HasAnswered, Ended, Ends}
-use Rattle.pid_script.specs.Replies.{reply_to, those_sent, command_of, commands_in, history_after, replies, is_call}
+use Rattle.pid_script.specs.Replies.{reply_to, command_of, commands_in, history_after, replies, is_call}
 use Rattle.pid_script.specs.Saying.{Out, out, Says, LineEnds, Unfit}
 use Rattle.pid_script.specs.ScriptLines as asks
 use Rattle.pid_script.specs.ScriptLines.{Ask, ask_of}
-use Rattle.pid_script.specs.Scripts.{NoneTooLong, NoneCalls, passage, Answers, IsToldFor, BreaksOff}
+use Rattle.pid_script.specs.Scripts.{NoneTooLong, NoneCalls, QuietButLast, passage, Answers, IsToldFor, BreaksOff}
 use Rattle.pid_script.specs.Standing.{Stands, Becomes, BecomesEither}
 use Rattle.pid_script.specs.StopLines.{IsBegun, IsCause, IsStopText}
 use Rattle.pid_script.proofs.AnswerLemmas.{unfit_ends}
@@ -61,19 +59,25 @@ calls_more : (xs : List (List ℕ)) (line : List ℕ) → NoneCalls xs → is_ca
 calls_more [] line f g = (g, tt)
 calls_more (x ∷ xs) line f g = (f.0, calls_more xs line f.1 g)
 
-few_sent : (asked : Result Command Refusal) → length (those_sent asked) < 2
-few_sent (Ok command) = omega arith
-few_sent (Err refusal) = omega arith
+none_first : (xs ys : List Asked) → xs ++ ys ≡ [] → xs ≡ []
+none_first [] ys is = refl
+none_first (x ∷ xs) ys is = absurd cc
 
--- a line is one command at most
-few : (ask : Ask) → length (command_of ask) < 2
-few asks.Nothing = omega arith
-few (asks.Commands verb account fields) = few_sent (command_asked verb account fields)
-few asks.Exports = omega arith
-few (asks.Reads fields) = omega arith
-few (asks.LooksUp fields) = omega arith
-few asks.Unclear = omega arith
-few asks.TooLong = omega arith
+none_behind : (xs ys : List Asked) → xs ++ ys ≡ [] → ys ≡ []
+none_behind [] ys is = is
+none_behind (x ∷ xs) ys is = absurd cc
+
+-- lines without a command
+quiet_lines : (lines : List (List ℕ)) → commands_in lines ≡ [] → QuietButLast lines
+quiet_lines [] none = tt
+quiet_lines (x ∷ []) none = tt
+quiet_lines (x ∷ y ∷ lines) none = (none_first (command_of (ask_of x)) (commands_in (y ∷ lines)) none, quiet_lines (y ∷ lines) (none_behind (command_of (ask_of x)) (commands_in (y ∷ lines)) none))
+
+-- and one line more
+quiet_before : (lines : List (List ℕ)) (line : List ℕ) → commands_in lines ≡ [] → QuietButLast (lines ++ line ∷ [])
+quiet_before [] line none = tt
+quiet_before (x ∷ []) line none = (none_first (command_of (ask_of x)) [] none, tt)
+quiet_before (x ∷ y ∷ lines) line none = (none_first (command_of (ask_of x)) (commands_in (y ∷ lines)) none, quiet_before (y ∷ lines) line (none_behind (command_of (ask_of x)) (commands_in (y ∷ lines)) none))
 
 becomes_then : {R : Type 0} (m : Ghosts R) (a b c : R) (h k l : History) → Becomes m a h b k → Becomes m b k c l → Becomes m a h c l
 becomes_then m a b c h k l p q = record { shows = λ s. q.shows (p.shows s); failed = λ f. q.failed (subst m.has_failed (sym (p.failed f)) f) ∙ p.failed f }
@@ -85,11 +89,11 @@ pub stands_then : {R : Type 0} (m : Ghosts R) (a b : R) (h k : History) → Beco
 stands_then m a b h k p (inl s) = inl (p.shows s)
 stands_then m a b h k p (inr f) = inr (subst m.has_failed (sym (p.failed f)) f)
 
-cause_then : {R : Type 0} (m : Ghosts R) (a b : R) (h k : History) → Becomes m a h b k → (e : Refusal) → IsCause m b k e → IsCause m a h e
-cause_then m a b h k p e c = record { live = λ s. c.live (p.shows s); failed = λ f. c.failed (subst m.has_failed (sym (p.failed f)) f) }
+cause_then : {R : Type 0} (m : Ghosts R) (a b : R) (h k : History) → Becomes m a h b k → (ask : Ask) (e : Refusal) → IsCause m b k ask e → IsCause m a h ask e
+cause_then m a b h k p ask e c = record { live = λ s. c.live (p.shows s); failed = λ f. c.failed (subst m.has_failed (sym (p.failed f)) f); unasked = c.unasked }
 
-stop_then : {R : Type 0} (m : Ghosts R) (a b : R) (h k : History) (Begun : List ℕ → Type 0) (text : List ℕ) → Becomes m a h b k → IsStopText (IsCause m b k) Begun text → IsStopText (IsCause m a h) Begun text
-stop_then m a b h k Begun text p s = record { begun = s.begun; front = s.front; refusal = s.refusal; cause = cause_then m a b h k p s.refusal s.cause; is = s.is }
+stop_then : {R : Type 0} (m : Ghosts R) (a b : R) (h k : History) (ask : Ask) (Begun : List ℕ → Type 0) (text : List ℕ) → Becomes m a h b k → IsStopText (IsCause m b k ask) Begun text → IsStopText (IsCause m a h ask) Begun text
+stop_then m a b h k ask Begun text p s = record { begun = s.begun; front = s.front; refusal = s.refusal; cause = cause_then m a b h k p ask s.refusal s.cause; is = s.is }
 
 -- what has gone out of the replies, and more behind
 gone_on : (x y z w : List ℕ) → x ++ y ≡ z → x ++ (y ++ w) ≡ z ++ w
@@ -149,7 +153,7 @@ broken m h start first r old new all lines behind parts a front = record {
   waiting = a.waiting;
   behind = behind;
   parts = parts ∙ ap (λ (l : List (List ℕ)). l ++ behind) a.parts ∙ append_assoc a.before a.waiting behind;
-  few = omega (arith, ap length a.asked);
+  quiet = quiet_lines a.waiting a.asked;
   between = a.between;
   told = a.told;
   text = replies (history_after h a.before) a.waiting;
@@ -218,12 +222,12 @@ more_answered m x h start first r new old left lines line a e = by e.leaves.flus
 
 -- the text of the lines that wait, and of one more
 told_for : {R : Type 0} (m : Ghosts R) (first r : R) (h at k : History) (waiting : List (List ℕ)) (line text : List ℕ) → k ≡ history_after at waiting → Becomes m first h r k
-    → (text ≡ reply_to (ask_of line) k) ⊎ IsStopText (IsCause m r k) (IsBegun (ask_of line) k) text
+    → (text ≡ reply_to (ask_of line) k) ⊎ IsStopText (IsCause m r k (ask_of line)) (IsBegun (ask_of line) k) text
     → IsToldFor m first h at (waiting ++ line ∷ []) (replies at waiting ++ text)
 told_for m first r h at k waiting line text same becomes (inl is) =
     inl (ap (λ (l : List ℕ). replies at waiting ++ l) (is ∙ ap (reply_to (ask_of line)) same ∙ sym (replies_one line (history_after at waiting))) ∙ sym (replies_on waiting (line ∷ []) at))
 told_for m first r h at k waiting line text same becomes (inr stop) =
-    inr (waiting, line, text, refl, subst (λ g. IsStopText (IsCause m first h) (IsBegun (ask_of line) g) text) same (stop_then m first r h k (IsBegun (ask_of line) k) text becomes stop), refl)
+    inr (waiting, line, text, refl, subst (λ g. IsStopText (IsCause m first h (ask_of line)) (IsBegun (ask_of line) g) text) same (stop_then m first r h k (ask_of line) (IsBegun (ask_of line) k) text becomes stop), refl)
 
 -- a line ended it
 pub ends_at : {R : Type 0} (m : Ghosts R) (end : LineEnd) (h : History) (start : Option (List ℕ)) (first r new : R) (old left : Out) (all lines : List (List ℕ)) (line : List ℕ) (behind : List (List ℕ))
@@ -237,7 +241,7 @@ ends_at m Stopped h start first r new old left all lines line behind parts a e =
   fits = a.fits;
   lives = a.lives;
   text = e.tells.text;
-  stop = stop_then m first r h (history_after h lines) (IsBegun (ask_of line) (history_after h lines)) e.tells.text a.leaves e.tells.stop;
+  stop = stop_then m first r h (history_after h lines) (ask_of line) (IsBegun (ask_of line) (history_after h lines)) e.tells.text a.leaves e.tells.stop;
   told = all_told m h start first r old left.taken lines e.tells.text a e.tells.told;
   leaves = subst (BecomesEither m first h new (history_after h lines)) (sym (history_more h lines line)) (either_then m first r new h (history_after h lines) (history_after h lines) (after_all (history_after h lines) (command_of (ask_of line))) a.leaves e.leaves);
 }
@@ -263,7 +267,7 @@ ends_at m WriteFault h start first r new old left all lines line behind parts a 
       waiting = a.waiting ++ line ∷ [];
       behind = behind;
       parts = parts ∙ ap (λ (l : List (List ℕ)). l ++ line ∷ behind) a.parts ∙ append_assoc a.before a.waiting (line ∷ behind) ∙ ap (λ (l : List (List ℕ)). a.before ++ l) (sym (append_assoc a.waiting (line ∷ []) behind));
-      few = subst (λ cs. length cs < 2) (sym (commands_more a.waiting (line ∷ []) ∙ ap (λ (l : List Asked). l ++ commands_in (line ∷ [])) a.asked ∙ commands_one line)) (few (ask_of line));
+      quiet = quiet_before a.waiting line a.asked;
       between = a.between;
       told = a.told;
       text = replies at a.waiting ++ e.tells.text;

@@ -2,9 +2,9 @@
 use Rattle.std.specs.Prelude.{ℕ, List, Option, Result, Ok, Err}
 use Rattle.std.specs.Io.KnownBytes.{Appends}
 use Rattle.pid_ident.specs.Sending.{SendsFront}
-use Rattle.pid_script.specs.declared.moderated.ExportFault.{ExportFault}
-use Rattle.pid_script.specs.declared.moderated.ExportFault.TheVariants.{Refused, Write}
-use Rattle.pid_script.specs.Obeying.{IsFault}
+use Rattle.pid_service.specs.declared.exporting.ExportFault.{ExportFault}
+use Rattle.pid_service.specs.declared.exporting.ExportFault.TheVariants.{Refused, Write}
+use Rattle.pid_moderation.specs.Faults.{IsFault}
 use Rattle.pid_script.specs.WholeFronts.{IsWholeFront}
 
 -- whole lines of the text went out

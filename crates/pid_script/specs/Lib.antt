@@ -1,4 +1,3 @@
-pub mod Files
 pub mod ScriptLines
 pub mod LineAsks
 pub mod LookUpFields

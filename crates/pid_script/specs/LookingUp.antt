@@ -8,7 +8,7 @@ use Rattle.pid_lookup.specs.declared.answering.LookupRefusal.TheVariants.{BadFla
 use Rattle.pid_lookup.specs.Answers.{answer_of}
 use Rattle.pid_lookup.specs.Flags.{is_bad}
 use Rattle.pid_moderation.specs.declared.refusal.Refusal.{Refusal}
-use Rattle.pid_script.specs.Obeying.{IsFault}
+use Rattle.pid_moderation.specs.Faults.{IsFault}
 
 -- the answer over the tree, where the flags are not bad; that they are bad; or want of memory or a fault of the store
 abbrev pub LooksUp : Result Answer (LookupRefusal Refusal) → TreeMap → ℕ → Args → ℕ → Type 0

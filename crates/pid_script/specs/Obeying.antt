@@ -1,15 +1,11 @@
 -- What a registry answers to a command, and what it shows afterwards.
 use Rattle.std.specs.Prelude.{◌≡◌, ◌⊎◌, Result, IsErrAnd}
+use Rattle.pid_moderation.specs.Faults.{IsFault}
 use Rattle.pid_moderation.specs.declared.command.Reply.{Reply}
 use Rattle.pid_moderation.specs.declared.refusal.Refusal.{Refusal}
-use Rattle.pid_moderation.specs.declared.refusal.Refusal.TheVariants.{Memory, Store}
 use Rattle.pid_moderation.specs.History.{Asked, History}
 use Rattle.pid_moderation.specs.Judgement.{judge, answer, after}
 use Rattle.pid_moderation.specs.Views.{views_of}
-
--- memory was short, or the store failed
-abbrev pub IsFault : Refusal → Type 0
-IsFault e = (e ≡ Memory) ⊎ (e ≡ Store)
 
 -- The answer is that of the judgement over the history, and the registry shows the history after the command. Or memory was
 -- short or the store failed: while it was only read, then the registry shows the history as before; or while it was written,

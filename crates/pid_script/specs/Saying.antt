@@ -122,5 +122,5 @@ module _ {R : Type 0} (registry : Ghosts R) where
 
   -- the answer to a line
   pub record LineEnds (result : Result (Unit {0}) LineEnd) (ask : Ask) (h : History) (r : R) (old : Out) (new : R) (left : Out) : Type 0 where
-    pub tells : Tells (IsCause registry r h) (IsBegun ask h) result (reply_to ask h) old left
+    pub tells : Tells (IsCause registry r h ask) (IsBegun ask h) result (reply_to ask h) old left
     pub leaves : Leaves result r h new ask left

@@ -1,5 +1,5 @@
 -- What a script comes to: the replies to its lines, and how it ends. All are choices of this project.
-use Rattle.std.specs.Prelude.{◌≡◌, ◌⊎◌, ◌<◌, ℕ, false, List, [], ◌∷◌, ◌++◌, length, Some, Option}
+use Rattle.std.specs.Prelude.{◌≡◌, ◌⊎◌, ℕ, false, List, [], ◌∷◌, ◌++◌, Some, Option}
 use Rattle.std.specs.Io.KnownBytes.{Appends, Consumes}
 use Rattle.pid_ident.specs.Sending.{SendsFront}
 use Rattle.pid_reader.specs.Lines.{lines_of}
@@ -10,7 +10,7 @@ use Rattle.pid_script.specs.declared.script_end.ScriptEnd.{ScriptEnd}
 use Rattle.pid_script.specs.declared.script_end.ScriptEnd.TheVariants.{Done, ReadFault, WriteFault, TooLong, Stopped, TurnsSpent}
 use Rattle.pid_script.specs.ScriptLines as asks
 use Rattle.pid_script.specs.ScriptLines.{ask_of}
-use Rattle.pid_script.specs.Replies.{replies, commands_in, history_after, is_call}
+use Rattle.pid_script.specs.Replies.{replies, command_of, history_after, is_call}
 use Rattle.pid_script.specs.Standing.{Becomes, BecomesEither}
 use Rattle.pid_script.specs.StopLines.{IsBegun, IsCause, IsStopText}
 
@@ -23,6 +23,12 @@ NoneTooLong (line ∷ lines) = (ask_of line ≡ asks.TooLong → ⊥) × NoneToo
 abbrev pub NoneCalls : List (List ℕ) → Type 0
 NoneCalls [] = Unit {0}
 NoneCalls (line ∷ lines) = (is_call (ask_of line) ≡ false) × NoneCalls lines
+
+-- of the lines only the last may be a command
+abbrev pub QuietButLast : List (List ℕ) → Type 0
+QuietButLast [] = Unit {0}
+QuietButLast (line ∷ []) = Unit {0}
+QuietButLast (line ∷ next ∷ lines) = (command_of (ask_of line) ≡ []) × QuietButLast (next ∷ lines)
 
 -- the registry before the script and behind it, and what the writer had taken before and has taken now
 pub record Passage (R : Type 0) : Type 0 where
@@ -45,7 +51,7 @@ module _ {R : Type 0} (registry : Ghosts R) where
 
   -- what stops a script at a line, whose history is the one behind the lines before
   abbrev pub IsStop : R → History → History → List ℕ → List ℕ → Type 0
-  IsStop r h at line text = IsStopText (IsCause registry r h) (IsBegun (ask_of line) at) text
+  IsStop r h at line text = IsStopText (IsCause registry r h (ask_of line)) (IsBegun (ask_of line) at) text
 
   -- the lines before one got their replies, and in place of its reply, or behind what was begun of it, a refusal stopped the script
   pub record StopsAtLine (h : History) (p : Passage R) (lines : List (List ℕ)) : Type 0 where
@@ -78,14 +84,14 @@ module _ {R : Type 0} (registry : Ghosts R) where
       (text ≡ replies at lines)
       ⊎ ((before : List (List ℕ)) × (line stop : List ℕ) × (lines ≡ before ++ line ∷ []) × IsStop r h (history_after at before) line stop × (text ≡ replies at before ++ stop))
 
-  -- The replies to the lines before went out whole, and of those to the lines that wait a front and not all. Among these is at
-  -- most one command, and the registry shows the history before it or behind it.
+  -- The replies to the lines before went out whole, and of those to the lines that wait a front and not all. Of these only the last
+  -- may be a command, whose reply so did not go out whole; the registry shows the history before it or behind it.
   pub record BreaksOff (h : History) (p : Passage R) (lines : List (List ℕ)) : Type 0 where
     pub before : List (List ℕ)
     pub waiting : List (List ℕ)
     pub behind : List (List ℕ)
     pub parts : lines ≡ before ++ (waiting ++ behind)
-    pub few : length (commands_in waiting) < 2
+    pub quiet : QuietButLast waiting
     -- what the writer had taken with the replies to the lines before
     pub between : Option (List ℕ)
     pub told : Appends p.taken between (replies h before)

@@ -7,7 +7,8 @@ use Rattle.pid_moderation.specs.History.{History}
 use Rattle.pid_moderation.specs.ReplyLines.{refused_line}
 use Rattle.pid_moderation.specs.Writes.{tree_of}
 use Rattle.pid_script.specs.declared.moderated.Moderated.{Ghosts}
-use Rattle.pid_script.specs.Obeying.{IsFault}
+use Rattle.pid_moderation.specs.Faults.{IsFault}
+use Rattle.pid_script.specs.Replies.{is_call}
 use Rattle.pid_script.specs.ScriptLines.{Ask, Nothing, Commands, Exports, Reads, LooksUp, Unclear, TooLong}
 use Rattle.pid_script.specs.WholeFronts.{IsWholeFront}
 
@@ -30,10 +31,11 @@ IsBegun TooLong h = λ begun. begun ≡ []
 
 module _ {R : Type 0} (registry : Ghosts R) where
   -- why: a live registry refuses for want of memory or because its store failed, one that has failed refuses all; and memory
-  -- may be short for the script itself
-  pub record IsCause (r : R) (h : History) (refusal : Refusal) : Type 0 where
+  -- may be short for the script itself, which is all that stops it where the registry is not asked
+  pub record IsCause (r : R) (h : History) (ask : Ask) (refusal : Refusal) : Type 0 where
     pub live : registry.shows r h → IsFault refusal
     pub failed : registry.has_failed r → (refusal ≡ Failed) ⊎ (refusal ≡ Memory)
+    pub unasked : is_call ask ≡ false → refusal ≡ Memory
 
 -- the text of a stop in place of a reply: the line of such a refusal, behind what was begun
 pub record IsStopText (Cause : Refusal → Type 0) (Begun : List ℕ → Type 0) (text : List ℕ) : Type 0 where

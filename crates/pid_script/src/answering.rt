@@ -10,13 +10,14 @@ use crate::fields::{read_command, read_path};
 use crate::line::{LineAsk, line_asks};
 use crate::line_end::LineEnd;
 use crate::look_up::read_look_up;
-use crate::moderated::{ExportFault, Moderated};
+use crate::moderated::Moderated;
 use crate::reply::{
     refuse_long, send_answer, send_bad_text, send_found, send_name, stop_for_memory,
 };
 use crate::saying::flush;
 use pid_ident::Output;
 use pid_moderation::Verb;
+use pid_service::ExportFault;
 use std::alloc::Global;
 
 // Obeys the command that a form says.

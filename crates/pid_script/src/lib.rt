@@ -7,12 +7,12 @@ mod line;
 mod line_end;
 mod look_up;
 mod moderated;
-mod pieces;
+mod registry;
 mod reply;
 mod saying;
 mod script;
 mod script_end;
 
-pub use moderated::{ExportFault, Moderated};
+pub use moderated::Moderated;
 pub use script::run_script;
 pub use script_end::ScriptEnd;

@@ -8,27 +8,16 @@ ghost use Rattle.pid_moderation.specs.Items.{name_at};
 ghost use Rattle.pid_moderation.specs.Views.{items_of};
 ghost use Rattle.pid_moderation.specs.Writes.{tree_of};
 ghost use Rattle.pid_moderation.specs.declared.refusal.Refusal.TheVariants.{Failed};
+ghost use Rattle.pid_moderation.specs.Faults.{IsFault};
+ghost use Rattle.pid_import.specs.Files.{asks};
 ghost use Rattle.pid_script.specs.Exporting.{Exports};
-ghost use Rattle.pid_script.specs.Files.{asks};
 ghost use Rattle.pid_script.specs.LookingUp.{LooksUp};
-ghost use Rattle.pid_script.specs.Obeying.{IsFault, Obeys};
+ghost use Rattle.pid_script.specs.Obeying.{Obeys};
 
-use pid_ident::{Name, Output, Path, WriteFault};
+use pid_ident::{Name, Output, Path};
 use pid_lookup::{Answer, Args, LookupRefusal};
 use pid_moderation::{Command, Refusal, Reply};
-use thiserror::Error;
-
-/// Why an export did not write the whole text.
-///
-/// - `Refused`: memory was short, the store failed, or the registry had failed. What was written is whole lines of the text.
-/// - `Write`: the writer failed, maybe within a line.
-#[derive(Clone, Copy, Debug, PartialEq, Eq, Error)]
-pub enum ExportFault {
-    #[error("{0}")]
-    Refused(Refusal),
-    #[error("{0}")]
-    Write(WriteFault),
-}
+use pid_service::ExportFault;
 
 /// A registry under moderation, as scripts ask it.
 ///
@@ -74,11 +63,12 @@ pub trait Moderated {
         ensures told { is_honest self.new → (h : History) → shows self.old h → LooksUp result (tree_of h) flags args.now size }
         ensures failed { has_failed self.old → (result ≡ Err (look_ups.Names Failed)) × (self.new ≡ self.old) };
 
-    /// Writes the canonical text, line by line.
+    /// Writes the canonical text, line by line. Where it is refused, what was written is whole lines of the text, or nothing.
+    /// Where the writer failed it may end within a line.
     fn export<O: Output>(&mut self, out: &mut O) -> Result<(), ExportFault>
         ensures honest { is_honest self.new → is_honest self.old }
         ensures kept { is_honest self.new → (h : History) → shows self.old h → shows self.new h }
         ensures told { is_honest self.new → (h : History) → shows self.old h → Exports result (O.taken out.old) (O.taken out.new) (print (tree_of h)) }
         ensures fault { (f : _) → IsErrOf result (ExportFault.Write f) → IsSome (O.write_fault out.new) }
-        ensures failed { has_failed self.old → (result ≡ Err (ExportFault.Refused Failed)) × (self.new ≡ self.old) × (out.new ≡ out.old) };
+        ensures failed { has_failed self.old → (result ≡ Err (ExportFault.Refused Failed)) × (self.new ≡ self.old) × (O.taken out.new ≡ O.taken out.old) };
 }

@@ -12,11 +12,11 @@ use crate::answering::answer_line;
 use crate::line::LONGEST_LINE;
 use crate::line_end::LineEnd;
 use crate::moderated::Moderated;
-use crate::pieces::{split_line, without_cr};
 use crate::reply::{refuse_long, stop_for_memory};
 use crate::saying::flush;
 use crate::script_end::ScriptEnd;
 use pid_ident::{Input, Output};
+use pid_reader::{split_line, without_cr};
 use std::alloc::Global;
 
 /// The most that one read asks for, in bytes.
@@ -189,6 +189,12 @@ fn end_of(answered: Result<(), LineEnd>) -> ScriptEnd
 ///
 /// At most so many reads are made, each of at most 65,536 bytes. Replies are written at the latest when a command was
 /// answered and when a read is answered whole. A line costs memory only while it is open.
+///
+/// Over a `Registry` of `pid_service` the clauses read so, while the disk returns what was written. Let it show a history as
+/// the script begins. At `Done` it shows the history with the commands of all lines. At every other end it shows the history
+/// with those of the lines that were answered, or with that of the next line too, whose reply did not go out; or it has failed,
+/// and a crash leaves the one or the other. So a later opening finds each command whose reply went out whole. A registry that
+/// has failed before refuses the first line that asks something of it as 18, and stays as it is.
 pub fn run_script<R: Moderated, I: Input, O: Output>(
     alloc: Global,
     registry: &mut R,

@@ -1,13 +1,15 @@
-//! Tests of scripts over registries in memory. They call public functions alone.
+//! Tests of scripts over a registry in memory. They call public functions alone.
 #![tactic(auto)]
 
 #[cfg(test)]
 mod ends;
 #[cfg(test)]
+mod faults;
+#[cfg(test)]
 mod fields;
 #[cfg(test)]
-mod plain;
-#[cfg(test)]
 mod rows;
+#[cfg(test)]
+mod running;
 #[cfg(test)]
 mod stopping;

@@ -1,81 +1,19 @@
 //! Worked scripts: each line, and what it is answered.
-//!
-//! A row is a line, ` | ` and its reply; a row without ` | ` has no reply, and a row that begins with `+` is one more line of
-//! the reply before.
-use crate::plain::Listed;
+use crate::running::{
+    FIRST_NAME, IMPORTS, PARENT_FIRST, REFUSALS, TURNS, expect, expect_by, new_in_memory,
+    script_and_replies,
+};
 use pid_ident::{FaultyInput, FaultyOutput};
 use pid_script::{ScriptEnd, run_script};
 use std::alloc::{AllocError, Global};
-use std::process::Abort;
 use std::test::Fail;
 
-// The lines of the rows, and their replies.
-fn script_and_replies(alloc: Global, rows: &str) -> Result<(String, String), AllocError> {
-    let mut script = String::new(alloc);
-    let mut replies = String::new(alloc);
-    for row in rows.lines() {
-        if let Some(more) = row.strip_prefix('+') {
-            replies.push_str(more)?;
-            replies.push_str("\n")?;
-            continue;
-        }
-        match row.split_once(" | ") {
-            Some((line, reply)) => {
-                script.push_str(line)?;
-                replies.push_str(reply)?;
-                replies.push_str("\n")?;
-            }
-            None => script.push_str(row)?,
-        }
-        script.push_str("\n")?;
-    }
-    Ok((script, replies))
-}
-
-// Runs a script that is read by so many bytes.
-fn expect_by(
-    rt: &impl Abort,
-    alloc: Global,
-    script: &[u8],
-    most: usize,
-    replies: &[u8],
-) -> Result<(), Fail> {
-    let mut registry = Listed::new(alloc);
-    let mut input = FaultyInput::new(script, most);
-    let mut output = FaultyOutput::new(alloc, 5);
-    let end = run_script(alloc, &mut registry, &mut input, &mut output, 100_000);
-    assert_eq!(rt; end, ScriptEnd::Done);
-    assert_eq!(rt; output.taken.as_slice(), replies);
-    Ok(())
-}
-
-fn expect(rt: &impl Abort, alloc: Global, rows: &str) -> Result<(), Fail> {
-    let (script, replies) = script_and_replies(alloc, rows)?;
-    for most in [1usize, 7, 65_536].iter() {
-        expect_by(rt, alloc, script.as_bytes(), *most, replies.as_bytes())?;
-    }
-    Ok(())
-}
-
-const FIRST_NAME: &str = "\
-account root who=alice&rank=0 | ok
-submit alice path=PC/8086&name=Intel+Corporation | ok 1
-approve alice num=1 | refused 5 RankTooLow
-approve root num=1 | ok
-export | # PCI ID registry
-+8086  Intel Corporation
-";
-
-const PARENTS_AND_CHILDREN: &str = "\
+const CHILDREN_LAST: &str = "\
 account root who=bob&rank=1 | ok
 submit bob path=PC/8086/1237&name=440FX | ok 1
-approve root num=1 | refused 11 ParentMissing
 submit bob path=PC/8086&name=Intel | ok 2
 approve root num=2 | ok
 approve root num=1 | ok
-export | # PCI ID registry
-+8086  Intel
-+\t1237  440FX
 submit bob path=PC/8086&remove=yes | ok 3
 approve root num=3 | refused 12 HasChildren
 submit bob path=PC/8086/1237&remove=yes | ok 4
@@ -84,26 +22,58 @@ approve root num=3 | ok
 export | # PCI ID registry
 ";
 
-const IMPORTS: &str = "\
-import root key=k1&file=8086++Intel%0A | ok added=1 renamed=0 same=0
-import root key=k1&file=8086++Intel%0A | ok added=1 renamed=0 same=0
-import root file=8086++Intel%0A | ok added=0 renamed=0 same=1
-import root file=8086++Intel+Corporation | ok added=0 renamed=1 same=0
-import root key=k1&file=8086++Intel%0A | ok added=1 renamed=0 same=0
-read path=PC/8086 | name Intel Corporation
-";
-
 const FAULTY_IMPORT: &str = "\
 import root file=8086++I%0A%091237++A%0A%091237++B | refused 14 FileFault line=3 kind=7 Duplicate
 export | # PCI ID registry
 ";
 
+const GENERIC_SUBSYSTEMS: &str = "\
+import root file=1af4++Red+Hat%0AS+1AF4%0A%091100++Qemu%0A%090001++Net%0AC+01++Mass%0A8086++I%0AS+1af4%0A%090002++Blk%0A | ok added=6 renamed=0 same=0
+export | # PCI ID registry
++1af4  Red Hat
++8086  I
++C 01  Mass
++S 1af4
++\t0001  Net
++\t0002  Blk
++\t1100  Qemu
+read path=PS/1af4/0002 | name Blk
+";
+
+const BLOCK_FAULTS: &str = "\
+import root file=1af4++R%0AS+1af4x | refused 14 FileFault line=2 kind=4 BadId
+import root file=1af4++R%0AS+1af | refused 14 FileFault line=2 kind=4 BadId
+import root file=1af4++R%0AS+1af4%0A%091100++X%0A%09%091++Y | refused 14 FileFault line=4 kind=2 TooDeep
+import root file=1af4++R%0AS+1af4%0A%091100++X%0AS+1af4%0A%091100++Z | refused 14 FileFault line=5 kind=7 Duplicate
+import root file=1af4++R%0AS+8086 | refused 14 FileFault line=2 kind=8 VendorMissing
+import root file=1af4++R%0AS+1af4 | ok added=1 renamed=0 same=0
+";
+
 #[test]
 fn changes_and_exports(rt: HostRuntime) -> Result<(), Fail> {
-    expect(&rt, rt.alloc(), FIRST_NAME)?;
-    expect(&rt, rt.alloc(), PARENTS_AND_CHILDREN)?;
-    expect(&rt, rt.alloc(), IMPORTS)?;
-    expect(&rt, rt.alloc(), FAULTY_IMPORT)
+    for rows in [
+        FIRST_NAME,
+        PARENT_FIRST,
+        CHILDREN_LAST,
+        IMPORTS,
+        FAULTY_IMPORT,
+        GENERIC_SUBSYSTEMS,
+        BLOCK_FAULTS,
+    ] {
+        expect(&rt, rt.alloc(), rows)?;
+    }
+    Ok(())
+}
+
+// However a script is cut into pieces, its replies are the same.
+#[test]
+fn cuts_make_no_difference(rt: HostRuntime) -> Result<(), Fail> {
+    let alloc = rt.alloc();
+    let (script, replies) = script_and_replies(alloc, FIRST_NAME)?;
+    for most in 1..script.len() {
+        expect_by(&rt, alloc, script.as_bytes(), most, replies.as_bytes())?;
+    }
+    Ok(())
 }
 
 const VENDOR: &str = "\
@@ -165,10 +135,10 @@ lookup flags=b&vendor=8086&device=1237&subvendor=8086&subdevice=1237 | text Inte
 
 #[test]
 fn looks_up(rt: HostRuntime) -> Result<(), Fail> {
-    expect(&rt, rt.alloc(), VENDOR)?;
-    expect(&rt, rt.alloc(), CLASS)?;
-    expect(&rt, rt.alloc(), INTERFACES)?;
-    expect(&rt, rt.alloc(), SUBSYSTEMS)
+    for rows in [VENDOR, CLASS, INTERFACES, SUBSYSTEMS] {
+        expect(&rt, rt.alloc(), rows)?;
+    }
+    Ok(())
 }
 
 // The cut may split a character.
@@ -178,22 +148,6 @@ fn cuts_by_bytes(rt: HostRuntime) -> Result<(), Fail> {
     let replies = b"ok added=1 renamed=0 same=0\ntext Soci\xc3...\n";
     expect_by(&rt, rt.alloc(), script, 7, replies)
 }
-
-const REFUSALS: &str = "\
-account root who=alice&rank=0 | ok
-submit root path=PC/10ec&name=Realtek | ok 1
-approve root num=1 | refused 10 OwnDecision
-withdraw alice num=1 | refused 9 NotAuthor
-comment alice num=1&text=seen | ok
-account root who=root&rank=2 | refused 10 OwnDecision
-account root who=alice&rank=0 | refused 13 NothingToDo
-submit carol path=PC/10ec&name=X | refused 4 NoAccount
-approve root num=2 | refused 7 NoSubmission
-withdraw root num=1 | ok
-withdraw root num=1 | refused 8 NotPending
-withdraw alice num=1 | refused 9 NotAuthor
-reject alice num=1&reason=no | refused 8 NotPending
-";
 
 const UNCLEAR: &str = "\
 # a comment
@@ -271,4 +225,24 @@ fn keeps_limits(rt: HostRuntime) -> Result<(), Fail> {
     )?;
     let key = long_line(alloc, "withdraw root num=1&key=", 65, "\n")?;
     expect_by(&rt, alloc, key.as_bytes(), 4_096, b"refused 3 BadText\n")
+}
+
+// A thousand vendors, each submitted, approved and read.
+#[test]
+fn names_a_thousand_vendors(rt: HostRuntime) -> Result<(), Fail> {
+    let alloc = rt.alloc();
+    let mut script = String::from_str(alloc, "account root who=bob&rank=0\n")?;
+    let mut replies = String::from_str(alloc, "ok\n")?;
+    let mut text = String::from_str(alloc, "# PCI ID registry\n")?;
+    for number in 1..1_001u32 {
+        let lines = format!(in alloc;
+            "submit bob path=PC/{number:04x}&name=a\napprove root num={number}\nread path=PC/{number:04x}\n"
+        )?;
+        script.push_str(lines.as_str())?;
+        replies.push_str(format!(in alloc; "ok {number}\nok\nname a\n")?.as_str())?;
+        text.push_str(format!(in alloc; "{number:04x}  a\n")?.as_str())?;
+    }
+    script.push_str("export\n")?;
+    replies.push_str(text.as_str())?;
+    expect_by(&rt, alloc, script.as_bytes(), 65_536, replies.as_bytes())
 }

@@ -1,20 +1,22 @@
 //! Registries that refuse: one whose store fails it, and one that has failed.
-ghost use Rattle.std.specs.Prelude.{◌≡◌};
-
-use crate::plain::Listed;
-use pid_ident::{Name, Output, Path, write_all};
+use pid_ident::{FaultyInput, FaultyOutput, Name, Output, Path, write_all};
 use pid_lookup::{Answer, Args, LookupRefusal};
 use pid_moderation::{Command, Refusal, Reply};
-use pid_script::{ExportFault, Moderated};
+use pid_script::{Moderated, ScriptEnd, run_script};
+use pid_service::ExportFault;
+use std::alloc::Global;
+use std::process::Abort;
+use std::test::Fail;
 
-/// A registry whose store fails it behind so many commands, and in each export behind its second line.
+/// A registry that does so many commands and then refuses all; an export it breaks off behind whole lines.
 #[derive(Drop)]
-pub struct Stopping {
-    pub listed: Listed,
+pub struct Refusing {
     pub commands: u32,
+    pub refusal: Refusal,
+    pub lines: &'static [u8],
 }
 
-impl Moderated for Stopping {
+impl Moderated for Refusing {
     ghost shows = { λ registry h. ⊥ };
 
     ghost fails_between = { λ registry h after. ⊥ };
@@ -23,58 +25,16 @@ impl Moderated for Stopping {
 
     ghost is_honest = { λ registry. Unit {0} };
 
-    fn obey(&mut self, command: Command) -> Result<Reply, Refusal> {
+    fn obey(&mut self, _command: Command) -> Result<Reply, Refusal> {
         if self.commands == 0 {
-            return Err(Refusal::Store);
+            return Err(self.refusal);
         }
         self.commands -= 1;
-        self.listed.obey(command)
-    }
-
-    fn read(&mut self, path: &Path) -> Result<Option<Name>, Refusal> {
-        self.listed.read(path)
-    }
-
-    fn look_up(
-        &mut self,
-        flags: u32,
-        args: &Args,
-        size: u32,
-    ) -> Result<Answer, LookupRefusal<Refusal>> {
-        self.listed.look_up(flags, args, size)
-    }
-
-    fn export<O: Output>(&mut self, out: &mut O) -> Result<(), ExportFault> {
-        match write_all(out, b"# PCI ID registry\n8086  Intel\n") {
-            Ok(()) => Err(ExportFault::Refused(Refusal::Store)),
-            Err(fault) => Err(ExportFault::Write(fault)),
-        }
-    }
-}
-
-/// A registry that has failed.
-#[derive(Drop)]
-pub struct Failed {
-    pub asked: u32,
-}
-
-impl Moderated for Failed {
-    ghost use Rattle.std.specs.Prelude.{◌≡◌};
-
-    ghost shows = { λ registry h. ⊥ };
-
-    ghost fails_between = { λ registry h after. ⊥ };
-
-    ghost has_failed = { λ registry. Unit {0} };
-
-    ghost is_honest = { λ registry. Unit {0} };
-
-    fn obey(&mut self, _command: Command) -> Result<Reply, Refusal> {
-        Err(Refusal::Failed)
+        Ok(Reply::Done)
     }
 
     fn read(&mut self, _path: &Path) -> Result<Option<Name>, Refusal> {
-        Err(Refusal::Failed)
+        Err(self.refusal)
     }
 
     fn look_up(
@@ -83,10 +43,84 @@ impl Moderated for Failed {
         _args: &Args,
         _size: u32,
     ) -> Result<Answer, LookupRefusal<Refusal>> {
-        Err(LookupRefusal::Names(Refusal::Failed))
+        Err(LookupRefusal::Names(self.refusal))
     }
 
-    fn export<O: Output>(&mut self, _out: &mut O) -> Result<(), ExportFault> {
-        Err(ExportFault::Refused(Refusal::Failed))
+    fn export<O: Output>(&mut self, out: &mut O) -> Result<(), ExportFault> {
+        match write_all(out, self.lines) {
+            Ok(()) => Err(ExportFault::Refused(self.refusal)),
+            Err(fault) => Err(ExportFault::Write(fault)),
+        }
     }
+}
+
+// What is told up to the refusal, with which the script stops.
+fn expect_stop(
+    rt: &impl Abort,
+    alloc: Global,
+    mut registry: Refusing,
+    script: &[u8],
+    replies: &[u8],
+) -> Result<(), Fail> {
+    let mut input = FaultyInput::new(script, 40);
+    let mut output = FaultyOutput::new(alloc, 100);
+    let end = run_script(alloc, &mut registry, &mut input, &mut output, 20);
+    assert_eq!(rt; end, ScriptEnd::Stopped);
+    assert_eq!(rt; output.taken.as_slice(), replies);
+    Ok(())
+}
+
+const HEADER: &[u8] = b"# PCI ID registry\n";
+
+#[test]
+fn the_store_fails(rt: HostRuntime) -> Result<(), Fail> {
+    let registry = Refusing {
+        commands: 1,
+        refusal: Refusal::Store,
+        lines: HEADER,
+    };
+    let script = b"account root who=alice&rank=0\nsubmit alice path=PC/8086&name=Intel\nexport\n";
+    expect_stop(&rt, rt.alloc(), registry, script, b"ok\nrefused 17 Store\n")
+}
+
+// Whole lines of the text stand before the refusal.
+#[test]
+fn the_store_fails_within_an_export(rt: HostRuntime) -> Result<(), Fail> {
+    for refusal in [Refusal::Memory, Refusal::Store] {
+        let registry = Refusing {
+            commands: 0,
+            refusal,
+            lines: HEADER,
+        };
+        let replies = match refusal {
+            Refusal::Memory => b"# PCI ID registry\nrefused 16 Memory\n".as_slice(),
+            _ => b"# PCI ID registry\nrefused 17 Store\n".as_slice(),
+        };
+        expect_stop(&rt, rt.alloc(), registry, b"export\nnonsense\n", replies)?;
+    }
+    Ok(())
+}
+
+// Lines that ask nothing of it are answered, and the first one that does stops the script.
+#[test]
+fn failed_registries_are_asked_once(rt: HostRuntime) -> Result<(), Fail> {
+    let alloc = rt.alloc();
+    for line in [
+        "export",
+        "read path=PC/8086",
+        "lookup flags=1",
+        "approve root num=1",
+    ] {
+        let mut script = String::from_str(alloc, "# comment\nnonsense\nread path=pc\n")?;
+        script.push_str(line)?;
+        script.push_str("\nnonsense\n")?;
+        let registry = Refusing {
+            commands: 0,
+            refusal: Refusal::Failed,
+            lines: b"",
+        };
+        let replies = b"refused 3 BadText\nrefused 1 BadPath\nrefused 18 Failed\n";
+        expect_stop(&rt, alloc, registry, script.as_bytes(), replies)?;
+    }
+    Ok(())
 }

@@ -14,7 +14,7 @@ use Rattle.pid_tables.specs.Creation.{IsBare}
 use Rattle.pid_tables.proofs.OpenLemmas.{LeavesCommitted, opened_bare, opened_shown}
 use Rattle.pid_service.specs.declared.registry.Registry.{Registry}
 use Rattle.pid_service.specs.Histories.{FailsBetween, IsReached, Shows}
-use Rattle.pid_service.specs.Lives.{FindsTables, IsAfterStop, OpensTo, showing}
+use Rattle.pid_service.specs.Lives.{LeavesTablesTo, IsAfterStop, OpensTo, showing}
 use Rattle.pid_service.specs.Opening.{LeavesHistory}
 use Rattle.pid_service.specs.Registries.{HasCleanDisk, connection, is_live}
 
@@ -35,7 +35,7 @@ module _ {S : Type 0} (store : Ghosts S) where
     | inr bare ↦ inr (opened_bare (state store conn) (law conn) stop.opened.0 stop.opened.1 bare.0, bare.1)
   ]
 
-  pub stop_finds : IsSettled → (ended : Registry S store) (conn : Held S) → IsAfterStop store (connection ended) conn → FindsTables store ended conn
+  pub stop_finds : IsSettled → (ended : Registry S store) (conn : Held S) → IsAfterStop store (connection ended) conn → LeavesTablesTo store ended conn
   stop_finds law ended conn stop =
       let rest : (h : History) → _ → ShowsOrBlank store conn h = λ h shows. inl (opened_shown (state store conn) (views_of h) (law conn) stop.opened.0 stop.opened.1 shows) in
       record {
@@ -44,14 +44,14 @@ module _ {S : Type 0} (store : Ghosts S) where
         either = λ h next between. elim (between.leaves.each stop.clean _ stop.found) [ inl shows ↦ inl (rest h shows) | inr shows ↦ inr (rest next shows) ];
       }
 
-  pub close_finds : (ended : Registry S store) (conn : Held S) → is_live ended ≡ true → conn ≡ connection ended → FindsTables store ended conn
+  pub close_finds : (ended : Registry S store) (conn : Held S) → is_live ended ≡ true → conn ≡ connection ended → LeavesTablesTo store ended conn
   close_finds ended conn live same = record {
     clean = λ clean. subst (clauses.HasCleanDisk store) same clean;
     shown = λ h shows. inl (subst (λ k. AtRest store k (views_of h)) (sym same) shows.tables);
     either = λ h next between. live_never_failed (is_live ended) live between.has_failed;
   }
 
-  pub opening_finds : (ended opened : Registry S store) (conn : Held S) → FindsTables store ended conn → OpensTo store conn (Ok opened) → Finds (showing store) ended opened
+  pub opening_finds : (ended opened : Registry S store) (conn : Held S) → LeavesTablesTo store ended conn → OpensTo store conn (Ok opened) → Finds (showing store) ended opened
   opening_finds ended opened conn finds opens = record {
     clean = λ clean. finds.clean (opens.clean clean);
     shown = λ clean h shows. opens.opened h shows.history (finds.shown h shows) clean;
@@ -61,7 +61,7 @@ module _ {S : Type 0} (store : Ghosts S) where
     ];
   }
 
-  pub failure_untold : (ended : Registry S store) (conn back : Held S) (fault : TableFault) (h : History) → FindsTables store ended conn → OpensTo store conn (Err (fault, back)) → clauses.HasCleanDisk store back
+  pub failure_untold : (ended : Registry S store) (conn back : Held S) (fault : TableFault) (h : History) → LeavesTablesTo store ended conn → OpensTo store conn (Err (fault, back)) → clauses.HasCleanDisk store back
       → Shows store ended h ⊎ ((next : History) × FailsBetween store ended h next) → IsUntold fault
   failure_untold ended conn back fault h finds opens clean (inl shows) = (opens.opened h shows.history (finds.shown h shows) clean).0
   failure_untold ended conn back fault h finds opens clean (inr b) = elim (finds.either h b.0 b.1) [
@@ -69,8 +69,8 @@ module _ {S : Type 0} (store : Ghosts S) where
     | inr shows ↦ (opens.opened b.0 b.1.next shows clean).0
   ]
 
-  pub failure_finds : IsSettled → (ended : Registry S store) (conn back next : Held S) (fault : TableFault) → FindsTables store ended conn → OpensTo store conn (Err (fault, back))
-      → IsAfterStop store back next → FindsTables store ended next
+  pub failure_finds : IsSettled → (ended : Registry S store) (conn back next : Held S) (fault : TableFault) → LeavesTablesTo store ended conn → OpensTo store conn (Err (fault, back))
+      → IsAfterStop store back next → LeavesTablesTo store ended next
   failure_finds law ended conn back next fault finds opens stop = record {
     clean = λ clean. finds.clean (opens.clean stop.clean);
     shown = λ h shows. left_found law back next h stop (opens.opened h shows.history (finds.shown h shows) stop.clean).1;

@@ -32,7 +32,7 @@ module _ {S : Type 0} (store : Ghosts S) where
   -- the laws of commands and of questions
   abbrev pub ObeysLaw : Type 0
   ObeysLaw = (old new : Registry S store) (c : Asked) (result : Result Reply Refusal) → (HasCleanDisk store new → HasCleanDisk store old) → (is_live old ≡ false → (result ≡ Err Failed) × (new ≡ old))
-      → (HasCleanDisk store new → (h : History) → Shows store old h → Obeys store result new h c) → Does (showing store) old (obeyed c result) new
+      → (HasCleanDisk store new → (h : History) → Shows store old h → Obeys store result new h c) → Does (showing store) old (obeyed c result (is_live new)) new
 
   abbrev pub LooksLaw : Type 0
   LooksLaw = (old new : Registry S store) → (HasCleanDisk store new → HasCleanDisk store old) → (is_live old ≡ false → new ≡ old)
@@ -40,7 +40,7 @@ module _ {S : Type 0} (store : Ghosts S) where
 
   pub import_lives : ObeysLaw → LooksLaw → (old new : Registry S store) (c : Asked) (result : Result Reply ImportEnd) → (HasCleanDisk store new → HasCleanDisk store old)
       → (is_live old ≡ false → IsOfFailed result × (new ≡ old)) → (HasCleanDisk store new → (h : History) → Shows store old h → ObeysImport store result new h c)
-      → Does (showing store) old (import_sent c result) new
+      → Does (showing store) old (import_sent c result (is_live new)) new
   import_lives obeys looks old new c (Ok reply) clean failed told = obeys old new c (Ok reply) clean (λ off. let is = failed off in (never_ok reply (Ok reply) is.0, is.1)) told
   import_lives obeys looks old new c (Err (Refused e)) clean failed told = obeys old new c (Err e) clean (λ off. let is = failed off in (then_failed e (Err e) is.0 refl, is.1)) told
   import_lives obeys looks old new c (Err Body) clean failed told = looks old new clean (λ off. (failed off).1) told

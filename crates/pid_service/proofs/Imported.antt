@@ -15,7 +15,7 @@ use Rattle.pid_moderation.specs.Judgement.{judge, answer, after}
 use Rattle.pid_moderation.specs.Views.{views_of}
 use Rattle.pid_rows.specs.Clauses.{AtRest}
 use Rattle.pid_import.specs.declared.put_file.Stop.TheVariants as stops
-use Rattle.pid_import.specs.Clauses.{StopsAt}
+use Rattle.pid_import.specs.Clauses.{EndsImport}
 use Rattle.pid_import.specs.Files.{asks, file_reading, reading_of}
 use Rattle.pid_import.specs.Importing.{Refuses}
 use Rattle.pid_import.specs.Judging.{IsSettled}
@@ -85,20 +85,20 @@ module _ {S : Type 0} (store : Ghosts S) where
   shows_still : (old new : Registry S store) (h : History) → Shows store old h → is_live new ≡ is_live old → AtRest store (connection new) (views_of h) → KeepsNames store new h → Shows store new h
   shows_still old new h shows same rest names = record { lives = same ∙ shows.lives; history = shows.history; tables = rest; names = names }
 
-  pub ok_obeyed : (old new : Registry S store) (h : History) (c : Asked) (reply : Reply) → Shows store old h → is_live new ≡ is_live old → IsReached (after h c) → KeepsNames store new (after h c) → StopsAt store (connection new) (Ok reply) h c → ObeysImport store (Ok reply) new h c
+  pub ok_obeyed : (old new : Registry S store) (h : History) (c : Asked) (reply : Reply) → Shows store old h → is_live new ≡ is_live old → IsReached (after h c) → KeepsNames store new (after h c) → EndsImport store (connection new) (Ok reply) h c → ObeysImport store (Ok reply) new h c
   ok_obeyed old new h c reply shows same reached names stops = inl (sym stops.0, record { lives = same ∙ shows.lives; history = reached; tables = stops.1; names = names })
 
-  pub body_obeyed : (old new : Registry S store) (h : History) (c : Asked) → Shows store old h → is_live new ≡ is_live old → KeepsNames store new h → StopsAt store (connection new) (Err stops.Body) h c → ObeysImport store (Err imports.Body) new h c
+  pub body_obeyed : (old new : Registry S store) (h : History) (c : Asked) → Shows store old h → is_live new ≡ is_live old → KeepsNames store new h → EndsImport store (connection new) (Err stops.Body) h c → ObeysImport store (Err imports.Body) new h c
   body_obeyed old new h c shows same names stops = shows_still old new h shows same stops names
 
   refused_by : (r : Registry S store) (h : History) (c : Asked) (e : Refusal) → Shows store r h → Refuses h c e → Obeys store (Err e) r h c
   refused_by r h c e shows (inl told) = told_so r h c (Err e) shows told.0 told.1
   refused_by r h c e shows (inr fault) = inr (fault, inl shows)
 
-  pub refused_obeyed : (old new : Registry S store) (h : History) (c : Asked) (e : Refusal) → Shows store old h → is_live new ≡ is_live old → KeepsNames store new h → StopsAt store (connection new) (Err (stops.Refused e)) h c → ObeysImport store (Err (imports.Refused e)) new h c
+  pub refused_obeyed : (old new : Registry S store) (h : History) (c : Asked) (e : Refusal) → Shows store old h → is_live new ≡ is_live old → KeepsNames store new h → EndsImport store (connection new) (Err (stops.Refused e)) h c → ObeysImport store (Err (imports.Refused e)) new h c
   refused_obeyed old new h c e shows same names stops = refused_by new h c e (shows_still old new h shows same stops.0 names) stops.1
 
-  pub failed_obeyed : (old new : Registry S store) (h : History) (c : Asked) (e : Refusal) → Shows store old h → is_live new ≡ false → IsReached (after h c) → StopsAt store (connection new) (Err (stops.Failed e)) h c → ObeysImport store (Err (imports.Refused e)) new h c
+  pub failed_obeyed : (old new : Registry S store) (h : History) (c : Asked) (e : Refusal) → Shows store old h → is_live new ≡ false → IsReached (after h c) → EndsImport store (connection new) (Err (stops.Failed e)) h c → ObeysImport store (Err (imports.Refused e)) new h c
   failed_obeyed old new h c e shows off reached stops = inr (stops.1, inr (record { has_failed = off; before = shows.history; next = reached; leaves = stops.0 }))
 
   -- bytes in memory

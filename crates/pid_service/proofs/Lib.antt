@@ -10,3 +10,4 @@ pub mod Exported
 pub mod Runs
 pub mod ImportLives
 pub mod RunLives
+pub mod Questions

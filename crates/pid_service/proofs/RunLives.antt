@@ -46,7 +46,7 @@ module _ {S : Type 0} (store : Ghosts S) where
   ended (Some e) (c ∷ rest) r h (fault, inl shows) = inl shows
   ended (Some e) (c ∷ rest) r h (fault, inr fails) = inr (record { is_fault = fault; next = c; behind = rest; is_next = refl; fails = fails })
 
-  pub run_lives : (report : RunReport) (r : Registry S store) (h : History) (commands : List Asked) → Runs store report r h commands → lives.Runs (showing store) report.replies.items report.fault r h commands
+  pub run_lives : (report : RunReport) (r : Registry S store) (h : History) (commands : List Asked) → Runs store report r h commands → lives.ListLeaves (showing store) report.replies.items report.fault r h commands
   run_lives report r h commands runs =
       let n = length report.replies.items in
       let so_far = after_all h (take n commands) in

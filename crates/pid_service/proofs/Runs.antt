@@ -1,5 +1,5 @@
 -- Commands of a list, obeyed one after another.
-use Rattle.std.proofs.Common.{◌≡◌, ◌≢◌, ◌⊎◌, inl, inr, ℕ, zero, suc, ◌+◌, ◌<◌, List, [], ◌∷◌, ◌++◌, length, take, drop, map, get_or, add-one, Option, Some, None, Result, Ok, Err, IsErrAnd, is_some, true, false, refl, sym, subst, ap, ◌∙◌, arith}
+use Rattle.std.proofs.Common.{◌≡◌, inl, inr, ℕ, zero, suc, ◌+◌, ◌<◌, List, [], ◌∷◌, ◌++◌, length, take, drop, map, get_or, add-one, Option, Some, None, Result, Ok, Err, IsErrAnd, is_some, true, false, refl, sym, subst, ap, ◌∙◌, arith}
 use Rattle.sqlite_trees.specs.declared.store.Store.{Ghosts}
 use Rattle.pid_moderation.specs.declared.command.Reply.{Reply}
 use Rattle.pid_moderation.specs.declared.refusal.Refusal.{Refusal}
@@ -8,7 +8,7 @@ use Rattle.pid_moderation.specs.History.{Asked, History}
 use Rattle.pid_moderation.specs.Judgement.{judge, answer, answers, after, after_all}
 use Rattle.pid_moderation.specs.Views.{views_of}
 use Rattle.pid_service.specs.declared.registry.Registry.{Registry}
-use Rattle.pid_service.specs.Histories.{Shows, FailsBetween, IsFault}
+use Rattle.pid_service.specs.Histories.{Shows, IsFault}
 use Rattle.pid_service.specs.Obeying.{Obeys}
 use Rattle.pid_service.specs.declared.running.RunReport.{RunReport}
 use Rattle.pid_service.specs.Running.{EndsRun, Runs, fault_in}

@@ -1,11 +1,11 @@
 -- What an import is answered whose file comes as an input, and what the registry shows afterwards.
-use Rattle.std.specs.Prelude.{◌≡◌, ◌⊎◌, ◌≤◌, ◌+◌, ℕ, List, length, Option, Result, Ok, Err}
+use Rattle.std.specs.Prelude.{◌≡◌, ◌≢◌, ◌⊎◌, ◌≤◌, ◌+◌, ℕ, List, length, Option, Result, Ok, Err}
 use Rattle.std.specs.Io.KnownBytes.{Consumes}
 use Rattle.sqlite_trees.specs.declared.store.Store.{Ghosts}
 use Rattle.pid_reader.specs.WholeInputs.{IsWhole}
 use Rattle.pid_moderation.specs.declared.command.Reply.{Reply}
 use Rattle.pid_moderation.specs.declared.refusal.Refusal.{Refusal}
-use Rattle.pid_moderation.specs.declared.refusal.Refusal.TheVariants.{BadText}
+use Rattle.pid_moderation.specs.declared.refusal.Refusal.TheVariants.{BadText, Failed, Store}
 use Rattle.pid_moderation.specs.CheckTables.{most_file_bytes}
 use Rattle.pid_moderation.specs.History.{Asked, History}
 use Rattle.pid_service.specs.declared.importing.ImportEnd.{ImportEnd}
@@ -34,6 +34,11 @@ ObeysImport store (Ok reply) r h c = Obeys store (Ok reply) r h c
 ObeysImport store (Err (Refused e)) r h c = Obeys store (Err e) r h c
 ObeysImport store (Err Body) r h c = Shows store r h
 
+-- it is not told as by a registry that had failed before
+abbrev pub IsEndOfLive : ImportEnd → Type 0
+IsEndOfLive (Refused e) = e ≢ Failed
+IsEndOfLive Body = Unit {0}
+
 -- The rest serves private functions alone.
 
 -- the answer that was known before, unless the text is too long or the input failed
@@ -46,4 +51,4 @@ AnswersPast given (Err Body) text = Unit {0}
 abbrev pub IsPlain : Result Reply ImportEnd → Result Reply Refusal → Type 0
 IsPlain (Ok reply) result = result ≡ Ok reply
 IsPlain (Err (Refused e)) result = result ≡ Err e
-IsPlain (Err Body) result = Unit {0}
+IsPlain (Err Body) result = result ≡ Err Store

@@ -1,5 +1,5 @@
 -- Registries as `pid_lives` speaks of them, and what stands between one opening and the next. Choices of this project.
-use Rattle.std.specs.Prelude.{◌≡◌, ◌⊎◌, ◌↔◌, List, Result, Ok, Err, MatchResult}
+use Rattle.std.specs.Prelude.{◌≡◌, ◌⊎◌, ◌↔◌, Bool, List, Result, Ok, Err, MatchResult}
 use Rattle.sqlite.specs.Held.{Held, state}
 use Rattle.sqlite.specs.Tree.{Trees}
 use Rattle.sqlite_trees.specs.declared.store.Store.{Ghosts}
@@ -24,10 +24,10 @@ use Rattle.pid_service.specs.Opening.{Opens}
 use Rattle.pid_service.specs.Registries.{HasCleanDisk}
 
 -- an import whose file comes as an input sends its command, unless the input failed
-abbrev pub import_sent : Asked → Result Reply ImportEnd → Call
-import_sent c (Ok reply) = obeyed c (Ok reply)
-import_sent c (Err (Refused e)) = obeyed c (Err e)
-import_sent c (Err Body) = nothing_sent
+abbrev pub import_sent : Asked → Result Reply ImportEnd → (live : Bool) → Call
+import_sent c (Ok reply) live = obeyed c (Ok reply) live
+import_sent c (Err (Refused e)) live = obeyed c (Err e) live
+import_sent c (Err Body) live = nothing_sent
 
 module _ {S : Type 0} (store : Ghosts S) where
   -- how lives see a registry
@@ -46,7 +46,7 @@ module _ {S : Type 0} (store : Ghosts S) where
     pub found : may_leave earlier (clauses.seen store conn).trees
 
   -- the tables of a connection are what a registry showed; where that had failed, they are of the one history or the other
-  pub record FindsTables (ended : Registry S store) (conn : Held S) : Type 0 where
+  pub record LeavesTablesTo (ended : Registry S store) (conn : Held S) : Type 0 where
     pub clean : clauses.HasCleanDisk store conn → HasCleanDisk store ended
     pub shown : (h : History) → Shows store ended h → ShowsOrBlank store conn h
     pub either : (h next : History) → FailsBetween store ended h next → ShowsOrBlank store conn h ⊎ ShowsOrBlank store conn next

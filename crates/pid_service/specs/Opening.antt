@@ -21,6 +21,7 @@ pub record LeavesShown (s : State) (h : History) : Type 0 where
   pub each : HasCleanDisk s → (db : Trees) → s.may_leave db → rows.Shows (as_found db) (views_of h) ⊎ (IsBare db × (h ≡ []))
 
 module _ {S : Type 0} (store : Ghosts S) where
+  -- everything that a crash of this connection may leave shows the history
   abbrev pub LeavesHistory : Held S → History → Type 0
   LeavesHistory conn h = LeavesShown (state store conn) h
 

@@ -1,5 +1,5 @@
 -- What a registry holds, and what its connection says of it; `store` is `S.Store`, which says what the store means.
-use Rattle.std.specs.Prelude.{Bool}
+use Rattle.std.specs.Prelude.{◌≡◌, Bool, false}
 use Rattle.sqlite.specs.Held.{Held}
 use Rattle.sqlite_trees.specs.declared.store.Store.{Ghosts}
 use Rattle.pid_rows.specs.Clauses as clauses
@@ -9,6 +9,7 @@ use Rattle.pid_service.specs.declared.registry.Registry.{Registry}
 abbrev pub is_live : {S : Type 0} {store : Ghosts S} → Registry S store → Bool
 is_live r = r.live
 
+-- the connection whose tables it keeps
 abbrev pub connection : {S : Type 0} {store : Ghosts S} → Registry S store → Held S
 connection r = r.tables.conn
 
@@ -20,3 +21,9 @@ module _ {S : Type 0} (store : Ghosts S) where
   -- what was at rest stays as it was
   abbrev pub OnlyReads : Registry S store → Registry S store → Type 0
   OnlyReads old new = clauses.OnlyReads store (connection old) (connection new)
+
+  -- It was asked questions alone: it is live or has failed as before, what was at rest stays as it was, and one that has failed is the same.
+  pub record OnlyAsked (start now : Registry S store) : Type 0 where
+    pub lives : is_live now ≡ is_live start
+    pub rests : OnlyReads start now
+    pub failed : is_live start ≡ false → now ≡ start

@@ -1,5 +1,5 @@
 //! An import, whose file comes as an input or as bytes.
-ghost use Rattle.std.specs.Prelude.{◌≡◌, ◌⊎◌, ◌<◌, ◌≤◌, [], length, true, false, Err, IsSome};
+ghost use Rattle.std.specs.Prelude.{◌≡◌, ◌≢◌, ◌⊎◌, ◌<◌, ◌≤◌, [], length, true, false, Err, IfErr, IsSome};
 ghost use Rattle.pid_import.specs.Files.{file_reading};
 ghost use Rattle.pid_import.specs.Judging.{IsOpen};
 ghost use Rattle.pid_moderation.specs.BeforeFile.{import_of};
@@ -8,7 +8,7 @@ ghost use Rattle.pid_moderation.specs.History.{History, asked, is_import};
 ghost use Rattle.pid_moderation.specs.Judgement.{after};
 ghost use Rattle.pid_moderation.specs.Views.{items_of};
 ghost use Rattle.pid_service.specs.Histories.{IsReached, Shows};
-ghost use Rattle.pid_service.specs.Importing.{AnswersPast, HasRead, IsPlain, ObeysImport};
+ghost use Rattle.pid_service.specs.Importing.{AnswersPast, HasRead, IsEndOfLive, IsPlain, ObeysImport};
 ghost use Rattle.pid_service.specs.Obeying.{Obeys};
 ghost use Rattle.pid_service.specs.Registries.{HasCleanDisk, is_live as lives};
 
@@ -51,6 +51,7 @@ fn answer_past<I: Input>(answer: Result<Reply, Refusal>, input: &mut I) -> Resul
     ensures fault { result ≡ Err ImportEnd.Body → IsSome (I.read_fault input.new) }
     ensures fault_first { IsSome (I.read_fault input.new) → result ≡ Err ImportEnd.Body }
     ensures goes { I.goes input.old input.new }
+    ensures alive { IfErr answer (λ e. e ≢ Refusal.Failed) → IfErr result IsEndOfLive }
 {
     match skip_input(FILE_BYTES, input) {
         Err(SkipEnd::ReadFault) => Err(ImportEnd::Body),
@@ -64,7 +65,8 @@ fn answer_past<I: Input>(answer: Result<Reply, Refusal>, input: &mut I) -> Resul
 
 // What an import of bytes is answered: they do not fail.
 fn plain(end: Result<Reply, ImportEnd>) -> Result<Reply, Refusal>
-    ensures { IsPlain end result }
+    ensures same { IsPlain end result }
+    ensures alive { IfErr end IsEndOfLive → IfErr result (λ e. e ≢ Refusal.Failed) }
 {
     match end {
         Ok(reply) => Ok(reply),
@@ -89,6 +91,7 @@ impl<S: Alter + Drop> Registry<S> {
         ensures fault { result ≡ Err ImportEnd.Body → IsSome (I.read_fault input.new) }
         ensures fault_first { IsSome (I.read_fault input.new) → result ≡ Err ImportEnd.Body }
         ensures goes { I.goes input.old input.new }
+        ensures alive { IfErr result IsEndOfLive }
     {
         self.names.clear();
         match bring_in(
@@ -118,6 +121,7 @@ impl<S: Alter + Drop> Registry<S> {
         ensures fault { result ≡ Err ImportEnd.Body → IsSome (I.read_fault input.new) }
         ensures fault_first { IsSome (I.read_fault input.new) → result ≡ Err ImportEnd.Body }
         ensures goes { I.goes input.old input.new }
+        ensures alive { IfErr result IsEndOfLive }
     {
         command_is_well_made(command);
         commands_lead_on();
@@ -135,6 +139,7 @@ impl<S: Alter + Drop> Registry<S> {
         ensures clean { HasCleanDisk S.Store self.new → HasCleanDisk S.Store self.old }
         ensures obeyed { HasCleanDisk S.Store self.new → (h : History) → Shows S.Store self.old h → is_import command.now.act ≡ true → length file.now ≤ most_file_bytes
             → Obeys S.Store result self.new h (asked command.now (file_reading file.now)) }
+        ensures alive { IfErr result (λ e. e ≢ Refusal.Failed) }
     {
         let mut input = SliceInput::new(file);
         let end = self.import_act(command, &mut input);
@@ -162,6 +167,8 @@ impl<S: Alter + Drop> Registry<S> {
         ensures fault { result ≡ Err ImportEnd.Body → IsSome (I.read_fault input.new) }
         ensures fault_first { IsSome (I.read_fault input.new) → result ≡ Err ImportEnd.Body }
         ensures goes { I.goes input.old input.new }
+        // No live registry answers that it had failed, whatever its disk does.
+        ensures alive { lives self.old ≡ true → IfErr result IsEndOfLive }
     {
         if !self.live {
             return match skip_input(FILE_BYTES, input) {
@@ -186,6 +193,7 @@ impl<S: Alter + Drop> Registry<S> {
         // A file that is too long is refused before all else.
         ensures form { lives self.old ≡ true → most_file_bytes < length file.now → (result ≡ Err Refusal.BadText) × (self.new ≡ self.old) }
         ensures obeyed { HasCleanDisk S.Store self.new → (h : History) → Shows S.Store self.old h → Obeys S.Store result self.new h (import_of account key (file_reading file.now)) }
+        ensures alive { lives self.old ≡ true → IfErr result (λ e. e ≢ Refusal.Failed) }
     {
         long_files_are_refused();
         if !self.live {

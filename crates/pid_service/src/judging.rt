@@ -1,5 +1,5 @@
 //! What comes of a command, before anything is written.
-ghost use Rattle.std.specs.Prelude.{◌≡◌, false, is_some, IfOk, IfErr};
+ghost use Rattle.std.specs.Prelude.{◌≡◌, ◌≢◌, false, is_some, IfOk, IfErr};
 ghost use Rattle.pid_moderation.specs.FactsOfViews.{facts_of};
 ghost use Rattle.pid_moderation.specs.History.{History, Reading, asked, is_import};
 ghost use Rattle.pid_moderation.specs.Views.{views_of};
@@ -29,7 +29,8 @@ fn is_there(reply: Option<Reply>) -> bool
 }
 
 fn judged_by(facts: &Facts, command: &Command) -> Result<Judged, Refusal>
-    ensures { (h : History) (reading : Reading) → is_import command.now.act ≡ false → facts.now ≡ facts_of (views_of h) (asked command.now reading) → Judges h (asked command.now reading) result }
+    ensures judged { (h : History) (reading : Reading) → is_import command.now.act ≡ false → facts.now ≡ facts_of (views_of h) (asked command.now reading) → Judges h (asked command.now reading) result }
+    ensures alive { IfErr result (λ e. e ≢ Refusal.Failed) }
 {
     match decide(facts, command) {
         Err(refusal) => Err(refusal),
@@ -53,6 +54,7 @@ fn facts_for<S: Alter + Drop>(
     ensures found { HasCleanDisk S.Store tables.new.conn → (h : History) (reading : Reading) → IsReached h → AtRest S.Store tables.old.conn (views_of h) → is_import command.now.act ≡ false
         → IfOk result (λ facts. facts ≡ facts_of (views_of h) (asked command.now reading)) }
     ensures fault { IfErr result IsFault }
+    ensures alive { IfErr result (λ e. e ≢ Refusal.Failed) }
 {
     reached_histories_are_kept();
     match tables.gather(alloc, &command.account, &command.key, needs(command)) {
@@ -71,6 +73,7 @@ pub(crate) fn judge<S: Alter + Drop>(
     ensures rests { OnlyReads S.Store tables.old.conn tables.new.conn }
     ensures judged { HasCleanDisk S.Store tables.new.conn → (h : History) (reading : Reading) → IsReached h → AtRest S.Store tables.old.conn (views_of h) → is_import command.now.act ≡ false
         → Judges h (asked command.now reading) result }
+    ensures alive { IfErr result (λ e. e ≢ Refusal.Failed) }
 {
     match facts_for(tables, alloc, command) {
         Ok(facts) => judged_by(&facts, command),

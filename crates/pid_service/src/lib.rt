@@ -27,3 +27,9 @@ pub use lives::{
 pub use opening::open;
 pub use registry::Registry;
 pub use running::RunReport;
+
+// What its callers need of the crates below.
+pub use pid_ident::{Account, Input, Key, Name, Output, Path};
+pub use pid_lookup::{Answer, Args, LookupRefusal, args_of};
+pub use pid_moderation::{Command, Refusal, Reply, command_of, reply_line};
+pub use pid_tables::{Discussion, Item, Pending, TableFault};

@@ -25,7 +25,7 @@ ghost use Rattle.pid_service.specs.declared.registry.Registry as registry;
 ghost use Rattle.pid_service.specs.declared.running.RunReport as runs;
 ghost use Rattle.pid_service.specs.Histories.{FailsBetween, Shows};
 ghost use Rattle.pid_service.specs.Importing.{ObeysImport};
-ghost use Rattle.pid_service.specs.Lives.{FindsTables, IsAfterStop, OpensTo, ShowsPrefixes, import_sent, showing as registry_showing};
+ghost use Rattle.pid_service.specs.Lives.{LeavesTablesTo, IsAfterStop, OpensTo, ShowsPrefixes, import_sent, showing as registry_showing};
 ghost use Rattle.pid_service.specs.Obeying.{Obeys};
 ghost use Rattle.pid_service.specs.Registries.{HasCleanDisk, connection, is_live as lives};
 ghost use Rattle.pid_service.specs.Running.{Runs};
@@ -43,24 +43,24 @@ impl<S: Alter + Drop> ShowsHistories for Registry<S> {
 /// The clauses of a call say what lives ask of it.
 ///
 /// `obeys` is of `obey` and `import`, `imports` of `import_from`, `runs` of `run`; the premises are their clauses `clean`, `failed`, and `obeyed` or
-/// `ran`. Every other call `looks`: `read`, `children`, `submission`, `pending`, `lookup`, `export` and
-/// `export_length`.
+/// `ran`. Every other call `looks`: `read`, `children`, `submission`, `pending`, `lookup`, `name_of`, `export` and
+/// `export_length`. A command is in doubt where its fault left the registry failed; one that stayed live has sent nothing.
 pub fn clauses_meet_lives<S: Alter + Drop>()
     ensures obeys { (old new : registry.Registry S S.Store) (c : Asked) (result : Result Reply Refusal)
         → (HasCleanDisk S.Store new → HasCleanDisk S.Store old)
         → (lives old ≡ false → (result ≡ Err Failed) × (new ≡ old))
         → (HasCleanDisk S.Store new → (h : History) → Shows S.Store old h → Obeys S.Store result new h c)
-        → Does (registry_showing S.Store) old (obeyed c result) new }
+        → Does (registry_showing S.Store) old (obeyed c result (lives new)) new }
     ensures imports { (old new : registry.Registry S S.Store) (c : Asked) (result : Result Reply ends.ImportEnd)
         → (HasCleanDisk S.Store new → HasCleanDisk S.Store old)
         → (lives old ≡ false → ((result ≡ Err (Refused Failed)) ⊎ (result ≡ Err Body)) × (new ≡ old))
         → (HasCleanDisk S.Store new → (h : History) → Shows S.Store old h → ObeysImport S.Store result new h c)
-        → Does (registry_showing S.Store) old (import_sent c result) new }
+        → Does (registry_showing S.Store) old (import_sent c result (lives new)) new }
     ensures runs { (old new : registry.Registry S S.Store) (commands : List Asked) (report : runs.RunReport)
         → (HasCleanDisk S.Store new → HasCleanDisk S.Store old)
         → (lives old ≡ false → (report.replies.items ≡ []) × (report.fault ≡ Some Failed) × (new ≡ old))
         → (HasCleanDisk S.Store new → (h : History) → Shows S.Store old h → Runs S.Store report new h commands)
-        → Does (registry_showing S.Store) old (ran commands report.replies.items report.fault) new }
+        → Does (registry_showing S.Store) old (ran commands report.replies.items report.fault (lives new)) new }
     ensures looks { (old new : registry.Registry S S.Store)
         → (HasCleanDisk S.Store new → HasCleanDisk S.Store old)
         → (lives old ≡ false → new ≡ old)
@@ -87,15 +87,15 @@ pub fn first_openings_show_nothing<S: Alter + Drop>()
 /// there shows them. An opening that fails tells of no damage and no later schema. It is no life: what it leaves to a further stop
 /// shows the same history.
 pub fn openings_find_histories<S: Alter + Drop>()
-    ensures stopped { (ended : registry.Registry S S.Store) (conn : Held S) → IsAfterStop S.Store (connection ended) conn → FindsTables S.Store ended conn }
-    ensures closed { (ended : registry.Registry S S.Store) (conn : Held S) → lives ended ≡ true → conn ≡ connection ended → FindsTables S.Store ended conn }
-    ensures opened { (ended opened : registry.Registry S S.Store) (conn : Held S) → FindsTables S.Store ended conn → OpensTo S.Store conn (Ok opened)
+    ensures stopped { (ended : registry.Registry S S.Store) (conn : Held S) → IsAfterStop S.Store (connection ended) conn → LeavesTablesTo S.Store ended conn }
+    ensures closed { (ended : registry.Registry S S.Store) (conn : Held S) → lives ended ≡ true → conn ≡ connection ended → LeavesTablesTo S.Store ended conn }
+    ensures opened { (ended opened : registry.Registry S S.Store) (conn : Held S) → LeavesTablesTo S.Store ended conn → OpensTo S.Store conn (Ok opened)
         → Finds (registry_showing S.Store) ended opened }
-    ensures untold { (ended : registry.Registry S S.Store) (conn back : Held S) (fault : TableFault) (h : History) → FindsTables S.Store ended conn
+    ensures untold { (ended : registry.Registry S S.Store) (conn back : Held S) (fault : TableFault) (h : History) → LeavesTablesTo S.Store ended conn
         → OpensTo S.Store conn (Err (fault, back)) → clauses.HasCleanDisk S.Store back
         → Shows S.Store ended h ⊎ ((next : History) × FailsBetween S.Store ended h next) → IsUntold fault }
-    ensures failed { (ended : registry.Registry S S.Store) (conn back next : Held S) (fault : TableFault) → FindsTables S.Store ended conn
-        → OpensTo S.Store conn (Err (fault, back)) → IsAfterStop S.Store back next → FindsTables S.Store ended next }
+    ensures failed { (ended : registry.Registry S S.Store) (conn back next : Held S) (fault : TableFault) → LeavesTablesTo S.Store ended conn
+        → OpensTo S.Store conn (Err (fault, back)) → IsAfterStop S.Store back next → LeavesTablesTo S.Store ended next }
 {}
 
 /// The crash prefix. Let the first registry show no command, and let each further one be opened on what the one before it left, after any
@@ -120,7 +120,7 @@ pub fn repeats_end_doubts<S: Alter + Drop>()
     ensures { (ended opened between last : registry.Registry S S.Store) (h : History) (c : Asked) (key : List ℕ) (calls : List Call) (result : Result Reply Refusal)
         → c.key ≡ Some key → FailsBetween S.Store ended h (after h c) → Finds (registry_showing S.Store) ended opened
         → CallsLead (registry_showing S.Store) opened calls between → sent_in calls ≡ []
-        → Does (registry_showing S.Store) between (obeyed c result) last → is_outcome result ≡ true → HasCleanDisk S.Store last
+        → Does (registry_showing S.Store) between (obeyed c result (lives last)) last → is_outcome result ≡ true → HasCleanDisk S.Store last
         → (result ≡ answer (judge (views_of h) c)) × Shows S.Store last (after h c) }
 {
     doubts_end_when_sent_again::<Registry<S>>();

@@ -6,7 +6,7 @@ ghost use Rattle.pid_moderation.specs.History.{History};
 ghost use Rattle.pid_moderation.specs.Writes.{tree_of};
 ghost use Rattle.pid_service.specs.Asking.{MayGive};
 ghost use Rattle.pid_service.specs.Histories.{Shows};
-ghost use Rattle.pid_service.specs.Registries.{HasCleanDisk, is_live as lives};
+ghost use Rattle.pid_service.specs.Registries.{HasCleanDisk, OnlyReads, is_live as lives};
 
 use crate::registry::Registry;
 use pid_lookup::{Answer, Args, LookupRefusal, lookup};
@@ -25,6 +25,8 @@ impl<S: Alter + Drop> Registry<S> {
         size: u32,
     ) -> Result<Answer, LookupRefusal<Refusal>>
         ensures failed { lives self.old ≡ false → (result ≡ Err (LookupRefusal.Names Refusal.Failed)) × (self.new ≡ self.old) }
+        ensures lives { lives self.new ≡ lives self.old }
+        ensures rests { OnlyReads S.Store self.old self.new }
         ensures clean { HasCleanDisk S.Store self.new → HasCleanDisk S.Store self.old }
         ensures answer { HasCleanDisk S.Store self.new → (h : History) → Shows S.Store self.old h → IfOk result (λ answer. answer ≡ answer_of (tree_of h) flags args.now size) }
         ensures shown { (h : History) → Shows S.Store self.old h → Shows S.Store self.new h }

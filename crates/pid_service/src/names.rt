@@ -5,7 +5,7 @@ ghost use Rattle.pid_moderation.specs.History.{History};
 ghost use Rattle.pid_moderation.specs.Items.{name_at};
 ghost use Rattle.pid_moderation.specs.Views.{items_of};
 ghost use Rattle.pid_service.specs.Histories.{IsFault, Shows};
-ghost use Rattle.pid_service.specs.Registries.{HasCleanDisk, is_live as lives};
+ghost use Rattle.pid_service.specs.Registries.{HasCleanDisk, OnlyReads, is_live as lives};
 
 use crate::registry::Registry;
 use pid_ident::{Name, Path};
@@ -17,6 +17,7 @@ use sqlite::Alter;
 impl<S: Alter + Drop> Registry<S> {
     // What is kept in memory for a path; none where nothing is.
     fn known(&mut self, path: &Path) -> Option<Result<Option<Name>, Refusal>>
+        ensures rests { OnlyReads S.Store self.old self.new }
         ensures clean { HasCleanDisk S.Store self.new → HasCleanDisk S.Store self.old }
         ensures lives { lives self.new ≡ lives self.old }
         ensures shown { (h : History) → Shows S.Store self.old h → Shows S.Store self.new h }
@@ -32,6 +33,7 @@ impl<S: Alter + Drop> Registry<S> {
 
     // The name of a path by the tables, which is then kept in memory.
     fn ask(&mut self, path: &Path) -> Result<Option<Name>, Refusal>
+        ensures rests { OnlyReads S.Store self.old self.new }
         ensures clean { HasCleanDisk S.Store self.new → HasCleanDisk S.Store self.old }
         ensures lives { lives self.new ≡ lives self.old }
         ensures shown { (h : History) → Shows S.Store self.old h → Shows S.Store self.new h }
@@ -53,7 +55,7 @@ impl<S: Alter + Drop> Names for Registry<S> {
     ghost use Rattle.pid_moderation.specs.Writes.{tree_of};
     ghost use Rattle.pid_service.specs.Asking.{MayGive};
     ghost use Rattle.pid_service.specs.Histories.{Shows};
-    ghost use Rattle.pid_service.specs.Registries.{HasCleanDisk, is_live};
+    ghost use Rattle.pid_service.specs.Registries.{HasCleanDisk, OnlyAsked, is_live};
 
     type Fault = Refusal;
 
@@ -66,6 +68,8 @@ impl<S: Alter + Drop> Names for Registry<S> {
     ghost is_honest = { λ r. HasCleanDisk S.Store r };
 
     ghost may_give = { λ r f. MayGive (is_live r) f };
+
+    ghost only_asked = { OnlyAsked S.Store };
 
     fn name_of(&mut self, path: &Path) -> Result<Option<Name>, Refusal> {
         trees_are_last_writes();

@@ -1,5 +1,5 @@
 //! One command: it is judged, and what comes of it is written.
-ghost use Rattle.std.specs.Prelude.{◌≡◌, false, true, Ok, Err, IfErr, OnOk, OnErr};
+ghost use Rattle.std.specs.Prelude.{◌≡◌, ◌≢◌, false, true, Ok, Err, IfErr, OnOk, OnErr};
 ghost use Rattle.pid_moderation.specs.Changes.{changed, Fits};
 ghost use Rattle.pid_moderation.specs.CheckTables.{is_broken};
 ghost use Rattle.pid_moderation.specs.History.{Asked, History, Reading, asked, is_import};
@@ -32,6 +32,7 @@ impl<S: Alter + Drop> Registry<S> {
         ensures lives { OnOk result (lives self.new ≡ lives self.old) }
         ensures fails { OnErr result (lives self.new ≡ false) }
         ensures fault { IfErr result IsFault }
+        ensures alive { IfErr result (λ e. e ≢ Refusal.Failed) }
     {
         forget_for(&mut self.names, change);
         match write(&mut self.tables.conn, self.alloc, change) {
@@ -47,6 +48,7 @@ impl<S: Alter + Drop> Registry<S> {
     fn settle(&mut self, judged: Judged) -> Result<Reply, Refusal>
         ensures clean { HasCleanDisk S.Store self.new → HasCleanDisk S.Store self.old }
         ensures settled { (h : History) (c : Asked) → Shows S.Store self.old h → IsReached (after h c) → Judges h c (Ok judged) → Obeys S.Store result self.new h c }
+        ensures alive { IfErr result (λ e. e ≢ Refusal.Failed) }
     {
         match judged {
             Judged::Kept(reply) => Ok(reply),
@@ -61,6 +63,7 @@ impl<S: Alter + Drop> Registry<S> {
     fn obey_act(&mut self, command: &Command) -> Result<Reply, Refusal>
         ensures clean { HasCleanDisk S.Store self.new → HasCleanDisk S.Store self.old }
         ensures obeyed { HasCleanDisk S.Store self.new → (h : History) → Shows S.Store self.old h → is_import command.now.act ≡ false → Obeys S.Store result self.new h (asks command.now) }
+        ensures alive { IfErr result (λ e. e ≢ Refusal.Failed) }
     {
         command_is_well_made(command);
         commands_lead_on();
@@ -74,6 +77,7 @@ impl<S: Alter + Drop> Registry<S> {
     fn obey_good(&mut self, command: &Command) -> Result<Reply, Refusal>
         ensures clean { HasCleanDisk S.Store self.new → HasCleanDisk S.Store self.old }
         ensures obeyed { HasCleanDisk S.Store self.new → (h : History) → Shows S.Store self.old h → is_broken command.now.act ≡ false → Obeys S.Store result self.new h (asks command.now) }
+        ensures alive { IfErr result (λ e. e ≢ Refusal.Failed) }
     {
         if let Act::Import { file } = &command.act {
             self.import_bytes(command, file.as_bytes())
@@ -88,6 +92,7 @@ impl<S: Alter + Drop> Registry<S> {
         ensures failed { lives self.old ≡ false → (result ≡ Err Refusal.Failed) × (self.new ≡ self.old) }
         ensures form { lives self.old ≡ true → is_broken command.now.act ≡ true → (result ≡ Err Refusal.BadText) × (self.new ≡ self.old) }
         ensures obeyed { HasCleanDisk S.Store self.new → (h : History) → Shows S.Store self.old h → Obeys S.Store result self.new h (asks command.now) }
+        ensures alive { lives self.old ≡ true → IfErr result (λ e. e ≢ Refusal.Failed) }
     {
         if !self.live {
             return Err(Refusal::Failed);
@@ -110,6 +115,8 @@ impl<S: Alter + Drop> Registry<S> {
         // What breaks a rule of form is refused before all else.
         ensures form { lives self.old ≡ true → is_broken command.act ≡ true → (result ≡ Err Refusal.BadText) × (self.new ≡ self.old) }
         ensures obeyed { HasCleanDisk S.Store self.new → (h : History) → Shows S.Store self.old h → Obeys S.Store result self.new h (asks command) }
+        // And no live one gives this answer, whatever its disk does.
+        ensures alive { lives self.old ≡ true → IfErr result (λ e. e ≢ Refusal.Failed) }
     {
         self.obey_lent(&command)
     }

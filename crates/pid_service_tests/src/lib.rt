@@ -13,3 +13,7 @@ mod kept_names;
 mod look_ups;
 #[cfg(test)]
 mod openings;
+#[cfg(test)]
+mod runs;
+#[cfg(test)]
+mod stops;

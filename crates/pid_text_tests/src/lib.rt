@@ -10,4 +10,6 @@ mod look_ups;
 #[cfg(test)]
 mod reading;
 #[cfg(test)]
+mod texts;
+#[cfg(test)]
 mod trees;

@@ -487,6 +487,8 @@ impl Names for Failing {
 
     ghost may_give = { λ _ fault. fault ≡ 7 };
 
+    ghost only_asked = { λ _ _. ⊤ };
+
     fn name_of(&mut self, _path: &Path) -> Result<Option<Name>, u8> {
         if self.good_questions == 0 {
             return Err(7);

@@ -1,9 +1,7 @@
 //! Worked rows, through each of the readers.
 
 use pid_ident::{LineKind, Path};
-use pid_reader::{
-    Counter, CutEnd, Cutter, EntryCounter, Feeder, LineFault, Lines, Never, ReadRefusal, read_ids,
-};
+use pid_reader::{Counter, CutEnd, Cutter, Feeder, LineFault, Lines, Never, ReadRefusal, read_ids};
 use std::alloc::{AllocError, Global};
 use std::test::Fail;
 
@@ -123,13 +121,27 @@ fn by_cutting(alloc: Global, text: &[u8], at: usize) -> Answer {
     Ok(feeder.finish()?.len())
 }
 
-// The answer of a counter that is fed the text in two pieces.
+fn refusal_in(end: CutEnd<Never>) -> ReadRefusal {
+    match end {
+        CutEnd::Refused(refusal) => refusal,
+        CutEnd::Fault(never) => match never {},
+    }
+}
+
+// The count of a counter behind a cutter that is fed the text in two pieces.
 fn by_counting(alloc: Global, text: &[u8], at: usize) -> Result<u64, ReadRefusal> {
     let (front, behind) = text.split_at(at.min(text.len()));
-    let mut counter = EntryCounter::new(alloc);
-    counter.feed(front)?;
-    counter.feed(behind)?;
-    counter.finish()
+    let mut cutter = Cutter::new(alloc);
+    let mut counter = Counter { count: 0 };
+    for piece in [front, behind] {
+        if let Err(end) = cutter.feed(piece, &mut counter) {
+            return Err(refusal_in(end));
+        }
+    }
+    match cutter.finish(&mut counter) {
+        Ok(()) => Ok(counter.count),
+        Err(end) => Err(refusal_in(end)),
+    }
 }
 
 #[test]

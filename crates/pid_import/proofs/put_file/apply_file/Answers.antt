@@ -9,11 +9,11 @@ use Rattle.pid_reader.specs.Reading.{entries_of}
 use Rattle.pid_import.proofs.put_file.apply_file.Goals as goal
 
 pub returns-in-Err-clause-applied : goal.returns-in-Err-clause-applied
-returns-in-Err-clause-applied g c h text is open_ many was within = c.in-Err.ensures h text is open_ many was
+returns-in-Err-clause-applied g c h text is open_ many was within = c.in-Err.ensures.judged h text is open_ many was
 
 pub returns-in-Ok-apply-clause-applied : goal.returns-in-Ok-apply-clause-applied
 returns-in-Ok-apply-clause-applied g c h text is open_ many was within =
-    let judged = c.in-Ok.ensures h text is open_ many was in
+    let judged = c.in-Ok.ensures.judged h text is open_ many was in
     let done = c.in-Ok-apply.ensures.applied (counts_of (views_of h)) (views_of h) (with_pairs (entries_of (lines_of text)) (views_of h)) within judged.3 judged.2 in
     (judged.0, subst (λ (w : Views). Written (counts_of w) (state g.S.Store c.apply.new.batch.conn.now) (views_of h) w) (sym judged.1) done)
 

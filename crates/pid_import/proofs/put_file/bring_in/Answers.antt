@@ -10,7 +10,7 @@ use Rattle.pid_rows.proofs.GoingLemmas.{earlier}
 use Rattle.pid_import.specs.Files.{file_reading}
 use Rattle.pid_import.specs.PutFiles.{PutsFile}
 use Rattle.pid_import.proofs.PutInto.{puts, gives_up, shown, put_name, put_clean, put_holds, put_within, put_tally}
-use Rattle.pid_import.proofs.BringIn.{left_read, left_stops, body_end, end_body, applied_stops, applied_read, err_is, end_is}
+use Rattle.pid_import.proofs.BringIn.{left_read, left_stops, stop_live, body_end, end_body, applied_stops, applied_read, err_is, end_is}
 use Rattle.pid_import.proofs.put_file.bring_in.Goals as goal
 
 pub returns-in-Err-clause-settled : goal.returns-in-Err-clause-settled
@@ -198,3 +198,6 @@ returns-in-Err-commit-clause-stops g c =
           let applied = c.in-Ok-apply_file.ensures.applied h read.0 import open_ many (record { short = put.0.short; good = put.1; tally = counted }) begun in
           (subst (λ x. LeavesEither (state g.S.Store x) v w) same (c.commit.ensures.either v w applied.1), c.refusal_of.ensures.fault),
     )
+
+pub returns-in-Err-clause-alive : goal.returns-in-Err-clause-alive
+returns-in-Err-clause-alive g c = stop_live c.in-Err.end c.stop_of.result c.stop_of.ensures

@@ -5,8 +5,8 @@ use Rattle.pid_import.specs.Files.{file_reading}
 use Rattle.pid_import.proofs.Judged.{facts_put, judged_file}
 use Rattle.pid_import.proofs.put_file.judge_file.Goals as goal
 
-pub returns : goal.returns
-returns c h text is open_ many put =
+pub returns-clause-judged : goal.returns-clause-judged
+returns-clause-judged c h text is open_ many put =
     let file = c.texts_read_to_files.ensures.entries text put.good in
     let f = facts_put h c.args.command.now c.args.facts.now c.args.items c.in-Some.items text c.args.tally file.apart (c.items_are_sorted.ensures h) is open_ many c.in-Some.ensures.1 put in
     let r = file_reading text in

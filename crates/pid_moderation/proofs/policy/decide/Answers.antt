@@ -1,5 +1,7 @@
 use Rattle.pid_moderation.proofs.Deciding.{answered, turned_down, leading}
 use Rattle.pid_moderation.proofs.Fitting.{fitting}
+use Rattle.pid_moderation.proofs.NeverFailed.{decides_live}
+use Rattle.pid_moderation.specs.History.{TooLong, asked}
 use Rattle.pid_moderation.proofs.policy.decide.Goals as goal
 
 pub returns-clause-reply : goal.returns-clause-reply
@@ -16,3 +18,6 @@ returns-clause-fits c = λ h reading e. fitting _ _ _ (c.by_facts.ensures readin
 
 pub returns-clause-decides : goal.returns-clause-decides
 returns-clause-decides c = c.by_facts.ensures
+
+pub returns-clause-alive : goal.returns-clause-alive
+returns-clause-alive c = decides_live c.args.facts.now (asked c.args.command.now TooLong) c.by_facts.result (c.by_facts.ensures TooLong)

@@ -1,4 +1,3 @@
-use Rattle.std.proofs.Common.{ap}
 use Rattle.pid_script.proofs.AnswerLemmas.{export_unheld, export_whole, export_broken, export_refused, write_told, refused_told, fault_same, not_write, which_refusal}
 use Rattle.pid_script.proofs.answering.export.Goals as goal
 
@@ -22,6 +21,6 @@ returns-in-Err-Refused-clause-ends g c = λ honest h stands.
     let is = c.in-Err-Refused.field-0-is in
     export_refused g.R.Moderated c.send_answer.result c.in-Err-Refused.refusal h c.args.registry.now c.export.new.self (g.O.Output.taken c.args.output.now) (g.O.Output.taken c.flush.new.output) (g.O.Output.taken c.export.new.out) (g.O.Output.taken c.send_answer.new.output) c.args.held.now.items c.flush.new.held.items c.send_answer.new.held.items
     c.in_default.ensures.sent c.in_default.ensures.empty (λ s. refused_told _ _ _ _ _ is (c.in-Err-Refused.ensures.told honest h s))
-    (λ f. let bad = c.in-Err-Refused.ensures.failed f in (which_refusal _ _ _ is (fault_same _ _ bad.0), bad.1, ap g.O.Output.taken bad.2))
+    (λ f. let bad = c.in-Err-Refused.ensures.failed f in (which_refusal _ _ _ is (fault_same _ _ bad.0), bad.1, bad.2))
     (c.export.ensures.kept honest h) stands
     c.send_answer.ensures.told c.send_answer.ensures.goes_on c.send_answer.ensures.fits

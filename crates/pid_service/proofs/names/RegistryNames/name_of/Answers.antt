@@ -1,4 +1,4 @@
-use Rattle.std.proofs.Common.{◌≡◌, ℕ, List, Option, Result, Ok, Err, IfOk, sym, ap, ◌∙◌}
+use Rattle.std.proofs.Common.{◌≡◌, ◌↔◌, ℕ, Bool, true, List, Option, Result, Ok, Err, IfOk, rules, sym, ap, subst, ◌∙◌}
 use Rattle.std.specs.FinMap.{entries, get, get-entries}
 use Rattle.std.specs.FinMap.Entries.{find}
 use Rattle.pid_ident.specs.PathTexts.{path_text}
@@ -8,6 +8,8 @@ use Rattle.pid_moderation.specs.History.{History}
 use Rattle.pid_moderation.specs.Items.{name_at}
 use Rattle.pid_moderation.specs.Views.{items_of}
 use Rattle.pid_moderation.specs.Writes.{tree_of}
+use Rattle.pid_service.specs.Asking.{MayGive}
+use Rattle.pid_service.proofs.Questions.{asked_then}
 use Rattle.pid_service.proofs.names.RegistryNames.name_of.Goals as goal
 
 named : (r : Result (Option (List ℕ)) Refusal) (x y : Option (List ℕ)) → IfOk r (λ name. name ≡ x) → x ≡ y → IfOk r (λ name. name ≡ y)
@@ -24,3 +26,28 @@ returns-in-Some-clause-found g c clean h shows =
 pub returns-clause-found : goal.returns-clause-found
 returns-clause-found g c clean h shows =
     named c.ask.result _ _ (c.ask.ensures.found clean h (c.known.ensures.shown h shows)) (in_map (path_text c.args.path.now) h (c.trees_are_last_writes.ensures.entries h))
+
+same_faults : (old new : Bool) → new ≡ old → (f : Refusal) → MayGive old f ↔ MayGive new f
+same_faults old new is f = (λ may. subst (λ (b : Bool). MayGive b f) (sym is) may, λ may. subst (λ (b : Bool). MayGive b f) is may)
+
+pub returns-in-Some-clause-kept : goal.returns-in-Some-clause-kept
+returns-in-Some-clause-kept g c =
+    let on : c.args.self.now.live ≡ true = search rules in
+    record {
+      shown = c.known.ensures.shown;
+      was_honest = c.known.ensures.clean;
+      faults = same_faults c.args.self.now.live c.known.new.self.live c.known.ensures.lives;
+      asked = λ start asked. asked_then g.S.Store start c.args.self.now c.known.new.self on c.known.ensures.lives c.known.ensures.rests asked;
+    }
+
+pub returns-clause-kept : goal.returns-clause-kept
+returns-clause-kept g c =
+    let on : c.args.self.now.live ≡ true = search rules in
+    record {
+      shown = λ h shows. c.ask.ensures.shown h (c.known.ensures.shown h shows);
+      was_honest = λ clean. c.known.ensures.clean (c.ask.ensures.clean clean);
+      faults = same_faults c.args.self.now.live c.ask.new.self.live (c.ask.ensures.lives ∙ c.known.ensures.lives);
+      asked = λ start asked.
+          asked_then g.S.Store start c.known.new.self c.ask.new.self (c.known.ensures.lives ∙ on) c.ask.ensures.lives c.ask.ensures.rests
+          (asked_then g.S.Store start c.args.self.now c.known.new.self on c.known.ensures.lives c.known.ensures.rests asked);
+    }

@@ -1,4 +1,4 @@
-use Rattle.std.proofs.Common.{◌≡◌, ℕ, ◌≤◌, length, take, map, vec_capacity, vec_len}
+use Rattle.std.proofs.Common.{◌≡◌, ◌≤◌, length, take, map, vec_capacity, vec_len}
 use Rattle.pid_moderation.specs.History.{History}
 use Rattle.pid_moderation.specs.Judgement.{answers, after_all}
 use Rattle.pid_import.specs.Files.{asks}

@@ -1,2 +1,0 @@
-pub mod Tidying
-pub mod Wording

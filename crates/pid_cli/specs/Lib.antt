@@ -1,6 +1,0 @@
-pub mod TextEnds
-pub mod Judgements
-pub mod Told
-pub mod Tidied
-pub mod Checked
-pub mod Commands

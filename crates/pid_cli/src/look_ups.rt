@@ -1,0 +1,64 @@
+//! Look-ups in a file of identifiers.
+use crate::job_end::JobEnd;
+use crate::replies::print_answer;
+use pid_ident::{Input, Output};
+use pid_lookup::{Args, BadField, args_of};
+use pid_text_lookup::look_up_in;
+use pid_texts::{LARGEST, TextEnd, tell_unread};
+use pid_words::LookUpWords;
+use std::alloc::{AllocError, Global};
+
+/// A look-up whose values are judged.
+#[derive(Clone, Copy, Debug)]
+pub struct LookUp {
+    pub flags: u32,
+    pub args: Args,
+    pub size: u32,
+}
+
+/// The look-up that the values of the words say, unless one breaks its rule; or memory is short.
+pub fn read_words(
+    alloc: Global,
+    words: &LookUpWords<'_>,
+) -> Result<Result<LookUp, BadField>, AllocError> {
+    let given = [
+        ("flags", Some(words.flags)),
+        ("size", words.size),
+        ("vendor", words.vendor),
+        ("device", words.device),
+        ("subvendor", words.subvendor),
+        ("subdevice", words.subdevice),
+        ("class", words.class),
+        ("progif", words.progif),
+    ];
+    let mut fields = Vec::new(alloc);
+    for (name, value) in given {
+        if let Some(value) = value {
+            let name = String::from_str(alloc, name)?;
+            let value = String::from_str(alloc, value)?;
+            fields.push((name, value))?;
+        }
+    }
+    match args_of(&fields) {
+        Ok((flags, args, size)) => Ok(Ok(LookUp { flags, args, size })),
+        Err(bad) => Ok(Err(bad)),
+    }
+}
+
+/// Answers a look-up in the input's text, or tells the fault of the text.
+pub fn print_look_up<I: Input, O: Output, F: Output>(
+    alloc: Global,
+    look_up: &LookUp,
+    input: &mut I,
+    output: &mut O,
+    faults: &mut F,
+) -> JobEnd {
+    let LookUp { flags, args, size } = *look_up;
+    match look_up_in(alloc, LARGEST, input, flags, &args, size) {
+        Ok(found) => print_answer(found, output, faults),
+        Err(end) => match tell_unread(end, faults) {
+            TextEnd::ReadFault | TextEnd::WriteFault => JobEnd::FileFailed,
+            end => JobEnd::Told(end.status()),
+        },
+    }
+}

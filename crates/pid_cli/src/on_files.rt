@@ -1,0 +1,45 @@
+//! The jobs of a registry in a file of the system, or in memory.
+use crate::job_end::JobEnd;
+use crate::jobs::{RegistryJob, work_on};
+use crate::replies::tell_unopened;
+use pid_ident::{Input, Output};
+use pid_tables::TableFault;
+use sqlite::Connection;
+use std::alloc::Global;
+
+/// Does the job over a file, which is made where it is missing. What was committed is in the file when it ends, or in the log beside it.
+pub fn work_on_file<I: Input + Drop, O: Output, F: Output>(
+    rt: &HostRuntime,
+    file: &str,
+    job: RegistryJob<I>,
+    output: &mut O,
+    faults: &mut F,
+) -> JobEnd {
+    match Connection::open(rt, file) {
+        Ok(conn) => {
+            let (end, conn) = work_on(rt.alloc(), conn, job, output, faults);
+            if let Some(conn) = conn {
+                // Where the log cannot be brought into the file it stays, and the next opening reads it.
+                let _ = conn.close();
+            }
+            end
+        }
+        Err(error) => JobEnd::Told(tell_unopened(TableFault::from(error), faults)),
+    }
+}
+
+/// Does the job over memory.
+pub fn work_on_memory<I: Input + Drop, O: Output, F: Output>(
+    alloc: Global,
+    job: RegistryJob<I>,
+    output: &mut O,
+    faults: &mut F,
+) -> JobEnd {
+    match Connection::open_in_memory(alloc) {
+        Ok(conn) => {
+            let (end, _) = work_on(alloc, conn, job, output, faults);
+            end
+        }
+        Err(_) => JobEnd::Told(tell_unopened(TableFault::Memory, faults)),
+    }
+}

@@ -1,0 +1,70 @@
+//! The lines that jobs print.
+use crate::job_end::JobEnd;
+use itoa::Buffer;
+use pid_ident::{Output, write_all, write_parts};
+use pid_lookup::{Answer, LookupRefusal};
+use pid_moderation::{Refusal, Reply, reply_line};
+use pid_tables::TableFault;
+use pid_texts::{FAILED, TextEnd, tell_end};
+use std::alloc::{AllocError, Global};
+
+/// The status of a process whose command or look-up is refused.
+pub const REFUSED: u8 = 1;
+
+/// Prints the reply to a command. Its status is 0 where it was accepted, 3 where memory or the store failed, else 1.
+pub fn print_reply<O: Output, F: Output>(
+    alloc: Global,
+    reply: Result<Reply, Refusal>,
+    output: &mut O,
+    faults: &mut F,
+) -> JobEnd {
+    let Ok(line) = reply_line(alloc, reply) else {
+        return JobEnd::Told(tell_end(TextEnd::Memory, faults));
+    };
+    match write_all(output, line.as_bytes()) {
+        Ok(()) => JobEnd::Told(status_of(reply)),
+        Err(_) => JobEnd::FileFailed,
+    }
+}
+
+fn status_of(reply: Result<Reply, Refusal>) -> u8 {
+    match reply {
+        Ok(_) => 0,
+        Err(Refusal::Memory | Refusal::Store | Refusal::Failed) => FAILED,
+        Err(_) => REFUSED,
+    }
+}
+
+/// Prints the answer to a look-up, as a script does. Its status is 0 where there is a text, else 1.
+pub fn print_answer<O: Output, F: Output>(
+    found: Result<Answer, LookupRefusal<AllocError>>,
+    output: &mut O,
+    faults: &mut F,
+) -> JobEnd {
+    let printed = match &found {
+        Ok(Answer::Text(text)) => write_parts(output, &[b"text ", text.as_bytes(), b"\n"]),
+        Ok(Answer::NoAnswer) => write_all(output, b"none\n"),
+        Err(LookupRefusal::BadFlags) => write_all(output, b"refused 26 BadFlags\n"),
+        Err(_) => return JobEnd::Told(tell_end(TextEnd::Memory, faults)),
+    };
+    match (printed, found) {
+        (Err(_), _) => JobEnd::FileFailed,
+        (Ok(()), Ok(Answer::Text(_))) => JobEnd::Told(0),
+        (Ok(()), _) => JobEnd::Told(REFUSED),
+    }
+}
+
+/// Tells why a registry was not opened, and answers the status.
+pub fn tell_unopened<F: Output>(fault: TableFault, faults: &mut F) -> u8 {
+    let _ = match fault {
+        TableFault::Memory => write_all(faults, b"open: Memory\n"),
+        TableFault::Store => write_all(faults, b"open: Store\n"),
+        TableFault::Damaged => write_all(faults, b"open: Damaged\n"),
+        TableFault::NewerSchema(schema) => {
+            let mut digits = Buffer::new();
+            let schema = digits.format(schema).as_bytes();
+            write_parts(faults, &[b"open: NewerSchema ", schema, b"\n"])
+        }
+    };
+    FAILED
+}

@@ -1,0 +1,152 @@
+//! The job that the words name, between the files of the process.
+use crate::job_end::JobEnd;
+use crate::jobs::RegistryJob;
+use crate::look_ups::{print_look_up, read_words};
+use crate::on_files::{work_on_file, work_on_memory};
+use crate::replies::print_reply;
+use pid_ident::{Account, Input, Key, Output, Plain, WordFault, write_all};
+use pid_moderation::Refusal;
+use pid_texts::{FAILED, TextEnd, Watched, run_check, run_tidy, tell_end, tell_failed};
+use pid_words::{Job, LookUpWords, job_of, tell_no_job};
+use std::alloc::Global;
+use std::fs;
+use std::io::{BufWriter, Read, Stdin, Write};
+
+const BUFFER: usize = 65_536;
+
+/// Does what the words ask for, and answers the status of the process.
+///
+/// Faults are found in this order: the words; the account, the key and the values of a look-up; the opening of the file of
+/// identifiers; the database; the rest.
+pub fn run_words<I: Read + Drop, O: Write + Drop, F: Write + Drop>(
+    rt: &HostRuntime,
+    words: &[String],
+    input: I,
+    output: O,
+    faults: F,
+) -> u8 {
+    match job_of(rt.alloc(), words) {
+        Ok(Job::Tidy) => run_tidy(rt.alloc(), input, output, faults),
+        Ok(Job::Check) => run_check(rt.alloc(), input, output, faults),
+        Ok(Job::Export { db }) => run_export(rt, db, output, faults),
+        Ok(job) => run_job(rt, &job, input, output, faults),
+        Err(fault) => tell_no_job(&fault, words, output, faults),
+    }
+}
+
+// A job whose replies are written as they come.
+fn run_job<I: Read + Drop, O: Write + Drop, F: Write + Drop>(
+    rt: &HostRuntime,
+    job: &Job<'_>,
+    input: I,
+    output: O,
+    faults: F,
+) -> u8 {
+    let mut output = Plain::new(Watched::new(output));
+    let mut faults = Plain::new(faults);
+    let end = match *job {
+        Job::Script { db: Some(file) } => {
+            let job = RegistryJob::Script(Plain::new(input));
+            work_on_file(rt, file, job, &mut output, &mut faults)
+        }
+        Job::Lookup(words) => run_lookup(rt, &words, &mut output, &mut faults),
+        Job::Import {
+            db,
+            account,
+            key,
+            ids,
+        } => run_import(rt, (db, ids), (account, key), &mut output, &mut faults),
+        Job::Serve { .. } => {
+            let _ = write_all(&mut faults, b"error: this build has no server\n");
+            JobEnd::Told(FAILED)
+        }
+        _ => {
+            let job = RegistryJob::Script(Plain::new(input));
+            work_on_memory(rt.alloc(), job, &mut output, &mut faults)
+        }
+    };
+    status(end, output.into_inner().is_unread(), &mut faults)
+}
+
+fn status<F: Output>(end: JobEnd, is_unread: bool, faults: &mut F) -> u8 {
+    match end {
+        JobEnd::Told(status) => status,
+        JobEnd::FileFailed => tell_failed(is_unread, faults),
+    }
+}
+
+fn run_export<O: Write + Drop, F: Write + Drop>(
+    rt: &HostRuntime,
+    db: &str,
+    output: O,
+    faults: F,
+) -> u8 {
+    let mut faults = Plain::new(faults);
+    let Ok(buffer) = BufWriter::with_capacity(rt.alloc(), BUFFER, Watched::new(output)) else {
+        return tell_end(TextEnd::Memory, &mut faults);
+    };
+    let mut output = Plain::new(buffer);
+    let job: RegistryJob<Plain<Stdin>> = RegistryJob::Export;
+    let end = work_on_file(rt, db, job, &mut output, &mut faults);
+    let mut buffer = output.into_inner();
+    let end = match (end, buffer.flush()) {
+        (JobEnd::Told(0), Err(_)) => JobEnd::FileFailed,
+        _ => end,
+    };
+    status(end, buffer.get_ref().is_unread(), &mut faults)
+}
+
+fn run_lookup<O: Output, F: Output>(
+    rt: &HostRuntime,
+    words: &LookUpWords<'_>,
+    output: &mut O,
+    faults: &mut F,
+) -> JobEnd {
+    let look_up = match read_words(rt.alloc(), words) {
+        Ok(Ok(look_up)) => look_up,
+        Ok(Err(_)) => return print_reply(rt.alloc(), Err(Refusal::BadText), output, faults),
+        Err(_) => return JobEnd::Told(tell_end(TextEnd::Memory, faults)),
+    };
+    match fs::open(rt, words.ids) {
+        Ok(file) => print_look_up(rt.alloc(), &look_up, &mut Plain::new(file), output, faults),
+        Err(_) => JobEnd::FileFailed,
+    }
+}
+
+// The registry's file and that of the identifiers; the account and its key.
+fn run_import<O: Output, F: Output>(
+    rt: &HostRuntime,
+    files: (&str, &str),
+    sender: (&str, Option<&str>),
+    output: &mut O,
+    faults: &mut F,
+) -> JobEnd {
+    let (db, ids) = files;
+    match sender_of(rt.alloc(), sender) {
+        Ok((account, key)) => match fs::open(rt, ids) {
+            Ok(file) => {
+                let job = RegistryJob::Import {
+                    account,
+                    key,
+                    input: Plain::new(file),
+                };
+                work_on_file(rt, db, job, output, faults)
+            }
+            Err(_) => JobEnd::FileFailed,
+        },
+        Err(WordFault::Bad) => print_reply(rt.alloc(), Err(Refusal::BadText), output, faults),
+        Err(WordFault::Memory) => JobEnd::Told(tell_end(TextEnd::Memory, faults)),
+    }
+}
+
+fn sender_of(
+    alloc: Global,
+    sender: (&str, Option<&str>),
+) -> Result<(Account, Option<Key>), WordFault> {
+    let (account, key) = sender;
+    let account = Account::of(alloc, account)?;
+    match key {
+        Some(key) => Ok((account, Some(Key::of(alloc, key)?))),
+        None => Ok((account, None)),
+    }
+}

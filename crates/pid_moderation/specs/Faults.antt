@@ -1,0 +1,8 @@
+-- Refusals that judge nothing: a choice of this project.
+use Rattle.std.specs.Prelude.{◌≡◌, ◌⊎◌}
+use Rattle.pid_moderation.specs.declared.refusal.Refusal.{Refusal}
+use Rattle.pid_moderation.specs.declared.refusal.Refusal.TheVariants.{Memory, Store}
+
+-- memory was short, or the store failed
+abbrev pub IsFault : Refusal → Type 0
+IsFault refusal = (refusal ≡ Memory) ⊎ (refusal ≡ Store)

@@ -1,0 +1,64 @@
+-- What a registry exports and answers to look-ups, in the words of scripts.
+use Rattle.std.proofs.Common.{◌≡◌, ◌↔◌, ℕ, Bool, true, false, List, [], ◌∷◌, ◌++◌, Option, Result, Ok, Err, IfOk, refl, sym, ap, subst, ◌∙◌, append_assoc}
+use Rattle.std.specs.Prelude.{IsErrOf}
+use Rattle.pid_export.proofs.ItemLines.{last_path, text_behind, text_joined}
+use Rattle.pid_export.specs.ItemTexts.{text_of_items}
+use Rattle.pid_ident.specs.Trees.{TreeMap}
+use Rattle.pid_lookup.specs.declared.answer.Answer.{Answer}
+use Rattle.pid_lookup.specs.declared.answering.LookupRefusal.{LookupRefusal}
+use Rattle.pid_lookup.specs.declared.answering.LookupRefusal.TheVariants.{BadFlags, Names, Memory}
+use Rattle.pid_lookup.specs.declared.args.Args.{Args}
+use Rattle.pid_lookup.specs.Answers.{answer_of}
+use Rattle.pid_lookup.specs.Flags.{is_bad}
+use Rattle.pid_moderation.specs.declared.refusal.Refusal.{Refusal}
+use Rattle.pid_moderation.specs.History.{History}
+use Rattle.pid_moderation.specs.Items.{Items}
+use Rattle.pid_moderation.specs.Views.{items_of}
+use Rattle.pid_moderation.specs.Writes.{tree_of}
+use Rattle.pid_reader.proofs.Cuts.{open_line, open_more, open_no_lf}
+use Rattle.pid_reader.specs.WholeLines.{open_part}
+use Rattle.pid_service.specs.Asking.{MayGive}
+use Rattle.pid_service.specs.declared.exporting.ExportFault.{ExportFault}
+use Rattle.pid_service.specs.declared.exporting.ExportFault.TheVariants.{Refused, Write}
+use Rattle.pid_service.specs.Exporting.{ExportsTree}
+use Rattle.pid_tree.specs.Printing.{ended, header, lines_behind, print}
+use Rattle.pid_script.specs.Exporting.{Exports}
+use Rattle.pid_script.specs.LookingUp.{LooksUp}
+use Rattle.pid_script.specs.WholeFronts.{IsWholeFront}
+
+-- no line is open behind lines that each have their LF
+none_open : (lines : List (List ℕ)) → open_part (ended lines) ≡ []
+none_open [] = refl
+none_open (line ∷ lines) = open_more line (10 ∷ ended lines) ∙ (open_line (open_part line) (ended lines) (open_no_lf line) ∙ none_open lines)
+
+-- the text of some items is whole lines of the text of these and more
+whole_items : (front behind : Items) → IsWholeFront (text_of_items (front ++ behind)) (text_of_items front)
+whole_items front behind =
+    let rest = text_behind (last_path [] front) behind in record {
+      behind = rest;
+      is = ap (λ (l : List ℕ). header ++ 10 ∷ l) (text_joined [] front behind) ∙ sym (append_assoc header (10 ∷ text_behind [] front) rest);
+      whole = none_open (header ∷ lines_behind [] front);
+    }
+
+-- an export of a registry
+pub exported : {X : Type 0} (result : Result X ExportFault) (old new : Option (List ℕ)) (h : History) → text_of_items (items_of h) ≡ print (tree_of h) → ExportsTree result old new h → Exports result old new (print (tree_of h))
+exported (Ok x) old new h same told = told
+exported (Err (Write fault)) old new h same told = told
+exported (Err (Refused e)) old new h same (fault, (front, behind, is, told)) = (
+  fault,
+  record { front = text_of_items front; whole = subst (λ (text : List ℕ). IsWholeFront text (text_of_items front)) (ap text_of_items (sym is) ∙ same) (whole_items front behind); told = told },
+)
+
+-- flags are good or bad
+no_bad : (b : Bool) → (b ≡ true → ⊥) → b ≡ false
+no_bad true refuted = absurd (refuted refl)
+no_bad false refuted = refl
+
+-- a look-up of a live registry
+pub looked_up : (result : Result Answer (LookupRefusal Refusal)) (tree : TreeMap) (flags : ℕ) (args : Args) (size : ℕ) (live : Bool) → live ≡ true
+    → IfOk result (λ found. found ≡ answer_of tree flags args size) → (live ≡ true → IsErrOf result BadFlags ↔ (is_bad flags ≡ true)) → ((e : Refusal) → IsErrOf result (Names e) → MayGive live e)
+    → LooksUp result tree flags args size
+looked_up (Ok found) tree flags args size live lives told bad fault = (no_bad (is_bad flags) (λ is. let other = (bad lives).1 is in absurd cc), told)
+looked_up (Err BadFlags) tree flags args size live lives told bad fault = (bad lives).0 refl
+looked_up (Err (Names e)) tree flags args size live lives told bad fault = (fault e refl).alive lives
+looked_up (Err Memory) tree flags args size live lives told bad fault = tt

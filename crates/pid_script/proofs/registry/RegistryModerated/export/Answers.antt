@@ -1,0 +1,5 @@
+use Rattle.pid_script.proofs.RegistryWords.{exported}
+use Rattle.pid_script.proofs.registry.RegistryModerated.export.Goals as goal
+
+pub returns-clause-told : goal.returns-clause-told
+returns-clause-told g c honest h shows = exported c.export.result _ _ h (c.items_print_as_their_tree.ensures h) (c.export.ensures.printed honest h shows)

@@ -1,0 +1,7 @@
+use Rattle.pid_moderation.specs.Writes.{tree_of}
+use Rattle.pid_script.proofs.RegistryWords.{looked_up}
+use Rattle.pid_script.proofs.registry.RegistryModerated.look_up.Goals as goal
+
+pub returns-clause-told : goal.returns-clause-told
+returns-clause-told g c honest h shows =
+    looked_up c.lookup.result (tree_of h) c.args.flags c.args.args.now c.args.size _ shows.lives (c.lookup.ensures.answer honest h shows) c.lookup.ensures.bad_flags c.lookup.ensures.fault

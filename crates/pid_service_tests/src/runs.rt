@@ -1,0 +1,242 @@
+//! Generated commands through the plain registry, which keeps the list of what it accepted, and through the registry over
+//! tables: the same replies, names and pages.
+use crate::asking::{new_in_memory, told};
+use pid_ident::{LineKind, Name, Path};
+use pid_moderation::{Command, FileFault, State, Verb, reply_line};
+use pid_plain_registry::{FileReading, PlainRegistry};
+use pid_service::Registry;
+use pid_test_rows::{command_by, command_in, fields_of};
+use sqlite::MemStore;
+use std::alloc::Global;
+use std::process::Abort;
+use std::test::Fail;
+
+// Numbers without a pattern, the same in every run: Knuth's MMIX generator.
+#[derive(Drop)]
+struct Numbers {
+    last: u64,
+}
+
+impl Numbers {
+    fn new() -> Numbers {
+        Numbers { last: 1 }
+    }
+
+    // One of `below` numbers, from 0 on.
+    fn next(&mut self, below: u64) -> u64 {
+        self.last = self
+            .last
+            .wrapping_mul(6_364_136_223_846_793_005)
+            .wrapping_add(1_442_695_040_888_963_407);
+        (self.last >> 33) % below.max(1)
+    }
+
+    fn one_of<'w>(&mut self, words: &[&'w str]) -> &'w str {
+        let at = self.next(words.len() as u64);
+        words.get(at as usize).map_or("", |word| *word)
+    }
+}
+
+const CALLERS: [&str; 8] = [
+    "root", "root", "bob", "sue", "joe", "carol", "k1/bob", "k2/root",
+];
+
+const ACCOUNTS: [&str; 4] = ["bob", "sue", "joe", "root"];
+
+const PATHS: [&str; 10] = [
+    "PC/8086",
+    "PC/8086/1237",
+    "PC/8086/1237/1af41100",
+    "PC/10ec",
+    "PC/10ec/8139",
+    "PD/01",
+    "PD/01/01",
+    "PD/01/01/80",
+    "PS/8086/1100",
+    "PS/10ec/0001",
+];
+
+const NAMES: [&str; 3] = ["Intel", "Other name", "Third"];
+
+// A file, as a row writes it, and what it reads to.
+const FILES: [(&str, &str); 6] = [
+    (
+        "8086  Intel;>1237  440FX",
+        "PC/8086=Intel&PC/8086/1237=440FX",
+    ),
+    (
+        "10ec  Third;C 01  Other name;>01  Intel",
+        "PC/10ec=Third&PD/01=Other name&PD/01/01=Intel",
+    ),
+    (
+        "8086  Intel;S 8086;>1100  Third",
+        "PC/8086=Intel&PS/8086/1100=Third",
+    ),
+    ("# nothing", ""),
+    ("8086  a;8086  b", "fault 2"),
+    (
+        "10ec  Intel;>8139  Intel;S 10ec;>0001  Third",
+        "PC/10ec=Intel&PC/10ec/8139=Intel&PS/10ec/0001=Third",
+    ),
+];
+
+// What a file of the table reads to.
+fn reading_of(alloc: Global, row: &str) -> Result<FileReading, Fail> {
+    if row == "fault 2" {
+        return Ok(FileReading::Faulty(FileFault::Line {
+            line: 2,
+            kind: LineKind::Duplicate,
+        }));
+    }
+    let mut pairs = Vec::new(alloc);
+    for pair in row.split('&') {
+        if let Some((path, name)) = pair.split_once('=') {
+            let path = Path::parse(path).ok_or("a path")?;
+            pairs.push((path, Name::of(alloc, name)?))?;
+        }
+    }
+    Ok(FileReading::Good(pairs))
+}
+
+// A command of any kind but an import.
+fn generated(alloc: Global, numbers: &mut Numbers, submissions: u64) -> Result<String, Fail> {
+    let caller = numbers.one_of(&CALLERS);
+    let number = numbers.next(submissions.saturating_add(2));
+    let path = numbers.one_of(&PATHS);
+    let name = numbers.one_of(&NAMES);
+    let row = match numbers.next(12) {
+        0 => {
+            let who = numbers.one_of(&ACCOUNTS);
+            let rank = numbers.next(4);
+            format!(in alloc; "account {caller} who={who}&rank={rank}")?
+        }
+        1 | 2 | 3 => format!(in alloc; "submit {caller} path={path}&name={name}")?,
+        4 => format!(in alloc; "submit {caller} path={path}&remove=yes")?,
+        5 => format!(in alloc; "comment {caller} num={number}&text={name}")?,
+        6 => format!(in alloc; "withdraw {caller} num={number}")?,
+        7 => format!(in alloc; "reject {caller} num={number}&reason={name}")?,
+        _ => format!(in alloc; "approve {caller} num={number}")?,
+    };
+    Ok(row)
+}
+
+// What the plain registry replies to a row.
+fn by_list(registry: &mut PlainRegistry, alloc: Global, row: &str) -> Result<String, Fail> {
+    let outcome = match command_in(alloc, row)? {
+        Ok(command) => registry.obey(command, FileReading::Good(Vec::new(alloc))),
+        Err(refusal) => Err(refusal),
+    };
+    let line = reply_line(alloc, outcome)?;
+    Ok(String::from_str(alloc, line.as_str().trim_end())?)
+}
+
+// One command through both.
+fn send(
+    rt: &impl Abort,
+    alloc: Global,
+    list: &mut PlainRegistry,
+    registry: &mut Registry<MemStore>,
+    row: &str,
+) -> Result<(), Fail> {
+    let expected = by_list(list, alloc, row)?;
+    let line = told(registry, alloc, row)?;
+    assert_eq!(rt; line.as_str(), expected.as_str(), "at {row}");
+    Ok(())
+}
+
+fn empty_import(alloc: Global, caller: &str) -> Result<Command, Fail> {
+    let fields = fields_of(alloc, "file=")?;
+    Ok(command_by(alloc, Verb::Import, caller, fields.as_slice())??)
+}
+
+// One file through both.
+fn send_file(
+    rt: &impl Abort,
+    alloc: Global,
+    list: &mut PlainRegistry,
+    registry: &mut Registry<MemStore>,
+    caller: &str,
+    file: (&str, &str),
+) -> Result<(), Fail> {
+    let outcome = list.obey(empty_import(alloc, caller)?, reading_of(alloc, file.1)?);
+    let expected = reply_line(alloc, outcome)?;
+    let row = format!(in alloc; "slowly {caller} {}", file.0)?;
+    let line = told(registry, alloc, row.as_str())?;
+    assert_eq!(rt; line.as_str(), expected.as_str().trim_end(), "at {row}");
+    Ok(())
+}
+
+// The name of each path is the same.
+fn expect_names(
+    rt: &impl Abort,
+    alloc: Global,
+    list: &PlainRegistry,
+    registry: &mut Registry<MemStore>,
+) -> Result<(), Fail> {
+    let items = list.items()?;
+    for text in PATHS {
+        let path = Path::parse(text).ok_or("a path")?;
+        let expected = items.get(&path).map_or("none", |name| name.as_str());
+        let row = format!(in alloc; "read {text}")?;
+        let name = told(registry, alloc, row.as_str())?;
+        assert_eq!(rt; name.as_str(), expected, "at {text}");
+    }
+    Ok(())
+}
+
+// Whether the submission is pending in the list.
+fn is_pending(list: &PlainRegistry, alloc: Global, number: usize) -> Result<bool, Fail> {
+    let row = format!(in alloc; "approve root num={number}")?;
+    let command = command_in(alloc, row.as_str())??;
+    let facts = list.facts(&command, &FileReading::TooLong)?;
+    match &facts.named {
+        Some(named) => Ok(matches!(&named.state, State::Pending)),
+        None => Ok(false),
+    }
+}
+
+// The numbers of the first page are those of the first hundred pending ones of the list.
+fn expect_page(
+    rt: &impl Abort,
+    alloc: Global,
+    list: &PlainRegistry,
+    registry: &mut Registry<MemStore>,
+) -> Result<(), Fail> {
+    let mut expected = Vec::new(alloc);
+    for number in 1..=list.submissions() {
+        if expected.len() < 100 && is_pending(list, alloc, number)? {
+            expected.push(number)?;
+        }
+    }
+    let Ok(page) = registry.pending(0) else {
+        return Err("a page")?;
+    };
+    assert_eq!(rt; page.len(), expected.len());
+    for (pending, number) in page.iter().zip(expected.iter()) {
+        assert_eq!(rt; pending.number as usize, *number);
+    }
+    Ok(())
+}
+
+const COMMANDS: u64 = 1_500;
+
+#[test]
+fn both_reply_alike(rt: HostRuntime) -> Result<(), Fail> {
+    let alloc = rt.alloc();
+    let mut numbers = Numbers::new();
+    let mut list = PlainRegistry::new(alloc);
+    let mut registry = new_in_memory(alloc)?;
+    for at in 0..COMMANDS {
+        let row = generated(alloc, &mut numbers, list.submissions() as u64)?;
+        send(&rt, alloc, &mut list, &mut registry, row.as_str())?;
+        if at % 25 == 0 {
+            let caller = numbers.one_of(&CALLERS);
+            let drawn = numbers.next(FILES.len() as u64) as usize;
+            let file = FILES.get(drawn).copied().unwrap_or(("", ""));
+            send_file(&rt, alloc, &mut list, &mut registry, caller, file)?;
+            expect_names(&rt, alloc, &list, &mut registry)?;
+        }
+    }
+    expect_names(&rt, alloc, &list, &mut registry)?;
+    expect_page(&rt, alloc, &list, &mut registry)
+}

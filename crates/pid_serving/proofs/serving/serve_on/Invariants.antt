@@ -1,0 +1,8 @@
+use Rattle.std.proofs.Common.{◌≡◌, ◌<◌, true}
+use Rattle.pid_serving.proofs.serving.serve_on.Given as goal
+
+abbrev pub invariant-loop-begun : goal.invariant-loop-begun
+invariant-loop-begun g l = record {
+  goes : g.S.StreamServer.goes l.initial.server l.server;
+  live : 0 < l.begun → g.S.StreamServer.live l.server ≡ true;
+}

@@ -1,0 +1,28 @@
+-- Which names a look-up can ask for, and what is kept of the entries of a text.
+use Rattle.std.specs.Prelude.{◌≡◌, ℕ, List, [], ◌∷◌}
+use Rattle.std.specs.FinMap.{insert}
+use Rattle.pid_ident.specs.declared.path.Path.{Path}
+use Rattle.pid_ident.specs.declared.path.Path.TheVariants.{Vendor, Device, Subsystem, Class, Subclass, ProgIf, Generic}
+use Rattle.pid_ident.specs.Trees.{TreeMap}
+use Rattle.pid_lookup.specs.Asked.{AgreeOn}
+use Rattle.pid_lookup.specs.Found.{class_byte, subclass_byte}
+use Rattle.pid_lookup.specs.declared.args.Args.{Args}
+use Rattle.pid_reader.specs.Numbered.{Numbered, item_in}
+use Rattle.pid_reader.specs.Reading.{Reads}
+use Rattle.pid_text_lookup.specs.Kept.{kept_map}
+use Rattle.pid_text_lookup.specs.declared.asked_names.AskedNames.{AskedNames}
+
+-- the paths that a look-up with these arguments can ask for, whatever its flags
+abbrev pub asked_paths : Args → List Path
+asked_paths a = Vendor a.vendor ∷ Vendor a.subvendor ∷ Device a.vendor a.device ∷ Subsystem a.vendor a.device a.subvendor a.subdevice
+    ∷ Generic a.subvendor a.subdevice ∷ Class (class_byte a) ∷ Subclass (class_byte a) (subclass_byte a)
+    ∷ ProgIf (class_byte a) (subclass_byte a) a.progif ∷ []
+
+-- one more entry: at the paths that can be asked for, the names are as if the entry were among them
+pub record TakesAsked (old : AskedNames) (entry : Numbered) (new : AskedNames) : Type 0 where
+  pub asked : new.asked ≡ old.asked
+  pub names : AgreeOn old.asked (insert (kept_map old) (item_in entry).0 (item_in entry).1) (kept_map new)
+
+-- the names are those of the tree that the text reads to, at the paths that these arguments can ask for
+abbrev pub HasAsked : Args → List ℕ → AskedNames → Type 0
+HasAsked a text names = (t : TreeMap) → Reads text t → AgreeOn (asked_paths a) t (kept_map names)

@@ -1,0 +1,47 @@
+//! The names of an input's text.
+ghost use Rattle.std.specs.Prelude.{◌≡◌, ◌+◌, ◌≤◌, ◌↔◌, ℕ, List, Err, IsSome, IfSome, length};
+ghost use Rattle.std.specs.Io.KnownBytes.{Consumes};
+ghost use Rattle.pid_reader.specs.InputTexts.{IsRead, without_fault};
+ghost use Rattle.pid_text_lookup.specs.AskedNames.{HasAsked};
+
+use crate::asked_names::AskedNames;
+use pid_ident::Input;
+use pid_lookup::Args;
+use pid_reader::{CutEnd, InputEnd, Never, ReadRefusal, cut_input};
+use std::alloc::{AllocError, Global};
+
+// The end without the fault of the names, which is want of memory.
+fn end_of(end: InputEnd<AllocError>) -> InputEnd<Never>
+    ensures end { result ≡ without_fault end }
+    ensures fault { (result ≡ InputEnd.ReadFault) ↔ (end ≡ InputEnd.ReadFault) }
+{
+    match end {
+        InputEnd::ReadFault => InputEnd::ReadFault,
+        InputEnd::TooLong => InputEnd::TooLong,
+        InputEnd::Cut(CutEnd::Refused(refusal)) => InputEnd::Cut(CutEnd::Refused(refusal)),
+        InputEnd::Cut(CutEnd::Fault(AllocError)) => {
+            InputEnd::Cut(CutEnd::Refused(ReadRefusal::Memory))
+        }
+    }
+}
+
+/// The names of the input's text that a look-up with these arguments can ask for. Faults are told as by `read_input`, and as much is
+/// read.
+pub fn names_in<I: Input>(
+    alloc: Global,
+    limit: usize,
+    args: &Args,
+    input: &mut I,
+) -> Result<AskedNames, InputEnd<Never>>
+    ensures names { IfSome (I.to_come input.old) (λ text. IsRead (HasAsked args.now) limit result text) }
+    ensures stops { (front : List ℕ) × Consumes (I.to_come input.old) (I.to_come input.new) front × (length front ≤ limit + 1) }
+    ensures fault { result ≡ Err InputEnd.ReadFault → IsSome (I.read_fault input.new) }
+    ensures fault_first { IsSome (I.read_fault input.new) → result ≡ Err InputEnd.ReadFault }
+    ensures goes { I.goes input.old input.new }
+{
+    let mut names = AskedNames::new(alloc, args);
+    match cut_input(alloc, limit, input, &mut names) {
+        Ok(()) => Ok(names),
+        Err(end) => Err(end_of(end)),
+    }
+}

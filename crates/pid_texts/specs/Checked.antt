@@ -1,0 +1,32 @@
+-- What `check` wrote for the text of its input.
+use Rattle.std.specs.Prelude.{◌≡◌, ℕ, ◌≤◌, ◌⊎◌, [], ◌∷◌, ◌++◌, List, Option, None, length, codes, decimal}
+use Rattle.std.specs.Io.KnownBytes.{Appends}
+use Rattle.pid_reader.specs.Reading.{refused, history_of}
+use Rattle.pid_reader.specs.LookingBack.{entries_back}
+use Rattle.pid_ident.specs.Sending.{SendsFront}
+use Rattle.pid_texts.specs.Told.{IsTold}
+use Rattle.pid_texts.specs.declared.text_end.TheConstants.{LARGEST}
+use Rattle.pid_texts.specs.declared.text_end.TextEnd.{TextEnd}
+use Rattle.pid_texts.specs.declared.text_end.TextEnd.TheVariants.{Done, Line, TooManyEntries, TooLarge, Memory, ReadFault, WriteFault}
+
+-- how many entries a text has
+abbrev pub count_of : List ℕ → ℕ
+count_of text = length (entries_back (history_of text))
+
+-- the line of a good text with so many entries: ok 35598
+abbrev pub ok_line : ℕ → List ℕ
+ok_line count = codes "ok " ++ decimal count ++ 10 ∷ []
+
+-- the text is good: it is short enough, and nothing in it is refused
+pub record IsGood (text : List ℕ) : Type 0 where
+  pub short : length text ≤ LARGEST
+  pub good : refused text ≡ None
+
+abbrev pub IsChecked : TextEnd → List ℕ → Option (List ℕ) → Option (List ℕ) → Type 0
+IsChecked Done text old new = IsGood text × Appends old new (ok_line (count_of text))
+IsChecked WriteFault text old new = (IsGood text × SendsFront old new (ok_line (count_of text))) ⊎ IsTold WriteFault text old new
+IsChecked (Line line kind) text old new = IsTold (Line line kind) text old new
+IsChecked TooManyEntries text old new = IsTold TooManyEntries text old new
+IsChecked TooLarge text old new = IsTold TooLarge text old new
+IsChecked Memory text old new = IsTold Memory text old new
+IsChecked ReadFault text old new = IsTold ReadFault text old new

@@ -1,0 +1,5 @@
+pub mod TextEnds
+pub mod Judgements
+pub mod Told
+pub mod Tidied
+pub mod Checked

@@ -1,0 +1,16 @@
+//! What becomes of a text: its canonical text, or whether it is good, each with the line and the status of a fault.
+#![tactic(auto)]
+
+mod checking;
+mod process;
+mod text_end;
+mod tidying;
+mod told;
+mod watched;
+
+pub use checking::check;
+pub use process::{FAILED, run_check, run_tidy, tell_end, tell_failed};
+pub use text_end::{LARGEST, TextEnd, end_of};
+pub use tidying::tidy;
+pub use told::tell_unread;
+pub use watched::Watched;

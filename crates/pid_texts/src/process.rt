@@ -1,0 +1,84 @@
+//! `tidy` and `check` between the files of a process, and the statuses that they end with.
+ghost use Rattle.std.specs.Prelude.{◌≡◌};
+ghost use Rattle.pid_texts.specs.TextEnds.{status_of};
+
+use crate::checking::check;
+use crate::text_end::TextEnd;
+use crate::tidying::tidy;
+use crate::watched::Watched;
+use pid_ident::{Output, Plain, write_all};
+use std::alloc::Global;
+use std::io::{BufWriter, Read, Write};
+
+/// The status of a process whose memory, store or files failed.
+pub const FAILED: u8 = 3;
+
+const BUFFER: usize = 65_536;
+
+/// Writes the canonical text of the input to the output, or the line of its fault to `faults`; answers the status.
+///
+/// A file that failed is told as `file: failed`, but where nobody reads the output any more.
+pub fn run_tidy<I: Read + Drop, O: Write + Drop, F: Write + Drop>(
+    alloc: Global,
+    input: I,
+    output: O,
+    faults: F,
+) -> u8 {
+    let mut faults = Plain::new(faults);
+    let Ok(buffer) = BufWriter::with_capacity(alloc, BUFFER, Watched::new(output)) else {
+        return tell_end(TextEnd::Memory, &mut faults);
+    };
+    let mut input = Plain::new(input);
+    let mut output = Plain::new(buffer);
+    let end = tidy(alloc, &mut input, &mut output, &mut faults);
+    let mut buffer = output.into_inner();
+    let end = match (end, buffer.flush()) {
+        (TextEnd::Done, Err(_)) => TextEnd::WriteFault,
+        _ => end,
+    };
+    status(end, buffer.get_ref().is_unread(), &mut faults)
+}
+
+/// Writes the count of the input's entries, or the line of its fault, to the output; answers the status.
+///
+/// A file that failed is told on `faults` as `file: failed`, but where nobody reads the output any more.
+pub fn run_check<I: Read + Drop, O: Write + Drop, F: Write + Drop>(
+    alloc: Global,
+    input: I,
+    output: O,
+    faults: F,
+) -> u8 {
+    let mut input = Plain::new(input);
+    let mut output = Plain::new(Watched::new(output));
+    let end = check(alloc, &mut input, &mut output);
+    let is_unread = output.into_inner().is_unread();
+    status(end, is_unread, &mut Plain::new(faults))
+}
+
+// The status of an end that was told, but for a file that failed, which is told here.
+fn status<F: Output>(end: TextEnd, is_unread: bool, faults: &mut F) -> u8
+    ensures { result ≡ status_of end }
+{
+    match end {
+        TextEnd::ReadFault | TextEnd::WriteFault => tell_failed(is_unread, faults),
+        _ => end.status(),
+    }
+}
+
+/// Tells a fault of a text, or want of memory, that is not told yet; answers its status.
+pub fn tell_end<F: Output>(end: TextEnd, faults: &mut F) -> u8
+    ensures { result ≡ status_of end }
+{
+    let _ = end.tell(faults);
+    end.status()
+}
+
+/// Tells that a file failed, as `file: failed`. Where nobody reads the output any more the status alone says it.
+pub fn tell_failed<F: Output>(is_unread: bool, faults: &mut F) -> u8
+    ensures { result ≡ FAILED }
+{
+    if !is_unread {
+        let _ = write_all(faults, b"file: failed\n");
+    }
+    FAILED
+}

@@ -1,0 +1,101 @@
+-- What the words ask for, as the command line parser `clap` gives them to the subcommands.
+use Rattle.std.specs.Prelude.{◌==◌, ◌&&◌, ◌^◌, ℕ, Bool, true, List, [], Option, Some, None, codes, length, nat_lt, option_map, unwrap_or, if◌then◌else◌}
+use Rattle.std.specs.Borrow.{Bor}
+use Rattle.std.specs.Char.{digit_value}
+use Rattle.std.specs.List.{list_all}
+use Rattle.std.specs.Option.{option_map_or}
+use Rattle.std.specs.Str.{bytes_eq}
+use Rattle.std.specs.Str.Parse.{digits_value, without_leading_plus}
+use Rattle.clap.specs.Walk.{Row, Text, first_of, one_of}
+use Rattle.clap.specs.Words.{subcommand_of, takes, fault_of, kind_of, Kinds, IsAmong}
+use Rattle.pid_words.specs.Commands.{commands}
+use Rattle.pid_words.specs.declared.job.Job.{Job}
+use Rattle.pid_words.specs.declared.job.LookUpWords.{LookUpWords}
+use Rattle.pid_words.specs.declared.job.Job.TheVariants as jobs
+use Rattle.pid_words.specs.declared.job.WordsFault.{WordsFault}
+use Rattle.pid_words.specs.declared.job.WordsFault.TheVariants.{Memory, Words}
+
+-- a job, with its texts as they are written
+pub data Task : Type 0 where
+  Tidies : Task
+  Checks : Task
+  LooksUp : (ids flags : Text) (size vendor device subvendor subdevice class progif : Option Text) → Task
+  Runs : (db : Option Text) → Task
+  Imports : (db account : Text) (key : Option Text) (ids : Text) → Task
+  Exports : (db : Text) → Task
+  Serves : (db : Text) (port connections : ℕ) → Task
+
+-- the text behind a reference that may be missing
+abbrev pub text_of : Option (Bor Text) → Option Text
+text_of = option_map (λ text. text.now)
+
+abbrev pub look_up_task : LookUpWords → Task
+look_up_task asked = LooksUp asked.ids.now asked.flags.now (text_of asked.size) (text_of asked.vendor) (text_of asked.device)
+    (text_of asked.subvendor) (text_of asked.subdevice) (text_of asked.class) (text_of asked.progif)
+
+abbrev pub task_of : Job → Task
+task_of jobs.Tidy = Tidies
+task_of jobs.Check = Checks
+task_of (jobs.Lookup asked) = look_up_task asked
+task_of (jobs.Script db) = Runs (text_of db)
+task_of (jobs.Import db account key ids) = Imports db.now account.now (text_of key) ids.now
+task_of (jobs.Export db) = Exports db.now
+task_of (jobs.Serve db port connections) = Serves db.now port connections
+
+-- the value of an option that must be there
+abbrev pub needed : Text → List Row → Text
+needed name rows = unwrap_or (first_of name rows) []
+
+-- the number of at most so many bits that a text writes in decimal digits, where a plus may stand first; of any other text 0
+abbrev pub number_written : ℕ → Text → ℕ
+number_written bits text =
+    let digits = without_leading_plus text in
+    if nat_lt 0 (length digits) && list_all (λ d. nat_lt (digit_value d) 10) digits && nat_lt (digits_value 10 digits) (2 ^ bits)
+    then digits_value 10 digits else 0
+
+-- the number of an option that must be there
+abbrev pub number_of : ℕ → Text → List Row → ℕ
+number_of bits name rows = option_map_or (number_written bits) (one_of name rows) 0
+
+-- the look-up of whose options these values were given
+abbrev pub look_up_named : List Row → Task
+look_up_named rows = LooksUp (needed (codes "ids") rows) (needed (codes "flags") rows) (first_of (codes "size") rows)
+    (first_of (codes "vendor") rows) (first_of (codes "device") rows) (first_of (codes "subvendor") rows)
+    (first_of (codes "subdevice") rows) (first_of (codes "class") rows) (first_of (codes "progif") rows)
+
+abbrev pub is : Text → Text → Bool
+is word name = bytes_eq name word
+
+-- the task of the subcommand with this name, of whose options these values were given
+abbrev pub task_named : Text → List Row → Task
+task_named name rows =
+    if is (codes "check") name then Checks
+    else (if is (codes "lookup") name then look_up_named rows
+    else (if is (codes "script") name then Runs (first_of (codes "db") rows)
+    else (if is (codes "import") name then Imports (needed (codes "db") rows) (needed (codes "account") rows) (first_of (codes "key") rows) (needed (codes "ids") rows)
+    else (if is (codes "export") name then Exports (needed (codes "db") rows)
+    else (if is (codes "serve") name then Serves (needed (codes "db") rows) (number_of 16 (codes "port") rows) (number_of 32 (codes "connections") rows)
+    else Tidies)))))
+
+-- without a subcommand the task is `tidy`
+abbrev pub task_given : Option (Text × List Row) → Task
+task_given None = Tidies
+task_given (Some s) = task_named s.0 s.1
+
+-- the task that the words name, the first of which is the program's name
+abbrev pub task_meant : List Text → Task
+task_meant words = task_given (subcommand_of commands words)
+
+-- the commands take the words: nothing in them is unknown, nothing that must be there is missing, each number is in its range, and
+-- neither help nor the version is asked for
+unfoldable pub are_taken : List Text → Bool
+are_taken words = takes commands words
+
+-- what kind of fault the words have, help and the version that are asked for among them; none where the words are taken
+unfoldable pub faults_of : List Text → Kinds
+faults_of words = fault_of commands words
+
+-- why the words name no job: want of memory, or an error of a kind that they have
+abbrev pub IsFaultOfWords : WordsFault → List Text → Type 0
+IsFaultOfWords Memory words = Unit {0}
+IsFaultOfWords (Words error) words = IsAmong (kind_of error) (faults_of words)

@@ -1,0 +1,11 @@
+//! The words that the program is started with.
+#![tactic(auto)]
+
+mod commands;
+mod job;
+mod process;
+mod words;
+
+pub use job::{Job, LookUpWords, WordsFault};
+pub use process::{UNKNOWN_WORDS, tell_no_job, words_given};
+pub use words::job_of;
