@@ -4,7 +4,7 @@
  *   registry FILE make < LINES     a new registry; each line is a path, a tab and a name; one transaction
  *   registry FILE rows COUNT       a new registry with COUNT rows in each table
  *   registry FILE submissions N    a new registry with N submissions, all decided
- *   registry FILE JOB TIMES        JOB: nothing, item, export, children, pending, open, unknown, keyed
+ *   registry FILE JOB TIMES        JOB: nothing, export, open, unknown, keyed
  */
 #include <sqlite3.h>
 #include <stdio.h>
@@ -281,16 +281,14 @@ static int job(const char *name, int times)
         return 0;
     }
     int is_pair = strcmp(name, "unknown") == 0;
-    const char *sql = is_pair || strcmp(name, "item") == 0 ? "SELECT name FROM item WHERE path = ?1"
-        : strcmp(name, "children") == 0 ? "SELECT path, name FROM item WHERE path > 'PC/ffff/' AND path < 'PC/ffff0' ORDER BY path"
-        : strcmp(name, "pending") == 0 ? "SELECT num, author, path, form, name, note, state, decider, reason FROM submission WHERE state = 0 AND num > 0 ORDER BY num LIMIT 100"
+    const char *sql = is_pair ? "SELECT name FROM item WHERE path = ?1"
         : strcmp(name, "open") == 0 ? "PRAGMA integrity_check" : NULL;
     if (sql == NULL)
         return 1;
     sqlite3_stmt *statement = prepared(sql);
     for (int at = 0; at < times; at++) {
         snprintf(path, sizeof path, "PC/%04x", at & 0xffff);
-        if (is_pair || strcmp(name, "item") == 0)
+        if (is_pair)
             text(statement, 1, path);
         rows(statement);
         if (is_pair) {

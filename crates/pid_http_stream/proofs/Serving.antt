@@ -11,7 +11,7 @@ use Rattle.pid_http_stream.specs.Leftovers.{IsLeftover}
 use Rattle.pid_http_stream.specs.Replies.{Answer, reply_text}
 use Rattle.pid_http_stream.specs.Requests.{Request, IsRequest, HasNoRequest}
 use Rattle.pid_http_stream.specs.Serving.{counted, Outside, WritesFront, RestsBehind, AnswersAll, AnswersFront, BreaksOff, StopsReading, LacksMemory, IsReplyNext, IsWrittenNext, IsServed}
-use Rattle.pid_http_stream.specs.Steps.{IsReplied, IsRefused, EndsWithin, Steps, stop_end}
+use Rattle.pid_http_stream.specs.Steps.{count_with, IsReplied, IsRefused, EndsWithin, Steps, stop_end}
 use Rattle.pid_http_stream.specs.Streams.{closes, Ending, clean, closed, faulty, Ends, Fronts, Splits}
 use Rattle.pid_http_stream.specs.declared.intake.Stop.{Stop}
 use Rattle.pid_http_stream.specs.declared.intake.Stop.TheVariants as stops
@@ -196,9 +196,9 @@ breaks_off conduct next a b c t u v stream rest bytes count f is written = recor
 -- what stands at the front is refused
 refused : {H : Type 0} (conduct : Conduct H) (a b : H) (t u v : Option (List ℕ)) (stream rest : List ℕ) (left : Option (List ℕ)) (count : ℕ) (fault : StreamFault) (end : StreamEnd)
     → AnswersFront conduct (record { handler = a; handler_after = b; taken = t; taken_after = u }) stream rest count → HasFault rest fault → IsRefused fault u v end
-    → IsServed conduct (record { handler = a; handler_after = b; taken = t; taken_after = v }) stream left end count
-refused conduct a b t u v stream rest left count fault HeadFault f has (kind, written) = (fault, kind, all_answered conduct a b b t u v stream rest (faulty fault) _ count f has (rests_same conduct fault b) written)
-refused conduct a b t u v stream rest left count fault BodyFault f has (kind, written) = (fault, kind, all_answered conduct a b b t u v stream rest (faulty fault) _ count f has (rests_same conduct fault b) written)
+    → IsServed conduct (record { handler = a; handler_after = b; taken = t; taken_after = v }) stream left end (count_with end count)
+refused conduct a b t u v stream rest left count fault HeadFault f has (kind, written) = (fault, kind, count, all_answered conduct a b b t u v stream rest (faulty fault) _ count f has (rests_same conduct fault b) written, refl)
+refused conduct a b t u v stream rest left count fault BodyFault f has (kind, written) = (fault, kind, count, all_answered conduct a b b t u v stream rest (faulty fault) _ count f has (rests_same conduct fault b) written, refl)
 refused conduct a b t u v stream rest left count fault WriteFault f has written =
     breaks_off conduct (IsWrittenNext conduct) a b b t u v stream rest _ count f (inr (inr (fault, has, refl, rests_same conduct fault b))) written
 refused conduct a b t u v stream rest left count fault Clean f has r = absurd r
@@ -211,7 +211,7 @@ refused conduct a b t u v stream rest left count fault TurnsSpent f has r = absu
 pub ends_refused : {H : Type 0} (conduct : Conduct H) (a b : H) (t u v : Option (List ℕ)) (stream : List ℕ) (left : Option (List ℕ)) (held : List ℕ) (count : ℕ) (fault : StreamFault) (end : StreamEnd)
     → IsServing conduct (record { handler = a; handler_after = b; taken = t; taken_after = u }) stream left held count
     → IfSome left (λ more. HasFault (held ++ more) fault) → IsRefused fault u v end
-    → IsServed conduct (record { handler = a; handler_after = b; taken = t; taken_after = v }) stream left end count
+    → IsServed conduct (record { handler = a; handler_after = b; taken = t; taken_after = v }) stream left end (count_with end count)
 ends_refused conduct a b t u v stream left held count fault end s has r =
     let w = whole stream left s.read s.consumed in
     refused conduct a b t u v stream (held ++ w.0) left count fault end (front_of conduct _ stream left held w.0 count s w.1) (subst (λ (k : Option (List ℕ)). IfSome k (λ more. HasFault (held ++ more) fault)) w.1 has) r
@@ -254,11 +254,11 @@ ends_stopped conduct a b t u stream left held count stops.Memory s none =
 within : {H : Type 0} (conduct : Conduct H) (a b c : H) (t u v : Option (List ℕ)) (stream : List ℕ) (left : Option (List ℕ)) (came more : List ℕ) (count : ℕ) (end : StreamEnd)
     → IsServing conduct (record { handler = a; handler_after = b; taken = t; taken_after = u }) stream left came count → left ≡ Some more
     → EndsWithin conduct b c came (came ++ more) u v end
-    → IsServed conduct (record { handler = a; handler_after = c; taken = t; taken_after = v }) stream left end count
+    → IsServed conduct (record { handler = a; handler_after = c; taken = t; taken_after = v }) stream left end (count_with end count)
 within conduct a b c t u v stream left came more count StoreFault s e (bytes, is, written) = breaks_off conduct (IsReplyNext conduct) a b c t u v stream (came ++ more) bytes count (front_of conduct _ stream left came more count s e) is written
 within conduct a b c t u v stream left came more count WriteFault s e (bytes, is, written) = breaks_off conduct (IsWrittenNext conduct) a b c t u v stream (came ++ more) bytes count (front_of conduct _ stream left came more count s e) is written
 within conduct a b c t u v stream left came more count BodyFault s e (has, stands, written) =
-    (BodyShort, refl, all_answered conduct a b c t u v stream (came ++ more) (faulty BodyShort) _ count (front_of conduct _ stream left came more count s e) has stands written)
+    (BodyShort, refl, count, all_answered conduct a b c t u v stream (came ++ more) (faulty BodyShort) _ count (front_of conduct _ stream left came more count s e) has stands written, refl)
 within conduct a b c t u v stream left came more count ReadFault s e (stands, none, same) = stops_reading conduct a b c t u v stream left came count s stands none same
 within conduct a b c t u v stream left came more count TurnsSpent s e (stands, none, same) = stops_reading conduct a b c t u v stream left came count s stands none same
 within conduct a b c t u v stream left came more count Memory s e (after, same) = lacks_memory conduct a b c t u v stream (came ++ more) count (front_of conduct _ stream left came more count s e) after same
@@ -270,7 +270,7 @@ within conduct a b c t u v stream left came more count HeadFault s e r = absurd 
 pub steps_ended : {H : Type 0} (conduct : Conduct H) (a b c : H) (t u v : Option (List ℕ)) (stream : List ℕ) (mid after : Option (List ℕ)) (held behind : List ℕ) (count : ℕ) (end : StreamEnd)
     → IsServing conduct (record { handler = a; handler_after = b; taken = t; taken_after = u }) stream mid held count
     → Steps conduct (record { a = b; b = c; input = mid; input_after = after }) held behind u v (answered.Ended end)
-    → IsServed conduct (record { handler = a; handler_after = c; taken = t; taken_after = v }) stream after end count
+    → IsServed conduct (record { handler = a; handler_after = c; taken = t; taken_after = v }) stream after end (count_with end count)
 steps_ended conduct a b c t u v stream mid after held behind count end s step =
     within conduct a b c t u v stream after (held ++ step.came) step.more count end (brought conduct _ stream mid after held step.came step.more count s step.before step.after) step.after step.is
 
@@ -290,7 +290,7 @@ loop_nothing conduct a b t u input mid left held after count serving c (end, res
 pub loop_faulty : {H : Type 0} (conduct : Conduct H) (a b : H) (t u v input mid left : Option (List ℕ)) (held after : List ℕ) (count : ℕ) (fault : StreamFault) (end : StreamEnd)
     → IfSome input (λ s. IsServing conduct (record { handler = a; handler_after = b; taken = t; taken_after = u }) s mid held count) → ComesIn held after mid left
     → IfSome left (λ more. HasFault (after ++ more) fault) → IsRefused fault u v end
-    → IfSome input (λ s. IsServed conduct (record { handler = a; handler_after = b; taken = t; taken_after = v }) s left end count)
+    → IfSome input (λ s. IsServed conduct (record { handler = a; handler_after = b; taken = t; taken_after = v }) s left end (count_with end count))
 loop_faulty conduct a b t u v input mid left held after count fault end serving c has r =
     if_some input _ _ (λ s x. ends_refused conduct a b t u v s left after count fault end (comes conduct _ s mid left held after count x c) has r) serving
 
@@ -321,7 +321,7 @@ loop_closed conduct a b c t u v input mid read left held after lent behind count
 pub loop_ended : {H : Type 0} (conduct : Conduct H) (a b c : H) (t u v input mid read left : Option (List ℕ)) (held after lent behind : List ℕ) (count : ℕ) (end : StreamEnd)
     → IfSome input (λ s. IsServing conduct (record { handler = a; handler_after = b; taken = t; taken_after = u }) s mid held count) → ComesIn held after mid read → lent ≡ after
     → IfSome read (λ _. Steps conduct (record { a = b; b = c; input = read; input_after = left }) lent behind u v (answered.Ended end))
-    → IfSome input (λ s. IsServed conduct (record { handler = a; handler_after = c; taken = t; taken_after = v }) s left end count)
+    → IfSome input (λ s. IsServed conduct (record { handler = a; handler_after = c; taken = t; taken_after = v }) s left end (count_with end count))
 loop_ended conduct a b c t u v input mid read left held after lent behind count end serving came same step =
     if_some input _ _ (λ s x.
     let y = subst (λ (l : List ℕ). IsServing conduct (record { handler = a; handler_after = b; taken = t; taken_after = u }) s read l count) (sym same) (comes conduct _ s mid read held after count x came) in

@@ -1,5 +1,5 @@
 -- What is read and written where the requests of a stream are answered in turn, by each way in which that may end.
-use Rattle.std.specs.Prelude.{◌≡◌, ℕ, ◌-◌, ◌^◌, ◌≤◌, ◌⊎◌, min, Bool, true, false, List, [], ◌++◌, length, take, Option, Some}
+use Rattle.std.specs.Prelude.{◌≡◌, ℕ, ◌+◌, ◌-◌, ◌^◌, ◌≤◌, ◌⊎◌, min, Bool, true, false, List, [], ◌++◌, length, take, Option, Some}
 use Rattle.std.specs.Io.KnownBytes.{Appends, Consumes}
 use Rattle.pid_http_stream.specs.Conducts.{Conduct, StandsStill, AreReplies}
 use Rattle.pid_http_stream.specs.Endings.{HasFault}
@@ -110,10 +110,10 @@ is_head_fault Encoding = true
 is_head_fault BodyTooLong = false
 is_head_fault BodyShort = false
 
--- all requests of the stream were answered, then its fault, and nothing else was written
+-- all requests of the stream were answered, then its fault, and nothing else was written; the refusal is one reply more
 abbrev pub RefusesLast : {H : Type 0} → Bool → Conduct H → Outside H → List ℕ → ℕ → Type 0
 RefusesLast of_head conduct o stream count =
-    (fault : StreamFault) × (is_head_fault fault ≡ of_head) × AnswersAll conduct o stream (faulty fault) (reply_text (fault_answer fault) true) count
+    (fault : StreamFault) × (is_head_fault fault ≡ of_head) × (answered : ℕ) × AnswersAll conduct o stream (faulty fault) (reply_text (fault_answer fault) true) answered × (count ≡ counted (answered + 1))
 
 -- the stream was served, and so many replies were written whole: what is known at each end
 abbrev pub IsServed : {H : Type 0} → Conduct H → Outside H → List ℕ → Option (List ℕ) → StreamEnd → ℕ → Type 0

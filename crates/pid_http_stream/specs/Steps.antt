@@ -10,7 +10,7 @@ use Rattle.pid_http_stream.specs.Endings.{HasFault, IsShort}
 use Rattle.pid_http_stream.specs.Handling.{MayReply}
 use Rattle.pid_http_stream.specs.Replies.{Answer, reply_head, reply_text, fault_answer}
 use Rattle.pid_http_stream.specs.Requests.{Request, IsRequest, HasNoRequest}
-use Rattle.pid_http_stream.specs.Serving.{WritesFront, IsReplyNext, IsWrittenNext, is_head_fault}
+use Rattle.pid_http_stream.specs.Serving.{counted, WritesFront, IsReplyNext, IsWrittenNext, is_head_fault}
 use Rattle.pid_http_stream.specs.Streams.{closes}
 use Rattle.pid_http_stream.specs.declared.judging.StreamFault.{StreamFault}
 use Rattle.pid_http_stream.specs.declared.judging.StreamFault.TheVariants.{BodyShort}
@@ -146,3 +146,15 @@ broken_so (Some fault) = asked.Broken fault
 
 abbrev pub asked_so : {E : Type 0} → Result Reply E → ℕ → Option BodyFault → Asked
 asked_so result wanted fault = if wanted == 0 then whole_so result else broken_so fault
+
+-- how many replies were written, with the refusal that ends the stream
+abbrev pub count_with : StreamEnd → ℕ → ℕ
+count_with ends.HeadFault count = counted (count + 1)
+count_with ends.BodyFault count = counted (count + 1)
+count_with ends.Clean count = count
+count_with ends.Closed count = count
+count_with ends.ReadFault count = count
+count_with ends.WriteFault count = count
+count_with ends.StoreFault count = count
+count_with ends.Memory count = count
+count_with ends.TurnsSpent count = count

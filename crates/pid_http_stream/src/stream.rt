@@ -4,7 +4,7 @@ ghost use Rattle.pid_http_stream.specs.Bodies.{SpendsTurns};
 ghost use Rattle.pid_http_stream.specs.Intakes.{StandsAt};
 ghost use Rattle.pid_http_stream.specs.Leading.{Leads};
 ghost use Rattle.pid_http_stream.specs.Serving.{IsServed};
-ghost use Rattle.pid_http_stream.specs.Steps.{EndsBroken, IsRefused, Steps, answered_so, stop_end};
+ghost use Rattle.pid_http_stream.specs.Steps.{EndsBroken, IsRefused, Steps, answered_so, count_with, stop_end};
 
 use crate::asking::{Asked, ask_over};
 use crate::body_input::BodyFault;
@@ -44,7 +44,7 @@ pub enum StreamEnd {
 /// How many replies were written whole, and how it ended.
 #[derive(Clone, Copy, Debug, PartialEq, Eq)]
 pub struct Served {
-    /// The count, up to the greatest of its type. A refusal that ends the stream is not counted.
+    /// The count, up to the greatest of its type, with the refusal that ends a stream.
     pub answered: u64,
     pub end: StreamEnd,
 }
@@ -152,6 +152,22 @@ fn end_of(stop: Stop) -> StreamEnd
     }
 }
 
+// How many replies were written, with the refusal that ends the stream.
+fn with_refusal(answered: u64, end: StreamEnd) -> u64
+    ensures { result ≡ count_with end answered }
+{
+    match end {
+        StreamEnd::HeadFault | StreamEnd::BodyFault => answered.saturating_add(1),
+        StreamEnd::Clean
+        | StreamEnd::Closed
+        | StreamEnd::ReadFault
+        | StreamEnd::WriteFault
+        | StreamEnd::StoreFault
+        | StreamEnd::Memory
+        | StreamEnd::TurnsSpent => answered,
+    }
+}
+
 /// Answers the requests of a stream, one after another, in at most so many reads.
 ///
 /// The reply to each is written before more is read than it needs. Where the writer takes all and neither memory, turns nor the
@@ -185,6 +201,7 @@ pub fn serve_stream<H: Handler, I: Input, W: Output>(
             },
             HeadRead::Faulty(fault) => {
                 let end = refuse(fault, output);
+                let answered = with_refusal(answered, end);
                 return Served { answered, end };
             }
             HeadRead::Stopped(stop) => {
@@ -208,7 +225,10 @@ pub fn serve_stream<H: Handler, I: Input, W: Output>(
                             end: StreamEnd::Closed,
                         };
                     }
-                    Answered::Ended(end) => return Served { answered, end },
+                    Answered::Ended(end) => {
+                        let answered = with_refusal(answered, end);
+                        return Served { answered, end };
+                    }
                 }
             }
         }

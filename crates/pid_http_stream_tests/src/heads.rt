@@ -20,7 +20,7 @@ const SHORT: &str =
 fn is_refused(alloc: Global, stream: &[u8], reply: &str, end: StreamEnd) -> bool {
     for most in [1, 7, 4096, 100_000] {
         let outcome = serve(alloc, stream, most, 100_000);
-        if outcome.served.end != end || outcome.served.answered != 0 {
+        if outcome.served.end != end || outcome.served.answered != 1 {
             return false;
         }
         if outcome.written.as_slice() != reply.as_bytes() {

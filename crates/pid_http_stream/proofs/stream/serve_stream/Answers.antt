@@ -8,7 +8,7 @@ pub returns-in-Nothing-clause-served : goal.returns-in-Nothing-clause-served
 returns-in-Nothing-clause-served g c = turned _ _ _ _ (λ v w serving. loop_nothing _ _ _ _ _ _ _ _ _ _ _ serving c.in-Nothing.ensures.comes c.in-Nothing.ensures.head) c.serving.invariant.serving
 
 pub returns-in-Faulty-clause-served : goal.returns-in-Faulty-clause-served
-returns-in-Faulty-clause-served g c = turned _ _ _ _ (λ v w serving. loop_faulty _ _ _ _ _ _ _ _ _ _ _ _ _ _ serving c.in-Faulty.ensures.comes c.in-Faulty.ensures.head c.refuse-end.ensures.refused) c.serving.invariant.serving
+returns-in-Faulty-clause-served g c = turned _ _ _ _ (λ v w serving. rw c.with_refusal-answered.ensures (loop_faulty _ _ _ _ _ _ _ _ _ _ _ _ _ _ serving c.in-Faulty.ensures.comes c.in-Faulty.ensures.head c.refuse-end.ensures.refused)) c.serving.invariant.serving
 
 pub returns-in-Stopped-clause-served : goal.returns-in-Stopped-clause-served
 returns-in-Stopped-clause-served g c = turned _ _ _ _ (λ v w serving. rw c.end_of-end.ensures (loop_stopped _ _ _ _ _ _ _ _ _ _ _ _ serving c.in-Stopped.ensures.comes c.in-Stopped.ensures.head)) c.serving.invariant.serving
@@ -17,7 +17,7 @@ pub returns-in-Closed-clause-served : goal.returns-in-Closed-clause-served
 returns-in-Closed-clause-served g c = joined _ _ _ _ _ _ (λ u v w serving stepped. loop_closed _ _ _ _ _ _ _ _ _ _ _ _ _ _ _ _ _ serving c.in-Head.ensures.comes c.deref.ensures.value stepped c.saturating_add.ensures) c.serving.invariant.serving c.in-Closed.ensures.stepped
 
 pub returns-in-Ended-clause-served : goal.returns-in-Ended-clause-served
-returns-in-Ended-clause-served g c = joined _ _ _ _ _ _ (λ u v w serving stepped. loop_ended _ _ _ _ _ _ _ _ _ _ _ _ _ _ _ _ _ serving c.in-Head.ensures.comes c.deref.ensures.value stepped) c.serving.invariant.serving c.in-Ended.ensures.stepped
+returns-in-Ended-clause-served g c = joined _ _ _ _ _ _ (λ u v w serving stepped. rw c.with_refusal-answered-in-Ended.ensures (loop_ended _ _ _ _ _ _ _ _ _ _ _ _ _ _ _ _ _ serving c.in-Head.ensures.comes c.deref.ensures.value stepped)) c.serving.invariant.serving c.in-Ended.ensures.stepped
 
 pub serving-preserved : goal.serving-preserved
 serving-preserved g c = record {
