@@ -11,12 +11,13 @@ import memory
 import real_file
 import registry
 import scripts
+import serving
 import stops
 import words
 import worked_rows
 from program import Cases
 
-PARTS = {it.__name__: it for it in (worked_rows, words, fault_gallery, limits, real_file, lspci, lookups, registry, jobs, stops, scripts, memory)}
+PARTS = {it.__name__: it for it in (worked_rows, words, fault_gallery, limits, real_file, lspci, lookups, registry, jobs, stops, scripts, serving, memory)}
 
 
 def processor_seconds():

@@ -7,6 +7,7 @@ mod look_ups;
 mod on_files;
 mod replies;
 mod running;
+mod serving;
 
 use pid_words::words_given;
 use running::run_words;

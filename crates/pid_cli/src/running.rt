@@ -4,9 +4,10 @@ use crate::jobs::RegistryJob;
 use crate::look_ups::{print_look_up, read_words};
 use crate::on_files::{work_on_file, work_on_memory};
 use crate::replies::print_reply;
-use pid_ident::{Account, Input, Key, Output, Plain, WordFault, write_all};
+use crate::serving::{Port, serve_file};
+use pid_ident::{Account, Input, Key, Output, Plain, WordFault};
 use pid_moderation::Refusal;
-use pid_texts::{FAILED, TextEnd, Watched, run_check, run_tidy, tell_end, tell_failed};
+use pid_texts::{TextEnd, Watched, run_check, run_tidy, tell_end, tell_failed};
 use pid_words::{Job, LookUpWords, job_of, tell_no_job};
 use std::alloc::Global;
 use std::fs;
@@ -17,7 +18,7 @@ const BUFFER: usize = 65_536;
 /// Does what the words ask for, and answers the status of the process.
 ///
 /// Faults are found in this order: the words; the account, the key and the values of a look-up; the opening of the file of
-/// identifiers; the database; the rest.
+/// identifiers; the database; the port; the rest.
 pub fn run_words<I: Read + Drop, O: Write + Drop, F: Write + Drop>(
     rt: &HostRuntime,
     words: &[String],
@@ -56,9 +57,16 @@ fn run_job<I: Read + Drop, O: Write + Drop, F: Write + Drop>(
             key,
             ids,
         } => run_import(rt, (db, ids), (account, key), &mut output, &mut faults),
-        Job::Serve { .. } => {
-            let _ = write_all(&mut faults, b"error: this build has no server\n");
-            JobEnd::Told(FAILED)
+        Job::Serve {
+            db,
+            port,
+            connections,
+        } => {
+            let port = Port {
+                number: port,
+                connections,
+            };
+            serve_file(rt, db, port, &mut output, &mut faults)
         }
         _ => {
             let job = RegistryJob::Script(Plain::new(input));

@@ -1,0 +1,157 @@
+//! The registry in a file, served over HTTP to clients of this machine.
+ghost use Rattle.std.specs.Prelude.{◌≡◌, ◌+◌, ◌≤◌};
+
+use crate::job_end::JobEnd;
+use crate::replies::tell_unopened;
+use itoa::Buffer;
+use pid_http::serve_stream;
+use pid_http_stream::Served;
+use pid_ident::{Input, Output, WriteFault, write_all, write_parts};
+use pid_service::{Registry, open};
+use pid_serving::{ServingEnd, StreamServer, serve_on};
+use pid_tables::TableFault;
+use pid_texts::FAILED;
+use sqlite::{Alter, Connection};
+use std::alloc::Global;
+use std::net::{Ipv4Addr, SocketAddr, TcpListener};
+
+/// Where clients connect to, and how many of them are served, one after the other.
+#[derive(Clone, Copy, Debug)]
+pub struct Port {
+    pub number: u16,
+    pub connections: u32,
+}
+
+// A registry that answers the requests of one stream after another.
+#[derive(Drop)]
+struct Server<'r, S: Alter + Drop> {
+    alloc: Global,
+    registry: &'r mut Registry<S>,
+}
+
+impl<S: Alter + Drop> StreamServer for Server<'_, S> {
+    ghost use Rattle.std.specs.Prelude.{⊤};
+    ghost use Rattle.pid_service.specs.Registries.{is_live};
+
+    ghost live = { λ server. is_live server.registry.now };
+
+    ghost goes = { λ a b. ⊤ };
+
+    ghost stays = { λ a. tt };
+
+    ghost joins = { λ a b c p q. tt };
+
+    fn is_live(&self) -> bool {
+        self.registry.is_live()
+    }
+
+    fn serve<I: Input, O: Output>(&mut self, input: &mut I, output: &mut O, turns: u64) -> Served {
+        serve_stream(self.alloc, self.registry, input, output, turns)
+    }
+}
+
+fn print_count<O: Output>(words: &[u8], count: u64, output: &mut O) -> Result<(), WriteFault> {
+    let mut digits = Buffer::new();
+    let count = digits.format(count).as_bytes();
+    write_parts(output, &[words, count, b"\n"])
+}
+
+fn tell_socket<F: Output>(faults: &mut F) -> JobEnd {
+    let _ = write_all(faults, b"socket: failed\n");
+    JobEnd::Told(FAILED)
+}
+
+// Serves so many connections to a listener, and prints how many streams were begun.
+fn serve_listener<S: Alter + Drop, O: Output, F: Output>(
+    alloc: Global,
+    registry: &mut Registry<S>,
+    listener: &TcpListener,
+    connections: u32,
+    output: &mut O,
+    faults: &mut F,
+) -> JobEnd {
+    let mut server = Server { alloc, registry };
+    let serving = serve_on(alloc, listener, &mut server, connections);
+    let printed = print_count(b"served ", u64::from(serving.streams), output);
+    match (serving.end, printed) {
+        (ServingEnd::AcceptFault, _) => tell_socket(faults),
+        (_, Err(_)) => JobEnd::FileFailed,
+        (ServingEnd::NotLive, Ok(())) => JobEnd::Told(FAILED),
+        (ServingEnd::All, Ok(())) => JobEnd::Told(0),
+    }
+}
+
+// Listens at a port of this machine, and serves a registry there.
+fn serve_registry<S: Alter + Drop, O: Output, F: Output>(
+    rt: &HostRuntime,
+    registry: &mut Registry<S>,
+    port: Port,
+    output: &mut O,
+    faults: &mut F,
+) -> JobEnd {
+    let address = SocketAddr::from((Ipv4Addr::LOCALHOST, port.number));
+    let Ok(listener) = TcpListener::bind(rt, address) else {
+        return tell_socket(faults);
+    };
+    let number = u64::from(port.number);
+    match print_count(b"listening on 127.0.0.1:", number, output) {
+        Ok(()) => serve_listener(
+            rt.alloc(),
+            registry,
+            &listener,
+            port.connections,
+            output,
+            faults,
+        ),
+        Err(_) => JobEnd::FileFailed,
+    }
+}
+
+// Opens the registry of a connection, or begins it, and serves it. Hands the connection back, where the registry is live.
+fn serve_over<S: Alter + Drop, O: Output, F: Output>(
+    rt: &HostRuntime,
+    conn: Connection<S>,
+    port: Port,
+    output: &mut O,
+    faults: &mut F,
+) -> (JobEnd, Option<Connection<S>>) {
+    if !conn.is_autocommit() {
+        return (JobEnd::Told(tell_unopened(TableFault::Store, faults)), None);
+    }
+    match open(rt.alloc(), conn) {
+        Ok(registry) => {
+            let mut registry = registry;
+            let end = serve_registry(rt, &mut registry, port, output, faults);
+            if registry.is_live() {
+                (end, Some(registry.close()))
+            } else {
+                (end, None)
+            }
+        }
+        Err((fault, _)) => (JobEnd::Told(tell_unopened(fault, faults)), None),
+    }
+}
+
+/// Serves the registry in a file, which is made where it is missing, to so many connections, one after the other.
+///
+/// Prints where it listens before the first one is accepted, and in the end how many streams were begun. The status is 0 where
+/// all were served and the registry is live, else 3. What was committed is in the file when it ends, or in the log beside it.
+pub fn serve_file<O: Output, F: Output>(
+    rt: &HostRuntime,
+    file: &str,
+    port: Port,
+    output: &mut O,
+    faults: &mut F,
+) -> JobEnd {
+    match Connection::open(rt, file) {
+        Ok(conn) => {
+            let (end, conn) = serve_over(rt, conn, port, output, faults);
+            if let Some(conn) = conn {
+                // Where the log cannot be brought into the file it stays, and the next opening reads it.
+                let _ = conn.close();
+            }
+            end
+        }
+        Err(error) => JobEnd::Told(tell_unopened(TableFault::from(error), faults)),
+    }
+}
