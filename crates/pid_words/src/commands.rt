@@ -13,7 +13,7 @@ const COMMANDS: &str = "\
 Without a command the canonical text of standard input is printed. Statuses: 0 all was done, 1 refused, 2 the words are not
 understood, 3 memory, a file or the store failed.
 
-A registry is one file of SQLite; where it is missing, script and import make it.";
+A registry is one file of SQLite; where it is missing, it is made.";
 
 const TIDY: &str = "Example: pciids tidy < pci.ids > tidied.ids";
 
@@ -46,7 +46,7 @@ Each line gets its reply; empty lines and lines that begin with # get none:
   withdraw WHO num=N                submit WHO path=P&remove=yes    read path=P
   approve WHO num=N                 import WHO file=TEXT            lookup flags=HEX&..
   reject WHO num=N&reason=T         export
-Fields are written as in a form of HTML (a space is +, a byte %XX). The first account that gives itself a rank is root.";
+Fields are written as in a form of HTML (a space is +, a byte %XX). A new registry has the account root, an administrator.";
 
 const IMPORTS: &str =
     "Example: pciids import --db registry.db --account root /usr/share/misc/pci.ids";
