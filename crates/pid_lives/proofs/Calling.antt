@@ -5,10 +5,11 @@ use Rattle.std.specs.List.{AllZip, flat_map}
 use Rattle.pid_moderation.specs.declared.command.Reply.{Reply}
 use Rattle.pid_moderation.specs.declared.refusal.Refusal.{Refusal}
 use Rattle.pid_moderation.specs.declared.refusal.Refusal.TheVariants.{Memory, Store, Failed}
-use Rattle.pid_moderation.specs.History.{Asked, History}
+use Rattle.pid_moderation.specs.History.{Asked, Begins, History, mark_of}
 use Rattle.pid_moderation.specs.Refusals.{refusal_number}
 use Rattle.pid_moderation.specs.Judgement.{after, after_all, answer, answers, judge}
 use Rattle.pid_moderation.specs.Keys.{times_under}
+use Rattle.pid_moderation.specs.Laws.{KeysStandOnce}
 use Rattle.pid_moderation.specs.Views.{views_of}
 use Rattle.pid_lives.specs.Outcomes.{IsFault, is_fault, is_outcome}
 use Rattle.pid_lives.specs.Lives.{Sent, NoDoubt, InDoubt, Life, AreJudged, AreLives, after_life, after_lives, after_sent, commands_in, prefix_of}
@@ -16,7 +17,8 @@ use Rattle.pid_lives.specs.Calls.{AreNothing, Call, IsLifeOf, StopsAt, life_of, 
 use Rattle.pid_lives.specs.CrashPrefix.{IsAfterPrefixes}
 use Rattle.pid_lives.specs.Doubts.{left}
 use Rattle.pid_lives.specs.Registries.{CallsLead, Does, EndsLife, Finds, Leaves, LivesLead, CommandLeaves, ListLeaves, Showing}
-use Rattle.pid_lives.proofs.Joining.{after_more, after_parts, joined, joins, lives_hold, lives_keep, lives_own}
+use Rattle.pid_lives.proofs.Joining.{after_more, after_parts, joined, joins, lives_hold, lives_keep}
+use Rattle.pid_lives.proofs.Keeping.{OwnKept, each_own}
 use Rattle.pid_lives.proofs.Judging.{outcome_of}
 use Rattle.pid_lives.proofs.Settling.{doubt_settled}
 
@@ -295,22 +297,26 @@ module _ {R : Type 0} (w : Showing R) where
       let e = life_ends first ended h calls s lead (finds.clean clean) in
       found calls more ended next last h finds clean (λ g shown. lives_led more next last g shown rest k) e.judged e.ends
 
-  pub prefixes_found : ((cs : List Asked) (account key : List ℕ) → times_under account key (after_all [] cs) ≤ 1)
-      → (first last : R) (calls : List (List Call)) → w.shows first [] → LivesLead w first calls last → w.is_clean last
-      → (h : History) × w.shows last h × IsAfterPrefixes calls h
-  prefixes_found at_most_once first last calls s lead k =
-      let l = lives_led calls first last [] s lead k in (
-        after_lives [] l.lives,
+  pub prefixes_found : KeysStandOnce → ((h : History) (cs : List Asked) → mark_of (after_all h cs) ≡ mark_of h)
+      → (mark : ℕ) (before : List Asked) (first last : R) (calls : List (List Call)) → let start = after_all (Begins mark) before in
+      w.shows first start → LivesLead w first calls last → w.is_clean last
+      → (h : History) × w.shows last h × IsAfterPrefixes start calls h
+  prefixes_found at_most_once same_mark mark before first last calls s lead k =
+      let start = after_all (Begins mark) before in
+      let l = lives_led calls first last start s lead k in
+      let behind = flat_map prefix_of l.lives in (
+        after_lives start l.lives,
         l.shown,
         record {
           lives = l.lives;
           are_of = l.are_of;
           judged = l.judged;
-          joined = joined l.lives [];
-          holds = lives_hold l.lives [] l.judged;
-          once = λ account key. joins (λ h. times_under account key h ≤ 1) l.lives (at_most_once (flat_map prefix_of l.lives) account key);
-          kept = lives_keep l.lives [] l.judged;
-          own = lives_own l.lives;
+          joined = joined l.lives start;
+          marked = ap mark_of (joined l.lives start) ∙ same_mark start behind;
+          holds = lives_hold l.lives start l.judged;
+          once = λ account key. joins (λ h. times_under account key h ≤ 1) mark before l.lives (at_most_once mark (before ++ behind) account key);
+          kept = lives_keep l.lives start l.judged;
+          own = joins OwnKept mark before l.lives (each_own mark (before ++ behind));
         },
       )
 

@@ -6,7 +6,7 @@ use Rattle.std.proofs.lemmas.Slice.Eq.{bytes_eq-Decides}
 use Rattle.pid_moderation.specs.declared.command.Reply.{Reply}
 use Rattle.pid_moderation.specs.declared.refusal.Refusal.{Refusal}
 use Rattle.pid_moderation.specs.FactsOfViews.{kept_in}
-use Rattle.pid_moderation.specs.History.{Asked, Accepted, History}
+use Rattle.pid_moderation.specs.History.{Asked, Accepted, Begins, More, History}
 use Rattle.pid_moderation.specs.Judgement.{Outcome, Refused, Repeated, Accepts, judge, answer, added, after, after_all}
 use Rattle.pid_moderation.specs.Views.{views_of, kept_of, receipted}
 use Rattle.pid_lives.specs.Acknowledged.{Stands, IsIn, Holds, HoldsOutcome, HoldsAll}
@@ -22,10 +22,10 @@ record KeptBy (h : History) (account key : List ℕ) (reply : Reply) : Type 0 wh
   pub key_is : entry.asked.key ≡ Some key
   pub reply_is : entry.reply ≡ reply
 
-later : (e : Accepted) (h : History) (account key : List ℕ) (reply : Reply) → KeptBy h account key reply → KeptBy (e ∷ h) account key reply
+later : (e : Accepted) (h : History) (account key : List ℕ) (reply : Reply) → KeptBy h account key reply → KeptBy (More e h) account key reply
 later e h account key reply k = record { entry = k.entry; stands = inr k.stands; account_is = k.account_is; key_is = k.key_is; reply_is = k.reply_is }
 
-kept_here : (e : Accepted) (h : History) (a k key : List ℕ) (reply : Reply) (b d : Bool) → bytes_eq a e.asked.account ≡ b → bytes_eq k key ≡ d → e.asked.key ≡ Some key → cond (b && d) (Some e.reply) (kept_of a k h) ≡ Some reply → (kept_of a k h ≡ Some reply → KeptBy h a k reply) → KeptBy (e ∷ h) a k reply
+kept_here : (e : Accepted) (h : History) (a k key : List ℕ) (reply : Reply) (b d : Bool) → bytes_eq a e.asked.account ≡ b → bytes_eq k key ≡ d → e.asked.key ≡ Some key → cond (b && d) (Some e.reply) (kept_of a k h) ≡ Some reply → (kept_of a k h ≡ Some reply → KeptBy h a k reply) → KeptBy (More e h) a k reply
 kept_here e h a k key reply true true p q is h2 rest = record {
   entry = e;
   stands = inl refl;
@@ -36,13 +36,13 @@ kept_here e h a k key reply true true p q is h2 rest = record {
 kept_here e h a k key reply true false p q is h2 rest = later e h a k reply (rest h2)
 kept_here e h a k key reply false d p q is h2 rest = later e h a k reply (rest h2)
 
-kept_at : (e : Accepted) (h : History) (a k : List ℕ) (reply : Reply) (o : Option (List ℕ)) → e.asked.key ≡ o → receipted a k e.asked.account o e.reply (kept_of a k h) ≡ Some reply → (kept_of a k h ≡ Some reply → KeptBy h a k reply) → KeptBy (e ∷ h) a k reply
+kept_at : (e : Accepted) (h : History) (a k : List ℕ) (reply : Reply) (o : Option (List ℕ)) → e.asked.key ≡ o → receipted a k e.asked.account o e.reply (kept_of a k h) ≡ Some reply → (kept_of a k h ≡ Some reply → KeptBy h a k reply) → KeptBy (More e h) a k reply
 kept_at e h a k reply None is h2 rest = later e h a k reply (rest h2)
 kept_at e h a k reply (Some key) is h2 rest = kept_here e h a k key reply (bytes_eq a e.asked.account) (bytes_eq k key) refl refl is h2 rest
 
 kept_by : (h : History) (a k : List ℕ) (reply : Reply) → kept_of a k h ≡ Some reply → KeptBy h a k reply
-kept_by [] a k reply is = absurd cc
-kept_by (e ∷ h) a k reply is = kept_at e h a k reply e.asked.key refl is (kept_by h a k reply)
+kept_by (Begins mark) a k reply is = absurd cc
+kept_by (More e h) a k reply is = kept_at e h a k reply e.asked.key refl is (kept_by h a k reply)
 
 repeated_holds : (h : History) (c : Asked) (reply : Reply) (o : Option (List ℕ)) → c.key ≡ o → kept_in (views_of h) c.account o ≡ Some reply → Holds h c reply
 repeated_holds h c reply None is k = absurd cc
@@ -56,11 +56,11 @@ answered_holds h c reply (Refused e) is a = absurd cc
 answered_holds h c reply (Repeated r) is a = repeated_holds h c reply c.key refl (old_key h c r is ∙ same_reply r reply a)
 answered_holds h c reply (Accepts r) is a = record { entry = entry c r; stands = inl refl; replied = cc; is_for = inl refl }
 
-outcome_later : (h : History) (e : Accepted) (c : Asked) (o : Result Reply Refusal) → HoldsOutcome h c o → HoldsOutcome (e ∷ h) c o
+outcome_later : (h : History) (e : Accepted) (c : Asked) (o : Result Reply Refusal) → HoldsOutcome h c o → HoldsOutcome (More e h) c o
 outcome_later h e c (Ok reply) k = record { entry = k.entry; stands = inr k.stands; replied = k.replied; is_for = k.is_for }
 outcome_later h e c (Err refusal) k = tt
 
-all_later : (h : History) (e : Accepted) (sent : List Sent) → HoldsAll h sent → HoldsAll (e ∷ h) sent
+all_later : (h : History) (e : Accepted) (sent : List Sent) → HoldsAll h sent → HoldsAll (More e h) sent
 all_later h e [] k = tt
 all_later h e (s ∷ sent) k = (outcome_later h e s.command s.outcome k.0, all_later h e sent k.1)
 
@@ -98,6 +98,6 @@ pub only_sent : (cs : List Asked) (h : History) (e : Accepted) → Stands e (aft
 only_sent [] h e s = inl s
 only_sent (c ∷ cs) h e s = here_or_later h c cs e (only_sent cs (after h c) e s)
 
-pub only_sent_at_all : (cs : List Asked) (e : Accepted) → Stands e [] ⊎ IsIn e.asked cs → IsIn e.asked cs
-only_sent_at_all cs e (inl s) = absurd s
-only_sent_at_all cs e (inr i) = i
+pub only_sent_at_all : (mark : ℕ) (cs : List Asked) (e : Accepted) → Stands e (Begins mark) ⊎ IsIn e.asked cs → IsIn e.asked cs
+only_sent_at_all mark cs e (inl s) = absurd s
+only_sent_at_all mark cs e (inr i) = i

@@ -1,8 +1,8 @@
 -- Lives joined in order.
-use Rattle.std.proofs.Common.{◌≡◌, ◌⊎◌, suc, ◌+◌, true, false, List, [], ◌∷◌, ◌++◌, length, take, refl, sym, ap, subst, ◌∙◌, inl, inr}
+use Rattle.std.proofs.Common.{◌≡◌, ◌⊎◌, ℕ, suc, ◌+◌, true, false, List, [], ◌∷◌, ◌++◌, length, take, refl, sym, ap, subst, ◌∙◌, inl, inr}
 use Rattle.std.specs.List.{flat_map}
 use Rattle.std.proofs.Math.Seq.{take-append-add}
-use Rattle.pid_moderation.specs.History.{Asked, Accepted, History}
+use Rattle.pid_moderation.specs.History.{Asked, Accepted, Begins, History}
 use Rattle.pid_moderation.specs.Judgement.{after, after_all}
 use Rattle.pid_lives.specs.Acknowledged.{Stands, IsIn, HoldsAll, HoldsLives}
 use Rattle.pid_lives.specs.KeptReplies.{IsKept, KeepsAll, KeepsLives}
@@ -70,16 +70,16 @@ lives_keep (life ∷ lives) h j = (
   lives_keep lives (after_life h life) j.1,
 )
 
-pub lives_only : (lives : List Life) (e : Accepted) → Stands e (after_lives [] lives) → IsIn e.asked (flat_map prefix_of lives)
-lives_only lives e s =
+pub lives_only : (mark : ℕ) (lives : List Life) (e : Accepted) → Stands e (after_lives (Begins mark) lives) → IsIn e.asked (flat_map prefix_of lives)
+lives_only mark lives e s =
     let cs = flat_map prefix_of lives in
-    only_sent_at_all cs e (only_sent cs [] e (subst (λ h. Stands e h) (joined lives []) s))
+    only_sent_at_all mark cs e (only_sent cs (Begins mark) e (subst (λ h. Stands e h) (joined lives (Begins mark)) s))
 
-pub lives_own : (lives : List Life) (e : Accepted) → Stands e (after_lives [] lives) → IsKept (after_lives [] lives) e.asked.account e.asked.key e.reply
-lives_own lives e s =
-    subst (λ h. IsKept h e.asked.account e.asked.key e.reply) (sym (joined lives []))
-    (each_own (flat_map prefix_of lives) e (subst (λ h. Stands e h) (joined lives []) s))
+pub lives_own : (mark : ℕ) (lives : List Life) (e : Accepted) → Stands e (after_lives (Begins mark) lives) → IsKept (after_lives (Begins mark) lives) e.asked.account e.asked.key e.reply
+lives_own mark lives e s =
+    subst (λ h. IsKept h e.asked.account e.asked.key e.reply) (sym (joined lives (Begins mark)))
+    (each_own mark (flat_map prefix_of lives) e (subst (λ h. Stands e h) (joined lives (Begins mark)) s))
 
--- what holds after every list of commands holds after all lives
-pub joins : (P : History → Type 0) (lives : List Life) → P (after_all [] (flat_map prefix_of lives)) → P (after_lives [] lives)
-joins P lives all = subst P (sym (joined lives [])) all
+-- what holds after every list of commands holds after commands and then lives
+pub joins : (P : History → Type 0) (mark : ℕ) (before : List Asked) (lives : List Life) → P (after_all (Begins mark) (before ++ flat_map prefix_of lives)) → P (after_lives (after_all (Begins mark) before) lives)
+joins P mark before lives all = subst P (after_more before (Begins mark) (flat_map prefix_of lives) ∙ sym (joined lives (after_all (Begins mark) before))) all

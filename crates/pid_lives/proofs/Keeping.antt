@@ -6,7 +6,7 @@ use Rattle.std.proofs.lemmas.Slice.Eq.{bytes_eq-Decides}
 use Rattle.pid_moderation.specs.declared.command.Reply.{Reply}
 use Rattle.pid_moderation.specs.declared.refusal.Refusal.{Refusal}
 use Rattle.pid_moderation.specs.FactsOfViews.{kept_in}
-use Rattle.pid_moderation.specs.History.{Deed, Asked, Accepted, History}
+use Rattle.pid_moderation.specs.History.{Deed, Asked, Accepted, Begins, More, History}
 use Rattle.pid_moderation.specs.Judgement.{Outcome, Refused, Repeated, Accepts, judge, answer, added, after, after_all}
 use Rattle.pid_moderation.specs.Views.{views_of, kept_of, receipted}
 use Rattle.pid_lives.specs.Acknowledged.{Stands}
@@ -18,7 +18,7 @@ use Rattle.pid_lives.proofs.Staying.{stay}
 same_text : (t : List ℕ) → bytes_eq t t ≡ true
 same_text t = (bytes_eq-Decides t t).1 refl
 
-pub own_kept : (h : History) (account key : List ℕ) (deed : Deed) (reply : Reply) → kept_in (views_of (entry (asks account (Some key) deed) reply ∷ h)) account (Some key) ≡ Some reply
+pub own_kept : (h : History) (account key : List ℕ) (deed : Deed) (reply : Reply) → kept_in (views_of (More (entry (asks account (Some key) deed) reply) h)) account (Some key) ≡ Some reply
 own_kept h account key deed reply = rw (same_text account, same_text key) refl
 
 not_that : (b d : Bool) (old new : Reply) (kept : Option Reply) → kept ≡ Some old → (b ≡ true → d ≡ true → kept ≡ None) → cond (b && d) (Some new) kept ≡ Some old
@@ -30,11 +30,11 @@ kept_step : (h : History) (a k account : List ℕ) (key : Option (List ℕ)) (ol
 kept_step h a k account None old reply new e = e
 kept_step h a k account (Some key) old reply new e = not_that (bytes_eq a account) (bytes_eq k key) old reply (kept_of a k h) e (λ p q. let pa : a ≡ account = (bytes_eq-Decides a account).0 p in let pk : k ≡ key = (bytes_eq-Decides k key).0 q in (λ i. kept_of (pa i) (pk i) h) ∙ new)
 
-reply_later : (h : History) (c : Asked) (reply : Reply) (account : List ℕ) (key : Option (List ℕ)) (old : Reply) → kept_in (views_of h) c.account c.key ≡ None → IsKept h account key old → IsKept (entry c reply ∷ h) account key old
+reply_later : (h : History) (c : Asked) (reply : Reply) (account : List ℕ) (key : Option (List ℕ)) (old : Reply) → kept_in (views_of h) c.account c.key ≡ None → IsKept h account key old → IsKept (More (entry c reply) h) account key old
 reply_later h c reply account None old new k = tt
 reply_later h c reply account (Some key) old new k = kept_step h account key c.account c.key old reply new k
 
-kept_later : (h : History) (c : Asked) (reply : Reply) (account : List ℕ) (key : Option (List ℕ)) (o : Result Reply Refusal) → kept_in (views_of h) c.account c.key ≡ None → KeepsOutcome h account key o → KeepsOutcome (entry c reply ∷ h) account key o
+kept_later : (h : History) (c : Asked) (reply : Reply) (account : List ℕ) (key : Option (List ℕ)) (o : Result Reply Refusal) → kept_in (views_of h) c.account c.key ≡ None → KeepsOutcome h account key o → KeepsOutcome (More (entry c reply) h) account key o
 kept_later h c reply account key (Err refusal) new k = tt
 kept_later h c reply account key (Ok old) new k = reply_later h c reply account key old new k
 
@@ -53,7 +53,7 @@ sent_kept (s ∷ sent) h j = (
   sent_kept sent (after h s.command) j.1,
 )
 
-kept_all : (h : History) (c : Asked) (reply : Reply) (sent : List Sent) → kept_in (views_of h) c.account c.key ≡ None → KeepsAll h sent → KeepsAll (entry c reply ∷ h) sent
+kept_all : (h : History) (c : Asked) (reply : Reply) (sent : List Sent) → kept_in (views_of h) c.account c.key ≡ None → KeepsAll h sent → KeepsAll (More (entry c reply) h) sent
 kept_all h c reply [] new k = tt
 kept_all h c reply (s ∷ sent) new k = (kept_later h c reply s.command.account s.command.key s.outcome new k.0, kept_all h c reply sent new k.1)
 
@@ -62,16 +62,16 @@ keeping_stays sent cs h k = stay (λ g. KeepsAll g sent) (λ g c reply new j. ke
 
 -- THE COMMAND'S OWN REPLY
 
-abbrev OwnKept : History → Type 0
+abbrev pub OwnKept : History → Type 0
 OwnKept h = (e : Accepted) → Stands e h → IsKept h e.asked.account e.asked.key e.reply
 
-own_reply : (h : History) (account : List ℕ) (key : Option (List ℕ)) (deed : Deed) (reply : Reply) → IsKept (entry (asks account key deed) reply ∷ h) account key reply
+own_reply : (h : History) (account : List ℕ) (key : Option (List ℕ)) (deed : Deed) (reply : Reply) → IsKept (More (entry (asks account key deed) reply) h) account key reply
 own_reply h account None deed reply = tt
 own_reply h account (Some key) deed reply = own_kept h account key deed reply
 
-own_stays : (h : History) (c : Asked) (reply : Reply) → kept_in (views_of h) c.account c.key ≡ None → OwnKept h → OwnKept (entry c reply ∷ h)
-own_stays h c reply new old e (inl is) = subst (λ (x : Accepted). IsKept (entry c reply ∷ h) x.asked.account x.asked.key x.reply) (sym is) (own_reply h c.account c.key c.deed reply)
+own_stays : (h : History) (c : Asked) (reply : Reply) → kept_in (views_of h) c.account c.key ≡ None → OwnKept h → OwnKept (More (entry c reply) h)
+own_stays h c reply new old e (inl is) = subst (λ (x : Accepted). IsKept (More (entry c reply) h) x.asked.account x.asked.key x.reply) (sym is) (own_reply h c.account c.key c.deed reply)
 own_stays h c reply new old e (inr s) = reply_later h c reply e.asked.account e.asked.key e.reply new (old e s)
 
-pub each_own : (cs : List Asked) (e : Accepted) → Stands e (after_all [] cs) → IsKept (after_all [] cs) e.asked.account e.asked.key e.reply
-each_own cs = stay OwnKept own_stays cs [] (λ e s. absurd s)
+pub each_own : (mark : ℕ) (cs : List Asked) (e : Accepted) → Stands e (after_all (Begins mark) cs) → IsKept (after_all (Begins mark) cs) e.asked.account e.asked.key e.reply
+each_own mark cs = stay OwnKept own_stays cs (Begins mark) (λ e s. absurd s)

@@ -2,14 +2,14 @@
 use Rattle.std.proofs.Common.{◌≡◌, List, [], ◌∷◌, None, refl}
 use Rattle.pid_moderation.specs.declared.command.Reply.{Reply}
 use Rattle.pid_moderation.specs.FactsOfViews.{kept_in}
-use Rattle.pid_moderation.specs.History.{Asked, History}
+use Rattle.pid_moderation.specs.History.{Asked, More, History}
 use Rattle.pid_moderation.specs.Judgement.{Outcome, Refused, Repeated, Accepts, judge, added, after, after_all}
 use Rattle.pid_moderation.specs.Views.{views_of}
 use Rattle.pid_lives.proofs.Judging.{entry, new_key}
 
 -- an accepted command, which had no reply kept, keeps it
 abbrev pub Stays : (History → Type 0) → Type 0
-Stays P = (h : History) (c : Asked) (reply : Reply) → kept_in (views_of h) c.account c.key ≡ None → P h → P (entry c reply ∷ h)
+Stays P = (h : History) (c : Asked) (reply : Reply) → kept_in (views_of h) c.account c.key ≡ None → P h → P (More (entry c reply) h)
 
 one_more : (P : History → Type 0) → Stays P → (h : History) (c : Asked) (o : Outcome) → judge (views_of h) c ≡ o → P h → P (added h c o)
 one_more P stays h c (Refused e) is old = old

@@ -6,7 +6,7 @@ use Rattle.pid_moderation.specs.declared.command.Proposal.TheVariants.{Name}
 use Rattle.pid_moderation.specs.declared.command.Reply.TheVariants.{Done, Numbered}
 use Rattle.pid_moderation.specs.declared.rank.Rank.TheVariants.{Contributor}
 use Rattle.pid_moderation.specs.declared.refusal.Refusal.TheVariants.{Failed, Memory, NoSubmission, Store}
-use Rattle.pid_moderation.specs.History.{Asked, Deed, Ranks, Submits, Approves}
+use Rattle.pid_moderation.specs.History.{Asked, Deed, Ranks, Submits, Approves, new_history}
 use Rattle.pid_moderation.specs.Keys.{times_under}
 use Rattle.pid_moderation.specs.Views.{items_of}
 use Rattle.pid_lives.specs.Calls.{Call, life_of, nothing_sent, obeyed, ran, sent_in}
@@ -77,18 +77,18 @@ abbrev pub lives : Bool → List Life
 lives stands = first_life stands ∷ second_life ∷ []
 
 -- the outcomes are those of the judgement, whichever way the doubt went
-judged_where_it_stands : AreLives [] (lives true)
+judged_where_it_stands : AreLives new_history (lives true)
 judged_where_it_stands = ((refl, (refl, tt)), ((refl, (refl, tt)), tt))
 
-judged_where_it_falls : AreLives [] (lives false)
+judged_where_it_falls : AreLives new_history (lives false)
 judged_where_it_falls = ((refl, (refl, tt)), ((refl, (refl, tt)), tt))
 
 -- and the registry is the same
-same_history : after_lives [] (lives true) ≡ after_lives [] (lives false)
+same_history : after_lives new_history (lives true) ≡ after_lives new_history (lives false)
 same_history = refl
 
-once : times_under alice (codes "k1") (after_lives [] (lives true)) ≡ 1
+once : times_under alice (codes "k1") (after_lives new_history (lives true)) ≡ 1
 once = refl
 
-items : items_of (after_lives [] (lives true)) ≡ (codes "PC/8086", codes "Intel") ∷ []
+items : items_of (after_lives new_history (lives true)) ≡ (codes "PC/8086", codes "Intel") ∷ []
 items = refl

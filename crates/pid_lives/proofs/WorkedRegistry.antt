@@ -2,7 +2,7 @@
 use Rattle.std.proofs.Common.{◌≡◌, ◌⊎◌, Bool, true, false, [], ◌∷◌, Ok, Err, refl, subst, inl, inr}
 use Rattle.pid_moderation.specs.declared.command.Reply.TheVariants.{Done}
 use Rattle.pid_moderation.specs.declared.refusal.Refusal.TheVariants.{Memory, NoSubmission, Store}
-use Rattle.pid_moderation.specs.History.{History, Approves}
+use Rattle.pid_moderation.specs.History.{History, Approves, new_history}
 use Rattle.pid_moderation.specs.Judgement.{after}
 use Rattle.pid_lives.specs.Calls.{Call, nothing_sent, obeyed}
 use Rattle.pid_lives.specs.Doubts.{left}
@@ -66,15 +66,15 @@ torn_found h next stands = record {
 }
 
 abbrev welcomed : History
-welcomed = after [] welcome
+welcomed = after new_history welcome
 
 abbrev ended : History
 ended = after (after welcomed submission) approval
 
-first_lead : CallsLead model (Live []) first_calls (Torn welcomed (after welcomed submission))
+first_lead : CallsLead model (Live new_history) first_calls (Torn welcomed (after welcomed submission))
 first_lead = (
   Live welcomed,
-  live_does [] (obeyed welcome (Ok Done) true) (Live welcomed) ((refl, tt), inl (refl, refl)),
+  live_does new_history (obeyed welcome (Ok Done) true) (Live welcomed) ((refl, tt), inl (refl, refl)),
   (
     Live welcomed,
     live_does welcomed nothing_sent (Live welcomed) (tt, inl (refl, refl)),
@@ -98,7 +98,7 @@ second_lead : (stands : Bool) → CallsLead model (Live (left welcomed submissio
 second_lead true = (Live ended, live_does (after welcomed submission) _ (Live ended) ((refl, (refl, tt)), inl (refl, refl)), refl)
 second_lead false = (Live ended, live_does welcomed _ (Live ended) ((refl, (refl, tt)), inl (refl, refl)), refl)
 
-lives_lead : (stands : Bool) → LivesLead model (Live []) (first_calls ∷ second_calls ∷ []) (Live ended)
+lives_lead : (stands : Bool) → LivesLead model (Live new_history) (first_calls ∷ second_calls ∷ []) (Live ended)
 lives_lead true = (
   Torn welcomed (after welcomed submission),
   Live (after welcomed submission),
@@ -114,5 +114,5 @@ lives_lead false = (
   (Live ended, Live ended, second_lead false, live_found ended, refl),
 )
 
-ended_after_lives : after_lives [] (lives true) ≡ ended
+ended_after_lives : after_lives new_history (lives true) ≡ ended
 ended_after_lives = refl

@@ -3,13 +3,13 @@ use Rattle.std.specs.Prelude.{◌≡◌, ◌⊎◌, ℕ, List, [], ◌∷◌, So
 use Rattle.std.specs.List.{AllByRecursion}
 use Rattle.pid_moderation.specs.declared.command.Reply.{Reply}
 use Rattle.pid_moderation.specs.declared.refusal.Refusal.{Refusal}
-use Rattle.pid_moderation.specs.History.{Asked, Accepted, History}
+use Rattle.pid_moderation.specs.History.{Asked, Accepted, Begins, More, History}
 use Rattle.pid_lives.specs.Lives.{Sent, Life}
 
 -- it is one of the accepted commands
 abbrev pub Stands : Accepted → History → Type 0
-Stands e [] = ⊥
-Stands e (x ∷ h) = (e ≡ x) ⊎ Stands e h
+Stands e (Begins mark) = ⊥
+Stands e (More x h) = (e ≡ x) ⊎ Stands e h
 
 -- it is one of the commands
 abbrev pub IsIn : Asked → List Asked → Type 0

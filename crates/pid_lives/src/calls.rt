@@ -3,15 +3,15 @@ ghost use Rattle.std.specs.Prelude.{◌≡◌, ℕ, Bool, true, false, List, [],
 ghost use Rattle.pid_moderation.specs.declared.command.Reply.{Reply};
 ghost use Rattle.pid_moderation.specs.declared.refusal.Refusal.{Refusal};
 ghost use Rattle.pid_moderation.specs.declared.refusal.Refusal.TheVariants.{Failed};
-ghost use Rattle.pid_moderation.specs.History.{Asked, History};
-ghost use Rattle.pid_moderation.specs.Judgement.{after, answer, judge};
+ghost use Rattle.pid_moderation.specs.History.{Asked, Begins, History};
+ghost use Rattle.pid_moderation.specs.Judgement.{after, after_all, answer, judge};
 ghost use Rattle.pid_moderation.specs.Views.{views_of};
 ghost use Rattle.pid_lives.specs.Calls.{Call, nothing_sent, obeyed, ran, sent_in};
 ghost use Rattle.pid_lives.specs.CrashPrefix.{IsAfterPrefixes};
 ghost use Rattle.pid_lives.specs.Outcomes.{is_outcome};
 ghost use Rattle.pid_lives.specs.Registries.{CallsLead, Does, EndsLife, Finds, LivesLead, CommandLeaves, ListLeaves, Showing};
 
-use pid_moderation::keys_stand_once;
+use pid_moderation::{keys_stand_once, marks_stay};
 
 /// A registry, as far as lives speak of it: it shows a history, or has failed between two.
 pub trait ShowsHistories {
@@ -47,14 +47,17 @@ pub fn calls_make_a_life<R: ShowsHistories>()
         → R.showing.is_clean new → EndsLife R.showing h calls new }
 {}
 
-/// The crash prefix. Let a registry be opened that shows no command, and then others, each finding what a stop of the one before
-/// it may leave. Then the last one shows the history after a prefix of the commands of each life, joined in order, which holds
-/// every acknowledged one. All while the disk returns what was written.
+/// The crash prefix. Let a registry be opened that shows a history to which commands led from its beginning: a new one shows no command.
+/// Then others are opened, each finding what a stop of the one before it may leave. The last one shows the history after that one and
+/// a prefix of the commands of each life, joined in order, which holds every acknowledged one and has kept its mark. All while the
+/// disk returns what was written.
 pub fn openings_find_prefixes<R: ShowsHistories>()
-    ensures { (first last : R) (calls : List (List Call)) → R.showing.shows first [] → LivesLead R.showing first calls last
-        → R.showing.is_clean last → (h : History) × R.showing.shows last h × IsAfterPrefixes calls h }
+    ensures { (mark : ℕ) (before : List Asked) (first last : R) (calls : List (List Call)) → let start = after_all (Begins mark) before in
+        R.showing.shows first start → LivesLead R.showing first calls last → R.showing.is_clean last
+        → (h : History) × R.showing.shows last h × IsAfterPrefixes start calls h }
 {
     keys_stand_once();
+    marks_stay();
 }
 
 /// A command under a key was in doubt, and after another opening it is sent again: the first command with an outcome there, maybe behind

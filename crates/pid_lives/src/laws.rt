@@ -2,7 +2,7 @@
 ghost use Rattle.std.specs.Prelude.{◌≡◌, ◌⊎◌, ◌≤◌, ◌∷◌, ◌++◌, ℕ, Bool, true, List, [], Some, Err};
 ghost use Rattle.std.specs.List.{flat_map};
 ghost use Rattle.pid_moderation.specs.declared.refusal.Refusal.{Refusal};
-ghost use Rattle.pid_moderation.specs.History.{Accepted, Asked, History};
+ghost use Rattle.pid_moderation.specs.History.{Accepted, Asked, Begins, History, mark_of};
 ghost use Rattle.pid_moderation.specs.Judgement.{after, after_all, answer, judge};
 ghost use Rattle.pid_moderation.specs.Keys.{times_under};
 ghost use Rattle.pid_moderation.specs.Sound.{IsSound};
@@ -14,26 +14,28 @@ ghost use Rattle.pid_lives.specs.KeptReplies.{IsKept, KeepsLives};
 ghost use Rattle.pid_lives.specs.Lives.{AreLives, InDoubt, Life, after_lives, commands_in, prefix_of};
 ghost use Rattle.pid_lives.specs.Outcomes.{is_outcome};
 
-use pid_moderation::{histories_are_sound, keys_stand_once};
+use pid_moderation::{histories_are_sound, keys_stand_once, marks_stay};
 
 /// The history that the next opening finds is the one after the prefixes of all lives, joined in order: of each life the commands
-/// with an outcome, and the one in doubt where it stands. It holds every command that was acknowledged, and no command that was
-/// not sent. It holds at most one of an account under a key, and every reply that was given there is that command's. Where the
-/// commands are well made, the history has a tree of names, and what tables ask of it.
+/// with an outcome, and the one in doubt where it stands. It keeps the mark with which it began. It holds every command that was
+/// acknowledged, and no command that was not sent. It holds at most one of an account under a key, and every reply that was given
+/// there is that command's. Where the commands are well made, the history has a tree of names, and what tables ask of it.
 pub fn lives_are_prefixes()
     ensures prefix { (life : Life) → (prefix_of life ≡ commands_in life.sent)
         ⊎ ((c : Asked) × (life.doubt ≡ InDoubt c true) × (prefix_of life ≡ commands_in life.sent ++ c ∷ [])) }
-    ensures joined { (lives : List Life) → after_lives [] lives ≡ after_all [] (flat_map prefix_of lives) }
-    ensures holds { (lives : List Life) → AreLives [] lives → HoldsLives (after_lives [] lives) lives }
-    ensures only { (lives : List Life) (e : Accepted) → Stands e (after_lives [] lives) → IsIn e.asked (flat_map prefix_of lives) }
-    ensures once { (lives : List Life) (account key : List ℕ) → times_under account key (after_lives [] lives) ≤ 1 }
-    ensures kept { (lives : List Life) → AreLives [] lives → KeepsLives (after_lives [] lives) lives }
-    ensures own { (lives : List Life) (e : Accepted) → Stands e (after_lives [] lives)
-        → IsKept (after_lives [] lives) e.asked.account e.asked.key e.reply }
-    ensures sound { (lives : List Life) → AreWellMade (flat_map prefix_of lives) → IsSound (after_lives [] lives) }
+    ensures joined { (mark : ℕ) (lives : List Life) → after_lives (Begins mark) lives ≡ after_all (Begins mark) (flat_map prefix_of lives) }
+    ensures marked { (mark : ℕ) (lives : List Life) → mark_of (after_lives (Begins mark) lives) ≡ mark }
+    ensures holds { (mark : ℕ) (lives : List Life) → AreLives (Begins mark) lives → HoldsLives (after_lives (Begins mark) lives) lives }
+    ensures only { (mark : ℕ) (lives : List Life) (e : Accepted) → Stands e (after_lives (Begins mark) lives) → IsIn e.asked (flat_map prefix_of lives) }
+    ensures once { (mark : ℕ) (lives : List Life) (account key : List ℕ) → times_under account key (after_lives (Begins mark) lives) ≤ 1 }
+    ensures kept { (mark : ℕ) (lives : List Life) → AreLives (Begins mark) lives → KeepsLives (after_lives (Begins mark) lives) lives }
+    ensures own { (mark : ℕ) (lives : List Life) (e : Accepted) → Stands e (after_lives (Begins mark) lives)
+        → IsKept (after_lives (Begins mark) lives) e.asked.account e.asked.key e.reply }
+    ensures sound { (mark : ℕ) (lives : List Life) → AreWellMade (flat_map prefix_of lives) → IsSound (after_lives (Begins mark) lives) }
 {
     histories_are_sound();
     keys_stand_once();
+    marks_stay();
 }
 
 /// A command under a key that was in doubt, and is sent again as the next one, has the outcome and leaves the history

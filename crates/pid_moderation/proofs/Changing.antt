@@ -1,12 +1,12 @@
 -- The change of an accepted command leads from view to view.
-use Rattle.std.proofs.Common.{◌≡◌, ℕ, List, ◌∷◌, Option, Some, None, refl, ap, length}
+use Rattle.std.proofs.Common.{◌≡◌, ℕ, List, Option, Some, None, refl, ap, length}
 use Rattle.std.specs.Option.{option_map}
 use Rattle.pid_ident.specs.PathTexts.{path_text}
 use Rattle.pid_moderation.specs.declared.command.Proposal.{Proposal}
 use Rattle.pid_moderation.specs.declared.command.Proposal.TheVariants.{Name, Removal}
 use Rattle.pid_moderation.specs.declared.command.Reply.{Reply}
 use Rattle.pid_moderation.specs.declared.facts.Named.{Named}
-use Rattle.pid_moderation.specs.History.{TooLong, Faulty, Good, Deed, Approves, Imports, Asked, Accepted, History}
+use Rattle.pid_moderation.specs.History.{TooLong, Faulty, Good, Deed, Approves, Imports, Asked, Accepted, More, History}
 use Rattle.pid_moderation.specs.Items.{Items, name_at, written}
 use Rattle.pid_moderation.specs.Views.{Views, Submitted, views_of, submission_at, submits_of, items_of, carried_out}
 use Rattle.pid_moderation.specs.Changes.{changed, with_pairs, write, edited}
@@ -33,9 +33,9 @@ approved_item : (o : Option Submitted) (v : Views) (n : ℕ) (c : Asked) (items 
 approved_item None v n c items = refl
 approved_item (Some s) v n c items = proposed_item (path_text s.path) s.proposal (name_at (path_text s.path) v.items) items
 
-pub changing : (h : History) (account : List ℕ) (key : Option (List ℕ)) (deed : Deed) (reply : Reply) → views_of (entry (asks account key deed) reply ∷ h) ≡ changed (change_of (facts_of (views_of h) (asks account key deed)) (asks account key deed) reply) (with_pairs (pairs_in deed) (views_of h))
-changing h account None (Approves n) reply = ap (λ is. record (views_of (entry (asks account None (Approves n)) reply ∷ h)) { items = is }) (approved_item (submission_at n (submits_of h)) (views_of h) n (asks account None (Approves n)) (items_of h))
-changing h account (Some key) (Approves n) reply = ap (λ is. record (views_of (entry (asks account (Some key) (Approves n)) reply ∷ h)) { items = is }) (approved_item (submission_at n (submits_of h)) (views_of h) n (asks account (Some key) (Approves n)) (items_of h))
+pub changing : (h : History) (account : List ℕ) (key : Option (List ℕ)) (deed : Deed) (reply : Reply) → views_of (More (entry (asks account key deed) reply) h) ≡ changed (change_of (facts_of (views_of h) (asks account key deed)) (asks account key deed) reply) (with_pairs (pairs_in deed) (views_of h))
+changing h account None (Approves n) reply = ap (λ is. record (views_of (More (entry (asks account None (Approves n)) reply) h)) { items = is }) (approved_item (submission_at n (submits_of h)) (views_of h) n (asks account None (Approves n)) (items_of h))
+changing h account (Some key) (Approves n) reply = ap (λ is. record (views_of (More (entry (asks account (Some key) (Approves n)) reply) h)) { items = is }) (approved_item (submission_at n (submits_of h)) (views_of h) n (asks account (Some key) (Approves n)) (items_of h))
 changing h account None (Imports TooLong) reply = refl
 changing h account None (Imports (Faulty fault)) reply = refl
 changing h account None (Imports (Good pairs)) reply = refl

@@ -5,7 +5,7 @@ use Rattle.std.specs.Str.{bytes_eq}
 use Rattle.std.proofs.lemmas.List.Sums.{sum_by-cons}
 use Rattle.std.proofs.lemmas.Slice.Eq.{bytes_eq-Decides}
 use Rattle.pid_moderation.specs.declared.command.Reply.{Reply}
-use Rattle.pid_moderation.specs.History.{Asked, History}
+use Rattle.pid_moderation.specs.History.{Asked, Begins, History, accepted_in}
 use Rattle.pid_moderation.specs.Views.{views_of, kept_of, receipted}
 use Rattle.pid_moderation.specs.FactsOfViews.{facts_of, kept_in}
 use Rattle.pid_moderation.specs.Judgement.{Outcome, Refused, Repeated, Accepts, judge, added, after, after_all}
@@ -45,7 +45,7 @@ one_more : (a k : List ℕ) (h : History) (c : Asked) (o : Outcome) → judge (v
 one_more a k h c (Refused e) is old = old
 one_more a k h c (Repeated reply) is old = old
 one_more a k h c (Accepts reply) is old =
-    sum_by-cons (λ e. cond (is_under a k e) 1 0) (entry c reply) h ∙ one_step h a k c.account c.key reply (times_under a k h) (new_key h c reply is) old
+    sum_by-cons (λ e. cond (is_under a k e) 1 0) (entry c reply) (accepted_in h) ∙ one_step h a k c.account c.key reply (times_under a k h) (new_key h c reply is) old
 
 all_kept : (a k : List ℕ) (cs : List Asked) (h : History) → AsKept a k h → AsKept a k (after_all h cs)
 all_kept a k [] h old = old
@@ -55,5 +55,5 @@ at_most : (b : Bool) (n : ℕ) → n ≡ cond b 1 0 → n ≤ 1
 at_most true n h = omega arith
 at_most false n h = omega arith
 
-pub at_most_once : (cs : List Asked) (account key : List ℕ) → times_under account key (after_all [] cs) ≤ 1
-at_most_once cs a k = at_most (is_some (kept_of a k (after_all [] cs))) _ (all_kept a k cs [] refl)
+pub at_most_once : (mark : ℕ) (cs : List Asked) (account key : List ℕ) → times_under account key (after_all (Begins mark) cs) ≤ 1
+at_most_once mark cs a k = at_most (is_some (kept_of a k (after_all (Begins mark) cs))) _ (all_kept a k cs (Begins mark) refl)

@@ -1,5 +1,5 @@
 -- Accounts stay, and who was obeyed is one.
-use Rattle.std.proofs.Common.{◌≡◌, ℕ, Bool, true, false, cond, not, List, [], ◌∷◌, Option, Some, None, refl, sym, subst}
+use Rattle.std.proofs.Common.{◌≡◌, ℕ, Bool, true, false, cond, not, List, ◌∷◌, Option, Some, None, refl, sym, subst}
 use Rattle.std.specs.Prelude.{is_none, is_some, codes}
 use Rattle.std.specs.Str.{bytes_eq}
 use Rattle.std.specs.Option.{option_map}
@@ -10,7 +10,7 @@ use Rattle.pid_moderation.specs.declared.facts.Facts.{Facts}
 use Rattle.pid_moderation.specs.declared.rank.Rank.{Rank}
 use Rattle.pid_moderation.specs.declared.rank.Rank.TheVariants.{Administrator}
 use Rattle.pid_moderation.specs.declared.refusal.Refusal.TheVariants.{NoAccount}
-use Rattle.pid_moderation.specs.History.{Deed, Ranks, Submits, Comments, Withdraws, Approves, Rejects, Imports, Asked, History}
+use Rattle.pid_moderation.specs.History.{Deed, Ranks, Submits, Comments, Withdraws, Approves, Rejects, Imports, Asked, Begins, More, History}
 use Rattle.pid_moderation.specs.Views.{Submitted, views_of, rank_of, ranked, submits_of, submission_at}
 use Rattle.pid_moderation.specs.FactsOfViews.{facts_of, with_item, known}
 use Rattle.pid_moderation.specs.CheckTables.{Checks, checks, if_named, approval_checks}
@@ -60,7 +60,7 @@ rank_stays : (a : List ℕ) (deed : Deed) (o : Option Rank) → is_some o ≡ tr
 rank_stays a (Ranks who rank) o h = still_there (bytes_eq a who) rank o h
 rank_stays a deed o h = h
 
-pub known_stays : (h : History) (account : List ℕ) (key : Option (List ℕ)) (deed : Deed) (reply : Reply) (a : List ℕ) → IsKnown a h → IsKnown a (entry (asks account key deed) reply ∷ h)
+pub known_stays : (h : History) (account : List ℕ) (key : Option (List ℕ)) (deed : Deed) (reply : Reply) (a : List ℕ) → IsKnown a h → IsKnown a (More (entry (asks account key deed) reply) h)
 known_stays h account key deed reply a old = rank_stays a deed (rank_of a h) old
 
 -- each account has the name of one
@@ -82,8 +82,8 @@ ranked_account a c account key deed o made old h = old h
 pub accounts_stay : Stays AreAccounts
 accounts_stay h account key deed reply made passed old = λ a known. ranked_account a (asks account key deed) account key deed (rank_of a h) made (old a) known
 
-pub first_account : AreAccounts []
-first_account = λ a known. account_there a (codes "root") Administrator None refl (λ h. absurd cc) known
+pub first_account : (mark : ℕ) → AreAccounts (Begins mark)
+first_account mark = λ a known. account_there a (codes "root") Administrator None refl (λ h. absurd cc) known
 
 -- root
 

@@ -17,3 +17,4 @@ pub mod Fitting
 pub mod TreesAreFiles
 pub mod BrokenForms
 pub mod NeverFailed
+pub mod RevisionLemmas

@@ -1,7 +1,7 @@
 -- What holds at first, and stays with each accepted command, holds of every history.
 use Rattle.std.proofs.Common.{◌≡◌, ℕ, List, [], ◌∷◌, Option, refl}
 use Rattle.pid_moderation.specs.declared.command.Reply.{Reply}
-use Rattle.pid_moderation.specs.History.{Deed, Asked, History}
+use Rattle.pid_moderation.specs.History.{Deed, Asked, More, History}
 use Rattle.pid_moderation.specs.Views.{views_of}
 use Rattle.pid_moderation.specs.FactsOfViews.{facts_of}
 use Rattle.pid_moderation.specs.Judgement.{Outcome, Refused, Repeated, Accepts, judge, added, after, after_all}
@@ -11,7 +11,7 @@ use Rattle.pid_moderation.proofs.Passing.{Passes, accepted_passes}
 
 -- an accepted command keeps it
 abbrev pub Stays : (History → Type 0) → Type 0
-Stays P = (h : History) (account : List ℕ) (key : Option (List ℕ)) (deed : Deed) (reply : Reply) → IsWellMade (asks account key deed) → Passes (facts_of (views_of h) (asks account key deed)) (asks account key deed) reply → P h → P (entry (asks account key deed) reply ∷ h)
+Stays P = (h : History) (account : List ℕ) (key : Option (List ℕ)) (deed : Deed) (reply : Reply) → IsWellMade (asks account key deed) → Passes (facts_of (views_of h) (asks account key deed)) (asks account key deed) reply → P h → P (More (entry (asks account key deed) reply) h)
 
 one_more : (P : History → Type 0) → Stays P → (h : History) (c : Asked) (o : Outcome) → judge (views_of h) c ≡ o → IsWellMade c → P h → P (added h c o)
 one_more P stays h c (Refused e) is made old = old

@@ -7,7 +7,7 @@ use Rattle.std.proofs.lemmas.Slice.Eq.{bytes_eq-Decides}
 use Rattle.pid_ident.specs.Words.{is_key}
 use Rattle.pid_moderation.specs.declared.command.Reply.{Reply}
 use Rattle.pid_moderation.specs.declared.command.Reply.TheVariants.{Done, Numbered, Counts}
-use Rattle.pid_moderation.specs.History.{TooLong, Faulty, Good, Deed, Ranks, Submits, Comments, Withdraws, Approves, Rejects, Imports, Asked, Accepted, History}
+use Rattle.pid_moderation.specs.History.{TooLong, Faulty, Good, Deed, Ranks, Submits, Comments, Withdraws, Approves, Rejects, Imports, Asked, Accepted, More, History, accepted_in}
 use Rattle.pid_moderation.specs.Items.{Items, name_at, has_name, count_new, count_renamed, count_same}
 use Rattle.pid_moderation.specs.Views.{Views, Submitted, views_of, submits_of, submitted, submission_at, items_of, kept_of, receipted}
 use Rattle.pid_moderation.specs.declared.facts.Facts.{Facts}
@@ -31,20 +31,20 @@ one_receipt : (h : History) (account : List ℕ) (key : Option (List ℕ)) (repl
 one_receipt h account None reply new a k old e = e
 one_receipt h account (Some key) reply new a k old e = not_that (bytes_eq a account) (bytes_eq k key) old reply reply (kept_of a k h) e (λ p q. let pa : a ≡ account = (bytes_eq-Decides a account).0 p in let pk : k ≡ key = (bytes_eq-Decides k key).0 q in (λ i. kept_of (pa i) (pk i) h) ∙ new)
 
-receipt_stays : (h : History) (c : Asked) (reply : Reply) → kept_in (views_of h) c.account c.key ≡ None → (account : List ℕ) (key : Option (List ℕ)) (old : Reply) → HasReceipt h account key old → HasReceipt (entry c reply ∷ h) account key old
+receipt_stays : (h : History) (c : Asked) (reply : Reply) → kept_in (views_of h) c.account c.key ≡ None → (account : List ℕ) (key : Option (List ℕ)) (old : Reply) → HasReceipt h account key old → HasReceipt (More (entry c reply) h) account key old
 receipt_stays h c reply new account None old e = tt
 receipt_stays h c reply new account (Some key) old e = one_receipt h c.account c.key reply new account key old e
 
-receipts_stay : (h : History) (c : Asked) (reply : Reply) → kept_in (views_of h) c.account c.key ≡ None → (es : List Accepted) → HaveReceipts es h → HaveReceipts es (entry c reply ∷ h)
+receipts_stay : (h : History) (c : Asked) (reply : Reply) → kept_in (views_of h) c.account c.key ≡ None → (es : List Accepted) → HaveReceipts es h → HaveReceipts es (More (entry c reply) h)
 receipts_stay h c reply new [] old = tt
 receipts_stay h c reply new (e ∷ es) old = (receipt_stays h c reply new e.asked.account e.asked.key e.reply old.0, receipts_stay h c reply new es old.1)
 
-own_receipt : (h : History) (account : List ℕ) (key : Option (List ℕ)) (deed : Deed) (reply : Reply) → HasReceipt (entry (asks account key deed) reply ∷ h) account key reply
+own_receipt : (h : History) (account : List ℕ) (key : Option (List ℕ)) (deed : Deed) (reply : Reply) → HasReceipt (More (entry (asks account key deed) reply) h) account key reply
 own_receipt h account None deed reply = tt
 own_receipt h account (Some key) deed reply = rw (same_text account, same_text key) refl
 
 abbrev pub AllReceipted : History → Type 0
-AllReceipted h = HaveReceipts h h
+AllReceipted h = HaveReceipts (accepted_in h) h
 
 with_item-kept : (v : Views) (o : Option Named) (f : Facts) → (with_item v o f).kept ≡ f.kept
 with_item-kept v None f = refl
@@ -64,7 +64,7 @@ facts-kept v c = with_file-kept v.items c.deed (looked_at v (wanted c.deed) (kno
 pub all_receipts_stay : Stays AllReceipted
 all_receipts_stay h account key deed reply made passed old =
     let new : kept_in (views_of h) account key ≡ None = sym (facts-kept (views_of h) (asks account key deed)) ∙ passed.not_kept in
-    (own_receipt h account key deed reply, receipts_stay h (asks account key deed) reply new h old)
+    (own_receipt h account key deed reply, receipts_stay h (asks account key deed) reply new (accepted_in h) old)
 
 -- WHAT IS KEPT
 
@@ -82,7 +82,7 @@ still_by zero account caller deed ss old = absurd old
 still_by (suc n) account caller (Submits path proposal note) ss old = push_at n ss _ account old
 still_by (suc n) account caller deed ss old = old
 
-still_own : (h : History) (account caller : List ℕ) (key : Option (List ℕ)) (deed : Deed) (new reply : Reply) → IsOwnReply h account reply → IsOwnReply (entry (asks caller key deed) new ∷ h) account reply
+still_own : (h : History) (account caller : List ℕ) (key : Option (List ℕ)) (deed : Deed) (new reply : Reply) → IsOwnReply h account reply → IsOwnReply (More (entry (asks caller key deed) new) h) account reply
 still_own h account caller key deed new Done old = tt
 still_own h account caller key deed new (Numbered n) old = still_by n account caller deed (submits_of h) old
 still_own h account caller key deed new (Counts added renamed same) old = old
@@ -116,7 +116,7 @@ last_number ss s =
     let next : suc (length ss) ≡ length ss + 1 = omega arith in
     subst (λ (n : ℕ). IsBy s.author (submission_at n (ss ++ s ∷ []))) next (last_by ss s)
 
-own_reply : (h : History) (account : List ℕ) (key : Option (List ℕ)) (deed : Deed) (reply : Reply) → IsWellMade (asks account key deed) → IsOwnReply (entry (asks account key deed) reply ∷ h) account (reply_to (to_deed h account key deed) deed)
+own_reply : (h : History) (account : List ℕ) (key : Option (List ℕ)) (deed : Deed) (reply : Reply) → IsWellMade (asks account key deed) → IsOwnReply (More (entry (asks account key deed) reply) h) account (reply_to (to_deed h account key deed) deed)
 own_reply h account key (Ranks who rank) reply made = tt
 own_reply h account key (Submits path proposal note) reply made = last_number (submits_of h) (record { author = account; path = path; proposal = proposal; note = note })
 own_reply h account key (Comments n text) reply made = tt
@@ -127,22 +127,22 @@ own_reply h account key (Imports TooLong) reply made = omega arith
 own_reply h account key (Imports (Faulty fault)) reply made = omega arith
 own_reply h account key (Imports (Good pairs)) reply made = subst (λ (n : ℕ). n ≤ most_items) (sym (all_counted (items_of h) pairs)) made.2.limit
 
-new_kept : (h : History) (account : List ℕ) (key : Option (List ℕ)) (deed : Deed) (reply : Reply) → IsKnown account h → IsGoodKey key → IsOwnReply (entry (asks account key deed) reply ∷ h) account reply → AreReceipts h → AreReceipts (entry (asks account key deed) reply ∷ h)
+new_kept : (h : History) (account : List ℕ) (key : Option (List ℕ)) (deed : Deed) (reply : Reply) → IsKnown account h → IsGoodKey key → IsOwnReply (More (entry (asks account key deed) reply) h) account reply → AreReceipts h → AreReceipts (More (entry (asks account key deed) reply) h)
 new_kept h account None deed reply caller good own old = λ a k r e. let was = old a k r e in record { account = known_stays h account None deed reply a was.account; key = was.key; reply = still_own h a account None deed reply r was.reply }
 new_kept h account (Some key) deed reply caller good own old = λ a k r e. chosen a k r (bytes_eq a account) (bytes_eq k key) refl refl e
   where
-    chosen : (a k : List ℕ) (r : Reply) (p q : Bool) → bytes_eq a account ≡ p → bytes_eq k key ≡ q → cond (p && q) (Some reply) (kept_of a k h) ≡ Some r → IsReceipt (entry (asks account (Some key) deed) reply ∷ h) a k r
+    chosen : (a k : List ℕ) (r : Reply) (p q : Bool) → bytes_eq a account ≡ p → bytes_eq k key ≡ q → cond (p && q) (Some reply) (kept_of a k h) ≡ Some r → IsReceipt (More (entry (asks account (Some key) deed) reply) h) a k r
     chosen a k r true true ea ek e =
         let pa : account ≡ a = sym ((bytes_eq-Decides a account).0 ea) in
         let pk : key ≡ k = sym ((bytes_eq-Decides k key).0 ek) in
         let same : reply ≡ r = cc in
         record {
-          account = subst (λ (t : List ℕ). IsKnown t (entry (asks account (Some key) deed) reply ∷ h)) pa (known_stays h account (Some key) deed reply account caller);
+          account = subst (λ (t : List ℕ). IsKnown t (More (entry (asks account (Some key) deed) reply) h)) pa (known_stays h account (Some key) deed reply account caller);
           key = subst (λ (t : List ℕ). is_key t ≡ true) pk good;
-          reply = subst (λ (t : List ℕ). IsOwnReply (entry (asks account (Some key) deed) reply ∷ h) t r) pa (subst (λ (x : Reply). IsOwnReply (entry (asks account (Some key) deed) reply ∷ h) account x) same own);
+          reply = subst (λ (t : List ℕ). IsOwnReply (More (entry (asks account (Some key) deed) reply) h) t r) pa (subst (λ (x : Reply). IsOwnReply (More (entry (asks account (Some key) deed) reply) h) account x) same own);
         }
     chosen a k r true false ea ek e = let was = old a k r e in record { account = known_stays h account (Some key) deed reply a was.account; key = was.key; reply = still_own h a account (Some key) deed reply r was.reply }
     chosen a k r false q ea ek e = let was = old a k r e in record { account = known_stays h account (Some key) deed reply a was.account; key = was.key; reply = still_own h a account (Some key) deed reply r was.reply }
 
 pub kept_stays : Stays AreReceipts
-kept_stays h account key deed reply made passed old = new_kept h account key deed reply (caller_known h account key deed passed.all) made.1 (subst (λ (x : Reply). IsOwnReply (entry (asks account key deed) reply ∷ h) account x) (sym passed.reply_is) (own_reply h account key deed reply made)) old
+kept_stays h account key deed reply made passed old = new_kept h account key deed reply (caller_known h account key deed passed.all) made.1 (subst (λ (x : Reply). IsOwnReply (More (entry (asks account key deed) reply) h) account x) (sym passed.reply_is) (own_reply h account key deed reply made)) old

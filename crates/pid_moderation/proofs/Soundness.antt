@@ -8,7 +8,7 @@ use Rattle.pid_ident.specs.Trees.{IsTree, text_cmp}
 use Rattle.pid_ident.specs.Words.{is_name}
 use Rattle.pid_ident.specs.declared.path.Path.{Path}
 use Rattle.pid_ident.specs.declared.path.Path.TheVariants.{Vendor, Device, Subsystem, Class, Subclass, ProgIf, Generic}
-use Rattle.pid_moderation.specs.History.{Asked, History}
+use Rattle.pid_moderation.specs.History.{Asked, Begins, History}
 use Rattle.pid_moderation.specs.Items.{Items, name_at}
 use Rattle.pid_moderation.specs.Views.{items_of}
 use Rattle.pid_moderation.specs.Writes.{tree_of}
@@ -68,17 +68,17 @@ is_tree h sound all = record {
 
 -- HISTORIES
 
-pub histories_sound : (cs : List Asked) → AreWellMade cs → IsSound (after_all [] cs)
-histories_sound cs made = record {
-  tree = is_tree (after_all [] cs) (reached IsParented parented_stays cs [] made (record { parents = λ q h. absurd cc })) (reached IsNamed named_stays cs [] made (record { submits = tt; items = tt })).items;
-  item_limit = reached IsWithin limit_stays cs [] made (omega arith);
-  root = reached RootThere root_stays cs [] made refl;
-  administrator = reached HasAdministrator administrator_stays cs [] made (codes "root", refl);
-  accounts = reached AreAccounts accounts_stay cs [] made first_account;
-  submissions = reached AllSubmitted submissions_stay cs [] made tt;
-  submission_limit = reached FewSubmitted few_submissions_stay cs [] made (omega arith);
-  deciders = reached AreDecided deciders_stay cs [] made none_decided;
-  remarks = reached AreRemarked remarks_stay cs [] made none_remarked;
-  receipts = reached AllReceipted all_receipts_stay cs [] made tt;
-  kept = reached AreReceipts kept_stays cs [] made (λ a k r e. absurd cc);
+pub histories_sound : (mark : ℕ) (cs : List Asked) → AreWellMade cs → IsSound (after_all (Begins mark) cs)
+histories_sound mark cs made = record {
+  tree = is_tree (after_all (Begins mark) cs) (reached IsParented parented_stays cs (Begins mark) made (record { parents = λ q h. absurd cc })) (reached IsNamed named_stays cs (Begins mark) made (record { submits = tt; items = tt })).items;
+  item_limit = reached IsWithin limit_stays cs (Begins mark) made (omega arith);
+  root = reached RootThere root_stays cs (Begins mark) made refl;
+  administrator = reached HasAdministrator administrator_stays cs (Begins mark) made (codes "root", refl);
+  accounts = reached AreAccounts accounts_stay cs (Begins mark) made (first_account mark);
+  submissions = reached AllSubmitted submissions_stay cs (Begins mark) made tt;
+  submission_limit = reached FewSubmitted few_submissions_stay cs (Begins mark) made (omega arith);
+  deciders = reached AreDecided deciders_stay cs (Begins mark) made (none_decided mark);
+  remarks = reached AreRemarked remarks_stay cs (Begins mark) made (none_remarked mark);
+  receipts = reached AllReceipted all_receipts_stay cs (Begins mark) made tt;
+  kept = reached AreReceipts kept_stays cs (Begins mark) made (λ a k r e. absurd cc);
 }

@@ -8,7 +8,7 @@ use Rattle.pid_ident.specs.Words.{is_text}
 use Rattle.pid_moderation.specs.declared.facts.State.{State}
 use Rattle.pid_moderation.specs.declared.facts.State.TheVariants.{Pending, Approved, Rejected, Withdrawn}
 use Rattle.pid_moderation.specs.declared.rank.Rank.{Rank}
-use Rattle.pid_moderation.specs.History.{Deed, Submits, Comments, Withdraws, Approves, Rejects, History}
+use Rattle.pid_moderation.specs.History.{Deed, Submits, Comments, Withdraws, Approves, Rejects, Begins, More, History}
 use Rattle.pid_moderation.specs.Views.{Views, Submitted, Remark, views_of, rank_of, submits_of, submitted, submission_at, state_of, decided, remarks_of, remarked}
 use Rattle.pid_moderation.specs.FactsOfViews.{with_item, known}
 use Rattle.pid_moderation.specs.CheckTables.{checks, if_named, comment_checks, decision_checks, withdraw_checks, is_ill_formed, most_submissions, most_remarks}
@@ -41,7 +41,7 @@ submitted_well h next account key (Submits path proposal note) ss still caller m
 submitted_well h next account key deed ss still caller made old = still_submitted h next ss still old
 
 pub submissions_stay : Stays AllSubmitted
-submissions_stay h account key deed reply made passed old = submitted_well h (entry (asks account key deed) reply ∷ h) account key deed (submits_of h) (known_stays h account key deed reply) (caller_known h account key deed passed.all) made old
+submissions_stay h account key deed reply made passed old = submitted_well h (More (entry (asks account key deed) reply) h) account key deed (submits_of h) (known_stays h account key deed reply) (caller_known h account key deed passed.all) made old
 
 abbrev pub FewSubmitted : History → Type 0
 FewSubmitted h = length (submits_of h) ≤ most_submissions
@@ -111,11 +111,11 @@ decided_well h account key (Withdraws m) caller made formed old passed n = well_
 decided_well h account key deed caller made formed old passed n = old n
 
 pub deciders_stay : Stays AreDecided
-deciders_stay h account key deed reply made passed old = λ n. still_well h (entry (asks account key deed) reply ∷ h) _ _ (known_stays h account key deed reply) (decided_well h account key deed (caller_known h account key deed passed.all) made passed.well_formed old passed.all n)
+deciders_stay h account key deed reply made passed old = λ n. still_well h (More (entry (asks account key deed) reply) h) _ _ (known_stays h account key deed reply) (decided_well h account key deed (caller_known h account key deed passed.all) made passed.well_formed old passed.all n)
 
-pub none_decided : AreDecided []
-none_decided zero = refl
-none_decided (suc n) = refl
+pub none_decided : (mark : ℕ) → AreDecided (Begins mark)
+none_decided mark zero = refl
+none_decided mark (suc n) = refl
 
 -- most_remarks
 
@@ -170,8 +170,8 @@ remarked_well h account key (Comments m text) caller made formed old passed n = 
 remarked_well h account key deed caller made formed old passed n = old n
 
 pub remarks_stay : Stays AreRemarked
-remarks_stay h account key deed reply made passed old = λ n. still_remarked h (entry (asks account key deed) reply ∷ h) _ _ (known_stays h account key deed reply) (remarked_well h account key deed (caller_known h account key deed passed.all) made passed.well_formed old passed.all n)
+remarks_stay h account key deed reply made passed old = λ n. still_remarked h (More (entry (asks account key deed) reply) h) _ _ (known_stays h account key deed reply) (remarked_well h account key deed (caller_known h account key deed passed.all) made passed.well_formed old passed.all n)
 
-pub none_remarked : AreRemarked []
-none_remarked zero = refl
-none_remarked (suc n) = refl
+pub none_remarked : (mark : ℕ) → AreRemarked (Begins mark)
+none_remarked mark zero = refl
+none_remarked mark (suc n) = refl

@@ -8,8 +8,9 @@ use Rattle.pid_moderation.specs.declared.command.Reply.TheVariants.{Done, Number
 use Rattle.pid_moderation.specs.declared.rank.Rank.TheVariants.{Contributor, Moderator, Senior}
 use Rattle.pid_moderation.specs.declared.refusal.FileFault.TheVariants.{Line}
 use Rattle.pid_moderation.specs.declared.refusal.Refusal.TheVariants.{NoAccount, RankTooLow, NoSubmission, NotPending, NotAuthor, OwnDecision, ParentMissing, HasChildren, NothingToDo, FileFault}
-use Rattle.pid_moderation.specs.History.{Deed, Reading, Good, Faulty, Ranks, Submits, Comments, Withdraws, Approves, Rejects, Imports, Asked}
+use Rattle.pid_moderation.specs.History.{Deed, Reading, Good, Faulty, Ranks, Submits, Comments, Withdraws, Approves, Rejects, Imports, Asked, Begins, new_history}
 use Rattle.pid_moderation.specs.Views.{items_of}
+use Rattle.pid_moderation.specs.Revisions.{revision_of, since_of}
 use Rattle.pid_moderation.specs.Judgement.{answers, after_all}
 
 abbrev by : List ℕ → Deed → Asked
@@ -30,28 +31,61 @@ bob = codes "bob"
 abbrev first_approval : List Asked
 first_approval = by root (Ranks alice Contributor) ∷ by alice (Submits (Vendor 32902) (Name (codes "Intel Corporation")) []) ∷ by alice (Approves 1) ∷ by root (Approves 1) ∷ []
 
-first_approval_answers : answers [] first_approval ≡ Ok Done ∷ Ok (Numbered 1) ∷ Err RankTooLow ∷ Ok Done ∷ []
+first_approval_answers : answers new_history first_approval ≡ Ok Done ∷ Ok (Numbered 1) ∷ Err RankTooLow ∷ Ok Done ∷ []
 first_approval_answers = refl
 
-first_approval_items : items_of (after_all [] first_approval) ≡ (codes "PC/8086", codes "Intel Corporation") ∷ []
+first_approval_items : items_of (after_all new_history first_approval) ≡ (codes "PC/8086", codes "Intel Corporation") ∷ []
 first_approval_items = refl
+
+-- the three accepted commands, and then an import of the same name with a new item: the fourth adds that alone
+abbrev with_realtek : List Asked
+with_realtek = first_approval ++ by root (Imports (Good ((codes "PC/8086", codes "Intel Corporation") ∷ (codes "PC/10ec", codes "Realtek") ∷ []))) ∷ []
+
+with_realtek_revision : revision_of (after_all new_history with_realtek) ≡ 4
+with_realtek_revision = refl
+
+with_realtek_same : since_of (codes "PC/8086") (after_all new_history with_realtek) ≡ 3
+with_realtek_same = refl
+
+with_realtek_added : since_of (codes "PC/10ec") (after_all new_history with_realtek) ≡ 4
+with_realtek_added = refl
+
+-- where these three stand before the mark, nothing has changed yet
+taken_over_revision : revision_of (after_all (Begins 3) first_approval) ≡ 0
+taken_over_revision = refl
+
+taken_over_since : since_of (codes "PC/8086") (after_all (Begins 3) first_approval) ≡ 0
+taken_over_since = refl
+
+-- then the item is removed, and an import adds it again
+abbrev added_again : List Asked
+added_again = first_approval ++ by alice (Submits (Vendor 32902) Removal []) ∷ by root (Approves 2) ∷ by root (Imports (Good ((codes "PC/8086", codes "X") ∷ []))) ∷ []
+
+added_again_answers : answers (after_all (Begins 3) first_approval) (by alice (Submits (Vendor 32902) Removal []) ∷ by root (Approves 2) ∷ by root (Imports (Good ((codes "PC/8086", codes "X") ∷ []))) ∷ []) ≡ Ok (Numbered 2) ∷ Ok Done ∷ Ok (Counts 1 0 0) ∷ []
+added_again_answers = refl
+
+added_again_revision : revision_of (after_all (Begins 3) added_again) ≡ 3
+added_again_revision = refl
+
+added_again_since : since_of (codes "PC/8086") (after_all (Begins 3) added_again) ≡ 3
+added_again_since = refl
 
 abbrev device_waits_for_vendor : List Asked
 device_waits_for_vendor = by root (Ranks bob Moderator) ∷ by bob (Submits (Device 32902 4663) (Name (codes "440FX")) []) ∷ by root (Approves 1) ∷ by bob (Submits (Vendor 32902) (Name (codes "Intel")) []) ∷ by root (Approves 2) ∷ by root (Approves 1) ∷ []
 
-device_waits_for_vendor_answers : answers [] device_waits_for_vendor ≡ Ok Done ∷ Ok (Numbered 1) ∷ Err ParentMissing ∷ Ok (Numbered 2) ∷ Ok Done ∷ Ok Done ∷ []
+device_waits_for_vendor_answers : answers new_history device_waits_for_vendor ≡ Ok Done ∷ Ok (Numbered 1) ∷ Err ParentMissing ∷ Ok (Numbered 2) ∷ Ok Done ∷ Ok Done ∷ []
 device_waits_for_vendor_answers = refl
 
-device_waits_for_vendor_items : items_of (after_all [] device_waits_for_vendor) ≡ (codes "PC/8086", codes "Intel") ∷ (codes "PC/8086/1237", codes "440FX") ∷ []
+device_waits_for_vendor_items : items_of (after_all new_history device_waits_for_vendor) ≡ (codes "PC/8086", codes "Intel") ∷ (codes "PC/8086/1237", codes "440FX") ∷ []
 device_waits_for_vendor_items = refl
 
 abbrev removals : List Asked
 removals = by bob (Submits (Vendor 32902) Removal []) ∷ by root (Approves 3) ∷ by bob (Submits (Device 32902 4663) Removal []) ∷ by root (Approves 4) ∷ by root (Approves 3) ∷ []
 
-removals_answers : answers (after_all [] device_waits_for_vendor) removals ≡ Ok (Numbered 3) ∷ Err HasChildren ∷ Ok (Numbered 4) ∷ Ok Done ∷ Ok Done ∷ []
+removals_answers : answers (after_all new_history device_waits_for_vendor) removals ≡ Ok (Numbered 3) ∷ Err HasChildren ∷ Ok (Numbered 4) ∷ Ok Done ∷ Ok Done ∷ []
 removals_answers = refl
 
-removals_items : items_of (after_all [] (device_waits_for_vendor ++ removals)) ≡ []
+removals_items : items_of (after_all new_history (device_waits_for_vendor ++ removals)) ≡ []
 removals_items = refl
 
 abbrev intel : Reading
@@ -63,18 +97,18 @@ intel_corporation = Good ((codes "PC/8086", codes "Intel Corporation") ∷ [])
 abbrev imports : List Asked
 imports = under (codes "k1") root (Imports intel) ∷ under (codes "k1") root (Imports intel) ∷ by root (Imports intel) ∷ by root (Imports intel_corporation) ∷ under (codes "k1") root (Imports intel) ∷ []
 
-imports_answers : answers [] imports ≡ Ok (Counts 1 0 0) ∷ Ok (Counts 1 0 0) ∷ Ok (Counts 0 0 1) ∷ Ok (Counts 0 1 0) ∷ Ok (Counts 1 0 0) ∷ []
+imports_answers : answers new_history imports ≡ Ok (Counts 1 0 0) ∷ Ok (Counts 1 0 0) ∷ Ok (Counts 0 0 1) ∷ Ok (Counts 0 1 0) ∷ Ok (Counts 1 0 0) ∷ []
 imports_answers = refl
 
-imports_items : items_of (after_all [] imports) ≡ (codes "PC/8086", codes "Intel Corporation") ∷ []
+imports_items : items_of (after_all new_history imports) ≡ (codes "PC/8086", codes "Intel Corporation") ∷ []
 imports_items = refl
 
-faulty_import : answers [] (by root (Imports (Faulty (Line 3 Duplicate))) ∷ []) ≡ Err (FileFault (Line 3 Duplicate)) ∷ []
+faulty_import : answers new_history (by root (Imports (Faulty (Line 3 Duplicate))) ∷ []) ≡ Err (FileFault (Line 3 Duplicate)) ∷ []
 faulty_import = refl
 
 abbrev policy : List Asked
 policy = by root (Ranks alice Contributor) ∷ by root (Submits (Vendor 4332) (Name (codes "Realtek")) []) ∷ by root (Approves 1) ∷ by alice (Withdraws 1) ∷ by alice (Comments 1 (codes "seen")) ∷ by root (Ranks root Senior) ∷ by root (Ranks alice Contributor)
     ∷ by (codes "carol") (Submits (Vendor 4332) (Name (codes "X")) []) ∷ by root (Approves 2) ∷ by root (Withdraws 1) ∷ by root (Withdraws 1) ∷ by alice (Withdraws 1) ∷ by alice (Rejects 1 (codes "no")) ∷ []
 
-policy_answers : answers [] policy ≡ Ok Done ∷ Ok (Numbered 1) ∷ Err OwnDecision ∷ Err NotAuthor ∷ Ok Done ∷ Err OwnDecision ∷ Err NothingToDo ∷ Err NoAccount ∷ Err NoSubmission ∷ Ok Done ∷ Err NotPending ∷ Err NotAuthor ∷ Err NotPending ∷ []
+policy_answers : answers new_history policy ≡ Ok Done ∷ Ok (Numbered 1) ∷ Err OwnDecision ∷ Err NotAuthor ∷ Ok Done ∷ Err OwnDecision ∷ Err NothingToDo ∷ Err NoAccount ∷ Err NoSubmission ∷ Ok Done ∷ Err NotPending ∷ Err NotAuthor ∷ Err NotPending ∷ []
 policy_answers = refl

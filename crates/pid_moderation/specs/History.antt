@@ -1,5 +1,5 @@
 -- What was asked of the registry, and the list of what it accepted.
-use Rattle.std.specs.Prelude.{ℕ, Bool, true, false, List, Option}
+use Rattle.std.specs.Prelude.{ℕ, Bool, true, false, List, [], ◌∷◌, length, Option}
 use Rattle.pid_ident.specs.declared.path.Path.{Path}
 use Rattle.pid_moderation.specs.declared.command.Proposal.{Proposal}
 use Rattle.pid_moderation.specs.declared.command.Reply.{Reply}
@@ -53,6 +53,25 @@ pub record Accepted : Type 0 where
   pub asked : Asked
   pub reply : Reply
 
+-- The accepted commands, the newest outermost. A history has a mark: its first commands, so many, were accepted before the registry began to
+-- count changes, as those of a file that was taken over.
+pub data History : Type 0 where
+  Begins : (mark : ℕ) → History
+  More : (newest : Accepted) (before : History) → History
+
+-- that of a new registry: no command yet, and all that come are counted
+abbrev pub new_history : History
+new_history = Begins 0
+
+abbrev pub mark_of : History → ℕ
+mark_of (Begins mark) = mark
+mark_of (More e h) = mark_of h
+
 -- the accepted commands, the newest first
-abbrev pub History : Type 0
-History = List Accepted
+abbrev pub accepted_in : History → List Accepted
+accepted_in (Begins mark) = []
+accepted_in (More e h) = e ∷ accepted_in h
+
+-- how many commands were accepted
+abbrev pub count_of : History → ℕ
+count_of h = length (accepted_in h)

@@ -4,7 +4,7 @@ use Rattle.pid_moderation.specs.declared.command.Reply.{Reply}
 use Rattle.pid_moderation.specs.declared.facts.Facts.{Facts}
 use Rattle.pid_moderation.specs.declared.refusal.Refusal.{Refusal}
 use Rattle.pid_moderation.specs.declared.refusal.Refusal.TheVariants.{BadText}
-use Rattle.pid_moderation.specs.History.{Asked, History}
+use Rattle.pid_moderation.specs.History.{Asked, More, History}
 use Rattle.pid_moderation.specs.Views.{Views, views_of}
 use Rattle.pid_moderation.specs.FactsOfViews.{facts_of}
 use Rattle.pid_moderation.specs.CheckTables.{checks, first_failing, is_ill_formed, reply_to}
@@ -38,7 +38,7 @@ answer (Accepts reply) = Ok reply
 abbrev pub added : History → Asked → Outcome → History
 added h c (Refused refusal) = h
 added h c (Repeated reply) = h
-added h c (Accepts reply) = record { asked = c; reply = reply } ∷ h
+added h c (Accepts reply) = More (record { asked = c; reply = reply }) h
 
 abbrev pub after : History → Asked → History
 after h c = added h c (judge (views_of h) c)

@@ -1,7 +1,7 @@
 -- The commands of an account under a key.
 use Rattle.std.specs.Prelude.{ℕ, Bool, false, ◌&&◌, List, Option, Some, None, count_by}
 use Rattle.std.specs.Str.{bytes_eq}
-use Rattle.pid_moderation.specs.History.{Accepted, History}
+use Rattle.pid_moderation.specs.History.{Accepted, History, accepted_in}
 
 abbrev pub has_key : List ℕ → Option (List ℕ) → Bool
 has_key key None = false
@@ -12,4 +12,4 @@ is_under account key e = bytes_eq account e.asked.account && has_key key e.asked
 
 -- how many of them a history holds
 abbrev pub times_under : List ℕ → List ℕ → History → ℕ
-times_under account key h = count_by (is_under account key) h
+times_under account key h = count_by (is_under account key) (accepted_in h)

@@ -1,23 +1,23 @@
 -- The laws that others cite: each is the contract of a public function that does nothing.
-use Rattle.std.specs.Prelude.{ℕ, ◌≤◌, T, List, [], length}
+use Rattle.std.specs.Prelude.{ℕ, ◌≤◌, T, List, length}
 use Rattle.std.specs.FinMap.{entries}
 use Rattle.std.specs.FinMap.Entries.{is_sorted}
 use Rattle.pid_ident.specs.Trees.{IsTree, TreeMap, text_cmp}
 use Rattle.pid_moderation.specs.CheckTables.{most_items}
-use Rattle.pid_moderation.specs.History.{Asked, History}
+use Rattle.pid_moderation.specs.History.{Asked, Begins, History}
 use Rattle.pid_moderation.specs.Judgement.{after_all}
 use Rattle.pid_moderation.specs.Keys.{times_under}
 use Rattle.pid_moderation.specs.Sound.{IsSound}
 use Rattle.pid_moderation.specs.Views.{items_of}
 use Rattle.pid_moderation.specs.WellMade.{AreWellMade, IsFile}
 
--- what well made commands lead to is sound
+-- what well made commands lead to, from any beginning, is sound
 abbrev pub HistoriesAreSound : Type 0
-HistoriesAreSound = (commands : List Asked) → AreWellMade commands → IsSound (after_all [] commands)
+HistoriesAreSound = (mark : ℕ) (commands : List Asked) → AreWellMade commands → IsSound (after_all (Begins mark) commands)
 
 -- of the commands of an account under a key at most one is accepted
 abbrev pub KeysStandOnce : Type 0
-KeysStandOnce = (commands : List Asked) (account key : List ℕ) → times_under account key (after_all [] commands) ≤ 1
+KeysStandOnce = (mark : ℕ) (commands : List Asked) (account key : List ℕ) → times_under account key (after_all (Begins mark) commands) ≤ 1
 
 -- the items of a history are in the order of their paths
 abbrev pub ItemsAreSorted : Type 0

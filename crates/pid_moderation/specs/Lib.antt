@@ -15,6 +15,7 @@ pub mod Sound
 pub mod Keys
 pub mod Wants
 pub mod Writes
+pub mod Revisions
 pub mod WellMade
 pub mod Fields
 pub mod Forms

@@ -10,7 +10,7 @@ use Rattle.pid_moderation.specs.declared.command.Reply.TheVariants.{Done, Number
 use Rattle.pid_moderation.specs.declared.facts.State.{State}
 use Rattle.pid_moderation.specs.declared.facts.State.TheVariants.{Pending, Approved, Rejected, Withdrawn}
 use Rattle.pid_moderation.specs.declared.rank.Rank.TheVariants.{Administrator}
-use Rattle.pid_moderation.specs.History.{Accepted, History}
+use Rattle.pid_moderation.specs.History.{Accepted, History, accepted_in}
 use Rattle.pid_moderation.specs.Views.{Submitted, Remark, rank_of, submits_of, submission_at, state_of, remarks_of, items_of, kept_of}
 use Rattle.pid_moderation.specs.Writes.{tree_of}
 use Rattle.pid_moderation.specs.WellMade.{ProposesName}
@@ -96,5 +96,5 @@ pub record IsSound (h : History) : Type 0 where
   pub deciders : (n : ℕ) → IsDecidedWell h (submission_at n (submits_of h)) (state_of n h)
   pub remarks : (n : ℕ) → IsRemarkedWell h (submission_at n (submits_of h)) (remarks_of n h)
   -- each command under a key has its reply kept, and what is kept is of its account
-  pub receipts : HaveReceipts h h
+  pub receipts : HaveReceipts (accepted_in h) h
   pub kept : (account key : List ℕ) (reply : Reply) → kept_of account key h ≡ Some reply → IsReceipt h account key reply

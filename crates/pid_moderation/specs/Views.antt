@@ -9,7 +9,7 @@ use Rattle.pid_moderation.specs.declared.rank.Rank.{Rank}
 use Rattle.pid_moderation.specs.declared.rank.Rank.TheVariants.{Administrator}
 use Rattle.pid_moderation.specs.declared.facts.State.{State}
 use Rattle.pid_moderation.specs.declared.facts.State.TheVariants.{Pending, Approved, Rejected, Withdrawn}
-use Rattle.pid_moderation.specs.History.{Reading, TooLong, Faulty, Good, Deed, Ranks, Submits, Comments, Withdraws, Approves, Rejects, Imports, History}
+use Rattle.pid_moderation.specs.History.{Reading, TooLong, Faulty, Good, Deed, Ranks, Submits, Comments, Withdraws, Approves, Rejects, Imports, Begins, More, History}
 use Rattle.pid_moderation.specs.Items.{Items, written, imported}
 
 pub record Submitted : Type 0 where
@@ -42,8 +42,8 @@ ranked a (Ranks who rank) before = if bytes_eq a who then Some rank else before
 ranked a deed before = before
 
 abbrev pub rank_of : List ℕ → History → Option Rank
-rank_of a [] = if bytes_eq a (codes "root") then Some Administrator else None
-rank_of a (e ∷ h) = ranked a e.asked.deed (rank_of a h)
+rank_of a (Begins mark) = if bytes_eq a (codes "root") then Some Administrator else None
+rank_of a (More e h) = ranked a e.asked.deed (rank_of a h)
 
 abbrev pub submitted : List ℕ → Deed → List Submitted → List Submitted
 submitted account (Submits path proposal note) before = before ++ record { author = account; path = path; proposal = proposal; note = note } ∷ []
@@ -51,8 +51,8 @@ submitted account deed before = before
 
 -- the commands that submit
 abbrev pub submits_of : History → List Submitted
-submits_of [] = []
-submits_of (e ∷ h) = submitted e.asked.account e.asked.deed (submits_of h)
+submits_of (Begins mark) = []
+submits_of (More e h) = submitted e.asked.account e.asked.deed (submits_of h)
 
 -- number n; they are counted from 1
 abbrev pub submission_at : ℕ → List Submitted → Option Submitted
@@ -67,8 +67,8 @@ decided n account deed before = before
 
 -- by the last command that decides it
 abbrev pub state_of : ℕ → History → State
-state_of n [] = Pending
-state_of n (e ∷ h) = decided n e.asked.account e.asked.deed (state_of n h)
+state_of n (Begins mark) = Pending
+state_of n (More e h) = decided n e.asked.account e.asked.deed (state_of n h)
 
 abbrev pub remarked : ℕ → List ℕ → Deed → List Remark → List Remark
 remarked n account (Comments m text) before = if n == m then before ++ record { author = account; text = text } ∷ [] else before
@@ -76,8 +76,8 @@ remarked n account deed before = before
 
 -- the comments that name it
 abbrev pub remarks_of : ℕ → History → List Remark
-remarks_of n [] = []
-remarks_of n (e ∷ h) = remarked n e.asked.account e.asked.deed (remarks_of n h)
+remarks_of n (Begins mark) = []
+remarks_of n (More e h) = remarked n e.asked.account e.asked.deed (remarks_of n h)
 
 abbrev pub carried_out : Option Submitted → Items → Items
 carried_out None items = items
@@ -96,8 +96,8 @@ itemized deed submits before = before
 
 -- what approvals and imports wrote
 abbrev pub items_of : History → Items
-items_of [] = []
-items_of (e ∷ h) = itemized e.asked.deed (submits_of h) (items_of h)
+items_of (Begins mark) = []
+items_of (More e h) = itemized e.asked.deed (submits_of h) (items_of h)
 
 abbrev pub receipted : List ℕ → List ℕ → List ℕ → Option (List ℕ) → Reply → Option Reply → Option Reply
 receipted a k account (Some key) reply before = if bytes_eq a account && bytes_eq k key then Some reply else before
@@ -105,8 +105,8 @@ receipted a k account None reply before = before
 
 -- the reply to the command of the account under the key
 abbrev pub kept_of : List ℕ → List ℕ → History → Option Reply
-kept_of a k [] = None
-kept_of a k (e ∷ h) = receipted a k e.asked.account e.asked.key e.reply (kept_of a k h)
+kept_of a k (Begins mark) = None
+kept_of a k (More e h) = receipted a k e.asked.account e.asked.key e.reply (kept_of a k h)
 
 abbrev pub views_of : History → Views
 views_of h = record {

@@ -1,9 +1,13 @@
 //! Laws of the definitions. Each is the contract of a function that does nothing.
-ghost use Rattle.std.specs.Prelude.{◌≡◌, ℕ, List};
+ghost use Rattle.std.specs.Prelude.{◌≡◌, ◌≢◌, ◌≤◌, ◌+◌, ℕ, List, None, Some};
 ghost use Rattle.std.specs.FinMap.{get, entries};
-ghost use Rattle.pid_moderation.specs.History.{History, Reading, asked};
+ghost use Rattle.pid_moderation.specs.declared.command.Reply.{Reply};
+ghost use Rattle.pid_moderation.specs.History.{Asked, History, Reading, asked, count_of, mark_of};
+ghost use Rattle.pid_moderation.specs.Items.{name_at};
+ghost use Rattle.pid_moderation.specs.Judgement.{Accepts, after, after_all, answers, judge};
 ghost use Rattle.pid_moderation.specs.Laws.{HistoriesAreSound, KeysStandOnce, ItemsAreSorted, TreesAreFiles};
-ghost use Rattle.pid_moderation.specs.Views.{items_of};
+ghost use Rattle.pid_moderation.specs.Revisions.{IsMarked, revision_of, since_of, with_mark};
+ghost use Rattle.pid_moderation.specs.Views.{items_of, views_of};
 ghost use Rattle.pid_moderation.specs.WellMade.{HasGoodFile, IsWellMade};
 ghost use Rattle.pid_moderation.specs.Writes.{tree_of, last_written, writes_of};
 
@@ -34,6 +38,46 @@ pub fn items_are_sorted()
 /// A tree of names is what a file may read to.
 pub fn trees_are_files()
     ensures { TreesAreFiles }
+{}
+
+/// The mark of a history stays, whatever is asked.
+pub fn marks_stay()
+    ensures mark { (h : History) (commands : List Asked) → mark_of (after_all h commands) ≡ mark_of h }
+    // As many commands as it says were accepted, also later.
+    ensures marked { (h : History) (commands : List Asked) → IsMarked h → IsMarked (after_all h commands) }
+{}
+
+/// What is shown and what is answered does not depend on the mark: the same commands are accepted from any beginning.
+pub fn marks_judge_nothing()
+    ensures views { (mark : ℕ) (h : History) → views_of (with_mark mark h) ≡ views_of h }
+    ensures after { (mark : ℕ) (h : History) (commands : List Asked) → after_all (with_mark mark h) commands ≡ with_mark mark (after_all h commands) }
+    ensures answers { (mark : ℕ) (h : History) (commands : List Asked) → answers (with_mark mark h) commands ≡ answers h commands }
+{}
+
+/// The revision counts the accepted commands from the mark on.
+pub fn revisions_count()
+    ensures accepted { (h : History) (c : Asked) (reply : Reply) → IsMarked h → judge (views_of h) c ≡ Accepts reply
+        → revision_of (after h c) ≡ revision_of h + 1 }
+    ensures grows { (h : History) (commands : List Asked) → revision_of h ≤ revision_of (after_all h commands) }
+{}
+
+/// The since of an item is the revision at which it was added or renamed for the last time.
+pub fn sinces_are_last_changes()
+    ensures within { (h : History) (path : List ℕ) → since_of path h ≤ revision_of h }
+    // Up to the mark nothing counts as changed.
+    ensures at_mark { (h : History) (path : List ℕ) → count_of h ≤ mark_of h → since_of path h ≡ 0 }
+    // A command that leaves the name leaves the since: also an import that brings the same name.
+    ensures kept { (h : History) (c : Asked) (path : List ℕ) → name_at path (items_of (after h c)) ≡ name_at path (items_of h)
+        → since_of path (after h c) ≡ since_of path h }
+    ensures removed { (h : History) (c : Asked) (path : List ℕ) → name_at path (items_of (after h c)) ≡ None
+        → since_of path (after h c) ≡ since_of path h }
+    // A name that was not there is as new as the command, also where the item had it before it was removed.
+    ensures given { (h : History) (c : Asked) (path name : List ℕ) → name_at path (items_of (after h c)) ≡ Some name
+        → name_at path (items_of h) ≢ Some name → since_of path (after h c) ≡ revision_of (after h c) }
+    // What has not changed since an earlier revision had its name then: a mirror of that revision needs the others alone.
+    ensures already { (h : History) (commands : List Asked) (path name : List ℕ) → IsMarked h
+        → name_at path (items_of (after_all h commands)) ≡ Some name → since_of path (after_all h commands) ≤ revision_of h
+        → name_at path (items_of h) ≡ Some name }
 {}
 
 /// What the parts of a command keep by their types, where its file reads to a tree of names.

@@ -1,11 +1,11 @@
 -- What a plain registry shows: the history of the commands that it accepted. A choice of this project, for tests.
-use Rattle.std.specs.Prelude.{ℕ, List, map, reverse}
+use Rattle.std.specs.Prelude.{ℕ, List, map, fold}
 use Rattle.std.specs.BTreeMap.{BTreeMap}
 use Rattle.pid_ident.specs.PathTexts.{path_text}
 use Rattle.pid_ident.specs.declared.path.Path.{Path}
 use Rattle.pid_moderation.specs.declared.command.Command.{Command}
 use Rattle.pid_moderation.specs.History as histories
-use Rattle.pid_moderation.specs.History.{History, Reading, Asked, asked}
+use Rattle.pid_moderation.specs.History.{More, History, Reading, Asked, asked, new_history}
 use Rattle.pid_moderation.specs.Items.{Items}
 use Rattle.pid_moderation.specs.Views.{Submitted, Views, views_of}
 use Rattle.pid_plain_registry.specs.declared.past.Accepted.{Accepted}
@@ -32,9 +32,9 @@ reading_of (Good pairs) = histories.Good (map item_of pairs.items)
 abbrev pub entry_of : Accepted → histories.Accepted
 entry_of e = record { asked = asked e.command (reading_of e.file); reply = e.reply }
 
--- the accepted commands, which are kept the oldest first, as a history, the newest first
+-- the accepted commands, which are kept the oldest first, as the history of a new registry
 abbrev pub history_of : List Accepted → History
-history_of accepted = reverse (map entry_of accepted)
+history_of accepted = fold (λ h e. More (entry_of e) h) new_history accepted
 
 -- a submission as it was made; it serves private functions alone
 abbrev pub lent : Submission → Submitted

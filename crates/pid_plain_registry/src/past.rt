@@ -1,6 +1,7 @@
 //! What the accepted commands show: each view goes over all of them, the oldest first.
 ghost use Rattle.std.specs.Prelude.{◌≡◌, ◌≤◌, ◌+◌, [], ◌∷◌, ◌++◌, length, IfOk, Some, None, if◌then◌else◌};
 ghost use Rattle.std.specs.Option.{option_map, option_to_list};
+ghost use Rattle.pid_moderation.specs.History.{new_history};
 ghost use Rattle.pid_moderation.specs.Views.{ranked as ranked_by, rank_of, receipted, kept_of, submits_of, submission_at, submitted, decided as decided_by, state_of, remarked, remarks_of};
 ghost use Rattle.pid_moderation.specs.FactsOfViews.{kept_in, named as named_in};
 ghost use Rattle.pid_plain_registry.specs.Shown.{entry_of, history_of, lent};
@@ -40,7 +41,7 @@ pub struct Submission<'a> {
 
 // The rank of an account at first.
 fn first_rank(account: &Account) -> Option<Rank>
-    ensures { result ≡ rank_of account.now [] }
+    ensures { result ≡ rank_of account.now new_history }
 {
     if account.as_str() == "root" {
         Some(Rank::Administrator)

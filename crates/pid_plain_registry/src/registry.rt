@@ -1,6 +1,6 @@
 //! The registry over the list of what it accepted.
-ghost use Rattle.std.specs.Prelude.{◌≡◌, ◌≢◌, [], ◌∷◌, length, is_some, IfOk, IfErr, OnOk, OnErr, Some, Ok, Err};
-ghost use Rattle.pid_moderation.specs.History.{Reading, asked, deed_of};
+ghost use Rattle.std.specs.Prelude.{◌≡◌, ◌≢◌, length, is_some, IfOk, IfErr, OnOk, OnErr, Some, Ok, Err};
+ghost use Rattle.pid_moderation.specs.History.{More, Reading, asked, deed_of, new_history};
 ghost use Rattle.pid_moderation.specs.Views.{Views, rank_of, submits_of, items_of, submission_at};
 ghost use Rattle.pid_moderation.specs.FactsOfViews.{known as known_by, named as named_in, looked_at, facts_of, with_file, with_item};
 ghost use Rattle.pid_moderation.specs.Judgement.{judge, answer, after};
@@ -35,7 +35,7 @@ struct Answer {
 impl PlainRegistry {
     /// A new registry: `root` is an administrator, and there is nothing else.
     pub fn new(alloc: Global) -> PlainRegistry
-        ensures { shown result ≡ [] }
+        ensures { shown result ≡ new_history }
     {
         PlainRegistry {
             alloc,
@@ -212,7 +212,7 @@ impl PlainRegistry {
         ensures ok { IfOk result (λ r. r ≡ reply) }
         ensures err { IfErr result (λ e. e ≡ Refusal.Memory) }
         ensures added { OnOk result (shown self.new ≡
-            entry_of (record { command = command; file = file; reply = reply }) ∷ shown self.old) }
+            More (entry_of (record { command = command; file = file; reply = reply })) (shown self.old)) }
         ensures unchanged { OnErr result (shown self.new ≡ shown self.old) }
     {
         let accepted = Accepted {

@@ -1,4 +1,5 @@
-use Rattle.std.proofs.Common.{[], ◌≤◌}
+use Rattle.std.proofs.Common.{[], ◌≤◌, ap, ◌∙◌}
+use Rattle.pid_moderation.specs.History.{Begins, mark_of}
 use Rattle.pid_moderation.specs.Keys.{times_under}
 use Rattle.pid_moderation.specs.Sound.{IsSound}
 use Rattle.std.specs.List.{flat_map}
@@ -9,11 +10,12 @@ use Rattle.pid_lives.proofs.laws.lives_are_prefixes.Goals as goal
 pub returns : goal.returns
 returns c = record {
   prefix = λ life. prefix_parts life.sent life.doubt;
-  joined = λ lives. joined lives [];
-  holds = λ lives j. lives_hold lives [] j;
+  joined = λ mark lives. joined lives (Begins mark);
+  marked = λ mark lives. ap mark_of (joined lives (Begins mark)) ∙ c.marks_stay.ensures.mark (Begins mark) (flat_map prefix_of lives);
+  holds = λ mark lives j. lives_hold lives (Begins mark) j;
   only = lives_only;
-  once = λ lives account key. joins (λ h. times_under account key h ≤ 1) lives (c.keys_stand_once.ensures (flat_map prefix_of lives) account key);
-  kept = λ lives j. lives_keep lives [] j;
+  once = λ mark lives account key. joins (λ h. times_under account key h ≤ 1) mark [] lives (c.keys_stand_once.ensures mark (flat_map prefix_of lives) account key);
+  kept = λ mark lives j. lives_keep lives (Begins mark) j;
   own = lives_own;
-  sound = λ lives made. joins IsSound lives (c.histories_are_sound.ensures (flat_map prefix_of lives) made);
+  sound = λ mark lives made. joins IsSound mark [] lives (c.histories_are_sound.ensures mark (flat_map prefix_of lives) made);
 }
