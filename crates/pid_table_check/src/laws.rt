@@ -1,7 +1,7 @@
 //! Laws of the definitions. Each is the contract of a function that does nothing.
-ghost use Rattle.std.specs.Prelude.{List, []};
+ghost use Rattle.std.specs.Prelude.{ℕ, List};
 ghost use Rattle.sqlite.specs.Effect.{Database};
-ghost use Rattle.pid_moderation.specs.History.{Asked, History};
+ghost use Rattle.pid_moderation.specs.History.{Asked, Begins, History};
 ghost use Rattle.pid_moderation.specs.Judgement.{after_all};
 ghost use Rattle.pid_moderation.specs.Sound.{IsSound};
 ghost use Rattle.pid_moderation.specs.Views.{views_of};
@@ -20,9 +20,9 @@ pub fn sound_histories_are_registries()
     items_are_sorted();
 }
 
-/// So does every database that shows what well made commands lead to.
+/// So does every database that shows what well made commands lead to, from any beginning.
 pub fn shown_tables_are_registries()
-    ensures { (commands : List Asked) → AreWellMade commands → (db : Database) → Shows db (views_of (after_all [] commands)) → IsRegistry db.trees }
+    ensures { (mark : ℕ) (commands : List Asked) → AreWellMade commands → (db : Database) → Shows db (views_of (after_all (Begins mark) commands)) → IsRegistry db.trees }
 {
     histories_are_sound();
     sound_histories_are_registries();

@@ -8,6 +8,7 @@ use Rattle.sqlite.specs.State.{State, HasCleanDisk}
 use Rattle.sqlite.specs.Table.{Table}
 use Rattle.sqlite.specs.Tree.{Trees}
 use Rattle.sqlite_rules.specs.Lists.{Has}
+use Rattle.pid_moderation.specs.History.{new_history}
 use Rattle.pid_moderation.specs.Views.{views_of}
 use Rattle.pid_rows.specs.declared.fault.TableFault.{TableFault}
 use Rattle.pid_rows.specs.declared.fault.TableFault.TheVariants.{Memory, Store, NewerSchema, Damaged}
@@ -36,9 +37,9 @@ pub record IsBlank (s : State) : Type 0 where
   pub empty : IsTrue s.is_open → AreMade [] s.now
   pub leaves : HasCleanDisk s → (db : Trees) → s.may_leave db → IsBare db
 
--- everything that a crash may leave has no table, or shows the history without commands
+-- everything that a crash may leave has no table, or shows the history of a new registry
 pub record LeavesBareOrNew (s : State) : Type 0 where
-  pub each : HasCleanDisk s → (db : Trees) → s.may_leave db → IsBare db ⊎ Shows (as_found db) (views_of [])
+  pub each : HasCleanDisk s → (db : Trees) → s.may_leave db → IsBare db ⊎ Shows (as_found db) (views_of new_history)
 
 abbrev pub table_names : List (List ℕ)
 table_names = codes "meta" ∷ codes "account" ∷ codes "item" ∷ codes "submission" ∷ codes "remark" ∷ codes "receipt" ∷ []

@@ -1,11 +1,11 @@
 -- What the tables of a connection show, if they show anything.
-use Rattle.std.specs.Prelude.{◌≡◌, ◌⊎◌, []}
+use Rattle.std.specs.Prelude.{◌≡◌, ◌⊎◌}
 use Rattle.sqlite.specs.State.{State}
-use Rattle.pid_moderation.specs.History.{History}
+use Rattle.pid_moderation.specs.History.{History, new_history}
 use Rattle.pid_moderation.specs.Views.{views_of}
 use Rattle.pid_rows.specs.Leaves.{AtRest}
 use Rattle.pid_tables.specs.Creation.{IsBlank}
 
--- the tables show the history; or there is no table at all, which shows the one without commands
+-- The tables show the history, whatever its mark, which they do not tell; or there is no table at all, which shows that of a new registry.
 abbrev pub ShowsOrBlank : State → History → Type 0
-ShowsOrBlank s h = AtRest s (views_of h) ⊎ (IsBlank s × (h ≡ []))
+ShowsOrBlank s h = AtRest s (views_of h) ⊎ (IsBlank s × (h ≡ new_history))

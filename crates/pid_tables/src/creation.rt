@@ -2,6 +2,7 @@
 ghost use Rattle.std.specs.Prelude.{◌≡◌, ℕ, [], ◌∷◌, ◌++◌, false, None, List, IfErr, MatchResult, OnOk, IsTrue, codes};
 ghost use Rattle.sqlite.specs.Listing.{understood};
 ghost use Rattle.sqlite.specs.Table.{Table};
+ghost use Rattle.pid_moderation.specs.History.{new_history};
 ghost use Rattle.pid_moderation.specs.Views.{Views, views_of};
 ghost use Rattle.pid_rows.specs.Schema as tables;
 ghost use Rattle.pid_rows.specs.Schema.{pid_schema};
@@ -111,7 +112,7 @@ fn fill<S: Alter>(tx: &mut Transaction<'_, S>) -> Result<(), TableFault>
     ensures same_reference { tx.new.conn.ghost_name ≡ tx.old.conn.ghost_name }
     ensures goes { GoesOn S.Store tx.old.conn.now tx.new.conn.now result }
     ensures filled { HasCleanDisk S.Store tx.new.conn.now → IsTrue tx.old.conn.now.in_transaction
-        → (IsTrue (is_open S.Store tx.old.conn.now) → AreMade [] (seen S.Store tx.old.conn.now)) → MatchResult result (λ _. Shows (seen S.Store tx.new.conn.now) (views_of [])) IsUntold }
+        → (IsTrue (is_open S.Store tx.old.conn.now) → AreMade [] (seen S.Store tx.old.conn.now)) → MatchResult result (λ _. Shows (seen S.Store tx.new.conn.now) (views_of new_history)) IsUntold }
     ensures refused { HasCleanDisk S.Store tx.new.conn.now → IsTrue tx.old.conn.now.in_transaction → IsMet S.Store tx.old.conn.now → MatchResult result (λ _. ⊥) IsOfMaking }
     ensures met { FindsTables S.Store tx.old.conn.now tx.new.conn.now result }
 {
@@ -131,7 +132,7 @@ pub fn create<S: Alter>(conn: &mut Connection<S>) -> Result<(), TableFault>
     requires { conn.old.in_transaction ≡ false }
     ensures settled { conn.new.in_transaction ≡ false }
     ensures clean { HasCleanDisk S.Store conn.new → HasCleanDisk S.Store conn.old }
-    ensures made { IsBlank S.Store conn.old → OnOk result (AtRest S.Store conn.new (views_of [])) }
+    ensures made { IsBlank S.Store conn.old → OnOk result (AtRest S.Store conn.new (views_of new_history)) }
     ensures untold { HasCleanDisk S.Store conn.new → IsBlank S.Store conn.old → IfErr result IsUntold }
     ensures crash { IsBlank S.Store conn.old → LeavesBareOrNew S.Store conn.new }
     ensures shut { HasCleanDisk S.Store conn.new → is_open S.Store conn.old ≡ false → MatchResult result (λ _. ⊥) IsUntold }

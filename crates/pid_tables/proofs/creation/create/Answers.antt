@@ -1,8 +1,9 @@
-use Rattle.std.proofs.Common.{◌≡◌, Bool, [], true, false, OnOk, IsTrue, refl, sym, rules, arith, subst, ◌∙◌}
+use Rattle.std.proofs.Common.{◌≡◌, Bool, true, false, OnOk, IsTrue, refl, sym, rules, arith, subst, ◌∙◌}
 use Rattle.sqlite.specs.Held.{state}
 use Rattle.sqlite.specs.State.{HasCleanDisk}
 use Rattle.sqlite.proofs.StateLemmas.{clean_if_open, survives_then}
 use Rattle.sqlite.proofs.Callers.{survives_begin}
+use Rattle.pid_moderation.specs.History.{new_history}
 use Rattle.pid_moderation.specs.Views.{views_of}
 use Rattle.pid_rows.specs.Leaves.{AtRest, OnlyReads}
 use Rattle.pid_rows.specs.Faults.{IsUntold}
@@ -18,8 +19,8 @@ returns-clause-made g c blank =
     let shows = rw c.transaction-batch.ensures.begun at c.in_ok-fill.ensures.filled in
     let end = c.commit.new.batch.0 in
     let same : end ≡ c.conn-2-1.given.0 = search rules in
-    subst (λ h. OnOk c.commit.result (AtRest (state g.S.Store h) (views_of []))) same
-    (c.commit.ensures.stands (views_of []) (λ clean. ((goes.going clean refl).0, shows clean refl blank.empty)))
+    subst (λ h. OnOk c.commit.result (AtRest (state g.S.Store h) (views_of new_history))) same
+    (c.commit.ensures.stands (views_of new_history) (λ clean. ((goes.going clean refl).0, shows clean refl blank.empty)))
 
 -- ---- where a name is taken
 
