@@ -7,7 +7,7 @@ use Rattle.pid_moderation.specs.declared.command.Reply.{Reply}
 use Rattle.pid_moderation.specs.History.{Asked, Accepted, Begins, More, History, mark_of, count_of}
 use Rattle.pid_moderation.specs.Items.{name_at, has_name}
 use Rattle.pid_moderation.specs.Judgement.{Outcome, Refused, Repeated, Accepts, judge, answer, answers, added, after, after_all}
-use Rattle.pid_moderation.specs.Revisions.{IsMarked, revision_of, is_named_anew, since_of, with_mark}
+use Rattle.pid_moderation.specs.Revisions.{IsMarked, revision_of, is_named_anew, since_of, taken_over, with_mark}
 use Rattle.pid_moderation.specs.Views.{views_of, rank_of, ranked, submits_of, submitted, state_of, decided, remarks_of, remarked, items_of, itemized, kept_of, receipted}
 use Rattle.pid_moderation.proofs.Changing.{entry}
 
@@ -179,6 +179,31 @@ pub given : (h : History) (c : Asked) (path name : List ℕ) (o : Outcome) → n
 given h c path name (Refused e) now other = absurd (other now)
 given h c path name (Repeated reply) now other = absurd (other now)
 given h c path name (Accepts reply) now other = given_here h (entry c reply) path name now (has_other name (name_at path (items_of h)) other)
+
+-- A FILE THAT IS TAKEN OVER
+
+mark_set : (mark : ℕ) (h : History) → mark_of (with_mark mark h) ≡ mark
+mark_set mark (Begins m) = refl
+mark_set mark (More e h) = mark_set mark h
+
+same_count : (mark : ℕ) (h : History) → count_of (with_mark mark h) ≡ count_of h
+same_count mark (Begins m) = refl
+same_count mark (More e h) = ap suc (same_count mark h)
+
+no_more : (m n k : ℕ) → m ≡ k → n ≡ k → n ≤ m
+no_more m n k p q = omega arith
+
+pub taken_marked : (h : History) → IsMarked (taken_over h)
+taken_marked h = no_more (count_of (taken_over h)) (mark_of (taken_over h)) (count_of h) (same_count (count_of h) h) (mark_set (count_of h) h)
+
+all_before : (h : History) → count_of (taken_over h) ≤ mark_of (taken_over h)
+all_before h = no_more (mark_of (taken_over h)) (count_of (taken_over h)) (count_of h) (mark_set (count_of h) h) (same_count (count_of h) h)
+
+pub taken_revision : (h : History) → revision_of (taken_over h) ≡ 0
+taken_revision h = none_left (mark_of (taken_over h)) (count_of (taken_over h)) (all_before h)
+
+pub taken_since : (h : History) (path : List ℕ) → since_of path (taken_over h) ≡ 0
+taken_since h path = before_mark (taken_over h) path (all_before h)
 
 -- WHAT A MIRROR RESTS ON
 

@@ -8,9 +8,9 @@ use Rattle.pid_moderation.specs.declared.command.Reply.TheVariants.{Done, Number
 use Rattle.pid_moderation.specs.declared.rank.Rank.TheVariants.{Contributor, Moderator, Senior}
 use Rattle.pid_moderation.specs.declared.refusal.FileFault.TheVariants.{Line}
 use Rattle.pid_moderation.specs.declared.refusal.Refusal.TheVariants.{NoAccount, RankTooLow, NoSubmission, NotPending, NotAuthor, OwnDecision, ParentMissing, HasChildren, NothingToDo, FileFault}
-use Rattle.pid_moderation.specs.History.{Deed, Reading, Good, Faulty, Ranks, Submits, Comments, Withdraws, Approves, Rejects, Imports, Asked, Begins, new_history}
+use Rattle.pid_moderation.specs.History.{Deed, Reading, Good, Faulty, Ranks, Submits, Comments, Withdraws, Approves, Rejects, Imports, Asked, Begins, History, new_history}
 use Rattle.pid_moderation.specs.Views.{items_of}
-use Rattle.pid_moderation.specs.Revisions.{revision_of, since_of}
+use Rattle.pid_moderation.specs.Revisions.{revision_of, since_of, taken_over}
 use Rattle.pid_moderation.specs.Judgement.{answers, after_all}
 
 abbrev by : List ℕ → Deed → Asked
@@ -50,24 +50,30 @@ with_realtek_same = refl
 with_realtek_added : since_of (codes "PC/10ec") (after_all new_history with_realtek) ≡ 4
 with_realtek_added = refl
 
--- where these three stand before the mark, nothing has changed yet
-taken_over_revision : revision_of (after_all (Begins 3) first_approval) ≡ 0
-taken_over_revision = refl
+-- a file with these three is taken over: nothing has changed yet
+abbrev taken : History
+taken = taken_over (after_all new_history first_approval)
 
-taken_over_since : since_of (codes "PC/8086") (after_all (Begins 3) first_approval) ≡ 0
-taken_over_since = refl
+taken_from_its_beginning : taken ≡ after_all (Begins 3) first_approval
+taken_from_its_beginning = refl
+
+taken_revision : revision_of taken ≡ 0
+taken_revision = refl
+
+taken_since : since_of (codes "PC/8086") taken ≡ 0
+taken_since = refl
 
 -- then the item is removed, and an import adds it again
 abbrev added_again : List Asked
-added_again = first_approval ++ by alice (Submits (Vendor 32902) Removal []) ∷ by root (Approves 2) ∷ by root (Imports (Good ((codes "PC/8086", codes "X") ∷ []))) ∷ []
+added_again = by alice (Submits (Vendor 32902) Removal []) ∷ by root (Approves 2) ∷ by root (Imports (Good ((codes "PC/8086", codes "X") ∷ []))) ∷ []
 
-added_again_answers : answers (after_all (Begins 3) first_approval) (by alice (Submits (Vendor 32902) Removal []) ∷ by root (Approves 2) ∷ by root (Imports (Good ((codes "PC/8086", codes "X") ∷ []))) ∷ []) ≡ Ok (Numbered 2) ∷ Ok Done ∷ Ok (Counts 1 0 0) ∷ []
+added_again_answers : answers taken added_again ≡ Ok (Numbered 2) ∷ Ok Done ∷ Ok (Counts 1 0 0) ∷ []
 added_again_answers = refl
 
-added_again_revision : revision_of (after_all (Begins 3) added_again) ≡ 3
+added_again_revision : revision_of (after_all taken added_again) ≡ 3
 added_again_revision = refl
 
-added_again_since : since_of (codes "PC/8086") (after_all (Begins 3) added_again) ≡ 3
+added_again_since : since_of (codes "PC/8086") (after_all taken added_again) ≡ 3
 added_again_since = refl
 
 abbrev device_waits_for_vendor : List Asked

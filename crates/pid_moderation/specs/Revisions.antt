@@ -8,10 +8,14 @@ use Rattle.pid_moderation.specs.Views.{items_of}
 abbrev pub IsMarked : History → Type 0
 IsMarked h = mark_of h ≤ count_of h
 
--- the same commands, with another mark: a file that is taken over has them all before it
+-- the same commands, with another mark
 abbrev pub with_mark : ℕ → History → History
 with_mark mark (Begins before) = Begins mark
 with_mark mark (More e h) = More e (with_mark mark h)
+
+-- what the history of a file becomes that is taken over: all its commands stand before the mark
+abbrev pub taken_over : History → History
+taken_over h = with_mark (count_of h) h
 
 -- how many commands were accepted since the mark
 abbrev pub revision_of : History → ℕ

@@ -6,7 +6,7 @@ ghost use Rattle.pid_moderation.specs.History.{Asked, History, Reading, asked, c
 ghost use Rattle.pid_moderation.specs.Items.{name_at};
 ghost use Rattle.pid_moderation.specs.Judgement.{Accepts, after, after_all, answers, judge};
 ghost use Rattle.pid_moderation.specs.Laws.{HistoriesAreSound, KeysStandOnce, ItemsAreSorted, TreesAreFiles};
-ghost use Rattle.pid_moderation.specs.Revisions.{IsMarked, revision_of, since_of, with_mark};
+ghost use Rattle.pid_moderation.specs.Revisions.{IsMarked, revision_of, since_of, taken_over, with_mark};
 ghost use Rattle.pid_moderation.specs.Views.{items_of, views_of};
 ghost use Rattle.pid_moderation.specs.WellMade.{HasGoodFile, IsWellMade};
 ghost use Rattle.pid_moderation.specs.Writes.{tree_of, last_written, writes_of};
@@ -52,6 +52,14 @@ pub fn marks_judge_nothing()
     ensures views { (mark : ℕ) (h : History) → views_of (with_mark mark h) ≡ views_of h }
     ensures after { (mark : ℕ) (h : History) (commands : List Asked) → after_all (with_mark mark h) commands ≡ with_mark mark (after_all h commands) }
     ensures answers { (mark : ℕ) (h : History) (commands : List Asked) → answers (with_mark mark h) commands ≡ answers h commands }
+{}
+
+/// A file that is taken over shows what it showed. Its revision begins at 0, and nothing in it has changed yet.
+pub fn taken_files_begin_anew()
+    ensures views { (h : History) → views_of (taken_over h) ≡ views_of h }
+    ensures marked { (h : History) → IsMarked (taken_over h) }
+    ensures revision { (h : History) → revision_of (taken_over h) ≡ 0 }
+    ensures since { (h : History) (path : List ℕ) → since_of path (taken_over h) ≡ 0 }
 {}
 
 /// The revision counts the accepted commands from the mark on.
