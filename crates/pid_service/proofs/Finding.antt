@@ -1,8 +1,8 @@
 -- From the end of a life to the next opening.
-use Rattle.std.proofs.Common.{◌≡◌, ◌⊎◌, inl, inr, [], Bool, true, false, Ok, Err, refl, sym, subst}
+use Rattle.std.proofs.Common.{◌≡◌, ◌⊎◌, inl, inr, [], Bool, true, false, Ok, Err, refl, sym, subst, arith}
 use Rattle.sqlite.specs.Held.{Held, state}
 use Rattle.sqlite_trees.specs.declared.store.Store.{Ghosts}
-use Rattle.pid_moderation.specs.History.{History}
+use Rattle.pid_moderation.specs.History.{History, new_history}
 use Rattle.pid_moderation.specs.Views.{views_of}
 use Rattle.pid_lives.specs.Registries.{Finds}
 use Rattle.pid_rows.specs.declared.fault.TableFault.{TableFault}
@@ -18,8 +18,8 @@ use Rattle.pid_service.specs.Lives.{LeavesTablesTo, IsAfterStop, OpensTo, showin
 use Rattle.pid_service.specs.Opening.{LeavesHistory}
 use Rattle.pid_service.specs.Registries.{HasCleanDisk, connection, is_live}
 
-none_reached : IsReached []
-none_reached = record { commands = []; made = tt; reached = refl }
+none_reached : IsReached new_history
+none_reached = record { mark = 0; commands = []; made = tt; reached = refl; marked = omega arith }
 
 pub live_never_failed : {X : Type 0} (live : Bool) → live ≡ true → live ≡ false → X
 live_never_failed live on off = let no : ⊥ = cc in absurd no
@@ -81,14 +81,14 @@ module _ {S : Type 0} (store : Ghosts S) where
   }
 
   -- the first opening
-  pub bare_shows_none : IsSettled → (conn : Held S) → IsOpened store conn → IsBare (clauses.seen store conn).trees → ShowsOrBlank store conn []
+  pub bare_shows_none : IsSettled → (conn : Held S) → IsOpened store conn → IsBare (clauses.seen store conn).trees → ShowsOrBlank store conn new_history
   bare_shows_none law conn opens bare = inr (opened_bare (state store conn) (law conn) opens.0 opens.1 bare, refl)
 
-  pub first_shows_none : (conn : Held S) (first : Registry S store) → ShowsOrBlank store conn [] → OpensTo store conn (Ok first) → HasCleanDisk store first → Shows store first []
-  first_shows_none conn first shows opens clean = opens.opened [] none_reached shows clean
+  pub first_shows_none : (conn : Held S) (first : Registry S store) → ShowsOrBlank store conn new_history → OpensTo store conn (Ok first) → HasCleanDisk store first → Shows store first new_history
+  first_shows_none conn first shows opens clean = opens.opened new_history none_reached shows clean
 
-  pub failure_shows_none : IsSettled → (conn back next : Held S) (fault : TableFault) → ShowsOrBlank store conn [] → OpensTo store conn (Err (fault, back)) → IsAfterStop store back next → ShowsOrBlank store next []
-  failure_shows_none law conn back next fault shows opens stop = left_found law back next [] stop (opens.opened [] none_reached shows stop.clean).1
+  pub failure_shows_none : IsSettled → (conn back next : Held S) (fault : TableFault) → ShowsOrBlank store conn new_history → OpensTo store conn (Err (fault, back)) → IsAfterStop store back next → ShowsOrBlank store next new_history
+  failure_shows_none law conn back next fault shows opens stop = left_found law back next new_history stop (opens.opened new_history none_reached shows stop.clean).1
 
   pub still_between : (old new : Registry S store) (h next : History) → new ≡ old → FailsBetween store old h next → FailsBetween store new h next
   still_between old new h next same between = subst (λ r. FailsBetween store r h next) (sym same) between

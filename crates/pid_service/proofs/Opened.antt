@@ -2,7 +2,7 @@
 use Rattle.std.proofs.Common.{◌≡◌, inl, inr, [], Bool, true, false, IsTrue, Result, Ok, Err, IfErr, OnOk, OnErr, ℕ, List, refl, rules, sym, subst, ◌∙◌}
 use Rattle.sqlite.specs.State.{State, HasCleanDisk}
 use Rattle.sqlite.specs.Schema.{Schema}
-use Rattle.pid_moderation.specs.History.{History}
+use Rattle.pid_moderation.specs.History.{History, new_history}
 use Rattle.pid_moderation.specs.Views.{Views, views_of}
 use Rattle.pid_rows.specs.declared.fault.TableFault.{TableFault}
 use Rattle.pid_rows.specs.declared.fault.TableFault.TheVariants.{Memory, Store, NewerSchema, Damaged}
@@ -40,11 +40,11 @@ pub shown_leaves : (s : State) (h : History) → ShowsOrBlank s h → LeavesShow
 shown_leaves s h (inl rest) = record { each = λ clean db may. inl (rest.leaves.each clean db may) }
 shown_leaves s h (inr blank) = record { each = λ clean db may. inr (blank.0.leaves clean db may, blank.1) }
 
-made_leaves : (s : State) (h : History) → LeavesBareOrNew s → h ≡ [] → LeavesShown s h
+made_leaves : (s : State) (h : History) → LeavesBareOrNew s → h ≡ new_history → LeavesShown s h
 made_leaves s h left none = record { each = λ clean db may. elim (left.each clean db may) [ inl bare ↦ inr (bare, none) | inr new ↦ inl (subst (λ (g : History). Shows (as_found db) (views_of g)) (sym none) new) ] }
 
 -- tables were made
-pub made_ready : {X E : Type 0} (s t : State) (h : History) (r : Result X E) → ShowsOrBlank s h → (AtRest s (views_of h) → ⊥) → (IsBlank s → OnOk r (AtRest t (views_of []))) → OnOk r (AtRest t (views_of h))
+pub made_ready : {X E : Type 0} (s t : State) (h : History) (r : Result X E) → ShowsOrBlank s h → (AtRest s (views_of h) → ⊥) → (IsBlank s → OnOk r (AtRest t (views_of new_history))) → OnOk r (AtRest t (views_of h))
 made_ready s t h r (inl rest) never made = absurd (never rest)
 made_ready s t h r (inr blank) never made = subst (λ (g : History). OnOk r (AtRest t (views_of g))) (sym blank.1) (made blank.0)
 

@@ -1,9 +1,10 @@
 -- Histories that commands lead to, and registries that show them: choices of this project.
-use Rattle.std.specs.Prelude.{◌≡◌, [], List, true, false}
+use Rattle.std.specs.Prelude.{◌≡◌, ℕ, List, true, false}
 use Rattle.sqlite_trees.specs.declared.store.Store.{Ghosts}
 pub use Rattle.pid_import.specs.Faults.{IsFault}
-use Rattle.pid_moderation.specs.History.{Asked, History}
+use Rattle.pid_moderation.specs.History.{Asked, Begins, History}
 use Rattle.pid_moderation.specs.Judgement.{after_all}
+use Rattle.pid_moderation.specs.Revisions.{IsMarked}
 use Rattle.pid_moderation.specs.Views.{views_of}
 use Rattle.pid_moderation.specs.WellMade.{AreWellMade}
 use Rattle.pid_rows.specs.Clauses.{AtRest, LeavesEither}
@@ -11,11 +12,13 @@ use Rattle.pid_service.specs.declared.registry.Registry.{Registry}
 use Rattle.pid_service.specs.Registries.{connection, is_live}
 use Rattle.pid_service.specs.KeptNames.{KeepsNames}
 
--- commands lead to the history from the one without any
+-- Commands lead to the history from its beginning, at least as many accepted as its mark says. What the mark is no table tells.
 pub record IsReached (h : History) : Type 0 where
+  pub mark : ℕ
   pub commands : List Asked
   pub made : AreWellMade commands
-  pub reached : h ≡ after_all [] commands
+  pub reached : h ≡ after_all (Begins mark) commands
+  pub marked : IsMarked h
 
 module _ {S : Type 0} (store : Ghosts S) where
   -- The registry is live, and outside a transaction its tables show the history, while no fault has shut the connection. So does everything that a crash may leave, and so

@@ -58,11 +58,11 @@ module _ {S : Type 0} (store : Ghosts S) where
         (λ e. clauses.HasCleanDisk store e.1 → clauses.HasCleanDisk store conn)
     pub opened : (h : History) → IsReached h → ShowsOrBlank store conn h → Opens store result h
 
-  -- a registry shows the history after a prefix of the commands of each life, told by its calls
-  pub record ShowsPrefixes (r : Registry S store) (calls : List (List Call)) : Type 0 where
+  -- a registry shows the history after the one at the start and a prefix of the commands of each life, told by its calls
+  pub record ShowsPrefixes (r : Registry S store) (start : History) (calls : List (List Call)) : Type 0 where
     pub history : History
     pub shown : Shows store r history
-    pub prefixes : IsAfterPrefixes calls history
+    pub prefixes : IsAfterPrefixes start calls history
     -- the history has a tree of names, and all that tables ask of one
     pub sound : IsSound history
     -- the printed text of that tree reads back to it, and to no other tree

@@ -1,10 +1,10 @@
 -- What becomes of a database that is opened.
-use Rattle.std.specs.Prelude.{◌≡◌, ◌⊎◌, [], Result, MatchResult}
+use Rattle.std.specs.Prelude.{◌≡◌, ◌⊎◌, Result, MatchResult}
 use Rattle.sqlite.specs.Held.{Held, state}
 use Rattle.sqlite.specs.State.{State, HasCleanDisk}
 use Rattle.sqlite.specs.Tree.{Trees}
 use Rattle.sqlite_trees.specs.declared.store.Store.{Ghosts}
-use Rattle.pid_moderation.specs.History.{History}
+use Rattle.pid_moderation.specs.History.{History, new_history}
 use Rattle.pid_moderation.specs.Views.{views_of}
 use Rattle.pid_rows.specs.declared.fault.TableFault.{TableFault}
 use Rattle.pid_rows.specs.Clauses as clauses
@@ -16,9 +16,9 @@ use Rattle.pid_service.specs.declared.registry.Registry.{Registry}
 use Rattle.pid_service.specs.Histories.{Shows}
 use Rattle.pid_service.specs.Registries as registries
 
--- everything that a crash may leave shows the history; where there is no table, that is the one without commands
+-- everything that a crash may leave shows the history; where there is no table, that is the one of a new registry
 pub record LeavesShown (s : State) (h : History) : Type 0 where
-  pub each : HasCleanDisk s → (db : Trees) → s.may_leave db → rows.Shows (as_found db) (views_of h) ⊎ (IsBare db × (h ≡ []))
+  pub each : HasCleanDisk s → (db : Trees) → s.may_leave db → rows.Shows (as_found db) (views_of h) ⊎ (IsBare db × (h ≡ new_history))
 
 module _ {S : Type 0} (store : Ghosts S) where
   -- everything that a crash of this connection may leave shows the history

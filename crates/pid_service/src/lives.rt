@@ -8,7 +8,7 @@ ghost use Rattle.sqlite.specs.Held.{Held};
 ghost use Rattle.pid_moderation.specs.declared.command.Reply.{Reply};
 ghost use Rattle.pid_moderation.specs.declared.refusal.Refusal.{Refusal};
 ghost use Rattle.pid_moderation.specs.declared.refusal.Refusal.TheVariants.{Failed};
-ghost use Rattle.pid_moderation.specs.History.{Asked, History};
+ghost use Rattle.pid_moderation.specs.History.{Asked, History, new_history};
 ghost use Rattle.pid_moderation.specs.Judgement.{after, answer, judge};
 ghost use Rattle.pid_moderation.specs.Views.{views_of};
 ghost use Rattle.pid_lives.specs.Calls.{Call, nothing_sent, obeyed, ran, sent_in};
@@ -70,14 +70,14 @@ pub fn clauses_meet_lives<S: Alter + Drop>()
     calls_do::<Registry<S>>();
 }
 
-/// The first opening. A database without tables has what the history without commands shows, and the registry that is opened there
+/// The first opening. A database without tables has what the history of a new registry shows, and the registry that is opened there
 /// shows that history. Where the opening failed, what it leaves to a stop still shows it.
 pub fn first_openings_show_nothing<S: Alter + Drop>()
-    ensures bare { (conn : Held S) → IsOpened S.Store conn → IsBare (clauses.seen S.Store conn).trees → ShowsOrBlank S.Store conn [] }
-    ensures opened { (conn : Held S) (first : registry.Registry S S.Store) → ShowsOrBlank S.Store conn [] → OpensTo S.Store conn (Ok first)
-        → HasCleanDisk S.Store first → Shows S.Store first [] }
-    ensures failed { (conn back next : Held S) (fault : TableFault) → ShowsOrBlank S.Store conn [] → OpensTo S.Store conn (Err (fault, back))
-        → IsAfterStop S.Store back next → ShowsOrBlank S.Store next [] }
+    ensures bare { (conn : Held S) → IsOpened S.Store conn → IsBare (clauses.seen S.Store conn).trees → ShowsOrBlank S.Store conn new_history }
+    ensures opened { (conn : Held S) (first : registry.Registry S S.Store) → ShowsOrBlank S.Store conn new_history → OpensTo S.Store conn (Ok first)
+        → HasCleanDisk S.Store first → Shows S.Store first new_history }
+    ensures failed { (conn back next : Held S) (fault : TableFault) → ShowsOrBlank S.Store conn new_history → OpensTo S.Store conn (Err (fault, back))
+        → IsAfterStop S.Store back next → ShowsOrBlank S.Store next new_history }
 {}
 
 /// From the end of a life to the next opening.
@@ -98,15 +98,16 @@ pub fn openings_find_histories<S: Alter + Drop>()
         → OpensTo S.Store conn (Err (fault, back)) → IsAfterStop S.Store back next → LeavesTablesTo S.Store ended next }
 {}
 
-/// The crash prefix. Let the first registry show no command, and let each further one be opened on what the one before it left, after any
-/// calls, over a stop at any place, a fault or a close. Then the last one shows the history after a prefix of the commands of each
-/// life, joined in order, which holds every acknowledged one. The printed text of its tree reads back to that tree, and to no other.
+/// The crash prefix. Let the first registry show a history, that without commands where it is new, and let each further one be opened on
+/// what the one before it left, after any calls, over a stop at any place, a fault or a close. Then the last one shows the history
+/// after the first one's and a prefix of the commands of each life, joined in order, which holds every acknowledged one and has
+/// kept its mark. The printed text of its tree reads back to that tree, and to no other.
 ///
 /// That text is what `export` writes of a registry that shows the history, and `lookup` answers over the same tree. All
 /// while the disk returns what was written.
 pub fn reopened_registries_show_prefixes<S: Alter + Drop>()
-    ensures { (first last : registry.Registry S S.Store) (calls : List (List Call)) → Shows S.Store first []
-        → LivesLead (registry_showing S.Store) first calls last → HasCleanDisk S.Store last → ShowsPrefixes S.Store last calls }
+    ensures { (first last : registry.Registry S S.Store) (start : History) (calls : List (List Call)) → Shows S.Store first start
+        → LivesLead (registry_showing S.Store) first calls last → HasCleanDisk S.Store last → ShowsPrefixes S.Store last start calls }
 {
     openings_find_prefixes::<Registry<S>>();
     reached_histories_are_kept();
