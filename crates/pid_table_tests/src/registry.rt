@@ -11,14 +11,14 @@ use std::alloc::Global;
 use std::test::Fail;
 
 // A new registry in memory.
-pub(crate) fn new_in_memory(alloc: Global) -> Result<Tables<MemStore>, TableFault> {
+fn new_in_memory(alloc: Global) -> Result<Tables<MemStore>, TableFault> {
     let mut conn = Connection::open_in_memory(alloc)?;
     create(&mut conn)?;
     Ok(Tables::new(conn))
 }
 
 // The command of a line such as `submit bob path=PC/8086 name=Intel`.
-pub(crate) fn command(alloc: Global, key: Option<&str>, line: &str) -> Result<Command, TableFault> {
+fn command(alloc: Global, key: Option<&str>, line: &str) -> Result<Command, TableFault> {
     let mut words = line.split(' ');
     let verb = Verb::of_word(words.next().unwrap_or("")).ok_or(TableFault::Damaged)?;
     let account = words.next().unwrap_or("");
@@ -37,7 +37,7 @@ pub(crate) fn command(alloc: Global, key: Option<&str>, line: &str) -> Result<Co
     command_of(alloc, verb, account, key, fields.as_slice()).map_err(|_| TableFault::Damaged)
 }
 
-pub(crate) fn carry_out(
+fn carry_out(
     tables: &mut Tables<MemStore>,
     alloc: Global,
     change: &Change,
@@ -265,7 +265,7 @@ impl Sink for Writer {
     }
 }
 
-pub(crate) fn write_down(
+fn write_down(
     told: &mut String,
     alloc: Global,
     path: Path,
@@ -279,7 +279,7 @@ pub(crate) fn write_down(
 }
 
 // What a sink that takes so many items was told, and where it refused, 0 for nowhere.
-pub(crate) fn walk(
+fn walk(
     tables: &mut Tables<MemStore>,
     alloc: Global,
     most: usize,
