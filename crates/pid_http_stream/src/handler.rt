@@ -57,7 +57,7 @@ pub enum BodyStop {
 /// What it answers depends on what is known of it: of a registry the history that it shows. So each clause says what is known
 /// of it then, by what was known of it before, while it is good: while the disk under a registry returns what was written.
 pub trait Handler {
-    ghost use Rattle.pid_http_stream.specs.Replies.{Answer};
+    ghost use Rattle.pid_http_stream.specs.Replies.{Answer, answer_behind};
     ghost use Rattle.pid_http_stream.specs.Requests.{Request};
     ghost use Rattle.pid_http_stream.specs.declared.reply.ReplyHead.{ReplyHead};
 
@@ -116,7 +116,7 @@ pub trait Handler {
 
     /// A body that was promised and written is that of an answer.
     ghost kept: { (a : View) (request : Request) (head : ReplyHead) (told : ℕ) (b : View) (body : List ℕ) (c : View) → promises a request head told b → writes b body c
-        → answers a request (record { status = head.status; content = head.content; told = told; body = body }) c };
+        → answers a request (answer_behind head told body) c };
 
     /// No call leaves it as it is.
     ghost stays: { (a : Self) → becomes a a };
