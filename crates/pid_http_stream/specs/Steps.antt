@@ -108,6 +108,7 @@ EndsWithin conduct a b came all old new ends.Clean = ⊥
 EndsWithin conduct a b came all old new ends.Closed = ⊥
 EndsWithin conduct a b came all old new ends.HeadFault = ⊥
 
+-- what became of the request: it was answered, or the stream ends within it
 abbrev pub IsStep : {H : Type 0} → Conduct H → H → H → List ℕ → List ℕ → List ℕ → Option (List ℕ) → Option (List ℕ) → Answered → Type 0
 IsStep conduct a b came all held_after old new answered.Open = IsReplied conduct a b came held_after old new false
 IsStep conduct a b came all held_after old new answered.Closed = IsReplied conduct a b came held_after old new true
@@ -144,6 +145,7 @@ abbrev pub broken_so : Option BodyFault → Asked
 broken_so None = asked.NoMemory
 broken_so (Some fault) = asked.Broken fault
 
+-- what came of asking it, by how much of the body is still wanted
 abbrev pub asked_so : {E : Type 0} → Result Reply E → ℕ → Option BodyFault → Asked
 asked_so result wanted fault = if wanted == 0 then whole_so result else broken_so fault
 
