@@ -9,4 +9,5 @@ pub mod BodyReads
 pub mod Asked
 pub mod Stepping
 pub mod Serving
+pub mod Looping
 pub mod Uniqueness

@@ -6,8 +6,11 @@ use Rattle.pid_ident.specs.Sending.{Sends, SendsFront}
 use Rattle.std.specs.Io.KnownBytes.{Appends}
 use Rattle.std.proofs.KnownBytes.{Appends-trans}
 use Rattle.std.proofs.Math.Seq.{take-append-add}
-use Rattle.pid_http_stream.specs.Replies.{Answer, status_line, type_line, allow_line, close_line, reply_head, reply_text}
-use Rattle.pid_http_stream.specs.Serving.{WritesFront}
+use Rattle.pid_http_stream.specs.Conducts.{Conduct}
+use Rattle.pid_http_stream.specs.Replies.{Answer, answer_behind, status_line, type_line, allow_line, close_line, reply_head, reply_text}
+use Rattle.pid_http_stream.specs.Requests.{Request}
+use Rattle.pid_http_stream.specs.Serving.{WritesFront, IsCutInBody}
+use Rattle.pid_http_stream.specs.Streams.{closes}
 use Rattle.pid_http_stream.specs.declared.reply.ReplyHead.{ReplyHead}
 
 nine : (a b c d e f g h i : List ℕ) → a ++ (b ++ (c ++ (d ++ (e ++ (f ++ (g ++ (h ++ (i ++ [])))))))) ≡ a ++ b ++ c ++ d ++ e ++ f ++ g ++ h ++ i
@@ -48,3 +51,25 @@ head_then_front head told closes t u v body p (n, less, q) =
       (let both = length-append front body in omega arith),
       subst (Appends t v) (sym (take-append-add front body n)) (Appends-trans t u v front (take n body) p q),
     )
+
+-- nothing more was written
+pub front_then_nothing : (t u v : Option (List ℕ)) (bytes : List ℕ) → WritesFront t u bytes → Appends u v [] → WritesFront t v bytes
+front_then_nothing t u v bytes (n, less, p) q = (n, less, subst (Appends t v) (append-nil (take n bytes)) (Appends-trans t u v (take n bytes) [] p q))
+
+-- ---- a reply that was cut within its body
+
+pub cut_in_body : {H : Type 0} (conduct : Conduct H) (a b c : H) (request : Request) (head : ReplyHead) (told : ℕ) (body : List ℕ) (closing : Bool) (t u v w : Option (List ℕ)) → conduct.promises a request head told b
+    → conduct.answers a request (answer_behind head told body) c → Appends t u (reply_head head.status head.content told closing) → WritesFront u v body → Appends v w [] → closes request ≡ closing
+    → IsCutInBody conduct a request c t w
+cut_in_body conduct a b c request head told body closing t u v w promised answered p q none e =
+    let front = front_then_nothing u v w body q none in record {
+      head = head;
+      told = told;
+      middle = b;
+      promised = promised;
+      body = body;
+      answered = answered;
+      count = front.0;
+      front = front.1;
+      written = subst (λ (x : Bool). Appends t w (reply_head head.status head.content told x ++ take front.0 body)) (sym e) (Appends-trans t u w (reply_head head.status head.content told closing) (take front.0 body) p front.2);
+    }

@@ -1,5 +1,5 @@
 -- The serving loop, over plain values.
-use Rattle.std.proofs.Common.{◌≡◌, ℕ, ◌+◌, true, false, List, [], ◌∷◌, ◌++◌, Option, Some, None, length, drop, refl, sym, ap, subst, ◌∙◌, arith, append_assoc, length-append, inl, inr}
+use Rattle.std.proofs.Common.{◌≡◌, ℕ, ◌+◌, true, false, List, [], ◌∷◌, ◌++◌, Option, Some, None, length, refl, sym, ap, subst, ◌∙◌, arith, append_assoc, length-append, inl, inr}
 use Rattle.std.specs.Prelude.{IfSome, ◌⊎◌}
 use Rattle.std.specs.Io.KnownBytes.{Appends, Consumes, IsAtEnd}
 use Rattle.std.proofs.lemmas.List.{append-nil}
@@ -10,7 +10,7 @@ use Rattle.pid_http_stream.specs.Intakes.{ComesIn}
 use Rattle.pid_http_stream.specs.Leftovers.{IsLeftover}
 use Rattle.pid_http_stream.specs.Replies.{Answer, reply_text}
 use Rattle.pid_http_stream.specs.Requests.{Request, IsRequest, HasNoRequest}
-use Rattle.pid_http_stream.specs.Serving.{counted, Outside, WritesFront, RestsBehind, AnswersAll, AnswersFront, BreaksOff, StopsReading, LacksMemory, IsReplyNext, IsWrittenNext, IsServed}
+use Rattle.pid_http_stream.specs.Serving.{counted, Outside, WritesFront, RestsBehind, AnswersAll, AnswersFront, BreaksOff, StopsReading, LacksMemory, IsWrittenNext, IsServed}
 use Rattle.pid_http_stream.specs.Steps.{count_with, IsReplied, IsRefused, EndsWithin, Steps, stop_end}
 use Rattle.pid_http_stream.specs.Streams.{closes, Ending, clean, closed, faulty, Ends, Fronts, Splits}
 use Rattle.pid_http_stream.specs.declared.intake.Stop.{Stop}
@@ -188,10 +188,10 @@ rests_same conduct Encoding a = refl
 rests_same conduct BodyTooLong a = refl
 rests_same conduct BodyShort a = inl refl
 
-breaks_off : {H : Type 0} (conduct : Conduct H) (next : H → List ℕ → List ℕ → H → Type 0) (a b c : H) (t u v : Option (List ℕ)) (stream rest bytes : List ℕ) (count : ℕ)
-    → AnswersFront conduct (record { handler = a; handler_after = b; taken = t; taken_after = u }) stream rest count → next b rest bytes c → WritesFront u v bytes
-    → BreaksOff next conduct (record { handler = a; handler_after = c; taken = t; taken_after = v }) stream count
-breaks_off conduct next a b c t u v stream rest bytes count f is written = record { rest = rest; mid = b; taken = u; before = f; bytes = bytes; next_is = is; written = written }
+breaks_off : {H : Type 0} (conduct : Conduct H) (a b c : H) (t u v : Option (List ℕ)) (stream rest bytes : List ℕ) (count : ℕ)
+    → AnswersFront conduct (record { handler = a; handler_after = b; taken = t; taken_after = u }) stream rest count → IsWrittenNext conduct b rest bytes c → WritesFront u v bytes
+    → BreaksOff conduct (record { handler = a; handler_after = c; taken = t; taken_after = v }) stream count
+breaks_off conduct a b c t u v stream rest bytes count f is written = record { rest = rest; mid = b; taken = u; before = f; bytes = bytes; next_is = is; written = written }
 
 -- what stands at the front is refused
 refused : {H : Type 0} (conduct : Conduct H) (a b : H) (t u v : Option (List ℕ)) (stream rest : List ℕ) (left : Option (List ℕ)) (count : ℕ) (fault : StreamFault) (end : StreamEnd)
@@ -200,7 +200,7 @@ refused : {H : Type 0} (conduct : Conduct H) (a b : H) (t u v : Option (List ℕ
 refused conduct a b t u v stream rest left count fault HeadFault f has (kind, written) = (fault, kind, count, all_answered conduct a b b t u v stream rest (faulty fault) _ count f has (rests_same conduct fault b) written, refl)
 refused conduct a b t u v stream rest left count fault BodyFault f has (kind, written) = (fault, kind, count, all_answered conduct a b b t u v stream rest (faulty fault) _ count f has (rests_same conduct fault b) written, refl)
 refused conduct a b t u v stream rest left count fault WriteFault f has written =
-    breaks_off conduct (IsWrittenNext conduct) a b b t u v stream rest _ count f (inr (inr (fault, has, refl, rests_same conduct fault b))) written
+    breaks_off conduct a b b t u v stream rest _ count f (inr (inr (fault, has, refl, rests_same conduct fault b))) written
 refused conduct a b t u v stream rest left count fault Clean f has r = absurd r
 refused conduct a b t u v stream rest left count fault Closed f has r = absurd r
 refused conduct a b t u v stream rest left count fault ReadFault f has r = absurd r
@@ -255,8 +255,9 @@ within : {H : Type 0} (conduct : Conduct H) (a b c : H) (t u v : Option (List �
     → IsServing conduct (record { handler = a; handler_after = b; taken = t; taken_after = u }) stream left came count → left ≡ Some more
     → EndsWithin conduct b c came (came ++ more) u v end
     → IsServed conduct (record { handler = a; handler_after = c; taken = t; taken_after = v }) stream left end (count_with end count)
-within conduct a b c t u v stream left came more count StoreFault s e (bytes, is, written) = breaks_off conduct (IsReplyNext conduct) a b c t u v stream (came ++ more) bytes count (front_of conduct _ stream left came more count s e) is written
-within conduct a b c t u v stream left came more count WriteFault s e (bytes, is, written) = breaks_off conduct (IsWrittenNext conduct) a b c t u v stream (came ++ more) bytes count (front_of conduct _ stream left came more count s e) is written
+within conduct a b c t u v stream left came more count StoreFault s e (request, behind, is, cut) =
+    record { rest = came ++ more; mid = b; taken = u; before = front_of conduct _ stream left came more count s e; request = request; behind = behind; is = is; cut = cut }
+within conduct a b c t u v stream left came more count WriteFault s e (bytes, is, written) = breaks_off conduct a b c t u v stream (came ++ more) bytes count (front_of conduct _ stream left came more count s e) is written
 within conduct a b c t u v stream left came more count BodyFault s e (has, stands, written) =
     (BodyShort, refl, count, all_answered conduct a b c t u v stream (came ++ more) (faulty BodyShort) _ count (front_of conduct _ stream left came more count s e) has stands written, refl)
 within conduct a b c t u v stream left came more count ReadFault s e (stands, none, same) = stops_reading conduct a b c t u v stream left came count s stands none same
@@ -273,56 +274,3 @@ pub steps_ended : {H : Type 0} (conduct : Conduct H) (a b c : H) (t u v : Option
     → IsServed conduct (record { handler = a; handler_after = c; taken = t; taken_after = v }) stream after end (count_with end count)
 steps_ended conduct a b c t u v stream mid after held behind count end s step =
     within conduct a b c t u v stream after (held ++ step.came) step.more count end (brought conduct _ stream mid after held step.came step.more count s step.before step.after) step.after step.is
-
--- ---- as the loop calls them: what was served so far, what came for a head, and then the step or the end
-
--- a fact that hangs on known bytes, where they are known
-where_known : (o : Option (List ℕ)) (P : Type 0) (s read : List ℕ) → Consumes (Some s) o read → IfSome o (λ _. P) → P
-where_known None P s read c p = absurd c
-where_known (Some x) P s read c p = p
-
-pub loop_nothing : {H : Type 0} (conduct : Conduct H) (a b : H) (t u input mid left : Option (List ℕ)) (held after : List ℕ) (count : ℕ)
-    → IfSome input (λ s. IsServing conduct (record { handler = a; handler_after = b; taken = t; taken_after = u }) s mid held count) → ComesIn held after mid left → IsAtEnd left × IsLeftover after
-    → IfSome input (λ s. IsServed conduct (record { handler = a; handler_after = b; taken = t; taken_after = u }) s left Clean count)
-loop_nothing conduct a b t u input mid left held after count serving c (end, rest) =
-    if_some input _ _ (λ s x. ends_clean conduct a b t u s left after count (comes conduct _ s mid left held after count x c) end rest) serving
-
-pub loop_faulty : {H : Type 0} (conduct : Conduct H) (a b : H) (t u v input mid left : Option (List ℕ)) (held after : List ℕ) (count : ℕ) (fault : StreamFault) (end : StreamEnd)
-    → IfSome input (λ s. IsServing conduct (record { handler = a; handler_after = b; taken = t; taken_after = u }) s mid held count) → ComesIn held after mid left
-    → IfSome left (λ more. HasFault (after ++ more) fault) → IsRefused fault u v end
-    → IfSome input (λ s. IsServed conduct (record { handler = a; handler_after = b; taken = t; taken_after = v }) s left end (count_with end count))
-loop_faulty conduct a b t u v input mid left held after count fault end serving c has r =
-    if_some input _ _ (λ s x. ends_refused conduct a b t u v s left after count fault end (comes conduct _ s mid left held after count x c) has r) serving
-
-pub loop_stopped : {H : Type 0} (conduct : Conduct H) (a b : H) (t u input mid left : Option (List ℕ)) (held after : List ℕ) (count : ℕ) (stop : Stop)
-    → IfSome input (λ s. IsServing conduct (record { handler = a; handler_after = b; taken = t; taken_after = u }) s mid held count) → ComesIn held after mid left → HasNoRequest after
-    → IfSome input (λ s. IsServed conduct (record { handler = a; handler_after = b; taken = t; taken_after = u }) s left (stop_end stop) count)
-loop_stopped conduct a b t u input mid left held after count stop serving c none =
-    if_some input _ _ (λ s x. ends_stopped conduct a b t u s left after count stop (comes conduct _ s mid left held after count x c) none) serving
-
-pub loop_open : {H : Type 0} (conduct : Conduct H) (a b c : H) (t u v input mid read left : Option (List ℕ)) (held after lent kept : List ℕ) (n count count_after : ℕ)
-    → IfSome input (λ s. IsServing conduct (record { handler = a; handler_after = b; taken = t; taken_after = u }) s mid held count) → ComesIn held after mid read → lent ≡ after
-    → IfSome read (λ _. Steps conduct (record { a = b; b = c; input = read; input_after = left }) lent (drop n lent) u v answered.Open) → count_after ≡ counted (count + 1) → kept ≡ drop n after
-    → IfSome input (λ s. IsServing conduct (record { handler = a; handler_after = c; taken = t; taken_after = v }) s left kept count_after)
-loop_open conduct a b c t u v input mid read left held after lent kept n count count_after serving came same step counts rest =
-    if_some input _ _ (λ s x.
-    let y = subst (λ (l : List ℕ). IsServing conduct (record { handler = a; handler_after = b; taken = t; taken_after = u }) s read l count) (sym same) (comes conduct _ s mid read held after count x came) in
-    steps_open conduct a b c t u v s read left lent (drop n lent) kept count count_after y (where_known read _ s y.read y.consumed step) counts (rest ∙ ap (drop n) (sym same))) serving
-
-pub loop_closed : {H : Type 0} (conduct : Conduct H) (a b c : H) (t u v input mid read left : Option (List ℕ)) (held after lent behind : List ℕ) (count count_after : ℕ)
-    → IfSome input (λ s. IsServing conduct (record { handler = a; handler_after = b; taken = t; taken_after = u }) s mid held count) → ComesIn held after mid read → lent ≡ after
-    → IfSome read (λ _. Steps conduct (record { a = b; b = c; input = read; input_after = left }) lent behind u v answered.Closed) → count_after ≡ counted (count + 1)
-    → IfSome input (λ s. IsServed conduct (record { handler = a; handler_after = c; taken = t; taken_after = v }) s left Closed count_after)
-loop_closed conduct a b c t u v input mid read left held after lent behind count count_after serving came same step counts =
-    if_some input _ _ (λ s x.
-    let y = subst (λ (l : List ℕ). IsServing conduct (record { handler = a; handler_after = b; taken = t; taken_after = u }) s read l count) (sym same) (comes conduct _ s mid read held after count x came) in
-    steps_closed conduct a b c t u v s read left lent behind count count_after y (where_known read _ s y.read y.consumed step) counts) serving
-
-pub loop_ended : {H : Type 0} (conduct : Conduct H) (a b c : H) (t u v input mid read left : Option (List ℕ)) (held after lent behind : List ℕ) (count : ℕ) (end : StreamEnd)
-    → IfSome input (λ s. IsServing conduct (record { handler = a; handler_after = b; taken = t; taken_after = u }) s mid held count) → ComesIn held after mid read → lent ≡ after
-    → IfSome read (λ _. Steps conduct (record { a = b; b = c; input = read; input_after = left }) lent behind u v (answered.Ended end))
-    → IfSome input (λ s. IsServed conduct (record { handler = a; handler_after = c; taken = t; taken_after = v }) s left end (count_with end count))
-loop_ended conduct a b c t u v input mid read left held after lent behind count end serving came same step =
-    if_some input _ _ (λ s x.
-    let y = subst (λ (l : List ℕ). IsServing conduct (record { handler = a; handler_after = b; taken = t; taken_after = u }) s read l count) (sym same) (comes conduct _ s mid read held after count x came) in
-    steps_ended conduct a b c t u v s read left lent behind count end y (where_known read _ s y.read y.consumed step)) serving

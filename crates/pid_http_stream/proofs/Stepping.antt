@@ -42,8 +42,7 @@ sent_step conduct a c request came more rest u v closing sent.WriteFault is e (i
     (reply_text answer closing, inl (request, rest ++ more, answer, IsRequest-append came request rest more is, answered, ap (reply_text answer) (sym e)), written)
 sent_step conduct a c request came more rest u v closing sent.WriteFault is e (inr (head, told, promised, written)) =
     (reply_head head.status head.content told closing, inr (inl (request, rest ++ more, head, told, IsRequest-append came request rest more is, promised, ap (reply_head head.status head.content told) (sym e))), written)
-sent_step conduct a c request came more rest u v closing sent.StoreFault is e (answer, answered, written) =
-    (reply_text answer closing, (request, rest ++ more, answer, IsRequest-append came request rest more is, answered, ap (reply_text answer) (sym e)), written)
+sent_step conduct a c request came more rest u v closing sent.StoreFault is e cut = (request, rest ++ more, IsRequest-append came request rest more is, cut e)
 
 if_known : (o : Option (List ℕ)) (P Q : Type 0) → (P → Q) → IfSome o (λ _. P) → IfSome o (λ _. Q)
 if_known None P Q f p = tt

@@ -6,9 +6,11 @@ use Rattle.pid_ident.specs.Reading.{StaysKept}
 use Rattle.pid_http_stream.specs.Bodies.{Turns, SpendsTurns, BodyState, HasReadBody}
 use Rattle.pid_http_stream.specs.declared.body_input.BodyFault.{BodyFault}
 
+-- no read costs nothing
 pub no_turns : (a : Turns) → SpendsTurns a a
 no_turns a = record { spent = omega arith; exact = λ h. refl; fewer = omega arith }
 
+-- reads and then others are reads
 pub more_turns : (a b c : Turns) → SpendsTurns a b → SpendsTurns b c → SpendsTurns a c
 more_turns a b c p q = record {
   spent = omega (arith, p.spent, q.spent);
@@ -16,6 +18,7 @@ more_turns a b c p q = record {
   fewer = omega (arith, p.fewer, q.fewer);
 }
 
+-- a fault is kept where nothing is done
 pub stays_kept : (f : Option BodyFault) → StaysKept f f
 stays_kept None = tt
 stays_kept (Some f) = refl
@@ -25,6 +28,7 @@ kept_then None g h p q = tt
 kept_then (Some x) None h p q = absurd cc
 kept_then (Some x) (Some y) h p q = q ∙ p
 
+-- no read leaves the reader of a body as it is
 pub no_body_reads : (s : BodyState) → HasReadBody s s
 no_body_reads s = record {
   used = [];
@@ -37,6 +41,7 @@ no_body_reads s = record {
   told = λ h. h;
 }
 
+-- some reads of a body and then others are reads of it
 pub more_body_reads : (a b c : BodyState) → HasReadBody a b → HasReadBody b c → HasReadBody a c
 more_body_reads a b c p q = record {
   used = p.used ++ q.used;

@@ -2,6 +2,7 @@
 use Rattle.std.specs.Prelude.{ℕ, Bool, true, false, List, [], ◌++◌, length, codes, decimal}
 use Rattle.pid_http_stream.specs.declared.judging.StreamFault.{StreamFault}
 use Rattle.pid_http_stream.specs.declared.judging.StreamFault.TheVariants.{BadHead, Encoding, BodyTooLong, BodyShort}
+use Rattle.pid_http_stream.specs.declared.reply.ReplyHead.{ReplyHead}
 use Rattle.pid_http_stream.specs.declared.reply.Status.{Status}
 use Rattle.pid_http_stream.specs.declared.reply.Status.TheVariants.{Okay, BadRequest, Forbidden, NotFound, MethodNotAllowed, Conflict, PayloadTooLarge, UnprocessableEntity, NotImplemented, ServiceUnavailable}
 use Rattle.pid_http_stream.specs.declared.reply.Content.{Content}
@@ -18,6 +19,10 @@ pub record Answer : Type 0 where
 -- an answer whose length is that of its body
 abbrev pub answer_with : Status → Content → List ℕ → Answer
 answer_with status content body = record { status = status; content = content; told = length body; body = body }
+
+-- an answer with this head, whose body the handler writes itself, behind the length that it told
+abbrev pub answer_behind : ReplyHead → ℕ → List ℕ → Answer
+answer_behind head told body = record { status = head.status; content = head.content; told = told; body = body }
 
 -- the status and its phrase
 abbrev pub status_line : Status → List ℕ

@@ -3,7 +3,7 @@ use Rattle.std.specs.Prelude.{◌≡◌, ℕ, ◌+◌, ◌-◌, ◌^◌, ◌≤�
 use Rattle.std.specs.Io.KnownBytes.{Appends, Consumes}
 use Rattle.pid_http_stream.specs.Conducts.{Conduct, StandsStill, AreReplies}
 use Rattle.pid_http_stream.specs.Endings.{HasFault}
-use Rattle.pid_http_stream.specs.Replies.{Answer, reply_head, reply_text, fault_answer}
+use Rattle.pid_http_stream.specs.Replies.{Answer, answer_behind, reply_head, reply_text, fault_answer}
 use Rattle.pid_http_stream.specs.Requests.{Request, IsRequest, HasNoRequest}
 use Rattle.pid_http_stream.specs.Streams.{closes, Ending, clean, closed, faulty, Fronts, Splits}
 use Rattle.pid_http_stream.specs.declared.judging.StreamFault.{StreamFault}
@@ -77,14 +77,38 @@ abbrev pub IsWrittenNext : {H : Type 0} → Conduct H → H → List ℕ → Lis
 IsWrittenNext conduct a rest bytes b = IsReplyNext conduct a rest bytes b ⊎ (IsHeadNext conduct a rest bytes b ⊎ IsRefusalNext conduct a rest bytes b)
 
 -- the requests at the front of the stream were answered, and a front of what is written next stands behind their replies
-pub record BreaksOff {H : Type 0} (next : H → List ℕ → List ℕ → H → Type 0) (conduct : Conduct H) (o : Outside H) (stream : List ℕ) (count : ℕ) : Type 0 where
+pub record BreaksOff {H : Type 0} (conduct : Conduct H) (o : Outside H) (stream : List ℕ) (count : ℕ) : Type 0 where
   pub rest : List ℕ
   pub mid : H
   pub taken : Option (List ℕ)
   pub before : AnswersFront conduct (record { handler = o.handler; handler_after = mid; taken = o.taken; taken_after = taken }) stream rest count
   pub bytes : List ℕ
-  pub next_is : next mid rest bytes o.handler_after
+  pub next_is : IsWrittenNext conduct mid rest bytes o.handler_after
   pub written : WritesFront taken o.taken_after bytes
+
+-- a reply was cut within its body: the handler promised to write that itself, behind this head and of so many bytes; the head
+-- was written whole, and a front of the body behind it
+pub record IsCutInBody {H : Type 0} (conduct : Conduct H) (a : H) (request : Request) (b : H) (old new : Option (List ℕ)) : Type 0 where
+  pub head : ReplyHead
+  pub told : ℕ
+  pub middle : H
+  pub promised : conduct.promises a request head told middle
+  pub body : List ℕ
+  pub answered : conduct.answers a request (answer_behind head told body) b
+  pub count : ℕ
+  pub front : count ≤ length body
+  pub written : Appends old new (reply_head head.status head.content told (closes request) ++ take count body)
+
+-- the requests at the front of the stream were answered, and the reply to the next was cut within its body
+pub record BreaksOffInBody {H : Type 0} (conduct : Conduct H) (o : Outside H) (stream : List ℕ) (count : ℕ) : Type 0 where
+  pub rest : List ℕ
+  pub mid : H
+  pub taken : Option (List ℕ)
+  pub before : AnswersFront conduct (record { handler = o.handler; handler_after = mid; taken = o.taken; taken_after = taken }) stream rest count
+  pub request : Request
+  pub behind : List ℕ
+  pub is : IsRequest rest request behind
+  pub cut : IsCutInBody conduct mid request o.handler_after taken o.taken_after
 
 -- what was read of the stream is the requests that were answered, and a rest that holds no whole request
 pub record StopsReading {H : Type 0} (conduct : Conduct H) (o : Outside H) (stream : List ℕ) (left : Option (List ℕ)) (count : ℕ) : Type 0 where
@@ -124,5 +148,5 @@ IsServed conduct o stream left BodyFault count = RefusesLast false conduct o str
 IsServed conduct o stream left ReadFault count = StopsReading conduct o stream left count
 IsServed conduct o stream left TurnsSpent count = StopsReading conduct o stream left count
 IsServed conduct o stream left Memory count = LacksMemory conduct o stream count
-IsServed conduct o stream left WriteFault count = BreaksOff (IsWrittenNext conduct) conduct o stream count
-IsServed conduct o stream left StoreFault count = BreaksOff (IsReplyNext conduct) conduct o stream count
+IsServed conduct o stream left WriteFault count = BreaksOff conduct o stream count
+IsServed conduct o stream left StoreFault count = BreaksOffInBody conduct o stream count

@@ -10,7 +10,7 @@ use Rattle.pid_http_stream.specs.Endings.{HasFault, IsShort}
 use Rattle.pid_http_stream.specs.Handling.{MayReply}
 use Rattle.pid_http_stream.specs.Replies.{Answer, reply_head, reply_text, fault_answer}
 use Rattle.pid_http_stream.specs.Requests.{Request, IsRequest, HasNoRequest}
-use Rattle.pid_http_stream.specs.Serving.{counted, WritesFront, IsReplyNext, IsWrittenNext, is_head_fault}
+use Rattle.pid_http_stream.specs.Serving.{counted, WritesFront, IsWrittenNext, IsCutInBody, is_head_fault}
 use Rattle.pid_http_stream.specs.Streams.{closes}
 use Rattle.pid_http_stream.specs.declared.judging.StreamFault.{StreamFault}
 use Rattle.pid_http_stream.specs.declared.judging.StreamFault.TheVariants.{BodyShort}
@@ -60,13 +60,13 @@ SendsText sent.Whole old new bytes = Appends old new bytes
 SendsText sent.WriteFault old new bytes = WritesFront old new bytes
 SendsText sent.StoreFault old new bytes = ⊥
 
--- an answer was written, a front of one, or a front of the head of one whose body was not asked for
+-- an answer was written, a front of one, or a front of the head of one whose body was not asked for; or it was cut in its body
 abbrev pub IsSent : {H : Type 0} → Conduct H → H → Request → H → Bool → Option (List ℕ) → Option (List ℕ) → Sent → Type 0
 IsSent conduct a request b closing old new sent.Whole = (answer : Answer) × conduct.answers a request answer b × Appends old new (reply_text answer closing)
 IsSent conduct a request b closing old new sent.WriteFault =
     ((answer : Answer) × conduct.answers a request answer b × WritesFront old new (reply_text answer closing))
     ⊎ ((head : ReplyHead) × (told : ℕ) × conduct.promises a request head told b × WritesFront old new (reply_head head.status head.content told closing))
-IsSent conduct a request b closing old new sent.StoreFault = (answer : Answer) × conduct.answers a request answer b × WritesFront old new (reply_text answer closing)
+IsSent conduct a request b closing old new sent.StoreFault = closes request ≡ closing → IsCutInBody conduct a request b old new
 
 -- a refusal was written, whole or a front of it
 abbrev pub IsRefused : StreamFault → Option (List ℕ) → Option (List ℕ) → StreamEnd → Type 0
@@ -97,7 +97,7 @@ pub record IsReplied {H : Type 0} (conduct : Conduct H) (a b : H) (all rest : Li
 
 -- the stream ends within a request; came: what was held and what came for it, all: the whole rest of the stream
 abbrev pub EndsWithin : {H : Type 0} → Conduct H → H → H → List ℕ → List ℕ → Option (List ℕ) → Option (List ℕ) → StreamEnd → Type 0
-EndsWithin conduct a b came all old new ends.StoreFault = (bytes : List ℕ) × IsReplyNext conduct a all bytes b × WritesFront old new bytes
+EndsWithin conduct a b came all old new ends.StoreFault = (request : Request) × (behind : List ℕ) × IsRequest all request behind × IsCutInBody conduct a request b old new
 EndsWithin conduct a b came all old new ends.WriteFault = (bytes : List ℕ) × IsWrittenNext conduct a all bytes b × WritesFront old new bytes
 EndsWithin conduct a b came all old new ends.BodyFault = HasFault all BodyShort × StandsStill conduct a b × Appends old new (reply_text (fault_answer BodyShort) true)
 EndsWithin conduct a b came all old new ends.ReadFault = StandsStill conduct a b × HasNoRequest came × (new ≡ old)
@@ -108,6 +108,7 @@ EndsWithin conduct a b came all old new ends.Clean = ⊥
 EndsWithin conduct a b came all old new ends.Closed = ⊥
 EndsWithin conduct a b came all old new ends.HeadFault = ⊥
 
+-- what became of the request: it was answered, or the stream ends within it
 abbrev pub IsStep : {H : Type 0} → Conduct H → H → H → List ℕ → List ℕ → List ℕ → Option (List ℕ) → Option (List ℕ) → Answered → Type 0
 IsStep conduct a b came all held_after old new answered.Open = IsReplied conduct a b came held_after old new false
 IsStep conduct a b came all held_after old new answered.Closed = IsReplied conduct a b came held_after old new true
@@ -144,6 +145,7 @@ abbrev pub broken_so : Option BodyFault → Asked
 broken_so None = asked.NoMemory
 broken_so (Some fault) = asked.Broken fault
 
+-- what came of asking it, by how much of the body is still wanted
 abbrev pub asked_so : {E : Type 0} → Result Reply E → ℕ → Option BodyFault → Asked
 asked_so result wanted fault = if wanted == 0 then whole_so result else broken_so fault
 

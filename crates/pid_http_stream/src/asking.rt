@@ -1,6 +1,7 @@
 //! One request over its reader: the body is read, and the handler asked.
 ghost use Rattle.std.specs.Prelude.{◌≡◌, ℕ, ◌+◌, ◌≤◌, List, length, take, drop, min, Some, IfOk, IfSome, IsSome};
 ghost use Rattle.std.specs.Io.KnownBytes.{Consumes, IsAtEnd};
+ghost use Rattle.httparse.specs.Grammar.{RequestHead};
 ghost use Rattle.httparse.specs.Spans.{IsRequestAt};
 ghost use Rattle.pid_http_stream.specs.Bodies.{SpendsTurns};
 ghost use Rattle.pid_http_stream.specs.BodyLengths.{longest_body};
@@ -58,6 +59,7 @@ fn ask_buffered<H: Handler, B: Input>(
     told: usize,
     body: &mut B,
 ) -> Result<Reply, NoReply>
+    requires wanted { (h : RequestHead) → IsRequestAt head.now.bytes.now head.now.fields.now head.now.spans h → H.may_hold handler.old h }
     ensures goes { B.goes body.old body.new }
     ensures whole { IfOk result (λ _. IsAtEnd (B.to_come body.new)) }
     ensures becomes { H.becomes handler.old handler.new }

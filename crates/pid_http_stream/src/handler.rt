@@ -1,6 +1,7 @@
 //! What answers requests.
 ghost use Rattle.std.specs.Prelude.{◌≡◌, ◌≤◌, ℕ, List, [], length, Some, Err, IfOk, IsSome};
 ghost use Rattle.std.specs.Io.KnownBytes.{IsAtEnd};
+ghost use Rattle.httparse.specs.Grammar.{RequestHead};
 ghost use Rattle.httparse.specs.Spans.{IsRequestAt};
 ghost use Rattle.pid_http_stream.specs.BodyLengths.{longest_body};
 ghost use Rattle.pid_http_stream.specs.Handling.{MayReply, IsAsked, WritesBody};
@@ -57,7 +58,9 @@ pub enum BodyStop {
 /// What it answers depends on what is known of it: of a registry the history that it shows. So each clause says what is known
 /// of it then, by what was known of it before, while it is good: while the disk under a registry returns what was written.
 pub trait Handler {
-    ghost use Rattle.pid_http_stream.specs.Replies.{Answer};
+    ghost use Rattle.std.specs.Prelude.{⊤};
+    ghost use Rattle.httparse.specs.Grammar.{RequestHead};
+    ghost use Rattle.pid_http_stream.specs.Replies.{Answer, answer_behind};
     ghost use Rattle.pid_http_stream.specs.Requests.{Request};
     ghost use Rattle.pid_http_stream.specs.declared.reply.ReplyHead.{ReplyHead};
 
@@ -89,11 +92,20 @@ pub trait Handler {
     /// Which bytes it may write as the body that it promised, and what is known of it behind that.
     ghost writes: { View → List ℕ → View → Type 0 };
 
-    /// How it wants the body of the request with this head.
-    fn wants(&self, head: &Head<'_>) -> Wanted;
+    /// Which requests it may be asked with their bodies in memory.
+    ghost may_hold: { Self → RequestHead → Type 0 } = { λ _ _. ⊤ };
+
+    /// Which requests it may be asked with their bodies still to be read.
+    ghost may_stream: { Self → RequestHead → Type 0 } = { λ _ _. ⊤ };
+
+    /// How it wants the body of the request with this head: so it is asked then, by `answer` or by `answer_streamed`.
+    fn wants(&self, head: &Head<'_>) -> Wanted
+        ensures buffered { result ≡ Wanted.Buffered → (h : RequestHead) → IsRequestAt head.now.bytes.now head.now.fields.now head.now.spans h → may_hold self.now h }
+        ensures streamed { result ≡ Wanted.Streamed → (h : RequestHead) → IsRequestAt head.now.bytes.now head.now.fields.now head.now.spans h → may_stream self.now h };
 
     /// Answers a request.
     fn answer(&mut self, head: &Head<'_>, body: &[u8]) -> Result<Reply, NoReply>
+        requires wanted { (h : RequestHead) → IsRequestAt head.now.bytes.now head.now.fields.now head.now.spans h → may_hold self.old h }
         ensures becomes { becomes self.old self.new }
         ensures answered { Leads is_good stands self.old self.new (λ v w. (request : Request) → IsRequestAt head.now.bytes.now head.now.fields.now head.now.spans request.head → request.body ≡ body.now
             → IsAsked (record { answers = answers; leaves = leaves; gives_up = gives_up; promises = promises }) v request result (Some []) w) };
@@ -101,6 +113,7 @@ pub trait Handler {
     /// Answers a request whose body is still to be read, of at most `LONGEST_BODY` bytes. It is to read the body to its end before
     /// it replies; where the body fails it gives the request up.
     fn answer_streamed<B: Input>(&mut self, head: &Head<'_>, body: &mut B) -> Result<Reply, NoReply>
+        requires wanted { (h : RequestHead) → IsRequestAt head.now.bytes.now head.now.fields.now head.now.spans h → may_stream self.old h }
         ensures goes { B.goes body.old body.new }
         ensures whole { IfOk result (λ _. IsAtEnd (B.to_come body.new)) }
         ensures becomes { becomes self.old self.new }
@@ -116,7 +129,7 @@ pub trait Handler {
 
     /// A body that was promised and written is that of an answer.
     ghost kept: { (a : View) (request : Request) (head : ReplyHead) (told : ℕ) (b : View) (body : List ℕ) (c : View) → promises a request head told b → writes b body c
-        → answers a request (record { status = head.status; content = head.content; told = told; body = body }) c };
+        → answers a request (answer_behind head told body) c };
 
     /// No call leaves it as it is.
     ghost stays: { (a : Self) → becomes a a };

@@ -5,8 +5,11 @@ ghost use Rattle.httparse.specs.Grammar.{HasNoRequest as HasNoHeadYet};
 ghost use Rattle.httparse.specs.declared.spans.HeaderSpan.{HeaderSpan as FieldSpan};
 ghost use Rattle.pid_http_stream.specs.Bodies.{SpendsTurns};
 ghost use Rattle.pid_http_stream.specs.Intakes.{ComesIn, HasNoLineEnd, IsHeadRead, IsJudged, StaysBut, WantsMore};
+ghost use Rattle.pid_http_stream.specs.Requests.{HasNoRequest};
 
-use crate::judging::{Judged, LONGEST_HEAD, StreamFault, are_line_ends, judge, judge_unended};
+use crate::judging::{
+    Judged, LONGEST_HEAD, MOST_FIELDS, StreamFault, are_line_ends, judge, judge_unended,
+};
 use httparse::spans::{HeaderSpan, RequestSpans};
 use pid_ident::Input;
 
@@ -52,13 +55,15 @@ fn keep(held: &mut Vec<u8>, piece: &[u8]) -> Filled
     }
 }
 
-// Reads once, and keeps what came. Room is made first, so that nothing is read that can't be kept.
+// Reads once, and keeps what came. Room is made first, so that nothing is read that can't be kept; and nothing is read while a
+// whole request is held.
 fn fill<I: Input>(held: &mut Vec<u8>, left: &mut u64, input: &mut I) -> Filled
+    requires waits { HasNoRequest held.old.items }
     ensures comes { ComesIn held.old.items held.new.items (I.to_come input.old) (I.to_come input.new) }
     ensures stays { StaysBut held.old.items held.new.items result }
     ensures end { result ≡ Filled.End → IsAtEnd (I.to_come input.new) }
     ensures turns { SpendsTurns (record { reads = I.reads input.old; left = left.old }) (record { reads = I.reads input.new; left = left.new }) }
-    ensures pace { result ≡ Filled.Piece → left.new * 4096 + length held.new.items ≤ left.old * 4096 + length held.old.items }
+    ensures pace { result ≡ Filled.Piece → left.new * READ_SIZE + length held.new.items ≤ left.old * READ_SIZE + length held.old.items }
     ensures goes_on { result ≡ Filled.Piece → left.new < left.old }
     ensures fault { result ≡ Filled.Stopped Stop.ReadFault → IsSome (I.read_fault input.new) }
     ensures spent { result ≡ Filled.Stopped Stop.TurnsSpent → left.new ≡ 0 }
@@ -111,7 +116,7 @@ fn judge_end(held: &[u8]) -> HeadRead
 fn judge_more(held: &[u8], before: usize, fields: &mut [HeaderSpan]) -> Judged
     requires wants { WantsMore (take before held.now) }
     requires before { before ≤ length held.now }
-    requires room { length fields.old ≡ 32 }
+    requires room { length fields.old ≡ MOST_FIELDS }
     ensures { IsJudged held.now fields.new result }
 {
     let (_, piece) = held.split_at(before);
@@ -129,11 +134,11 @@ pub(crate) fn read_head<I: Input>(
     input: &mut I,
     fields: &mut [HeaderSpan],
 ) -> HeadRead
-    requires { length fields.old ≡ 32 }
+    requires { length fields.old ≡ MOST_FIELDS }
     ensures comes { ComesIn held.old.items held.new.items (I.to_come input.old) (I.to_come input.new) }
     ensures head { IsHeadRead held.new.items fields.new (I.to_come input.new) result }
     ensures turns { SpendsTurns (record { reads = I.reads input.old; left = left.old }) (record { reads = I.reads input.new; left = left.new }) }
-    ensures pace { left.new * 4096 + length held.new.items ≤ left.old * 4096 + length held.old.items }
+    ensures pace { left.new * READ_SIZE + length held.new.items ≤ left.old * READ_SIZE + length held.old.items }
     ensures fault { result ≡ HeadRead.Stopped Stop.ReadFault → IsSome (I.read_fault input.new) }
     ensures spent { result ≡ HeadRead.Stopped Stop.TurnsSpent → left.new ≡ 0 }
     ensures goes { I.goes input.old input.new }

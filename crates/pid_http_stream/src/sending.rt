@@ -1,5 +1,6 @@
 //! A reply, written to its end.
-ghost use Rattle.std.specs.Prelude.{◌≡◌, IsSome};
+ghost use Rattle.std.specs.Prelude.{◌≡◌, true, false, None, [], IsSome};
+ghost use Rattle.std.specs.Io.KnownBytes.{Appends};
 ghost use Rattle.pid_http_stream.specs.Handling.{MayReply};
 ghost use Rattle.pid_http_stream.specs.Leading.{Leads};
 ghost use Rattle.pid_http_stream.specs.Replies.{answer_with, reply_head, reply_text};
@@ -41,6 +42,18 @@ fn send_head<W: Output>(head: ReplyHead, told: u64, closes: bool, out: &mut W) -
     }
 }
 
+// Whether the writer has failed: then it keeps its fault, and gives it to a write of nothing too.
+fn has_failed<W: Output>(out: &mut W) -> bool
+    ensures taken { Appends (W.taken out.old) (W.taken out.new) [] }
+    ensures failed { result ≡ true → IsSome (W.write_fault out.new) }
+    ensures good { result ≡ false → W.write_fault out.new ≡ None }
+{
+    match out.write(b"") {
+        Ok(_) => false,
+        Err(_) => true,
+    }
+}
+
 // Writes the head of a reply, and lets the handler write the body that it promised.
 fn send_written<H: Handler, W: Output>(
     handler: &mut H,
@@ -53,6 +66,7 @@ fn send_written<H: Handler, W: Output>(
     ensures sent { Leads H.is_good H.stands handler.old handler.new (λ v w. (a : H.View) (request : Request) → H.promises a request head told v
         → IsSent (record { answers = H.answers; leaves = H.leaves; gives_up = H.gives_up; promises = H.promises }) a request w closes (W.taken out.old) (W.taken out.new) result) }
     ensures fault { result ≡ Sent.WriteFault → IsSome (W.write_fault out.new) }
+    ensures store { result ≡ Sent.StoreFault → W.write_fault out.new ≡ None }
 {
     match send_head(head, told, closes, out) {
         Sent::Whole => {}
@@ -62,7 +76,13 @@ fn send_written<H: Handler, W: Output>(
     match handler.write_body(out) {
         Ok(()) => Sent::Whole,
         Err(BodyStop::Writer) => Sent::WriteFault,
-        Err(BodyStop::Store) => Sent::StoreFault,
+        Err(BodyStop::Store) => {
+            if has_failed(out) {
+                Sent::WriteFault
+            } else {
+                Sent::StoreFault
+            }
+        }
     }
 }
 
@@ -77,6 +97,7 @@ pub(crate) fn send<H: Handler, W: Output>(
     ensures sent { Leads H.is_good H.stands handler.old handler.new (λ v w. (a : H.View) (request : Request) → MayReply (record { answers = H.answers; leaves = H.leaves; gives_up = H.gives_up; promises = H.promises }) a request reply v
         → IsSent (record { answers = H.answers; leaves = H.leaves; gives_up = H.gives_up; promises = H.promises }) a request w closes (W.taken out.old) (W.taken out.new) result) }
     ensures fault { result ≡ Sent.WriteFault → IsSome (W.write_fault out.new) }
+    ensures store { result ≡ Sent.StoreFault → W.write_fault out.new ≡ None }
 {
     let Reply { head, body } = reply;
     match body {

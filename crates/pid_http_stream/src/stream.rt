@@ -1,5 +1,5 @@
 //! A stream of requests, answered one after another.
-ghost use Rattle.std.specs.Prelude.{◌≡◌, ℕ, ◌+◌, ◌-◌, ◌*◌, ◌^◌, ◌<◌, ◌≤◌, List, length, drop, IsSome, IfSome};
+ghost use Rattle.std.specs.Prelude.{◌≡◌, None, ℕ, ◌+◌, ◌-◌, ◌*◌, ◌^◌, ◌<◌, ◌≤◌, List, length, drop, IsSome, IfSome};
 ghost use Rattle.pid_http_stream.specs.Bodies.{SpendsTurns};
 ghost use Rattle.pid_http_stream.specs.Intakes.{StandsAt};
 ghost use Rattle.pid_http_stream.specs.Leading.{Leads};
@@ -33,7 +33,8 @@ pub enum StreamEnd {
     ReadFault,
     /// The writer failed, or took no byte; a front of the next reply was written.
     WriteFault,
-    /// The handler could not go on with a body that it wrote itself; a front of the reply was written.
+    /// The handler could not go on with a body that it wrote itself, and the writer is good; the head of the reply was written,
+    /// and a front of the body.
     StoreFault,
     /// Memory was refused.
     Memory,
@@ -129,6 +130,7 @@ fn serve_request<H: Handler, I: Input, W: Output>(
     ensures turns { SpendsTurns (record { reads = I.reads input.old; left = left.old }) (record { reads = I.reads input.new; left = left.new }) }
     ensures read_fault { result ≡ Answered.Ended StreamEnd.ReadFault → IsSome (I.read_fault input.new) }
     ensures write_fault { result ≡ Answered.Ended StreamEnd.WriteFault → IsSome (W.write_fault out.new) }
+    ensures store_fault { result ≡ Answered.Ended StreamEnd.StoreFault → W.write_fault out.new ≡ None }
     ensures spent { result ≡ Answered.Ended StreamEnd.TurnsSpent → left.new ≡ 0 }
     ensures goes { I.goes input.old input.new }
 {
@@ -187,6 +189,7 @@ pub fn serve_stream<H: Handler, I: Input, W: Output>(
     ensures turns { result.end ≡ StreamEnd.TurnsSpent → I.reads input.old + turns ≤ 2 ^ 64 - 1 → I.reads input.new ≡ I.reads input.old + turns }
     ensures read_fault { result.end ≡ StreamEnd.ReadFault → IsSome (I.read_fault input.new) }
     ensures write_fault { result.end ≡ StreamEnd.WriteFault → IsSome (W.write_fault output.new) }
+    ensures store_fault { result.end ≡ StreamEnd.StoreFault → W.write_fault output.new ≡ None }
     ensures goes { I.goes input.old input.new }
 {
     let mut fields = [EMPTY_HEADER_SPAN; MOST_FIELDS];

@@ -1,4 +1,5 @@
 //! One connection.
+ghost use Rattle.std.specs.Prelude.{◌≡◌, ◌+◌, ◌^◌, ◌<◌, Some, IfSome};
 
 use crate::closing::close;
 use crate::server::StreamServer;
@@ -19,17 +20,27 @@ const HELD_BACK: usize = 65_536;
 /// The most reads of one stream.
 const TURNS: u64 = 1_000_000;
 
-// Serves what a reader gives, and sends all replies.
-fn serve_sides<S: StreamServer, R: Read + Drop, W: Write + Drop>(
+// The two sides of a connection, with a buffer each.
+fn buffered<R: Read + Drop, W: Write + Drop>(
     alloc: Global,
     reader: R,
     writer: W,
+) -> io::Result<(BufReader<R>, BufWriter<W>)> {
+    let reader = BufReader::with_capacity(alloc, READ_AHEAD, reader)?;
+    let writer = BufWriter::with_capacity(alloc, HELD_BACK, writer)?;
+    Ok((reader, writer))
+}
+
+// Serves what a reader gives, and sends all replies.
+fn serve_buffered<S: StreamServer, R: Read + Drop, W: Write + Drop>(
+    reader: BufReader<R>,
+    writer: BufWriter<W>,
     server: &mut S,
 ) -> io::Result<()>
-    ensures { S.goes server.old server.new }
+    ensures goes { S.goes server.old server.new }
+    ensures counted { IfSome (S.given server.old) (λ n. n + 1 < 2 ^ 64 → S.given server.new ≡ Some (n + 1)) }
 {
-    let reader = BufReader::with_capacity(alloc, READ_AHEAD, reader)?;
-    let writer = RefCell::new(BufWriter::with_capacity(alloc, HELD_BACK, writer)?);
+    let writer = RefCell::new(writer);
     let mut input = Plain::new(Requests {
         reader,
         writer: &writer,
@@ -39,12 +50,32 @@ fn serve_sides<S: StreamServer, R: Read + Drop, W: Write + Drop>(
     send_held(&writer)
 }
 
-/// Serves the stream of a connection and closes that. Where the connection or memory fails the client loses replies, and no one
-/// else does.
+// Serves what a reader gives, each reply sent piece by piece.
+fn serve_bare<S: StreamServer, R: Read + Drop, W: Write + Drop>(
+    reader: R,
+    writer: W,
+    server: &mut S,
+)
+    ensures goes { S.goes server.old server.new }
+    ensures counted { IfSome (S.given server.old) (λ n. n + 1 < 2 ^ 64 → S.given server.new ≡ Some (n + 1)) }
+{
+    let mut input = Plain::new(reader);
+    let mut output = Plain::new(writer);
+    let _served = server.serve(&mut input, &mut output, TURNS);
+}
+
+/// Serves the stream of a connection and closes that. Where the connection fails the client loses replies, and no one else does;
+/// where memory for its buffers is refused the stream is served without them.
 pub(crate) fn serve_connection<S: StreamServer>(alloc: Global, stream: &TcpStream, server: &mut S)
-    ensures { S.goes server.old server.new }
+    ensures goes { S.goes server.old server.new }
+    ensures counted { IfSome (S.given server.old) (λ n. n + 1 < 2 ^ 64 → S.given server.new ≡ Some (n + 1)) }
 {
     let _ = stream.set_nodelay(true);
-    let _ = serve_sides(alloc, stream, stream, server);
+    match buffered(alloc, stream, stream) {
+        Ok((reader, writer)) => {
+            let _ = serve_buffered(reader, writer, server);
+        }
+        Err(_) => serve_bare(stream, stream, server),
+    }
     close(stream);
 }

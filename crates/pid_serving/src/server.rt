@@ -1,12 +1,12 @@
 //! What serves the streams of connections.
-ghost use Rattle.std.specs.Prelude.{◌≡◌, ◌+◌, ◌≤◌};
+ghost use Rattle.std.specs.Prelude.{◌≡◌, ◌+◌, ◌^◌, ◌<◌, ◌≤◌, Some, IfSome};
 
 use pid_http_stream::Served;
 use pid_ident::{Input, Output};
 
 /// What serves the streams of connections, one after another.
 pub trait StreamServer {
-    ghost use Rattle.std.specs.Prelude.{Bool};
+    ghost use Rattle.std.specs.Prelude.{Bool, ℕ, Option, None};
 
     /// Whether it can go on with another stream.
     ghost live: { Self → Bool };
@@ -14,12 +14,16 @@ pub trait StreamServer {
     /// What the serving of streams, however many, may make of it: before it and after.
     ghost goes: { Self → Self → Type 0 };
 
+    /// How many streams it was given, where it counts them: exact below the greatest count.
+    ghost given: { Self → Option ℕ } = { λ _. None };
+
     fn is_live(&self) -> bool
         ensures { result ≡ live self.now };
 
     /// Serves the stream of one connection, in at most so many reads.
     fn serve<I: Input, O: Output>(&mut self, input: &mut I, output: &mut O, turns: u64) -> Served
         ensures goes { goes self.old self.new }
+        ensures counted { IfSome (given self.old) (λ n. n + 1 < 2 ^ 64 → given self.new ≡ Some (n + 1)) }
         ensures reads { I.reads input.new ≤ I.reads input.old + turns };
 
     /// No stream leaves it as it is.

@@ -1,5 +1,5 @@
 //! One connection after the other.
-ghost use Rattle.std.specs.Prelude.{◌≡◌, ◌≢◌, ◌<◌, ◌≤◌, true, false};
+ghost use Rattle.std.specs.Prelude.{◌≡◌, ◌≢◌, ◌+◌, ◌^◌, ◌<◌, ◌≤◌, true, false, Some, IfSome};
 
 use crate::connection::serve_connection;
 use crate::server::StreamServer;
@@ -21,7 +21,7 @@ pub enum ServingEnd {
 /// What came of the serving of connections.
 #[derive(Clone, Copy, Debug, PartialEq, Eq)]
 pub struct Serving {
-    /// How many streams were begun.
+    /// How many streams were begun: each was given to the server, once.
     pub streams: u32,
     pub end: ServingEnd,
 }
@@ -51,9 +51,12 @@ pub fn serve_on<S: StreamServer>(
     connections: u32,
 ) -> Serving
     ensures goes { S.goes server.old server.new }
-    ensures streams { result.streams ≤ connections }
+    ensures counted { IfSome (S.given server.old) (λ n. n + result.streams < 2 ^ 64 → S.given server.new ≡ Some (n + result.streams)) }
+    ensures at_most { result.streams ≤ connections }
     ensures all { result.end ≡ ServingEnd.All → result.streams ≡ connections }
+    ensures accept_fault { result.end ≡ ServingEnd.AcceptFault → result.streams < connections }
     ensures not_live { result.end ≡ ServingEnd.NotLive → S.live server.new ≡ false }
+    ensures begun { result.end ≡ ServingEnd.NotLive → 0 < result.streams }
     ensures live { result.end ≢ ServingEnd.NotLive → 0 < result.streams → S.live server.new ≡ true }
 {
     for begun in 0..connections {

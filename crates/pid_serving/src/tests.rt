@@ -27,14 +27,27 @@ fn give_back<I: Input, O: Output>(input: &mut I, output: &mut O, turns: u64)
 struct Echo {
     reads: u64,
     streams_left: u32,
+    given: u64,
+}
+
+impl Echo {
+    fn new(reads: u64, streams_left: u32) -> Echo {
+        Echo {
+            reads,
+            streams_left,
+            given: 0,
+        }
+    }
 }
 
 impl StreamServer for Echo {
-    ghost use Rattle.std.specs.Prelude.{⊤, nat_lt};
+    ghost use Rattle.std.specs.Prelude.{⊤, Some, nat_lt};
 
     ghost live = { λ echo. nat_lt 0 echo.streams_left };
 
     ghost goes = { λ a b. ⊤ };
+
+    ghost given = { λ echo. Some echo.given };
 
     ghost stays = { λ a. tt };
 
@@ -46,6 +59,7 @@ impl StreamServer for Echo {
 
     fn serve<I: Input, O: Output>(&mut self, input: &mut I, output: &mut O, turns: u64) -> Served {
         self.streams_left = self.streams_left.saturating_sub(1);
+        self.given = self.given.saturating_add(1);
         give_back(input, output, turns.min(self.reads));
         Served {
             answered: 1,
@@ -82,10 +96,7 @@ fn serves_one_after_the_other(rt: HostRuntime) -> Result<(), Fail> {
     let (listener, address) = listen(&rt)?;
     let first = client(&rt, address, 1)?;
     let second = client(&rt, address, 2)?;
-    let mut echo = Echo {
-        reads: 100,
-        streams_left: 5,
-    };
+    let mut echo = Echo::new(100, 5);
     let serving = serve_on(rt.alloc(), &listener, &mut echo, 2);
     assert!(rt;
         serving
@@ -94,6 +105,7 @@ fn serves_one_after_the_other(rt: HostRuntime) -> Result<(), Fail> {
                 end: ServingEnd::All
             }
     );
+    assert_eq!(rt; echo.given, 2);
     assert!(rt; received(&rt, first)?.as_slice() == b"8086".as_slice());
     assert!(rt; received(&rt, second)?.as_slice() == b"80868086".as_slice());
     Ok(())
@@ -103,10 +115,7 @@ fn serves_one_after_the_other(rt: HostRuntime) -> Result<(), Fail> {
 fn stops_where_the_server_does(rt: HostRuntime) -> Result<(), Fail> {
     let (listener, address) = listen(&rt)?;
     let first = client(&rt, address, 1)?;
-    let mut echo = Echo {
-        reads: 100,
-        streams_left: 1,
-    };
+    let mut echo = Echo::new(100, 1);
     let serving = serve_on(rt.alloc(), &listener, &mut echo, 2);
     assert!(rt;
         serving
@@ -124,10 +133,7 @@ fn stops_where_the_server_does(rt: HostRuntime) -> Result<(), Fail> {
 fn drops_what_is_not_read(rt: HostRuntime) -> Result<(), Fail> {
     let (listener, address) = listen(&rt)?;
     let first = client(&rt, address, 50_000)?;
-    let mut echo = Echo {
-        reads: 1,
-        streams_left: 5,
-    };
+    let mut echo = Echo::new(1, 5);
     let serving = serve_on(rt.alloc(), &listener, &mut echo, 1);
     assert!(rt;
         serving
@@ -145,10 +151,7 @@ fn drops_what_is_not_read(rt: HostRuntime) -> Result<(), Fail> {
 fn stops_where_nothing_is_accepted(rt: HostRuntime) -> Result<(), Fail> {
     let (listener, _) = listen(&rt)?;
     listener.set_nonblocking(true)?;
-    let mut echo = Echo {
-        reads: 1,
-        streams_left: 5,
-    };
+    let mut echo = Echo::new(1, 5);
     let serving = serve_on(rt.alloc(), &listener, &mut echo, 1);
     assert!(rt;
         serving

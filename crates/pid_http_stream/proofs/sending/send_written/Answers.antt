@@ -1,6 +1,6 @@
 use Rattle.std.proofs.Common.{inl}
 use Rattle.pid_http_stream.proofs.Leading.{turned}
-use Rattle.pid_http_stream.proofs.Lines.{head_then_body, head_then_front}
+use Rattle.pid_http_stream.proofs.Lines.{head_then_body, head_then_front, front_then_nothing, cut_in_body}
 use Rattle.pid_http_stream.proofs.sending.send_written.Goals as goal
 
 pub returns-in-Ok-clause-sent : goal.returns-in-Ok-clause-sent
@@ -15,8 +15,19 @@ returns-in-Err-Writer-clause-sent g c = turned _ _ _ _
     inl (_, g.met.H.Handler.kept a request c.args.head c.args.told v written.0 w promised written.1, head_then_front c.args.head c.args.told c.args.closes _ _ _ written.0 c.in-Whole.ensures.sent written.2))
     c.in-Err-Writer.ensures.written
 
-pub returns-in-Err-Store-clause-sent : goal.returns-in-Err-Store-clause-sent
-returns-in-Err-Store-clause-sent g c = turned _ _ _ _
+pub returns-then-has_failed-clause-sent : goal.returns-then-has_failed-clause-sent
+returns-then-has_failed-clause-sent g c = turned _ _ _ _
     (λ v w written a request promised.
-    (_, g.met.H.Handler.kept a request c.args.head c.args.told v written.0 w promised written.1, head_then_front c.args.head c.args.told c.args.closes _ _ _ written.0 c.in-Whole.ensures.sent written.2))
+    inl (
+      _,
+      g.met.H.Handler.kept a request c.args.head c.args.told v written.0 w promised written.1,
+      head_then_front c.args.head c.args.told c.args.closes _ _ _ written.0 c.in-Whole.ensures.sent (front_then_nothing _ _ _ written.0 written.2 c.has_failed.ensures.taken),
+    ))
+    c.in-Err-Store.ensures.written
+
+pub returns-else-has_failed-clause-sent : goal.returns-else-has_failed-clause-sent
+returns-else-has_failed-clause-sent g c = turned _ _ _ _
+    (λ v w written a request promised.
+    cut_in_body _ a v w request c.args.head c.args.told written.0 c.args.closes _ _ _ _ promised (g.met.H.Handler.kept a request c.args.head c.args.told v written.0 w promised written.1)
+    c.in-Whole.ensures.sent written.2 c.has_failed.ensures.taken)
     c.in-Err-Store.ensures.written

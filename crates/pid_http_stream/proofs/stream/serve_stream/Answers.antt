@@ -1,7 +1,7 @@
 use Rattle.std.proofs.Common.{rules, arith}
 use Rattle.pid_http_stream.specs.BodyLaws.{more_turns}
 use Rattle.pid_http_stream.proofs.Leading.{turned, joined}
-use Rattle.pid_http_stream.proofs.Serving.{loop_nothing, loop_faulty, loop_stopped, loop_open, loop_closed, loop_ended}
+use Rattle.pid_http_stream.proofs.Looping.{loop_nothing, loop_faulty, loop_stopped, loop_open, loop_closed, loop_ended}
 use Rattle.pid_http_stream.proofs.stream.serve_stream.Goals as goal
 
 pub returns-in-Nothing-clause-served : goal.returns-in-Nothing-clause-served

@@ -3,6 +3,8 @@ use Rattle.std.specs.Prelude.{IfSome}
 use Rattle.pid_http_stream.specs.Bodies.{SpendsTurns}
 use Rattle.pid_http_stream.specs.Leading.{Leads}
 use Rattle.pid_http_stream.proofs.Serving.{IsServing}
+use Rattle.pid_http_stream.specs.declared.intake.TheConstants.{READ_SIZE}
+use Rattle.pid_http_stream.specs.declared.judging.TheConstants.{MOST_FIELDS}
 use Rattle.pid_http_stream.proofs.stream.serve_stream.Given as goal
 
 abbrev pub invariant-serving : goal.invariant-serving
@@ -10,10 +12,10 @@ invariant-serving g l = record {
   serving : Leads g.H.Handler.is_good g.H.Handler.stands l.fn.handler l.handler (λ v w. IfSome (g.I.Input.to_come l.fn.input) (λ s. IsServing (record { answers = g.H.Handler.answers; leaves = g.H.Handler.leaves; gives_up = g.H.Handler.gives_up; promises = g.H.Handler.promises })
       (record { handler = v; handler_after = w; taken = g.W.Output.taken l.fn.output; taken_after = g.W.Output.taken l.output }) s (g.I.Input.to_come l.input) l.held.items l.answered));
   becomes : g.H.Handler.becomes l.fn.handler l.handler;
-  room : length l.fields ≡ 32;
+  room : length l.fields ≡ MOST_FIELDS;
   turns : SpendsTurns (record { reads = g.I.Input.reads l.fn.input; left = l.turns }) (record { reads = g.I.Input.reads l.input; left = l.left });
   goes : g.I.Input.goes l.fn.input l.input;
 }
 
 abbrev pub decreases-serving : goal.decreases-serving
-decreases-serving g l = l.left * 4096 + length l.held.items
+decreases-serving g l = l.left * READ_SIZE + length l.held.items

@@ -1,0 +1,68 @@
+-- The serving loop as it runs: what was served so far, what came for a head, and then the step or the end.
+use Rattle.std.proofs.Common.{◌≡◌, ℕ, ◌+◌, List, ◌++◌, Option, Some, None, drop, sym, ap, subst, ◌∙◌}
+use Rattle.std.specs.Prelude.{IfSome}
+use Rattle.std.specs.Io.KnownBytes.{Consumes, IsAtEnd}
+use Rattle.pid_http_stream.specs.Conducts.{Conduct}
+use Rattle.pid_http_stream.specs.Endings.{HasFault}
+use Rattle.pid_http_stream.specs.Intakes.{ComesIn}
+use Rattle.pid_http_stream.specs.Leftovers.{IsLeftover}
+use Rattle.pid_http_stream.specs.Requests.{HasNoRequest}
+use Rattle.pid_http_stream.specs.Serving.{counted, IsServed}
+use Rattle.pid_http_stream.specs.Steps.{count_with, IsRefused, Steps, stop_end}
+use Rattle.pid_http_stream.specs.declared.intake.Stop.{Stop}
+use Rattle.pid_http_stream.specs.declared.judging.StreamFault.{StreamFault}
+use Rattle.pid_http_stream.specs.declared.stream.Answered.TheVariants as answered
+use Rattle.pid_http_stream.specs.declared.stream.StreamEnd.{StreamEnd}
+use Rattle.pid_http_stream.specs.declared.stream.StreamEnd.TheVariants.{Clean, Closed}
+use Rattle.pid_http_stream.proofs.Serving.{IsServing, if_some, comes, ends_clean, ends_refused, ends_stopped, steps_open, steps_closed, steps_ended}
+
+-- a fact that hangs on known bytes, where they are known
+where_known : (o : Option (List ℕ)) (P : Type 0) (s read : List ℕ) → Consumes (Some s) o read → IfSome o (λ _. P) → P
+where_known None P s read c p = absurd c
+where_known (Some x) P s read c p = p
+
+pub loop_nothing : {H : Type 0} (conduct : Conduct H) (a b : H) (t u input mid left : Option (List ℕ)) (held after : List ℕ) (count : ℕ)
+    → IfSome input (λ s. IsServing conduct (record { handler = a; handler_after = b; taken = t; taken_after = u }) s mid held count) → ComesIn held after mid left → IsAtEnd left × IsLeftover after
+    → IfSome input (λ s. IsServed conduct (record { handler = a; handler_after = b; taken = t; taken_after = u }) s left Clean count)
+loop_nothing conduct a b t u input mid left held after count serving c (end, rest) =
+    if_some input _ _ (λ s x. ends_clean conduct a b t u s left after count (comes conduct _ s mid left held after count x c) end rest) serving
+
+pub loop_faulty : {H : Type 0} (conduct : Conduct H) (a b : H) (t u v input mid left : Option (List ℕ)) (held after : List ℕ) (count : ℕ) (fault : StreamFault) (end : StreamEnd)
+    → IfSome input (λ s. IsServing conduct (record { handler = a; handler_after = b; taken = t; taken_after = u }) s mid held count) → ComesIn held after mid left
+    → IfSome left (λ more. HasFault (after ++ more) fault) → IsRefused fault u v end
+    → IfSome input (λ s. IsServed conduct (record { handler = a; handler_after = b; taken = t; taken_after = v }) s left end (count_with end count))
+loop_faulty conduct a b t u v input mid left held after count fault end serving c has r =
+    if_some input _ _ (λ s x. ends_refused conduct a b t u v s left after count fault end (comes conduct _ s mid left held after count x c) has r) serving
+
+pub loop_stopped : {H : Type 0} (conduct : Conduct H) (a b : H) (t u input mid left : Option (List ℕ)) (held after : List ℕ) (count : ℕ) (stop : Stop)
+    → IfSome input (λ s. IsServing conduct (record { handler = a; handler_after = b; taken = t; taken_after = u }) s mid held count) → ComesIn held after mid left → HasNoRequest after
+    → IfSome input (λ s. IsServed conduct (record { handler = a; handler_after = b; taken = t; taken_after = u }) s left (stop_end stop) count)
+loop_stopped conduct a b t u input mid left held after count stop serving c none =
+    if_some input _ _ (λ s x. ends_stopped conduct a b t u s left after count stop (comes conduct _ s mid left held after count x c) none) serving
+
+pub loop_open : {H : Type 0} (conduct : Conduct H) (a b c : H) (t u v input mid read left : Option (List ℕ)) (held after lent kept : List ℕ) (n count count_after : ℕ)
+    → IfSome input (λ s. IsServing conduct (record { handler = a; handler_after = b; taken = t; taken_after = u }) s mid held count) → ComesIn held after mid read → lent ≡ after
+    → IfSome read (λ _. Steps conduct (record { a = b; b = c; input = read; input_after = left }) lent (drop n lent) u v answered.Open) → count_after ≡ counted (count + 1) → kept ≡ drop n after
+    → IfSome input (λ s. IsServing conduct (record { handler = a; handler_after = c; taken = t; taken_after = v }) s left kept count_after)
+loop_open conduct a b c t u v input mid read left held after lent kept n count count_after serving came same step counts rest =
+    if_some input _ _ (λ s x.
+    let y = subst (λ (l : List ℕ). IsServing conduct (record { handler = a; handler_after = b; taken = t; taken_after = u }) s read l count) (sym same) (comes conduct _ s mid read held after count x came) in
+    steps_open conduct a b c t u v s read left lent (drop n lent) kept count count_after y (where_known read _ s y.read y.consumed step) counts (rest ∙ ap (drop n) (sym same))) serving
+
+pub loop_closed : {H : Type 0} (conduct : Conduct H) (a b c : H) (t u v input mid read left : Option (List ℕ)) (held after lent behind : List ℕ) (count count_after : ℕ)
+    → IfSome input (λ s. IsServing conduct (record { handler = a; handler_after = b; taken = t; taken_after = u }) s mid held count) → ComesIn held after mid read → lent ≡ after
+    → IfSome read (λ _. Steps conduct (record { a = b; b = c; input = read; input_after = left }) lent behind u v answered.Closed) → count_after ≡ counted (count + 1)
+    → IfSome input (λ s. IsServed conduct (record { handler = a; handler_after = c; taken = t; taken_after = v }) s left Closed count_after)
+loop_closed conduct a b c t u v input mid read left held after lent behind count count_after serving came same step counts =
+    if_some input _ _ (λ s x.
+    let y = subst (λ (l : List ℕ). IsServing conduct (record { handler = a; handler_after = b; taken = t; taken_after = u }) s read l count) (sym same) (comes conduct _ s mid read held after count x came) in
+    steps_closed conduct a b c t u v s read left lent behind count count_after y (where_known read _ s y.read y.consumed step) counts) serving
+
+pub loop_ended : {H : Type 0} (conduct : Conduct H) (a b c : H) (t u v input mid read left : Option (List ℕ)) (held after lent behind : List ℕ) (count : ℕ) (end : StreamEnd)
+    → IfSome input (λ s. IsServing conduct (record { handler = a; handler_after = b; taken = t; taken_after = u }) s mid held count) → ComesIn held after mid read → lent ≡ after
+    → IfSome read (λ _. Steps conduct (record { a = b; b = c; input = read; input_after = left }) lent behind u v (answered.Ended end))
+    → IfSome input (λ s. IsServed conduct (record { handler = a; handler_after = c; taken = t; taken_after = v }) s left end (count_with end count))
+loop_ended conduct a b c t u v input mid read left held after lent behind count end serving came same step =
+    if_some input _ _ (λ s x.
+    let y = subst (λ (l : List ℕ). IsServing conduct (record { handler = a; handler_after = b; taken = t; taken_after = u }) s read l count) (sym same) (comes conduct _ s mid read held after count x came) in
+    steps_ended conduct a b c t u v s read left lent behind count end y (where_known read _ s y.read y.consumed step)) serving
