@@ -25,19 +25,20 @@ use Rattle.pid_tree.specs.Printing.{header, print}
 use Rattle.pid_http_stream.specs.Serving.{WritesFront}
 use Rattle.pid_http_stream.specs.declared.reply.Content.TheVariants.{Text}
 use Rattle.pid_http_stream.specs.declared.reply.Status.TheVariants.{Okay}
-use Rattle.pid_http.specs.Calls.{Exports}
+use Rattle.pid_http_stream.specs.Leading.{Leads}
+use Rattle.pid_http.specs.Errands.{Exports}
 use Rattle.pid_http.specs.Handling.{Writes}
-use Rattle.pid_http.specs.Serving.{IsTold}
-use Rattle.pid_http.specs.Standings.{Standing, Showing, Failed, Down, Stands, Leads}
+use Rattle.pid_http.specs.Known.{Known, Live, Between, Down, IsKnown, LivesOn, Goes}
+use Rattle.pid_http.specs.Serving.{IsPromised}
 
 -- the length of the text was told
-pub length_told : {S : Type 0} (store : Ghosts S) (old new : Registry S store) (n : ℕ) → Answers store old new (Ok n) (λ h n. n ≡ length (print (tree_of h)))
-    → Leads store old new (λ s t. IsTold s Exports (record { status = Okay; content = Text }) n t)
-length_told store old new n a = record { clean = a.rests.clean; rests = λ off. (a.failed off).1; leads = leads }
+pub length_told : {S : Type 0} (store : Ghosts S) (old new : Registry S store) (n : ℕ) → LivesOn store old new → Answers store old new (Ok n) (λ h n. n ≡ length (print (tree_of h)))
+    → Goes store old new (λ k now. IsPromised k Exports (record { status = Okay; content = Text }) n now)
+length_told store old new n lives a = record { lives = lives; served = record { good = a.rests.clean; leads = leads } }
   where
-    leads : HasCleanDisk store new → (s : Standing) → Stands store old s → (t : Standing) × Stands store new t × IsTold s Exports (record { status = Okay; content = Text }) n t
-    leads good (Showing h) shows = let t = a.told good h shows in (Showing h, t.1, (refl, record { status = refl; content = refl; length_is = t.0 }, refl))
-    leads good (Failed before behind) fails = let e = (a.failed fails.has_failed).0 in absurd cc
+    leads : HasCleanDisk store new → (k : Known) → IsKnown store old k → (now : Known) × IsKnown store new now × IsPromised k Exports (record { status = Okay; content = Text }) n now
+    leads good (Live h) shows = let t = a.told good h shows in (Live h, t.1, (refl, record { status = refl; content = refl; length_is = t.0 }, refl))
+    leads good (Between before behind) fails = let e = (a.failed fails.has_failed).0 in absurd cc
     leads good Down off = let e = (a.failed off).0 in absurd cc
 
 -- whole lines are a front of the text
@@ -76,10 +77,10 @@ not_all P x is = absurd cc
 -- the text was written, so far
 pub written : {S : Type 0} (store : Ghosts S) (old new : Registry S store) (Took : List ℕ → Type 0) → (HasCleanDisk store new → HasCleanDisk store old) → (is_live old ≡ false → new ≡ old)
     → ((h : History) → Shows store old h → Shows store new h) → (HasCleanDisk store new → (h : History) → Shows store old h → Took (print (tree_of h))) → (is_live old ≡ false → Took [])
-    → Leads store old new (λ s t. (body : List ℕ) × Writes s body t × Took body)
-written store old new Took clean rests shown body off_body = record { clean = clean; rests = rests; leads = leads }
+    → Leads (HasCleanDisk store) (IsKnown store) old new (λ k now. (body : List ℕ) × Writes k body now × Took body)
+written store old new Took clean rests shown body off_body = record { good = clean; leads = leads }
   where
-    leads : HasCleanDisk store new → (s : Standing) → Stands store old s → (t : Standing) × Stands store new t × ((b : List ℕ) × Writes s b t × Took b)
-    leads good (Showing h) shows = (Showing h, shown h shows, (print (tree_of h), (refl, refl), body good h shows))
-    leads good (Failed before behind) fails = (Failed before behind, subst (λ x. FailsBetween store x before behind) (sym (rests fails.has_failed)) fails, ([], refl, off_body fails.has_failed))
+    leads : HasCleanDisk store new → (k : Known) → IsKnown store old k → (now : Known) × IsKnown store new now × ((b : List ℕ) × Writes k b now × Took b)
+    leads good (Live h) shows = (Live h, shown h shows, (print (tree_of h), (refl, refl), body good h shows))
+    leads good (Between before behind) fails = (Between before behind, subst (λ x. FailsBetween store x before behind) (sym (rests fails.has_failed)) fails, ([], refl, off_body fails.has_failed))
     leads good Down off = (Down, subst (λ x. is_live x ≡ false) (sym (rests off)) off, ([], refl, off_body off))

@@ -25,11 +25,13 @@ use Rattle.pid_http_stream.specs.declared.handler.Reply.{Reply}
 use Rattle.pid_requests.specs.declared.format.Format.{Format}
 use Rattle.pid_replies.specs.Outcomes.{outcome_answer}
 use Rattle.pid_replies.specs.Replying.{IsReplyOf}
-use Rattle.pid_http.specs.Calls.{Call, Obeys}
-use Rattle.pid_http.specs.Replying.{IsObeyed, IsRepliedBehind}
+use Rattle.pid_lives.specs.Registries.{Does}
+use Rattle.pid_service.specs.Lives.{import_sent, showing}
+use Rattle.pid_http.specs.Errands.{Errand, Obeys}
+use Rattle.pid_http.specs.Known.{Known, Live, Between, Down, IsKnown, LivesOn, Goes}
+use Rattle.pid_http.specs.Replying.{IsObeyed, IsMetBehind}
 use Rattle.pid_http.specs.Serving.{IsMet}
-use Rattle.pid_http.specs.Standings.{Standing, Showing, Failed, Down, Stands, Leads}
-use Rattle.pid_http.proofs.Meeting.{body_met, no_call, obeyed, obeyed_met, turned}
+use Rattle.pid_http.proofs.Meeting.{body_met, no_call, obeyed_met, obeys_so, one_call, turned}
 
 -- what was read of a known body to its end is all of it
 whole : (file text : List ℕ) (left : Option (List ℕ)) → Consumes (Some file) left text → IsAtEnd left → (text ≡ file) × (left ≡ Some [])
@@ -46,15 +48,15 @@ refused_whole file text left fits consumed (inl read) = whole file text left con
 refused_whole file text left fits consumed (inr long) = let most = no_longer file text left consumed in absurd (omega arith)
 
 -- the reply to an import of this text is one to an import of the file
-behind : {E : Type 0} (account : List ℕ) (key : Option (List ℕ)) (format : Format) (file text : List ℕ) (outcome : Result Outcome Refusal) (r : Result Reply E) (left : Option (List ℕ)) (s t : Standing)
-    → text ≡ file → IsAtEnd left → IfOk r (λ reply. IsReplyOf reply (outcome_answer format outcome)) → IsObeyed (import_of account key (file_reading text)) s outcome t
-    → IsRepliedBehind s (Obeys (import_of account key (file_reading file)) format) r left t
-behind {E} account key format file text outcome r left s t same end is obeys =
-    by_reply r is (subst (λ (x : List ℕ). IsMet s (Obeys (import_of account key (file_reading x)) format) (outcome_answer format outcome) t) same (obeyed_met (import_of account key (file_reading text)) format s t outcome obeys))
+behind : {E : Type 0} (account : List ℕ) (key : Option (List ℕ)) (format : Format) (file text : List ℕ) (outcome : Result Outcome Refusal) (r : Result Reply E) (left : Option (List ℕ)) (k now : Known)
+    → text ≡ file → IsAtEnd left → IfOk r (λ reply. IsReplyOf reply (outcome_answer format outcome)) → IsObeyed (import_of account key (file_reading text)) k outcome now
+    → IsMetBehind k (Obeys (import_of account key (file_reading file)) format) r left now
+behind {E} account key format file text outcome r left k now same end is obeys =
+    by_reply r is (subst (λ (x : List ℕ). IsMet k (Obeys (import_of account key (file_reading x)) format) (outcome_answer format outcome) now) same (obeyed_met (import_of account key (file_reading text)) format k now outcome obeys))
   where
-    by_reply : (r : Result Reply E) → IfOk r (λ reply. IsReplyOf reply (outcome_answer format outcome)) → IsMet s (Obeys (import_of account key (file_reading file)) format) (outcome_answer format outcome) t
-        → IsRepliedBehind s (Obeys (import_of account key (file_reading file)) format) r left t
-    by_reply (Ok reply) is met = body_met s t (Obeys (import_of account key (file_reading file)) format) reply.head reply.body (outcome_answer format outcome) is met
+    by_reply : (r : Result Reply E) → IfOk r (λ reply. IsReplyOf reply (outcome_answer format outcome)) → IsMet k (Obeys (import_of account key (file_reading file)) format) (outcome_answer format outcome) now
+        → IsMetBehind k (Obeys (import_of account key (file_reading file)) format) r left now
+    by_reply (Ok reply) is met = body_met k now (Obeys (import_of account key (file_reading file)) format) reply.head reply.body (outcome_answer format outcome) is met
     by_reply (Err e) is met = inr (end, (outcome_answer format outcome, met))
 
 -- the import ended so
@@ -72,70 +74,86 @@ module _ {S : Type 0} (store : Ghosts S) where
   abbrev Holds : Registry S store → Registry S store → Result Outcome ImportEnd → List ℕ → Option (List ℕ) → List ℕ → Type 0
   Holds old new result account key text = HasCleanDisk store new → (h : History) → Shows store old h → ObeysImport store result new h (import_of account key (file_reading text))
 
+  -- what is told of a call that obeys an import
+  abbrev pub CallsImport : Type 0
+  CallsImport =
+      (old new : Registry S store) (c : Asked) (result : Result Outcome ImportEnd) → (HasCleanDisk store new → HasCleanDisk store old)
+      → (is_live old ≡ false → ((result ≡ Err (Refused refusals.Failed)) ⊎ (result ≡ Err Body)) × (new ≡ old))
+      → (HasCleanDisk store new → (h : History) → Shows store old h → ObeysImport store result new h c) → Does (showing store) old (import_sent c result (is_live new)) new
+
+  imports_on : CallsImport → (old new : Registry S store) (result : Result Outcome ImportEnd) (account : List ℕ) (key : Option (List ℕ)) (to_come left : Option (List ℕ)) → (HasCleanDisk store new → HasCleanDisk store old)
+      → (is_live old ≡ false → ((result ≡ Err (Refused refusals.Failed)) ⊎ (result ≡ Err Body)) × (new ≡ old)) → HasRead result to_come left (Holds old new result account key) → LivesOn store old new
+  imports_on law old new result account key to_come left clean failed read =
+      let c = import_of account key (file_reading read.text) in
+      one_call store old new (import_sent c result (is_live new)) (law old new c result clean failed read.holds) (λ off. (failed off).1)
+
   -- it was accepted
-  pub accepted : {E : Type 0} (old new : Registry S store) (reply : Outcome) (account : List ℕ) (key : Option (List ℕ)) (format : Format) (to_come left : Option (List ℕ)) (r : Result Reply E)
+  pub accepted : {E : Type 0} (old new : Registry S store) (reply : Outcome) (account : List ℕ) (key : Option (List ℕ)) (format : Format) (to_come left : Option (List ℕ)) (r : Result Reply E) → CallsImport
       → (HasCleanDisk store new → HasCleanDisk store old) → (is_live old ≡ false → ((Ok reply ≡ Err (Refused refusals.Failed)) ⊎ (Ok reply ≡ Err Body)) × (new ≡ old))
       → HasRead (Ok reply) to_come left (Holds old new (Ok reply) account key) → IfOk r (λ x. IsReplyOf x (outcome_answer format (Ok reply)))
-      → Leads store old new (λ s t. (file : List ℕ) → to_come ≡ Some file → length file ≤ longest_body → IsRepliedBehind s (Obeys (import_of account key (file_reading file)) format) r left t)
-  accepted old new reply account key format to_come left r clean failed read is =
+      → Goes store old new (λ k now. (file : List ℕ) → to_come ≡ Some file → length file ≤ longest_body → IsMetBehind k (Obeys (import_of account key (file_reading file)) format) r left now)
+  accepted old new reply account key format to_come left r law clean failed read is =
+      let lives = imports_on law old new (Ok reply) account key to_come left clean failed read in
       turned store old new
-      (λ s t obeys file e fits. let w = whole file read.text left (subst (λ k. Consumes k left read.text) e read.consumed) read.read.at_end in behind account key format file read.text (Ok reply) r left s t w.0 read.read.at_end is obeys)
-      (obeyed store old new (Ok reply) (import_of account key (file_reading read.text)) clean (λ off. let f = failed off in (never f.0, f.1)) read.holds)
+      (λ k now obeys file e fits. let w = whole file read.text left (subst (λ x. Consumes x left read.text) e read.consumed) read.read.at_end in behind account key format file read.text (Ok reply) r left k now w.0 read.read.at_end is obeys)
+      (obeys_so store old new (Ok reply) (import_of account key (file_reading read.text)) lives clean (λ off. let f = failed off in (never f.0, f.1)) read.holds)
     where
       never : (Ok reply ≡ Err (Refused refusals.Failed)) ⊎ (Ok reply ≡ Err Body) → Ok reply ≡ Err refusals.Failed
       never (inl e) = absurd cc
       never (inr e) = absurd cc
 
   -- it was refused, and nothing was left of a body that is short enough
-  refused_so : {E : Type 0} (old new : Registry S store) (refusal : Refusal) (account : List ℕ) (key : Option (List ℕ)) (format : Format) (to_come left last : Option (List ℕ)) (r : Result Reply E)
+  refused_so : {E : Type 0} (old new : Registry S store) (refusal : Refusal) (account : List ℕ) (key : Option (List ℕ)) (format : Format) (to_come left last : Option (List ℕ)) (r : Result Reply E) → LivesOn store old new
       → (HasCleanDisk store new → HasCleanDisk store old) → (is_live old ≡ false → (◌≡◌ {A = Result Outcome Refusal} (Err refusal) (Err refusals.Failed)) × (new ≡ old))
       → HasRead (Err (Refused refusal)) to_come left (Holds old new (Err (Refused refusal)) account key) → (left ≡ Some [] → last ≡ Some []) → IfOk r (λ x. IsReplyOf x (outcome_answer format (Err refusal)))
-      → Leads store old new (λ s t. (file : List ℕ) → to_come ≡ Some file → length file ≤ longest_body → IsRepliedBehind s (Obeys (import_of account key (file_reading file)) format) r last t)
-  refused_so old new refusal account key format to_come left last r clean failed read ended is =
+      → Goes store old new (λ k now. (file : List ℕ) → to_come ≡ Some file → length file ≤ longest_body → IsMetBehind k (Obeys (import_of account key (file_reading file)) format) r last now)
+  refused_so old new refusal account key format to_come left last r lives clean failed read ended is =
       turned store old new
-      (λ s t obeys file e fits.
-      let w = refused_whole file read.text left fits (subst (λ k. Consumes k left read.text) e read.consumed) read.read in
-      behind account key format file read.text (Err refusal) r last s t w.0 (subst IsAtEnd (sym (ended w.1)) refl) is obeys)
-      (obeyed store old new (Err refusal) (import_of account key (file_reading read.text)) clean failed read.holds)
+      (λ k now obeys file e fits.
+      let w = refused_whole file read.text left fits (subst (λ x. Consumes x left read.text) e read.consumed) read.read in
+      behind account key format file read.text (Err refusal) r last k now w.0 (subst IsAtEnd (sym (ended w.1)) refl) is obeys)
+      (obeys_so store old new (Err refusal) (import_of account key (file_reading read.text)) lives clean failed read.holds)
 
   pub refused : {E : Type 0} (old new : Registry S store) (end : ImportEnd) (refusal : Refusal) (account : List ℕ) (key : Option (List ℕ)) (format : Format) (to_come left last : Option (List ℕ)) (r : Result Reply E)
-      → end ≡ Refused refusal → (HasCleanDisk store new → HasCleanDisk store old) → (is_live old ≡ false → (IsEnd end (Refused refusals.Failed) ⊎ IsEnd end Body) × (new ≡ old))
+      → end ≡ Refused refusal → CallsImport → (HasCleanDisk store new → HasCleanDisk store old) → (is_live old ≡ false → (IsEnd end (Refused refusals.Failed) ⊎ IsEnd end Body) × (new ≡ old))
       → HasRead (Err end) to_come left (Holds old new (Err end) account key) → (left ≡ Some [] → last ≡ Some []) → IfOk r (λ x. IsReplyOf x (outcome_answer format (Err refusal)))
-      → Leads store old new (λ s t. (file : List ℕ) → to_come ≡ Some file → length file ≤ longest_body → IsRepliedBehind s (Obeys (import_of account key (file_reading file)) format) r last t)
-  refused old new end refusal account key format to_come left last r is_end clean failed read ended is =
-      refused_so old new refusal account key format to_come left last r clean (λ off. let f = failed off in (by_cause end refusal is_end f.0, f.1))
+      → Goes store old new (λ k now. (file : List ℕ) → to_come ≡ Some file → length file ≤ longest_body → IsMetBehind k (Obeys (import_of account key (file_reading file)) format) r last now)
+  refused old new end refusal account key format to_come left last r is_end law clean failed read ended is =
+      refused_so old new refusal account key format to_come left last r (imports_on law old new (Err end) account key to_come left clean failed read) clean (λ off. let f = failed off in (by_cause end refusal is_end f.0, f.1))
       (subst (λ x. HasRead (Err x) to_come left (Holds old new (Err x) account key)) is_end read) ended is
 
   -- it was not asked for, and the body was read to its end, or given up
-  pub denied_behind : {E : Type 0} (r : Registry S store) (call : List ℕ → Call) (given : Answer) (result : Result Reply E) (to_come left : Option (List ℕ)) → IfOk result (λ _. IsAtEnd left) → IfOk result (λ reply. IsReplyOf reply given)
-      → ((file : List ℕ) (s : Standing) → IsMet s (call file) given s) → Leads store r r (λ s t. (file : List ℕ) → to_come ≡ Some file → length file ≤ longest_body → IsRepliedBehind s (call file) result left t)
-  denied_behind {E} r call given result to_come left end is met = no_call store r _ (λ s file known fits. by_reply result is s file)
+  pub denied_behind : {E : Type 0} (r : Registry S store) (errand : List ℕ → Errand) (given : Answer) (result : Result Reply E) (to_come left : Option (List ℕ)) → IfOk result (λ _. IsAtEnd left) → IfOk result (λ reply. IsReplyOf reply given)
+      → ((file : List ℕ) (k : Known) → IsMet k (errand file) given k) → Goes store r r (λ k now. (file : List ℕ) → to_come ≡ Some file → length file ≤ longest_body → IsMetBehind k (errand file) result left now)
+  denied_behind {E} r errand given result to_come left end is met = no_call store r _ (λ k file known fits. by_reply result is k file)
     where
-      by_reply : (result : Result Reply E) → IfOk result (λ reply. IsReplyOf reply given) → (s : Standing) (file : List ℕ) → IsRepliedBehind s (call file) result left s
-      by_reply (Ok reply) is s file = body_met s s (call file) reply.head reply.body given is (met file s)
-      by_reply (Err e) is s file = inl refl
+      by_reply : (result : Result Reply E) → IfOk result (λ reply. IsReplyOf reply given) → (k : Known) (file : List ℕ) → IsMetBehind k (errand file) result left k
+      by_reply (Ok reply) is k file = body_met k k (errand file) reply.head reply.body given is (met file k)
+      by_reply (Err e) is k file = inl refl
 
   -- by the words of the sender
   pub of_owner : {E : Type 0} (old new : Registry S store) (account said : List ℕ) (key told : Option (List ℕ)) (format : Format) (result : Result Reply E) (to_come left : Option (List ℕ)) → account ≡ said → key ≡ told
-      → Leads store old new (λ s t. (file : List ℕ) → to_come ≡ Some file → length file ≤ longest_body → IsRepliedBehind s (Obeys (import_of account key (file_reading file)) format) result left t)
-      → Leads store old new (λ s t. (file : List ℕ) → to_come ≡ Some file → length file ≤ longest_body → IsRepliedBehind s (Obeys (import_of said told (file_reading file)) format) result left t)
-  of_owner old new account said key told format result to_come left e f leads =
-      turned store old new (λ s t behind file known fits. subst (λ (c : Asked). IsRepliedBehind s (Obeys c format) result left t) (λ i. import_of (e i) (f i) (file_reading file)) (behind file known fits)) leads
+      → Goes store old new (λ k now. (file : List ℕ) → to_come ≡ Some file → length file ≤ longest_body → IsMetBehind k (Obeys (import_of account key (file_reading file)) format) result left now)
+      → Goes store old new (λ k now. (file : List ℕ) → to_come ≡ Some file → length file ≤ longest_body → IsMetBehind k (Obeys (import_of said told (file_reading file)) format) result left now)
+  of_owner old new account said key told format result to_come left e f goes =
+      turned store old new (λ k now behind file known fits. subst (λ (c : Asked). IsMetBehind k (Obeys c format) result left now) (λ i. import_of (e i) (f i) (file_reading file)) (behind file known fits)) goes
 
   -- the input failed
-  pub gave_up : (old new : Registry S store) (end : ImportEnd) (account : List ℕ) (key : Option (List ℕ)) (to_come left : Option (List ℕ)) (call : List ℕ → Call)
-      → end ≡ Body → (HasCleanDisk store new → HasCleanDisk store old) → (is_live old ≡ false → new ≡ old) → HasRead (Err end) to_come left (Holds old new (Err end) account key)
-      → Leads store old new (λ s t. (file : List ℕ) → to_come ≡ Some file → length file ≤ longest_body → (s ≡ t) ⊎ (IsAtEnd left × ((given : Answer) × IsMet s (call file) given t)))
-  gave_up old new end account key to_come left call is clean rests read = record {
-    clean = clean;
-    rests = rests;
-    leads = λ good s stands. (s, still (subst (λ x. HasRead (Err x) to_come left (Holds old new (Err x) account key)) is read) good s stands, λ file known fits. inl refl);
+  pub gave_up : (old new : Registry S store) (end : ImportEnd) (account : List ℕ) (key : Option (List ℕ)) (to_come left : Option (List ℕ)) (errand : List ℕ → Errand)
+      → end ≡ Body → CallsImport → (HasCleanDisk store new → HasCleanDisk store old) → (is_live old ≡ false → (IsEnd end (Refused refusals.Failed) ⊎ IsEnd end Body) × (new ≡ old)) → HasRead (Err end) to_come left (Holds old new (Err end) account key)
+      → Goes store old new (λ k now. (file : List ℕ) → to_come ≡ Some file → length file ≤ longest_body → (k ≡ now) ⊎ (IsAtEnd left × ((given : Answer) × IsMet k (errand file) given now)))
+  gave_up old new end account key to_come left errand is law clean failed read = record {
+    lives = imports_on law old new (Err end) account key to_come left clean failed read;
+    served = record {
+      good = clean;
+      leads = λ good k known. (k, still (subst (λ x. HasRead (Err x) to_come left (Holds old new (Err x) account key)) is read) good k known, λ file comes fits. inl refl);
+    };
   }
     where
-      still : HasRead (Err Body) to_come left (Holds old new (Err Body) account key) → HasCleanDisk store new → (s : Standing) → Stands store old s → Stands store new s
-      still was good (Showing h) shows = was.holds good h shows
-      still was good (Failed before after) fails = subst (λ r. FailsBetween store r before after) (sym (rests fails.has_failed)) fails
-      still was good Down off = subst (λ r. is_live r ≡ false) (sym (rests off)) off
+      still : HasRead (Err Body) to_come left (Holds old new (Err Body) account key) → HasCleanDisk store new → (k : Known) → IsKnown store old k → IsKnown store new k
+      still was good (Live h) shows = was.holds good h shows
+      still was good (Between before after) fails = subst (λ r. FailsBetween store r before after) (sym (failed fails.has_failed).1) fails
+      still was good Down off = subst (λ r. is_live r ≡ false) (sym (failed off).1) off
 
 behind_none : (text more : List ℕ) → [] ≡ text ++ more → more ≡ []
 behind_none [] more e = sym e

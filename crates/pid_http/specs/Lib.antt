@@ -1,5 +1,5 @@
-pub mod Standings
-pub mod Calls
+pub mod Errands
+pub mod Known
 pub mod Answering
 pub mod Serving
 pub mod Replying

@@ -1,5 +1,5 @@
 -- Serves private functions alone; no promise rests on it.
--- What the functions that answer one call tell of their reply.
+-- What the functions that answer one request tell of their reply.
 use Rattle.std.specs.Prelude.{◌≡◌, ◌⊎◌, ℕ, List, Option, Some, None, Result, Ok, Err, IsErrAnd, MatchResult, option_copied}
 use Rattle.std.specs.Io.KnownBytes.{IsAtEnd}
 use Rattle.sqlite_trees.specs.declared.store.Store.{Ghosts}
@@ -20,9 +20,9 @@ use Rattle.pid_requests.specs.Senders.{Sending}
 use Rattle.pid_requests.specs.declared.format.Format.{Format}
 use Rattle.pid_requests.specs.declared.sender.Sender.{Sender}
 use Rattle.pid_replies.specs.Outcomes.{outcome_answer}
-use Rattle.pid_http.specs.Calls.{Call}
-use Rattle.pid_http.specs.Serving.{IsMet, IsTold}
-use Rattle.pid_http.specs.Standings.{Standing, Showing, Failed, Down, Leads}
+use Rattle.pid_http.specs.Errands.{Errand}
+use Rattle.pid_http.specs.Known.{Known, Live, Between, Down, Goes}
+use Rattle.pid_http.specs.Serving.{IsMet, IsPromised}
 
 -- a sender by its bytes
 abbrev pub sending_of : Sender → Sending
@@ -37,28 +37,28 @@ abbrev pub answer_or : {X : Type 0} → Format → (X → Answer) → Result X R
 answer_or format found (Ok x) = found x
 answer_or format found (Err refusal) = outcome_answer format (Err refusal)
 
--- what a command is answered, and what the registry is then
-abbrev pub IsObeyed : Asked → Standing → Result Outcome Refusal → Standing → Type 0
-IsObeyed c (Showing h) result s =
-    ((result ≡ answer (judge (views_of h) c)) × (s ≡ Showing (after h c)))
-    ⊎ (IsErrAnd result IsFault × ((s ≡ Showing h) ⊎ (s ≡ Failed h (after h c))))
-IsObeyed c (Failed before behind) result s = (result ≡ Err refusals.Failed) × (s ≡ Failed before behind)
-IsObeyed c Down result s = (result ≡ Err refusals.Failed) × (s ≡ Down)
+-- what a command is answered, and what is known of the registry then
+abbrev pub IsObeyed : Asked → Known → Result Outcome Refusal → Known → Type 0
+IsObeyed c (Live h) result k =
+    ((result ≡ answer (judge (views_of h) c)) × (k ≡ Live (after h c)))
+    ⊎ (IsErrAnd result IsFault × ((k ≡ Live h) ⊎ (k ≡ Between h (after h c))))
+IsObeyed c (Between before behind) result k = (result ≡ Err refusals.Failed) × (k ≡ Between before behind)
+IsObeyed c Down result k = (result ≡ Err refusals.Failed) × (k ≡ Down)
 
 -- the body is that of an answer, or is promised
-abbrev pub IsBodyMet : Standing → Call → ReplyHead → ReplyBody → Standing → Type 0
-IsBodyMet s call head (Bytes body) t = IsMet s call (answer_with head.status head.content body.items) t
-IsBodyMet s call head (Written told) t = IsTold s call head told t
+abbrev pub IsBodyMet : Known → Errand → ReplyHead → ReplyBody → Known → Type 0
+IsBodyMet k errand head (Bytes body) now = IsMet k errand (answer_with head.status head.content body.items) now
+IsBodyMet k errand head (Written told) now = IsPromised k errand head told now
 
--- the reply is an answer to the call; or memory lacked for it, and the call was made
-abbrev pub IsReplied : {E : Type 0} → Standing → Call → Result Reply E → Standing → Type 0
-IsReplied s call result t = MatchResult result (λ reply. IsBodyMet s call reply.head reply.body t) (λ _. (given : Answer) × IsMet s call given t)
+-- the reply is an answer; or memory lacked for it, and what it is a reply to was done
+abbrev pub IsMetBy : {E : Type 0} → Known → Errand → Result Reply E → Known → Type 0
+IsMetBy k errand result now = MatchResult result (λ reply. IsBodyMet k errand reply.head reply.body now) (λ _. (given : Answer) × IsMet k errand given now)
 
--- The same of a call whose body is read as it comes: it may have been given up, and memory lacked only with the body at its end.
-abbrev pub IsRepliedBehind : {E : Type 0} → Standing → Call → Result Reply E → Option (List ℕ) → Standing → Type 0
-IsRepliedBehind s call result left t =
-    MatchResult result (λ reply. IsBodyMet s call reply.head reply.body t) (λ _. (s ≡ t) ⊎ (IsAtEnd left × ((given : Answer) × IsMet s call given t)))
+-- The same where the body is read as it comes: it may have been given up, and memory lacked only with the body at its end.
+abbrev pub IsMetBehind : {E : Type 0} → Known → Errand → Result Reply E → Option (List ℕ) → Known → Type 0
+IsMetBehind k errand result left now =
+    MatchResult result (λ reply. IsBodyMet k errand reply.head reply.body now) (λ _. (k ≡ now) ⊎ (IsAtEnd left × ((given : Answer) × IsMet k errand given now)))
 
--- what comes of a call
-abbrev pub Replies : {S E : Type 0} → (store : Ghosts S) → Registry S store → Registry S store → Call → Result Reply E → Type 0
-Replies store old new call result = Leads store old new (λ s t. IsReplied s call result t)
+-- what comes of it
+abbrev pub Replies : {S E : Type 0} → (store : Ghosts S) → Registry S store → Registry S store → Errand → Result Reply E → Type 0
+Replies store old new errand result = Goes store old new (λ k now. IsMetBy k errand result now)

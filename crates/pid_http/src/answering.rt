@@ -1,6 +1,6 @@
 //! What a request asks for, answered by the registry.
 ghost use Rattle.std.specs.Prelude.{◌≡◌, Err};
-ghost use Rattle.pid_http.specs.Calls.{call_for, listed, read_at, shown};
+ghost use Rattle.pid_http.specs.Errands.{errand_for, listed, read_at, shown};
 ghost use Rattle.pid_http.specs.Replying.{Replies, sending_in};
 
 use crate::asking::{list, look_up, read, show, wait};
@@ -66,7 +66,7 @@ pub(crate) fn answer<S: Alter + Drop>(
     sender: Option<Sender<'_>>,
     body: &[u8],
 ) -> Result<Reply, AllocError>
-    ensures { Replies S.Store registry.old registry.new (call_for question (sending_in sender.entry) body.now) result }
+    ensures { Replies S.Store registry.old registry.new (errand_for question (sending_in sender.entry) body.now) result }
 {
     match question {
         Question::AnotherMethod => early_reply(alloc, Early::AnotherMethod),

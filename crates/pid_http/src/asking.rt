@@ -10,7 +10,7 @@ ghost use Rattle.pid_replies.specs.PendingAnswers.{pending_answer};
 ghost use Rattle.pid_replies.specs.Replying.{IsReplyOf};
 ghost use Rattle.pid_replies.specs.SubmissionAnswers.{submission_answer};
 ghost use Rattle.pid_http.specs.Answering.{items_below as items_shown, listed_answer, named_answer};
-ghost use Rattle.pid_http.specs.Calls as calls;
+ghost use Rattle.pid_http.specs.Errands as errands;
 ghost use Rattle.pid_http.specs.Replying.{Replies, answer_or};
 
 use pid_http_stream::Reply;
@@ -21,7 +21,7 @@ use pid_replies::{
     submission_reply,
 };
 use pid_requests::{Format, LookUpQuery};
-use pid_service::Registry;
+use pid_service::{Registry, clauses_meet_lives};
 use pid_tables::{Discussion, Item, Pending};
 use sqlite::Alter;
 use std::alloc::{AllocError, Global};
@@ -48,8 +48,9 @@ pub(crate) fn read<S: Alter + Drop>(
     path: &Path,
     format: Format,
 ) -> Result<Reply, AllocError>
-    ensures { Replies S.Store registry.old registry.new (calls.Reads path.now format) result }
+    ensures { Replies S.Store registry.old registry.new (errands.Reads path.now format) result }
 {
+    clauses_meet_lives::<S>();
     let found = registry.read(path);
     named_reply(alloc, path, format, found)
 }
@@ -108,8 +109,9 @@ pub(crate) fn list<S: Alter + Drop>(
     above: Option<Path>,
     format: Format,
 ) -> Result<Reply, AllocError>
-    ensures { Replies S.Store registry.old registry.new (calls.Lists above format) result }
+    ensures { Replies S.Store registry.old registry.new (errands.Lists above format) result }
 {
+    clauses_meet_lives::<S>();
     let found = items_below(registry, above);
     listed_reply(alloc, format, found)
 }
@@ -120,8 +122,9 @@ pub(crate) fn look_up<S: Alter + Drop>(
     registry: &mut Registry<S>,
     query: LookUpQuery,
 ) -> Result<Reply, AllocError>
-    ensures { Replies S.Store registry.old registry.new (calls.LooksUp query) result }
+    ensures { Replies S.Store registry.old registry.new (errands.LooksUp query) result }
 {
+    clauses_meet_lives::<S>();
     let found = registry.lookup(query.flags, &query.args, query.size);
     look_up_reply(alloc, found)
 }
@@ -147,8 +150,9 @@ pub(crate) fn show<S: Alter + Drop>(
     number: u32,
     format: Format,
 ) -> Result<Reply, AllocError>
-    ensures { Replies S.Store registry.old registry.new (calls.Shows number format) result }
+    ensures { Replies S.Store registry.old registry.new (errands.Shows number format) result }
 {
+    clauses_meet_lives::<S>();
     let found = registry.submission(number);
     shown_reply(alloc, number, format, found)
 }
@@ -173,8 +177,9 @@ pub(crate) fn wait<S: Alter + Drop>(
     after: u32,
     format: Format,
 ) -> Result<Reply, AllocError>
-    ensures { Replies S.Store registry.old registry.new (calls.Waits after format) result }
+    ensures { Replies S.Store registry.old registry.new (errands.Waits after format) result }
 {
+    clauses_meet_lives::<S>();
     let found = registry.pending(after);
     waiting_reply(alloc, format, found)
 }

@@ -2,15 +2,15 @@
 ghost use Rattle.std.specs.Prelude.{◌≡◌, Err};
 ghost use Rattle.pid_import.specs.Files.{asks};
 ghost use Rattle.pid_requests.specs.Commands.{command_made};
-ghost use Rattle.pid_http.specs.Calls as calls;
-ghost use Rattle.pid_http.specs.Calls.{commanded, sent};
+ghost use Rattle.pid_http.specs.Errands as errands;
+ghost use Rattle.pid_http.specs.Errands.{commanded, sent};
 ghost use Rattle.pid_http.specs.Replying.{Replies, sending_in, sending_of};
 
 use pid_http_stream::Reply;
 use pid_moderation::{Command, Refusal, Verb};
 use pid_replies::{outcome_reply, refusal_reply};
 use pid_requests::{Format, Sender, command_in};
-use pid_service::Registry;
+use pid_service::{Registry, clauses_meet_lives};
 use sqlite::Alter;
 use std::alloc::{AllocError, Global};
 
@@ -21,8 +21,9 @@ fn obey<S: Alter + Drop>(
     command: Command,
     format: Format,
 ) -> Result<Reply, AllocError>
-    ensures { Replies S.Store registry.old registry.new (calls.Obeys (asks command) format) result }
+    ensures { Replies S.Store registry.old registry.new (errands.Obeys (asks command) format) result }
 {
+    clauses_meet_lives::<S>();
     let outcome = registry.obey(command);
     outcome_reply(alloc, format, outcome)
 }

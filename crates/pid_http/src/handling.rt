@@ -8,23 +8,23 @@ use pid_export::items_print_as_their_tree;
 use pid_http_stream::{BodyStop, Handler, Head, NoReply, Reply, Wanted};
 use pid_ident::{Input, Output};
 use pid_requests::{Question, question_of, sender_of};
-use pid_service::ExportFault;
+use pid_service::{ExportFault, clauses_meet_lives};
 use sqlite::Alter;
 
 impl<S: Alter + Drop> Handler for Service<'_, '_, S> {
-    ghost use Rattle.std.specs.Prelude.{◌≡◌, false, refl};
-    ghost use Rattle.pid_http.specs.Handling.{Writes, exports_text, rests_on, same_on};
+    ghost use Rattle.std.specs.Prelude.{◌≡◌, refl};
+    ghost use Rattle.pid_http.specs.Handling.{Writes, exports_text, lives_further, lives_still, same_on};
+    ghost use Rattle.pid_http.specs.Known.{IsKnown, Known, LivesOn};
     ghost use Rattle.pid_http.specs.Serving.{serving};
-    ghost use Rattle.pid_http.specs.Standings.{Standing, Stands};
-    ghost use Rattle.pid_service.specs.Registries.{HasCleanDisk, is_live};
+    ghost use Rattle.pid_service.specs.Registries.{HasCleanDisk};
 
-    ghost View = { Standing };
+    ghost View = { Known };
 
-    ghost stands = { λ a s. Stands S.Store a.registry.now s };
+    ghost stands = { λ a k. IsKnown S.Store a.registry.now k };
 
     ghost is_good = { λ a. HasCleanDisk S.Store a.registry.now };
 
-    ghost becomes = { λ a b. (b.registry.ghost_name ≡ a.registry.ghost_name) × (is_live a.registry.now ≡ false → b.registry.now ≡ a.registry.now) };
+    ghost becomes = { λ a b. (b.registry.ghost_name ≡ a.registry.ghost_name) × LivesOn S.Store a.registry.now b.registry.now };
 
     ghost answers = { serving.answers };
 
@@ -38,9 +38,9 @@ impl<S: Alter + Drop> Handler for Service<'_, '_, S> {
 
     ghost kept = { exports_text };
 
-    ghost stays = { λ a. (refl, λ off. refl) };
+    ghost stays = { λ a. (refl, lives_still a.registry.now) };
 
-    ghost joins = { λ a b c p q. (same_on a.registry.ghost_name b.registry.ghost_name c.registry.ghost_name p.0 q.0, rests_on (λ r. is_live r) a.registry.now b.registry.now c.registry.now p.1 q.1) };
+    ghost joins = { λ a b c p q. (same_on a.registry.ghost_name b.registry.ghost_name c.registry.ghost_name p.0 q.0, lives_further a.registry.now b.registry.now c.registry.now p.1 q.1) };
 
     fn wants(&self, head: &Head<'_>) -> Wanted {
         match question_of(self.alloc, self.routes, head.method(), head.target()) {
@@ -77,6 +77,7 @@ impl<S: Alter + Drop> Handler for Service<'_, '_, S> {
     }
 
     fn write_body<W: Output>(&mut self, out: &mut W) -> Result<(), BodyStop> {
+        clauses_meet_lives::<S>();
         items_print_as_their_tree();
         match self.registry.export(out) {
             Ok(()) => Ok(()),

@@ -6,10 +6,10 @@ ghost use Rattle.pid_moderation.specs.BeforeFile.{import_of};
 ghost use Rattle.pid_http_stream.specs.BodyLengths.{longest_body};
 ghost use Rattle.pid_replies.specs.Outcomes.{outcome_answer};
 ghost use Rattle.pid_replies.specs.Replying.{IsReplyOf};
-ghost use Rattle.pid_http.specs.Calls as calls;
-ghost use Rattle.pid_http.specs.Calls.{imported};
-ghost use Rattle.pid_http.specs.Replying.{IsRepliedBehind, sending_in, sending_of};
-ghost use Rattle.pid_http.specs.Standings.{Leads};
+ghost use Rattle.pid_http.specs.Errands as errands;
+ghost use Rattle.pid_http.specs.Errands.{imported};
+ghost use Rattle.pid_http.specs.Replying.{IsMetBehind, sending_in, sending_of};
+ghost use Rattle.pid_http.specs.Known.{Goes};
 
 use pid_http_stream::{LONGEST_BODY, NoReply, Reply, discard};
 use pid_ident::{Account, Input, Key, WordFault};
@@ -17,7 +17,7 @@ use pid_moderation::{Refusal, Reply as Outcome};
 use pid_reader::skip_input;
 use pid_replies::outcome_reply;
 use pid_requests::{Format, Sender};
-use pid_service::{ImportEnd, Registry};
+use pid_service::{ImportEnd, Registry, clauses_meet_lives};
 use sqlite::Alter;
 use std::alloc::Global;
 
@@ -80,9 +80,10 @@ fn take_in<S: Alter + Drop, B: Input>(
 ) -> Result<Reply, NoReply>
     ensures goes { B.goes body.old body.new }
     ensures whole { IfOk result (λ _. IsAtEnd (B.to_come body.new)) }
-    ensures replied { Leads S.Store registry.old registry.new (λ s t. (file : List ℕ) → B.to_come body.old ≡ Some file → length file ≤ longest_body
-        → IsRepliedBehind s (calls.Obeys (import_of account key (file_reading file)) format) result (B.to_come body.new) t) }
+    ensures replied { Goes S.Store registry.old registry.new (λ k now. (file : List ℕ) → B.to_come body.old ≡ Some file → length file ≤ longest_body
+        → IsMetBehind k (errands.Obeys (import_of account key (file_reading file)) format) result (B.to_come body.new) now) }
 {
+    clauses_meet_lives::<S>();
     match registry.import_from(account, key, body) {
         Ok(reply) => reply_with(alloc, format, Ok(reply)),
         Err(ImportEnd::Refused(refusal)) => refuse(alloc, format, refusal, body),
@@ -126,8 +127,8 @@ fn import_of_sender<S: Alter + Drop, B: Input>(
 ) -> Result<Reply, NoReply>
     ensures goes { B.goes body.old body.new }
     ensures whole { IfOk result (λ _. IsAtEnd (B.to_come body.new)) }
-    ensures replied { Leads S.Store registry.old registry.new (λ s t. (file : List ℕ) → B.to_come body.old ≡ Some file → length file ≤ longest_body
-        → IsRepliedBehind s (imported format (Some (sending_of sender.entry)) file) result (B.to_come body.new) t) }
+    ensures replied { Goes S.Store registry.old registry.new (λ k now. (file : List ℕ) → B.to_come body.old ≡ Some file → length file ≤ longest_body
+        → IsMetBehind k (imported format (Some (sending_of sender.entry)) file) result (B.to_come body.new) now) }
 {
     match owner_of(alloc, sender) {
         None => deny(alloc, format, Refusal::Memory, body),
@@ -145,8 +146,8 @@ pub(crate) fn import<S: Alter + Drop, B: Input>(
 ) -> Result<Reply, NoReply>
     ensures goes { B.goes body.old body.new }
     ensures whole { IfOk result (λ _. IsAtEnd (B.to_come body.new)) }
-    ensures replied { Leads S.Store registry.old registry.new (λ s t. (file : List ℕ) → B.to_come body.old ≡ Some file → length file ≤ longest_body
-        → IsRepliedBehind s (imported format (sending_in sender.entry) file) result (B.to_come body.new) t) }
+    ensures replied { Goes S.Store registry.old registry.new (λ k now. (file : List ℕ) → B.to_come body.old ≡ Some file → length file ≤ longest_body
+        → IsMetBehind k (imported format (sending_in sender.entry) file) result (B.to_come body.new) now) }
 {
     match sender {
         None => deny(alloc, format, Refusal::BadText, body),

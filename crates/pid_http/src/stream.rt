@@ -1,9 +1,11 @@
 //! A stream of requests over a registry.
-ghost use Rattle.std.specs.Prelude.{◌≡◌, ℕ, ◌+◌, ◌-◌, ◌^◌, ◌≤◌, IfSome, IsSome};
+ghost use Rattle.std.specs.Prelude.{◌≡◌, None, ℕ, ◌+◌, ◌-◌, ◌^◌, ◌≤◌, IfSome, IsSome};
+ghost use Rattle.pid_http_stream.specs.Leading.{Leads};
 ghost use Rattle.pid_http_stream.specs.Serving.{IsServed};
 ghost use Rattle.pid_requests.specs.Routes.{table};
+ghost use Rattle.pid_http.specs.Known.{IsKnown, LivesOn};
 ghost use Rattle.pid_http.specs.Serving.{serving};
-ghost use Rattle.pid_http.specs.Standings.{Leads};
+ghost use Rattle.pid_service.specs.Registries.{HasCleanDisk};
 
 use crate::service::Service;
 use matchit::Router;
@@ -24,12 +26,14 @@ fn serve_by<S: Alter + Drop, I: Input, W: Output>(
     turns: u64,
 ) -> Served
     requires { routes.now ≡ table }
-    ensures served { Leads S.Store registry.old registry.new (λ s t. IfSome (I.to_come reader.old) (λ stream. IsServed serving
-        (record { handler = s; handler_after = t; taken = W.taken writer.old; taken_after = W.taken writer.new }) stream (I.to_come reader.new) result.end result.answered)) }
+    ensures served { Leads (HasCleanDisk S.Store) (IsKnown S.Store) registry.old registry.new (λ k now. IfSome (I.to_come reader.old) (λ stream. IsServed serving
+        (record { handler = k; handler_after = now; taken = W.taken writer.old; taken_after = W.taken writer.new }) stream (I.to_come reader.new) result.end result.answered)) }
+    ensures lives { LivesOn S.Store registry.old registry.new }
     ensures reads { I.reads reader.new ≤ I.reads reader.old + turns }
     ensures turns { result.end ≡ StreamEnd.TurnsSpent → I.reads reader.old + turns ≤ 2 ^ 64 - 1 → I.reads reader.new ≡ I.reads reader.old + turns }
     ensures read_fault { result.end ≡ StreamEnd.ReadFault → IsSome (I.read_fault reader.new) }
     ensures write_fault { result.end ≡ StreamEnd.WriteFault → IsSome (W.write_fault writer.new) }
+    ensures store_fault { result.end ≡ StreamEnd.StoreFault → W.write_fault writer.new ≡ None }
     ensures goes { I.goes reader.old reader.new }
 {
     let mut service = Service {
@@ -53,7 +57,7 @@ fn serve_by<S: Alter + Drop, I: Input, W: Output>(
 /// - `ReadFault`, `TurnsSpent`: the requests that came whole were answered.
 /// - `Memory`: the requests before were answered; the next may have been obeyed.
 /// - `WriteFault`: the requests before were answered, and a front of the next reply was written; the next may have been obeyed.
-/// - `StoreFault`: the same within the text of all items, which the store failed or memory cut short.
+/// - `StoreFault`: the same within the text of all items, which the store failed or memory cut short, over a writer that is good.
 pub fn serve_stream<S: Alter + Drop, I: Input, W: Output>(
     alloc: Global,
     registry: &mut Registry<S>,
@@ -62,12 +66,15 @@ pub fn serve_stream<S: Alter + Drop, I: Input, W: Output>(
     turns: u64,
 ) -> Served
     // The bytes are the replies to the stream's requests over the histories that the registry shows, and it shows the one behind them.
-    ensures served { Leads S.Store registry.old registry.new (λ s t. IfSome (I.to_come reader.old) (λ stream. IsServed serving
-        (record { handler = s; handler_after = t; taken = W.taken writer.old; taken_after = W.taken writer.new }) stream (I.to_come reader.new) result.end result.answered)) }
+    ensures served { Leads (HasCleanDisk S.Store) (IsKnown S.Store) registry.old registry.new (λ k now. IfSome (I.to_come reader.old) (λ stream. IsServed serving
+        (record { handler = k; handler_after = now; taken = W.taken writer.old; taken_after = W.taken writer.new }) stream (I.to_come reader.new) result.end result.answered)) }
+    // Whatever the bytes are and wherever it ends, it is a part of the registry's life; and one that has failed stays as it is.
+    ensures lives { LivesOn S.Store registry.old registry.new }
     ensures reads { I.reads reader.new ≤ I.reads reader.old + turns }
     ensures turns { result.end ≡ StreamEnd.TurnsSpent → I.reads reader.old + turns ≤ 2 ^ 64 - 1 → I.reads reader.new ≡ I.reads reader.old + turns }
     ensures read_fault { result.end ≡ StreamEnd.ReadFault → IsSome (I.read_fault reader.new) }
     ensures write_fault { result.end ≡ StreamEnd.WriteFault → IsSome (W.write_fault writer.new) }
+    ensures store_fault { result.end ≡ StreamEnd.StoreFault → W.write_fault writer.new ≡ None }
     ensures goes { I.goes reader.old reader.new }
 {
     let Ok(routes) = build_routes(alloc) else {

@@ -1,6 +1,6 @@
 use Rattle.pid_replies.specs.EarlyAnswers.{early_answer}
 use Rattle.pid_replies.specs.declared.early.Early.TheVariants as early
-use Rattle.pid_http.specs.Calls.{Answered, imported}
+use Rattle.pid_http.specs.Errands.{Answered, imported}
 use Rattle.pid_http.specs.Replying.{sending_in}
 use Rattle.pid_http.proofs.Meeting.{answered, no_call, replied, short_sender}
 use Rattle.pid_http.proofs.answering.answer.Goals as goal

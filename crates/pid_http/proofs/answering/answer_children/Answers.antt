@@ -1,7 +1,7 @@
 use Rattle.std.specs.Prelude.{Err}
 use Rattle.pid_moderation.specs.declared.refusal.Refusal.TheVariants.{BadPath}
 use Rattle.pid_replies.specs.Outcomes.{outcome_answer}
-use Rattle.pid_http.specs.Calls.{Answered}
+use Rattle.pid_http.specs.Errands.{Answered}
 use Rattle.pid_http.proofs.Meeting.{answered, no_call, replied}
 use Rattle.pid_http.proofs.answering.answer_children.Goals as goal
 

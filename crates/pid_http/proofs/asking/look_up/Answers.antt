@@ -12,11 +12,11 @@ use Rattle.pid_moderation.specs.declared.refusal.Refusal.TheVariants.{Memory, Fa
 use Rattle.pid_service.specs.Asking.{MayGive}
 use Rattle.pid_requests.specs.declared.look_up.LookUpQuery.{LookUpQuery}
 use Rattle.pid_replies.specs.LookUpAnswers.{look_up_answer}
-use Rattle.pid_http.specs.Answering.{answer_over, answer_refused, answer_failed, looked_up}
-use Rattle.pid_http.specs.Calls.{LooksUp}
+use Rattle.pid_http.specs.Answering.{answer_over, looked_up, IsRefused}
+use Rattle.pid_http.specs.Errands.{LooksUp}
 use Rattle.pid_http.specs.Serving.{IsMetOver}
-use Rattle.pid_http.specs.Standings.{Showing}
-use Rattle.pid_http.proofs.Meeting.{from_call, replied}
+use Rattle.pid_http.specs.Known.{Live}
+use Rattle.pid_http.proofs.Meeting.{from_call, looked, replied}
 use Rattle.pid_http.proofs.asking.look_up.Goals as goal
 
 -- by whether the flags are bad
@@ -28,21 +28,21 @@ found_over l h true found e good is = absurd (good refl)
 found_over l h false found e good is = ap Ok is ∙ by_flags l h false e
 
 over : (l : LookUpQuery) (h : History) (result : Result Found (LookupRefusal Refusal)) → IfOk result (λ found. found ≡ answer_of (tree_of h) l.flags l.args l.size)
-    → (IsErrOf result look_ups.BadFlags ↔ (is_bad l.flags ≡ true)) → ((f : Refusal) → IsErrOf result (look_ups.Names f) → MayGive true f) → IsMetOver h (LooksUp l) (look_up_answer result) (Showing h)
-unfolding answer_over answer_refused
+    → (IsErrOf result look_ups.BadFlags ↔ (is_bad l.flags ≡ true)) → ((f : Refusal) → IsErrOf result (look_ups.Names f) → MayGive true f) → IsMetOver h (LooksUp l) (look_up_answer result) (Live h)
+unfolding answer_over
 over l h (Ok found) is bad fault = inl (ap look_up_answer (found_over l h (is_bad l.flags) found refl (λ e. let other = bad.1 e in absurd cc) is), refl)
 over l h (Err look_ups.BadFlags) is bad fault = inl (ap look_up_answer (by_flags l h true (bad.0 refl)), refl)
-over l h (Err (look_ups.Names f)) is bad fault = inr (f, (fault f refl).alive refl, refl, refl)
-over l h (Err look_ups.Memory) is bad fault = inr (Memory, inl refl, refl, refl)
+over l h (Err (look_ups.Names f)) is bad fault = inr (inr (f, (fault f refl).alive refl, (refl, refl), refl))
+over l h (Err look_ups.Memory) is bad fault = inr (inr (Memory, inl refl, (refl, refl), refl))
 
-failed : (l : LookUpQuery) (result : Result Found (LookupRefusal Refusal)) → result ≡ Err (look_ups.Names HasFailed) → look_up_answer result ≡ answer_failed (LooksUp l)
-unfolding answer_failed answer_refused
-failed l result e = ap look_up_answer e
+failed : (l : LookUpQuery) (result : Result Found (LookupRefusal Refusal)) → result ≡ Err (look_ups.Names HasFailed) → IsRefused (LooksUp l) HasFailed (look_up_answer result)
+failed l result e = (refl, ap look_up_answer e)
 
 pub returns : goal.returns
 returns g c =
     let l = c.args.query in
     let e = c.lookup-found.ensures in
-    replied _ _ _ _ _ _ c.look_up_reply.ensures (from_call _ _ _ _ (look_up_answer c.lookup-found.result) e.clean (λ off. (e.failed off).1)
-    (λ clean h shows. (Showing h, e.shown h shows, over l h c.lookup-found.result (e.answer clean h shows) (e.bad_flags shows.lives) (λ f is. subst (λ b. MayGive b f) shows.lives (e.fault f is))))
+    replied _ _ _ _ _ _ c.look_up_reply.ensures (from_call _ _ _ _ (look_up_answer c.lookup-found.result)
+    (looked _ c.clauses_meet_lives.ensures.looks _ _ e.clean (λ off. (e.failed off).1) (λ good h shows. e.shown h shows)) e.clean
+    (λ clean h shows. (Live h, e.shown h shows, over l h c.lookup-found.result (e.answer clean h shows) (e.bad_flags shows.lives) (λ f is. subst (λ b. MayGive b f) shows.lives (e.fault f is))))
     (λ off. failed l c.lookup-found.result (e.failed off).0))

@@ -4,20 +4,18 @@ use Rattle.pid_ident.specs.declared.path.Path.{Path}
 use Rattle.pid_moderation.specs.Items.{name_at}
 use Rattle.pid_moderation.specs.Views.{items_of}
 use Rattle.pid_requests.specs.declared.format.Format.{Format}
-use Rattle.pid_http.specs.Answering.{answer_over, answer_refused, answer_failed, named_answer}
-use Rattle.pid_http.specs.Calls.{Reads}
+use Rattle.pid_http.specs.Answering.{answer_over, named_answer}
+use Rattle.pid_http.specs.Errands.{Reads}
 use Rattle.pid_http.proofs.Meeting.{IsQuestion, question_met, replied}
 use Rattle.pid_http.proofs.asking.read.Goals as goal
 
 question : (path : Path) (format : Format) → IsQuestion format (named_answer path format) (λ h name. name ≡ name_at (path_text path) (items_of h)) (Reads path format)
-unfolding answer_over answer_refused answer_failed
+unfolding answer_over
 question path format = record {
   over = λ h x e. ap (named_answer path format) e;
-  refused = λ e. refl;
-  failed = refl;
-  behind = λ h. refl;
-  leaves = λ h. refl;
+  refused = λ e. (refl, refl);
+  no_command = refl;
 }
 
 pub returns : goal.returns
-returns g c = replied _ _ _ _ _ _ c.named_reply.ensures (question_met _ _ _ _ _ _ _ _ (question c.args.path.now c.args.format) c.read-found.ensures)
+returns g c = replied _ _ _ _ _ _ c.named_reply.ensures (question_met _ c.clauses_meet_lives.ensures.looks _ _ _ _ _ _ _ (question c.args.path.now c.args.format) c.read-found.ensures)

@@ -10,30 +10,30 @@ use Rattle.pid_table_lists.specs.declared.remarks.Discussion.{Discussion}
 use Rattle.pid_requests.specs.declared.format.Format.{Format}
 use Rattle.pid_replies.specs.Outcomes.{outcome_answer}
 use Rattle.pid_replies.specs.SubmissionAnswers.{submission_answer}
-use Rattle.pid_http.specs.Answering.{answer_over, answer_refused, answer_failed, shown_answer}
-use Rattle.pid_http.specs.Calls.{Shows}
+use Rattle.pid_http.specs.Answering.{answer_over, shown_answer, IsRefused}
+use Rattle.pid_http.specs.Errands.{Shows}
 use Rattle.pid_http.specs.Replying.{answer_or}
 use Rattle.pid_http.specs.Serving.{IsMetOver}
-use Rattle.pid_http.specs.Standings.{Showing}
-use Rattle.pid_http.proofs.Meeting.{from_call, replied}
+use Rattle.pid_http.specs.Known.{Live}
+use Rattle.pid_http.proofs.Meeting.{from_call, looked, replied}
 use Rattle.pid_http.proofs.asking.show.Goals as goal
 
 over : (number : ℕ) (format : Format) (h : History) (found : Result Discussion Refusal) → MatchResult found (λ d. discussion_in (views_of h) number ≡ Some (shown_of d)) (IsMissing (discussion_in (views_of h) number))
-    → IsMetOver h (Shows number format) (answer_or format (λ d. submission_answer format number (shown_of d)) found) (Showing h)
-unfolding answer_over answer_refused
+    → IsMetOver h (Shows number format) (answer_or format (λ d. submission_answer format number (shown_of d)) found) (Live h)
+unfolding answer_over
 over number format h (Ok d) told = inl (sym (ap (shown_answer number format) told), refl)
 over number format h (Err e) (inl (missing, none)) = inl (ap (λ (x : Refusal). outcome_answer format (Err x)) missing ∙ sym (ap (shown_answer number format) none), refl)
-over number format h (Err e) (inr fault) = inr (e, fault, refl, refl)
+over number format h (Err e) (inr fault) = inr (inr (e, fault, (refl, refl), refl))
 
-failed : (number : ℕ) (format : Format) (found : Result Discussion Refusal) → found ≡ Err HasFailed → answer_or format (λ d. submission_answer format number (shown_of d)) found ≡ answer_failed (Shows number format)
-unfolding answer_failed answer_refused
-failed number format found e = ap (answer_or format (λ d. submission_answer format number (shown_of d))) e
+failed : (number : ℕ) (format : Format) (found : Result Discussion Refusal) → found ≡ Err HasFailed → IsRefused (Shows number format) HasFailed (answer_or format (λ d. submission_answer format number (shown_of d)) found)
+failed number format found e = (refl, ap (answer_or format (λ d. submission_answer format number (shown_of d))) e)
 
 pub returns : goal.returns
 returns g c =
     let n = c.args.number in
     let f = c.args.format in
     let e = c.submission-found.ensures in
-    replied _ _ _ _ _ _ c.shown_reply.ensures (from_call _ _ _ _ (answer_or f (λ d. submission_answer f n (shown_of d)) c.submission-found.result) e.rests.clean (λ off. (e.failed off).1)
-    (λ clean h shows. let t = e.told clean h shows in (Showing h, t.1, over n f h c.submission-found.result t.0))
+    replied _ _ _ _ _ _ c.shown_reply.ensures (from_call _ _ _ _ (answer_or f (λ d. submission_answer f n (shown_of d)) c.submission-found.result)
+    (looked _ c.clauses_meet_lives.ensures.looks _ _ e.rests.clean (λ off. (e.failed off).1) (λ good h shows. (e.told good h shows).1)) e.rests.clean
+    (λ clean h shows. let t = e.told clean h shows in (Live h, t.1, over n f h c.submission-found.result t.0))
     (λ off. failed n f c.submission-found.result (e.failed off).0))

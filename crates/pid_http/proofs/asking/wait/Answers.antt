@@ -7,20 +7,18 @@ use Rattle.pid_requests.specs.declared.format.Format.{Format}
 use Rattle.pid_replies.specs.PendingAnswers.{pending_answer}
 use Rattle.pid_table_lists.specs.PendingPages.{pending_in, told_of}
 use Rattle.pid_table_lists.specs.declared.pages.TheConstants.{PAGE}
-use Rattle.pid_http.specs.Answering.{answer_over, answer_refused, answer_failed}
-use Rattle.pid_http.specs.Calls.{Waits}
+use Rattle.pid_http.specs.Answering.{answer_over}
+use Rattle.pid_http.specs.Errands.{Waits}
 use Rattle.pid_http.proofs.Meeting.{IsQuestion, question_met, replied}
 use Rattle.pid_http.proofs.asking.wait.Goals as goal
 
 question : (after : ℕ) (format : Format) → IsQuestion format (λ (page : Vec Pending Global). pending_answer format (map told_of page.items)) (λ h (page : Vec Pending Global). map told_of page.items ≡ pending_in PAGE after (views_of h)) (Waits after format)
-unfolding answer_over answer_refused answer_failed
+unfolding answer_over
 question after format = record {
   over = λ h x e. ap (pending_answer format) e;
-  refused = λ e. refl;
-  failed = refl;
-  behind = λ h. refl;
-  leaves = λ h. refl;
+  refused = λ e. (refl, refl);
+  no_command = refl;
 }
 
 pub returns : goal.returns
-returns g c = replied _ _ _ _ _ _ c.waiting_reply.ensures (question_met _ _ _ _ _ _ _ _ (question c.args.after c.args.format) c.pending-found.ensures)
+returns g c = replied _ _ _ _ _ _ c.waiting_reply.ensures (question_met _ c.clauses_meet_lives.ensures.looks _ _ _ _ _ _ _ (question c.args.after c.args.format) c.pending-found.ensures)

@@ -1,5 +1,5 @@
 use Rattle.pid_moderation.specs.declared.refusal.Refusal.TheVariants.{BadText}
-use Rattle.pid_http.specs.Calls.{Denied}
+use Rattle.pid_http.specs.Errands.{Denied}
 use Rattle.pid_http.proofs.Meeting.{denied, no_call, replied}
 use Rattle.pid_http.proofs.commanding.command.Goals as goal
 

@@ -1,8 +1,10 @@
 use Rattle.std.proofs.Common.{rules}
 use Rattle.std.specs.Prelude.{IfSome}
+use Rattle.pid_http_stream.specs.Leading.{Leads}
 use Rattle.pid_http_stream.specs.Serving.{IsServed}
+use Rattle.pid_service.specs.Registries.{HasCleanDisk}
+use Rattle.pid_http.specs.Known.{IsKnown, LivesOn}
 use Rattle.pid_http.specs.Serving.{serving}
-use Rattle.pid_http.specs.Standings.{Leads}
 use Rattle.pid_http.proofs.stream.serve_by.Goals as goal
 
 pub returns-clause-served : goal.returns-clause-served
@@ -10,8 +12,15 @@ returns-clause-served g c =
     let l = c.serve_stream.ensures.served in
     let end = c.serve_stream.new.handler in
     let name = c.serve_stream.ensures.becomes.0 in
-    let told : Leads g.S.Store c.args.registry.now end.registry.now (λ s t. IfSome (g.I.Input.to_come c.args.reader.now) (λ stream. IsServed serving
-    (record { handler = s; handler_after = t; taken = g.W.Output.taken c.args.writer.now; taken_after = g.W.Output.taken c.serve_stream.new.output })
+    let told : Leads (HasCleanDisk g.S.Store) (IsKnown g.S.Store) c.args.registry.now end.registry.now (λ k now. IfSome (g.I.Input.to_come c.args.reader.now) (λ stream. IsServed serving
+    (record { handler = k; handler_after = now; taken = g.W.Output.taken c.args.writer.now; taken_after = g.W.Output.taken c.serve_stream.new.output })
     stream (g.I.Input.to_come c.serve_stream.new.input) c.serve_stream.result.end c.serve_stream.result.answered)) =
-    record { clean = l.good; rests = c.serve_stream.ensures.becomes.1; leads = λ good s stands. l.leads good s stands } in
+    record { good = l.good; leads = λ good k known. l.leads good k known } in
+    search rules
+
+pub returns-clause-lives : goal.returns-clause-lives
+returns-clause-lives g c =
+    let end = c.serve_stream.new.handler in
+    let name = c.serve_stream.ensures.becomes.0 in
+    let told : LivesOn g.S.Store c.args.registry.now end.registry.now = c.serve_stream.ensures.becomes.1 in
     search rules

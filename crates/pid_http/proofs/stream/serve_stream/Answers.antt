@@ -1,5 +1,9 @@
+use Rattle.pid_http.specs.Handling.{lives_still}
 use Rattle.pid_http.proofs.Served.{none_served}
 use Rattle.pid_http.proofs.stream.serve_stream.Goals as goal
 
 pub returns-in_default-clause-served : goal.returns-in_default-clause-served
 returns-in_default-clause-served g c = none_served _ _ _ _ (g.I.Input.to_come c.args.reader.now)
+
+pub returns-in_default-clause-lives : goal.returns-in_default-clause-lives
+returns-in_default-clause-lives g c = lives_still _

@@ -1,31 +1,31 @@
 use Rattle.std.proofs.Common.{sym}
-use Rattle.pid_http.proofs.Handled.{asked_ok, asked_err, call_is, sender_is}
+use Rattle.pid_http.proofs.Handled.{asked_ok, asked_err, errand_is, sender_is}
 use Rattle.pid_http.proofs.handling.ServiceHandler.answer.Goals as goal
 
 pub returns-in-Ok-answer-clause-answered : goal.returns-in-Ok-answer-clause-answered
 returns-in-Ok-answer-clause-answered g c =
-    let l = c.in-Ok-answer.ensures in
+    let l = c.in-Ok-answer.ensures.served in
     record {
-      good = l.clean;
-      leads = λ good s stands.
-          let x = l.leads good s stands in (
+      good = l.good;
+      leads = λ good k known.
+          let x = l.leads good k known in (
             x.0,
             x.1,
-            λ request at body. asked_ok s x.0 request _ c.in-Ok-answer.reply
-                (call_is request c.in-Ok.question _ _ _ _ c.in-Ok.ensures (c.method.ensures request.head at) (c.target.ensures request.head at) (sender_is _ _ (c.sender_of-sender.ensures request.head at)) (sym body)) x.2,
+            λ request at body. asked_ok k x.0 request _ c.in-Ok-answer.reply
+                (errand_is request c.in-Ok.question _ _ _ _ c.in-Ok.ensures (c.method.ensures request.head at) (c.target.ensures request.head at) (sender_is _ _ (c.sender_of-sender.ensures request.head at)) (sym body)) x.2,
           );
     }
 
 pub returns-in-Err-answer-clause-answered : goal.returns-in-Err-answer-clause-answered
 returns-in-Err-answer-clause-answered g c =
-    let l = c.in-Err-answer.ensures in
+    let l = c.in-Err-answer.ensures.served in
     record {
-      good = l.clean;
-      leads = λ good s stands.
-          let x = l.leads good s stands in (
+      good = l.good;
+      leads = λ good k known.
+          let x = l.leads good k known in (
             x.0,
             x.1,
-            λ request at body. asked_err s x.0 request _
-                (call_is request c.in-Ok.question _ _ _ _ c.in-Ok.ensures (c.method.ensures request.head at) (c.target.ensures request.head at) (sender_is _ _ (c.sender_of-sender.ensures request.head at)) (sym body)) x.2,
+            λ request at body. asked_err k x.0 request _
+                (errand_is request c.in-Ok.question _ _ _ _ c.in-Ok.ensures (c.method.ensures request.head at) (c.target.ensures request.head at) (sender_is _ _ (c.sender_of-sender.ensures request.head at)) (sym body)) x.2,
           );
     }

@@ -1,7 +1,8 @@
-use Rattle.std.proofs.Common.{[]}
+use Rattle.std.proofs.Common.{[], refl}
 use Rattle.std.specs.Io.KnownBytes.{Appends}
 use Rattle.pid_http_stream.specs.Serving.{WritesFront}
 use Rattle.pid_http.proofs.Exports.{exported_front, exported_lines, not_all, nothing_written, written}
+use Rattle.pid_http.proofs.Meeting.{looked}
 use Rattle.pid_http.proofs.handling.ServiceHandler.write_body.Goals as goal
 
 pub returns-in-Ok-clause-written : goal.returns-in-Ok-clause-written
@@ -11,7 +12,7 @@ returns-in-Ok-clause-written g c =
     let after = g.W.Output.taken c.export.new.output in
     let l = written g.S.Store c.args.self.now.registry.now c.export.new.self (λ b. Appends taken after b) e.rests.clean (λ off. (e.failed off).1) e.shown e.printed
     (λ off. not_all (Appends taken after []) _ (e.failed off).0) in
-    record { good = l.clean; leads = λ good s stands. l.leads good s stands }
+    record { good = l.good; leads = λ good k known. l.leads good k known }
 
 pub returns-in-Err-Write-clause-written : goal.returns-in-Err-Write-clause-written
 returns-in-Err-Write-clause-written g c =
@@ -20,7 +21,7 @@ returns-in-Err-Write-clause-written g c =
     let after = g.W.Output.taken c.export.new.output in
     let l = written g.S.Store c.args.self.now.registry.now c.export.new.self (λ b. WritesFront taken after b) e.rests.clean (λ off. (e.failed off).1) e.shown
     (λ good h shows. exported_front (Unit {0}) taken after h c.in-Err-Write.field-0 c.in-Err-Write.field-0-0 c.in-Err-Write.field-0-is (e.printed good h shows)) (λ off. nothing_written taken after (e.failed off).2) in
-    record { good = l.clean; leads = λ good s stands. l.leads good s stands }
+    record { good = l.good; leads = λ good k known. l.leads good k known }
 
 pub returns-in-Err-Refused-clause-written : goal.returns-in-Err-Refused-clause-written
 returns-in-Err-Refused-clause-written g c =
@@ -29,4 +30,19 @@ returns-in-Err-Refused-clause-written g c =
     let after = g.W.Output.taken c.export.new.output in
     let l = written g.S.Store c.args.self.now.registry.now c.export.new.self (λ b. WritesFront taken after b) e.rests.clean (λ off. (e.failed off).1) e.shown
     (λ good h shows. exported_lines (Unit {0}) taken after h c.in-Err-Refused.field-0 c.in-Err-Refused.field-0-0 c.in-Err-Refused.field-0-is (c.items_print_as_their_tree.ensures h) (e.printed good h shows)) (λ off. nothing_written taken after (e.failed off).2) in
-    record { good = l.clean; leads = λ good s stands. l.leads good s stands }
+    record { good = l.good; leads = λ good k known. l.leads good k known }
+
+pub returns-in-Ok-clause-becomes : goal.returns-in-Ok-clause-becomes
+returns-in-Ok-clause-becomes g c =
+    let e = c.in-Ok.ensures in
+    (refl, looked _ c.clauses_meet_lives.ensures.looks _ _ e.rests.clean (λ off. (e.failed off).1) (λ good h shows. e.shown h shows))
+
+pub returns-in-Err-Write-clause-becomes : goal.returns-in-Err-Write-clause-becomes
+returns-in-Err-Write-clause-becomes g c =
+    let e = c.in-Err-Write.ensures in
+    (refl, looked _ c.clauses_meet_lives.ensures.looks _ _ e.rests.clean (λ off. (e.failed off).1) (λ good h shows. e.shown h shows))
+
+pub returns-in-Err-Refused-clause-becomes : goal.returns-in-Err-Refused-clause-becomes
+returns-in-Err-Refused-clause-becomes g c =
+    let e = c.in-Err-Refused.ensures in
+    (refl, looked _ c.clauses_meet_lives.ensures.looks _ _ e.rests.clean (λ off. (e.failed off).1) (λ good h shows. e.shown h shows))

@@ -1,0 +1,38 @@
+-- What is known of a registry between two requests of a stream, and what a request makes of it.
+use Rattle.std.specs.Prelude.{◌≡◌, false, List}
+use Rattle.sqlite_trees.specs.declared.store.Store.{Ghosts}
+use Rattle.pid_moderation.specs.History.{History}
+use Rattle.pid_lives.specs.Calls.{Call}
+use Rattle.pid_lives.specs.Registries.{CallsLead}
+use Rattle.pid_service.specs.declared.registry.Registry.{Registry}
+use Rattle.pid_service.specs.Histories.{Shows, FailsBetween}
+use Rattle.pid_service.specs.Lives.{showing}
+use Rattle.pid_service.specs.Registries.{HasCleanDisk, is_live}
+use Rattle.pid_http_stream.specs.Leading.{Leads}
+
+pub data Known : Type 0 where
+  -- it is live and shows this history, and so does all that a crash may leave
+  Live : History → Known
+  -- it failed at a command: what a crash may leave shows the history before the command, or the one behind it
+  Between : (before behind : History) → Known
+  -- it had failed earlier
+  Down : Known
+
+module _ {S : Type 0} (store : Ghosts S) where
+  -- this is known of the registry
+  abbrev pub IsKnown : Registry S store → Known → Type 0
+  IsKnown r (Live h) = Shows store r h
+  IsKnown r (Between before behind) = FailsBetween store r before behind
+  IsKnown r Down = is_live r ≡ false
+
+  -- Calls on the registry led from the one to the other, and each did what lives ask of a call: so they are a part of its life. One that
+  -- has failed stays as it is.
+  pub record LivesOn (old new : Registry S store) : Type 0 where
+    pub rests : is_live old ≡ false → new ≡ old
+    pub calls : List Call
+    pub lead : CallsLead (showing store) old calls new
+
+  -- And while the disk returns what was written, what was known leads on to what is known then.
+  pub record Goes (old new : Registry S store) (Next : Known → Known → Type 0) : Type 0 where
+    pub lives : LivesOn old new
+    pub served : Leads (HasCleanDisk store) IsKnown old new Next
