@@ -13,7 +13,9 @@ use Rattle.pid_script.specs.Progress.{HasAnswered, Ended, Ends, script_end}
 use Rattle.pid_script.specs.Saying.{Out, out}
 use Rattle.pid_script.specs.Scripts.{passage, IsCutOff, IsScript}
 use Rattle.pid_script.specs.Standing.{Stands}
-use Rattle.pid_script.proofs.PieceLemmas.{answers_out}
+use Rattle.pid_script.proofs.Answered.{answers_out}
+use Rattle.pid_script.proofs.Calling.{send_still, go_still, go_then}
+use Rattle.pid_script.specs.Calling.{CallsGo}
 use Rattle.pid_script.proofs.SayLemmas.{Appends-nil}
 
 Consumes-then : (a b c : Option (List ℕ)) (x y : List ℕ) → Consumes a b x → Consumes b c y → Consumes a c (x ++ y)
@@ -34,10 +36,11 @@ Consumes-kept (Some a) (Some b) (Some c) x p q = p ∙ ap (λ (l : List ℕ). x 
 
 -- so much was read, and its whole lines were answered; nothing is held
 pub record HasRead {R : Type 0} (m : Ghosts R) (old now : R) (taken : Option (List ℕ)) (left : Out) (come come_now : Option (List ℕ)) (kept : List ℕ) (reads reads_now turn : ℕ) : Type 0 where
-  pub was_honest : m.is_honest now → m.is_honest old
+  pub was_honest : m.showing.is_clean now → m.showing.is_clean old
+  pub calls : CallsGo m.showing old now
   pub front : List ℕ
   pub consumed : Consumes come come_now front
-  pub answered : m.is_honest now → (h : History) → Stands m old h → HasAnswered m h taken old now left kept front
+  pub answered : m.showing.is_clean now → (h : History) → Stands m old h → HasAnswered m h taken old now left kept front
   pub empty : left.held ≡ []
   pub counted : reads < 2 ^ 64 → reads_now ≡ min (reads + turn) (2 ^ 64 - 1)
 
@@ -70,6 +73,7 @@ not_spent (Err line_ends.TooLong) e = absurd cc
 pub none_read : {R : Type 0} (m : Ghosts R) (old : R) (taken come : Option (List ℕ)) (reads : ℕ) (held kept : List ℕ) → held ≡ [] → kept ≡ [] → HasRead m old old taken (out taken held) come come kept reads reads 0
 none_read m old taken come reads held kept nothing none = record {
   was_honest = λ x. x;
+  calls = go_still m.showing old;
   front = [];
   consumed = Consumes-nil come;
   answered = λ _ h stands. record {
@@ -87,6 +91,7 @@ none_read m old taken come reads held kept nothing none = record {
       fits = tt;
       leaves = record { shows = λ s. s; failed = λ f. refl };
       lives = λ f. tt;
+      calls = send_still m.showing old;
     };
   };
   empty = nothing;
@@ -95,11 +100,12 @@ none_read m old taken come reads held kept nothing none = record {
 
 -- one more piece was read and answered
 pub read_more : {R : Type 0} (m : Ghosts R) (old now next : R) (taken : Option (List ℕ)) (left left_next : Out) (come come_now come_next : Option (List ℕ)) (kept kept_next piece : List ℕ) (reads reads_now reads_next turn : ℕ)
-    → HasRead m old now taken left come come_now kept reads reads_now turn → Consumes come_now come_next piece → reads_next ≡ min (reads_now + 1) (2 ^ 64 - 1) → (m.is_honest next → m.is_honest now) → left_next.held ≡ []
-    → (m.is_honest next → (h : History) (start : Option (List ℕ)) (first : R) (text : List ℕ) → Stands m first h → HasAnswered m h start first now left kept text → HasAnswered m h start first next left_next kept_next (text ++ piece))
+    → HasRead m old now taken left come come_now kept reads reads_now turn → Consumes come_now come_next piece → reads_next ≡ min (reads_now + 1) (2 ^ 64 - 1) → (m.showing.is_clean next → m.showing.is_clean now) → CallsGo m.showing now next → left_next.held ≡ []
+    → (m.showing.is_clean next → (h : History) (start : Option (List ℕ)) (first : R) (text : List ℕ) → Stands m first h → HasAnswered m h start first now left kept text → HasAnswered m h start first next left_next kept_next (text ++ piece))
     → HasRead m old next taken left_next come come_next kept_next reads reads_next (turn + 1)
-read_more m old now next taken left left_next come come_now come_next kept kept_next piece reads reads_now reads_next turn r consumed counted was none answered = record {
+read_more m old now next taken left left_next come come_now come_next kept kept_next piece reads reads_now reads_next turn r consumed counted was calls none answered = record {
   was_honest = λ t. r.was_honest (was t);
+  calls = go_then m.showing old now next r.calls calls;
   front = r.front ++ piece;
   consumed = Consumes-then come come_now come_next r.front piece r.consumed consumed;
   answered = λ t h stands. answered t h taken old r.front stands (r.answered (was t) h stands);

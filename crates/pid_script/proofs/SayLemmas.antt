@@ -1,12 +1,14 @@
 -- One text said behind another.
-use Rattle.std.proofs.Common.{◌≡◌, ℕ, ◌+◌, List, [], ◌++◌, length, take, Option, Some, None, Result, Ok, Err, sym, ap, subst, ◌∙◌, append_assoc, arith}
+use Rattle.std.proofs.Common.{◌≡◌, ℕ, ◌+◌, List, [], ◌++◌, length, take, Option, Some, None, Result, Ok, Err, refl, inl, sym, ap, subst, ◌∙◌, append_assoc, arith}
 use Rattle.std.proofs.lemmas.List.{append-nil, length-append, take-append-le}
 use Rattle.std.proofs.Math.Seq.{take-append-add}
 use Rattle.std.specs.Io.KnownBytes.{Appends}
-use Rattle.std.specs.Prelude.{OnOk, OnErr, MatchResult}
+use Rattle.std.specs.Prelude.{OnOk, OnErr, IfErr, MatchResult}
 use Rattle.pid_ident.specs.Sending.{SendsFront}
+use Rattle.pid_moderation.specs.declared.refusal.Refusal.{Refusal}
 use Rattle.pid_script.specs.declared.line_end.LineEnd.{LineEnd}
-use Rattle.pid_script.specs.Saying.{Out, out, Says, SaysFront}
+use Rattle.pid_script.specs.declared.line_end.LineEnd.TheVariants.{Stopped, WriteFault, TooLong}
+use Rattle.pid_script.specs.Saying.{Out, out, Says, SaysFront, Tells, IsGiven, IsNothing}
 
 pub Appends-nil : (a : Option (List ℕ)) → Appends a a []
 Appends-nil None = tt
@@ -77,10 +79,13 @@ pub out_front : (r : Result (Unit {0}) LineEnd) (a b : Out) (new : Option (List 
 out_front (Ok u) a b new x p q = tt
 out_front (Err e) a b new x p q = said_front a b new x p q
 
-pub out_sent : (r : Result (Unit {0}) LineEnd) (a b : Out) (new : Option (List ℕ)) (x : List ℕ) → Says a b x → OnOk r (Appends b.taken new b.held) → OnOk r (Appends a.taken new (a.held ++ x))
-out_sent (Ok u) a b new x p q = said_out a b new x p q
-out_sent (Err e) a b new x p q = tt
-
 -- not all of what is held went out
 pub unsent_front : (old new : Option (List ℕ)) (was now text : List ℕ) → now ≡ was → SendsFront old new now → SendsFront old new (was ++ text)
 unsent_front old new was now text same front = front-before old new was text (subst (SendsFront old new) same front)
+
+-- a text was said, or not
+pub tells_said : (r : Result (Unit {0}) LineEnd) (given : Option Refusal) (reply : List ℕ) (old new : Out) → MatchResult r (λ _. Says old new reply) (λ _. SaysFront old new reply) → IfErr r (λ e. e ≡ WriteFault) → Tells (IsGiven given) IsNothing r reply old new
+tells_said (Ok x) given reply old new p end = p
+tells_said (Err Stopped) given reply old new p end = absurd cc
+tells_said (Err WriteFault) given reply old new p end = record { text = reply; is = inl refl; front = p }
+tells_said (Err TooLong) given reply old new p end = absurd cc

@@ -22,11 +22,13 @@ is_key_field field = bytes_eq field.0 (codes "key")
 abbrev pub other_fields : Fields → Fields
 other_fields fields = remove fields (position_or_len is_key_field fields)
 
+-- the refusal of a check that fails, else what was said; what passes the checks says something
 abbrev pub refused_or : {X : Type 0} → Option Refusal → Option X → Result X Refusal
 refused_or (Some refusal) said = Err refusal
 refused_or None None = Err BadText
 refused_or None (Some x) = Ok x
 
+-- the same for the fields of a form
 abbrev pub command_in : Verb → List ℕ → Fields → Result Command Refusal
 command_in verb account fields =
     refused_or (first_failing (form_checks verb account (value (codes "key") fields) (other_fields fields)))
@@ -36,9 +38,11 @@ command_in verb account fields =
 unfoldable pub command_asked : Verb → List ℕ → List ℕ → Result Command Refusal
 command_asked verb account form = command_in verb account (fields_in form)
 
+-- the fields are a path alone, once; and it is a path
 abbrev pub path_checks : Fields → Checks
 path_checks fields = (not (is_once (codes "path") fields && length fields == 1), BadText) ∷ (is_none (path_of (text_at (codes "path") fields)), BadPath) ∷ []
 
+-- the path that the fields say, or the first of these checks that fails
 abbrev pub path_in : Fields → Result Path Refusal
 path_in fields = refused_or (first_failing (path_checks fields)) (path_of (text_at (codes "path") fields))
 

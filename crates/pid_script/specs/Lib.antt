@@ -3,7 +3,7 @@ pub mod LineAsks
 pub mod LookUpFields
 pub mod Asking
 pub mod Replies
-pub mod Obeying
+pub mod Calling
 pub mod LookingUp
 pub mod WholeFronts
 pub mod Exporting

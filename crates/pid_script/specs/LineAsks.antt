@@ -7,6 +7,7 @@ use Rattle.pid_script.specs.ScriptLines.{Ask}
 use Rattle.pid_script.specs.declared.line.LineAsk.{LineAsk}
 use Rattle.pid_script.specs.declared.line.LineAsk.TheVariants.{Nothing, Command, Export, Read, LookUp, Unclear, TooLong}
 
+-- the same by the words of scripts
 abbrev pub told : LineAsk → Ask
 told Nothing = asks.Nothing
 told (Command verb account form) = asks.Commands verb account.now form.now
@@ -16,5 +17,6 @@ told (LookUp form) = asks.LooksUp form.now
 told Unclear = asks.Unclear
 told TooLong = asks.TooLong
 
+-- two texts by their bytes
 abbrev pub pair_told : Option (Bor (List ℕ) × Bor (List ℕ)) → Option (List ℕ × List ℕ)
 pair_told pair = option_map (λ p. (p.0.now, p.1.now)) pair

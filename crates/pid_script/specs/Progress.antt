@@ -10,6 +10,7 @@ use Rattle.pid_script.specs.declared.line_end.LineEnd.TheVariants as line_ends
 use Rattle.pid_script.specs.declared.moderated.Moderated.{Ghosts}
 use Rattle.pid_script.specs.declared.script_end.ScriptEnd.{ScriptEnd}
 use Rattle.pid_script.specs.declared.script_end.ScriptEnd.TheVariants.{Done, WriteFault, TooLong, Stopped}
+use Rattle.pid_script.specs.Calling.{CallsSend}
 use Rattle.pid_script.specs.Replies.{replies, commands_in, history_after}
 use Rattle.pid_script.specs.Saying.{Out}
 use Rattle.pid_script.specs.Scripts.{NoneTooLong, NoneCalls, passage, Answers, StopsAtLine, EndsTooLong, BreaksOff}
@@ -31,6 +32,7 @@ module _ {R : Type 0} (registry : Ghosts R) where
     pub fits : NoneTooLong lines
     pub leaves : Becomes registry old h new (history_after h lines)
     pub lives : registry.has_failed old → NoneCalls lines
+    pub calls : CallsSend registry.showing old (commands_in lines) new
 
   -- the whole lines of a front of the text were answered, and what stands behind them is kept
   pub record HasAnswered (h : History) (start : Option (List ℕ)) (old new : R) (now : Out) (kept front : List ℕ) : Type 0 where

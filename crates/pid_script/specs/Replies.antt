@@ -64,6 +64,7 @@ reply_to (LooksUp fields) h = looked_up (look_up_asked fields) h
 reply_to Unclear h = refused_line BadText
 reply_to TooLong h = refused_line BadText
 
+-- the command that a form says, as the history keeps it; a form that says none sends none
 abbrev pub those_sent : Result Command Refusal → List Asked
 those_sent (Err refusal) = []
 those_sent (Ok command) = asks command ∷ []

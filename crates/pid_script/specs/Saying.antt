@@ -15,6 +15,7 @@ use Rattle.pid_moderation.specs.declared.command.Reply.{Reply}
 use Rattle.pid_script.specs.declared.line_end.LineEnd.{LineEnd}
 use Rattle.pid_script.specs.declared.line_end.LineEnd.TheVariants.{Stopped, WriteFault, TooLong}
 use Rattle.pid_script.specs.declared.moderated.Moderated.{Ghosts}
+use Rattle.pid_script.specs.Calling.{CallsSend, CallsSendEither}
 use Rattle.pid_script.specs.ScriptLines as lines
 use Rattle.pid_script.specs.ScriptLines.{Ask}
 use Rattle.pid_script.specs.Replies.{reply_to, command_of, is_call}
@@ -26,6 +27,7 @@ pub record Out : Type 0 where
   pub taken : Option (List ℕ)
   pub held : List ℕ
 
+-- the two side by side
 abbrev pub out : Option (List ℕ) → List ℕ → Out
 out taken held = record { taken = taken; held = held }
 
@@ -43,14 +45,17 @@ SaysFront old new text = SendsFront old.taken new.taken (old.held ++ text)
 abbrev pub IsGiven : Option Refusal → Refusal → Type 0
 IsGiven given refusal = (refusal ≡ Memory) ⊎ ((given ≡ Some refusal) × (is_stop refusal ≡ true))
 
+-- nothing is begun of the reply
 abbrev pub IsNothing : List ℕ → Type 0
 IsNothing begun = begun ≡ []
 
+-- all that was held went out, and behind it the text of a stop
 pub record SaysStop (Cause : Refusal → Type 0) (Begun : List ℕ → Type 0) (old new : Out) : Type 0 where
   pub text : List ℕ
   pub stop : IsStopText Cause Begun text
   pub told : Appends old.taken new.taken (old.held ++ text)
 
+-- the writer failed within what was held and the reply, or the text of a stop
 pub record BreaksWithin (Cause : Refusal → Type 0) (Begun : List ℕ → Type 0) (reply : List ℕ) (old new : Out) : Type 0 where
   pub text : List ℕ
   pub is : (text ≡ reply) ⊎ IsStopText Cause Begun text
@@ -89,6 +94,7 @@ GoesOn (Err end) given = Unit {0}
 abbrev pub IsUnfit : List ℕ → List ℕ → Type 0
 IsUnfit bytes text = (text ≡ refused_line Memory) ⊎ ((text ≡ refused_line BadText) × (lines.LONGEST + 1 < length bytes))
 
+-- the writer failed within what was held and the line for bytes that do not fit
 pub record UnfitFront (bytes : List ℕ) (old new : Out) : Type 0 where
   pub text : List ℕ
   pub is : IsUnfit bytes text
@@ -120,7 +126,15 @@ module _ {R : Type 0} (registry : Ghosts R) where
   Leaves (Err Stopped) r h new ask left = BecomesEither registry r h new h (after_all h (command_of ask))
   Leaves (Err WriteFault) r h new ask left = BecomesEither registry r h new h (after_all h (command_of ask))
 
+  -- what calls sent for the line: its command where it was answered, else that or nothing
+  abbrev pub Sends : Result (Unit {0}) LineEnd → R → R → Ask → Type 0
+  Sends (Ok x) r new ask = CallsSend registry.showing r (command_of ask) new
+  Sends (Err TooLong) r new ask = CallsSend registry.showing r [] new
+  Sends (Err Stopped) r new ask = CallsSendEither registry.showing r [] (command_of ask) new
+  Sends (Err WriteFault) r new ask = CallsSendEither registry.showing r [] (command_of ask) new
+
   -- the answer to a line
   pub record LineEnds (result : Result (Unit {0}) LineEnd) (ask : Ask) (h : History) (r : R) (old : Out) (new : R) (left : Out) : Type 0 where
     pub tells : Tells (IsCause registry r h ask) (IsBegun ask h) result (reply_to ask h) old left
     pub leaves : Leaves result r h new ask left
+    pub sends : Sends result r new ask

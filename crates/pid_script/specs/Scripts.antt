@@ -10,7 +10,8 @@ use Rattle.pid_script.specs.declared.script_end.ScriptEnd.{ScriptEnd}
 use Rattle.pid_script.specs.declared.script_end.ScriptEnd.TheVariants.{Done, ReadFault, WriteFault, TooLong, Stopped, TurnsSpent}
 use Rattle.pid_script.specs.ScriptLines as asks
 use Rattle.pid_script.specs.ScriptLines.{ask_of}
-use Rattle.pid_script.specs.Replies.{replies, command_of, history_after, is_call}
+use Rattle.pid_script.specs.Calling.{CallsSend, CallsSendEither}
+use Rattle.pid_script.specs.Replies.{replies, command_of, commands_in, history_after, is_call}
 use Rattle.pid_script.specs.Standing.{Becomes, BecomesEither}
 use Rattle.pid_script.specs.StopLines.{IsBegun, IsCause, IsStopText}
 
@@ -42,12 +43,14 @@ abbrev pub passage : {R : Type 0} → R → R → Option (List ℕ) → Option (
 passage old new taken taken_now = record { old = old; new = new; taken = taken; taken_now = taken_now }
 
 module _ {R : Type 0} (registry : Ghosts R) where
-  -- each of the lines got its reply, and the registry shows the history behind them; one that had failed was asked nothing
+  -- Each of the lines got its reply, and the registry shows the history behind them; one that had failed was asked nothing. The
+  -- commands of the lines are those that calls sent.
   pub record Answers (h : History) (p : Passage R) (lines : List (List ℕ)) : Type 0 where
     pub fits : NoneTooLong lines
     pub told : Appends p.taken p.taken_now (replies h lines)
     pub leaves : Becomes registry p.old h p.new (history_after h lines)
     pub lives : registry.has_failed p.old → NoneCalls lines
+    pub calls : CallsSend registry.showing p.old (commands_in lines) p.new
 
   -- what stops a script at a line, whose history is the one behind the lines before
   abbrev pub IsStop : R → History → History → List ℕ → List ℕ → Type 0
@@ -65,6 +68,7 @@ module _ {R : Type 0} (registry : Ghosts R) where
     pub stop : IsStop p.old h (history_after h before) line text
     pub told : Appends p.taken p.taken_now (replies h before ++ text)
     pub leaves : BecomesEither registry p.old h p.new (history_after h before) (history_after h (before ++ line ∷ []))
+    pub calls : CallsSendEither registry.showing p.old (commands_in before) (commands_in (before ++ line ∷ [])) p.new
 
   -- the lines before one got their replies, and that one is too long, and was told so
   pub record EndsTooLong (h : History) (p : Passage R) (lines : List (List ℕ)) : Type 0 where
@@ -77,6 +81,7 @@ module _ {R : Type 0} (registry : Ghosts R) where
     pub lives : registry.has_failed p.old → NoneCalls before
     pub told : Appends p.taken p.taken_now (replies h (before ++ line ∷ []))
     pub leaves : Becomes registry p.old h p.new (history_after h before)
+    pub calls : CallsSend registry.showing p.old (commands_in before) p.new
 
   -- the text for lines: their replies, of which the last may be a stop
   abbrev pub IsToldFor : R → History → History → List (List ℕ) → List ℕ → Type 0
@@ -99,6 +104,7 @@ module _ {R : Type 0} (registry : Ghosts R) where
     pub is : IsToldFor p.old h (history_after h before) waiting text
     pub front : SendsFront between p.taken_now text
     pub leaves : BecomesEither registry p.old h p.new (history_after h before) (history_after h (before ++ waiting))
+    pub calls : CallsSendEither registry.showing p.old (commands_in before) (commands_in (before ++ waiting)) p.new
 
   -- part of the text was read, and its whole lines got their replies
   pub record IsCutOff (h : History) (p : Passage R) (text : List ℕ) (rest : Option (List ℕ)) : Type 0 where

@@ -6,18 +6,18 @@ use Rattle.pid_script.specs.declared.moderated.Moderated.{Ghosts}
 module _ {R : Type 0} (registry : Ghosts R) where
   -- it is live and shows the history, or it has failed earlier
   abbrev pub Stands : R → History → Type 0
-  Stands r h = registry.shows r h ⊎ registry.has_failed r
+  Stands r h = registry.showing.shows r h ⊎ registry.has_failed r
 
   -- if it showed the one history, it shows the other now; if it had failed, it is as before
   pub record Becomes (old : R) (h : History) (new : R) (next : History) : Type 0 where
-    pub shows : registry.shows old h → registry.shows new next
+    pub shows : registry.showing.shows old h → registry.showing.shows new next
     pub failed : registry.has_failed old → new ≡ old
 
   -- it shows the one or the other, or it has failed and all that a crash may leave shows one of them
   abbrev pub ShowsEither : R → History → History → Type 0
-  ShowsEither r first second = registry.shows r first ⊎ (registry.shows r second ⊎ registry.fails_between r first second)
+  ShowsEither r first second = registry.showing.shows r first ⊎ (registry.showing.shows r second ⊎ registry.showing.fails_between r first second)
 
   -- the same, where it may not be known which of the two histories it is
   pub record BecomesEither (old : R) (h : History) (new : R) (first second : History) : Type 0 where
-    pub shows : registry.shows old h → ShowsEither new first second
+    pub shows : registry.showing.shows old h → ShowsEither new first second
     pub failed : registry.has_failed old → new ≡ old

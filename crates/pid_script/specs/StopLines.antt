@@ -33,7 +33,7 @@ module _ {R : Type 0} (registry : Ghosts R) where
   -- why: a live registry refuses for want of memory or because its store failed, one that has failed refuses all; and memory
   -- may be short for the script itself, which is all that stops it where the registry is not asked
   pub record IsCause (r : R) (h : History) (ask : Ask) (refusal : Refusal) : Type 0 where
-    pub live : registry.shows r h → IsFault refusal
+    pub live : registry.showing.shows r h → IsFault refusal
     pub failed : registry.has_failed r → (refusal ≡ Failed) ⊎ (refusal ≡ Memory)
     pub unasked : is_call ask ≡ false → refusal ≡ Memory
 

@@ -3,6 +3,7 @@ ghost use Rattle.std.specs.Prelude.{◌≡◌, IsSome, Err};
 ghost use Rattle.pid_moderation.specs.History.{History};
 ghost use Rattle.pid_script.specs.ScriptLines as asks;
 ghost use Rattle.pid_script.specs.ScriptLines.{ask_of};
+ghost use Rattle.pid_script.specs.Calling.{CallsGo};
 ghost use Rattle.pid_script.specs.Saying.{out, LineEnds};
 ghost use Rattle.pid_script.specs.Standing.{Stands};
 
@@ -30,8 +31,9 @@ fn obey<R: Moderated, O: Output>(
     account: &str,
     form: &str,
 ) -> Result<(), LineEnd>
-    ensures honest { R.is_honest registry.new → R.is_honest registry.old }
-    ensures ends { R.is_honest registry.new → (h : History) → Stands R.Moderated registry.old h
+    ensures honest { R.showing.is_clean registry.new → R.showing.is_clean registry.old }
+    ensures calls { CallsGo R.showing registry.old registry.new }
+    ensures ends { R.showing.is_clean registry.new → (h : History) → Stands R.Moderated registry.old h
         → LineEnds R.Moderated result (asks.Commands verb account.now form.now) h registry.old (out (O.taken output.old) held.old.items) registry.new (out (O.taken output.new) held.new.items) }
     ensures fault { result ≡ Err LineEnd.WriteFault → IsSome (O.write_fault output.new) }
 {
@@ -52,8 +54,9 @@ fn read<R: Moderated, O: Output>(
     held: &mut Vec<u8>,
     form: &str,
 ) -> Result<(), LineEnd>
-    ensures honest { R.is_honest registry.new → R.is_honest registry.old }
-    ensures ends { R.is_honest registry.new → (h : History) → Stands R.Moderated registry.old h
+    ensures honest { R.showing.is_clean registry.new → R.showing.is_clean registry.old }
+    ensures calls { CallsGo R.showing registry.old registry.new }
+    ensures ends { R.showing.is_clean registry.new → (h : History) → Stands R.Moderated registry.old h
         → LineEnds R.Moderated result (asks.Reads form.now) h registry.old (out (O.taken output.old) held.old.items) registry.new (out (O.taken output.new) held.new.items) }
     ensures fault { result ≡ Err LineEnd.WriteFault → IsSome (O.write_fault output.new) }
 {
@@ -74,8 +77,9 @@ fn look_up<R: Moderated, O: Output>(
     held: &mut Vec<u8>,
     form: &str,
 ) -> Result<(), LineEnd>
-    ensures honest { R.is_honest registry.new → R.is_honest registry.old }
-    ensures ends { R.is_honest registry.new → (h : History) → Stands R.Moderated registry.old h
+    ensures honest { R.showing.is_clean registry.new → R.showing.is_clean registry.old }
+    ensures calls { CallsGo R.showing registry.old registry.new }
+    ensures ends { R.showing.is_clean registry.new → (h : History) → Stands R.Moderated registry.old h
         → LineEnds R.Moderated result (asks.LooksUp form.now) h registry.old (out (O.taken output.old) held.old.items) registry.new (out (O.taken output.new) held.new.items) }
     ensures fault { result ≡ Err LineEnd.WriteFault → IsSome (O.write_fault output.new) }
 {
@@ -96,8 +100,9 @@ fn export<R: Moderated, O: Output>(
     output: &mut O,
     held: &mut Vec<u8>,
 ) -> Result<(), LineEnd>
-    ensures honest { R.is_honest registry.new → R.is_honest registry.old }
-    ensures ends { R.is_honest registry.new → (h : History) → Stands R.Moderated registry.old h
+    ensures honest { R.showing.is_clean registry.new → R.showing.is_clean registry.old }
+    ensures calls { CallsGo R.showing registry.old registry.new }
+    ensures ends { R.showing.is_clean registry.new → (h : History) → Stands R.Moderated registry.old h
         → LineEnds R.Moderated result asks.Exports h registry.old (out (O.taken output.old) held.old.items) registry.new (out (O.taken output.new) held.new.items) }
     ensures fault { result ≡ Err LineEnd.WriteFault → IsSome (O.write_fault output.new) }
 {
@@ -119,8 +124,9 @@ pub fn answer_line<R: Moderated, O: Output>(
     held: &mut Vec<u8>,
     line: &[u8],
 ) -> Result<(), LineEnd>
-    ensures honest { R.is_honest registry.new → R.is_honest registry.old }
-    ensures ends { R.is_honest registry.new → (h : History) → Stands R.Moderated registry.old h
+    ensures honest { R.showing.is_clean registry.new → R.showing.is_clean registry.old }
+    ensures calls { CallsGo R.showing registry.old registry.new }
+    ensures ends { R.showing.is_clean registry.new → (h : History) → Stands R.Moderated registry.old h
         → LineEnds R.Moderated result (ask_of line.now) h registry.old (out (O.taken output.old) held.old.items) registry.new (out (O.taken output.new) held.new.items) }
     ensures fault { result ≡ Err LineEnd.WriteFault → IsSome (O.write_fault output.new) }
 {

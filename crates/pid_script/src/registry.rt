@@ -4,27 +4,25 @@ use pid_export::items_print_as_their_tree;
 use pid_ident::{Name, Output, Path};
 use pid_lookup::{Answer, Args, LookupRefusal};
 use pid_moderation::{Command, Refusal, Reply};
-use pid_service::{ExportFault, Registry};
+use pid_service::{ExportFault, Registry, clauses_meet_lives};
 use sqlite::Alter;
 
 impl<S: Alter + Drop> Moderated for Registry<S> {
     ghost use Rattle.std.specs.Prelude.{◌≡◌, false};
-    ghost use Rattle.pid_service.specs.Histories.{FailsBetween, Shows};
-    ghost use Rattle.pid_service.specs.Registries.{HasCleanDisk, is_live};
+    ghost use Rattle.pid_service.specs.Lives.{showing as registry_showing};
+    ghost use Rattle.pid_service.specs.Registries.{is_live};
 
-    ghost shows = { λ r h. Shows S.Store r h };
-
-    ghost fails_between = { λ r h next. FailsBetween S.Store r h next };
+    ghost showing = { registry_showing S.Store };
 
     ghost has_failed = { λ r. is_live r ≡ false };
 
-    ghost is_honest = { λ r. HasCleanDisk S.Store r };
-
     fn obey(&mut self, command: Command) -> Result<Reply, Refusal> {
+        clauses_meet_lives::<S>();
         Registry::obey(self, command)
     }
 
     fn read(&mut self, path: &Path) -> Result<Option<Name>, Refusal> {
+        clauses_meet_lives::<S>();
         Registry::read(self, path)
     }
 
@@ -34,10 +32,12 @@ impl<S: Alter + Drop> Moderated for Registry<S> {
         args: &Args,
         size: u32,
     ) -> Result<Answer, LookupRefusal<Refusal>> {
+        clauses_meet_lives::<S>();
         self.lookup(flags, args, size)
     }
 
     fn export<O: Output>(&mut self, out: &mut O) -> Result<(), ExportFault> {
+        clauses_meet_lives::<S>();
         items_print_as_their_tree();
         Registry::export(self, out)
     }

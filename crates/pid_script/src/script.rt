@@ -4,6 +4,7 @@ ghost use Rattle.pid_reader.specs.Lines.{drop_cr, lines_of};
 ghost use Rattle.pid_moderation.specs.History.{History};
 ghost use Rattle.pid_script.specs.ScriptLines.{ask_of};
 ghost use Rattle.pid_script.specs.Progress.{Answered, HasAnswered, Ended, Ends, script_end};
+ghost use Rattle.pid_script.specs.Calling.{CallsGo};
 ghost use Rattle.pid_script.specs.Saying.{out, LineEnds, Unfit};
 ghost use Rattle.pid_script.specs.Scripts.{passage, IsScript};
 ghost use Rattle.pid_script.specs.Standing.{Stands};
@@ -54,8 +55,9 @@ fn end_line<R: Moderated, O: Output>(
     front: &[u8],
 ) -> Result<(), LineEnd>
     ensures empty { OnOk result (kept.new.items ≡ []) }
-    ensures honest { R.is_honest registry.new → R.is_honest registry.old }
-    ensures ends { R.is_honest registry.new → (h : History) → Stands R.Moderated registry.old h
+    ensures honest { R.showing.is_clean registry.new → R.showing.is_clean registry.old }
+    ensures calls { CallsGo R.showing registry.old registry.new }
+    ensures ends { R.showing.is_clean registry.new → (h : History) → Stands R.Moderated registry.old h
         → LineEnds R.Moderated result (ask_of (drop_cr (kept.old.items ++ front.now))) h registry.old (out (O.taken output.old) held.old.items) registry.new (out (O.taken output.new) held.new.items) }
     ensures fault { result ≡ Err LineEnd.WriteFault → IsSome (O.write_fault output.new) }
 {
@@ -79,11 +81,12 @@ fn take_lines<R: Moderated, O: Output>(
     kept: &mut Vec<u8>,
     piece: &[u8],
 ) -> Result<(), LineEnd>
-    ensures honest { R.is_honest registry.new → R.is_honest registry.old }
-    ensures answered { R.is_honest registry.new → (h : History) (start : Option (List ℕ)) (first : _) (text : List ℕ) → Stands R.Moderated first h
+    ensures honest { R.showing.is_clean registry.new → R.showing.is_clean registry.old }
+    ensures calls { CallsGo R.showing registry.old registry.new }
+    ensures answered { R.showing.is_clean registry.new → (h : History) (start : Option (List ℕ)) (first : _) (text : List ℕ) → Stands R.Moderated first h
         → HasAnswered R.Moderated h start first registry.old (out (O.taken output.old) held.old.items) kept.old.items text
         → OnOk result (HasAnswered R.Moderated h start first registry.new (out (O.taken output.new) held.new.items) kept.new.items (text ++ piece.now)) }
-    ensures ended { R.is_honest registry.new → (h : History) (start : Option (List ℕ)) (first : _) (text more : List ℕ) → Stands R.Moderated first h
+    ensures ended { R.showing.is_clean registry.new → (h : History) (start : Option (List ℕ)) (first : _) (text more : List ℕ) → Stands R.Moderated first h
         → HasAnswered R.Moderated h start first registry.old (out (O.taken output.old) held.old.items) kept.old.items text
         → IfErr result (λ e. Ended R.Moderated e h start first registry.new (out (O.taken output.new) held.new.items) (lines_of ((text ++ piece.now) ++ more))) }
     ensures fault { result ≡ Err LineEnd.WriteFault → IsSome (O.write_fault output.new) }
@@ -110,12 +113,13 @@ fn take_piece<R: Moderated, O: Output>(
     kept: &mut Vec<u8>,
     piece: &[u8],
 ) -> Result<(), LineEnd>
-    ensures honest { R.is_honest registry.new → R.is_honest registry.old }
+    ensures honest { R.showing.is_clean registry.new → R.showing.is_clean registry.old }
+    ensures calls { CallsGo R.showing registry.old registry.new }
     ensures empty { OnOk result (held.new.items ≡ []) }
-    ensures answered { R.is_honest registry.new → (h : History) (start : Option (List ℕ)) (first : _) (text : List ℕ) → Stands R.Moderated first h
+    ensures answered { R.showing.is_clean registry.new → (h : History) (start : Option (List ℕ)) (first : _) (text : List ℕ) → Stands R.Moderated first h
         → HasAnswered R.Moderated h start first registry.old (out (O.taken output.old) held.old.items) kept.old.items text
         → OnOk result (HasAnswered R.Moderated h start first registry.new (out (O.taken output.new) held.new.items) kept.new.items (text ++ piece.now)) }
-    ensures ended { R.is_honest registry.new → (h : History) (start : Option (List ℕ)) (first : _) (text more : List ℕ) → Stands R.Moderated first h
+    ensures ended { R.showing.is_clean registry.new → (h : History) (start : Option (List ℕ)) (first : _) (text more : List ℕ) → Stands R.Moderated first h
         → HasAnswered R.Moderated h start first registry.old (out (O.taken output.old) held.old.items) kept.old.items text
         → IfErr result (λ e. Ended R.Moderated e h start first registry.new (out (O.taken output.new) held.new.items) (lines_of ((text ++ piece.now) ++ more))) }
     ensures fault { result ≡ Err LineEnd.WriteFault → IsSome (O.write_fault output.new) }
@@ -134,11 +138,12 @@ fn answer_last<R: Moderated, O: Output>(
     held: &mut Vec<u8>,
     kept: &[u8],
 ) -> Result<(), LineEnd>
-    ensures honest { R.is_honest registry.new → R.is_honest registry.old }
-    ensures answered { R.is_honest registry.new → (h : History) (start : Option (List ℕ)) (first : _) (text : List ℕ) → Stands R.Moderated first h
+    ensures honest { R.showing.is_clean registry.new → R.showing.is_clean registry.old }
+    ensures calls { CallsGo R.showing registry.old registry.new }
+    ensures answered { R.showing.is_clean registry.new → (h : History) (start : Option (List ℕ)) (first : _) (text : List ℕ) → Stands R.Moderated first h
         → HasAnswered R.Moderated h start first registry.old (out (O.taken output.old) held.old.items) kept.now text
         → OnOk result (Answered R.Moderated h start first registry.new (out (O.taken output.new) held.new.items) (lines_of text)) }
-    ensures ended { R.is_honest registry.new → (h : History) (start : Option (List ℕ)) (first : _) (text : List ℕ) → Stands R.Moderated first h
+    ensures ended { R.showing.is_clean registry.new → (h : History) (start : Option (List ℕ)) (first : _) (text : List ℕ) → Stands R.Moderated first h
         → HasAnswered R.Moderated h start first registry.old (out (O.taken output.old) held.old.items) kept.now text
         → IfErr result (λ e. Ended R.Moderated e h start first registry.new (out (O.taken output.new) held.new.items) (lines_of text)) }
     ensures fault { result ≡ Err LineEnd.WriteFault → IsSome (O.write_fault output.new) }
@@ -157,8 +162,9 @@ fn end_text<R: Moderated, O: Output>(
     held: &mut Vec<u8>,
     kept: &[u8],
 ) -> Result<(), LineEnd>
-    ensures honest { R.is_honest registry.new → R.is_honest registry.old }
-    ensures ends { R.is_honest registry.new → (h : History) (start : Option (List ℕ)) (first : _) (text : List ℕ) → Stands R.Moderated first h
+    ensures honest { R.showing.is_clean registry.new → R.showing.is_clean registry.old }
+    ensures calls { CallsGo R.showing registry.old registry.new }
+    ensures ends { R.showing.is_clean registry.new → (h : History) (start : Option (List ℕ)) (first : _) (text : List ℕ) → Stands R.Moderated first h
         → HasAnswered R.Moderated h start first registry.old (out (O.taken output.old) held.old.items) kept.now text
         → Ends R.Moderated result h start first registry.new (out (O.taken output.new) held.new.items) text }
     ensures fault { result ≡ Err LineEnd.WriteFault → IsSome (O.write_fault output.new) }
@@ -202,9 +208,11 @@ pub fn run_script<R: Moderated, I: Input, O: Output>(
     output: &mut O,
     turns: u64,
 ) -> ScriptEnd
-    ensures honest { R.is_honest registry.new → R.is_honest registry.old }
+    ensures honest { R.showing.is_clean registry.new → R.showing.is_clean registry.old }
+    // Whatever was read and written, calls lead from the one registry to the other, so that the script is part of a life.
+    ensures calls { CallsGo R.showing registry.old registry.new }
     // The replies are those of the lines of the text, and the registry shows the history behind them.
-    ensures script { R.is_honest registry.new → (h : History) → Stands R.Moderated registry.old h → IfSome (I.to_come input.old) (λ text.
+    ensures script { R.showing.is_clean registry.new → (h : History) → Stands R.Moderated registry.old h → IfSome (I.to_come input.old) (λ text.
         IsScript R.Moderated result h (passage registry.old registry.new (O.taken output.old) (O.taken output.new)) text (I.to_come input.new)) }
     ensures read_fault { result ≡ ScriptEnd.ReadFault → IsSome (I.read_fault input.new) }
     ensures write_fault { result ≡ ScriptEnd.WriteFault → IsSome (O.write_fault output.new) }

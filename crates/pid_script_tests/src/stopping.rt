@@ -17,13 +17,9 @@ pub struct Refusing {
 }
 
 impl Moderated for Refusing {
-    ghost shows = { λ registry h. ⊥ };
-
-    ghost fails_between = { λ registry h after. ⊥ };
+    ghost showing = { record { is_clean = λ registry. Unit {0}; shows = λ registry h. ⊥; fails_between = λ registry h after. ⊥ } };
 
     ghost has_failed = { λ registry. ⊥ };
-
-    ghost is_honest = { λ registry. Unit {0} };
 
     fn obey(&mut self, _command: Command) -> Result<Reply, Refusal> {
         if self.commands == 0 {

@@ -4,14 +4,17 @@ use Rattle.pid_script.specs.Asking.{command_asked}
 use Rattle.pid_script.specs.Replies.{those_sent, outcome_of}
 use Rattle.pid_script.specs.Saying.{out}
 use Rattle.pid_script.specs.ScriptLines as lines
-use Rattle.pid_script.proofs.AnswerLemmas.{obeyed, form_refused, command_no_stop}
+use Rattle.pid_script.proofs.Obeyed.{obeyed}
+use Rattle.pid_script.proofs.Asked.{form_refused}
+use Rattle.pid_script.proofs.Causes.{command_no_stop}
+use Rattle.pid_script.proofs.Calling.{go_one, go_still}
 use Rattle.pid_script.proofs.answering.obey.Goals as goal
 
 pub returns-in-Ok-clause-ends : goal.returns-in-Ok-clause-ends
 returns-in-Ok-clause-ends g c = λ honest h stands.
     obeyed g.R.Moderated c.send_answer.result c.obey-answer.result c.in-Ok.command c.args.verb c.args.account.now c.args.form.now h c.args.registry.now c.obey-answer.new.self
     (out (g.O.Output.taken c.args.output.now) c.args.held.now.items) (out (g.O.Output.taken c.send_answer.new.output) c.send_answer.new.held.items)
-    c.in-Ok.ensures.ok (c.obey-answer.ensures.obeys honest h) c.obey-answer.ensures.failed c.send_answer.ensures.told c.send_answer.ensures.goes_on c.send_answer.ensures.empty c.send_answer.ensures.fits stands
+    c.in-Ok.ensures.ok (c.obey-answer.ensures.obeys honest h) c.obey-answer.ensures.failed c.send_answer.ensures.told c.send_answer.ensures.goes_on c.send_answer.ensures.empty c.send_answer.ensures.fits c.obey-answer.ensures.calls stands
 
 pub returns-in-Err-clause-ends : goal.returns-in-Err-clause-ends
 returns-in-Err-clause-ends g c = λ honest h stands.
@@ -20,3 +23,9 @@ returns-in-Err-clause-ends g c = λ honest h stands.
     (out (g.O.Output.taken c.args.output.now) c.args.held.now.items) (out (g.O.Output.taken c.send_answer-in-Err.new.output) c.send_answer-in-Err.new.held.items) c.in-Err.refusal
     c.in-Err.ensures.err (command_no_stop c.args.verb c.args.account.now c.args.form.now) (λ is. ap (λ a. outcome_of a h) is) (λ is. ap those_sent is) (λ is. ap is_ok is) (λ e. cc)
     c.send_answer-in-Err.ensures.told c.send_answer-in-Err.ensures.goes_on c.send_answer-in-Err.ensures.fits
+
+pub returns-in-Ok-clause-calls : goal.returns-in-Ok-clause-calls
+returns-in-Ok-clause-calls g c = go_one g.R.Moderated.showing c.args.registry.now c.obey-answer.new.self _ c.obey-answer.ensures.calls.1
+
+pub returns-in-Err-clause-calls : goal.returns-in-Err-clause-calls
+returns-in-Err-clause-calls g c = go_still g.R.Moderated.showing c.args.registry.now

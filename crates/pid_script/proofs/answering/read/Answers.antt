@@ -1,10 +1,16 @@
-use Rattle.std.proofs.Common.{ap, refl}
+use Rattle.std.proofs.Common.{◌≡◌, ap, refl}
 use Rattle.std.specs.Prelude.{is_ok}
+use Rattle.pid_ident.specs.PathTexts.{path_text}
+use Rattle.pid_moderation.specs.Items.{name_at}
+use Rattle.pid_moderation.specs.Views.{items_of}
 use Rattle.pid_script.specs.Asking.{path_asked}
 use Rattle.pid_script.specs.Replies.{item_line}
 use Rattle.pid_script.specs.Saying.{out}
 use Rattle.pid_script.specs.ScriptLines as lines
-use Rattle.pid_script.proofs.AnswerLemmas.{form_refused, path_no_stop}
+use Rattle.pid_script.proofs.Asked.{form_refused, named}
+use Rattle.pid_script.proofs.Causes.{path_no_stop}
+use Rattle.pid_lives.specs.Calls.{nothing_sent}
+use Rattle.pid_script.proofs.Calling.{go_one, go_still}
 use Rattle.pid_script.proofs.answering.read.Goals as goal
 
 pub returns-in-Err-clause-ends : goal.returns-in-Err-clause-ends
@@ -13,3 +19,16 @@ returns-in-Err-clause-ends g c = λ honest h stands.
     (out (g.O.Output.taken c.args.output.now) c.args.held.now.items) (out (g.O.Output.taken c.send_answer.new.output) c.send_answer.new.held.items) c.in-Err.refusal
     c.in-Err.ensures.err (path_no_stop c.args.form.now) (λ is. ap (λ a. item_line a h) is) (λ is. refl) (λ is. ap is_ok is) (λ e. cc)
     c.send_answer.ensures.told c.send_answer.ensures.goes_on c.send_answer.ensures.fits
+
+pub returns-in-Ok-clause-calls : goal.returns-in-Ok-clause-calls
+returns-in-Ok-clause-calls g c = go_one g.R.Moderated.showing c.args.registry.now c.read-name.new.self nothing_sent c.read-name.ensures.calls
+
+pub returns-in-Err-clause-calls : goal.returns-in-Err-clause-calls
+returns-in-Err-clause-calls g c = go_still g.R.Moderated.showing c.args.registry.now
+
+pub returns-in-Ok-clause-ends : goal.returns-in-Ok-clause-ends
+returns-in-Ok-clause-ends g c = λ honest h stands.
+    named g.R.Moderated c.send_name.result c.read-name.result c.args.form.now c.in-Ok.path h c.args.registry.now c.read-name.new.self
+    (out (g.O.Output.taken c.args.output.now) c.args.held.now.items) (out (g.O.Output.taken c.send_name.new.output) c.send_name.new.held.items) (λ name. name ≡ name_at (path_text c.in-Ok.path) (items_of h))
+    c.in-Ok.ensures.ok (c.read-name.ensures.told honest h) (c.read-name.ensures.kept honest h) c.read-name.ensures.failed
+    (c.send_name.ensures.told (name_at (path_text c.in-Ok.path) (items_of h))) c.send_name.ensures.goes_on c.send_name.ensures.fits c.read-name.ensures.calls stands

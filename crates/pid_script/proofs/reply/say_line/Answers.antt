@@ -1,7 +1,6 @@
 use Rattle.std.proofs.Common.{[], ◌∷◌, ◌++◌, Err, List, ℕ, sym, subst, append_assoc}
 use Rattle.pid_script.specs.Saying.{out, Tells, IsGiven, IsNothing}
-use Rattle.pid_script.proofs.AnswerLemmas.{tells_said}
-use Rattle.pid_script.proofs.SayLemmas.{said_more, front_within}
+use Rattle.pid_script.proofs.SayLemmas.{tells_said, said_more, front_within}
 use Rattle.pid_script.proofs.reply.say_line.Goals as goal
 
 pub returns-in-Err-clause-tells : goal.returns-in-Err-clause-tells

@@ -3,7 +3,8 @@ use Rattle.std.proofs.lemmas.Bool.Decides.{nat_tests}
 use Rattle.std.proofs.lemmas.List.{nil_from_length}
 use Rattle.pid_script.specs.Saying.{out, LineEnds}
 use Rattle.pid_script.specs.ScriptLines.{ask_of}
-use Rattle.pid_script.proofs.PieceLemmas.{at_end, at_last, stop_last}
+use Rattle.pid_script.proofs.Pieces.{at_end, at_last, stop_last}
+use Rattle.pid_script.proofs.Calling.{go_still}
 use Rattle.pid_script.proofs.script.answer_last.Goals as goal
 
 pub returns-then-is_empty-clause-answered : goal.returns-then-is_empty-clause-answered
@@ -22,3 +23,6 @@ returns-clause-ended g c = λ honest h start first text stands a.
     stop_last g.R.Moderated c.answer_line.result h start first c.args.registry.now c.answer_line.new.registry (out (g.O.Output.taken c.args.output.now) c.args.held.now.items) (out (g.O.Output.taken c.answer_line.new.output) c.answer_line.new.held.items) c.args.kept.now text a
     (λ e. let none : length c.args.kept.now ≡ 0 = ap length e in omega arith) stands
     (λ k shown. subst (λ l. LineEnds g.R.Moderated c.answer_line.result (ask_of l) k c.args.registry.now (out (g.O.Output.taken c.args.output.now) c.args.held.now.items) c.answer_line.new.registry (out (g.O.Output.taken c.answer_line.new.output) c.answer_line.new.held.items)) c.without_cr.ensures (c.answer_line.ensures.ends honest k shown))
+
+pub returns-then-is_empty-clause-calls : goal.returns-then-is_empty-clause-calls
+returns-then-is_empty-clause-calls g c = go_still g.R.Moderated.showing c.args.registry.now

@@ -1,5 +1,5 @@
 use Rattle.pid_script.specs.Saying.{out}
-use Rattle.pid_script.proofs.PieceLemmas.{end_on}
+use Rattle.pid_script.proofs.Pieces.{end_on}
 use Rattle.pid_script.proofs.script.end_text.Goals as goal
 
 pub returns-clause-ends : goal.returns-clause-ends

@@ -1,6 +1,6 @@
 use Rattle.std.proofs.Common.{◌++◌, arith, length-append}
 use Rattle.pid_script.specs.Saying.{out}
-use Rattle.pid_script.proofs.AnswerLemmas.{unfit_memory, unfit_long}
+use Rattle.pid_script.proofs.OtherLines.{unfit_memory, unfit_long}
 use Rattle.pid_script.proofs.script.keep.Goals as goal
 
 pub returns-then-saturating_sub-piece-clause-unfit : goal.returns-then-saturating_sub-piece-clause-unfit

@@ -3,6 +3,7 @@ use Rattle.pid_script.specs.Progress.{HasAnswered}
 use Rattle.pid_script.specs.Saying.{out}
 use Rattle.pid_script.specs.Scripts.{passage, IsScript}
 use Rattle.pid_script.proofs.ReadLemmas.{none_read, read_more, one_more, cut_off, turns_over, all_read, ended, not_spent, consumed_none}
+use Rattle.pid_script.proofs.Calling.{go_then}
 use Rattle.pid_script.proofs.script.run_script.Goals as goal
 
 pub loop-turn-init : goal.loop-turn-init
@@ -15,7 +16,7 @@ loop-turn-preserved g c = (
       (g.I.Input.to_come c.args.input.now) (g.I.Input.to_come c.loop-turn.input) (g.I.Input.to_come c.read.new.self)
       c.loop-turn.kept.items c.take_piece.new.kept.items (take c.in-Ok.count c.read.new.buffer)
       (g.I.Input.reads c.args.input.now) (g.I.Input.reads c.loop-turn.input) (g.I.Input.reads c.read.new.self) c.loop-turn._turn
-      c.loop-turn.invariant.0 c.in-Ok.ensures.bytes.0 c.read.ensures.count c.take_piece.ensures.honest c.in_default-take_piece.ensures.empty c.in_default-take_piece.ensures.answered,
+      c.loop-turn.invariant.0 c.in-Ok.ensures.bytes.0 c.read.ensures.count c.take_piece.ensures.honest c.take_piece.ensures.calls c.in_default-take_piece.ensures.empty c.in_default-take_piece.ensures.answered,
   g.met.I.Input.joins _ _ _ c.loop-turn.invariant.1 c.read.ensures.goes,
 )
 
@@ -71,3 +72,15 @@ returns-in-Err-clause-goes g c = g.met.I.Input.joins _ _ _ c.loop-turn.invariant
 pub returns-clause-script : goal.returns-clause-script
 returns-clause-script g c = λ honest h stands.
     turns_over g.R.Moderated h (g.O.Output.taken c.args.output.now) c.args.registry.now c.loop-turn.registry (out (g.O.Output.taken c.loop-turn.output) c.loop-turn.held.items) c.loop-turn.kept.items c.loop-turn.invariant.0.front (g.I.Input.to_come c.args.input.now) (g.I.Input.to_come c.loop-turn.input) c.loop-turn.invariant.0.consumed c.loop-turn.invariant.0.empty (c.loop-turn.invariant.0.answered honest h stands)
+
+pub returns-in_default-clause-calls : goal.returns-in_default-clause-calls
+returns-in_default-clause-calls g c = c.loop-turn.invariant.0.calls
+
+pub returns-then-count-eq0-clause-calls : goal.returns-then-count-eq0-clause-calls
+returns-then-count-eq0-clause-calls g c = go_then g.R.Moderated.showing c.args.registry.now c.loop-turn.registry c.end_text.new.registry c.loop-turn.invariant.0.calls c.end_text.ensures.calls
+
+pub returns-in-Err-clause-calls : goal.returns-in-Err-clause-calls
+returns-in-Err-clause-calls g c = go_then g.R.Moderated.showing c.args.registry.now c.loop-turn.registry c.take_piece.new.registry c.loop-turn.invariant.0.calls c.take_piece.ensures.calls
+
+pub returns-clause-calls : goal.returns-clause-calls
+returns-clause-calls g c = c.loop-turn.invariant.0.calls

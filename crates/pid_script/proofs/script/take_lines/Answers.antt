@@ -2,7 +2,8 @@ use Rattle.std.proofs.Common.{◌≡◌, ◌<◌, length, ap, arith}
 use Rattle.std.proofs.lemmas.Bool.Decides.{nat_tests}
 use Rattle.std.proofs.lemmas.List.{nil_from_length}
 use Rattle.pid_script.specs.Saying.{out}
-use Rattle.pid_script.proofs.PieceLemmas.{half_start, half_stop, half_more, half_whole, half_kept_on, half_unfit_on}
+use Rattle.pid_script.proofs.Pieces.{half_start, half_stop, half_more, half_whole, half_kept_on, half_unfit_on}
+use Rattle.pid_script.proofs.Calling.{go_then}
 use Rattle.pid_script.proofs.script.take_lines.Goals as goal
 
 pub loop-front-init : goal.loop-front-init
@@ -18,7 +19,7 @@ pub loop-front-preserved : goal.loop-front-preserved
 loop-front-preserved g c =
     half_more g.R.Moderated _ c.args.piece.now c.loop-front.rest.now c.in-Some.front.now c.in-Some.behind.now c.args.registry.now c.loop-front.registry c.end_line.new.registry
     (out (g.O.Output.taken c.args.output.now) c.args.held.now.items) (out (g.O.Output.taken c.loop-front.output) c.loop-front.held.items) (out (g.O.Output.taken c.end_line.new.output) c.end_line.new.held.items) c.args.kept.now.items c.loop-front.kept.items c.end_line.new.kept.items
-    c.loop-front.invariant c.in-Some.ensures.parts.0 c.in-Some.ensures.parts.1 c.end_line.ensures.honest c.in_default-end_line.ensures.empty c.in_default-end_line.ensures.ends
+    c.loop-front.invariant c.in-Some.ensures.parts.0 c.in-Some.ensures.parts.1 c.end_line.ensures.honest c.end_line.ensures.calls c.in_default-end_line.ensures.empty c.in_default-end_line.ensures.ends
 
 pub returns-then-is_empty-clause-answered : goal.returns-then-is_empty-clause-answered
 returns-then-is_empty-clause-answered g c =
@@ -35,3 +36,12 @@ returns-clause-ended g c =
     let some : 0 < length c.loop-front.rest.now = grind (arith, nat_tests, c.if-is_empty.ensures) in
     half_unfit_on g.R.Moderated c.keep.result c.args.piece.now c.loop-front.rest.now c.args.registry.now c.loop-front.registry (out (g.O.Output.taken c.args.output.now) c.args.held.now.items) (out (g.O.Output.taken c.loop-front.output) c.loop-front.held.items) (out (g.O.Output.taken c.keep.new.output) c.keep.new.held.items) c.args.kept.now.items c.loop-front.kept.items
     c.loop-front.invariant c.in_default.ensures.parts (λ e. let none : length c.loop-front.rest.now ≡ 0 = ap length e in omega arith) c.keep.ensures.unfit
+
+pub returns-in-Err-clause-calls : goal.returns-in-Err-clause-calls
+returns-in-Err-clause-calls g c = go_then g.R.Moderated.showing c.args.registry.now c.loop-front.registry c.end_line.new.registry c.loop-front.invariant.calls c.end_line.ensures.calls
+
+pub returns-then-is_empty-clause-calls : goal.returns-then-is_empty-clause-calls
+returns-then-is_empty-clause-calls g c = c.loop-front.invariant.calls
+
+pub returns-clause-calls : goal.returns-clause-calls
+returns-clause-calls g c = c.loop-front.invariant.calls

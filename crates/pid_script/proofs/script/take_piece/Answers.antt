@@ -1,6 +1,6 @@
 use Rattle.std.proofs.Common.{◌++◌}
 use Rattle.pid_script.specs.Saying.{out}
-use Rattle.pid_script.proofs.PieceLemmas.{piece_flushed_on, piece_broken_on}
+use Rattle.pid_script.proofs.Pieces.{piece_flushed_on, piece_broken_on}
 use Rattle.pid_script.proofs.script.take_piece.Goals as goal
 
 pub returns-clause-answered : goal.returns-clause-answered

@@ -1,0 +1,191 @@
+-- The answer to a question.
+use Rattle.std.proofs.Common.{◌≡◌, ◌≢◌, ℕ, true, false, cond, List, [], Option, Some, None, Result, Ok, Err, refl, sym, ap, ◌∙◌, subst, inl, inr}
+use Rattle.std.specs.Prelude.{◌⊎◌, IsErrOf, is_ok, is_some, OnOk, IfOk, IfErr, MatchResult}
+use Rattle.pid_ident.specs.Trees.{TreeMap}
+use Rattle.pid_lookup.specs.declared.answer.Answer.{Answer}
+use Rattle.pid_lookup.specs.declared.args.Args.{Args}
+use Rattle.pid_lookup.specs.Answers.{answer_of}
+use Rattle.pid_lookup.specs.Flags.{is_bad}
+use Rattle.pid_lookup.specs.declared.answering.LookupRefusal.{LookupRefusal}
+use Rattle.pid_lookup.specs.declared.answering.LookupRefusal.TheVariants as look_ups
+use Rattle.pid_moderation.specs.declared.refusal.Refusal.{Refusal}
+use Rattle.pid_moderation.specs.declared.refusal.Refusal.TheVariants.{BadText, Memory, Failed}
+use Rattle.pid_moderation.specs.History.{History}
+use Rattle.pid_moderation.specs.Judgement.{after_all}
+use Rattle.pid_moderation.specs.ReplyLines.{refused_line}
+use Rattle.pid_moderation.specs.Writes.{tree_of}
+use Rattle.pid_moderation.specs.Faults.{IsFault}
+use Rattle.pid_lives.specs.Calls.{nothing_sent}
+use Rattle.pid_lives.specs.Registries.{Does}
+use Rattle.pid_ident.specs.declared.path.Path.{Path}
+use Rattle.pid_ident.specs.PathTexts.{path_text}
+use Rattle.pid_moderation.specs.Items.{name_at}
+use Rattle.pid_moderation.specs.Views.{items_of}
+use Rattle.pid_script.specs.declared.line_end.LineEnd.{LineEnd}
+use Rattle.pid_script.specs.declared.line_end.LineEnd.TheVariants.{Stopped, WriteFault, TooLong}
+use Rattle.pid_script.specs.declared.moderated.Moderated.{Ghosts}
+use Rattle.pid_script.specs.Asking.{path_asked, look_up_asked}
+use Rattle.pid_script.specs.LookUpFields.{look_up_told}
+use Rattle.pid_script.specs.LookingUp.{LooksUp}
+use Rattle.pid_script.specs.Calling.{CallsSend}
+use Rattle.pid_script.specs.Replies.{reply_to, command_of, item_line, name_line, is_call, looked_up, answer_line, BAD_FLAGS}
+use Rattle.pid_script.specs.Saying.{Out, IsGiven, IsNothing, Tells, IsAnswer, refusal_in, refusal_of_names, GoesOn, Leaves, Sends, LineEnds}
+use Rattle.pid_script.specs.ScriptLines as lines
+use Rattle.pid_script.specs.ScriptLines.{Ask}
+use Rattle.pid_script.specs.Standing.{Stands, Becomes}
+use Rattle.pid_script.specs.StopLines.{is_stop, IsBegun, IsCause}
+use Rattle.pid_script.proofs.Calling.{send_still, send_none}
+use Rattle.pid_script.proofs.Causes.{recast, none_begun, faults_stop, no_memory, failed_goes, own_cause, is_memory, form_cause, fault_cause, names_cause}
+
+-- the registry is as before
+pub same : {R : Type 0} (m : Ghosts R) (r : R) (h : History) → Becomes m r h r h
+same m r h = record { shows = λ s. s; failed = λ f. refl }
+
+question_leaves : {R : Type 0} (m : Ghosts R) (result : Result (Unit {0}) LineEnd) (ask : Ask) (h : History) (r new : R) (left : Out) (given : Option Refusal)
+    → command_of ask ≡ [] → (ask ≡ lines.TooLong → ⊥) → Becomes m r h new h → OnOk result (m.has_failed r → (is_call ask ≡ false) ⊎ (given ≡ Some Failed))
+    → GoesOn result given → (result ≡ Err TooLong → ⊥) → Leaves m result r h new ask left
+question_leaves m (Ok x) ask h r new left given none short becomes called goes fits = record {
+  becomes = subst (λ cs. Becomes m r h new (after_all h cs)) (sym none) becomes;
+  lives = λ f. by (called f);
+  flushed = inl none;
+  fits = short;
+}
+  where
+    by : (is_call ask ≡ false) ⊎ (given ≡ Some Failed) → is_call ask ≡ false
+    by (inl off) = off
+    by (inr is) = absurd (failed_goes x given is goes)
+question_leaves m (Err Stopped) ask h r new left given none short becomes called goes fits = record { shows = λ s. inl (becomes.shows s); failed = becomes.failed }
+question_leaves m (Err WriteFault) ask h r new left given none short becomes called goes fits = record { shows = λ s. inl (becomes.shows s); failed = becomes.failed }
+question_leaves m (Err TooLong) ask h r new left given none short becomes called goes fits = absurd (fits refl)
+
+question_sends : {R : Type 0} (m : Ghosts R) (result : Result (Unit {0}) LineEnd) (ask : Ask) (r new : R) → command_of ask ≡ [] → CallsSend m.showing r [] new → Sends m result r new ask
+question_sends m (Ok x) ask r new none sends = subst (λ cs. CallsSend m.showing r cs new) (sym none) sends
+question_sends m (Err Stopped) ask r new none sends = inl sends
+question_sends m (Err WriteFault) ask r new none sends = inl sends
+question_sends m (Err TooLong) ask r new none sends = sends
+
+-- a line was answered that holds no command
+pub asked : {R : Type 0} (m : Ghosts R) (result : Result (Unit {0}) LineEnd) (ask : Ask) (h : History) (r new : R) (old left : Out) (given : Option Refusal)
+    → command_of ask ≡ [] → (ask ≡ lines.TooLong → ⊥) → Becomes m r h new h → ((e : Refusal) → IsGiven given e → IsCause m r h ask e) → OnOk result (m.has_failed r → (is_call ask ≡ false) ⊎ (given ≡ Some Failed))
+    → GoesOn result given → (result ≡ Err TooLong → ⊥) → CallsSend m.showing r [] new → Tells (IsGiven given) IsNothing result (reply_to ask h) old left
+    → LineEnds m result ask h r old new left
+asked m result ask h r new old left given none short becomes cause called goes fits sends told = record {
+  tells = recast (IsGiven given) (IsCause m r h ask) IsNothing (IsBegun ask h) result (reply_to ask h) old left cause (none_begun ask h) told;
+  leaves = question_leaves m result ask h r new left given none short becomes called goes fits;
+  sends = question_sends m result ask r new none sends;
+}
+
+-- the line of a form was refused, or memory was short for it
+pub form_refused : {R X : Type 0} (m : Ghosts R) (result : Result (Unit {0}) LineEnd) (ask : Ask) (said : Result X Refusal) (h : History) (r : R) (old left : Out) (e : Refusal)
+    → (e ≢ Memory → said ≡ Err e) → ((g : Refusal) → said ≡ Err g → is_stop g ≡ false)
+    → (said ≡ Err e → reply_to ask h ≡ refused_line e) → (said ≡ Err e → command_of ask ≡ []) → (said ≡ Err e → is_call ask ≡ false) → (ask ≡ lines.TooLong → ⊥)
+    → ((reply : List ℕ) → IsAnswer reply (Err e) → Tells (IsGiven (Some e)) IsNothing result reply old left) → GoesOn result (Some e) → (result ≡ Err TooLong → ⊥)
+    → LineEnds m result ask h r old r left
+form_refused m result ask said h r old left e told none reply command call short sends goes fits = record {
+  tells = recast (IsGiven (Some e)) (IsCause m r h ask) IsNothing (IsBegun ask h) result (reply_to ask h) old left (form_cause m said r h ask e told none) (none_begun ask h) (sends (reply_to ask h) (by (is_memory e)));
+  leaves = leaves result goes fits;
+  sends = sent result goes;
+}
+  where
+    by : (e ≡ Memory) ⊎ (e ≢ Memory) → IsAnswer (reply_to ask h) (Err e)
+    by (inl memory) = inr (e, ap is_stop memory, refl)
+    by (inr other) = inl (sym (reply (told other)))
+
+    leaves : (r' : Result (Unit {0}) LineEnd) → GoesOn r' (Some e) → (r' ≡ Err TooLong → ⊥) → Leaves m r' r h r ask left
+    leaves (Ok x) g f =
+        let is : said ≡ Err e = told (no_memory e g) in
+        record { becomes = subst (λ cs. Becomes m r h r (after_all h cs)) (sym (command is)) (same m r h); lives = λ _. call is; flushed = inl (command is); fits = short }
+    leaves (Err Stopped) g f = record { shows = λ s. inl s; failed = λ _. refl }
+    leaves (Err WriteFault) g f = record { shows = λ s. inl s; failed = λ _. refl }
+    leaves (Err TooLong) g f = absurd (f refl)
+
+    sent : (r' : Result (Unit {0}) LineEnd) → GoesOn r' (Some e) → Sends m r' r r ask
+    sent (Ok x) g = subst (λ cs. CallsSend m.showing r cs r) (sym (command (told (no_memory e g)))) (send_still m.showing r)
+    sent (Err Stopped) g = inl (send_still m.showing r)
+    sent (Err WriteFault) g = inl (send_still m.showing r)
+    sent (Err TooLong) g = send_still m.showing r
+
+pub always : (r : Result (Unit {0}) LineEnd) (P : Type 0) → P → OnOk r P
+always (Ok x) P p = p
+always (Err e) P p = tt
+
+pub none_goes : (r : Result (Unit {0}) LineEnd) → GoesOn r None
+none_goes (Ok x) = tt
+none_goes (Err e) = tt
+
+pub only_fault : (r : Result (Unit {0}) LineEnd) → IfErr r (λ e. e ≡ WriteFault) → r ≡ Err TooLong → ⊥
+only_fault (Ok x) end is = absurd cc
+only_fault (Err e) end is = let other : WriteFault ≡ TooLong = sym end ∙ cc is in absurd cc
+
+-- the two cases of an answer
+if_ok : {X : Type 0} (a : Result X Refusal) (P : X → Type 0) (F : Refusal → Type 0) → MatchResult a P F → IfOk a P
+if_ok (Ok x) P F s = s
+if_ok (Err e) P F s = tt
+
+if_err : {X : Type 0} (a : Result X Refusal) (P : X → Type 0) (F : Refusal → Type 0) → MatchResult a P F → (e : Refusal) → a ≡ Err e → F e
+if_err (Ok x) P F s e is = absurd cc
+if_err (Err f) P F s e is = let same : f ≡ e = cc in subst F same s
+
+err_stops : {X : Type 0} (a : Result X Refusal) → ((e : Refusal) → a ≡ Err e → is_stop e ≡ true) → IfErr a (λ e. is_stop e ≡ true)
+err_stops (Ok x) all = tt
+err_stops (Err e) all = all e refl
+
+-- a look-up was answered
+look_up_facts : {R : Type 0} (m : Ghosts R) (found : Result Answer (LookupRefusal Refusal)) (h : History) (r : R) (flags size : ℕ) (args : Args) → (m.showing.shows r h → LooksUp found (tree_of h) flags args size) → (m.has_failed r → found ≡ Err (look_ups.Names Failed)) → Stands m r h
+    → IfOk found (λ a. (is_bad flags ≡ false) × (a ≡ answer_of (tree_of h) flags args size)) × (IsErrOf found look_ups.BadFlags → is_bad flags ≡ true) × ((e : Refusal) → IsErrOf found (look_ups.Names e) → is_stop e ≡ true)
+look_up_facts m found h r flags size args told failed (inl s) = by found (told s)
+  where
+    by : (f : Result Answer (LookupRefusal Refusal)) → LooksUp f (tree_of h) flags args size → IfOk f (λ a. (is_bad flags ≡ false) × (a ≡ answer_of (tree_of h) flags args size)) × (IsErrOf f look_ups.BadFlags → is_bad flags ≡ true) × ((e : Refusal) → IsErrOf f (look_ups.Names e) → is_stop e ≡ true)
+    by (Ok a) t = (t, (λ is. absurd cc), (λ e is. absurd cc))
+    by (Err look_ups.BadFlags) t = (tt, (λ is. t), (λ e is. absurd cc))
+    by (Err (look_ups.Names g)) t = (tt, (λ is. absurd cc), (λ e is. let same : g ≡ e = cc in faults_stop e (subst IsFault same t)))
+    by (Err look_ups.Memory) t = (tt, (λ is. absurd cc), (λ e is. absurd cc))
+look_up_facts m found h r flags size args told failed (inr f) = subst (λ g. IfOk g (λ a. (is_bad flags ≡ false) × (a ≡ answer_of (tree_of h) flags args size)) × (IsErrOf g look_ups.BadFlags → is_bad flags ≡ true) × ((e : Refusal) → IsErrOf g (look_ups.Names e) → is_stop e ≡ true)) (sym (failed f))
+    (tt, (λ is. absurd cc), (λ e is. let same : Failed ≡ e = cc in ap is_stop (sym same)))
+
+faults_named : (found : Result Answer (LookupRefusal Refusal)) (tree : TreeMap) (flags size : ℕ) (args : Args) → LooksUp found tree flags args size → (e : Refusal) → found ≡ Err (look_ups.Names e) → IsFault e
+faults_named (Ok a) tree flags size args t e is = absurd cc
+faults_named (Err look_ups.BadFlags) tree flags size args t e is = absurd cc
+faults_named (Err (look_ups.Names g)) tree flags size args t e is = let same : g ≡ e = cc in subst IsFault same t
+faults_named (Err look_ups.Memory) tree flags size args t e is = absurd cc
+
+pub looked_for : {R : Type 0} (m : Ghosts R) (result : Result (Unit {0}) LineEnd) (found : Result Answer (LookupRefusal Refusal)) (form : List ℕ) (l : ℕ × Args × ℕ) (h : History) (r new : R) (old left : Out)
+    → look_up_asked form ≡ Some (look_up_told l) → (m.showing.shows r h → LooksUp found (tree_of h) l.0 l.1 l.2) → (m.showing.shows r h → m.showing.shows new h) → (m.has_failed r → (found ≡ Err (look_ups.Names Failed)) × (new ≡ r))
+    → ((flags : ℕ) (good : Answer) → IfOk found (λ a. (is_bad flags ≡ false) × (a ≡ good)) → (IsErrOf found look_ups.BadFlags → is_bad flags ≡ true) → ((e : Refusal) → IsErrOf found (look_ups.Names e) → is_stop e ≡ true)
+    → Tells (IsGiven (refusal_of_names found)) IsNothing result (cond (is_bad flags) BAD_FLAGS (answer_line good)) old left)
+    → GoesOn result (refusal_of_names found) → (result ≡ Err TooLong → ⊥) → Does m.showing r nothing_sent new → Stands m r h → LineEnds m result (lines.LooksUp form) h r old new left
+looked_for m result found form l h r new old left is told kept failed sends goes fits does stands =
+    let facts = look_up_facts m found h r l.0 l.2 l.1 told (λ f. (failed f).0) stands in
+    asked m result (lines.LooksUp form) h r new old left (refusal_of_names found) refl (λ e. cc) (record { shows = kept; failed = λ f. (failed f).1 })
+    (names_cause m found r h (lines.LooksUp form) (ap is_some is) (λ s. faults_named found (tree_of h) l.0 l.2 l.1 (told s)) (λ f. (failed f).0))
+    (always result (m.has_failed r → (is_call (lines.LooksUp form) ≡ false) ⊎ (refusal_of_names found ≡ Some Failed)) (λ f. inr (ap refusal_of_names (failed f).0)))
+    goes fits (send_none m.showing r new does)
+    (subst (λ o. Tells (IsGiven (refusal_of_names found)) IsNothing result (looked_up o h) old left) (sym is) (sends l.0 (answer_of (tree_of h) l.0 l.1 l.2) facts.0 facts.1 facts.2))
+
+-- a look-up whose fields are bad
+pub bad_look_up : {R : Type 0} (m : Ghosts R) (result : Result (Unit {0}) LineEnd) (form : List ℕ) (h : History) (r : R) (old left : Out) → look_up_asked form ≡ None → ((given : Option Refusal) → Tells (IsGiven given) IsNothing result (refused_line BadText) old left) → IfErr result (λ e. e ≡ WriteFault) → LineEnds m result (lines.LooksUp form) h r old r left
+bad_look_up m result form h r old left is told end =
+    asked m result (lines.LooksUp form) h r r old left None refl (λ e. cc) (same m r h) (own_cause m r h (lines.LooksUp form)) (always result (m.has_failed r → (is_call (lines.LooksUp form) ≡ false) ⊎ (None ≡ Some Failed)) (λ _. inl (ap is_some is))) (none_goes result) (only_fault result end) (send_still m.showing r)
+    (subst (λ o. Tells (IsGiven None) IsNothing result (looked_up o h) old left) (sym is) (told None))
+
+-- memory is short for a look-up
+pub no_look_up : {R : Type 0} (m : Ghosts R) (e : LineEnd) (form : List ℕ) (h : History) (r : R) (old left : Out) → ((given : Option Refusal) (reply : List ℕ) → Tells (IsGiven given) IsNothing (Err e) reply old left) → (e ≡ TooLong → ⊥) → LineEnds m (Err e) (lines.LooksUp form) h r old r left
+no_look_up m e form h r old left told fits =
+    asked m (Err e) (lines.LooksUp form) h r r old left None refl (λ e. cc) (same m r h) (own_cause m r h (lines.LooksUp form)) tt (none_goes (Err e)) (λ is. fits (cc is)) (send_still m.showing r) (told None (reply_to (lines.LooksUp form) h))
+
+-- the name of a path was asked
+name_facts : {R X : Type 0} (m : Ghosts R) (answer : Result X Refusal) (h : History) (r : R) (P : X → Type 0) → (m.showing.shows r h → MatchResult answer P IsFault) → (m.has_failed r → answer ≡ Err Failed) → Stands m r h → IfOk answer P × IfErr answer (λ e. is_stop e ≡ true)
+name_facts m answer h r P told failed (inl s) = (if_ok answer P IsFault (told s), err_stops answer (λ e is. faults_stop e (if_err answer P IsFault (told s) e is)))
+name_facts m answer h r P told failed (inr f) = subst (λ a. IfOk a P × IfErr a (λ e. is_stop e ≡ true)) (sym (failed f)) (tt, refl)
+
+pub named : {R X : Type 0} (m : Ghosts R) (result : Result (Unit {0}) LineEnd) (answer : Result X Refusal) (form : List ℕ) (path : Path) (h : History) (r new : R) (old left : Out) (P : X → Type 0)
+    → path_asked form ≡ Ok path → (m.showing.shows r h → MatchResult answer P IsFault) → (m.showing.shows r h → m.showing.shows new h) → (m.has_failed r → (answer ≡ Err Failed) × (new ≡ r))
+    → (IfOk answer P → IfErr answer (λ e. is_stop e ≡ true) → Tells (IsGiven (refusal_in answer)) IsNothing result (name_line (name_at (path_text path) (items_of h))) old left)
+    → GoesOn result (refusal_in answer) → (result ≡ Err TooLong → ⊥) → Does m.showing r nothing_sent new → Stands m r h → LineEnds m result (lines.Reads form) h r old new left
+named m result answer form path h r new old left P is told kept failed sends goes fits does stands =
+    let facts = name_facts m answer h r P told (λ f. (failed f).0) stands in
+    asked m result (lines.Reads form) h r new old left (refusal_in answer) refl (λ e. cc) (record { shows = kept; failed = λ f. (failed f).1 })
+    (fault_cause m answer r h (lines.Reads form) (ap is_ok is) (λ s. if_err answer P IsFault (told s)) (λ f. (failed f).0))
+    (always result (m.has_failed r → (is_call (lines.Reads form) ≡ false) ⊎ (refusal_in answer ≡ Some Failed)) (λ f. inr (ap refusal_in (failed f).0)))
+    goes fits (send_none m.showing r new does)
+    (subst (λ a. Tells (IsGiven (refusal_in answer)) IsNothing result (item_line a h) old left) (sym is) (sends facts.0 facts.1))

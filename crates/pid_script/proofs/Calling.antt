@@ -1,0 +1,73 @@
+-- Calls in turn, and the commands that they send.
+use Rattle.std.proofs.Common.{◌≡◌, Bool, true, false, cond, List, [], ◌∷◌, ◌++◌, Result, Ok, Err, refl, sym, ap, subst, ◌∙◌, append_assoc, inl, inr}
+use Rattle.std.proofs.lemmas.List.{append-nil}
+use Rattle.std.specs.Prelude.{◌⊎◌}
+use Rattle.pid_moderation.specs.declared.command.Reply.{Reply}
+use Rattle.pid_moderation.specs.declared.refusal.Refusal.{Refusal}
+use Rattle.pid_moderation.specs.History.{Asked}
+use Rattle.pid_lives.specs.Calls.{Call, nothing_sent, obeyed, sent_in}
+use Rattle.pid_lives.specs.Lives.{Sent, commands_in}
+use Rattle.pid_lives.specs.Outcomes.{is_outcome}
+use Rattle.pid_lives.specs.Registries.{Showing, CallsLead, Does}
+use Rattle.pid_script.specs.Calling.{CallsGo, CallsSend, CallsSendEither}
+
+lead_on : {R : Type 0} (w : Showing R) (a b c : R) (xs ys : List Call) → CallsLead w a xs b → CallsLead w b ys c → CallsLead w a (xs ++ ys) c
+lead_on w a b c [] ys p q = subst (λ r. CallsLead w r ys c) p q
+lead_on w a b c (x ∷ xs) ys p q = (p.0, p.1, lead_on w p.0 b c xs ys p.2 q)
+
+sent_on : (xs ys : List Call) → sent_in (xs ++ ys) ≡ sent_in xs ++ sent_in ys
+sent_on [] ys = refl
+sent_on (x ∷ xs) ys = ap (λ (l : List Sent). x.sent ++ l) (sent_on xs ys) ∙ sym (append_assoc x.sent (sent_in xs) (sent_in ys))
+
+commands_on : (xs ys : List Sent) → commands_in (xs ++ ys) ≡ commands_in xs ++ commands_in ys
+commands_on [] ys = refl
+commands_on (x ∷ xs) ys = ap (λ (l : List Asked). x.command ∷ l) (commands_on xs ys)
+
+-- CALLS
+
+pub go_still : {R : Type 0} (w : Showing R) (a : R) → CallsGo w a a
+go_still w a = record { calls = []; lead = refl }
+
+pub go_one : {R : Type 0} (w : Showing R) (a b : R) (call : Call) → Does w a call b → CallsGo w a b
+go_one w a b call does = record { calls = call ∷ []; lead = (b, does, refl) }
+
+pub go_then : {R : Type 0} (w : Showing R) (a b c : R) → CallsGo w a b → CallsGo w b c → CallsGo w a c
+go_then w a b c p q = record { calls = p.calls ++ q.calls; lead = lead_on w a b c p.calls q.calls p.lead q.lead }
+
+-- WITH THEIR COMMANDS
+
+pub send_still : {R : Type 0} (w : Showing R) (a : R) → CallsSend w a [] a
+send_still w a = record { calls = []; lead = refl; sent = refl }
+
+pub send_then : {R : Type 0} (w : Showing R) (a b c : R) (cs ds : List Asked) → CallsSend w a cs b → CallsSend w b ds c → CallsSend w a (cs ++ ds) c
+send_then w a b c cs ds p q = record {
+  calls = p.calls ++ q.calls;
+  lead = lead_on w a b c p.calls q.calls p.lead q.lead;
+  sent = ap (λ (l : List Asked). l ++ ds) p.sent ∙ ap (λ (l : List Asked). commands_in (sent_in p.calls) ++ l) q.sent ∙ sym (commands_on (sent_in p.calls) (sent_in q.calls)) ∙ ap commands_in (sym (sent_on p.calls q.calls));
+}
+
+pub send_either : {R : Type 0} (w : Showing R) (a b c : R) (cs ds es : List Asked) → CallsSend w a cs b → CallsSendEither w b ds es c → CallsSendEither w a (cs ++ ds) (cs ++ es) c
+send_either w a b c cs ds es p (inl q) = inl (send_then w a b c cs ds p q)
+send_either w a b c cs ds es p (inr q) = inr (send_then w a b c cs es p q)
+
+send_one : {R : Type 0} (w : Showing R) (a b : R) (call : Call) (cs : List Asked) → Does w a call b → cs ≡ commands_in call.sent → CallsSend w a cs b
+send_one w a b call cs does is = record { calls = call ∷ []; lead = (b, does, refl); sent = is ∙ ap commands_in (sym (append-nil call.sent)) }
+
+pub send_none : {R : Type 0} (w : Showing R) (a b : R) → Does w a nothing_sent b → CallsSend w a [] b
+send_none w a b does = send_one w a b nothing_sent [] does refl
+
+one_sent : (s : Sent) (outcome : Bool) → outcome ≡ true → s.command ∷ [] ≡ commands_in (cond outcome (s ∷ []) [])
+one_sent s true is = refl
+one_sent s false is = absurd cc
+
+-- a command that was answered by an outcome
+pub send_obeyed : {R : Type 0} (w : Showing R) (a b : R) (c : Asked) (answer : Result Reply Refusal) (live : Bool) → is_outcome answer ≡ true → Does w a (obeyed c answer live) b → CallsSend w a (c ∷ []) b
+send_obeyed w a b c answer live outcome does = send_one w a b (obeyed c answer live) (c ∷ []) does (one_sent (record { command = c; outcome = answer }) (is_outcome answer) outcome)
+
+send_by : {R : Type 0} (w : Showing R) (a b : R) (s : Sent) (outcome : Bool) (call : Call) → call.sent ≡ cond outcome (s ∷ []) [] → Does w a call b → CallsSendEither w a [] (s.command ∷ []) b
+send_by w a b s true call is does = inr (send_one w a b call (s.command ∷ []) does (ap commands_in (sym is)))
+send_by w a b s false call is does = inl (send_one w a b call [] does (ap commands_in (sym is)))
+
+-- or in any way
+pub send_asked : {R : Type 0} (w : Showing R) (a b : R) (c : Asked) (answer : Result Reply Refusal) (live : Bool) → Does w a (obeyed c answer live) b → CallsSendEither w a [] (c ∷ []) b
+send_asked w a b c answer live does = send_by w a b (record { command = c; outcome = answer }) (is_outcome answer) (obeyed c answer live) refl does

@@ -1,0 +1,152 @@
+-- Why an answer to a line stops a script.
+use mathlib.Core.Bool.{true≢false}
+use Rattle.std.proofs.Common.{◌≡◌, ◌≢◌, ℕ, ◌+◌, true, false, List, ◌++◌, Option, Some, None, Result, Ok, Err, refl, sym, ap, ◌∙◌, subst, inl, inr}
+use Rattle.std.specs.Prelude.{◌⊎◌, IsErrAnd, codes}
+use Rattle.pid_lookup.specs.declared.answer.Answer.{Answer}
+use Rattle.pid_lookup.specs.declared.answering.LookupRefusal.{LookupRefusal}
+use Rattle.pid_lookup.specs.declared.answering.LookupRefusal.TheVariants as look_ups
+use Rattle.pid_tree.specs.Printing.{print}
+use Rattle.pid_moderation.specs.declared.command.Reply.{Reply}
+use Rattle.pid_moderation.specs.declared.refusal.Refusal.{Refusal}
+use Rattle.pid_moderation.specs.declared.refusal.Refusal.TheVariants.{BadPath, BadName, BadText, NoAccount, RankTooLow, NoSubmission, NotPending, NotAuthor, OwnDecision, ParentMissing, HasChildren, NothingToDo, FileFault, Full, Memory, Store, Failed}
+use Rattle.pid_moderation.specs.declared.verb.Verb.{Verb}
+use Rattle.pid_moderation.specs.CheckTables.{first_failing}
+use Rattle.pid_moderation.specs.Fields.{value, text_at}
+use Rattle.pid_moderation.specs.Forms.{form_checks, command_said}
+use Rattle.pid_ident.specs.PathReading.{path_of}
+use Rattle.pid_fields.specs.FormFields.{fields_in}
+use Rattle.pid_moderation.specs.History.{History}
+use Rattle.pid_moderation.specs.Writes.{tree_of}
+use Rattle.pid_moderation.specs.Faults.{IsFault}
+use Rattle.pid_script.specs.declared.line_end.LineEnd.{LineEnd}
+use Rattle.pid_script.specs.declared.line_end.LineEnd.TheVariants.{Stopped, WriteFault, TooLong}
+use Rattle.pid_script.specs.declared.moderated.Moderated.{Ghosts}
+use Rattle.pid_script.specs.Asking.{command_asked, path_asked, other_fields, refused_or, path_checks}
+use Rattle.pid_script.specs.Exporting.{Exports}
+use Rattle.pid_script.specs.LookingUp.{LooksUp}
+use Rattle.pid_script.specs.Replies.{is_call}
+use Rattle.pid_script.specs.Saying.{Out, IsGiven, IsNothing, Tells, refusal_in, refusal_of_names, GoesOn}
+use Rattle.pid_script.specs.ScriptLines as lines
+use Rattle.pid_script.specs.ScriptLines.{Ask}
+use Rattle.pid_script.specs.StopLines.{is_stop, IsBegun, IsCause, IsStopText}
+use Rattle.pid_script.proofs.NoStops.{none_stops, no_form_stops}
+
+-- a text of a stop by weaker words
+recast_text : (C D : Refusal → Type 0) (B E : List ℕ → Type 0) (text : List ℕ) → ((e : Refusal) → C e → D e) → ((b : List ℕ) → B b → E b) → IsStopText C B text → IsStopText D E text
+recast_text C D B E text c b s = record { begun = s.begun; front = b s.begun s.front; refusal = s.refusal; cause = c s.refusal s.cause; is = s.is }
+
+recast_part : (C D : Refusal → Type 0) (B E : List ℕ → Type 0) (reply text : List ℕ) → ((e : Refusal) → C e → D e) → ((b : List ℕ) → B b → E b) → (text ≡ reply) ⊎ IsStopText C B text → (text ≡ reply) ⊎ IsStopText D E text
+recast_part C D B E reply text c b (inl is) = inl is
+recast_part C D B E reply text c b (inr s) = inr (recast_text C D B E text c b s)
+
+pub recast : (C D : Refusal → Type 0) (B E : List ℕ → Type 0) (r : Result (Unit {0}) LineEnd) (reply : List ℕ) (old new : Out) → ((e : Refusal) → C e → D e) → ((b : List ℕ) → B b → E b) → Tells C B r reply old new → Tells D E r reply old new
+recast C D B E (Ok x) reply old new c b t = t
+recast C D B E (Err Stopped) reply old new c b t = record { text = t.text; stop = recast_text C D B E t.text c b t.stop; told = t.told }
+recast C D B E (Err WriteFault) reply old new c b t = record { text = t.text; is = recast_part C D B E reply t.text c b t.is; front = t.front }
+recast C D B E (Err TooLong) reply old new c b t = t
+
+-- nothing is begun of any reply
+pub none_begun : (ask : Ask) (h : History) (b : List ℕ) → IsNothing b → IsBegun ask h b
+none_begun lines.Nothing h b none = none
+none_begun (lines.Commands verb account fields) h b none = none
+none_begun lines.Exports h b none = record { behind = print (tree_of h); is = sym (ap (λ (l : List ℕ). l ++ print (tree_of h)) none); whole = rw none refl }
+none_begun (lines.Reads fields) h b none = none
+none_begun (lines.LooksUp fields) h b none = none
+none_begun lines.Unclear h b none = none
+none_begun lines.TooLong h b none = none
+
+-- a fault is a stop
+pub faults_stop : (e : Refusal) → IsFault e → is_stop e ≡ true
+faults_stop e (inl m) = ap is_stop m
+faults_stop e (inr s) = ap is_stop s
+
+-- what is no stop is no want of memory
+pub no_memory : (e : Refusal) → is_stop e ≡ false → e ≢ Memory
+no_memory e h m = true≢false (sym (ap is_stop m) ∙ h)
+
+pub fault_in : (answer : Result Reply Refusal) (e : Refusal) → IsErrAnd answer IsFault → answer ≡ Err e → IsFault e
+fault_in (Ok reply) e f is = absurd f
+fault_in (Err g) e f is = let same : g ≡ e = cc in subst IsFault same f
+
+pub err_in : {X : Type 0} (answer : Result X Refusal) (e : Refusal) → refusal_in answer ≡ Some e → answer ≡ Err e
+err_in (Ok x) e is = absurd cc
+err_in (Err f) e is = let same : f ≡ e = cc in ap Err same
+
+-- memory is short, whatever is asked
+pub short_cause : {R : Type 0} (m : Ghosts R) (r : R) (h : History) (ask : Ask) (e : Refusal) → e ≡ Memory → IsCause m r h ask e
+short_cause m r h ask e memory = record { live = λ s. inl memory; failed = λ f. inr memory; unasked = λ off. memory }
+
+pub failed_goes : (x : Unit {0}) (given : Option Refusal) → given ≡ Some Failed → GoesOn (Ok x) given → ⊥
+failed_goes x None is goes = absurd cc
+failed_goes x (Some e) is goes = let same : e ≡ Failed = cc in true≢false (sym (ap is_stop same) ∙ goes)
+
+-- want of memory alone
+pub own_cause : {R : Type 0} (m : Ghosts R) (r : R) (h : History) (ask : Ask) (e : Refusal) → IsGiven None e → IsCause m r h ask e
+own_cause m r h ask e (inl memory) = short_cause m r h ask e memory
+own_cause m r h ask e (inr given) = let none : None ≡ Some e = given.0 in absurd cc
+
+pub is_memory : (e : Refusal) → (e ≡ Memory) ⊎ (e ≢ Memory)
+is_memory BadPath = inr (λ e. cc)
+is_memory BadName = inr (λ e. cc)
+is_memory BadText = inr (λ e. cc)
+is_memory NoAccount = inr (λ e. cc)
+is_memory RankTooLow = inr (λ e. cc)
+is_memory NoSubmission = inr (λ e. cc)
+is_memory NotPending = inr (λ e. cc)
+is_memory NotAuthor = inr (λ e. cc)
+is_memory OwnDecision = inr (λ e. cc)
+is_memory ParentMissing = inr (λ e. cc)
+is_memory HasChildren = inr (λ e. cc)
+is_memory NothingToDo = inr (λ e. cc)
+is_memory (FileFault fault) = inr (λ e. cc)
+is_memory Full = inr (λ e. cc)
+is_memory Memory = inl refl
+is_memory Store = inr (λ e. cc)
+is_memory Failed = inr (λ e. cc)
+
+-- the refusal of a form, or want of memory for it
+pub form_cause : {R X : Type 0} (m : Ghosts R) (said : Result X Refusal) (r : R) (h : History) (ask : Ask) (e : Refusal) → (e ≢ Memory → said ≡ Err e) → ((g : Refusal) → said ≡ Err g → is_stop g ≡ false) → (f : Refusal) → IsGiven (Some e) f → IsCause m r h ask f
+form_cause m said r h ask e told none f (inl memory) = short_cause m r h ask f memory
+form_cause m said r h ask e told none f (inr given) = by (is_memory e)
+  where
+    equal : e ≡ f
+    equal = cc given.0
+
+    by : (e ≡ Memory) ⊎ (e ≢ Memory) → IsCause m r h ask f
+    by (inl memory) = short_cause m r h ask f (sym equal ∙ memory)
+    by (inr other) = absurd (true≢false (sym given.1 ∙ (ap is_stop (sym equal) ∙ none e (told other))))
+
+refused_no_stop : {X : Type 0} (failing : Option Refusal) (said : Option X) → ((e : Refusal) → failing ≡ Some e → is_stop e ≡ false) → (g : Refusal) → refused_or failing said ≡ Err g → is_stop g ≡ false
+refused_no_stop (Some e) said none g is = let same : e ≡ g = cc in sym (ap is_stop same) ∙ none e refl
+refused_no_stop None None none g is = let same : BadText ≡ g = cc in sym (ap is_stop same)
+refused_no_stop None (Some x) none g is = absurd cc
+
+pub command_no_stop : (verb : Verb) (account form : List ℕ) (g : Refusal) → command_asked verb account form ≡ Err g → is_stop g ≡ false
+unfolding command_asked
+command_no_stop verb account form g is =
+    let fields = fields_in form in
+    refused_no_stop (first_failing (form_checks verb account (value (codes "key") fields) (other_fields fields))) (command_said verb account (value (codes "key") fields) (other_fields fields))
+    (none_stops (form_checks verb account (value (codes "key") fields) (other_fields fields)) (no_form_stops verb account (value (codes "key") fields) (other_fields fields))) g is
+
+pub path_no_stop : (form : List ℕ) (g : Refusal) → path_asked form ≡ Err g → is_stop g ≡ false
+unfolding path_asked
+path_no_stop form g is = refused_no_stop (first_failing (path_checks (fields_in form))) (path_of (text_at (codes "path") (fields_in form))) (none_stops (path_checks (fields_in form)) (refl, (refl, tt))) g is
+
+-- the causes of what a question is answered
+pub fault_cause : {R X : Type 0} (m : Ghosts R) (answer : Result X Refusal) (r : R) (h : History) (ask : Ask) → is_call ask ≡ true → (m.showing.shows r h → (e : Refusal) → answer ≡ Err e → IsFault e) → (m.has_failed r → answer ≡ Err Failed) → (e : Refusal) → IsGiven (refusal_in answer) e → IsCause m r h ask e
+fault_cause m answer r h ask called live failed e (inl memory) = short_cause m r h ask e memory
+fault_cause m answer r h ask called live failed e (inr given) = record { live = λ s. live s e (err_in answer e given.0); failed = λ f. inl (let same : Err e ≡ Err Failed = sym (err_in answer e given.0) ∙ failed f in cc); unasked = λ off. absurd (true≢false (sym called ∙ off)) }
+
+names_in : (found : Result Answer (LookupRefusal Refusal)) (e : Refusal) → refusal_of_names found ≡ Some e → (e ≡ Memory) ⊎ (found ≡ Err (look_ups.Names e))
+names_in (Ok text) e is = absurd cc
+names_in (Err look_ups.BadFlags) e is = absurd cc
+names_in (Err (look_ups.Names f)) e is = inr (let same : f ≡ e = cc in ap (λ g. Err (look_ups.Names g)) same)
+names_in (Err look_ups.Memory) e is = inl (let same : Memory ≡ e = cc in sym same)
+
+pub names_cause : {R : Type 0} (m : Ghosts R) (found : Result Answer (LookupRefusal Refusal)) (r : R) (h : History) (ask : Ask) → is_call ask ≡ true → (m.showing.shows r h → (e : Refusal) → found ≡ Err (look_ups.Names e) → IsFault e) → (m.has_failed r → found ≡ Err (look_ups.Names Failed)) → (e : Refusal) → IsGiven (refusal_of_names found) e → IsCause m r h ask e
+names_cause m found r h ask called live failed e (inl memory) = short_cause m r h ask e memory
+names_cause m found r h ask called live failed e (inr given) = by (names_in found e given.0)
+  where
+    by : (e ≡ Memory) ⊎ (found ≡ Err (look_ups.Names e)) → IsCause m r h ask e
+    by (inl memory) = short_cause m r h ask e memory
+    by (inr is) = record { live = λ s. live s e is; failed = λ f. inl (let same : Err (look_ups.Names e) ≡ Err (look_ups.Names Failed) = sym is ∙ failed f in cc); unasked = λ off. absurd (true≢false (sym called ∙ off)) }

@@ -1,0 +1,151 @@
+-- The answer to an export.
+use mathlib.Core.Bool.{true≢false}
+use Rattle.std.proofs.Common.{◌≡◌, ◌≢◌, ℕ, ◌+◌, true, false, List, [], ◌++◌, Option, Some, Result, Ok, Err, refl, sym, ap, ◌∙◌, subst, inl, inr}
+use Rattle.std.specs.Io.KnownBytes.{Appends}
+use Rattle.std.specs.Prelude.{◌⊎◌, IsErrOf}
+use Rattle.pid_ident.specs.Sending.{SendsFront}
+use Rattle.pid_ident.specs.declared.io.WriteFault.{WriteFault as OutputFault}
+use Rattle.pid_tree.specs.Printing.{print}
+use Rattle.pid_moderation.specs.declared.refusal.Refusal.{Refusal}
+use Rattle.pid_moderation.specs.declared.refusal.Refusal.TheVariants.{Failed}
+use Rattle.pid_moderation.specs.History.{History}
+use Rattle.pid_moderation.specs.ReplyLines.{refused_line}
+use Rattle.pid_moderation.specs.Writes.{tree_of}
+use Rattle.pid_service.specs.declared.exporting.ExportFault.{ExportFault}
+use Rattle.pid_service.specs.declared.exporting.ExportFault.TheVariants.{Refused, Write}
+use Rattle.pid_moderation.specs.Faults.{IsFault}
+use Rattle.pid_lives.specs.Calls.{nothing_sent}
+use Rattle.pid_lives.specs.Registries.{Does}
+use Rattle.pid_script.specs.declared.line_end.LineEnd.{LineEnd}
+use Rattle.pid_script.specs.declared.line_end.LineEnd.TheVariants.{Stopped, WriteFault, TooLong}
+use Rattle.pid_script.specs.declared.moderated.Moderated.{Ghosts}
+use Rattle.pid_script.specs.Exporting.{Exports, TakesWholeFront}
+use Rattle.pid_script.specs.Saying.{out, IsGiven, IsNothing, Tells, IsAnswer, GoesOn, LineEnds}
+use Rattle.pid_script.specs.ScriptLines as lines
+use Rattle.pid_script.specs.Standing.{Stands}
+use Rattle.pid_script.specs.StopLines.{is_stop, IsCause, IsStopText}
+use Rattle.pid_script.specs.WholeFronts.{IsWholeFront}
+use Rattle.pid_script.proofs.Calling.{send_still, send_none}
+use Rattle.pid_script.proofs.SayLemmas.{Appends-nil, Appends-then, front-then, front-before, out_then}
+use Rattle.pid_script.proofs.Causes.{faults_stop, short_cause}
+
+-- what was held did not go out before an export
+pub export_unheld : {R : Type 0} (m : Ghosts R) (e : LineEnd) (h : History) (r : R) (a b : Option (List ℕ)) (was left : List ℕ) → e ≡ WriteFault → SendsFront a b was → LineEnds m (Err e) lines.Exports h r (out a was) r (out b left)
+export_unheld m e h r a b was left is front = subst (λ x. LineEnds m (Err x) lines.Exports h r (out a was) r (out b left)) (sym is) (record {
+  tells = record { text = print (tree_of h); is = inl refl; front = front-before a b was (print (tree_of h)) front };
+  leaves = record { shows = λ s. inl s; failed = λ _. refl };
+  sends = inl (send_still m.showing r);
+})
+
+-- the whole text went out
+pub export_whole : {R : Type 0} (m : Ghosts R) (x : Unit {0}) (h : History) (r new : R) (a b c : Option (List ℕ)) (was left : List ℕ) → Appends a b was → left ≡ [] → (m.showing.shows r h → Appends b c (print (tree_of h))) → (m.showing.shows r h → m.showing.shows new h) → (m.has_failed r → ⊥) → Does m.showing r nothing_sent new → Stands m r h
+    → LineEnds m (Ok x) lines.Exports h r (out a was) new (out c left)
+export_whole m x h r new a b c was left went none told kept failed does stands = record {
+  tells = out_then a b c was left (print (tree_of h)) none went (by stands);
+  leaves = record { becomes = record { shows = kept; failed = λ f. absurd (failed f) }; lives = λ f. absurd (failed f); flushed = inr none; fits = λ e. cc };
+  sends = send_none m.showing r new does;
+}
+  where
+    by : Stands m r h → Appends b c (print (tree_of h))
+    by (inl s) = told s
+    by (inr f) = absurd (failed f)
+
+-- the writer failed within the text
+pub export_broken : {R : Type 0} (m : Ghosts R) (h : History) (r new : R) (a b c : Option (List ℕ)) (was left : List ℕ) → Appends a b was → (m.showing.shows r h → SendsFront b c (print (tree_of h))) → (m.showing.shows r h → m.showing.shows new h) → (m.has_failed r → ⊥) → Does m.showing r nothing_sent new → Stands m r h
+    → LineEnds m (Err WriteFault) lines.Exports h r (out a was) new (out c left)
+export_broken m h r new a b c was left went told kept failed does stands = record {
+  tells = record { text = print (tree_of h); is = inl refl; front = front-then a b c was (print (tree_of h)) went (by stands) };
+  leaves = record { shows = λ s. inl (kept s); failed = λ f. absurd (failed f) };
+  sends = inl (send_none m.showing r new does);
+}
+  where
+    by : Stands m r h → SendsFront b c (print (tree_of h))
+    by (inl s) = told s
+    by (inr f) = absurd (failed f)
+
+-- what an export told, by the fault
+pub write_told : (f : ExportFault) (w : OutputFault) (a b : Option (List ℕ)) (text : List ℕ) → f ≡ Write w → Exports {X = Unit {0}} (Err f) a b text → SendsFront a b text
+write_told f w a b text is told = subst (λ g. Exports {X = Unit {0}} (Err g) a b text) is told
+
+pub refused_told : (f : ExportFault) (e : Refusal) (a b : Option (List ℕ)) (text : List ℕ) → f ≡ Refused e → Exports {X = Unit {0}} (Err f) a b text → IsFault e × TakesWholeFront a b text
+refused_told f e a b text is told = subst (λ g. Exports {X = Unit {0}} (Err g) a b text) is told
+
+fault_of : {X : Type 0} → Result X ExportFault → ExportFault → ExportFault
+fault_of (Ok x) other = other
+fault_of (Err f) other = f
+
+pub fault_same : {X : Type 0} (f g : ExportFault) → IsErrOf {T = X} (Err f) g → f ≡ g
+unfolding fault_of
+fault_same {X} f g is = ap (λ (r : Result X ExportFault). fault_of r g) is
+
+pub not_write : (f : ExportFault) (w : OutputFault) (e : Refusal) → f ≡ Write w → f ≡ Refused e → ⊥
+not_write f w e is other = let bad : Write w ≡ Refused e = sym is ∙ other in absurd cc
+
+pub which_refusal : (f : ExportFault) (e g : Refusal) → f ≡ Refused e → f ≡ Refused g → e ≡ g
+which_refusal f e g is other = let same : Refused e ≡ Refused g = sym is ∙ other in cc
+
+-- an export was refused, behind whole lines of the text
+record BegunExport (a b : Option (List ℕ)) (text : List ℕ) : Type 0 where
+  pub front : List ℕ
+  pub whole : IsWholeFront text front
+  pub told : Appends a b front
+
+behind_begun : {R : Type 0} (m : Ghosts R) (result : Result (Unit {0}) LineEnd) (e : Refusal) (h : History) (r new : R) (a b c d : Option (List ℕ)) (was now left : List ℕ)
+    → Appends a b was → now ≡ [] → BegunExport b c (print (tree_of h)) → ((f : Refusal) → IsGiven (Some e) f → IsCause m r h lines.Exports f) → is_stop e ≡ true → (m.showing.shows r h → m.showing.shows new h) → (m.has_failed r → new ≡ r)
+    → Tells (IsGiven (Some e)) IsNothing result (refused_line e) (out c now) (out d left) → GoesOn result (Some e) → (result ≡ Err TooLong → ⊥) → Does m.showing r nothing_sent new
+    → LineEnds m result lines.Exports h r (out a was) new (out d left)
+behind_begun m (Ok x) e h r new a b c d was now left went none begun cause stop kept failed t goes fits does = absurd (true≢false (sym stop ∙ goes))
+behind_begun m (Err Stopped) e h r new a b c d was now left went none begun cause stop kept failed t goes fits does = record {
+  tells = record {
+    text = begun.front ++ t.text;
+    stop = record {
+      begun = begun.front;
+      front = begun.whole;
+      refusal = t.stop.refusal;
+      cause = cause t.stop.refusal t.stop.cause;
+      is = ap (λ (l : List ℕ). begun.front ++ l) (t.stop.is ∙ ap (λ (l : List ℕ). l ++ refused_line t.stop.refusal) t.stop.front);
+    };
+    told = Appends-then a b d was (begun.front ++ t.text) went (Appends-then b c d begun.front t.text begun.told (subst (λ (l : List ℕ). Appends c d (l ++ t.text)) none t.told));
+  };
+  leaves = record { shows = λ s. inl (kept s); failed = failed };
+  sends = inl (send_none m.showing r new does);
+}
+behind_begun m (Err WriteFault) e h r new a b c d was now left went none begun cause stop kept failed t goes fits does = record {
+  tells = record {
+    text = begun.front ++ t.text;
+    is = inr (by t.is);
+    front = front-then a b d was (begun.front ++ t.text) went (front-then b c d begun.front t.text begun.told (subst (λ (l : List ℕ). SendsFront c d (l ++ t.text)) none t.front));
+  };
+  leaves = record { shows = λ s. inl (kept s); failed = failed };
+  sends = inl (send_none m.showing r new does);
+}
+  where
+    by : (t.text ≡ refused_line e) ⊎ IsStopText (IsGiven (Some e)) IsNothing t.text → IsStopText (IsCause m r h lines.Exports) (λ b. IsWholeFront (print (tree_of h)) b) (begun.front ++ t.text)
+    by (inl is) = record { begun = begun.front; front = begun.whole; refusal = e; cause = cause e (inr (refl, stop)); is = ap (λ (l : List ℕ). begun.front ++ l) is }
+    by (inr s) = record {
+      begun = begun.front;
+      front = begun.whole;
+      refusal = s.refusal;
+      cause = cause s.refusal s.cause;
+      is = ap (λ (l : List ℕ). begun.front ++ l) (s.is ∙ ap (λ (l : List ℕ). l ++ refused_line s.refusal) s.front);
+    }
+behind_begun m (Err TooLong) e h r new a b c d was now left went none begun cause stop kept failed t goes fits does = absurd (fits refl)
+
+pub export_refused : {R : Type 0} (m : Ghosts R) (result : Result (Unit {0}) LineEnd) (e : Refusal) (h : History) (r new : R) (a b c d : Option (List ℕ)) (was now left : List ℕ)
+    → Appends a b was → now ≡ [] → (m.showing.shows r h → IsFault e × TakesWholeFront b c (print (tree_of h))) → (m.has_failed r → (e ≡ Failed) × (new ≡ r) × (c ≡ b)) → (m.showing.shows r h → m.showing.shows new h) → Stands m r h
+    → ((reply : List ℕ) → IsAnswer reply (Err e) → Tells (IsGiven (Some e)) IsNothing result reply (out c now) (out d left)) → GoesOn result (Some e) → (result ≡ Err TooLong → ⊥) → Does m.showing r nothing_sent new
+    → LineEnds m result lines.Exports h r (out a was) new (out d left)
+export_refused m result e h r new a b c d was now left went none told failed kept stands sends goes fits does =
+    behind_begun m result e h r new a b c d was now left went none (by stands) cause (stops stands) kept (λ f. (failed f).1) (sends (refused_line e) (inl refl)) goes fits does
+  where
+    by : Stands m r h → BegunExport b c (print (tree_of h))
+    by (inl s) = record { front = (told s).1.front; whole = (told s).1.whole; told = (told s).1.told }
+    by (inr f) = record { front = []; whole = record { behind = print (tree_of h); is = refl; whole = refl }; told = subst (λ x. Appends b x []) (sym (failed f).2) (Appends-nil b) }
+
+    stops : Stands m r h → is_stop e ≡ true
+    stops (inl s) = faults_stop e (told s).0
+    stops (inr f) = ap is_stop (failed f).0
+
+    cause : (f : Refusal) → IsGiven (Some e) f → IsCause m r h lines.Exports f
+    cause f (inl memory) = short_cause m r h lines.Exports f memory
+    cause f (inr given) = record { live = λ s. (let same : e ≡ f = cc given.0 in subst IsFault same (told s).0); failed = λ g. inl (let same : e ≡ f = cc given.0 in sym same ∙ (failed g).0); unasked = λ off. absurd (true≢false off) }

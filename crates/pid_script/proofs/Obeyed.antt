@@ -1,0 +1,134 @@
+-- The answer to a command.
+use mathlib.Core.Bool.{true≢false}
+use Rattle.std.proofs.Common.{◌≡◌, ◌≢◌, Bool, ℕ, true, false, List, [], Result, Ok, Err, refl, sym, ap, ◌∙◌, subst, inl, inr}
+use Rattle.std.specs.Prelude.{◌⊎◌, is_ok, OnOk}
+use Rattle.pid_moderation.specs.declared.command.Command.{Command}
+use Rattle.pid_moderation.specs.declared.command.Reply.{Reply}
+use Rattle.pid_moderation.specs.declared.refusal.Refusal.{Refusal}
+use Rattle.pid_moderation.specs.declared.refusal.Refusal.TheVariants.{BadPath, BadName, BadText, NoAccount, RankTooLow, NoSubmission, NotPending, NotAuthor, OwnDecision, ParentMissing, HasChildren, NothingToDo, FileFault, Full, Memory, Store, Failed}
+use Rattle.pid_moderation.specs.declared.verb.Verb.{Verb}
+use Rattle.pid_moderation.specs.History.{History}
+use Rattle.pid_moderation.specs.Judgement.{after, after_all, judge}
+use Rattle.pid_moderation.specs.Judgement as judgement
+use Rattle.pid_moderation.specs.ReplyLines.{reply_text}
+use Rattle.pid_moderation.specs.Views.{views_of}
+use Rattle.pid_import.specs.Files.{asks}
+use Rattle.pid_moderation.specs.Faults.{IsFault}
+use Rattle.pid_lives.specs.Calls as lives
+use Rattle.pid_lives.specs.Outcomes.{is_outcome}
+use Rattle.pid_lives.specs.Registries.{CommandLeaves, Does}
+use Rattle.pid_script.specs.declared.line_end.LineEnd.{LineEnd}
+use Rattle.pid_script.specs.declared.line_end.LineEnd.TheVariants.{Stopped, WriteFault, TooLong}
+use Rattle.pid_script.specs.declared.moderated.Moderated.{Ghosts}
+use Rattle.pid_script.specs.Asking.{command_asked}
+use Rattle.pid_script.specs.Calling.{CallsSend, CallsSendEither}
+use Rattle.pid_script.specs.Replies.{those_sent, outcome_of, is_call}
+use Rattle.pid_script.specs.Saying.{Out, IsGiven, IsNothing, Tells, IsAnswer, refusal_in, GoesOn, Leaves, Sends, LineEnds}
+use Rattle.pid_script.specs.ScriptLines as lines
+use Rattle.pid_script.specs.ScriptLines.{Ask}
+use Rattle.pid_script.specs.Standing.{Stands}
+use Rattle.pid_script.specs.StopLines.{is_stop, IsBegun, IsCause}
+use Rattle.pid_script.proofs.Calling.{send_obeyed, send_asked}
+use Rattle.pid_script.proofs.NoStops.{judged_no_stop}
+use Rattle.pid_script.proofs.Causes.{recast, faults_stop, fault_in, err_in, short_cause, failed_goes}
+
+-- why an answer stops
+obey_cause : {R : Type 0} (m : Ghosts R) (answer : Result Reply Refusal) (c : Command) (ask : Ask) (h : History) (r new : R) → is_call ask ≡ true
+    → (m.showing.shows r h → CommandLeaves m.showing answer new h (asks c)) → (m.has_failed r → answer ≡ Err Failed)
+    → (e : Refusal) → IsGiven (refusal_in answer) e → IsCause m r h ask e
+obey_cause m answer c ask h r new called obeys failed e (inl memory) = short_cause m r h ask e memory
+obey_cause m answer c ask h r new called obeys failed e (inr given) = record { live = λ s. by (obeys s); failed = λ f. inl (let same : Err e ≡ Err Failed = sym (err_in answer e given.0) ∙ failed f in cc); unasked = λ off. absurd (true≢false (sym called ∙ off)) }
+  where
+    by : CommandLeaves m.showing answer new h (asks c) → IsFault e
+    by (inl judged) = absurd (true≢false (sym given.1 ∙ judged_no_stop (views_of h) (asks c) e (sym judged.0 ∙ err_in answer e given.0)))
+    by (inr fault) = fault_in answer e fault.0 (err_in answer e given.0)
+
+obey_answer : {R : Type 0} (m : Ghosts R) (answer : Result Reply Refusal) (c : Command) (h : History) (r new : R)
+    → (m.showing.shows r h → CommandLeaves m.showing answer new h (asks c)) → (m.has_failed r → answer ≡ Err Failed)
+    → Stands m r h → IsAnswer (reply_text (judgement.answer (judge (views_of h) (asks c)))) answer
+obey_answer m answer c h r new obeys failed (inr f) = inr (Failed, refl, failed f)
+obey_answer m answer c h r new obeys failed (inl s) = by answer (obeys s)
+  where
+    by : (a : Result Reply Refusal) → CommandLeaves m.showing a new h (asks c) → IsAnswer (reply_text (judgement.answer (judge (views_of h) (asks c)))) a
+    by a (inl judged) = inl (ap reply_text judged.0)
+    by (Ok reply) (inr fault) = absurd fault.0
+    by (Err e) (inr fault) = inr (e, faults_stop e fault.0, refl)
+
+obey_shows : {R : Type 0} (m : Ghosts R) (x : Unit {0}) (answer : Result Reply Refusal) (c : Command) (h : History) (new : R) → GoesOn (Ok x) (refusal_in answer) → CommandLeaves m.showing answer new h (asks c) → m.showing.shows new (after h (asks c))
+obey_shows m x answer c h new goes (inl judged) = judged.1
+obey_shows m x (Ok reply) c h new goes (inr fault) = absurd fault.0
+obey_shows m x (Err e) c h new goes (inr fault) = absurd (true≢false (sym (faults_stop e fault.0) ∙ goes))
+
+obey_either : {R : Type 0} (m : Ghosts R) (answer : Result Reply Refusal) (c : Command) (h : History) (new : R) → CommandLeaves m.showing answer new h (asks c) → m.showing.shows new h ⊎ (m.showing.shows new (after h (asks c)) ⊎ m.showing.fails_between new h (after h (asks c)))
+obey_either m answer c h new (inl judged) = inr (inl judged.1)
+obey_either m answer c h new (inr (f, inl same)) = inl same
+obey_either m answer c h new (inr (f, inr between)) = inr (inr between)
+
+-- what goes on was judged
+goes_judged : (e : Refusal) → is_stop e ≡ false → is_outcome (Err e) ≡ true
+goes_judged BadPath goes = refl
+goes_judged BadName goes = refl
+goes_judged BadText goes = refl
+goes_judged NoAccount goes = refl
+goes_judged RankTooLow goes = refl
+goes_judged NoSubmission goes = refl
+goes_judged NotPending goes = refl
+goes_judged NotAuthor goes = refl
+goes_judged OwnDecision goes = refl
+goes_judged ParentMissing goes = refl
+goes_judged HasChildren goes = refl
+goes_judged NothingToDo goes = refl
+goes_judged (FileFault fault) goes = refl
+goes_judged Full goes = refl
+goes_judged Memory goes = absurd cc
+goes_judged Store goes = absurd cc
+goes_judged Failed goes = absurd cc
+
+goes_outcome : (x : Unit {0}) (answer : Result Reply Refusal) → GoesOn (Ok x) (refusal_in answer) → is_outcome answer ≡ true
+goes_outcome x (Ok reply) goes = refl
+goes_outcome x (Err e) goes = goes_judged e goes
+
+obey_sends : {R : Type 0} (m : Ghosts R) (result : Result (Unit {0}) LineEnd) (answer : Result Reply Refusal) (c : Command) (verb : Verb) (account form : List ℕ) (r new : R)
+    → command_asked verb account form ≡ Ok c → (live : Bool) × Does m.showing r (lives.obeyed (asks c) answer live) new
+    → GoesOn result (refusal_in answer) → (result ≡ Err TooLong → ⊥) → Sends m result r new (lines.Commands verb account form)
+obey_sends m (Ok x) answer c verb account form r new is call goes fits = subst (λ a. CallsSend m.showing r (those_sent a) new) (sym is) (send_obeyed m.showing r new (asks c) answer call.0 (goes_outcome x answer goes) call.1)
+obey_sends m (Err Stopped) answer c verb account form r new is call goes fits = subst (λ a. CallsSendEither m.showing r [] (those_sent a) new) (sym is) (send_asked m.showing r new (asks c) answer call.0 call.1)
+obey_sends m (Err WriteFault) answer c verb account form r new is call goes fits = subst (λ a. CallsSendEither m.showing r [] (those_sent a) new) (sym is) (send_asked m.showing r new (asks c) answer call.0 call.1)
+obey_sends m (Err TooLong) answer c verb account form r new is call goes fits = absurd (fits refl)
+
+obey_leaves : {R : Type 0} (m : Ghosts R) (result : Result (Unit {0}) LineEnd) (answer : Result Reply Refusal) (c : Command) (asked : Result Command Refusal) (verb : Verb) (account form : List ℕ) (h : History) (r new : R) (left : Out)
+    → command_asked verb account form ≡ Ok c
+    → (m.showing.shows r h → CommandLeaves m.showing answer new h (asks c)) → (m.has_failed r → (answer ≡ Err Failed) × (new ≡ r))
+    → GoesOn result (refusal_in answer) → OnOk result (left.held ≡ []) → (result ≡ Err TooLong → ⊥)
+    → Leaves m result r h new (lines.Commands verb account form) left
+obey_leaves m (Ok x) answer c asked verb account form h r new left is obeys failed goes empty fits = record {
+  becomes = record { shows = λ s. subst (λ a. m.showing.shows new (after_all h (those_sent a))) (sym is) (obey_shows m x answer c h new goes (obeys s)); failed = λ f. (failed f).1 };
+  lives = λ f. absurd (failed_goes x (refusal_in answer) (ap refusal_in (failed f).0) goes);
+  flushed = inr empty;
+  fits = λ e. cc;
+}
+obey_leaves m (Err Stopped) answer c asked verb account form h r new left is obeys failed goes empty fits = record {
+  shows = λ s. subst (λ a. m.showing.shows new h ⊎ (m.showing.shows new (after_all h (those_sent a)) ⊎ m.showing.fails_between new h (after_all h (those_sent a)))) (sym is) (obey_either m answer c h new (obeys s));
+  failed = λ f. (failed f).1;
+}
+obey_leaves m (Err WriteFault) answer c asked verb account form h r new left is obeys failed goes empty fits = record {
+  shows = λ s. subst (λ a. m.showing.shows new h ⊎ (m.showing.shows new (after_all h (those_sent a)) ⊎ m.showing.fails_between new h (after_all h (those_sent a)))) (sym is) (obey_either m answer c h new (obeys s));
+  failed = λ f. (failed f).1;
+}
+obey_leaves m (Err TooLong) answer c asked verb account form h r new left is obeys failed goes empty fits = absurd (fits refl)
+
+-- a command was obeyed
+pub obeyed : {R : Type 0} (m : Ghosts R) (result : Result (Unit {0}) LineEnd) (answer : Result Reply Refusal) (c : Command) (verb : Verb) (account form : List ℕ) (h : History) (r new : R) (old left : Out)
+    → command_asked verb account form ≡ Ok c
+    → (m.showing.shows r h → CommandLeaves m.showing answer new h (asks c)) → (m.has_failed r → (answer ≡ Err Failed) × (new ≡ r))
+    → ((reply : List ℕ) → IsAnswer reply answer → Tells (IsGiven (refusal_in answer)) IsNothing result reply old left)
+    → GoesOn result (refusal_in answer) → OnOk result (left.held ≡ []) → (result ≡ Err TooLong → ⊥)
+    → (live : Bool) × Does m.showing r (lives.obeyed (asks c) answer live) new
+    → Stands m r h → LineEnds m result (lines.Commands verb account form) h r old new left
+obeyed m result answer c verb account form h r new old left is obeys failed told goes empty fits call stands = record {
+  tells = recast (IsGiven (refusal_in answer)) (IsCause m r h (lines.Commands verb account form)) IsNothing (IsBegun (lines.Commands verb account form) h) result (outcome_of (command_asked verb account form) h) old left
+      (obey_cause m answer c (lines.Commands verb account form) h r new (ap is_ok is) obeys (λ f. (failed f).0)) (λ b none. none)
+      (subst (λ a. Tells (IsGiven (refusal_in answer)) IsNothing result (outcome_of a h) old left) (sym is) (told _ (obey_answer m answer c h r new obeys (λ f. (failed f).0) stands)));
+  leaves = obey_leaves m result answer c (command_asked verb account form) verb account form h r new left is obeys failed goes empty fits;
+  sends = obey_sends m result answer c verb account form r new is call goes fits;
+}

@@ -1,0 +1,23 @@
+-- The calls that a script makes of a registry, as lives tell them: choices of this project.
+use Rattle.std.specs.Prelude.{◌≡◌, ◌⊎◌, List}
+use Rattle.pid_moderation.specs.History.{Asked}
+use Rattle.pid_lives.specs.Calls.{Call, sent_in}
+use Rattle.pid_lives.specs.Lives.{commands_in}
+use Rattle.pid_lives.specs.Registries.{Showing, CallsLead}
+
+-- `seen` is how lives see a registry
+module _ {R : Type 0} (seen : Showing R) where
+  -- calls in turn lead from the one registry to the other, so that these are part of one life
+  pub record CallsGo (old new : R) : Type 0 where
+    pub calls : List Call
+    pub lead : CallsLead seen old calls new
+
+  -- the same, and the commands of theirs that got an outcome are these, the first one first
+  pub record CallsSend (old : R) (commands : List Asked) (new : R) : Type 0 where
+    pub calls : List Call
+    pub lead : CallsLead seen old calls new
+    pub sent : commands ≡ commands_in (sent_in calls)
+
+  -- the same of the first commands or of the second
+  abbrev pub CallsSendEither : R → List Asked → List Asked → R → Type 0
+  CallsSendEither old first second new = CallsSend old first new ⊎ CallsSend old second new
