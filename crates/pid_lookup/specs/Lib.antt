@@ -7,4 +7,5 @@ pub mod Asked
 pub mod TreeNames
 pub mod Fields
 pub mod Holders
+pub mod Unanswered
 pub mod Steps

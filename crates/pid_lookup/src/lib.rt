@@ -14,6 +14,7 @@ pub mod laws;
 mod layout;
 mod names;
 mod tree_names;
+mod unanswered;
 
 pub use answer::{Answer, AnswerText};
 pub use answering::{LookupRefusal, lookup};
@@ -21,3 +22,4 @@ pub use args::Args;
 pub use fields::{BadField, args_of};
 pub use names::Names;
 pub use tree_names::TreeNames;
+pub use unanswered::Unanswered;

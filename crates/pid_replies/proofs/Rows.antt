@@ -6,6 +6,7 @@ use Rattle.serde_json.proofs.OnLiterals.{serde_json_on_literals}
 use Rattle.serde_json.specs.Written.{compact_text}
 use Rattle.pid_ident.specs.declared.line_kind.LineKind.TheVariants.{Duplicate}
 use Rattle.pid_ident.specs.declared.path.Path.TheVariants.{Vendor}
+use Rattle.pid_lookup.specs.declared.unanswered.Unanswered.TheVariants.{NoItem}
 use Rattle.pid_moderation.specs.declared.command.Proposal.TheVariants.{Name, Removal}
 use Rattle.pid_moderation.specs.declared.command.Reply.TheVariants.{Done, Numbered, Counts}
 use Rattle.pid_moderation.specs.declared.facts.State.TheVariants.{Approved, Withdrawn}
@@ -13,7 +14,7 @@ use Rattle.pid_moderation.specs.declared.refusal.FileFault.TheVariants.{Line}
 use Rattle.pid_moderation.specs.declared.refusal.Refusal.TheVariants.{RankTooLow, FileFault}
 use Rattle.pid_rows.specs.TableRows.{Standing}
 use Rattle.pid_replies.specs.ItemAnswers.{item_data, item_line, items_data}
-use Rattle.pid_replies.specs.Outcomes.{outcome_data, refusal_data}
+use Rattle.pid_replies.specs.Outcomes.{outcome_data, unanswered_data}
 use Rattle.pid_replies.specs.PendingAnswers.{pending_line, pendings_data}
 use Rattle.pid_replies.specs.SubmissionAnswers.{standing_text, submission_data}
 
@@ -37,7 +38,7 @@ fault_row : compact_text (outcome_data (Err (FileFault (Line 3 Duplicate)))) ≡
 unfolding serde_json_on_literals digits
 fault_row = refl
 
-missing_row : compact_text (refusal_data 25 (codes "NoItem")) ≡ codes "{\"ok\":false,\"refused\":25,\"word\":\"NoItem\"}"
+missing_row : compact_text (unanswered_data NoItem) ≡ codes "{\"ok\":false,\"refused\":25,\"word\":\"NoItem\"}"
 unfolding serde_json_on_literals digits
 missing_row = refl
 

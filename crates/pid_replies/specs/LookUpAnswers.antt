@@ -1,21 +1,22 @@
 -- The answer to a look-up: the text that libpci's `pci_lookup_name` gives, byte for byte. Its refusals are choices of this project.
-use Rattle.std.specs.Prelude.{codes, Result, Ok, Err}
+use Rattle.std.specs.Prelude.{Result, Ok, Err}
 use Rattle.pid_lookup.specs.declared.answer.Answer.{Answer as Found}
 use Rattle.pid_lookup.specs.declared.answer.Answer.TheVariants.{Text, NoAnswer}
 use Rattle.pid_lookup.specs.declared.answering.LookupRefusal.{LookupRefusal}
 use Rattle.pid_lookup.specs.declared.answering.LookupRefusal.TheVariants.{BadFlags, Names, Memory}
+use Rattle.pid_lookup.specs.declared.unanswered.Unanswered.TheVariants as whys
 use Rattle.pid_moderation.specs.declared.refusal.Refusal.{Refusal}
 use Rattle.pid_moderation.specs.declared.refusal.Refusal.TheVariants as refusals
 use Rattle.pid_http_stream.specs.Replies.{Answer, answer_with}
 use Rattle.pid_http_stream.specs.declared.reply.Content.TheVariants.{Bytes}
 use Rattle.pid_http_stream.specs.declared.reply.Status.TheVariants.{Okay, BadRequest, NotFound}
-use Rattle.pid_replies.specs.Outcomes.{json_refusal, outcome_answer}
+use Rattle.pid_replies.specs.Outcomes.{unanswered_answer, outcome_answer}
 use Rattle.pid_requests.specs.declared.format.Format.TheVariants as formats
 
 -- the text, with nothing behind it; where there is none, why not
 abbrev pub look_up_answer : Result Found (LookupRefusal Refusal) → Answer
 look_up_answer (Ok (Text text)) = answer_with Okay Bytes text
-look_up_answer (Ok NoAnswer) = json_refusal NotFound 27 (codes "NoAnswer")
-look_up_answer (Err BadFlags) = json_refusal BadRequest 26 (codes "BadFlags")
+look_up_answer (Ok NoAnswer) = unanswered_answer NotFound whys.NoAnswer
+look_up_answer (Err BadFlags) = unanswered_answer BadRequest whys.BadFlags
 look_up_answer (Err (Names refusal)) = outcome_answer formats.Json (Err refusal)
 look_up_answer (Err Memory) = outcome_answer formats.Json (Err refusals.Memory)

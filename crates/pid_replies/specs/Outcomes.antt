@@ -3,6 +3,9 @@ use Rattle.std.specs.Prelude.{ℕ, true, false, List, codes, Result, Ok, Err}
 use Rattle.serde_json.specs.Written.{compact_text}
 use Rattle.serde_json.specs.Data.{Data, number, unsigned, string, boolean, object, member, no_members}
 use Rattle.pid_ident.specs.LineKinds as line_kinds
+use Rattle.pid_lookup.specs.Unanswered.{unanswered_number, unanswered_word, unanswered_line}
+use Rattle.pid_lookup.specs.declared.unanswered.Unanswered.{Unanswered}
+use Rattle.pid_lookup.specs.declared.unanswered.Unanswered.TheVariants.{NoItem}
 use Rattle.pid_moderation.specs.Refusals.{refusal_number, refusal_word}
 use Rattle.pid_moderation.specs.ReplyLines.{reply_text}
 use Rattle.pid_moderation.specs.declared.command.Reply.{Reply}
@@ -87,6 +90,14 @@ outcome_answer format outcome = answer_in format (status_of_outcome outcome) (ou
 abbrev pub json_refusal : Status → ℕ → List ℕ → Answer
 json_refusal status n word = answer_with status Json (compact_text (refusal_data n word))
 
+-- {"ok":false,"refused":25,"word":"NoItem"}
+abbrev pub unanswered_data : Unanswered → Data
+unanswered_data why = refusal_data (unanswered_number why) (unanswered_word why)
+
+-- the answer to a question that has none, as JSON
+abbrev pub unanswered_answer : Status → Unanswered → Answer
+unanswered_answer status why = answer_with status Json (compact_text (unanswered_data why))
+
 -- the answer where no item is at a path
 abbrev pub missing_answer : Format → Answer
-missing_answer format = answer_in format NotFound (refusal_data 25 (codes "NoItem")) (codes "refused 25 NoItem\n")
+missing_answer format = answer_in format NotFound (unanswered_data NoItem) (unanswered_line NoItem)

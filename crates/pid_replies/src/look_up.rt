@@ -3,10 +3,10 @@ ghost use Rattle.std.specs.Prelude.{◌≡◌, IfOk};
 ghost use Rattle.pid_replies.specs.LookUpAnswers.{look_up_answer};
 ghost use Rattle.pid_replies.specs.Replying.{IsReplyOf};
 
-use crate::outcome::{refusal_reply, refused_reply};
+use crate::outcome::{refusal_reply, unanswered_reply};
 use crate::reply::reply_with;
 use pid_http_stream::{Content, Reply, Status};
-use pid_lookup::{Answer, LookupRefusal};
+use pid_lookup::{Answer, LookupRefusal, Unanswered};
 use pid_moderation::Refusal;
 use pid_requests::Format;
 use std::alloc::{AllocError, Global};
@@ -20,8 +20,12 @@ pub fn look_up_reply(
 {
     match outcome {
         Ok(Answer::Text(text)) => Ok(reply_with(Status::Okay, Content::Bytes, text.into_bytes())),
-        Ok(Answer::NoAnswer) => refused_reply(alloc, Status::NotFound, 27, "NoAnswer"),
-        Err(LookupRefusal::BadFlags) => { refused_reply(alloc, Status::BadRequest, 26, "BadFlags") }
+        Ok(Answer::NoAnswer) => unanswered_reply(alloc, Status::NotFound, Unanswered::NoAnswer),
+        Err(LookupRefusal::BadFlags) => unanswered_reply(
+            alloc,
+            Status::BadRequest,
+            Unanswered::BadFlags,
+        ),
         Err(LookupRefusal::Names(refusal)) => refusal_reply(alloc, Format::Json, refusal),
         Err(LookupRefusal::Memory) => refusal_reply(alloc, Format::Json, Refusal::Memory),
     }

@@ -1,11 +1,12 @@
 //! Replies to commands.
 ghost use Rattle.std.specs.Prelude.{◌≡◌, IfOk};
 ghost use Rattle.serde_json.specs.View.{view};
-ghost use Rattle.pid_replies.specs.Outcomes.{counts_data, done_data, fault_data, json_refusal, missing_answer, numbered_data, outcome_answer, outcome_data, refusal_data, status_of_outcome};
+ghost use Rattle.pid_replies.specs.Outcomes.{counts_data, done_data, fault_data, json_refusal, missing_answer, numbered_data, outcome_answer, outcome_data, refusal_data, status_of_outcome, unanswered_answer, unanswered_data};
 ghost use Rattle.pid_replies.specs.Replying.{IsReplyOf};
 
 use crate::reply::{json_reply, text_reply};
 use pid_http_stream::{Reply as HttpReply, Status};
+use pid_lookup::Unanswered;
 use pid_moderation::{FileFault, Refusal, Reply, reply_line};
 use pid_requests::Format;
 use serde_json::{Value, json};
@@ -131,17 +132,35 @@ pub(crate) fn refused_reply(
     json_reply(alloc, status, value)
 }
 
+fn unanswered_value(alloc: Global, why: Unanswered) -> Result<Value, AllocError>
+    ensures { IfOk result (λ value. view value ≡ unanswered_data why) }
+{
+    refusal_value(alloc, why.number(), why.word())
+}
+
+/// The reply to a question that has no answer, as JSON.
+pub(crate) fn unanswered_reply(
+    alloc: Global,
+    status: Status,
+    why: Unanswered,
+) -> Result<HttpReply, AllocError>
+    ensures { IfOk result (λ reply. IsReplyOf reply (unanswered_answer status why)) }
+{
+    let value = unanswered_value(alloc, why)?;
+    json_reply(alloc, status, value)
+}
+
 /// The reply where no item is at a path.
 pub fn missing_reply(alloc: Global, format: Format) -> Result<HttpReply, AllocError>
     ensures { IfOk result (λ reply. IsReplyOf reply (missing_answer format)) }
 {
     match format {
         Format::Json => {
-            let value = refusal_value(alloc, 25, "NoItem")?;
+            let value = unanswered_value(alloc, Unanswered::NoItem)?;
             json_reply(alloc, Status::NotFound, value)
         }
         Format::Text => {
-            let line = String::from_str(alloc, "refused 25 NoItem\n")?;
+            let line = String::from_str(alloc, Unanswered::NoItem.line())?;
             Ok(text_reply(Status::NotFound, line))
         }
     }

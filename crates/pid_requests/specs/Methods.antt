@@ -4,5 +4,6 @@ use Rattle.std.specs.Str.{bytes_eq}
 use Rattle.pid_requests.specs.declared.method.Method.{Method}
 use Rattle.pid_requests.specs.declared.method.Method.TheVariants.{Get, Post}
 
+-- the method of a name, in its own case; none of any other
 abbrev pub method_in : List ℕ → Option Method
 method_in name = if bytes_eq name (codes "GET") then Some Get else if bytes_eq name (codes "POST") then Some Post else None

@@ -16,5 +16,6 @@ sending (a ∷ []) [] = if is_account a then Some (record { account = a; key = N
 sending (a ∷ []) (k ∷ []) = if is_account a && is_key k then Some (record { account = a; key = Some k }) else None
 sending (a ∷ []) (k ∷ l ∷ more) = None
 
+-- the sender that the fields of a head name, whatever the case of their names
 unfoldable pub sender : List NamedValue → Option Sending
 sender fields = sending (values_of (codes "x-account") fields) (values_of (codes "x-key") fields)

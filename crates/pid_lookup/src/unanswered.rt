@@ -1,0 +1,50 @@
+//! Why a question has no answer.
+ghost use Rattle.std.specs.Prelude.{◌≡◌};
+
+/// Why a question has no answer. No command is refused so.
+#[derive(Clone, Copy, Debug)]
+pub enum Unanswered {
+    /// No item is at the path.
+    NoItem,
+    /// The flags of a look-up are bad.
+    BadFlags,
+    /// A look-up finds no name.
+    NoAnswer,
+}
+
+impl Unanswered {
+    ghost use Rattle.pid_lookup.specs.Unanswered.{unanswered_number, unanswered_word, unanswered_line};
+
+    /// The number in replies.
+    pub fn number(self) -> u8
+        ensures { result ≡ unanswered_number self }
+    {
+        match self {
+            Unanswered::NoItem => 25,
+            Unanswered::BadFlags => 26,
+            Unanswered::NoAnswer => 27,
+        }
+    }
+
+    /// The word in replies.
+    pub fn word(self) -> &'static str
+        ensures { result.now ≡ unanswered_word self }
+    {
+        match self {
+            Unanswered::NoItem => "NoItem",
+            Unanswered::BadFlags => "BadFlags",
+            Unanswered::NoAnswer => "NoAnswer",
+        }
+    }
+
+    /// The line that tells it.
+    pub fn line(self) -> &'static str
+        ensures { result.now ≡ unanswered_line self }
+    {
+        match self {
+            Unanswered::NoItem => "refused 25 NoItem\n",
+            Unanswered::BadFlags => "refused 26 BadFlags\n",
+            Unanswered::NoAnswer => "refused 27 NoAnswer\n",
+        }
+    }
+}
