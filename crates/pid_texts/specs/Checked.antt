@@ -22,6 +22,7 @@ pub record IsGood (text : List ℕ) : Type 0 where
   pub short : length text ≤ LARGEST
   pub good : refused text ≡ None
 
+-- what was written, by the end: the count of a good text, or why there is none
 abbrev pub IsChecked : TextEnd → List ℕ → Option (List ℕ) → Option (List ℕ) → Type 0
 IsChecked Done text old new = IsGood text × Appends old new (ok_line (count_of text))
 IsChecked WriteFault text old new = (IsGood text × SendsFront old new (ok_line (count_of text))) ⊎ IsTold WriteFault text old new

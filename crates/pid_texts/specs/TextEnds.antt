@@ -26,6 +26,10 @@ fault_line Memory = codes "no memory\n"
 fault_line ReadFault = []
 fault_line WriteFault = []
 
+-- the line that tells that a file failed
+abbrev pub failed_line : List ℕ
+failed_line = codes "file: failed\n"
+
 -- the status of a process that ends so
 abbrev pub status_of : TextEnd → ℕ
 status_of Done = 0

@@ -34,6 +34,7 @@ pub record PrintsFront (text : List ℕ) (w : Writers) : Type 0 where
 abbrev pub TellsOnly : TextEnd → List ℕ → Writers → Type 0
 TellsOnly end text w = Keeps w.output w.output_after × IsTold end text w.faults w.faults_after
 
+-- what was written, by the end: the canonical text, or why there is none
 abbrev pub IsTidied : TextEnd → List ℕ → Writers → Type 0
 IsTidied Done text w = Prints text w
 IsTidied WriteFault text w = PrintsFront text w ⊎ TellsOnly WriteFault text w

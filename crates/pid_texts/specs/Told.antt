@@ -1,5 +1,5 @@
 -- How the fault of a text is told.
-use Rattle.std.specs.Prelude.{ℕ, List, Option}
+use Rattle.std.specs.Prelude.{ℕ, ◌⊎◌, List, Option}
 use Rattle.std.specs.Io.KnownBytes.{Appends, Keeps}
 use Rattle.pid_ident.specs.Sending.{SendsFront}
 use Rattle.pid_texts.specs.Judgements.{IsFaultOf}
@@ -17,6 +17,10 @@ pub record TellsFront (text : List ℕ) (old new : Option (List ℕ)) : Type 0 w
   pub end : TextEnd
   pub is_fault : IsFaultOf end text
   pub told : SendsFront old new (fault_line end)
+
+-- the writer took the line, or failed within it
+abbrev pub TriesLine : Option (List ℕ) → Option (List ℕ) → List ℕ → Type 0
+TriesLine old new line = Appends old new line ⊎ SendsFront old new line
 
 -- an end without a result: a fault of the text is told, one of the reader is not
 abbrev pub IsTold : TextEnd → List ℕ → Option (List ℕ) → Option (List ℕ) → Type 0

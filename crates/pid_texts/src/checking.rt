@@ -14,7 +14,7 @@ use std::alloc::Global;
 
 /// Writes `ok` and the count of the entries of what the input gives, or the line of its fault.
 ///
-/// A fault of the input is told by the end alone. No tree is made. At most one byte past 4,194,304 is read.
+/// A fault of the input is told by the end alone. No tree is made. At most one byte past `LARGEST` is read.
 pub fn check<I: Input, O: Output>(alloc: Global, input: &mut I, output: &mut O) -> TextEnd
     ensures checked { IfSome (I.to_come input.old) (λ text. IsChecked result text (O.taken output.old) (O.taken output.new)) }
     ensures read_fault { result ≡ TextEnd.ReadFault → IsSome (I.read_fault input.new) }

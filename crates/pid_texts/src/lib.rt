@@ -3,6 +3,7 @@
 
 mod checking;
 mod process;
+mod progress;
 mod text_end;
 mod tidying;
 mod told;
@@ -10,6 +11,7 @@ mod watched;
 
 pub use checking::check;
 pub use process::{FAILED, run_check, run_tidy, tell_end, tell_failed};
+pub use progress::{Counted, Progress};
 pub use text_end::{LARGEST, TextEnd, end_of};
 pub use tidying::tidy;
 pub use told::tell_unread;

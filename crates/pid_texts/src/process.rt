@@ -1,6 +1,8 @@
 //! `tidy` and `check` between the files of a process, and the statuses that they end with.
-ghost use Rattle.std.specs.Prelude.{◌≡◌};
-ghost use Rattle.pid_texts.specs.TextEnds.{status_of};
+ghost use Rattle.std.specs.Prelude.{◌≡◌, true, false};
+ghost use Rattle.std.specs.Io.KnownBytes.{Keeps};
+ghost use Rattle.pid_texts.specs.TextEnds.{failed_line, fault_line, status_of};
+ghost use Rattle.pid_texts.specs.Told.{TriesLine};
 
 use crate::checking::check;
 use crate::text_end::TextEnd;
@@ -67,7 +69,8 @@ fn status<F: Output>(end: TextEnd, is_unread: bool, faults: &mut F) -> u8
 
 /// Tells a fault of a text, or want of memory, that is not told yet; answers its status.
 pub fn tell_end<F: Output>(end: TextEnd, faults: &mut F) -> u8
-    ensures { result ≡ status_of end }
+    ensures status { result ≡ status_of end }
+    ensures told { TriesLine (F.taken faults.old) (F.taken faults.new) (fault_line end) }
 {
     let _ = end.tell(faults);
     end.status()
@@ -75,7 +78,9 @@ pub fn tell_end<F: Output>(end: TextEnd, faults: &mut F) -> u8
 
 /// Tells that a file failed, as `file: failed`. Where nobody reads the output any more the status alone says it.
 pub fn tell_failed<F: Output>(is_unread: bool, faults: &mut F) -> u8
-    ensures { result ≡ FAILED }
+    ensures status { result ≡ FAILED }
+    ensures told { is_unread ≡ false → TriesLine (F.taken faults.old) (F.taken faults.new) failed_line }
+    ensures silent { is_unread ≡ true → Keeps (F.taken faults.old) (F.taken faults.new) }
 {
     if !is_unread {
         let _ = write_all(faults, b"file: failed\n");

@@ -20,7 +20,7 @@ pub enum TextEnd {
     Line { line: usize, kind: LineKind },
     /// More than 100,000 entries.
     TooManyEntries,
-    /// More than 4,194,304 bytes.
+    /// More than `LARGEST` bytes.
     TooLarge,
     Memory,
     ReadFault,

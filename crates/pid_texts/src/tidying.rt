@@ -16,7 +16,7 @@ use std::mem;
 /// Writes the canonical text of what the input gives, or the line of its fault to `faults`.
 ///
 /// A fault of the input or of a writer is told by the end alone. Nothing is printed of a text that has a fault. At most
-/// one byte past 4,194,304 is read.
+/// one byte past `LARGEST` is read.
 pub fn tidy<I: Input, O: Output, F: Output>(
     alloc: Global,
     input: &mut I,

@@ -20,10 +20,12 @@ counted most rule = record rule { parser = Some (Signed (pos 1) (pos most)) }
 abbrev pub operand : Text → Rule
 operand name = record (new_rule name) { value_names = 1 }
 
+-- the command also takes these, in this order
 abbrev pub with_rules : List Rule → App → App
 with_rules [] app = app
 with_rules (rule ∷ more) app = with_rules more (with_rule app rule)
 
+-- the command of this name that takes these alone
 abbrev pub command : Text → List Rule → App
 command name rules = with_rules rules (new_app name)
 
@@ -69,17 +71,20 @@ serve = command (codes "serve") (required (option (codes "db")) ∷ required (co
 abbrev pub with_version : App → App
 with_version app = record app { top = record app.top { has_version = true } }
 
+-- the command has these subcommands too, in this order
 abbrev pub with_subcommands : List App → App → App
 with_subcommands [] app = app
 with_subcommands (sub ∷ more) app = with_subcommands more (with_subcommand app sub.top)
 
--- the subcommands that read no registry, and those that do
+-- the subcommands that read no registry
 abbrev pub text_commands : List App
 text_commands = command (codes "tidy") [] ∷ command (codes "check") [] ∷ lookup ∷ []
 
+-- those that commands come in by
 abbrev pub import_commands : List App
 import_commands = script ∷ import ∷ []
 
+-- those that items go out by
 abbrev pub export_commands : List App
 export_commands = export ∷ serve ∷ []
 

@@ -1,5 +1,5 @@
 -- What the words ask for, as the command line parser `clap` gives them to the subcommands.
-use Rattle.std.specs.Prelude.{◌==◌, ◌&&◌, ◌^◌, ℕ, Bool, true, List, [], Option, Some, None, codes, length, nat_lt, option_map, unwrap_or, if◌then◌else◌}
+use Rattle.std.specs.Prelude.{◌&&◌, ◌^◌, ℕ, Bool, List, [], ◌∷◌, Option, Some, None, codes, find, length, nat_lt, option_map, unwrap_or, if◌then◌else◌}
 use Rattle.std.specs.Borrow.{Bor}
 use Rattle.std.specs.Char.{digit_value}
 use Rattle.std.specs.List.{list_all}
@@ -29,10 +29,12 @@ pub data Task : Type 0 where
 abbrev pub text_of : Option (Bor Text) → Option Text
 text_of = option_map (λ text. text.now)
 
+-- the task of a look-up with its texts
 abbrev pub look_up_task : LookUpWords → Task
 look_up_task asked = LooksUp asked.ids.now asked.flags.now (text_of asked.size) (text_of asked.vendor) (text_of asked.device)
     (text_of asked.subvendor) (text_of asked.subdevice) (text_of asked.class) (text_of asked.progif)
 
+-- the task that a job is
 abbrev pub task_of : Job → Task
 task_of jobs.Tidy = Tidies
 task_of jobs.Check = Checks
@@ -63,19 +65,20 @@ look_up_named rows = LooksUp (needed (codes "ids") rows) (needed (codes "flags")
     (first_of (codes "vendor") rows) (first_of (codes "device") rows) (first_of (codes "subvendor") rows)
     (first_of (codes "subdevice") rows) (first_of (codes "class") rows) (first_of (codes "progif") rows)
 
-abbrev pub is : Text → Text → Bool
-is word name = bytes_eq name word
+-- the subcommands, each with the task that it names, given the values of its options
+abbrev pub tasks : List (Text × (List Row → Task))
+tasks = (codes "check", λ rows. Checks)
+    ∷ (codes "lookup", look_up_named)
+    ∷ (codes "script", λ rows. Runs (first_of (codes "db") rows))
+    ∷ (codes "import", λ rows. Imports (needed (codes "db") rows) (needed (codes "account") rows) (first_of (codes "key") rows) (needed (codes "ids") rows))
+    ∷ (codes "export", λ rows. Exports (needed (codes "db") rows))
+    ∷ (codes "serve", λ rows. Serves (needed (codes "db") rows) (number_of 16 (codes "port") rows) (number_of 32 (codes "connections") rows))
+    ∷ (codes "tidy", λ rows. Tidies)
+    ∷ []
 
--- the task of the subcommand with this name, of whose options these values were given
+-- the task of the subcommand with this name, of whose options these values were given; `tidy` of a name that is not among them, which no words give
 abbrev pub task_named : Text → List Row → Task
-task_named name rows =
-    if is (codes "check") name then Checks
-    else (if is (codes "lookup") name then look_up_named rows
-    else (if is (codes "script") name then Runs (first_of (codes "db") rows)
-    else (if is (codes "import") name then Imports (needed (codes "db") rows) (needed (codes "account") rows) (first_of (codes "key") rows) (needed (codes "ids") rows)
-    else (if is (codes "export") name then Exports (needed (codes "db") rows)
-    else (if is (codes "serve") name then Serves (needed (codes "db") rows) (number_of 16 (codes "port") rows) (number_of 32 (codes "connections") rows)
-    else Tidies)))))
+task_named name rows = option_map_or (λ entry. entry.1 rows) (find (λ entry. bytes_eq name entry.0) tasks) Tidies
 
 -- without a subcommand the task is `tidy`
 abbrev pub task_given : Option (Text × List Row) → Task
