@@ -1,4 +1,4 @@
--- Why a query on tables of the schema faults.
+-- Why a query on tables of a schema faults.
 use Rattle.std.proofs.Common.{◌≡◌, ◌⊎◌, inl, inr, ℕ, ◌≤◌, List, append-nil, Ok, Err, Result, IsErrAnd, IfOk, IfErr, MatchResult, IsTrue, false, None, Some, Option, arith, sym, ap, subst, ◌∙◌}
 use Rattle.std.specs.Prelude.{IsSome}
 use Rattle.sqlite.specs.Order.{Row}
@@ -23,7 +23,7 @@ use Rattle.pid_rows.specs.declared.fault.TableFault.TheVariants.{Memory, Store, 
 use Rattle.pid_rows.specs.Causes.{IsCaused}
 use Rattle.pid_rows.specs.Faults.{fault_of}
 use Rattle.pid_rows.specs.Queries.{Asks, IsOneStatement, IsQueryAs, IsQuery}
-use Rattle.pid_rows.specs.Schema.{pid_schema}
+use Rattle.sqlite.specs.Schema.{Schema}
 
 pub moved : (old new : State) (e f : Error) → e ≡ f → IsCaused old new (fault_of f) → IsCaused old new (fault_of e)
 moved old new e f same h = subst (λ x. IsCaused old new (fault_of x)) (sym same) h
@@ -38,29 +38,30 @@ of_store old new store.Unstorable h = absurd h
 
 -- ---- a fixed text is refused in none of the other ways
 
-module _ (sql : List ℕ) (params : Row) where
-  statement : (r : Result Compiled CompileError) (c : Compiled) → r ≡ Ok c → IsQueryAs sql params r → IsOneStatement sql params c × Asks params c.command
-  statement (Ok d) c is h = let same : d ≡ c = cc in subst (λ x. IsOneStatement sql params x × Asks params x.command) same h
+module _ (schema : Schema) (sql : List ℕ) (params : Row) where
+  statement : (r : Result Compiled CompileError) (c : Compiled) → r ≡ Ok c → IsQueryAs schema sql params r → IsOneStatement sql params c × Asks schema params c.command
+  statement (Ok d) c is h = let same : d ≡ c = cc in subst (λ x. IsOneStatement sql params x × Asks schema params x.command) same h
   statement (Err e) c is h = absurd h
 
-  is_one : (r : Result Compiled CompileError) (fault : CompileError) → r ≡ Err fault → IsQueryAs sql params r → ⊥
+  is_one : (r : Result Compiled CompileError) (fault : CompileError) → r ≡ Err fault → IsQueryAs schema sql params r → ⊥
   is_one (Ok d) fault is h = cc
   is_one (Err e) fault is h = h
 
-  read_refused : (old new : State) (command : Command) (db : Database) (e : Error) → db.schema ≡ pid_schema → Asks params command → RefusesToRead old.step_limit command db params e → IsCaused old new (fault_of e)
+  read_refused : (old new : State) (command : Command) (db : Database) (e : Error) → db.schema ≡ schema → Asks schema params command → RefusesToRead old.step_limit command db params e → IsCaused old new (fault_of e)
   read_refused old new (Select q names) db e has asks (inl typed) = absurd (let refused = subst (λ s. accepts_program s (lets_of q) q.body params ≡ false) has typed.1 in let bad = sym refused ∙ asks.0 in let no : ⊥ = cc in no)
   read_refused old new (Select q names) db e has asks (inr (inl overflows)) = absurd (asks.1 db.trees overflows.1)
   read_refused old new (Select q names) db e has asks (inr (inr stopped)) = moved old new e _ stopped.0 (inr (inr stopped.1))
   read_refused old new _ db e has asks h = absurd asks
 
-  module _ (old new : State) (has : IsTrue old.is_open → old.now.schema ≡ pid_schema) (query : IsQuery sql params) (e : Error) where
-    known : IsTrue old.is_open → IsQueryAs sql params (understood old.now.schema sql)
-    known opened = subst (λ s. IsQueryAs sql params (understood s sql)) (sym (has opened)) query.known
+module _ {schema : Schema} (sql : List ℕ) (params : Row) where
+  module _ (old new : State) (has : IsTrue old.is_open → old.now.schema ≡ schema) (query : IsQuery schema sql params) (e : Error) where
+    known : IsTrue old.is_open → IsQueryAs schema sql params (understood old.now.schema sql)
+    known opened = subst (λ s. IsQueryAs schema sql params (understood s sql)) (sym (has opened)) query.known
 
     no_statement : IsTrue old.is_open → IsNoStatement old sql params e → ⊥
-    no_statement opened (inl h) = is_one _ h.0 h.1 (known opened)
+    no_statement opened (inl h) = is_one schema sql params _ h.0 h.1 (known opened)
     no_statement opened (inr h) =
-        let it = statement _ h.0 h.1 (known opened) in
+        let it = statement schema sql params _ h.0 h.1 (known opened) in
         elim h.2 [
           | inl many ↦ many.0 it.0.whole
           | inr other ↦ elim other [ inl count ↦ count.0 it.0.given | inr clock ↦ clock.0 it.0.timeless ]
@@ -90,16 +91,16 @@ module _ (sql : List ℕ) (params : Row) where
 
     show_opened : (c : Compiled) (it : IsStatement old sql params c) → IsTrue old.is_open → FailsToShow old new sql c (timed params c.formats it.now) e c.returning → IsCaused old new (fault_of e)
     show_opened c it opened h =
-        let one = statement _ c it.is (known opened) in
+        let one = statement schema sql params _ c it.is (known opened) in
         let shown = subst (FailsToShow old new sql c (timed params c.formats it.now) e) one.0.bare h in
         let unlisted : reads_listing old.now.schema sql ≡ false = ap (λ s. reads_listing s sql) (has opened) ∙ query.unlisted in
         let from : shown.0 ≡ old.now = subst (λ b. IsSourceOf b old.now shown.0) unlisted shown.1 in
         let given : timed params c.formats it.now ≡ params = ap (λ f. timed params f it.now) one.0.timeless ∙ append-nil params in
-        read_refused old new c.command shown.0 e (ap (λ (d : Database). d.schema) from ∙ has opened) one.1 (subst (λ p. RefusesToRead old.step_limit c.command shown.0 p e) given shown.2)
+        read_refused schema sql params old new c.command shown.0 e (ap (λ (d : Database). d.schema) from ∙ has opened) one.1 (subst (λ p. RefusesToRead old.step_limit c.command shown.0 p e) given shown.2)
 
     too_late : IsTooLate sql params old new e → ⊥
     too_late late =
-        let one = statement _ late.0 late.1.is (known late.5.0.was_open) in
+        let one = statement schema sql params _ late.0 late.1.is (known late.5.0.was_open) in
         let bad = subst IsSome one.0.bare late.2 in
         let no : ⊥ = cc in
         no

@@ -1,9 +1,10 @@
--- What the statements by keys mean in the schema.
+-- What the statements by keys mean in each schema.
 use Rattle.std.proofs.Common.{ℕ, pos, List, [], ◌∷◌, codes, refl}
 use Rattle.sqlite.specs.declared.types.Value.TheVariants.{Null, Int, Text}
 use Rattle.sqlite.specs.Term.{Term, lit, col}
 use Rattle.sqlite.specs.Listing.{understood}
 use Rattle.sqlite_tied.specs.Compute.{everything}
+use Rattle.pid_rows.specs.Schema.{Version, schema_of}
 use Rattle.pid_rows.proofs.Statements.{equals, IsSelect, IsInsert, IsUpdate, IsDelete}
 use Rattle.pid_rows.proofs.StatementTexts.{select_meta, insert_meta, update_meta, select_account, insert_account, update_account, select_item, insert_item, update_item, delete_item, select_submission, insert_submission, update_submission, withdraw_submission, insert_remark, select_receipt, insert_receipt}
 
@@ -23,45 +24,45 @@ pair_terms = lit Null ∷ col 0 0 ∷ col 0 1 ∷ []
 abbrev pub pair_change : List Term
 pair_change = col 1 0 ∷ col 1 1 ∷ col 0 1 ∷ []
 
-pub select_meta_is : IsSelect 0 by_first (col 1 2 ∷ []) select_meta (codes "value" ∷ [])
+pub select_meta_is : (version : Version) → IsSelect (schema_of version) 0 by_first (col 1 2 ∷ []) select_meta (codes "value" ∷ [])
 unfolding understood everything
-select_meta_is = record { is = refl; plain = (refl, refl); unlisted = refl }
+select_meta_is version = record { is = refl; plain = (refl, refl); unlisted = refl }
 
-pub insert_meta_is : IsInsert 0 pair_terms 3 insert_meta
+pub insert_meta_is : (version : Version) → IsInsert (schema_of version) 0 pair_terms 3 insert_meta
 unfolding understood everything
-insert_meta_is = record { is = refl; plain = (refl, refl) }
+insert_meta_is version = record { is = refl; plain = (refl, refl) }
 
-pub update_meta_is : IsUpdate 0 0 by_first pair_change update_meta
+pub update_meta_is : (version : Version) → IsUpdate (schema_of version) 0 0 by_first pair_change update_meta
 unfolding understood everything
-update_meta_is = record { is = refl; plain = (refl, refl) }
+update_meta_is version = record { is = refl; plain = (refl, refl) }
 
-pub select_account_is : IsSelect 2 by_first (col 1 2 ∷ []) select_account (codes "rank" ∷ [])
+pub select_account_is : (version : Version) → IsSelect (schema_of version) 2 by_first (col 1 2 ∷ []) select_account (codes "rank" ∷ [])
 unfolding understood everything
-select_account_is = record { is = refl; plain = (refl, refl); unlisted = refl }
+select_account_is version = record { is = refl; plain = (refl, refl); unlisted = refl }
 
-pub insert_account_is : IsInsert 1 pair_terms 3 insert_account
+pub insert_account_is : (version : Version) → IsInsert (schema_of version) 1 pair_terms 3 insert_account
 unfolding understood everything
-insert_account_is = record { is = refl; plain = (refl, refl) }
+insert_account_is version = record { is = refl; plain = (refl, refl) }
 
-pub update_account_is : IsUpdate 1 2 by_first pair_change update_account
+pub update_account_is : (version : Version) → IsUpdate (schema_of version) 1 2 by_first pair_change update_account
 unfolding understood everything
-update_account_is = record { is = refl; plain = (refl, refl) }
+update_account_is version = record { is = refl; plain = (refl, refl) }
 
-pub select_item_is : IsSelect 4 by_first (col 1 2 ∷ []) select_item (codes "name" ∷ [])
+pub select_item_is : (version : Version) → IsSelect (schema_of version) 4 by_first (col 1 2 ∷ []) select_item (codes "name" ∷ [])
 unfolding understood everything
-select_item_is = record { is = refl; plain = (refl, refl); unlisted = refl }
+select_item_is version = record { is = refl; plain = (refl, refl); unlisted = refl }
 
-pub insert_item_is : IsInsert 2 pair_terms 3 insert_item
+pub insert_item_is : (version : Version) → IsInsert (schema_of version) 2 pair_terms 3 insert_item
 unfolding understood everything
-insert_item_is = record { is = refl; plain = (refl, refl) }
+insert_item_is version = record { is = refl; plain = (refl, refl) }
 
-pub update_item_is : IsUpdate 2 4 by_first pair_change update_item
+pub update_item_is : (version : Version) → IsUpdate (schema_of version) 2 4 by_first pair_change update_item
 unfolding understood everything
-update_item_is = record { is = refl; plain = (refl, refl) }
+update_item_is version = record { is = refl; plain = (refl, refl) }
 
-pub delete_item_is : IsDelete 2 4 by_first delete_item
+pub delete_item_is : (version : Version) → IsDelete (schema_of version) 2 4 by_first delete_item
 unfolding understood everything
-delete_item_is = record { is = refl; plain = (refl, refl) }
+delete_item_is version = record { is = refl; plain = (refl, refl) }
 
 abbrev pub submission_columns : List Term
 submission_columns = col 1 2 ∷ col 1 3 ∷ col 1 4 ∷ col 1 5 ∷ col 1 6 ∷ col 1 7 ∷ col 1 8 ∷ col 1 9 ∷ []
@@ -75,31 +76,31 @@ submission_change = col 1 0 ∷ lit Null ∷ col 1 2 ∷ col 1 3 ∷ col 1 4 ∷
 abbrev pub submission_names : List (List ℕ)
 submission_names = codes "author" ∷ codes "path" ∷ codes "form" ∷ codes "name" ∷ codes "note" ∷ codes "state" ∷ codes "decider" ∷ codes "reason" ∷ []
 
-pub select_submission_is : IsSelect 6 by_rowid submission_columns select_submission submission_names
+pub select_submission_is : (version : Version) → IsSelect (schema_of version) 6 by_rowid submission_columns select_submission submission_names
 unfolding understood everything
-select_submission_is = record { is = refl; plain = (refl, refl); unlisted = refl }
+select_submission_is version = record { is = refl; plain = (refl, refl); unlisted = refl }
 
-pub insert_submission_is : IsInsert 3 submission_terms 10 insert_submission
+pub insert_submission_is : (version : Version) → IsInsert (schema_of version) 3 submission_terms 10 insert_submission
 unfolding understood everything
-insert_submission_is = record { is = refl; plain = (refl, refl) }
+insert_submission_is version = record { is = refl; plain = (refl, refl) }
 
-pub update_submission_is : IsUpdate 3 6 by_rowid submission_change update_submission
+pub update_submission_is : (version : Version) → IsUpdate (schema_of version) 3 6 by_rowid submission_change update_submission
 unfolding understood everything
-update_submission_is = record { is = refl; plain = (refl, refl) }
+update_submission_is version = record { is = refl; plain = (refl, refl) }
 
 abbrev pub withdrawal : List Term
 withdrawal = col 1 0 ∷ lit Null ∷ col 1 2 ∷ col 1 3 ∷ col 1 4 ∷ col 1 5 ∷ col 1 6 ∷ lit (Int (pos 3)) ∷ col 1 2 ∷ lit (Text []) ∷ []
 
-pub withdraw_submission_is : IsUpdate 3 6 by_rowid withdrawal withdraw_submission
+pub withdraw_submission_is : (version : Version) → IsUpdate (schema_of version) 3 6 by_rowid withdrawal withdraw_submission
 unfolding understood everything
-withdraw_submission_is = record { is = refl; plain = (refl, refl) }
+withdraw_submission_is version = record { is = refl; plain = (refl, refl) }
 
 abbrev pub remark_terms : List Term
 remark_terms = lit Null ∷ col 0 0 ∷ col 0 1 ∷ col 0 2 ∷ col 0 3 ∷ []
 
-pub insert_remark_is : IsInsert 4 remark_terms 5 insert_remark
+pub insert_remark_is : (version : Version) → IsInsert (schema_of version) 4 remark_terms 5 insert_remark
 unfolding understood everything
-insert_remark_is = record { is = refl; plain = (refl, refl) }
+insert_remark_is version = record { is = refl; plain = (refl, refl) }
 
 abbrev pub receipt_columns : List Term
 receipt_columns = col 1 3 ∷ col 1 4 ∷ col 1 5 ∷ col 1 6 ∷ []
@@ -107,10 +108,10 @@ receipt_columns = col 1 3 ∷ col 1 4 ∷ col 1 5 ∷ col 1 6 ∷ []
 abbrev pub receipt_terms : List Term
 receipt_terms = lit Null ∷ col 0 0 ∷ col 0 1 ∷ col 0 2 ∷ col 0 3 ∷ col 0 4 ∷ col 0 5 ∷ []
 
-pub select_receipt_is : IsSelect 9 by_both receipt_columns select_receipt (codes "kind" ∷ codes "a" ∷ codes "b" ∷ codes "c" ∷ [])
+pub select_receipt_is : (version : Version) → IsSelect (schema_of version) 9 by_both receipt_columns select_receipt (codes "kind" ∷ codes "a" ∷ codes "b" ∷ codes "c" ∷ [])
 unfolding understood everything
-select_receipt_is = record { is = refl; plain = (refl, refl); unlisted = refl }
+select_receipt_is version = record { is = refl; plain = (refl, refl); unlisted = refl }
 
-pub insert_receipt_is : IsInsert 5 receipt_terms 7 insert_receipt
+pub insert_receipt_is : (version : Version) → IsInsert (schema_of version) 5 receipt_terms 7 insert_receipt
 unfolding understood everything
-insert_receipt_is = record { is = refl; plain = (refl, refl) }
+insert_receipt_is version = record { is = refl; plain = (refl, refl) }

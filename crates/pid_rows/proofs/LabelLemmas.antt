@@ -23,7 +23,7 @@ use Rattle.pid_rows.specs.declared.fault.TableFault.TheVariants.{Memory, Store, 
 use Rattle.pid_rows.specs.Faults.{IsUntold, IsNotLater}
 use Rattle.pid_rows.specs.LabelRows.{AnswersEach, ExplainsNumber, LacksNumber, HasLabel, IsValueOf}
 use Rattle.pid_rows.specs.Unread.{IsUnread, IsNumber}
-use Rattle.pid_rows.specs.Schema.{pid_schema}
+use Rattle.pid_rows.specs.Schema.{Version, schema_of}
 use Rattle.pid_rows.specs.TableRows.{number}
 use Rattle.pid_rows.proofs.KeyTexts.{by_first, select_meta_is}
 use Rattle.pid_rows.proofs.MapLemmas.{none_over}
@@ -40,20 +40,20 @@ equal_text (Real x) p h = absurd (let bad : ⊥ = cc in bad)
 equal_text (Text q) p h = ap Text (texts_equal q p h)
 equal_text (Blob b) p h = absurd (let bad : ⊥ = cc in bad)
 
-values_there : (label : List ℕ) (old new : State) (answer : List Row) → old.now.schema ≡ pid_schema → Shown select_meta (Text label ∷ []) old new answer → (x : Row) → Has answer x → IsValueOf old.now.trees label x
-values_there label old new answer has h x there =
+values_there : (version : Version) (label : List ℕ) (old new : State) (answer : List Row) → old.now.schema ≡ schema_of version → Shown select_meta (Text label ∷ []) old new answer → (x : Row) → Has answer x → IsValueOf old.now.trees label x
+values_there version label old new answer has h x there =
     let params : Row = Text label ∷ [] in
     let rows = overlay old.now.trees [] 0 in
-    let got = reads_as select_meta params old new pid_schema has _ select_meta_is.is select_meta_is.plain select_meta_is.unlisted answer h in
+    let got = reads_as select_meta params old new (schema_of version) has _ (select_meta_is version).is (select_meta_is version).plain (select_meta_is version).unlisted answer h in
     let same = simple_rows 0 by_first (col 1 2 ∷ []) (overlay old.now.trees []) params answer (got.answer Null) in
     let back = has_mapped (shown (col 1 2 ∷ []) params) (passing by_first params rows) x (permuted answer _ x (IsPermutation-sym _ _ same) there) in
     let kept = has_filtered (hits by_first params) rows back.0 back.1 in
     (back.0, subst (λ xs. Has xs back.0) (none_over old.now.trees 0) kept.0, equal_text (column back.0 1) label (and_parts _ _ kept.1).0, back.2)
 
-pub values_read : {S : Type 0} (g : Ghosts S) (label : List ℕ) (old : State) (r : Result (Vec Row Global) TableFault) → old.now.schema ≡ pid_schema → IfOk r (λ rows. (mid : Held S) × Shown select_meta (Text label ∷ []) old (state g mid) rows.items)
+pub values_read : {S : Type 0} (g : Ghosts S) (version : Version) (label : List ℕ) (old : State) (r : Result (Vec Row Global) TableFault) → old.now.schema ≡ schema_of version → IfOk r (λ rows. (mid : Held S) × Shown select_meta (Text label ∷ []) old (state g mid) rows.items)
     → IfOk r (λ rows. (x : Row) → Has rows.items x → IsValueOf old.now.trees label x)
-values_read g label old (Ok rows) has h = values_there label old (state g h.0) rows.items has h.1
-values_read g label old (Err e) has h = tt
+values_read g version label old (Ok rows) has h = values_there version label old (state g h.0) rows.items has h.1
+values_read g version label old (Err e) has h = tt
 
 first_has : (xs : List Row) (x : Row) → Some x ≡ slice_get xs 0 → Has xs x
 first_has [] x h = absurd (let bad : ⊥ = cc in bad)
@@ -68,20 +68,20 @@ label_read db label rows x all first (Err e) is = tt
 
 -- ---- why it is not read
 
-values_each : (label : List ℕ) (old new : State) (answer : List Row) → old.now.schema ≡ pid_schema → Shown select_meta (Text label ∷ []) old new answer → AnswersEach old.now.trees label answer
-values_each label old new answer has h r there is =
+values_each : (version : Version) (label : List ℕ) (old new : State) (answer : List Row) → old.now.schema ≡ schema_of version → Shown select_meta (Text label ∷ []) old new answer → AnswersEach old.now.trees label answer
+values_each version label old new answer has h r there is =
     let params : Row = Text label ∷ [] in
     let rows = overlay old.now.trees [] 0 in
-    let got = reads_as select_meta params old new pid_schema has _ select_meta_is.is select_meta_is.plain select_meta_is.unlisted answer h in
+    let got = reads_as select_meta params old new (schema_of version) has _ (select_meta_is version).is (select_meta_is version).plain (select_meta_is version).unlisted answer h in
     let same = simple_rows 0 by_first (col 1 2 ∷ []) (overlay old.now.trees []) params answer (got.answer Null) in
     let hit : hits by_first params r ≡ true = and_from _ _ (subst (λ v. equal Binary v (Text label) ≡ true) (sym is) (text_equal label)) refl in
     let kept = has_kept (hits by_first params) rows r (subst (λ xs. Has xs r) (sym (none_over old.now.trees 0)) there) hit in
     permuted _ answer (column r 2 ∷ []) same (mapped_has (shown (col 1 2 ∷ []) params) (passing by_first params rows) r kept)
 
-pub each_read : {S : Type 0} (g : Ghosts S) (label : List ℕ) (old : State) (r : Result (Vec Row Global) TableFault) → old.now.schema ≡ pid_schema → IfOk r (λ rows. (mid : Held S) × Shown select_meta (Text label ∷ []) old (state g mid) rows.items)
+pub each_read : {S : Type 0} (g : Ghosts S) (version : Version) (label : List ℕ) (old : State) (r : Result (Vec Row Global) TableFault) → old.now.schema ≡ schema_of version → IfOk r (λ rows. (mid : Held S) × Shown select_meta (Text label ∷ []) old (state g mid) rows.items)
     → IfOk r (λ rows. AnswersEach old.now.trees label rows.items)
-each_read g label old (Ok rows) has h = values_each label old (state g h.0) rows.items has h.1
-each_read g label old (Err e) has h = tt
+each_read g version label old (Ok rows) has h = values_each version label old (state g h.0) rows.items has h.1
+each_read g version label old (Err e) has h = tt
 
 pub untold_explains : (db : Trees) (label : List ℕ) (e : TableFault) → IsUntold e → ExplainsNumber db label e
 untold_explains db label Memory h = tt

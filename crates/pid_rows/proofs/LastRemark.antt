@@ -24,12 +24,12 @@ use Rattle.sqlite_rules.specs.Lists.{Has}
 use Rattle.sqlite_rules.proofs.ListLemmas.{has_filtered, has_kept}
 use Rattle.sqlite_value.proofs.OrderLemmas.{value_cmp-Int}
 use Rattle.pid_moderation.specs.Views.{Views, Remark}
-use Rattle.pid_rows.specs.Shows.{Counts, ShowsCounting, counted_from_one}
+use Rattle.pid_rows.specs.Shows.{Counts, Numbers, ShowsKeeping, counted_from_one}
 use Rattle.pid_rows.specs.TableRows.{number, remark_row}
 use Rattle.pid_rows.proofs.MapLemmas.{none_over}
 use Rattle.pid_rows.proofs.Keys.{pos_same}
 use Rattle.pid_rows.proofs.Select.{passing, shown, integers_equal, integer_equal}
-use Rattle.pid_rows.specs.Schema.{pid_schema}
+use Rattle.pid_rows.specs.Schema.{Version, schema_of}
 use Rattle.pid_rows.proofs.Statements.{program, first_one}
 use Rattle.pid_rows.proofs.KeyTexts.{by_first}
 use Rattle.pid_rows.proofs.FirstLemmas.{HasNone, IsFirst, first_found}
@@ -40,17 +40,17 @@ select_last = codes "SELECT seq FROM remark WHERE num = ?1 ORDER BY seq DESC LIM
 abbrev pub falling : List (Term × Key)
 falling = (col 1 2, record { collation = Binary; descending = true }) ∷ []
 
-pub select_last_is : command_of (understood pid_schema select_last) ≡ Select (program (first_one 7 by_first (col 1 2 ∷ []) falling)) (codes "seq" ∷ [])
+pub select_last_is : (version : Version) → command_of (understood (schema_of version) select_last) ≡ Select (program (first_one 7 by_first (col 1 2 ∷ []) falling)) (codes "seq" ∷ [])
 unfolding understood everything
-select_last_is = refl
+select_last_is version = refl
 
-pub select_last_plain : IsPlain (understood pid_schema select_last)
+pub select_last_plain : (version : Version) → IsPlain (understood (schema_of version) select_last)
 unfolding understood everything
-select_last_plain = (refl, refl)
+select_last_plain version = (refl, refl)
 
-pub select_last_unlisted : reads_listing pid_schema select_last ≡ false
+pub select_last_unlisted : (version : Version) → reads_listing (schema_of version) select_last ≡ false
 unfolding understood everything
-select_last_unlisted = refl
+select_last_unlisted version = refl
 
 -- ---- what it answers
 
@@ -74,7 +74,7 @@ last_there [] h = absurd (omega arith)
 last_there (x ∷ []) h = (x, refl)
 last_there (x ∷ y ∷ xs) h = let more = last_there (y ∷ xs) (omega arith) in (more.0, more.1)
 
-module _ (old new : State) (c : Counts) (v : Views) (shows : ShowsCounting c old.now v) (n : ℕ) where
+module _ {version : Version} {numbers : Numbers} (old new : State) (c : Counts) (v : Views) (shows : ShowsKeeping version c numbers old.now v) (n : ℕ) where
   abbrev params : Row
   params = number n ∷ []
 
@@ -100,7 +100,7 @@ module _ (old new : State) (c : Counts) (v : Views) (shows : ShowsCounting c old
   -- no row where there is no remark, else the row of the last place
   pub last_found : (answer : List Row) → Shown select_last (number n ∷ []) old new answer → ((answer ≡ []) × (last ≡ 0)) ⊎ (answer ≡ (number last ∷ []) ∷ [])
   last_found answer h =
-      let got = reads_as select_last params old new pid_schema shows.schema _ select_last_is select_last_plain select_last_unlisted answer h in
+      let got = reads_as select_last params old new (schema_of version) shows.schema _ (select_last_is version) (select_last_plain version) (select_last_unlisted version) answer h in
       let a : IsAnswer (first_one 7 by_first (col 1 2 ∷ []) falling) (overlay old.now.trees []) params answer = got.answer Null in
       elim (subst (λ xs. HasNone 7 by_first (col 1 2 ∷ []) falling params xs answer ⊎ IsFirst 7 by_first (col 1 2 ∷ []) falling params xs answer) (none_over old.now.trees 7)
       (first_found 7 by_first (col 1 2 ∷ []) falling params (overlay old.now.trees []) answer a)) [

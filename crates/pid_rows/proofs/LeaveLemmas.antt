@@ -8,8 +8,9 @@ use Rattle.sqlite.specs.Steps.{FailsToCommit}
 use Rattle.sqlite.specs.declared.error.Error.{Error}
 use Rattle.sqlite_trees.specs.declared.store.Store.{Ghosts}
 use Rattle.pid_moderation.specs.Views.{Views}
-use Rattle.pid_rows.specs.Shows.{Counts, Shows, counts_of}
-use Rattle.pid_rows.specs.Leaves.{as_found, Leaves, LeavesEither, AtRest, Holds, Within, Written}
+use Rattle.pid_rows.specs.Shows.{Counts, Numbers, ShowsKeeping, Shows, counts_of}
+use Rattle.pid_rows.specs.Schema.{Version, schema_of}
+use Rattle.pid_rows.specs.Leaves.{found_in, Leaves, LeavesEither, AtRest, Holds, Within, Written}
 
 pub leaves_on : (old new : State) (v : Views) → Survives old new (λ _. ⊥) → Leaves old v → Leaves new v
 leaves_on old new v s all = record { each = λ clean db may. elim (s.crash clean db may) [ inl was ↦ all.each (omega (arith, s.clean)) db was | inr none ↦ absurd none ] }
@@ -18,8 +19,10 @@ pub leaves_once : (old new : State) (first second : Views) → Survives old new 
 leaves_once old new first second s all = record { each = λ clean db may. inl ((leaves_on old new first s all).each clean db may) }
 
 -- the trees, with the schema that they list
-pub shows_found : (db : Database) (v : Views) → Shows db v → (trees : Trees) → trees ≡ db.trees → Shows (as_found trees) v
-shows_found db v h trees same = subst (λ t. Shows (as_found t) v) (sym same) (subst (λ (d : Database). Shows d v) (ap (λ s. record { schema = s; trees = db.trees }) h.schema) h)
+pub shows_found : {version : Version} {c : Counts} {numbers : Numbers} (db : Database) (v : Views) → ShowsKeeping version c numbers db v → (trees : Trees) → trees ≡ db.trees
+    → ShowsKeeping version c numbers (found_in (schema_of version) trees) v
+shows_found {version = version} {c = c} {numbers = numbers} db v h trees same =
+    subst (λ t. ShowsKeeping version c numbers (found_in (schema_of version) t) v) (sym same) (subst (λ (d : Database). ShowsKeeping version c numbers d v) (ap (λ s. record { schema = s; trees = db.trees }) h.schema) h)
 
 pub leaves_either : (old new : State) (first second : Views) → Survives old new (λ db. db ≡ old.now.trees) → Leaves old first → (HasCleanDisk new → Shows old.now second) → LeavesEither new first second
 leaves_either old new first second s all shows =

@@ -1,4 +1,4 @@
--- Queries and writes by key on a table that keeps a map.
+-- Queries and writes by key on a table that keeps a map, in any schema.
 use Rattle.std.proofs.Common.{◌≡◌, ◌≢◌, ◌⊎◌, inl, inr, ℕ, ℤ, List, [], ◌∷◌, ◌++◌, map, drop, slice_get, length, Bool, true, false, cond, None, Some, Option, Ok, refl, sym, ap, subst, ◌∙◌}
 use Rattle.std.specs.Prelude.{option_map, nat_le, unwrap_or, ◌-◌, ◌^◌, ◌/◌}
 use Rattle.std.specs.List.{AllByRecursion}
@@ -10,6 +10,7 @@ use Rattle.sqlite.specs.Order.{Row, column}
 use Rattle.sqlite.specs.declared.types.Value.TheVariants.{Null, Int}
 use Rattle.sqlite.specs.Term.{Term, col}
 use Rattle.sqlite.specs.Table.{Table}
+use Rattle.sqlite.specs.Source.TheVariants.{Values}
 use Rattle.sqlite.specs.Cast.{cast_row}
 use Rattle.sqlite.specs.Edit.{numbered, edit_of, without_all}
 use Rattle.sqlite.specs.Query.{IsAnswer}
@@ -23,12 +24,14 @@ use Rattle.sqlite_rules.specs.Calls.{ids_of}
 use Rattle.sqlite_rules.proofs.ListLemmas.{has_filtered, has_kept}
 use Rattle.sqlite_rules.proofs.ProbeLemmas.{mapped_has}
 use Rattle.sqlite_rules.proofs.PlaceLemmas.{given as given_rows}
-use Rattle.pid_rows.specs.Schema.{pid_schema}
+use Rattle.sqlite.specs.Schema.{Schema}
+use Rattle.sqlite_schema.specs.declared.schema.Keys.TheVariants.{Enforced}
+use Rattle.sqlite_rules.specs.Action.{works}
 use Rattle.pid_rows.specs.PairRows.{Map, RowsAre}
 use Rattle.pid_rows.proofs.Statements.{simple, program, IsSelect, IsInsert, IsUpdate, IsDelete}
 use Rattle.pid_rows.proofs.Select.{passing, shown, simple_rows}
-use Rattle.pid_rows.proofs.WriteLemmas.{IsPlainTable}
-use Rattle.pid_rows.proofs.RanLemmas.{Makes, ran_insert, ran_update, ran_delete, none_acts}
+use Rattle.pid_rows.proofs.WriteLemmas.{IsPlainTable, UpdatesAlone}
+use Rattle.pid_rows.proofs.RanLemmas.{Makes, ran_insert, ran_update, ran_delete}
 use Rattle.pid_rows.proofs.TurnLemmas.{AreKeyed, hits, Turns, turns_insert, turns_hit, has_mapped, permuted}
 
 nil_or_first : {X : Type 0} (xs : List X) → (xs ≡ []) ⊎ ((x : X) × Has xs x × (slice_get xs 0 ≡ Some x))
@@ -51,11 +54,11 @@ pub record Sets {K V : Type 0} (m : Map K V) (key : K) (value : Option V) (next 
   pub past : (k : K) → k ≢ key → next k ≡ m k
 
 -- the table shows the map, and each other table is as it was
-pub record Wrote {K V : Type 0} (row : ℤ → K → V → Row) (table : Table) (old new : State) (m : Map K V) : Type 0 where
-  pub schema : new.now.schema ≡ pid_schema
+pub record Wrote {K V : Type 0} (schema : Schema) (row : ℤ → K → V → Row) (table : Table) (old new : State) (m : Map K V) : Type 0 where
+  pub schema_is : new.now.schema ≡ schema
   pub sound : IsDatabase new.now
   pub rows : RowsAre row m (new.now.trees table.tree)
-  pub others : AllByRecursion (λ (t : Table). t.tree ≢ table.tree → new.now.trees t.tree ≡ old.now.trees t.tree) pid_schema.tables
+  pub others : AllByRecursion (λ (t : Table). t.tree ≢ table.tree → new.now.trees t.tree ≡ old.now.trees t.tree) schema.tables
 
 pub none_over : (db : Trees) (t : ℕ) → overlay db [] t ≡ db t
 none_over db t = elim (nat_le (2 ^ 31) t) as (λ b. unwrap_or (cond b (slice_get [] (t - 2 ^ 31)) None) (db t) ≡ db t) [ true ↦ refl | false ↦ refl ]
@@ -126,7 +129,7 @@ module _ {K V : Type 0} (row : ℤ → K → V → Row) (tests : List Term) (giv
     ];
   }
 
-  module _ (table : Table) (at : ℕ) (here : slice_get pid_schema.tables at ≡ Some table) (plain : IsPlainTable table) (old new : State) (has : old.now.schema ≡ pid_schema)
+  module _ (schema : Schema) (table : Table) (at : ℕ) (here : slice_get schema.tables at ≡ Some table) (plain : IsPlainTable table) (old new : State) (has : old.now.schema ≡ schema)
       (are : RowsAre row m (old.now.trees table.tree)) where
     abbrev rows : List Row
     rows = old.now.trees table.tree
@@ -140,35 +143,35 @@ module _ {K V : Type 0} (row : ℤ → K → V → Row) (tests : List Term) (giv
         subst (λ xs. IsPermutation (map (shown project params) (passing tests params xs)) answer) (none_over old.now.trees table.tree)
         (simple_rows table.tree tests project (overlay old.now.trees []) params answer a)
 
-    pub map_found : (sql : List ℕ) (names : List (List ℕ)) (project : List Term) → IsSelect table.tree tests project sql names → (out : V → Row)
+    pub map_found : (sql : List ℕ) (names : List (List ℕ)) (project : List Term) → IsSelect schema table.tree tests project sql names → (out : V → Row)
         → ((id : ℤ) (v : V) → shown project (given key ++ []) (row id key v) ≡ out v) → (answer : List Row) → Shown sql (given key ++ []) old new answer → slice_get answer 0 ≡ option_map out (m key)
     map_found sql names project s out outs answer h =
-        let got = reads_as sql (given key ++ []) old new pid_schema has _ s.is s.plain s.unlisted answer h in
+        let got = reads_as sql (given key ++ []) old new schema has _ s.is s.plain s.unlisted answer h in
         first_is rows are [] project out outs answer (matched (given key ++ []) project answer (got.answer Null))
 
-    pub map_added : (sql : List ℕ) (terms : List Term) (width : ℕ) → IsInsert at terms width sql → (more source : Row) → value_rows (given key ++ more) width (length terms / width) terms ≡ source ∷ []
+    pub map_added : (sql : List ℕ) (terms : List Term) (width : ℕ) → IsInsert schema at terms width sql → (more source : Row) → value_rows (given key ++ more) width (length terms / width) terms ≡ source ∷ []
         → (v : V) → ((rs : List Row) → (id : ℤ) × (numbered Chosen rs (cast_row table source ∷ []) ≡ row id key v ∷ [])) → (after : Map K V) → Sets m key (Some v) after
-        → (count : ℕ) → m key ≡ None → Executes sql (given key ++ more) old new (Ok count) → Wrote row table old new after
+        → (count : ℕ) → m key ≡ None → Executes sql (given key ++ more) old new (Ok count) → Wrote schema row table old new after
     map_added sql terms width s more source one v numbers after sets count none h =
-        let ran = ran_insert sql (given key ++ more) old new has at table here plain s.plain count h terms width s.is in
-        let makes = subst (λ xs. Makes old new (edit_of old.now.trees table [] Chosen 0 xs)) (ran.1.1 ∙ one) ran.2 in
+        let ran = ran_insert schema sql (given key ++ more) old new has at table here plain s.plain count h (Values terms width) s.is in
+        let makes = subst (λ xs. Makes schema old new (edit_of old.now.trees table [] Chosen 0 xs)) (ran.1.1 ∙ one) ran.2 in
         let id = numbers rows in
         let next = new.now.trees table.tree in
         let turns = subst (λ news. Turns rows next news (λ _. false)) id.1 (turns_insert rows next _ are.ordered makes.applies.fresh makes.applies.rows) in
         record {
-          schema = makes.schema;
+          schema_is = makes.schema_is;
           sound = makes.sound;
           rows = pairs_set (Some v) after sets rows next (row id.0 key v ∷ []) (λ _. false) are turns (λ x one. elim one [ inl is ↦ (id.0, v, is, refl) | inr more ↦ absurd more ])
               (λ w e. (id.0, inl (ap (row id.0 key) (sym (some_same e))))) (λ i k w maps miss same. absurd (let e = sym none ∙ ap m (sym same) ∙ maps in cc)) (λ i k w other. refl);
           others = makes.applies.tables;
         }
 
-    pub map_changed : (sql : List ℕ) (change : List Term) → IsUpdate at table.tree tests change sql → (more : Row) (was v : V)
+    pub map_changed : (sql : List ℕ) (change : List Term) → IsUpdate schema at table.tree tests change sql → UpdatesAlone schema Enforced table old.now.trees → (more : Row) (was v : V)
         → ((id : ℤ) → cast_row table (drop 1 (shown (col 1 0 ∷ change) (given key ++ more) (row id key was))) ≡ row id key v) → (after : Map K V) → Sets m key (Some v) after
-        → (count : ℕ) → m key ≡ Some was → Executes sql (given key ++ more) old new (Ok count) → Wrote row table old new after
-    map_changed sql change s more was v put after sets count some h =
+        → (count : ℕ) → m key ≡ Some was → Executes sql (given key ++ more) old new (Ok count) → Wrote schema row table old new after
+    map_changed sql change s quiet more was v put after sets count some h =
         let params = given key ++ more in
-        let ran = ran_update sql params old new has at table here plain s.plain count h (program (simple table.tree tests (col 1 0 ∷ change))) s.is (none_acts table.tree) in
+        let ran = ran_update schema sql params old new has at table here plain s.plain count h (program (simple table.tree tests (col 1 0 ∷ change))) s.is quiet in
         let next = new.now.trees table.tree in
         let same = matched params (col 1 0 ∷ change) ran.0 (ran.1.answer Null) in
         let news = map (λ s. cast_row table (drop 1 s)) ran.0 in
@@ -176,7 +179,7 @@ module _ {K V : Type 0} (row : ℤ → K → V → Row) (tests : List Term) (giv
         let turns = subst (λ xs. Turns rows next xs (hits tests params)) (given_rows (without_all rows (ids_of ran.0)) news) turns0 in
         let out = shown (col 1 0 ∷ change) params in
         record {
-          schema = ran.2.schema;
+          schema_is = ran.2.schema_is;
           sound = ran.2.sound;
           rows = pairs_set (Some v) after sets rows next news (hits tests params) are turns
               (λ x one.
@@ -193,16 +196,16 @@ module _ {K V : Type 0} (row : ℤ → K → V → Row) (tests : List Term) (giv
           others = ran.2.applies.tables;
         }
 
-    pub map_removed : (sql : List ℕ) → IsDelete at table.tree tests sql → (after : Map K V) → Sets m key None after → (count : ℕ) → Executes sql (given key ++ []) old new (Ok count)
-        → Wrote row table old new after
-    map_removed sql s after sets count h =
+    pub map_removed : (sql : List ℕ) → IsDelete schema at table.tree tests sql → ((olds news : List Row) → works schema Enforced 0 table.tree olds news ≡ []) → (after : Map K V) → Sets m key None after → (count : ℕ) → Executes sql (given key ++ []) old new (Ok count)
+        → Wrote schema row table old new after
+    map_removed sql s none after sets count h =
         let params = given key ++ [] in
-        let ran = ran_delete sql params old new has at table here plain s.plain count h (program (simple table.tree tests (col 1 0 ∷ []))) s.is (none_acts table.tree) in
+        let ran = ran_delete schema sql params old new has at table here plain s.plain count h (program (simple table.tree tests (col 1 0 ∷ []))) s.is none in
         let next = new.now.trees table.tree in
         let same = matched params (col 1 0 ∷ []) ran.0 (ran.1.answer Null) in
         let turns = turns_hit tests [] params rows ran.0 are.ordered keyed same next [] ran.2.applies.fresh ran.2.applies.rows in
         record {
-          schema = ran.2.schema;
+          schema_is = ran.2.schema_is;
           sound = ran.2.sound;
           rows = pairs_set None after sets rows next [] (hits tests params) are turns (λ x one. absurd one) (λ w e. absurd cc) (λ i k w maps miss. own_hits rows are [] i k w miss)
               (λ i k w other. others_miss rows are [] i k w other);

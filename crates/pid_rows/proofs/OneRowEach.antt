@@ -18,7 +18,7 @@ use Rattle.sqlite_rules.specs.Lists.{Has}
 use Rattle.sqlite_rules.proofs.ListLemmas.{all_has}
 use Rattle.sqlite_schema.specs.Rules.{agree, clashes, differ, equal, passes, Obeys}
 use Rattle.sqlite_schema.specs.declared.schema.Constraint.TheVariants.{Unique}
-use Rattle.pid_rows.specs.Schema.{pid_schema, item}
+use Rattle.pid_rows.specs.Schema.{Version, schema_of, item}
 use Rattle.pid_rows.proofs.Select.{said, text_equal}
 use Rattle.pid_rows.proofs.Lengths.{IsDistinct}
 
@@ -54,11 +54,11 @@ agrees : (a b : Row) (k : List ℕ) → column a 1 ≡ Text k → column b 1 ≡
 unfolding first_key
 agrees a b k p q = (λ i. equal Binary (p i) (q i) && true) ∙ ap (λ t. t && true) (text_equal k)
 
-pub item_keys_apart : (db : Database) → IsDatabase db → db.schema ≡ pid_schema → IsTable (db.trees 4) → ((r : Row) → Has (db.trees 4) r → (id : ℤ) × (k : List ℕ) × (rowid r ≡ Int id) × (column r 1 ≡ Text k))
+pub item_keys_apart : (version : Version) (db : Database) → IsDatabase db → db.schema ≡ schema_of version → IsTable (db.trees 4) → ((r : Row) → Has (db.trees 4) r → (id : ℤ) × (k : List ℕ) × (rowid r ≡ Int id) × (column r 1 ≡ Text k))
     → IsDistinct (map (λ r. column r 1) (db.trees 4))
-item_keys_apart db sound has up keyed =
-    let obeys : Obeys pid_schema db.trees = subst (λ s. Obeys s db.trees) has sound.obeys in
-    let passed : AllByRecursion (λ row. passes Unique pid_schema db.trees item row ≡ true) (db.trees 4) = (obeys.rules Unique).1.1.0 in
+item_keys_apart version db sound has up keyed =
+    let obeys : Obeys (schema_of version) db.trees = subst (λ s. Obeys s db.trees) has sound.obeys in
+    let passed : AllByRecursion (λ row. passes Unique (schema_of version) db.trees item row ≡ true) (db.trees 4) = (obeys.rules Unique).1.1.0 in
     rising_apart (λ a b. value_cmp (rowid a) (rowid b) ≡ Less) (λ r. column r 1) (db.trees 4) up (λ a b p q less same.
     let ka = keyed a p in
     let kb = keyed b q in

@@ -26,9 +26,9 @@ use Rattle.sqlite_rules.proofs.ListLemmas.{has_filtered, has_kept}
 use Rattle.pid_ident.specs.Trees.{text_cmp}
 use Rattle.pid_moderation.specs.Items.{Items, name_at}
 use Rattle.pid_moderation.specs.Views.{Views}
-use Rattle.pid_rows.specs.Schema.{pid_schema}
+use Rattle.pid_rows.specs.Schema.{Version, schema_of}
 use Rattle.pid_rows.specs.TableRows.{item_row}
-use Rattle.pid_rows.specs.Shows.{Counts, ShowsCounting}
+use Rattle.pid_rows.specs.Shows.{Counts, Numbers, ShowsKeeping}
 use Rattle.pid_rows.specs.Ranges.{is_between, holds_between}
 use Rattle.pid_rows.proofs.Statements.{program, first_one}
 use Rattle.pid_rows.proofs.MapLemmas.{none_over}
@@ -43,17 +43,17 @@ select_between = codes "SELECT path FROM item WHERE path > ?1 AND path < ?2 LIMI
 abbrev pub in_range : List Term
 in_range = op2 (Compare Gt Binary) (col 1 1) (col 0 0) ∷ op2 (Compare Lt Binary) (col 1 1) (col 0 1) ∷ []
 
-pub select_between_is : command_of (understood pid_schema select_between) ≡ Select (program (first_one 4 in_range (col 1 1 ∷ []) [])) (codes "path" ∷ [])
+pub select_between_is : (version : Version) → command_of (understood (schema_of version) select_between) ≡ Select (program (first_one 4 in_range (col 1 1 ∷ []) [])) (codes "path" ∷ [])
 unfolding understood everything
-select_between_is = refl
+select_between_is version = refl
 
-pub select_between_plain : IsPlain (understood pid_schema select_between)
+pub select_between_plain : (version : Version) → IsPlain (understood (schema_of version) select_between)
 unfolding understood everything
-select_between_plain = (refl, refl)
+select_between_plain version = (refl, refl)
 
-pub select_between_unlisted : reads_listing pid_schema select_between ≡ false
+pub select_between_unlisted : (version : Version) → reads_listing (schema_of version) select_between ≡ false
 unfolding understood everything
-select_between_unlisted = refl
+select_between_unlisted version = refl
 
 turned : (o : Ordering) → is_gt o ≡ is_lt (ordering_reverse o)
 turned Less = refl
@@ -136,7 +136,7 @@ found_at (x ∷ items) e sorted (inr later) =
 
 -- ---- what the query answers
 
-module _ (old new : State) (c : Counts) (v : Views) (shows : ShowsCounting c old.now v) (low high : List ℕ) where
+module _ {version : Version} {numbers : Numbers} (old new : State) (c : Counts) (v : Views) (shows : ShowsKeeping version c numbers old.now v) (low high : List ℕ) where
   abbrev rows : List Row
   rows = old.now.trees 4
 
@@ -160,7 +160,7 @@ module _ (old new : State) (c : Counts) (v : Views) (shows : ShowsCounting c old
       → ((answer ≡ []) × (holds_between low high v.items ≡ false)) ⊎ ((row : Row) × (answer ≡ row ∷ []) × (holds_between low high v.items ≡ true))
   between_found answer h =
       let ps = Text low ∷ Text high ∷ [] in
-      let got = reads_as select_between ps old new pid_schema shows.schema _ select_between_is select_between_plain select_between_unlisted answer h in
+      let got = reads_as select_between ps old new (schema_of version) shows.schema _ (select_between_is version) (select_between_plain version) (select_between_unlisted version) answer h in
       let a : IsAnswer (first_one 4 in_range (col 1 1 ∷ []) []) (overlay old.now.trees []) ps answer = got.answer Null in
       elim (subst (λ xs. HasNone 4 in_range (col 1 1 ∷ []) [] ps xs answer ⊎ IsFirst 4 in_range (col 1 1 ∷ []) [] ps xs answer) (none_over old.now.trees 4) (first_found 4 in_range (col 1 1 ∷ []) [] ps (overlay old.now.trees []) answer a)) [
         | inl none ↦ inl (none.0, none_in none.1)

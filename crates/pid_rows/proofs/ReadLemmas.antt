@@ -8,8 +8,8 @@ use Rattle.sqlite.specs.Clock.{timed}
 use Rattle.sqlite.specs.declared.error.Error.{Error}
 use Rattle.sqlite.proofs.Callers.{IsPlain}
 use Rattle.pid_moderation.specs.Views.{Views}
-use Rattle.pid_rows.specs.Schema.{pid_schema}
-use Rattle.pid_rows.specs.Shows.{Counts, ShowsCounting}
+use Rattle.pid_rows.specs.Schema.{Version, schema_of}
+use Rattle.pid_rows.specs.Shows.{Counts, Numbers, ShowsKeeping}
 
 pub not_run : (old new : State) (sql : List ℕ) (params : Row) (e : Error) → IsNotRun old new sql params e → IsUnchanged old new ⊎ IsRolledBack old new
 unfolding IsNotRun
@@ -61,8 +61,8 @@ fails_keeping sql params old new e (inl fails) opened = kept_same old new (fails
 fails_keeping sql params old new e (inr late) opened = let same = late.5 in (same.0.was_open, same.0.committed_is)
 
 -- the tables show what they showed
-pub shows_still : (sql : List ℕ) (params : Row) (old new : State) (rows : List Row) (c : Counts) (v : Views) → IsPlain (understood pid_schema sql) → ShowsCounting c old.now v → Shown sql params old new rows
-    → ShowsCounting c new.now v
-shows_still sql params old new rows c v plain shows h =
+pub shows_still : {version : Version} {numbers : Numbers} (sql : List ℕ) (params : Row) (old new : State) (rows : List Row) (c : Counts) (v : Views) → IsPlain (understood (schema_of version) sql)
+    → ShowsKeeping version c numbers old.now v → Shown sql params old new rows → ShowsKeeping version c numbers new.now v
+shows_still {version = version} {numbers = numbers} sql params old new rows c v plain shows h =
     let same = shown_same sql params old new rows (subst (λ s. IsPlain (understood s sql)) (sym shows.schema) plain) h in
-    subst (λ d. ShowsCounting c d v) (sym same.0.now_is) shows
+    subst (λ d. ShowsKeeping version c numbers d v) (sym same.0.now_is) shows

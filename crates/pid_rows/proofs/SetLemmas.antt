@@ -20,8 +20,9 @@ use Rattle.pid_moderation.specs.declared.facts.State.TheVariants.{Pending, Appro
 use Rattle.pid_moderation.specs.Items.{Items, name_at}
 use Rattle.pid_moderation.specs.Views.{Views, Submitted, Remark, submission_at}
 use Rattle.pid_rows.specs.PairRows.{Map}
+use Rattle.pid_rows.specs.Schema.{Version, number_of}
 use Rattle.pid_rows.specs.TableRows.{Standing, decider_of}
-use Rattle.pid_rows.specs.Shows.{Counts, meta_of, standing_in, counted_from_one, remark_in, receipt_in}
+use Rattle.pid_rows.specs.Shows.{Counts, labels_of, more_labels, standing_in, counted_from_one, remark_in, receipt_in}
 use Rattle.pid_rows.specs.Writes.{with_submission, with_state, with_remark, with_reply, NamesDecider}
 use Rattle.pid_rows.proofs.MapLemmas.{Sets}
 
@@ -79,23 +80,23 @@ name_left items path = record {
 
 -- ---- counts
 
-labels_past : (k : List ℕ) (a b x y : Bool) (one i j s t : Option ℕ) → (a ≡ true → i ≡ j) → ((b ≡ true) → s ≡ t) → cond x one (cond a i (cond b s None)) ≡ cond x one (cond a j (cond b t None))
-labels_past k a b true y one i j s t f g = refl
-labels_past k true b false y one i j s t f g = f refl
-labels_past k false true false y one i j s t f g = g refl
-labels_past k false false false y one i j s t f g = refl
+labels_past : (k : List ℕ) (a b x : Bool) (one i j s t more : Option ℕ) → (a ≡ true → i ≡ j) → ((b ≡ true) → s ≡ t) → cond x one (cond a i (cond b s more)) ≡ cond x one (cond a j (cond b t more))
+labels_past k a b true one i j s t more f g = refl
+labels_past k true b false one i j s t more f g = f refl
+labels_past k false true false one i j s t more f g = g refl
+labels_past k false false false one i j s t more f g = refl
 
-pub items_set : (c : Counts) (n : ℕ) → Sets (meta_of c) (codes "items") (Some n) (meta_of (record c { items = n }))
-items_set c n = record {
+pub items_set : (version : Version) (c : Counts) (revision n : ℕ) → Sets (labels_of version c revision) (codes "items") (Some n) (labels_of version (record c { items = n }) revision)
+items_set version c revision n = record {
   at = refl;
-  past = λ k other. labels_past k (bytes_eq k (codes "items")) (bytes_eq k (codes "submissions")) (bytes_eq k (codes "schema")) true (Some 1) (Some n) (Some c.items) (Some c.submissions) (Some c.submissions)
+  past = λ k other. labels_past k (bytes_eq k (codes "items")) (bytes_eq k (codes "submissions")) (bytes_eq k (codes "schema")) (Some (number_of version)) (Some n) (Some c.items) (Some c.submissions) (Some c.submissions) (more_labels version revision k)
       (λ same. absurd (other ((bytes_eq-Decides k (codes "items")).0 same))) (λ _. refl);
 }
 
-pub submissions_set : (c : Counts) (n : ℕ) → Sets (meta_of c) (codes "submissions") (Some n) (meta_of (record c { submissions = n }))
-submissions_set c n = record {
+pub submissions_set : (version : Version) (c : Counts) (revision n : ℕ) → Sets (labels_of version c revision) (codes "submissions") (Some n) (labels_of version (record c { submissions = n }) revision)
+submissions_set version c revision n = record {
   at = refl;
-  past = λ k other. labels_past k (bytes_eq k (codes "items")) (bytes_eq k (codes "submissions")) (bytes_eq k (codes "schema")) true (Some 1) (Some c.items) (Some c.items) (Some n) (Some c.submissions)
+  past = λ k other. labels_past k (bytes_eq k (codes "items")) (bytes_eq k (codes "submissions")) (bytes_eq k (codes "schema")) (Some (number_of version)) (Some c.items) (Some c.items) (Some n) (Some c.submissions) (more_labels version revision k)
       (λ _. refl) (λ same. absurd (other ((bytes_eq-Decides k (codes "submissions")).0 same)));
 }
 

@@ -1,4 +1,4 @@
--- Queries and writes on one table, by its key.
+-- Queries and writes on one table, by its key, in a schema.
 use Rattle.std.proofs.Common.{◌≡◌, ℕ, pos, negsuc, List, [], ◌∷◌, false, None}
 use Rattle.sqlite.specs.declared.types.Value.TheVariants.{Int}
 use Rattle.sqlite.specs.Term.{Term, lit, col, op2}
@@ -12,7 +12,7 @@ use Rattle.sqlite.specs.Listing.{understood, reads_listing}
 use Rattle.sqlite.proofs.Callers.{IsPlain, command_of}
 use Rattle.sqlite_schema.specs.declared.program.Program.{Program}
 use Rattle.sqlite_value.specs.declared.keys.Key.{Key}
-use Rattle.pid_rows.specs.Schema.{pid_schema}
+use Rattle.sqlite.specs.Schema.{Schema}
 
 -- the rows of one table that pass the tests, in an order, at most so many
 abbrev pub listing : ℕ → List Term → List Term → List (Term × Key) → Term → Query
@@ -48,22 +48,22 @@ abbrev pub equals : ℕ → ℕ → Term
 equals at param = op2 (Compare Eq Binary) (col 1 at) (col 0 param)
 
 -- SELECT .. FROM .. WHERE ..
-pub record IsSelect (tree : ℕ) (tests project : List Term) (sql : List ℕ) (names : List (List ℕ)) : Type 0 where
-  pub is : command_of (understood pid_schema sql) ≡ Select (program (simple tree tests project)) names
-  pub plain : IsPlain (understood pid_schema sql)
-  pub unlisted : reads_listing pid_schema sql ≡ false
+pub record IsSelect (schema : Schema) (tree : ℕ) (tests project : List Term) (sql : List ℕ) (names : List (List ℕ)) : Type 0 where
+  pub is : command_of (understood schema sql) ≡ Select (program (simple tree tests project)) names
+  pub plain : IsPlain (understood schema sql)
+  pub unlisted : reads_listing schema sql ≡ false
 
 -- INSERT INTO .. VALUES ..
-pub record IsInsert (at : ℕ) (terms : List Term) (width : ℕ) (sql : List ℕ) : Type 0 where
-  pub is : command_of (understood pid_schema sql) ≡ Insert at (Values terms width)
-  pub plain : IsPlain (understood pid_schema sql)
+pub record IsInsert (schema : Schema) (at : ℕ) (terms : List Term) (width : ℕ) (sql : List ℕ) : Type 0 where
+  pub is : command_of (understood schema sql) ≡ Insert at (Values terms width)
+  pub plain : IsPlain (understood schema sql)
 
 -- UPDATE .. SET .. WHERE ..
-pub record IsUpdate (at tree : ℕ) (tests change : List Term) (sql : List ℕ) : Type 0 where
-  pub is : command_of (understood pid_schema sql) ≡ Update at (program (simple tree tests (col 1 0 ∷ change)))
-  pub plain : IsPlain (understood pid_schema sql)
+pub record IsUpdate (schema : Schema) (at tree : ℕ) (tests change : List Term) (sql : List ℕ) : Type 0 where
+  pub is : command_of (understood schema sql) ≡ Update at (program (simple tree tests (col 1 0 ∷ change)))
+  pub plain : IsPlain (understood schema sql)
 
 -- DELETE FROM .. WHERE ..
-pub record IsDelete (at tree : ℕ) (tests : List Term) (sql : List ℕ) : Type 0 where
-  pub is : command_of (understood pid_schema sql) ≡ Delete at (program (simple tree tests (col 1 0 ∷ [])))
-  pub plain : IsPlain (understood pid_schema sql)
+pub record IsDelete (schema : Schema) (at tree : ℕ) (tests : List Term) (sql : List ℕ) : Type 0 where
+  pub is : command_of (understood schema sql) ≡ Delete at (program (simple tree tests (col 1 0 ∷ [])))
+  pub plain : IsPlain (understood schema sql)

@@ -38,7 +38,6 @@ use Rattle.sqlite_schema.specs.declared.schema.Schema.{Schema}
 use Rattle.pid_rows.specs.declared.fault.TableFault.{TableFault}
 use Rattle.pid_rows.specs.Faults.{fault_of, IsUntold}
 use Rattle.pid_rows.specs.Queries.{IsWrite, IsWriteAs}
-use Rattle.pid_rows.specs.Schema.{pid_schema}
 use Rattle.pid_rows.proofs.FaultLemmas.{failed, of_store, moved, not_run}
 use Rattle.pid_rows.proofs.Statements.{IsInsert, IsUpdate, IsDelete}
 use Rattle.sqlite.specs.Term.{Term}
@@ -228,13 +227,13 @@ known_text : (sql : List ℕ) (r : Result Compiled CompileError) (command : Comm
 known_text sql (Ok c) command is plain writes = (plain.0, subst (IsWrite (text_of sql c)) (sym is) writes)
 known_text sql (Err e) command is plain writes = plain
 
-pub insert_writes : {at : ℕ} {terms : List Term} {width : ℕ} {sql : List ℕ} → IsInsert at terms width sql → IsWriteAs sql (understood pid_schema sql)
+pub insert_writes : {schema : Schema} {at : ℕ} {terms : List Term} {width : ℕ} {sql : List ℕ} → IsInsert schema at terms width sql → IsWriteAs sql (understood schema sql)
 insert_writes {sql = sql} h = known_text sql _ _ h.is h.plain tt
 
-pub update_writes : {at tree : ℕ} {tests change : List Term} {sql : List ℕ} → IsUpdate at tree tests change sql → IsWriteAs sql (understood pid_schema sql)
+pub update_writes : {schema : Schema} {at tree : ℕ} {tests change : List Term} {sql : List ℕ} → IsUpdate schema at tree tests change sql → IsWriteAs sql (understood schema sql)
 update_writes {sql = sql} h = known_text sql _ _ h.is h.plain tt
 
-pub delete_writes : {at tree : ℕ} {tests : List Term} {sql : List ℕ} → IsDelete at tree tests sql → IsWriteAs sql (understood pid_schema sql)
+pub delete_writes : {schema : Schema} {at tree : ℕ} {tests : List Term} {sql : List ℕ} → IsDelete schema at tree tests sql → IsWriteAs sql (understood schema sql)
 delete_writes {sql = sql} h = known_text sql _ _ h.is h.plain tt
 
 pub create_writes : (schema : Schema) (sql : List ℕ) (table : Table) → command_of (understood schema sql) ≡ CreateTable → IsPlain (understood schema sql) → statement_of sql (understood schema sql) ≡ sql → table_defined_by sql ≡ Ok table

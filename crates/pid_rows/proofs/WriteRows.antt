@@ -14,11 +14,12 @@ use Rattle.pid_moderation.specs.declared.rank.Rank.{Rank}
 use Rattle.pid_moderation.specs.Items.{name_at}
 use Rattle.pid_moderation.specs.Ranks.{rank_number}
 use Rattle.pid_moderation.specs.Views.{Views, Submitted, Remark, submission_at}
-use Rattle.pid_rows.specs.Schema.{meta, account, item, submission, remark, receipt}
+use Rattle.pid_rows.specs.Schema.{Version, One, schema_of, pid_schema, meta, account, item, submission, remark, receipt}
 use Rattle.pid_rows.specs.TableRows.{number, meta_row, account_row, item_row, submission_row, remark_row, receipt_row, form_of, name_of, state_number, decider_of, reason_of, kind_of, first_of, second_of, third_of}
-use Rattle.pid_rows.specs.Shows.{Counts, ShowsCounting, meta_of, standing_in, remark_in, receipt_in}
+use Rattle.pid_rows.specs.Shows.{Counts, Numbers, ShowsKeeping, ShowsCounting, labels_of, standing_in, remark_in, receipt_in}
 use Rattle.pid_rows.specs.Writes.{with_rank, with_name, without_item, with_submission, with_state, with_remark, with_reply, NamesDecider}
 use Rattle.pid_rows.proofs.WriteLemmas.{cast_null, cast_int}
+use Rattle.pid_rows.proofs.RanLemmas.{none_acts, updates_alone}
 use Rattle.pid_rows.proofs.MapLemmas.{map_added, map_changed, map_removed}
 use Rattle.pid_rows.proofs.SetLemmas.{text_set, put_sorted, left_sorted, name_put, name_left, items_set, submissions_set, past_the_last, not_before, all_with, submission_set, state_set, not_there, any_author, past_all, remark_set, reply_set}
 use Rattle.pid_rows.proofs.Keys.{meta_found, account_found, item_found, submission_found, remark_found, receipt_found, meta_plain, account_plain, item_plain, submission_plain, remark_plain, receipt_plain, meta_cast, account_cast, item_cast, submission_cast, remark_cast, receipt_cast}
@@ -34,97 +35,91 @@ pub some_there : {A : Type 0} (o : Option A) → IsSome o → (a : A) × (o ≡ 
 some_there None h = absurd cc
 some_there (Some a) h = (a, refl)
 
-module _ (old new : State) (c : Counts) (v : Views) (shows : ShowsCounting c old.now v) where
-  pub account_added : (name : List ℕ) (rank : Rank) → v.rank name ≡ None → Ran insert_account (Text name ∷ number (rank_number rank) ∷ []) old new → ShowsCounting c new.now (with_rank name rank v)
+module _ {version : Version} {numbers : Numbers} (old new : State) (c : Counts) (v : Views) (shows : ShowsKeeping version c numbers old.now v) where
+  pub account_added : (name : List ℕ) (rank : Rank) → v.rank name ≡ None → Ran insert_account (Text name ∷ number (rank_number rank) ∷ []) old new → ShowsKeeping version c numbers new.now (with_rank name rank v)
   account_added name rank none ran =
       let n = rank_number rank in
       wrote_account old new c v shows _
-      (map_added account_row by_first _ account_found v.rank name account 1 refl account_plain old new shows.schema shows.accounts insert_account pair_terms 3 insert_account_is
+      (map_added account_row by_first _ account_found v.rank name (schema_of version) account 1 refl account_plain old new shows.schema shows.accounts insert_account pair_terms 3 (insert_account_is version)
       (number n ∷ []) (Null ∷ Text name ∷ number n ∷ []) refl rank
       (λ rs. (next_rowid rs, ap (λ r. numbered Chosen rs (r ∷ [])) (account_cast Null name n ∙ ap (λ w. w ∷ Text name ∷ number n ∷ []) cast_null)))
       _ (text_set v.rank name (Some rank)) ran.0 none ran.1)
 
-  pub rank_changed : (name : List ℕ) (rank : Rank) → IsSome (v.rank name) → Ran update_account (Text name ∷ number (rank_number rank) ∷ []) old new → ShowsCounting c new.now (with_rank name rank v)
+  pub rank_changed : (name : List ℕ) (rank : Rank) → IsSome (v.rank name) → Ran update_account (Text name ∷ number (rank_number rank) ∷ []) old new → ShowsKeeping version c numbers new.now (with_rank name rank v)
   rank_changed name rank some ran =
       let n = rank_number rank in
       let was = some_there (v.rank name) some in
       wrote_account old new c v shows _
-      (map_changed account_row by_first _ account_found v.rank name account 1 refl account_plain old new shows.schema shows.accounts update_account pair_change update_account_is
+      (map_changed account_row by_first _ account_found v.rank name (schema_of version) account 1 refl account_plain old new shows.schema shows.accounts update_account pair_change (update_account_is version) (updates_alone version account old.now.trees)
       (number n ∷ []) was.0 rank (λ id. account_cast (Int id) name n ∙ ap (λ w. w ∷ Text name ∷ number n ∷ []) (cast_int id))
       _ (text_set v.rank name (Some rank)) ran.0 was.1 ran.1)
 
   -- ---- items
 
-  pub item_added : (path name : List ℕ) → name_at path v.items ≡ None → Ran insert_item (Text path ∷ Text name ∷ []) old new → ShowsCounting c new.now (with_name path name v)
+  pub item_added : (path name : List ℕ) → name_at path v.items ≡ None → Ran insert_item (Text path ∷ Text name ∷ []) old new → ShowsKeeping version c numbers new.now (with_name path name v)
   item_added path name none ran =
       wrote_item old new c v shows _ (put_sorted path name v.items shows.views.sorted)
-      (map_added item_row by_first _ item_found (λ p. name_at p v.items) path item 2 refl item_plain old new shows.schema shows.items insert_item pair_terms 3 insert_item_is
+      (map_added item_row by_first _ item_found (λ p. name_at p v.items) path (schema_of version) item 2 refl item_plain old new shows.schema shows.items insert_item pair_terms 3 (insert_item_is version)
       (Text name ∷ []) (Null ∷ Text path ∷ Text name ∷ []) refl name
       (λ rs. (next_rowid rs, ap (λ r. numbered Chosen rs (r ∷ [])) (item_cast Null path name ∙ ap (λ w. w ∷ Text path ∷ Text name ∷ []) cast_null)))
       _ (name_put v.items path name) ran.0 none ran.1)
 
-  pub item_renamed : (path name : List ℕ) → IsSome (name_at path v.items) → Ran update_item (Text path ∷ Text name ∷ []) old new → ShowsCounting c new.now (with_name path name v)
+  pub item_renamed : (path name : List ℕ) → IsSome (name_at path v.items) → Ran update_item (Text path ∷ Text name ∷ []) old new → ShowsKeeping version c numbers new.now (with_name path name v)
   item_renamed path name some ran =
       let was = some_there (name_at path v.items) some in
       wrote_item old new c v shows _ (put_sorted path name v.items shows.views.sorted)
-      (map_changed item_row by_first _ item_found (λ p. name_at p v.items) path item 2 refl item_plain old new shows.schema shows.items update_item pair_change update_item_is
+      (map_changed item_row by_first _ item_found (λ p. name_at p v.items) path (schema_of version) item 2 refl item_plain old new shows.schema shows.items update_item pair_change (update_item_is version) (updates_alone version item old.now.trees)
       (Text name ∷ []) was.0 name (λ id. item_cast (Int id) path name ∙ ap (λ w. w ∷ Text path ∷ Text name ∷ []) (cast_int id))
       _ (name_put v.items path name) ran.0 was.1 ran.1)
 
-  pub item_removed : (path : List ℕ) → Ran delete_item (Text path ∷ []) old new → ShowsCounting c new.now (without_item path v)
-  item_removed path ran =
-      wrote_item old new c v shows _ (left_sorted path v.items shows.views.sorted)
-      (map_removed item_row by_first _ item_found (λ p. name_at p v.items) path item 2 refl item_plain old new shows.schema shows.items delete_item delete_item_is
-      _ (name_left v.items path) ran.0 ran.1)
-
   -- ---- counts
 
-  pub items_counted : (n : ℕ) → Ran update_meta (Text (codes "items") ∷ number n ∷ []) old new → ShowsCounting (record c { items = n }) new.now v
+  pub items_counted : (n : ℕ) → Ran update_meta (Text (codes "items") ∷ number n ∷ []) old new → ShowsKeeping version (record c { items = n }) numbers new.now v
   items_counted n ran =
       wrote_meta old new c v shows (record c { items = n })
-      (map_changed meta_row by_first _ meta_found (meta_of c) (codes "items") meta 0 refl meta_plain old new shows.schema shows.meta update_meta pair_change update_meta_is
+      (map_changed meta_row by_first _ meta_found (labels_of version c numbers.revision) (codes "items") (schema_of version) meta 0 refl meta_plain old new shows.schema shows.meta update_meta pair_change (update_meta_is version) (updates_alone version meta old.now.trees)
       (number n ∷ []) c.items n (λ id. meta_cast (Int id) (codes "items") n ∙ ap (λ w. w ∷ Text (codes "items") ∷ number n ∷ []) (cast_int id))
-      _ (items_set c n) ran.0 refl ran.1)
+      _ (items_set version c numbers.revision n) ran.0 refl ran.1)
 
-  pub submissions_counted : (n : ℕ) → Ran update_meta (Text (codes "submissions") ∷ number n ∷ []) old new → ShowsCounting (record c { submissions = n }) new.now v
+  pub submissions_counted : (n : ℕ) → Ran update_meta (Text (codes "submissions") ∷ number n ∷ []) old new → ShowsKeeping version (record c { submissions = n }) numbers new.now v
   submissions_counted n ran =
       wrote_meta old new c v shows (record c { submissions = n })
-      (map_changed meta_row by_first _ meta_found (meta_of c) (codes "submissions") meta 0 refl meta_plain old new shows.schema shows.meta update_meta pair_change update_meta_is
+      (map_changed meta_row by_first _ meta_found (labels_of version c numbers.revision) (codes "submissions") (schema_of version) meta 0 refl meta_plain old new shows.schema shows.meta update_meta pair_change (update_meta_is version) (updates_alone version meta old.now.trees)
       (number n ∷ []) c.submissions n (λ id. meta_cast (Int id) (codes "submissions") n ∙ ap (λ w. w ∷ Text (codes "submissions") ∷ number n ∷ []) (cast_int id))
-      _ (submissions_set c n) ran.0 refl ran.1)
+      _ (submissions_set version c numbers.revision n) ran.0 refl ran.1)
 
   -- ---- submissions
 
   pub submission_added : (s : Submitted) → IsPath s.path → (n : ℕ) → n ≡ length v.submits + 1
       → Ran insert_submission (number n ∷ Text s.author ∷ Text (path_text s.path) ∷ number (form_of s.proposal) ∷ Text (name_of s.proposal) ∷ Text s.note ∷ []) old new
-      → ShowsCounting c new.now (with_submission s v)
+      → ShowsKeeping version c numbers new.now (with_submission s v)
   submission_added s path n last ran =
       let past : submission_at n v.submits ≡ None = past_the_last v.submits n last in
       let row = number n ∷ Null ∷ Text s.author ∷ Text (path_text s.path) ∷ number (form_of s.proposal) ∷ Text (name_of s.proposal) ∷ Text s.note ∷ number 0 ∷ Text [] ∷ Text [] ∷ [] in
       wrote_submission old new c v shows (v.submits ++ s ∷ []) v.state (all_with _ v.submits s shows.views.paths path) (λ k none. shows.views.pending k (not_before v.submits s k none))
-      (map_added submission_row by_rowid _ submission_found (standing_in v) n submission 3 refl submission_plain old new shows.schema shows.submissions insert_submission submission_terms 10 insert_submission_is
+      (map_added submission_row by_rowid _ submission_found (standing_in v) n (schema_of version) submission 3 refl submission_plain old new shows.schema shows.submissions insert_submission submission_terms 10 (insert_submission_is version)
       (Text s.author ∷ Text (path_text s.path) ∷ number (form_of s.proposal) ∷ Text (name_of s.proposal) ∷ Text s.note ∷ []) row refl (record { submitted = s; state = Pending })
       (λ rs. (pos n, ap (λ r. numbered Chosen rs (r ∷ [])) (submission_cast n (form_of s.proposal) 0 s.author (path_text s.path) (name_of s.proposal) s.note [] [])))
       _ (submission_set v s n last (shows.views.pending n past)) ran.0 (ap (option_map _) past) ran.1)
 
   pub submission_decided : (n : ℕ) (state : Standings) → NamesDecider state → IsSome (submission_at n v.submits)
-      → Ran update_submission (number n ∷ number (state_number state) ∷ Text (decider_of [] state) ∷ Text (reason_of state) ∷ []) old new → ShowsCounting c new.now (with_state n state v)
+      → Ran update_submission (number n ∷ number (state_number state) ∷ Text (decider_of [] state) ∷ Text (reason_of state) ∷ []) old new → ShowsKeeping version c numbers new.now (with_state n state v)
   submission_decided n state names there ran =
       let was = some_there (submission_at n v.submits) there in
       let s = was.0 in
       wrote_submission old new c v shows v.submits _ shows.views.paths (λ k none. not_there v n state there k none (shows.views.pending k none))
-      (map_changed submission_row by_rowid _ submission_found (standing_in v) n submission 3 refl submission_plain old new shows.schema shows.submissions update_submission submission_change update_submission_is
+      (map_changed submission_row by_rowid _ submission_found (standing_in v) n (schema_of version) submission 3 refl submission_plain old new shows.schema shows.submissions update_submission submission_change (update_submission_is version) (updates_alone version submission old.now.trees)
       (number (state_number state) ∷ Text (decider_of [] state) ∷ Text (reason_of state) ∷ []) (record { submitted = s; state = v.state n }) (record { submitted = s; state = state })
       (λ id. submission_cast n (form_of s.proposal) (state_number state) s.author (path_text s.path) (name_of s.proposal) s.note (decider_of [] state) (reason_of state)
       ∙ ap (λ d. number n ∷ Null ∷ Text s.author ∷ Text (path_text s.path) ∷ number (form_of s.proposal) ∷ Text (name_of s.proposal) ∷ Text s.note ∷ number (state_number state) ∷ Text d ∷ Text (reason_of state) ∷ []) (any_author s.author state names))
       _ (state_set v n state s was.1) ran.0 (ap (option_map _) was.1) ran.1)
 
-  pub submission_withdrawn : (n : ℕ) → IsSome (submission_at n v.submits) → Ran withdraw_submission (number n ∷ []) old new → ShowsCounting c new.now (with_state n Withdrawn v)
+  pub submission_withdrawn : (n : ℕ) → IsSome (submission_at n v.submits) → Ran withdraw_submission (number n ∷ []) old new → ShowsKeeping version c numbers new.now (with_state n Withdrawn v)
   submission_withdrawn n there ran =
       let was = some_there (submission_at n v.submits) there in
       let s = was.0 in
       wrote_submission old new c v shows v.submits _ shows.views.paths (λ k none. not_there v n Withdrawn there k none (shows.views.pending k none))
-      (map_changed submission_row by_rowid _ submission_found (standing_in v) n submission 3 refl submission_plain old new shows.schema shows.submissions withdraw_submission withdrawal withdraw_submission_is
+      (map_changed submission_row by_rowid _ submission_found (standing_in v) n (schema_of version) submission 3 refl submission_plain old new shows.schema shows.submissions withdraw_submission withdrawal (withdraw_submission_is version) (updates_alone version submission old.now.trees)
       [] (record { submitted = s; state = v.state n }) (record { submitted = s; state = Withdrawn })
       (λ id. submission_cast n (form_of s.proposal) 3 s.author (path_text s.path) (name_of s.proposal) s.note s.author [])
       _ (state_set v n Withdrawn s was.1) ran.0 (ap (option_map _) was.1) ran.1)
@@ -132,21 +127,28 @@ module _ (old new : State) (c : Counts) (v : Views) (shows : ShowsCounting c old
   -- ---- remarks and receipts
 
   pub remark_added : (n : ℕ) (place : ℕ) (r : Remark) → place ≡ length (v.remarks n) + 1 → Ran insert_remark (number n ∷ number place ∷ Text r.author ∷ Text r.text ∷ []) old new
-      → ShowsCounting c new.now (with_remark n r v)
+      → ShowsKeeping version c numbers new.now (with_remark n r v)
   remark_added n place r last ran =
       wrote_remark old new c v shows _
-      (map_added remark_row by_both _ remark_found (remark_in v) (n, place) remark 4 refl remark_plain old new shows.schema shows.remarks insert_remark remark_terms 5 insert_remark_is
+      (map_added remark_row by_both _ remark_found (remark_in v) (n, place) (schema_of version) remark 4 refl remark_plain old new shows.schema shows.remarks insert_remark remark_terms 5 (insert_remark_is version)
       (Text r.author ∷ Text r.text ∷ []) (Null ∷ number n ∷ number place ∷ Text r.author ∷ Text r.text ∷ []) refl r
       (λ rs. (next_rowid rs, ap (λ x. numbered Chosen rs (x ∷ [])) (remark_cast Null n place r.author r.text ∙ ap (λ w. w ∷ number n ∷ number place ∷ Text r.author ∷ Text r.text ∷ []) cast_null)))
       _ (remark_set v n r place last) ran.0 (past_all (v.remarks n) place last) ran.1)
 
   pub reply_kept : (who token : List ℕ) (reply : Reply) → v.kept who token ≡ None
       → Ran insert_receipt (Text who ∷ Text token ∷ number (kind_of reply) ∷ number (first_of reply) ∷ number (second_of reply) ∷ number (third_of reply) ∷ []) old new
-      → ShowsCounting c new.now (with_reply who token reply v)
+      → ShowsKeeping version c numbers new.now (with_reply who token reply v)
   reply_kept who token reply none ran =
       let rest = number (kind_of reply) ∷ number (first_of reply) ∷ number (second_of reply) ∷ number (third_of reply) ∷ [] in
       wrote_receipt old new c v shows _
-      (map_added receipt_row by_both _ receipt_found (receipt_in v) (who, token) receipt 5 refl receipt_plain old new shows.schema shows.receipts insert_receipt receipt_terms 7 insert_receipt_is
+      (map_added receipt_row by_both _ receipt_found (receipt_in v) (who, token) (schema_of version) receipt 5 refl receipt_plain old new shows.schema shows.receipts insert_receipt receipt_terms 7 (insert_receipt_is version)
       rest (Null ∷ Text who ∷ Text token ∷ rest) refl reply
       (λ rs. (next_rowid rs, ap (λ x. numbered Chosen rs (x ∷ [])) (receipt_cast Null who token (kind_of reply) (first_of reply) (second_of reply) (third_of reply) ∙ ap (λ w. w ∷ Text who ∷ Text token ∷ rest) cast_null)))
       _ (reply_set v who token reply) ran.0 none ran.1)
+
+-- in schema 1 nothing refers to an item
+pub item_removed : (old new : State) (c : Counts) (v : Views) → ShowsCounting c old.now v → (path : List ℕ) → Ran delete_item (Text path ∷ []) old new → ShowsCounting c new.now (without_item path v)
+item_removed old new c v shows path ran =
+    wrote_item old new c v shows _ (left_sorted path v.items shows.views.sorted)
+    (map_removed item_row by_first _ item_found (λ p. name_at p v.items) path pid_schema item 2 refl item_plain old new shows.schema shows.items delete_item (delete_item_is One) (none_acts 4)
+    _ (name_left v.items path) ran.0 ran.1)

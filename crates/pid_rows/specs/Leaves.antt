@@ -18,6 +18,7 @@ use Rattle.std.specs.Prelude.{◌≡◌, ◌⊎◌, false, Result, OnOk, MatchRe
 use Rattle.sqlite.specs.Tree.{Trees}
 use Rattle.sqlite.specs.State.{State, HasCleanDisk, Survives}
 use Rattle.sqlite.specs.Effect.{Database}
+use Rattle.sqlite.specs.Schema.{Schema}
 use Rattle.pid_moderation.specs.Views.{Views}
 use Rattle.pid_rows.specs.declared.fault.TableFault.{TableFault}
 use Rattle.pid_rows.specs.Faults.{IsUntold}
@@ -26,8 +27,12 @@ use Rattle.pid_rows.specs.Schema.{pid_schema}
 use Rattle.pid_rows.specs.Shows.{Counts, ShowsCounting, Shows}
 
 -- trees as an open finds them, with the schema that they list
+abbrev pub found_in : Schema → Trees → Database
+found_in schema db = record { schema = schema; trees = db }
+
+-- where they list schema 1
 abbrev pub as_found : Trees → Database
-as_found db = record { schema = pid_schema; trees = db }
+as_found = found_in pid_schema
 
 -- everything that a crash may leave shows the views
 pub record Leaves (s : State) (v : Views) : Type 0 where

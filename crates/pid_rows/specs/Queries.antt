@@ -1,4 +1,4 @@
--- Texts that are queries on the six tables, or writes.
+-- Texts that are queries on the tables of a schema, or writes.
 use Rattle.std.specs.Prelude.{◌≡◌, ℕ, ◌≤◌, true, false, List, [], length, None, Result, Ok, Err}
 use Rattle.sqlite.specs.Order.{Row}
 use Rattle.sqlite.specs.Tree.{Trees}
@@ -7,18 +7,18 @@ use Rattle.sqlite.specs.Command.{Command}
 use Rattle.sqlite.specs.Compile.{table_defined_by}
 use Rattle.sqlite.specs.State.{text_of}
 use Rattle.sqlite.specs.Table.{Table}
+use Rattle.sqlite.specs.Schema.{Schema}
 use Rattle.sqlite.specs.Command.TheVariants.{Select, Insert, Update, Delete, CreateTable}
 use Rattle.sqlite_resolve.specs.declared.compiled.Compiled.{Compiled}
 use Rattle.sqlite_resolve.specs.declared.error.CompileError.{CompileError}
 use Rattle.sqlite_schema.specs.Program.{lets_of}
 use Rattle.sqlite_sql.specs.Program.{ProgramOverflows}
 use Rattle.sqlite_typing.specs.Types.{accepts_program}
-use Rattle.pid_rows.specs.Schema.{pid_schema}
 
 -- a query whose types accept the parameters, and whose sums never overflow
-abbrev pub Asks : Row → Command → Type 0
-Asks params (Select q names) = (accepts_program pid_schema (lets_of q) q.body params ≡ true) × ((db : Trees) → ProgramOverflows db params [] (lets_of q) q.body → ⊥)
-Asks params _ = ⊥
+abbrev pub Asks : Schema → Row → Command → Type 0
+Asks schema params (Select q names) = (accepts_program schema (lets_of q) q.body params ≡ true) × ((db : Trees) → ProgramOverflows db params [] (lets_of q) q.body → ⊥)
+Asks schema params _ = ⊥
 
 -- one statement alone, with as many parameters as are given, without RETURNING, that does not read the time
 pub record IsOneStatement (sql : List ℕ) (params : Row) (c : Compiled) : Type 0 where
@@ -27,14 +27,14 @@ pub record IsOneStatement (sql : List ℕ) (params : Row) (c : Compiled) : Type 
   pub bare : c.returning ≡ None
   pub timeless : c.formats ≡ []
 
-abbrev pub IsQueryAs : List ℕ → Row → Result Compiled CompileError → Type 0
-IsQueryAs sql params (Ok c) = IsOneStatement sql params c × Asks params c.command
-IsQueryAs sql params (Err e) = ⊥
+abbrev pub IsQueryAs : Schema → List ℕ → Row → Result Compiled CompileError → Type 0
+IsQueryAs schema sql params (Ok c) = IsOneStatement sql params c × Asks schema params c.command
+IsQueryAs schema sql params (Err e) = ⊥
 
 -- the text is one query on the tables, and nothing about it is refused
-pub record IsQuery (sql : List ℕ) (params : Row) : Type 0 where
-  pub known : IsQueryAs sql params (understood pid_schema sql)
-  pub unlisted : reads_listing pid_schema sql ≡ false
+pub record IsQuery (schema : Schema) (sql : List ℕ) (params : Row) : Type 0 where
+  pub known : IsQueryAs schema sql params (understood schema sql)
+  pub unlisted : reads_listing schema sql ≡ false
 
 -- INSERT, UPDATE and DELETE, and CREATE TABLE of a text that defines a table
 abbrev pub IsWrite : List ℕ → Command → Type 0

@@ -1,4 +1,4 @@
--- The six tables of schema 1, as SQLite keeps them: a choice of this project.
+-- The tables of each schema, as SQLite keeps them: a choice of this project.
 use Rattle.std.specs.Prelude.{ℕ, pos, true, false, List, [], ◌∷◌, Some, None, codes}
 use Rattle.sqlite.specs.Collation.TheVariants.{Binary}
 use Rattle.sqlite.specs.declared.types.Value.TheVariants.{Null, Int}
@@ -11,7 +11,8 @@ use Rattle.sqlite_sql.specs.declared.ops.BinaryOp.TheVariants.{And, Compare}
 use Rattle.sqlite_sql.specs.declared.ops.CompareOp.TheVariants.{Ge, Le}
 use Rattle.sqlite_schema.specs.declared.schema.Column.{Column}
 use Rattle.sqlite_schema.specs.declared.schema.Reference.{Reference}
-use Rattle.sqlite_schema.specs.declared.schema.Action.TheVariants.{NoAction}
+use Rattle.sqlite_schema.specs.declared.schema.Index.{Index}
+use Rattle.sqlite_schema.specs.declared.schema.Action.TheVariants.{NoAction, Cascade}
 use Rattle.sqlite_value.specs.Keys.{plain}
 use Rattle.sqlite_catalog.specs.Listing.{automatic}
 
@@ -83,12 +84,44 @@ receipt = keyed (codes "receipt") 9
     (words (codes "account") ∷ words (codes "token") ∷ number (codes "kind") ∷ number (codes "a") ∷ number (codes "b") ∷ number (codes "c") ∷ []) (1 ∷ 2 ∷ []) []
     (refers 1 (codes "account") (codes "name") ∷ [])
 
-abbrev pub pid_schema : Schema
-pid_schema = record {
-  tables = meta ∷ account ∷ item ∷ submission ∷ remark ∷ receipt ∷ [];
-  indexes = automatic meta 0 (1 ∷ []) 1 ∷ automatic account 0 (1 ∷ []) 3 ∷ automatic item 0 (1 ∷ []) 5 ∷ automatic remark 0 (1 ∷ 2 ∷ []) 8 ∷ automatic receipt 0 (1 ∷ 2 ∷ []) 10 ∷ [];
+-- the row goes with the item that it refers to
+abbrev pub to_item : Reference
+to_item = record (refers 1 (codes "item") (codes "path")) { on_delete = Cascade }
+
+-- for each item the number of the last change of its name
+abbrev pub item_since : Table
+item_since = keyed (codes "item_since") 11 (words (codes "path") ∷ number (codes "since") ∷ []) (1 ∷ []) [] (to_item ∷ [])
+
+-- the schemas of the tables
+pub data Version : Type 0 where
+  One : Version
+  Two : Version
+
+-- the number of a schema, as meta has it
+abbrev pub number_of : Version → ℕ
+number_of One = 1
+number_of Two = 2
+
+-- what a schema has behind the six tables and their indexes
+abbrev pub more_tables : Version → List Table
+more_tables One = []
+more_tables Two = item_since ∷ []
+
+abbrev pub more_indexes : Version → List Index
+more_indexes One = []
+more_indexes Two = automatic item_since 0 (1 ∷ []) 12 ∷ []
+
+-- the six tables come first in each schema
+abbrev pub schema_of : Version → Schema
+schema_of version = record {
+  tables = meta ∷ account ∷ item ∷ submission ∷ remark ∷ receipt ∷ more_tables version;
+  indexes = automatic meta 0 (1 ∷ []) 1 ∷ automatic account 0 (1 ∷ []) 3 ∷ automatic item 0 (1 ∷ []) 5 ∷ automatic remark 0 (1 ∷ 2 ∷ []) 8 ∷ automatic receipt 0 (1 ∷ 2 ∷ []) 10 ∷ more_indexes version;
   views = [];
 }
+
+-- the schema that this program makes
+abbrev pub pid_schema : Schema
+pid_schema = schema_of One
 
 abbrev pub no_schema : Schema
 no_schema = record { tables = []; indexes = []; views = [] }

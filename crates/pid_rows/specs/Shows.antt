@@ -4,28 +4,47 @@ use Rattle.std.specs.Str.{bytes_eq}
 use Rattle.std.specs.List.{AllByRecursion}
 use Rattle.std.specs.FinMap.Entries.{is_sorted}
 use Rattle.sqlite.specs.Effect.{Database, IsDatabase}
+use Rattle.sqlite.specs.Tree.{Trees}
 use Rattle.pid_ident.specs.PathTexts.{IsPath}
 use Rattle.pid_ident.specs.Trees.{text_cmp}
 use Rattle.pid_moderation.specs.declared.command.Reply.{Reply}
 use Rattle.pid_moderation.specs.declared.facts.State.TheVariants.{Pending}
 use Rattle.pid_moderation.specs.Items.{name_at}
 use Rattle.pid_moderation.specs.Views.{Views, Submitted, Remark, submission_at}
-use Rattle.pid_rows.specs.Schema.{pid_schema}
+use Rattle.pid_rows.specs.Schema.{Version, One, Two, schema_of, number_of}
 use Rattle.pid_rows.specs.PairRows.{Map, RowsAre}
-use Rattle.pid_rows.specs.TableRows.{Standing, meta_row, account_row, item_row, submission_row, remark_row, receipt_row}
+use Rattle.pid_rows.specs.TableRows.{Standing, meta_row, account_row, item_row, submission_row, remark_row, receipt_row, since_row}
 
 -- how many items and submissions there are
 pub record Counts : Type 0 where
   pub items : ℕ
   pub submissions : ℕ
 
--- the three labels: the number of the schema, and the counts
-abbrev pub meta_of : Counts → Map (List ℕ) ℕ
-meta_of counts label =
-    if bytes_eq label (codes "schema") then Some 1
+-- what the tables of schema 2 keep of changes: the revision, and by paths the numbers of the last changes
+pub record Numbers : Type 0 where
+  pub revision : ℕ
+  pub since : Map (List ℕ) ℕ
+
+-- schema 1 keeps none
+abbrev pub no_numbers : Numbers
+no_numbers = record { revision = 0; since = λ path. None }
+
+-- what the schemas have in labels beside the three
+abbrev pub more_labels : Version → ℕ → Map (List ℕ) ℕ
+more_labels One revision label = None
+more_labels Two revision label = if bytes_eq label (codes "revision") then Some revision else None
+
+-- the labels of a schema: its number and the counts, and in schema 2 the revision
+abbrev pub labels_of : Version → Counts → ℕ → Map (List ℕ) ℕ
+labels_of version counts revision label =
+    if bytes_eq label (codes "schema") then Some (number_of version)
     else if bytes_eq label (codes "items") then Some counts.items
     else if bytes_eq label (codes "submissions") then Some counts.submissions
-    else None
+    else more_labels version revision label
+
+-- those of schema 1
+abbrev pub meta_of : Counts → Map (List ℕ) ℕ
+meta_of counts = labels_of One counts 0
 
 -- each submission, by its number, as it stands
 abbrev pub standing_in : Views → Map ℕ Standing
@@ -51,22 +70,40 @@ pub record AreViews (v : Views) : Type 0 where
   pub paths : AllByRecursion (λ (s : Submitted). IsPath s.path) v.submits
   pub pending : (n : ℕ) → submission_at n v.submits ≡ None → v.state n ≡ Pending
 
--- the tables show the views, and meta has these counts
-pub record ShowsCounting (counts : Counts) (db : Database) (v : Views) : Type 0 where
-  pub schema : db.schema ≡ pid_schema
+-- the table that schema 2 has beside shows the numbers by paths
+abbrev pub ShowsNumbers : Version → Numbers → Trees → Type 0
+ShowsNumbers One numbers db = Unit {0}
+ShowsNumbers Two numbers db = RowsAre since_row numbers.since (db 11)
+
+-- tables of a schema show the views, while they keep these counts and these numbers
+pub record ShowsKeeping (version : Version) (counts : Counts) (numbers : Numbers) (db : Database) (v : Views) : Type 0 where
+  pub schema : db.schema ≡ schema_of version
   pub sound : IsDatabase db
   pub views : AreViews v
-  pub meta : RowsAre meta_row (meta_of counts) (db.trees 0)
+  pub meta : RowsAre meta_row (labels_of version counts numbers.revision) (db.trees 0)
   pub accounts : RowsAre account_row v.rank (db.trees 2)
   pub items : RowsAre item_row (λ path. name_at path v.items) (db.trees 4)
   pub submissions : RowsAre submission_row (standing_in v) (db.trees 6)
   pub remarks : RowsAre remark_row (remark_in v) (db.trees 7)
   pub receipts : RowsAre receipt_row (receipt_in v) (db.trees 9)
+  pub sinces : ShowsNumbers version numbers db.trees
 
 -- the counts that the views have
 abbrev pub counts_of : Views → Counts
 counts_of v = record { items = length v.items; submissions = length v.submits }
 
--- the tables show the views, and meta has their counts
+-- a path has a number where it has an item
+abbrev pub since_in : Views → (List ℕ → ℕ) → Map (List ℕ) ℕ
+since_in v since path = option_map (λ name. since path) (name_at path v.items)
+
+-- tables of a schema show the views with a revision and, for each path, the number of its last change; schema 1 tells no number
+abbrev pub ShowsIn : Version → Database → Views → ℕ → (List ℕ → ℕ) → Type 0
+ShowsIn version db v revision since = ShowsKeeping version (counts_of v) (record { revision = revision; since = since_in v since }) db v
+
+-- the tables of schema 1 show the views, and meta has these counts
+abbrev pub ShowsCounting : Counts → Database → Views → Type 0
+ShowsCounting counts db v = ShowsKeeping One counts no_numbers db v
+
+-- the tables of schema 1 show the views, and meta has their counts
 abbrev pub Shows : Database → Views → Type 0
 Shows db v = ShowsCounting (counts_of v) db v

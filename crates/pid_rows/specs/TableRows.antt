@@ -100,3 +100,7 @@ third_of (Counts added renamed same) = same
 -- receipt: an account and its key, with the reply
 abbrev pub receipt_row : ℤ → List ℕ × List ℕ → Reply → Row
 receipt_row id at reply = Int id ∷ Text at.0 ∷ Text at.1 ∷ number (kind_of reply) ∷ number (first_of reply) ∷ number (second_of reply) ∷ number (third_of reply) ∷ []
+
+-- item_since: the text of a path, and the number of the last change of its name
+abbrev pub since_row : ℤ → List ℕ → ℕ → Row
+since_row id path since = Int id ∷ Text path ∷ number since ∷ []

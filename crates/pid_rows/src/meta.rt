@@ -5,7 +5,7 @@ ghost use Rattle.sqlite_rules.specs.Lists.{Has};
 ghost use Rattle.pid_rows.specs.Answers.{value_row};
 ghost use Rattle.pid_rows.specs.Faults.{IsUntold, IsNotLater};
 ghost use Rattle.pid_rows.specs.LabelRows.{AnswersEach, ExplainsNumber, HasLabel, IsValueOf};
-ghost use Rattle.pid_rows.specs.Schema.{pid_schema};
+ghost use Rattle.pid_rows.specs.Schema.{Version, schema_of};
 ghost use Rattle.pid_rows.specs.Shows.{Counts, meta_of, counts_of};
 ghost use Rattle.pid_rows.specs.Clauses.{ChangesTo, GoesOn, HasCleanDisk, LeadsTo, OnlyReads, Reads, Tells, seen};
 
@@ -63,11 +63,11 @@ fn value_rows<S: Alter>(conn: &mut Connection<S>, label: &str) -> Result<Vec<Row
     requires { conn.old.in_transaction ≡ false }
     ensures reads { Reads S.Store conn.old conn.new result
         (λ v rows. slice_get rows.items 0 ≡ option_map value_row (meta_of (counts_of v) label.now)) }
-    ensures valued { HasCleanDisk S.Store conn.new → (seen S.Store conn.old).schema ≡ pid_schema
+    ensures valued { HasCleanDisk S.Store conn.new → (version : Version) → (seen S.Store conn.old).schema ≡ schema_of version
         → IfOk result (λ rows. (x : Values) → Has rows.items x → IsValueOf (seen S.Store conn.old).trees label.now x) }
-    ensures each { HasCleanDisk S.Store conn.new → (seen S.Store conn.old).schema ≡ pid_schema
+    ensures each { HasCleanDisk S.Store conn.new → (version : Version) → (seen S.Store conn.old).schema ≡ schema_of version
         → IfOk result (λ rows. AnswersEach (seen S.Store conn.old).trees label.now rows.items) }
-    ensures untold { HasCleanDisk S.Store conn.new → (seen S.Store conn.old).schema ≡ pid_schema → IfErr result IsUntold }
+    ensures untold { HasCleanDisk S.Store conn.new → (version : Version) → (seen S.Store conn.old).schema ≡ schema_of version → IfErr result IsUntold }
     ensures never { IfErr result IsNotLater }
 {
     let label = label.to_sql();
@@ -79,8 +79,8 @@ fn count<S: Alter>(conn: &mut Connection<S>, label: &str) -> Result<u32, TableFa
     requires { conn.old.in_transaction ≡ false }
     ensures rests { OnlyReads S.Store conn.old conn.new }
     ensures found { ((c : Counts) → IsSome (meta_of c label.now)) → Tells S.Store conn.old conn.new result (λ v n. Some n ≡ meta_of (counts_of v) label.now) }
-    ensures labelled { HasCleanDisk S.Store conn.new → (seen S.Store conn.old).schema ≡ pid_schema → IfOk result (HasLabel (seen S.Store conn.old).trees label.now) }
-    ensures refused { HasCleanDisk S.Store conn.new → (seen S.Store conn.old).schema ≡ pid_schema → IfErr result (ExplainsNumber (seen S.Store conn.old).trees label.now) }
+    ensures labelled { HasCleanDisk S.Store conn.new → (version : Version) → (seen S.Store conn.old).schema ≡ schema_of version → IfOk result (HasLabel (seen S.Store conn.old).trees label.now) }
+    ensures refused { HasCleanDisk S.Store conn.new → (version : Version) → (seen S.Store conn.old).schema ≡ schema_of version → IfErr result (ExplainsNumber (seen S.Store conn.old).trees label.now) }
     ensures never { IfErr result IsNotLater }
 {
     let rows = value_rows(conn, label)?;
@@ -111,8 +111,8 @@ pub fn submissions<S: Alter>(conn: &mut Connection<S>) -> Result<u32, TableFault
 pub fn schema_number<S: Alter>(conn: &mut Connection<S>) -> Result<u32, TableFault>
     requires { conn.old.in_transaction ≡ false }
     ensures reads { Reads S.Store conn.old conn.new result (λ v n. n ≡ 1) }
-    ensures labelled { HasCleanDisk S.Store conn.new → (seen S.Store conn.old).schema ≡ pid_schema → IfOk result (HasLabel (seen S.Store conn.old).trees (codes "schema")) }
-    ensures refused { HasCleanDisk S.Store conn.new → (seen S.Store conn.old).schema ≡ pid_schema → IfErr result (ExplainsNumber (seen S.Store conn.old).trees (codes "schema")) }
+    ensures labelled { HasCleanDisk S.Store conn.new → (version : Version) → (seen S.Store conn.old).schema ≡ schema_of version → IfOk result (HasLabel (seen S.Store conn.old).trees (codes "schema")) }
+    ensures refused { HasCleanDisk S.Store conn.new → (version : Version) → (seen S.Store conn.old).schema ≡ schema_of version → IfErr result (ExplainsNumber (seen S.Store conn.old).trees (codes "schema")) }
     ensures never { IfErr result IsNotLater }
 {
     count(conn, "schema")

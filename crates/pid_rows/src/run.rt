@@ -48,8 +48,8 @@ pub fn read_inside<S: Alter>(
     ensures shown { HasCleanDisk S.Store tx.new.conn.now → IfOk result (λ rows. Shown S.Store sql.now (bound params.now) tx.old.conn.now tx.new.conn.now rows.items) }
     ensures untold { HasCleanDisk S.Store tx.new.conn.now → (schema : Schema) → (seen S.Store tx.old.conn.now).schema ≡ schema → IsPlain (understood schema sql.now) → IfErr result IsUntold }
     ensures never { IfErr result IsNotLater }
-    ensures caused { HasCleanDisk S.Store tx.new.conn.now → (IsTrue (is_open S.Store tx.old.conn.now)
-        → (seen S.Store tx.old.conn.now).schema ≡ pid_schema) → IsQuery sql.now (bound params.now) → IfErr result (IsCaused S.Store tx.old.conn.now tx.new.conn.now) }
+    ensures caused { HasCleanDisk S.Store tx.new.conn.now → (schema : Schema) → (IsTrue (is_open S.Store tx.old.conn.now)
+        → (seen S.Store tx.old.conn.now).schema ≡ schema) → IsQuery schema sql.now (bound params.now) → IfErr result (IsCaused S.Store tx.old.conn.now tx.new.conn.now) }
 {
     Ok(tx.query_all(sql, params)?)
 }
@@ -64,9 +64,9 @@ pub fn read_rows<S: Alter>(
     requires { conn.old.in_transaction ≡ false }
     ensures rests { OnlyReads S.Store conn.old conn.new }
     ensures shown { HasCleanDisk S.Store conn.new → IfOk result (λ rows. (mid : Held S) × Shown S.Store sql.now (bound params.now) (record conn.old { in_transaction = true }) mid rows.items) }
-    ensures untold { HasCleanDisk S.Store conn.new → (seen S.Store conn.old).schema ≡ pid_schema → IsPlain (understood pid_schema sql.now) → IfErr result IsUntold }
+    ensures untold { HasCleanDisk S.Store conn.new → (schema : Schema) → (seen S.Store conn.old).schema ≡ schema → IsPlain (understood schema sql.now) → IfErr result IsUntold }
     ensures never { IfErr result IsNotLater }
-    ensures caused { HasCleanDisk S.Store conn.new → (v : Views) → AtRest S.Store conn.old v → IsQuery sql.now (bound params.now) → IfErr result (IsCaused S.Store conn.old conn.new) }
+    ensures caused { HasCleanDisk S.Store conn.new → (v : Views) → AtRest S.Store conn.old v → IsQuery pid_schema sql.now (bound params.now) → IfErr result (IsCaused S.Store conn.old conn.new) }
 {
     let mut tx = conn.transaction();
     read_inside(&mut tx, sql, params)

@@ -24,11 +24,11 @@ is_one Submission = record { whole = omega arith; given = refl; bare = refl; tim
 is_one Remark = record { whole = omega arith; given = refl; bare = refl; timeless = refl }
 is_one Receipt = record { whole = omega arith; given = refl; bare = refl; timeless = refl }
 
-pub is_query : (table : Table) → IsQuery (query_of table) []
-is_query Meta = by_key (query_of Meta) [] 0 [] meta_columns (codes "label" ∷ codes "value" ∷ []) (is_one Meta) meta_is refl
-is_query Account = by_key (query_of Account) [] 2 [] account_columns (codes "name" ∷ codes "rank" ∷ []) (is_one Account) account_is refl
-is_query Item = by_key (query_of Item) [] 4 [] item_columns (codes "path" ∷ codes "name" ∷ []) (is_one Item) item_is refl
-is_query Submission = in_order (query_of Submission) [] 6 [] submission_columns (codes "num" ∷ codes "author" ∷ codes "path" ∷ codes "form" ∷ codes "name" ∷ codes "note" ∷ codes "state" ∷ codes "decider" ∷ codes "reason" ∷ [])
+pub is_query : (table : Table) → IsQuery pid_schema (query_of table) []
+is_query Meta = by_key pid_schema (query_of Meta) [] 0 [] meta_columns (codes "label" ∷ codes "value" ∷ []) (is_one Meta) meta_is refl
+is_query Account = by_key pid_schema (query_of Account) [] 2 [] account_columns (codes "name" ∷ codes "rank" ∷ []) (is_one Account) account_is refl
+is_query Item = by_key pid_schema (query_of Item) [] 4 [] item_columns (codes "path" ∷ codes "name" ∷ []) (is_one Item) item_is refl
+is_query Submission = in_order pid_schema (query_of Submission) [] 6 [] submission_columns (codes "num" ∷ codes "author" ∷ codes "path" ∷ codes "form" ∷ codes "name" ∷ codes "note" ∷ codes "state" ∷ codes "decider" ∷ codes "reason" ∷ [])
     (is_one Submission) ((col 1 0, ascending Binary) ∷ []) whole submission_is submission_unlisted refl
-is_query Remark = by_key (query_of Remark) [] 7 [] remark_columns (codes "num" ∷ codes "seq" ∷ codes "author" ∷ codes "body" ∷ []) (is_one Remark) remark_is refl
-is_query Receipt = by_key (query_of Receipt) [] 9 [] receipt_columns (codes "account" ∷ codes "token" ∷ codes "kind" ∷ codes "a" ∷ codes "b" ∷ codes "c" ∷ []) (is_one Receipt) receipt_is refl
+is_query Remark = by_key pid_schema (query_of Remark) [] 7 [] remark_columns (codes "num" ∷ codes "seq" ∷ codes "author" ∷ codes "body" ∷ []) (is_one Remark) remark_is refl
+is_query Receipt = by_key pid_schema (query_of Receipt) [] 9 [] receipt_columns (codes "account" ∷ codes "token" ∷ codes "kind" ∷ codes "a" ∷ codes "b" ∷ codes "c" ∷ []) (is_one Receipt) receipt_is refl

@@ -21,6 +21,7 @@ use Rattle.pid_rows.specs.Faults.{fault_of}
 use Rattle.pid_rows.specs.Causes.{IsCaused}
 use Rattle.pid_rows.specs.Leaves.{AtRest, OnlyReads}
 use Rattle.pid_rows.specs.Queries.{IsQuery}
+use Rattle.pid_rows.specs.Schema.{pid_schema}
 use Rattle.pid_rows.proofs.CauseLemmas.{not_run_caused, caused_later}
 use Rattle.pid_rows.proofs.OnlyReading.{keeps_left, rests_on, reads_then}
 use Rattle.pid_rows.proofs.Lengths.{mapped, unmapped}
@@ -63,7 +64,7 @@ refused old new sql e (inl (inr h, same)) damaged = absurd (elim h.2 [
 refused old new sql e (inr fails) damaged = absurd (of_store fails.0 (sym (ap fault_of fails.1) ∙ damaged))
 
 -- on tables of the schema what keeps a query from being prepared has a cause
-pub unasked_caused : (old new : State) (v : Views) (sql : List ℕ) (e : Error) → AtRest old v → IsQuery sql [] → IsNotRun old new sql [] e → IsCaused old new (fault_of e)
+pub unasked_caused : (old new : State) (v : Views) (sql : List ℕ) (e : Error) → AtRest old v → IsQuery pid_schema sql [] → IsNotRun old new sql [] e → IsCaused old new (fault_of e)
 unasked_caused old new v sql e rest query h = not_run_caused sql [] old new (λ opened. (rest.shows opened).schema) query e h
 
 pub unasked : (schema : Schema) (sql : List ℕ) (f : CompileError) → understood schema sql ≡ Err f → IsAsked schema sql → ⊥

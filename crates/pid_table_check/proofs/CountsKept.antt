@@ -19,6 +19,7 @@ use Rattle.pid_moderation.specs.Items.{Items, name_at}
 use Rattle.pid_moderation.specs.Views.{Views, Submitted, submission_at}
 use Rattle.pid_rows.proofs.Keys.{numbers_decided}
 use Rattle.pid_rows.proofs.SetLemmas.{tied}
+use Rattle.pid_rows.specs.Schema.{One}
 use Rattle.pid_rows.specs.Shows.{Shows, counts_of, meta_of}
 use Rattle.pid_rows.specs.TableRows.{Standing, meta_row, item_row, submission_row, number}
 use Rattle.pid_table_check.specs.Conditions.{columns, rows_in, labels, label_row, AreCounts}
@@ -94,7 +95,7 @@ down_apart (suc n) = (above_all (suc n) (countdown n) (λ k h. let it = down_wit
 module _ (db : Database) (v : Views) (shows : Shows db v) where
   pub items_length : length (db.trees 4) ≡ length v.items
   items_length = same_length (λ r. column r 1) (λ (e : List ℕ × List ℕ). Text e.0) (db.trees 4) v.items
-      (item_keys_apart db shows.sound shows.schema shows.items.ordered (λ r h. let pair = shows.items.sound r h in (pair.id, pair.key, ap rowid pair.is, ap (λ (x : Row). column x 1) pair.is)))
+      (item_keys_apart One db shows.sound shows.schema shows.items.ordered (λ r h. let pair = shows.items.sound r h in (pair.id, pair.key, ap rowid pair.is, ap (λ (x : Row). column x 1) pair.is)))
       (items_apart v.items shows.views.sorted)
       (λ r h. let pair = shows.items.sound r h in subst (Has (map (λ (e : List ℕ × List ℕ). Text e.0) v.items)) (sym (ap (λ (x : Row). column x 1) pair.is)) (key_there pair.key pair.value v.items pair.maps))
       (λ e h.

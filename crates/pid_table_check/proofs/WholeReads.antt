@@ -29,7 +29,7 @@ all_pass (r ∷ rows) = ap (λ xs. r ∷ xs) (all_pass rows)
 nothing_over : (db : Trees) (t : ℕ) → overlay db [] t ≡ db t
 nothing_over db t = elim (nat_le (2 ^ 31) t) as (λ b. unwrap_or (cond b (slice_get [] (t - 2 ^ 31)) None) (db t) ≡ db t) [ true ↦ refl | false ↦ refl ]
 
-module _ (tree : ℕ) (project : List Term) (sql : List ℕ) (names : List (List ℕ)) (s : IsSelect tree [] project sql names) (old new : State) (has : old.now.schema ≡ pid_schema) where
+module _ (tree : ℕ) (project : List Term) (sql : List ℕ) (names : List (List ℕ)) (s : IsSelect pid_schema tree [] project sql names) (old new : State) (has : old.now.schema ≡ pid_schema) where
   answered : (answer : List Row) → Shown sql [] old new answer → IsPermutation (map (shown project []) (old.now.trees tree)) answer
   answered answer h =
       let got = reads_as sql [] old new pid_schema has _ s.is s.plain s.unlisted answer h in

@@ -6,6 +6,7 @@ ghost use Rattle.pid_rows.specs.Faults.{fault_of, IsUntold};
 ghost use Rattle.pid_rows.specs.declared.fault.TableFault.TheVariants.{Damaged};
 ghost use Rattle.pid_moderation.specs.Views.{Views};
 ghost use Rattle.pid_rows.specs.Queries.{IsQuery};
+ghost use Rattle.pid_rows.specs.Schema.{pid_schema};
 ghost use Rattle.pid_table_check.specs.Shapes.{IsAsked, HasEachTable, HasSomeTable};
 ghost use Rattle.pid_table_check.specs.Queries.{query_of};
 ghost use Rattle.pid_rows.specs.Clauses.{AtRest, HasCleanDisk, IsCaused, OnlyReads, Tells, is_open, seen};
@@ -33,7 +34,7 @@ pub(crate) fn can_ask<S: Alter>(conn: &mut Connection<S>, sql: &str) -> Result<b
     ensures asked { HasCleanDisk S.Store conn.new → IfOk result (λ asked. IsTrue asked ↔ IsAsked (seen S.Store conn.old).schema sql.now) }
     ensures was_open { HasCleanDisk S.Store conn.new → OnOk result (IsTrue (is_open S.Store conn.old)) }
     ensures untold { IfErr result IsUntold }
-    ensures caused { HasCleanDisk S.Store conn.new → (v : Views) → AtRest S.Store conn.old v → IsQuery sql.now [] → IfErr result (IsCaused S.Store conn.old conn.new) }
+    ensures caused { HasCleanDisk S.Store conn.new → (v : Views) → AtRest S.Store conn.old v → IsQuery pid_schema sql.now [] → IfErr result (IsCaused S.Store conn.old conn.new) }
 {
     match conn.prepare(sql).err() {
         None => Ok(true),

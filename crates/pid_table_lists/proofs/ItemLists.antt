@@ -26,7 +26,7 @@ use Rattle.sqlite_rules.proofs.ListLemmas.{has_filtered, has_kept}
 use Rattle.pid_ident.specs.Trees.{text_cmp}
 use Rattle.pid_moderation.specs.Items.{Items}
 use Rattle.pid_moderation.specs.Views.{Views}
-use Rattle.pid_rows.specs.Schema.{pid_schema}
+use Rattle.pid_rows.specs.Schema.{One, pid_schema}
 use Rattle.pid_rows.specs.TableRows.{item_row}
 use Rattle.pid_rows.specs.Answers.{item_shown}
 use Rattle.pid_rows.specs.Shows.{Counts, ShowsCounting}
@@ -120,7 +120,7 @@ module _ (tests : List Term) (limit : Term) (params : Row) where
         let pair = shows.items.complete e.0 e.1 (found_at v.items e shows.views.sorted kept.0) in
         (item_row pair.0 e.0 e.1, has_kept (hits tests params) (db.trees 4) (item_row pair.0 e.0 e.1) pair.1 (passes pair.0 e.0 e.1 ∙ kept.1), refl);
     apart =
-        let keys = item_keys_apart db shows.sound shows.schema shows.items.ordered (λ r h. let pair = shows.items.sound r h in (pair.id, pair.key, ap rowid pair.is, ap (λ x. column x 1) pair.is)) in
+        let keys = item_keys_apart One db shows.sound shows.schema shows.items.ordered (λ r h. let pair = shows.items.sound r h in (pair.id, pair.key, ap rowid pair.is, ap (λ x. column x 1) pair.is)) in
         finer_distinct (λ r. column r 1) (out 4 tests both_columns by_path limit params) (passing tests params (db.trees 4)) (λ x y same. ap (λ (o : Output). column o.0 0) same)
         (kept_distinct (λ r. column r 1) (hits tests params) (db.trees 4) keys);
     rises = marks_rise f v.items shows.views.sorted;
@@ -152,8 +152,8 @@ all_one : IsOneAs select_all [] (understood pid_schema select_all)
 unfolding understood everything
 all_one = record { whole = omega arith; given = refl; bare = refl; timeless = refl }
 
-pub all_query : IsQuery select_all []
-all_query = in_order select_all [] 4 [] both_columns (codes "path" ∷ codes "name" ∷ []) all_one by_path whole select_all_is select_all_unlisted refl
+pub all_query : IsQuery pid_schema select_all []
+all_query = in_order pid_schema select_all [] 4 [] both_columns (codes "path" ∷ codes "name" ∷ []) all_one by_path whole select_all_is select_all_unlisted refl
 
 all_kept : {X : Type 0} (xs : List X) → filter (λ _. true) xs ≡ xs
 all_kept [] = refl
@@ -196,8 +196,8 @@ range_one : (low high : List ℕ) → IsOneAs select_range (Text low ∷ Text hi
 unfolding understood everything
 range_one low high = record { whole = omega arith; given = refl; bare = refl; timeless = refl }
 
-pub range_query : (low high : List ℕ) → IsQuery select_range (Text low ∷ Text high ∷ [])
-range_query low high = in_order select_range (Text low ∷ Text high ∷ []) 4 in_range both_columns (codes "path" ∷ codes "name" ∷ []) (range_one low high) by_path whole select_range_is select_range_unlisted refl
+pub range_query : (low high : List ℕ) → IsQuery pid_schema select_range (Text low ∷ Text high ∷ [])
+range_query low high = in_order pid_schema select_range (Text low ∷ Text high ∷ []) 4 in_range both_columns (codes "path" ∷ codes "name" ∷ []) (range_one low high) by_path whole select_range_is select_range_unlisted refl
 
 module _ (db : Database) (c : Counts) (v : Views) (shows : ShowsCounting c db v) (low high : List ℕ) where
   abbrev params : Row

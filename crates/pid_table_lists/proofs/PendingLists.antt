@@ -84,8 +84,8 @@ page_one : (after : ℕ) → IsOneAs select_page (number after ∷ []) (understo
 unfolding understood everything
 page_one after = record { whole = omega arith; given = refl; bare = refl; timeless = refl }
 
-pub page_query : (after : ℕ) → IsQuery select_page (number after ∷ [])
-page_query after = in_order select_page (number after ∷ []) 6 waiting as_it_stands
+pub page_query : (after : ℕ) → IsQuery pid_schema select_page (number after ∷ [])
+page_query after = in_order pid_schema select_page (number after ∷ []) 6 waiting as_it_stands
     (codes "author" ∷ codes "path" ∷ codes "form" ∷ codes "name" ∷ codes "note" ∷ codes "state" ∷ codes "decider" ∷ codes "reason" ∷ codes "num" ∷ []) (page_one after) by_number a_hundred select_page_is select_page_unlisted refl
 
 abbrev pub page_mark : ℕ × Standing → Output

@@ -68,8 +68,8 @@ remarks_one : (n : ℕ) → IsOneAs select_remarks (number n ∷ []) (understood
 unfolding understood everything
 remarks_one n = record { whole = omega arith; given = refl; bare = refl; timeless = refl }
 
-pub remarks_query : (n : ℕ) → IsQuery select_remarks (number n ∷ [])
-remarks_query n = in_order select_remarks (number n ∷ []) 7 by_first what_is_said (codes "author" ∷ codes "body" ∷ []) (remarks_one n) by_place whole select_remarks_is select_remarks_unlisted refl
+pub remarks_query : (n : ℕ) → IsQuery pid_schema select_remarks (number n ∷ [])
+remarks_query n = in_order pid_schema select_remarks (number n ∷ []) 7 by_first what_is_said (codes "author" ∷ codes "body" ∷ []) (remarks_one n) by_place whole select_remarks_is select_remarks_unlisted refl
 
 -- remarks with their places, which count on from this one
 abbrev pub placed_from : ℕ → List Remark → List (ℕ × Remark)

@@ -18,7 +18,7 @@ use Rattle.sqlite.specs.Edit.{next_rowid, numbered}
 use Rattle.sqlite_rules.specs.declared.error.Rowids.TheVariants.{Chosen}
 use Rattle.pid_moderation.specs.declared.facts.State.TheVariants.{Pending}
 use Rattle.pid_moderation.specs.Views.{Views}
-use Rattle.pid_rows.specs.Schema.{no_schema, meta, account, item, submission, remark, receipt}
+use Rattle.pid_rows.specs.Schema.{One, no_schema, pid_schema, meta, account, item, submission, remark, receipt}
 use Rattle.pid_rows.specs.PairRows.{Map, RowsAre}
 use Rattle.pid_rows.specs.TableRows.{number, meta_row}
 use Rattle.sqlite.specs.Order.{Row}
@@ -111,12 +111,12 @@ all_made db made = record {
 
 pub label_added : (old new : State) (m : Map (List ℕ) ℕ) (label : List ℕ) (value : ℕ) → HasOnlyMeta m old.now → m label ≡ None → Ran insert_meta (Text label ∷ number value ∷ []) old new → HasOnlyMeta (with_label label value m) new.now
 label_added old new m label value has none ran =
-    let w = map_added meta_row by_first _ meta_found m label meta 0 refl meta_plain old new has.schema has.meta insert_meta pair_terms 3 insert_meta_is
+    let w = map_added meta_row by_first _ meta_found m label pid_schema meta 0 refl meta_plain old new has.schema has.meta insert_meta pair_terms 3 (insert_meta_is One)
     (number value ∷ []) (Null ∷ Text label ∷ number value ∷ []) refl value
     (λ rs. (next_rowid rs, ap (λ r. numbered Chosen rs (r ∷ [])) (meta_cast Null label value ∙ ap (λ x. x ∷ Text label ∷ number value ∷ []) cast_null)))
     _ (text_set m label (Some value)) ran.0 none ran.1 in
     record {
-      schema = w.schema;
+      schema = w.schema_is;
       sound = w.sound;
       meta = w.rows;
       accounts = w.others.1.0 (λ e. omega arith) ∙ has.accounts;
@@ -141,6 +141,7 @@ shows_nothing db has = record {
   submissions = none_there _ _ (db.trees 6) standing_none has.submissions;
   remarks = none_there _ _ (db.trees 7) remark_none has.remarks;
   receipts = no_rows _ (db.trees 9) has.receipts;
+  sinces = tt;
 }
   where
     none_there : {K V : Type 0} (row : ℤ → K → V → Row) (m : Map K V) (rows : List Row) → ((k : K) → m k ≡ None) → rows ≡ [] → RowsAre row m rows

@@ -25,21 +25,21 @@ returns-clause-found g c known clean v rest readable =
     bad
 
 pub returns-in-Some-clause-labelled : goal.returns-in-Some-clause-labelled
-returns-in-Some-clause-labelled g c clean has =
-    label_read (state g.S.Store c.args.conn.now).now.trees c.args.label.now _ c.in-Some.row.now (c.in_ok-rows.ensures.valued clean has) (c.in-Some.ensures.value ∙ ap (λ l. slice_get l 0) c.deref.ensures.value) c.number_at.result c.number_at.ensures.read
+returns-in-Some-clause-labelled g c clean version has =
+    label_read (state g.S.Store c.args.conn.now).now.trees c.args.label.now _ c.in-Some.row.now (c.in_ok-rows.ensures.valued clean version has) (c.in-Some.ensures.value ∙ ap (λ l. slice_get l 0) c.deref.ensures.value) c.number_at.result c.number_at.ensures.read
 
 pub returns-in-Some-clause-refused : goal.returns-in-Some-clause-refused
-returns-in-Some-clause-refused g c clean has =
-    label_refused (state g.S.Store c.args.conn.now).now.trees c.args.label.now _ c.in-Some.row.now (c.in_ok-rows.ensures.valued clean has) (c.in-Some.ensures.value ∙ ap (λ l. slice_get l 0) c.deref.ensures.value) c.number_at.result c.number_at.ensures.unread
+returns-in-Some-clause-refused g c clean version has =
+    label_refused (state g.S.Store c.args.conn.now).now.trees c.args.label.now _ c.in-Some.row.now (c.in_ok-rows.ensures.valued clean version has) (c.in-Some.ensures.value ∙ ap (λ l. slice_get l 0) c.deref.ensures.value) c.number_at.result c.number_at.ensures.unread
 
 pub returns-clause-refused : goal.returns-clause-refused
-returns-clause-refused g c clean has =
-    none_lacks (state g.S.Store c.args.conn.now).now.trees c.args.label.now _ (c.in_ok-rows.ensures.each clean has) (c.in-None.ensures.value ∙ ap (λ l. slice_get l 0) c.deref.ensures.value)
+returns-clause-refused g c clean version has =
+    none_lacks (state g.S.Store c.args.conn.now).now.trees c.args.label.now _ (c.in_ok-rows.ensures.each clean version has) (c.in-None.ensures.value ∙ ap (λ l. slice_get l 0) c.deref.ensures.value)
 
 pub returns-in_err-rows-clause-refused : goal.returns-in_err-rows-clause-refused
-returns-in_err-rows-clause-refused g c clean has =
+returns-in_err-rows-clause-refused g c clean version has =
     let db = (state g.S.Store c.args.conn.now).now.trees in
-    passed_from c.from_residual.result _ (ExplainsNumber db c.args.label.now) c.from_residual.ensures.1 (untold_explains db c.args.label.now _ (c.in_err-rows.ensures.untold clean has))
+    passed_from c.from_residual.result _ (ExplainsNumber db c.args.label.now) c.from_residual.ensures.1 (untold_explains db c.args.label.now _ (c.in_err-rows.ensures.untold clean version has))
 
 pub returns-in-Some-clause-never : goal.returns-in-Some-clause-never
 returns-in-Some-clause-never g c = unread_never _ c.number_at.result c.number_at.ensures.unread

@@ -1,4 +1,5 @@
 use Rattle.std.proofs.Common.{true}
+use Rattle.pid_rows.specs.Schema.{One, schema_of}
 use Rattle.pid_rows.specs.Shows.{counts_of}
 use Rattle.pid_rows.proofs.StatementTexts.{select_meta}
 use Rattle.sqlite.specs.Held.{state}
@@ -13,16 +14,16 @@ returns-clause-reads g c = record {
   rests = c.read_rows.ensures.rests;
   told = λ clean v rest.
       at_rest g.S.Store c.args.conn.now (state g.S.Store c.read_rows.new.conn) v select_meta _ c.read_rows.result (λ rows. rows.items) _ rest (λ new rows shows h. value_found _ new (counts_of v) v shows rows.items c.args.label.now h)
-      (rw (c.to_sql-label.ensures) at (c.read_rows.ensures.shown clean)) ((rw c.to_sql-label.ensures at (c.read_rows.ensures.caused clean v rest)) (meta_query c.args.label.now));
+      (rw (c.to_sql-label.ensures) at (c.read_rows.ensures.shown clean)) ((rw c.to_sql-label.ensures at (c.read_rows.ensures.caused clean v rest)) (meta_query One c.args.label.now));
 }
 
 pub returns-clause-valued : goal.returns-clause-valued
-returns-clause-valued g c clean has =
-    values_read g.S.Store c.args.label.now (state g.S.Store (record c.args.conn.now { in_transaction = true })) c.read_rows.result has (rw (c.to_sql-label.ensures) at (c.read_rows.ensures.shown clean))
+returns-clause-valued g c clean version has =
+    values_read g.S.Store version c.args.label.now (state g.S.Store (record c.args.conn.now { in_transaction = true })) c.read_rows.result has (rw (c.to_sql-label.ensures) at (c.read_rows.ensures.shown clean))
 
 pub returns-clause-each : goal.returns-clause-each
-returns-clause-each g c clean has =
-    each_read g.S.Store c.args.label.now (state g.S.Store (record c.args.conn.now { in_transaction = true })) c.read_rows.result has (rw (c.to_sql-label.ensures) at (c.read_rows.ensures.shown clean))
+returns-clause-each g c clean version has =
+    each_read g.S.Store version c.args.label.now (state g.S.Store (record c.args.conn.now { in_transaction = true })) c.read_rows.result has (rw (c.to_sql-label.ensures) at (c.read_rows.ensures.shown clean))
 
 pub returns-clause-untold : goal.returns-clause-untold
-returns-clause-untold g c clean has = c.read_rows.ensures.untold clean has select_meta_is.plain
+returns-clause-untold g c clean version has = c.read_rows.ensures.untold clean (schema_of version) has (select_meta_is version).plain

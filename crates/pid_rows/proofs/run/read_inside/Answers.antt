@@ -36,7 +36,7 @@ returns-in_err-query_all-clause-untold g c clean schema has plain =
     subst (λ r. IfErr r IsUntold) (sym p.1) (subst IsUntold (sym p.2) (untold c.args.sql.now (bound c.args.params.now) _ _ has plain _ (c.in_err-query_all.ensures.err clean)))
 
 pub returns-in_err-query_all-clause-caused : goal.returns-in_err-query_all-clause-caused
-returns-in_err-query_all-clause-caused g c clean has query =
+returns-in_err-query_all-clause-caused g c clean schema has query =
     let p = err_from_is_err_and c.from_residual.result c.from_residual.ensures.1 in
     let old = state g.S.Store c.args.tx.now.conn.now in
     let new = state g.S.Store c.query_all.new.self.conn.now in

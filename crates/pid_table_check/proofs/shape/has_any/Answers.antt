@@ -2,6 +2,7 @@ use Rattle.std.proofs.Common.{[], arith, sym, subst}
 use Rattle.sqlite.specs.Held.{state}
 use Rattle.pid_rows.specs.Causes.{IsCaused}
 use Rattle.pid_rows.specs.Queries.{IsQuery}
+use Rattle.pid_rows.specs.Schema.{pid_schema}
 use Rattle.pid_rows.proofs.CauseLemmas.{passed_from}
 use Rattle.pid_table_check.proofs.AskedTexts.{is_query}
 use Rattle.pid_table_check.specs.declared.shape.Table.{Table}
@@ -34,7 +35,7 @@ returns-in_err-can_ask-clause-caused g c clean v rest =
     let rests = c.in_err-can_ask.ensures.rests in
     let one = c.loop-table.invariant.0 in
     passed_from c.from_residual.result _ (IsCaused a d) c.from_residual.ensures.1
-    (caused_then a b d c.in_err-can_ask.field-0.0 one rests clean (c.in_err-can_ask.ensures.caused clean v (one.0.kept v rest) (subst (λ text. IsQuery text []) (sym c.query.ensures) (is_query _))))
+    (caused_then a b d c.in_err-can_ask.field-0.0 one rests clean (c.in_err-can_ask.ensures.caused clean v (one.0.kept v rest) (subst (λ text. IsQuery pid_schema text []) (sym c.query.ensures) (is_query _))))
 
 pub returns-clause-asked : goal.returns-clause-asked
 returns-clause-asked g c clean = (
