@@ -1,11 +1,11 @@
 //! The jobs of a registry, over any store. Each hands the connection back, where the registry is live.
 use crate::job_end::JobEnd;
-use crate::replies::{print_reply, tell_unopened};
+use crate::replies::tell_unopened;
+use crate::serving::{Port, serve_registry};
 use pid_ident::{Account, Input, Key, Output};
 use pid_script::{ScriptEnd, run_script};
 use pid_service::{ExportFault, ImportEnd, Registry, open};
 use pid_tables::TableFault;
-use pid_texts::FAILED;
 use sqlite::{Alter, Connection};
 use std::alloc::Global;
 
@@ -22,11 +22,12 @@ pub enum RegistryJob<I> {
         input: I,
     },
     Export,
+    Serve(Port),
 }
 
 /// Opens the registry of a connection, or begins it, and does the job.
 pub fn work_on<S: Alter + Drop, I: Input + Drop, O: Output, F: Output>(
-    alloc: Global,
+    rt: &HostRuntime,
     conn: Connection<S>,
     job: RegistryJob<I>,
     output: &mut O,
@@ -35,10 +36,10 @@ pub fn work_on<S: Alter + Drop, I: Input + Drop, O: Output, F: Output>(
     if !conn.is_autocommit() {
         return (JobEnd::Told(tell_unopened(TableFault::Store, faults)), None);
     }
-    match open(alloc, conn) {
+    match open(rt.alloc(), conn) {
         Ok(registry) => {
             let mut registry = registry;
-            let end = do_job(alloc, &mut registry, job, output, faults);
+            let end = do_job(rt, &mut registry, job, output, faults);
             (end, handed_back(registry))
         }
         Err((fault, _)) => (JobEnd::Told(tell_unopened(fault, faults)), None),
@@ -55,20 +56,21 @@ fn handed_back<S: Alter + Drop>(registry: Registry<S>) -> Option<Connection<S>> 
 }
 
 fn do_job<S: Alter + Drop, I: Input + Drop, O: Output, F: Output>(
-    alloc: Global,
+    rt: &HostRuntime,
     registry: &mut Registry<S>,
     job: RegistryJob<I>,
     output: &mut O,
     faults: &mut F,
 ) -> JobEnd {
     match job {
-        RegistryJob::Script(input) => run_lines(alloc, registry, input, output),
+        RegistryJob::Script(input) => run_lines(rt.alloc(), registry, input, output),
         RegistryJob::Import {
             account,
             key,
             input,
-        } => bring_in(alloc, registry, (account, key), input, output, faults),
-        RegistryJob::Export => print_all(alloc, registry, output, faults),
+        } => bring_in(registry, account, key, input),
+        RegistryJob::Export => print_all(registry, output),
+        RegistryJob::Serve(port) => serve_registry(rt, registry, port, output, faults),
     }
 }
 
@@ -85,36 +87,24 @@ fn run_lines<S: Alter + Drop, I: Input + Drop, O: Output>(
     }
 }
 
-fn bring_in<S: Alter + Drop, I: Input + Drop, O: Output, F: Output>(
-    alloc: Global,
+fn bring_in<S: Alter + Drop, I: Input + Drop>(
     registry: &mut Registry<S>,
-    sender: (Account, Option<Key>),
+    account: Account,
+    key: Option<Key>,
     input: I,
-    output: &mut O,
-    faults: &mut F,
 ) -> JobEnd {
-    let (account, key) = sender;
     let mut input = input;
     match registry.import_from(account, key, &mut input) {
-        Ok(reply) => print_reply(alloc, Ok(reply), output, faults),
-        Err(ImportEnd::Refused(refusal)) => print_reply(alloc, Err(refusal), output, faults),
+        Ok(reply) => JobEnd::Replied(Ok(reply)),
+        Err(ImportEnd::Refused(refusal)) => JobEnd::Replied(Err(refusal)),
         Err(ImportEnd::Body) => JobEnd::FileFailed,
     }
 }
 
-// The refusal of an export is told on `faults`.
-fn print_all<S: Alter + Drop, O: Output, F: Output>(
-    alloc: Global,
-    registry: &mut Registry<S>,
-    output: &mut O,
-    faults: &mut F,
-) -> JobEnd {
+fn print_all<S: Alter + Drop, O: Output>(registry: &mut Registry<S>, output: &mut O) -> JobEnd {
     match registry.export(output) {
         Ok(()) => JobEnd::Told(0),
-        Err(ExportFault::Refused(refusal)) => {
-            let _ = print_reply(alloc, Err(refusal), faults, output);
-            JobEnd::Told(FAILED)
-        }
+        Err(ExportFault::Refused(refusal)) => JobEnd::Replied(Err(refusal)),
         Err(ExportFault::Write(_)) => JobEnd::FileFailed,
     }
 }

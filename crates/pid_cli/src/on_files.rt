@@ -5,7 +5,6 @@ use crate::replies::tell_unopened;
 use pid_ident::{Input, Output};
 use pid_tables::TableFault;
 use sqlite::Connection;
-use std::alloc::Global;
 
 /// Does the job over a file, which is made where it is missing. What was committed is in the file when it ends, or in the log beside it.
 pub fn work_on_file<I: Input + Drop, O: Output, F: Output>(
@@ -17,7 +16,7 @@ pub fn work_on_file<I: Input + Drop, O: Output, F: Output>(
 ) -> JobEnd {
     match Connection::open(rt, file) {
         Ok(conn) => {
-            let (end, conn) = work_on(rt.alloc(), conn, job, output, faults);
+            let (end, conn) = work_on(rt, conn, job, output, faults);
             if let Some(conn) = conn {
                 // Where the log cannot be brought into the file it stays, and the next opening reads it.
                 let _ = conn.close();
@@ -30,14 +29,14 @@ pub fn work_on_file<I: Input + Drop, O: Output, F: Output>(
 
 /// Does the job over memory.
 pub fn work_on_memory<I: Input + Drop, O: Output, F: Output>(
-    alloc: Global,
+    rt: &HostRuntime,
     job: RegistryJob<I>,
     output: &mut O,
     faults: &mut F,
 ) -> JobEnd {
-    match Connection::open_in_memory(alloc) {
+    match Connection::open_in_memory(rt.alloc()) {
         Ok(conn) => {
-            let (end, _) = work_on(alloc, conn, job, output, faults);
+            let (end, _) = work_on(rt, conn, job, output, faults);
             end
         }
         Err(_) => JobEnd::Told(tell_unopened(TableFault::Memory, faults)),

@@ -27,6 +27,15 @@ pub fn print_reply<O: Output, F: Output>(
     }
 }
 
+/// Tells the reply of a job whose output is something else, the refusal of an export; answers the status of one that failed.
+pub fn tell_reply<F: Output>(alloc: Global, reply: Result<Reply, Refusal>, faults: &mut F) -> u8 {
+    let Ok(line) = reply_line(alloc, reply) else {
+        return tell_end(TextEnd::Memory, faults);
+    };
+    let _ = write_all(faults, line.as_bytes());
+    FAILED
+}
+
 fn status_of(reply: Result<Reply, Refusal>) -> u8 {
     match reply {
         Ok(_) => 0,

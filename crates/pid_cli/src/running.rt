@@ -3,15 +3,16 @@ use crate::job_end::JobEnd;
 use crate::jobs::RegistryJob;
 use crate::look_ups::{print_look_up, read_words};
 use crate::on_files::{work_on_file, work_on_memory};
-use crate::replies::print_reply;
-use crate::serving::{Port, serve_file};
+use crate::replies::{print_reply, tell_reply};
+use crate::serving::Port;
 use pid_ident::{Account, Input, Key, Output, Plain, WordFault};
 use pid_moderation::Refusal;
-use pid_texts::{TextEnd, Watched, run_check, run_tidy, tell_end, tell_failed};
+use pid_texts::{Counted, Progress, TextEnd, Watched, run_check, run_tidy, tell_end, tell_failed};
 use pid_words::{Job, LookUpWords, job_of, tell_no_job};
 use std::alloc::Global;
 use std::fs;
-use std::io::{BufWriter, Read, Stdin, Write};
+use std::fs::File;
+use std::io::{BufWriter, IsTerminal, Read, Stdin, Write};
 
 const BUFFER: usize = 65_536;
 
@@ -62,46 +63,73 @@ fn run_job<I: Read + Drop, O: Write + Drop, F: Write + Drop>(
             port,
             connections,
         } => {
-            let port = Port {
+            let job: RegistryJob<Plain<I>> = RegistryJob::Serve(Port {
                 number: port,
                 connections,
-            };
-            serve_file(rt, db, port, &mut output, &mut faults)
+            });
+            work_on_file(rt, db, job, &mut output, &mut faults)
         }
         _ => {
             let job = RegistryJob::Script(Plain::new(input));
-            work_on_memory(rt.alloc(), job, &mut output, &mut faults)
+            work_on_memory(rt, job, &mut output, &mut faults)
         }
     };
-    status(end, output.into_inner().is_unread(), &mut faults)
+    let end = match end {
+        JobEnd::Replied(reply) => print_reply(rt.alloc(), reply, &mut output, &mut faults),
+        end => end,
+    };
+    status(
+        rt.alloc(),
+        end,
+        output.into_inner().is_unread(),
+        &mut faults,
+    )
 }
 
-fn status<F: Output>(end: JobEnd, is_unread: bool, faults: &mut F) -> u8 {
+// Tells what is left to tell of an end, and answers the status.
+fn status<F: Output>(alloc: Global, end: JobEnd, is_unread: bool, faults: &mut F) -> u8 {
     match end {
         JobEnd::Told(status) => status,
+        JobEnd::Replied(reply) => tell_reply(alloc, reply, faults),
         JobEnd::FileFailed => tell_failed(is_unread, faults),
     }
 }
 
+// Where standard output is the terminal too, the text itself shows how far it is.
 fn run_export<O: Write + Drop, F: Write + Drop>(
     rt: &HostRuntime,
     db: &str,
     output: O,
     faults: F,
 ) -> u8 {
+    let is_told = rt.stderr().is_terminal() && !rt.stdout().is_terminal();
+    let mut progress = Progress::new(rt, "exporting", is_told);
     let mut faults = Plain::new(faults);
+    let output = Counted::new(output, &mut progress);
+    let (end, is_unread) = print_export(rt, db, output, &mut faults);
+    progress.clear();
+    status(rt.alloc(), end, is_unread, &mut faults)
+}
+
+// Prints the registry of a file through a buffer. Answers too whether nobody reads the output any more.
+fn print_export<O: Write + Drop, F: Output>(
+    rt: &HostRuntime,
+    db: &str,
+    output: O,
+    faults: &mut F,
+) -> (JobEnd, bool) {
     let Ok(buffer) = BufWriter::with_capacity(rt.alloc(), BUFFER, Watched::new(output)) else {
-        return tell_end(TextEnd::Memory, &mut faults);
+        return (JobEnd::Told(tell_end(TextEnd::Memory, faults)), false);
     };
     let mut output = Plain::new(buffer);
     let job: RegistryJob<Plain<Stdin>> = RegistryJob::Export;
-    let end = work_on_file(rt, db, job, &mut output, &mut faults);
+    let end = work_on_file(rt, db, job, &mut output, faults);
     let mut buffer = output.into_inner();
     let end = match (end, buffer.flush()) {
         (JobEnd::Told(0), Err(_)) => JobEnd::FileFailed,
         _ => end,
     };
-    status(end, buffer.get_ref().is_unread(), &mut faults)
+    (end, buffer.get_ref().is_unread())
 }
 
 fn run_lookup<O: Output, F: Output>(
@@ -112,7 +140,7 @@ fn run_lookup<O: Output, F: Output>(
 ) -> JobEnd {
     let look_up = match read_words(rt.alloc(), words) {
         Ok(Ok(look_up)) => look_up,
-        Ok(Err(_)) => return print_reply(rt.alloc(), Err(Refusal::BadText), output, faults),
+        Ok(Err(_)) => return JobEnd::Replied(Err(Refusal::BadText)),
         Err(_) => return JobEnd::Told(tell_end(TextEnd::Memory, faults)),
     };
     match fs::open(rt, words.ids) {
@@ -131,20 +159,34 @@ fn run_import<O: Output, F: Output>(
 ) -> JobEnd {
     let (db, ids) = files;
     match sender_of(rt.alloc(), sender) {
-        Ok((account, key)) => match fs::open(rt, ids) {
-            Ok(file) => {
-                let job = RegistryJob::Import {
-                    account,
-                    key,
-                    input: Plain::new(file),
-                };
-                work_on_file(rt, db, job, output, faults)
-            }
+        Ok(sender) => match fs::open(rt, ids) {
+            Ok(file) => bring_in_file(rt, db, sender, file, output, faults),
             Err(_) => JobEnd::FileFailed,
         },
-        Err(WordFault::Bad) => print_reply(rt.alloc(), Err(Refusal::BadText), output, faults),
+        Err(WordFault::Bad) => JobEnd::Replied(Err(Refusal::BadText)),
         Err(WordFault::Memory) => JobEnd::Told(tell_end(TextEnd::Memory, faults)),
     }
+}
+
+// Brings an open file of identifiers into the registry of a file.
+fn bring_in_file<O: Output, F: Output>(
+    rt: &HostRuntime,
+    db: &str,
+    sender: (Account, Option<Key>),
+    file: File,
+    output: &mut O,
+    faults: &mut F,
+) -> JobEnd {
+    let (account, key) = sender;
+    let mut progress = Progress::new(rt, "importing", rt.stderr().is_terminal());
+    let job = RegistryJob::Import {
+        account,
+        key,
+        input: Plain::new(Counted::new(file, &mut progress)),
+    };
+    let end = work_on_file(rt, db, job, output, faults);
+    progress.clear();
+    end
 }
 
 fn sender_of(

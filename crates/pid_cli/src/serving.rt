@@ -1,17 +1,15 @@
-//! The registry in a file, served over HTTP to clients of this machine.
+//! A registry, served over HTTP to clients of this machine.
 ghost use Rattle.std.specs.Prelude.{◌≡◌, ◌+◌, ◌≤◌};
 
 use crate::job_end::JobEnd;
-use crate::replies::tell_unopened;
 use itoa::Buffer;
 use pid_http::serve_stream;
 use pid_http_stream::Served;
 use pid_ident::{Input, Output, WriteFault, write_all, write_parts};
-use pid_service::{Registry, open};
+use pid_service::Registry;
 use pid_serving::{ServingEnd, StreamServer, serve_on};
-use pid_tables::TableFault;
 use pid_texts::FAILED;
-use sqlite::{Alter, Connection};
+use sqlite::Alter;
 use std::alloc::Global;
 use std::net::{Ipv4Addr, SocketAddr, TcpListener};
 
@@ -81,8 +79,11 @@ fn serve_listener<S: Alter + Drop, O: Output, F: Output>(
     }
 }
 
-// Listens at a port of this machine, and serves a registry there.
-fn serve_registry<S: Alter + Drop, O: Output, F: Output>(
+/// Listens at a port of this machine, and serves a registry there to so many connections, one after the other.
+///
+/// Prints where it listens before the first one is accepted, and in the end how many streams were begun. The status is 0 where
+/// all were served and the registry is live, else 3.
+pub fn serve_registry<S: Alter + Drop, O: Output, F: Output>(
     rt: &HostRuntime,
     registry: &mut Registry<S>,
     port: Port,
@@ -104,54 +105,5 @@ fn serve_registry<S: Alter + Drop, O: Output, F: Output>(
             faults,
         ),
         Err(_) => JobEnd::FileFailed,
-    }
-}
-
-// Opens the registry of a connection, or begins it, and serves it. Hands the connection back, where the registry is live.
-fn serve_over<S: Alter + Drop, O: Output, F: Output>(
-    rt: &HostRuntime,
-    conn: Connection<S>,
-    port: Port,
-    output: &mut O,
-    faults: &mut F,
-) -> (JobEnd, Option<Connection<S>>) {
-    if !conn.is_autocommit() {
-        return (JobEnd::Told(tell_unopened(TableFault::Store, faults)), None);
-    }
-    match open(rt.alloc(), conn) {
-        Ok(registry) => {
-            let mut registry = registry;
-            let end = serve_registry(rt, &mut registry, port, output, faults);
-            if registry.is_live() {
-                (end, Some(registry.close()))
-            } else {
-                (end, None)
-            }
-        }
-        Err((fault, _)) => (JobEnd::Told(tell_unopened(fault, faults)), None),
-    }
-}
-
-/// Serves the registry in a file, which is made where it is missing, to so many connections, one after the other.
-///
-/// Prints where it listens before the first one is accepted, and in the end how many streams were begun. The status is 0 where
-/// all were served and the registry is live, else 3. What was committed is in the file when it ends, or in the log beside it.
-pub fn serve_file<O: Output, F: Output>(
-    rt: &HostRuntime,
-    file: &str,
-    port: Port,
-    output: &mut O,
-    faults: &mut F,
-) -> JobEnd {
-    match Connection::open(rt, file) {
-        Ok(conn) => {
-            let (end, conn) = serve_over(rt, conn, port, output, faults);
-            if let Some(conn) = conn {
-                // Where the log cannot be brought into the file it stays, and the next opening reads it.
-                let _ = conn.close();
-            }
-            end
-        }
-        Err(error) => JobEnd::Told(tell_unopened(TableFault::from(error), faults)),
     }
 }
