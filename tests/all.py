@@ -3,21 +3,24 @@ import resource
 import sys
 
 import fault_gallery
+import http_routes
 import jobs
 import limits
 import lookups
 import lspci
 import memory
+import proxy
 import real_file
 import registry
 import scripts
 import serving
+import serving_faults
 import stops
 import words
 import worked_rows
 from program import Cases
 
-PARTS = {it.__name__: it for it in (worked_rows, words, fault_gallery, limits, real_file, lspci, lookups, registry, jobs, stops, scripts, serving, memory)}
+PARTS = {it.__name__: it for it in (worked_rows, words, fault_gallery, limits, real_file, lspci, lookups, registry, jobs, stops, scripts, serving, http_routes, serving_faults, proxy, memory)}
 
 
 def processor_seconds():

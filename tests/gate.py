@@ -19,7 +19,8 @@ USAGE = """usage: ./test [--edits]
 Proves every crate and its tests from nothing, runs the tests and the programs as two compilers build them (`rt ci`, in a
 copy of the repository without the must-fail edits), and then tries the built program against real peers (tests/run).
 With --edits nothing is left out: `rt ci` runs in the repository itself, and the prover has to refuse each must-fail edit.
-Missing packages of Debian are installed: pci.ids, pciutils, libpci-dev, sqlite3, curl. The last line is 'N passed, N failed'.
+Missing packages of Debian are installed: pci.ids, pciutils, libpci-dev, sqlite3, curl, nginx-light, apache2-utils, openssl.
+The last line is 'N passed, N failed'.
 """
 
 NO_RT = """./test: the command rt is missing, which proves and builds the crates.
@@ -207,7 +208,7 @@ def run(folder):
     clock = Clock()
     clock.say("rt ci: every crate and its tests from nothing")
     passed, failed, meter, whole = prove(folder, clock)
-    clock.say("tests/run: the built program against files, lspci, libpci, grep and sqlite3")
+    clock.say("tests/run: the built program against files, lspci, libpci, grep, sqlite3, curl and nginx")
     more_passed, more_failed, peers = try_program(folder)
     print_table(meter, whole, peers, clock)
     passed, failed = passed + more_passed, failed + more_failed

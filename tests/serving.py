@@ -10,80 +10,8 @@ import threading
 import time
 
 from http_examples import try_examples
+from http_server import BYTES, JSON, OK, TEXT, Server, refusal, reply, to_end
 from program import HEADER, PROGRAM, REAL_FILE, tidy
-
-OK = b'{"ok":true}'
-
-
-def free_port():
-    with socket.socket() as listener:
-        listener.bind(("127.0.0.1", 0))
-        return listener.getsockname()[1]
-
-
-class Server:
-    """`pciids serve` over a file, for so many connections."""
-
-    def __init__(self, database, connections=1_000):
-        self.port = free_port()
-        words = [PROGRAM, "serve", "--db", database, "--port", str(self.port), "--connections", str(connections)]
-        self.process = subprocess.Popen(words, stdout=subprocess.PIPE, stderr=subprocess.PIPE)
-        self.first_line = self.process.stdout.readline()
-
-    def __enter__(self):
-        return self
-
-    def __exit__(self, *_):
-        self.process.kill()
-        self.process.communicate()
-
-    def connect(self):
-        return socket.create_connection(("127.0.0.1", self.port), timeout=20)
-
-    def raw(self, *pieces, pause=0):
-        """What comes back for the bytes sent, one piece after the other, until the server closes."""
-        with self.connect() as client:
-            for piece in pieces:
-                client.sendall(piece)
-                if pause:
-                    time.sleep(pause)
-            client.shutdown(socket.SHUT_WR)
-            return to_end(client)
-
-    def curl(self, path, *words):
-        """The status, the type and the body that curl gets."""
-        told = "\n%{http_code} %{content_type}"
-        ran = subprocess.run(["curl", "-sS", "--max-time", "30", "-w", told, *words, f"http://127.0.0.1:{self.port}{path}"], stdout=subprocess.PIPE, stderr=subprocess.PIPE)
-        body, _, line = ran.stdout.rpartition(b"\n")
-        status, _, kind = line.decode().partition(" ")
-        return int(status or 0), kind, body
-
-    def post(self, path, account, form, *words):
-        return self.curl(path, "-H", f"X-Account: {account}", "-d", form, *words)
-
-    def ended(self):
-        """What was printed behind the first line, and the status."""
-        out, err = self.process.communicate(timeout=30)
-        return out, err, self.process.returncode
-
-
-def to_end(client):
-    taken = b""
-    while piece := client.recv(65536):
-        taken += piece
-    return taken
-
-
-def refusal(number, word):
-    return b'{"ok":false,"refused":%d,"word":"%s"}' % (number, word.encode())
-
-
-def reply(status, kind, body, close=False):
-    head = f"HTTP/1.1 {status}\r\nContent-Type: {kind}\r\nContent-Length: {len(body)}\r\n" + ("Connection: close\r\n" if close else "") + "\r\n"
-    return head.encode() + body
-
-
-JSON, TEXT, BYTES = "application/json", "text/plain; charset=utf-8", "text/plain"
 
 THREE = (
     b"POST /account HTTP/1.1\r\nX-Account: root\r\nContent-Length: 16\r\n\r\nwho=alice&rank=0",
@@ -225,6 +153,21 @@ def files(cases, folder):
         cases.equal("http: a faulty file, as text", server.curl("/import?format=text", *words), (422, TEXT, b"refused 14 FileFault line=2 kind=7 Duplicate\n"))
 
 
+def long_files(cases, folder):
+    """A file of 2 MB, before which curl asks whether to go on, and one as long as may be."""
+    names = [b"%04x  a name of twenty-five bytes\n" % vendor for vendor in range(65_536)]
+    texts = {"2 MB": b"".join(names), "4,194,304 bytes": b"#" * 4_194_304}
+    with Server(os.path.join(folder, "long")) as server:
+        for name, text in texts.items():
+            path = os.path.join(folder, "text")
+            with open(path, "wb") as file:
+                file.write(text)
+            told = server.curl("/import", "-H", "X-Account: root", "--data-binary", f"@{path}")
+            want = b'{"added":%d,"ok":true,"renamed":0,"same":0}' % text.count(b"\n")
+            cases.equal(f"http: import of {name}", told, (200, JSON, want))
+        cases.equal("http: the text of 2 MB", server.curl("/pci.ids"), (200, TEXT, HEADER + texts["2 MB"]))
+
+
 def clients(cases, folder):
     """Clients that are slow, go away, or send on behind the last request."""
     with Server(os.path.join(folder, "clients")) as server:
@@ -306,5 +249,5 @@ def run(cases):
         cases.skipped("http", "the package curl is not installed")
         return
     with tempfile.TemporaryDirectory() as folder:
-        for part in (streams, questions, examples, files, clients, killed, taken_port):
+        for part in (streams, questions, examples, files, long_files, clients, killed, taken_port):
             part(cases, folder)

@@ -1,0 +1,177 @@
+"""Each route with each refusal that it can tell, asked of two servers alike: one answers in JSON, the other in text."""
+import json
+import os
+import re
+import shutil
+import tempfile
+
+from http_server import JSON, TEXT, Server
+from program import TOP
+
+MANY = b"".join(b"%04x  a\n" % vendor for vendor in range(65_536)) + b"".join(b"\t%04x  a\n" % device for device in range(34_465))
+
+# The target, the account and the body of a command, and the refusal, 0 where it is accepted.
+COMMANDS = [
+    ("/account", "root", b"who=alice&rank=0", 0),
+    ("/account", "root", b"who=bob&rank=1", 0),
+    ("/account", "root", b"rank=2&who=mona", 0),
+    ("/account", None, b"who=dora&rank=0", 3),
+    ("/account", "Root", b"who=dora&rank=0", 3),
+    ("/account", "root", b"who=Dora&rank=0", 3),
+    ("/account", "root", b"who=dora&rank=4", 3),
+    ("/account", "root", b"who=dora", 3),
+    ("/account", "root", b"who=dora&rank=0&rank=0", 3),
+    ("/account", "root", b"who=dora&rank=0&of=us", 3),
+    ("/account", "root", b"who=dora&rank=0\xff", 3),
+    ("/account", "carol", b"who=dora&rank=0", 4),
+    ("/account", "mona", b"who=dora&rank=0", 5),
+    ("/account", "root", b"who=root&rank=3", 10),
+    ("/account", "root", b"who=alice&rank=0", 13),
+    ("/submit", "alice", b"path=PC/8086&name=Intel", 0),
+    ("/submit", "alice", b"path=PC/80A6&name=Intel", 1),
+    ("/submit", "alice", b"path=PC/8086&name=+Intel", 2),
+    ("/submit", "alice", b"path=PC/8086", 3),
+    ("/submit", "alice", b"path=PC/8086&name=Intel&remove=yes", 3),
+    ("/submit", "alice", b"path=PC/8086&remove=no", 3),
+    ("/submit", "carol", b"path=PC/8086&name=Intel", 4),
+    ("/submit", "alice", b"path=PC/8086/1237&name=440FX&note=a+bridge", 0),
+    ("/submit", "bob", b"path=PC/8086/7000&name=82371SB", 0),
+    ("/comment", "bob", b"num=1&text=seen+in+%22a+laptop%22%09%5C+%C3%A9+%F0%9F%98%80", 0),
+    ("/comment", "bob", b"num=1&text=", 3),
+    ("/comment", "bob", b"num=01&text=seen", 3),
+    ("/comment", "carol", b"num=1&text=seen", 4),
+    ("/comment", "bob", b"num=9&text=seen", 7),
+    ("/approve", "bob", b"num=0", 3),
+    ("/approve", "carol", b"num=1", 4),
+    ("/approve", "alice", b"num=1", 5),
+    ("/approve", "bob", b"num=1", 5),
+    ("/approve", "mona", b"num=9", 7),
+    ("/approve", "bob", b"num=3", 10),
+    ("/approve", "bob", b"num=2", 11),
+    ("/approve", "mona", b"num=1", 0),
+    ("/approve", "mona", b"num=1", 8),
+    ("/approve", "bob", b"num=2", 0),
+    ("/submit", "alice", b"path=PC/8086&name=Intel", 0),
+    ("/approve", "mona", b"num=4", 13),
+    ("/submit", "alice", b"path=PC/8086&remove=yes&note=gone", 0),
+    ("/approve", "mona", b"num=5", 12),
+    ("/reject", "mona", b"num=5", 3),
+    ("/reject", "mona", b"num=5&reason=", 3),
+    ("/reject", "carol", b"num=5&reason=still+sold", 4),
+    ("/reject", "bob", b"num=5&reason=still+sold", 5),
+    ("/reject", "mona", b"num=9&reason=still+sold", 7),
+    ("/reject", "bob", b"num=3&reason=still+sold", 10),
+    ("/reject", "mona", b"num=5&reason=still+sold", 0),
+    ("/reject", "mona", b"num=5&reason=still+sold", 8),
+    ("/withdraw", "alice", b"num=x", 3),
+    ("/withdraw", "carol", b"num=4", 4),
+    ("/withdraw", "alice", b"num=9", 7),
+    ("/withdraw", "bob", b"num=4", 9),
+    ("/withdraw", "alice", b"num=4", 0),
+    ("/withdraw", "alice", b"num=4", 8),
+    ("/import", None, b"10ec  Realtek\n", 3),
+    ("/import", "carol", b"10ec  Realtek\n", 4),
+    ("/import", "bob", b"10ec  Realtek\n", 5),
+    ("/import", "mona", b"10ec  Realtek\n10ec \n", 14),
+    ("/import", "mona", MANY, 14),
+    ("/import", "mona", b"10ec  Realtek\r\n8086  Intel Corporation\n\t1237  440FX\n", 0),
+]
+
+# The target of a question and the refusal, 0 where it is answered.
+QUESTIONS = [
+    ("/read/PC/8086", 0),
+    ("/read/PC/8086/1237", 0),
+    ("/read/pc/8086", 1),
+    ("/read/PC/8087", 25),
+    ("/children", 0),
+    ("/children?of=PC/8086", 0),
+    ("/children?of=PC/8086/1237", 0),
+    ("/children?of=PC", 1),
+    ("/children?of=PC/8087", 25),
+    *((f"/submission/{number}", 0) for number in range(1, 6)),
+    ("/submission/6", 7),
+    ("/submission/x", 3),
+    ("/pending", 0),
+    ("/pending?after=3", 0),
+]
+
+
+def refusals():
+    """The word and the status of each refusal, as docs/HTTP.md has them."""
+    with open(os.path.join(TOP, "docs", "HTTP.md"), encoding="utf-8") as page:
+        rows = re.findall(r"^\| (\d+) \| (\w+) \| (\d{3}) [A-Z]", page.read(), re.M)
+    return {int(number): (word, int(status)) for number, word, status in rows}
+
+
+def line_of(it):
+    """The line for one of a list."""
+    if "num" not in it:
+        return f"{it['path']} {it['name']}\n"
+    what = f"remove {it['path']}" if it["name"] is None else f"name {it['path']} {it['name']}"
+    return f"{it['num']} {it['author']} {what}\n"
+
+
+def discussion(told):
+    lines = [f"{word} {told[word]}" for word in ("num", "author", "path")]
+    lines.append("remove" if told["name"] is None else f"name {told['name']}")
+    lines += [f"{word} {told[word]}" for word in ("note", "state", "decider", "reason")]
+    return lines + [f"remark {it['author']} {it['text']}" for it in told["remarks"]]
+
+
+KINDS = {5: "NoName", 7: "Duplicate"}
+
+
+def as_text(told):
+    """The text that says what a JSON reply says."""
+    if isinstance(told, list):
+        return "".join(line_of(it) for it in told)
+    if "state" in told:
+        lines = discussion(told)
+    elif "ok" not in told:
+        lines = [told["name"]]
+    elif not told["ok"]:
+        lines = [f"refused {told['refused']} {told['word']}"]
+        if told["refused"] == 14:
+            lines[0] += f" line={told['line']} kind={told['kind']} {KINDS[told['kind']]}" if told["line"] else " too many entries"
+    elif "num" in told:
+        lines = [f"ok {told['num']}"]
+    else:
+        counts = [f" {word}={told[word]}" for word in ("added", "renamed", "same") if word in told]
+        lines = ["ok" + "".join(counts)]
+    return "".join(line + "\n" for line in lines)
+
+
+def in_canonical_form(told):
+    """Compact JSON, keys in order, nothing escaped that need not be."""
+    return json.dumps(json.loads(told), sort_keys=True, separators=(",", ":"), ensure_ascii=False).encode()
+
+
+def asked_alike(cases, known, servers, name, target, refusal, *words):
+    """The same asked of the server that is asked in JSON and of the one that is asked in text."""
+    both = target + ("&" if "?" in target else "?") + "format=text"
+    (status, kind, body), (text_status, text_kind, text) = servers[0].curl(target, *words), servers[1].curl(both, *words)
+    told = json.loads(body)
+    word, want_status = known[refusal] if refusal else (None, 200)
+    got = (status, kind, told["refused"], told["word"]) if refusal and "refused" in told else (status, kind)
+    cases.equal(name, got, (want_status, JSON, refusal, word) if refusal else (200, JSON))
+    cases.equal(f"{name}: its form", body, in_canonical_form(body))
+    cases.equal(f"{name}: as text", (text_status, text_kind, text.decode()), (want_status, TEXT, as_text(told)))
+
+
+def run(cases):
+    if shutil.which("curl") is None:
+        cases.skipped("routes", "the package curl is not installed")
+        return
+    known = refusals()
+    cases.equal("docs/HTTP.md: refusals", sorted(known), [*range(1, 6), *range(7, 19), *range(20, 29)])
+    with tempfile.TemporaryDirectory() as folder:
+        body = os.path.join(folder, "body")
+        with Server(os.path.join(folder, "json")) as first, Server(os.path.join(folder, "text")) as second:
+            for target, account, fields, refusal in COMMANDS:
+                with open(body, "wb") as file:
+                    file.write(fields)
+                words = (["-H", f"X-Account: {account}"] if account else []) + ["--data-binary", f"@{body}"]
+                asked_alike(cases, known, (first, second), f"{target} of {account}: {fields[:60]}", target, refusal, *words)
+            for target, refusal in QUESTIONS:
+                asked_alike(cases, known, (first, second), f"GET {target}", target, refusal)
+            cases.equal("both registries hold the same", first.curl("/pci.ids"), second.curl("/pci.ids"))

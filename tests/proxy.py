@@ -1,0 +1,276 @@
+"""nginx in front of the server, by deploy/nginx.conf as it is but for its ports and places: who is taken to ask, and clients that are slow."""
+import json
+import os
+import re
+import shutil
+import socket
+import ssl
+import subprocess
+import tempfile
+import threading
+import time
+
+from http_server import BYTES, JSON, OK, TEXT, Server, ask_curl, free_port, refusal, to_end
+from program import HEADER, REAL_FILE, TOP, tidy
+
+HOST = "pciids.example.org"
+PASSWORDS = {"root": "secret of root", "alice": "secret:of:alice", "mona": "mona", "Bob": "bob"}
+
+# The bound of nginx.conf on a client that sends nothing, in seconds.
+PATIENCE = 10
+
+
+def config():
+    with open(os.path.join(TOP, "deploy", "nginx.conf"), encoding="utf-8") as file:
+        return file.read()
+
+
+def shown_config():
+    """The configuration that docs/HTTP.md shows."""
+    with open(os.path.join(TOP, "docs", "HTTP.md"), encoding="utf-8") as page:
+        return re.search(r"^```nginx\n(.*?)^```$", page.read(), re.S | re.M)[1]
+
+
+def in_place(text, folder, port, behind):
+    """The configuration with its ports and places made those of a test; None where one of them is not in it."""
+    for old, new in (
+        ("/run/pciids-nginx.pid", f"{folder}/pid"),
+        ("/var/log/nginx/", f"{folder}/"),
+        ("/etc/pciids/", f"{folder}/"),
+        ("listen 443 ssl", f"listen 127.0.0.1:{port} ssl"),
+        ("server 127.0.0.1:8086", f"server 127.0.0.1:{behind}"),
+    ):
+        if old not in text:
+            return None
+        text = text.replace(old, new)
+    return text
+
+
+class Proxy:
+    """nginx with the configuration, its certificate and its file of passwords in a folder, in front of a port."""
+
+    def __init__(self, folder, behind):
+        self.folder, self.port = folder, free_port()
+        os.chmod(folder, 0o755)
+        self.certificate = os.path.join(folder, "certificate.pem")
+        words = ["openssl", "req", "-x509", "-newkey", "rsa:2048", "-nodes", "-days", "1", "-subj", f"/CN={HOST}", "-addext", f"subjectAltName=DNS:{HOST}"]
+        subprocess.run([*words, "-keyout", os.path.join(folder, "key.pem"), "-out", self.certificate], stderr=subprocess.DEVNULL, check=True)
+        passwords = os.path.join(folder, "passwords")
+        open(passwords, "w").close()
+        for name, password in PASSWORDS.items():
+            subprocess.run(["htpasswd", "-bB", passwords, name, password], stderr=subprocess.DEVNULL, check=True)
+        path = os.path.join(folder, "nginx.conf")
+        with open(path, "w", encoding="utf-8") as file:
+            file.write(in_place(config(), folder, self.port, behind))
+        self.process = subprocess.Popen(["nginx", "-c", path, "-p", folder, "-e", os.path.join(folder, "errors"), "-g", "daemon off;"], stderr=subprocess.PIPE)
+
+    def __enter__(self):
+        for _ in range(100):
+            try:
+                self.connect().close()
+                break
+            except ConnectionRefusedError:
+                time.sleep(0.05)
+        return self
+
+    def __exit__(self, *_):
+        self.process.terminate()
+        self.process.communicate(timeout=30)
+
+    def connect(self):
+        return socket.create_connection(("127.0.0.1", self.port), timeout=4 * PATIENCE)
+
+    def connect_safely(self):
+        """A client to which TLS is spoken."""
+        return ssl.create_default_context(cafile=self.certificate).wrap_socket(self.connect(), server_hostname=HOST)
+
+    def curl(self, path, *words):
+        place = f"{HOST}:{self.port}"
+        return ask_curl("--cacert", self.certificate, "--resolve", f"{place}:127.0.0.1", *words, f"https://{place}{path}")
+
+    def post(self, path, account, form, *words):
+        return self.curl(path, "-u", f"{account}:{PASSWORDS[account]}", "-d", form, *words)
+
+
+FORGED = ("-H", "X-Account: root", "-H", "x-account: root", "-H", "X_Account: root")
+
+
+def accounts(cases, proxy):
+    """Who is taken to ask: the name whose password was right, whatever else is said."""
+    new_accounts = (("alice", 0), ("mona", 2))
+    for name, rank in new_accounts:
+        cases.equal(f"proxy: an account for {name}", proxy.post("/account", "root", f"who={name}&rank={rank}"), (200, JSON, OK))
+    intel = "path=PC/8086&name=Intel"
+    cases.equal("proxy: a submission with a forged account", proxy.post("/submit", "alice", intel, *FORGED), (200, JSON, b'{"num":1,"ok":true}'))
+    told = json.loads(proxy.curl("/submission/1")[2])
+    cases.equal("proxy: it stands under the name of the password", (told["author"], told["state"]), ("alice", "pending"))
+    cases.equal("proxy: a forged account decides nothing", proxy.post("/approve", "alice", "num=1", *FORGED), (403, JSON, refusal(5, "RankTooLow")))
+    for name, words in {
+        "no password": (),
+        "no password, a forged account": FORGED,
+        "a wrong password": ("-u", "alice:wrong"),
+        "a wrong password, a forged account": ("-u", "alice:wrong", *FORGED),
+        "an empty password": ("-u", "alice:"),
+        "an unknown name": ("-u", "carol:carol"),
+        "another method": ("-X", "DELETE"),
+    }.items():
+        status, kind, _ = proxy.curl("/approve", "-d", "num=1", *words)
+        cases.equal(f"proxy: {name}", (status, kind), (401, "text/html"))
+    cases.equal("proxy: a name that is no account's", proxy.post("/approve", "Bob", "num=1"), (400, JSON, refusal(3, "BadText")))
+    cases.equal("proxy: nothing came of them", proxy.curl("/pending?format=text"), (200, TEXT, b"1 alice name PC/8086 Intel\n"))
+    cases.equal("proxy: a decision", proxy.post("/approve?format=text", "mona", "num=1"), (200, TEXT, b"ok\n"))
+    for _ in range(2):
+        told = proxy.post("/submit", "alice", "path=PC/10ec&name=Realtek", "-H", "X-Key: 2024-05-01/7")
+        cases.equal("proxy: a key goes through", told, (200, JSON, b'{"num":2,"ok":true}'))
+
+
+def questions(cases, proxy):
+    """Questions need no password, and a forged account, or a wrong password, changes nothing about them."""
+    for path, want in {
+        "/read/PC/8086": (200, JSON, b'{"name":"Intel","path":"PC/8086"}'),
+        "/read/PC/8086?format=text": (200, TEXT, b"Intel\n"),
+        "/lookup?flags=1&vendor=8086": (200, BYTES, b"Intel"),
+        "/read/PC%2F8086": (400, JSON, refusal(1, "BadPath")),
+        "/nope": (404, JSON, refusal(24, "NoRoute")),
+        "/submit": (405, "", b""),
+        "/pci.ids": (200, TEXT, HEADER + b"8086  Intel\n"),
+    }.items():
+        for words in ((), FORGED, ("-u", "alice:wrong")):
+            cases.equal(f"proxy: GET {path} {' '.join(words)}", proxy.curl(path, *words), want)
+    cases.equal("proxy: HEAD", proxy.curl("/pci.ids", "-I")[0], 405)
+    cases.equal("proxy: another method, with a password", proxy.post("/pci.ids", "alice", "", "-X", "DELETE")[0], 405)
+    fields = [word for number in range(40) for word in ("-H", f"X-{number}: {number}")]
+    cases.equal("proxy: a head that the server refuses", proxy.curl("/pending", *fields), (400, JSON, refusal(20, "BadHead")))
+
+
+def files(cases, proxy, server):
+    """Long bodies and long replies: Debian's file in, with its length and in chunks, and out again."""
+    for name, size, status in (("the longest body", 4_194_304, 200), ("a longer one", 4_194_305, 413)):
+        path = os.path.join(proxy.folder, "body")
+        with open(path, "wb") as file:
+            file.write(b"#" * size)
+        cases.equal(f"proxy: {name}", proxy.curl("/import", "-u", "mona:mona", "--data-binary", f"@{path}")[0], status)
+    if not os.path.exists(REAL_FILE):
+        cases.skipped("proxy: the real file", "the package pci.ids is not installed")
+        return
+    with open(REAL_FILE, "rb") as file:
+        canonical = tidy(file.read()).out
+    count = canonical.count(b"\n") - 1 - canonical.count(b"\nS ")
+    words = ("-u", "mona:mona", "--data-binary", f"@{REAL_FILE}")
+    told = proxy.curl("/import", *words)
+    cases.equal("proxy: import of the real file", told, (200, JSON, b'{"added":%d,"ok":true,"renamed":1,"same":0}' % (count - 1)))
+    told = proxy.curl("/import?format=text", *words, "-H", "Transfer-Encoding: chunked")
+    cases.equal("proxy: the same in chunks", told, (200, TEXT, b"ok added=0 renamed=0 same=%d\n" % count))
+    cases.equal("proxy: its text", proxy.curl("/pci.ids"), (200, TEXT, canonical))
+    cases.equal("proxy: its text behind the proxy", server.curl("/pci.ids"), (200, TEXT, canonical))
+
+
+class Slow(threading.Thread):
+    """A client that sends so much and then nothing: for how long it is borne, and what it is told."""
+
+    def __init__(self, connect, sent):
+        super().__init__(daemon=True)
+        self.start_time = time.monotonic()
+        self.client = connect()
+        self.client.sendall(sent)
+        self.told = b""
+        self.start()
+
+    def run(self):
+        try:
+            self.told = to_end(self.client)
+        except (ConnectionResetError, ssl.SSLEOFError):
+            pass
+        self.seconds = time.monotonic() - self.start_time
+
+
+HALF_HEAD = b"POST /submit HTTP/1.1\r\nHost: a\r\nAuth"
+# With the name and the password of mona, so that the body is waited for.
+HALF_BODY = b"POST /submit HTTP/1.1\r\nHost: a\r\nAuthorization: Basic bW9uYTptb25h\r\nContent-Length: 24\r\n\r\npath=PC/1"
+
+
+def slow_clients(proxy):
+    return {
+        "says nothing at all": Slow(proxy.connect, b""),
+        "says nothing": Slow(proxy.connect_safely, b""),
+        "says half a head": Slow(proxy.connect_safely, HALF_HEAD),
+        "says half a body": Slow(proxy.connect_safely, HALF_BODY),
+    }
+
+
+def cut(cases, proxy, server, slow):
+    """Slow clients were borne while others were served, and are cut when nginx's time is over."""
+    with proxy.connect_safely() as client:
+        client.sendall(b"GET /pci.ids HTTP/1.1\r\nHost: a\r\n\r\n")
+        cases.equal("proxy: beside a client that does not read", server.curl("/pending?after=9"), (200, JSON, b"[]"))
+    for name, client in slow.items():
+        cases.equal(f"proxy: a client that {name} is still borne", client.is_alive(), time.monotonic() - client.start_time < PATIENCE)
+    for name, client in slow.items():
+        client.join(3 * PATIENCE)
+        cases.equal(f"proxy: a client that {name} is cut", (client.told, PATIENCE - 1 < client.seconds < 2 * PATIENCE), (b"", True))
+    cases.equal("proxy: nothing came of them", proxy.curl("/pending?after=2"), (200, JSON, b"[]"))
+
+
+def many_clients(cases, proxy):
+    """Sixteen requests of one address may be open, and when they are gone as many again."""
+    slow = [proxy.connect_safely() for _ in range(16)]
+    told = []
+    for client in slow:
+        told.append(proxy.curl("/pending")[0])
+        client.sendall(HALF_BODY)
+        time.sleep(0.05)
+    cases.equal("proxy: sixteen open requests", told, [200] * 16)
+    cases.equal("proxy: a seventeenth", proxy.curl("/pending")[0], 503)
+    for client in slow:
+        client.close()
+    time.sleep(0.3)
+    cases.equal("proxy: when they are gone", proxy.curl("/pending")[0], 200)
+
+
+def head_of_one(listener, heads):
+    """Takes a request as the server would, and keeps its head."""
+    client, _ = listener.accept()
+    with client:
+        taken = b""
+        while b"\r\n\r\n" not in taken:
+            taken += client.recv(65536)
+        heads.append(taken.partition(b"\r\n\r\n")[0].decode().split("\r\n"))
+        client.sendall(b"HTTP/1.1 200 OK\r\nContent-Length: 0\r\nConnection: close\r\n\r\n")
+
+
+def passed_on(cases, proxy, port):
+    """What comes to the port of the server, and nothing of a client's account or password with it."""
+    cases.equal("proxy: where the server does not run", proxy.curl("/pending")[0], 502)
+    for name, words, want in (
+        ("a command", ("-u", "alice:secret:of:alice", "-d", "num=1", "-H", "X-Key: k", *FORGED), ["POST / HTTP/1.1", "connection: close", "content-length: 5", "x-account: alice", "x-key: k"]),
+        ("a question", ("-u", "alice:secret:of:alice", *FORGED), ["GET / HTTP/1.1", "connection: close"]),
+    ):
+        heads = []
+        with socket.create_server(("127.0.0.1", port)) as listener:
+            taker = threading.Thread(target=head_of_one, args=(listener, heads))
+            taker.start()
+            proxy.curl("/", *words)
+            taker.join()
+        first, *fields = heads[0]
+        fields = sorted(field.partition(":")[0].lower() + ":" + field.partition(":")[2] for field in fields)
+        known = [field for field in fields if field.partition(":")[0] not in ("host", "user-agent", "accept", "content-type")]
+        cases.equal(f"proxy: {name} as it comes to the server", [first, *known], want)
+
+
+def run(cases):
+    cases.equal("docs/HTTP.md shows deploy/nginx.conf", shown_config(), config())
+    cases.equal("deploy/nginx.conf has the ports and places that are known", in_place(config(), "/", 1, 2) is None, False)
+    missing = [it for it in ("nginx", "htpasswd", "openssl", "curl") if shutil.which(it) is None]
+    if missing or os.geteuid() != 0:
+        cases.skipped("proxy", f"{', '.join(missing)} not installed" if missing else "nginx of Debian is started by root")
+        return
+    with tempfile.TemporaryDirectory() as folder:
+        with Server(os.path.join(folder, "registry.db")) as server, Proxy(folder, server.port) as proxy:
+            slow = slow_clients(proxy)
+            accounts(cases, proxy)
+            questions(cases, proxy)
+            files(cases, proxy, server)
+            cut(cases, proxy, server, slow)
+            many_clients(cases, proxy)
+            server.kill()
+            passed_on(cases, proxy, server.port)

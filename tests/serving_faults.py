@@ -1,0 +1,197 @@
+"""A server whose disk stops at each call in turn, and one whose requests for memory are refused in turn: a client that does what
+docs/HTTP.md says of such replies gets every answer in the end, and nothing that was acknowledged is lost."""
+import os
+import shutil
+import subprocess
+import tempfile
+import time
+
+from http_server import JSON, OK, TEXT, Server, refusal, reply
+from program import HEADER, WHOLE
+from registry import work
+from stops import ROOM
+
+FILE = b"8086  Intel Corporation\n\t1237  440FX\n"
+SUBMISSION = b'{"author":"bob","decider":"root","name":"Intel","note":"","num":1,"path":"PC/8086","reason":"","remarks":[{"author":"root","text":"seen"}],"state":"approved"}'
+
+# Requests in turn, each command with its account and its body, and what is answered.
+STEPS = [
+    ("POST /account", "root", b"who=bob&rank=0", JSON, OK),
+    ("POST /submit", "bob", b"path=PC/8086&name=Intel", JSON, b'{"num":1,"ok":true}'),
+    ("GET /pending?format=text", None, b"", TEXT, b"1 bob name PC/8086 Intel\n"),
+    ("POST /comment", "root", b"num=1&text=seen", JSON, OK),
+    ("POST /approve", "root", b"num=1", JSON, OK),
+    ("GET /lookup?flags=3&vendor=8086&device=1237", None, b"", "text/plain", b"Intel Device 1237"),
+    ("POST /import", "root", FILE, JSON, b'{"added":1,"ok":true,"renamed":1,"same":0}'),
+    ("GET /read/PC/8086", None, b"", JSON, b'{"name":"Intel Corporation","path":"PC/8086"}'),
+    ("GET /children?of=PC/8086", None, b"", JSON, b'[{"name":"440FX","path":"PC/8086/1237"}]'),
+    ("GET /submission/1", None, b"", JSON, SUBMISSION),
+    ("GET /pci.ids", None, b"", TEXT, HEADER + FILE),
+]
+
+# How many connections a server serves, and how it ends: where it could not begin, where its registry failed, and where all were served.
+CONNECTIONS = 2
+UNBEGUN = [(b"", b"no memory\n", 3), (b"", b"open: Memory\n", 3), (b"", b"open: Store\n", 3)]
+FAILED = [(b"served %d\n" % count, b"", 3) for count in (1, CONNECTIONS)]
+DONE = [(b"served %d\n" % CONNECTIONS, b"", 0)]
+
+
+def unless(got, wanted):
+    """What is wrong, if it is."""
+    return None if got in wanted else got
+
+
+def request(number, line, account, body):
+    """The bytes of a request, a command's under a key of its own."""
+    fields = [f"X-Account: {account}", f"X-Key: k{number}", f"Content-Length: {len(body)}"] if account else []
+    return "\r\n".join([f"{line} HTTP/1.1", *fields, "", ""]).encode() + body
+
+
+def one_reply(client):
+    """The bytes of the next reply, or of a front of it where the connection ends there."""
+    taken = b""
+    try:
+        while (size := whole_size(taken)) is None or len(taken) < size:
+            piece = client.recv(65536)
+            if not piece:
+                break
+            taken += piece
+    except ConnectionResetError:
+        pass
+    return taken
+
+
+def whole_size(taken):
+    head, end, _ = taken.partition(b"\r\n\r\n")
+    lengths = [int(field[15:]) for field in head.split(b"\r\n") if field.startswith(b"Content-Length:")]
+    return len(head) + len(end) + lengths[0] if end and lengths else None
+
+
+class PatientClient:
+    """Asks again until it is answered: on the same connection, on a new one, or of a server that runs anew."""
+
+    def __init__(self, database, numbers, **how):
+        self.database, self.numbers, self.client, self.wrong, self.refused = database, numbers, None, None, set()
+        self.server = Server(database, CONNECTIONS, program=WHOLE, **how)
+        if not self.server.first_line:
+            self.wrong = unless(self.server.ended(), UNBEGUN)
+            self.server = Server(database, CONNECTIONS, program=WHOLE)
+
+    def hang_up(self):
+        if self.client is not None:
+            self.client.close()
+        self.client = None
+
+    def connected(self):
+        """A connection, to a new server where the one before has ended."""
+        if self.client is None:
+            try:
+                self.client = self.server.connect()
+            except ConnectionRefusedError:
+                self.wrong = unless(self.server.ended(), FAILED + DONE)
+                self.server = Server(self.database, CONNECTIONS, program=WHOLE)
+                self.client = self.server.connect()
+        return self.client
+
+    def answered(self, number, step):
+        """Whether the request was answered as it is to be, within a few times."""
+        line, account, body, kind, want = step
+        whole = reply("200 OK", kind, want)
+        for _ in range(6):
+            told = self.asked(request(number, line, account, body))
+            if told == whole:
+                return True
+            refused = [it for it in self.numbers if told == refused_as(line, it)]
+            self.refused.update(refused)
+            if not refused and told and not (line == "GET /pci.ids" and whole.startswith(told)):
+                self.wrong = told
+                return False
+            # A registry that has failed is closed behind this connection.
+            if refused in ([], [18]):
+                self.hang_up()
+        self.wrong = self.wrong or "no answer"
+        return False
+
+    def asked(self, sent):
+        try:
+            client = self.connected()
+            client.sendall(sent)
+            return one_reply(client)
+        except (BrokenPipeError, ConnectionResetError):
+            return b""
+
+    def finish(self):
+        """The server is live in the end, and closes its file when it has served all its connections."""
+        self.hang_up()
+        for _ in range(CONNECTIONS):
+            try:
+                self.server.connect().close()
+            except (ConnectionRefusedError, ConnectionResetError):
+                break
+        self.wrong = self.wrong or unless(self.server.ended(), DONE)
+
+
+WORDS = {16: "Memory", 17: "Store", 18: "Failed"}
+
+
+def refused_as(line, number):
+    """The reply of a refusal to a request."""
+    is_text = "format=text" in line
+    body = f"refused {number} {WORDS[number]}\n".encode() if is_text else refusal(number, WORDS[number])
+    return reply("503 Service Unavailable", TEXT if is_text else JSON, body)
+
+
+def run_refusing(shim, at, database, numbers):
+    """What was wrong in a run with its call number `at` refused, whether there was one, and the refusals that were told."""
+    told, telling = os.pipe()
+    environment = dict(os.environ, LD_PRELOAD=shim, REFUSE_AT=str(at), REFUSE_FD=str(telling))
+    client = PatientClient(database, numbers, env=environment, pass_fds=[telling])
+    os.close(telling)
+    try:
+        for number, step in enumerate(STEPS):
+            if client.wrong or not client.answered(number, step):
+                client.wrong = (step[0], client.wrong)
+                break
+        client.finish()
+    finally:
+        client.server.process.kill()
+    with os.fdopen(told, "rb") as pipe:
+        return client.wrong, pipe.read(1) == b"!", client.refused
+
+
+def refuse_in_turn(cases, shim, name, step, numbers):
+    """Refuses each step-th call of a run, each in a new file, and answers how many, and the refusals that were told."""
+    refusals, refused = 0, set()
+    for at in range(1, 1_000_000, step):
+        with tempfile.TemporaryDirectory(dir=ROOM) as folder:
+            database = os.path.join(folder, "r.db")
+            wrong, was_refused, told = run_refusing(shim, at, database, numbers)
+            refused |= told
+            if wrong is None and at % 5 == 1:
+                left = work(b"", "export", "--db", database)
+                wrong = None if left == (HEADER + FILE, b"", 0) else left
+            if wrong is not None:
+                cases.equal(f"serve: {name} {at}", wrong, None)
+            if wrong is not None or not was_refused:
+                return refusals, refused
+            refusals += 1
+    return refusals, refused
+
+
+def run(cases):
+    if shutil.which("gcc") is None:
+        cases.skipped("serving where memory or the disk is refused", "gcc is not installed")
+        return
+    with tempfile.TemporaryDirectory() as folder:
+        for name, step, numbers, least in (("refuse_disk", 1, (17, 18), 40), ("refuse_malloc", 17, (16, 18), 100)):
+            shim = os.path.join(folder, f"{name}.so")
+            source = os.path.join(os.path.dirname(os.path.abspath(__file__)), f"{name}.c")
+            if subprocess.run(["gcc", "-O1", "-shared", "-fPIC", source, "-o", shim, "-ldl"]).returncode != 0:
+                cases.skipped(f"serve: {name}", "gcc could not build the shim")
+                continue
+            start = time.monotonic()
+            refusals, refused = refuse_in_turn(cases, shim, name, step, numbers)
+            which = "each call" if step == 1 else f"each {step}th call"
+            print(f"serve: {name}: {which} refused, {refusals} runs in {time.monotonic() - start:.0f} s; told {sorted(refused)}")
+            cases.equal(f"serve: {name}: refusals were told", refused, set(numbers))
+            cases.equal(f"serve: {name}: calls were refused", refusals >= least, True)
