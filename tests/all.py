@@ -1,6 +1,7 @@
 """All cases of the built program. The words name parts; without words all are tried."""
 import resource
 import sys
+import time
 
 import fault_gallery
 import http_routes
@@ -30,8 +31,8 @@ def processor_seconds():
 
 cases = Cases()
 for name in sys.argv[1:] or PARTS:
-    passed, before = cases.passed, processor_seconds()
+    passed, before, start = cases.passed, processor_seconds(), time.monotonic()
     PARTS[name].run(cases)
-    print(f"{name}: {cases.passed - passed} passed, {processor_seconds() - before:.1f} processor seconds", flush=True)
+    print(f"{name}: {cases.passed - passed} passed, {processor_seconds() - before:.1f} processor seconds of {time.monotonic() - start:.1f}", flush=True)
 print(f"{cases.passed} passed, {cases.failed} failed")
 raise SystemExit(cases.failed != 0)

@@ -199,12 +199,12 @@ def slow_clients(proxy):
 
 
 def cut(cases, proxy, server, slow):
-    """Slow clients were borne while others were served, and are cut when nginx's time is over."""
+    """A client that does not read keeps nobody waiting, and those that say nothing are cut when nginx's time is over."""
     with proxy.connect_safely() as client:
-        client.sendall(b"GET /pci.ids HTTP/1.1\r\nHost: a\r\n\r\n")
-        cases.equal("proxy: beside a client that does not read", server.curl("/pending?after=9"), (200, JSON, b"[]"))
-    for name, client in slow.items():
-        cases.equal(f"proxy: a client that {name} is still borne", client.is_alive(), time.monotonic() - client.start_time < PATIENCE)
+        # More than the kernel keeps for a client.
+        client.sendall(b"GET /pci.ids HTTP/1.1\r\nHost: a\r\n\r\n" * 12)
+        time.sleep(1)
+        cases.equal("proxy: beside a client that does not read", server.curl("/pending?after=9", "--max-time", "5"), (200, JSON, b"[]"))
     for name, client in slow.items():
         client.join(3 * PATIENCE)
         cases.equal(f"proxy: a client that {name} is cut", (client.told, PATIENCE - 1 < client.seconds < 2 * PATIENCE), (b"", True))
@@ -267,6 +267,8 @@ def run(cases):
     with tempfile.TemporaryDirectory() as folder:
         with Server(os.path.join(folder, "registry.db")) as server, Proxy(folder, server.port) as proxy:
             slow = slow_clients(proxy)
+            cases.equal("proxy: beside slow clients", proxy.curl("/pending"), (200, JSON, b"[]"))
+            cases.equal("proxy: they are still borne then", [client.is_alive() for client in slow.values()], [True] * len(slow))
             accounts(cases, proxy)
             questions(cases, proxy)
             files(cases, proxy, server)
