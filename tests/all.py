@@ -8,6 +8,7 @@ import limits
 import lookups
 import lspci
 import memory
+import progress
 import real_file
 import registry
 import scripts
@@ -17,7 +18,7 @@ import words
 import worked_rows
 from program import Cases
 
-PARTS = {it.__name__: it for it in (worked_rows, words, fault_gallery, limits, real_file, lspci, lookups, registry, jobs, stops, scripts, serving, memory)}
+PARTS = {it.__name__: it for it in (worked_rows, words, fault_gallery, limits, real_file, lspci, lookups, registry, jobs, progress, stops, scripts, serving, memory)}
 
 
 def processor_seconds():
