@@ -10,6 +10,7 @@ import limits
 import lookups
 import lspci
 import memory
+import progress
 import proxy
 import real_file
 import registry
@@ -21,7 +22,7 @@ import words
 import worked_rows
 from program import Cases
 
-PARTS = {it.__name__: it for it in (worked_rows, words, fault_gallery, limits, real_file, lspci, lookups, registry, jobs, stops, scripts, serving, http_routes, serving_faults, proxy, memory)}
+PARTS = {it.__name__: it for it in (worked_rows, words, fault_gallery, limits, real_file, lspci, lookups, registry, jobs, progress, stops, scripts, serving, http_routes, serving_faults, proxy, memory)}
 
 
 def processor_seconds():
