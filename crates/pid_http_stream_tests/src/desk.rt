@@ -39,7 +39,7 @@ fn write_text<W: Output>(text: &[u8], stops: bool, out: &mut W) -> Result<(), Bo
 }
 
 impl Handler for Desk {
-    ghost use Rattle.std.specs.Prelude.{⊤};
+    ghost use Rattle.std.specs.Prelude.{⊤, ◌≡◌, ◌≢◌, codes};
 
     ghost View = { Unit {0} };
 
@@ -64,6 +64,10 @@ impl Handler for Desk {
     ghost writes = { λ a body b. ⊤ };
 
     ghost kept = { λ a request head told b body c promised written. tt };
+
+    ghost may_hold = { λ a head. head.target ≢ codes "/import" };
+
+    ghost may_stream = { λ a head. head.target ≡ codes "/import" };
 
     fn wants(&self, head: &Head<'_>) -> Wanted {
         if head.target() == b"/import".as_slice() {
