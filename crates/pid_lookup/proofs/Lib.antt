@@ -1,4 +1,5 @@
 pub mod AnswerLaws
+pub mod FieldTexts
 pub mod FoundTexts
 pub mod Numerals
 mod Rows

@@ -1,10 +1,10 @@
 //! The fields of a look-up.
-ghost use Rattle.std.specs.Prelude.{◌≡◌, ◌↔◌, ◌<◌, ◌≤◌, ◌^◌, true, false, find, string_bytes, IfOk, IfSome, IsNone, IsErr, nat_lt};
+ghost use Rattle.std.specs.Prelude.{◌≡◌, ◌↔◌, ◌<◌, ◌≤◌, ◌^◌, true, false, Some, find, count_by, string_bytes, IfOk, IfSome, IsNone, IsErr, nat_lt};
 ghost use Rattle.std.specs.Char.{is_digit};
 ghost use Rattle.std.specs.List.{list_all};
 ghost use Rattle.std.specs.Option.{option_copied};
 ghost use Rattle.std.specs.Str.{bytes_eq};
-ghost use Rattle.pid_lookup.specs.Fields.{numeral as numeral_of, times, value_of, flags_said, size_said, number_said, progif_said, is_known as known_name, are_known as known_names, are_bad, LooksUp};
+ghost use Rattle.pid_lookup.specs.Fields.{bytes_of, numeral as numeral_of, times, value_of, flags_said, size_said, number_said, progif_said, is_known as known_name, are_bad, look_up_in, told};
 
 use crate::args::Args;
 use thiserror::Error;
@@ -20,15 +20,15 @@ pub struct BadField;
 /// `vendor`, `device`, `subvendor`, `subdevice` and `class` are 4 hex digits, `progif` is 2, and 0 where they are missing.
 /// The order of the fields does not matter.
 pub fn args_of(fields: &[(String, String)]) -> Result<(u32, Args, u32), BadField>
-    ensures ok { IfOk result (LooksUp fields.now) }
-    ensures bad { IsErr result ↔ (are_bad fields.now ≡ true) }
+    ensures ok { IfOk result (λ look_up. look_up_in (bytes_of fields.now) ≡ Some (told look_up)) }
+    ensures bad { IsErr result ↔ (are_bad (bytes_of fields.now) ≡ true) }
 {
     read_fields(fields).ok_or(BadField)
 }
 
 fn read_fields(fields: &[(String, String)]) -> Option<(u32, Args, u32)>
-    ensures found { IfSome result (LooksUp fields.now) }
-    ensures none { IsNone result ↔ (are_bad fields.now ≡ true) }
+    ensures found { IfSome result (λ look_up. look_up_in (bytes_of fields.now) ≡ Some (told look_up)) }
+    ensures none { IsNone result ↔ (are_bad (bytes_of fields.now) ≡ true) }
 {
     if !are_known(fields) {
         return None;
@@ -53,7 +53,7 @@ fn read_fields(fields: &[(String, String)]) -> Option<(u32, Args, u32)>
 }
 
 fn are_known(fields: &[(String, String)]) -> bool
-    ensures { result ≡ known_names fields.now }
+    ensures { result ≡ list_all (λ field. known_name (string_bytes field.0)) fields.now }
 {
     fields.iter().all(|field| is_known(field.0.as_str()))
 }
@@ -72,7 +72,7 @@ fn is_known(name: &str) -> bool
 }
 
 fn flags_of(fields: &[(String, String)]) -> Option<u32>
-    ensures { result ≡ flags_said fields.now }
+    ensures { result ≡ flags_said (bytes_of fields.now) }
 {
     if is_twice(fields, "flags") {
         return None;
@@ -81,7 +81,7 @@ fn flags_of(fields: &[(String, String)]) -> Option<u32>
 }
 
 fn size_of(fields: &[(String, String)]) -> Option<u32>
-    ensures { result ≡ size_said fields.now }
+    ensures { result ≡ size_said (bytes_of fields.now) }
 {
     if is_twice(fields, "size") {
         return None;
@@ -93,7 +93,7 @@ fn size_of(fields: &[(String, String)]) -> Option<u32>
 }
 
 fn number_of(fields: &[(String, String)], name: &str) -> Option<u16>
-    ensures { result ≡ number_said name.now fields.now }
+    ensures { result ≡ number_said name.now (bytes_of fields.now) }
 {
     if is_twice(fields, name) {
         return None;
@@ -105,7 +105,7 @@ fn number_of(fields: &[(String, String)], name: &str) -> Option<u16>
 }
 
 fn progif_of(fields: &[(String, String)]) -> Option<u8>
-    ensures { result ≡ progif_said fields.now }
+    ensures { result ≡ progif_said (bytes_of fields.now) }
 {
     if is_twice(fields, "progif") {
         return None;
@@ -118,13 +118,13 @@ fn progif_of(fields: &[(String, String)]) -> Option<u8>
 
 // Whether a field is there more than once.
 fn is_twice(fields: &[(String, String)], name: &str) -> bool
-    ensures { result ≡ nat_lt 1 (times name.now fields.now) }
+    ensures { result ≡ nat_lt 1 (times name.now (bytes_of fields.now)) }
 {
     times_there(fields, name) > 1
 }
 
 fn times_there(fields: &[(String, String)], name: &str) -> usize
-    ensures { result ≡ times name.now fields.now }
+    ensures { result ≡ count_by (λ field. bytes_eq (string_bytes field.0) name.now) fields.now }
 {
     fields
         .iter()
@@ -134,7 +134,7 @@ fn times_there(fields: &[(String, String)], name: &str) -> usize
 
 // The value of the first field of the name.
 fn value<'a>(fields: &'a [(String, String)], name: &str) -> Option<&'a str>
-    ensures { option_copied result ≡ value_of name.now fields.now }
+    ensures { option_copied result ≡ value_of name.now (bytes_of fields.now) }
 {
     match first(fields, name) {
         Some((_, value)) => Some(value.as_str()),

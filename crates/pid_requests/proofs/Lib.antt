@@ -1,5 +1,4 @@
 pub mod Senders
-pub mod LookUps
 pub mod Targets
 pub mod Forms
 pub mod Rows

@@ -38,6 +38,7 @@ abbrev pub after_said : Option (List ℕ) → Option ℕ
 after_said None = Some 0
 after_said (Some text) = if bytes_eq text (codes "0") then Some 0 else number_in text
 
+-- below a path, where a text is one
 abbrev pub below : Option Path → Above
 below None = BadPath
 below (Some path) = Below path

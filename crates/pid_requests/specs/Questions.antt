@@ -10,7 +10,7 @@ use Rattle.pid_moderation.specs.Fields.{Fields, value, text_at}
 use Rattle.pid_moderation.specs.Forms.{number_in}
 use Rattle.pid_moderation.specs.declared.verb.Verb.{Verb}
 use Rattle.pid_moderation.specs.declared.verb.Verb.TheVariants as verbs
-use Rattle.pid_requests.specs.LookUps.{look_up_in}
+use Rattle.pid_requests.specs.LookUps.{look_up_asked}
 use Rattle.pid_requests.specs.Methods.{method_in}
 use Rattle.pid_requests.specs.Queries.{format_in, format_beside, after_said, above_said}
 use Rattle.pid_requests.specs.Routes.{route_at, method_at}
@@ -48,6 +48,7 @@ abbrev pub pending_asked : Fields → Option Question
 pending_asked fields =
     option_and_then (λ format. option_map (λ after. Pending after format) (after_said (value (codes "after") fields))) (format_beside (codes "after") fields)
 
+-- a command, whose own fields stand in the body
 abbrev pub command_asked : Verb → Fields → Option Question
 command_asked verb fields = option_map (λ format. Command verb format) (format_in fields)
 
@@ -56,7 +57,7 @@ unfoldable pub question_at : Route → List ℕ → Fields → Option Question
 question_at routes.Export path fields = export_asked fields
 question_at routes.Read path fields = read_asked path fields
 question_at routes.Children path fields = children_asked fields
-question_at routes.LookUp path fields = option_map (λ look_up. LookUp look_up) (look_up_in fields)
+question_at routes.LookUp path fields = option_map (λ look_up. LookUp look_up) (look_up_asked fields)
 question_at routes.Submission path fields = submission_asked path fields
 question_at routes.Pending path fields = pending_asked fields
 question_at routes.Account path fields = command_asked verbs.Account fields
@@ -80,6 +81,7 @@ with_route method None path query = NoRoute
 with_route method (Some route) path query =
     unwrap_or (in_other method (method_at route)) (unwrap_or (question_at route path (fields_in query)) BadQuery)
 
+-- the first byte is `/`
 abbrev pub begins_slash : List ℕ → Bool
 begins_slash [] = false
 begins_slash (b ∷ bytes) = b == 47

@@ -1,6 +1,6 @@
 -- The routes and their methods: choices of this project.
 use Rattle.std.specs.Prelude.{ℕ, List, [], ◌∷◌, ◌++◌, Option, codes}
-use Rattle.matchit.specs.Rows.{RowsOf}
+use Rattle.matchit.specs.Rows.{RowsOf, param_token, catch_all_token}
 use Rattle.matchit.specs.Router.{RouteOf, map_key}
 use Rattle.matchit.specs.Seek.{first}
 use Rattle.pid_requests.specs.declared.method.Method.{Method}
@@ -12,13 +12,13 @@ use Rattle.pid_requests.specs.declared.route.Route.TheVariants.{Export, Read, Ch
 abbrev pub literal : List ℕ → Route → List ℕ × RouteOf Route
 literal text route = (text, record { pattern = text; text = text; names = []; value = route })
 
--- one or more bytes behind `/read/`
+-- one or more bytes behind `/read/`; the word `path` of the text begins at place 8 and ends before 12
 abbrev pub read_row : List ℕ × RouteOf Route
-read_row = (codes "/read/" ++ 257 ∷ [], record { pattern = codes "/read/" ++ 257 ∷ []; text = codes "/read/{*path}"; names = (8, 12) ∷ []; value = Read })
+read_row = (codes "/read/" ++ catch_all_token ∷ [], record { pattern = codes "/read/" ++ catch_all_token ∷ []; text = codes "/read/{*path}"; names = (8, 12) ∷ []; value = Read })
 
--- one or more bytes behind `/submission/`, none of them a slash
+-- one or more bytes behind `/submission/`, none of them a slash; the word `num` of the text begins at place 13 and ends before 16
 abbrev pub submission_row : List ℕ × RouteOf Route
-submission_row = (codes "/submission/" ++ 256 ∷ [], record { pattern = codes "/submission/" ++ 256 ∷ []; text = codes "/submission/{num}"; names = (13, 16) ∷ []; value = Submission })
+submission_row = (codes "/submission/" ++ param_token ∷ [], record { pattern = codes "/submission/" ++ param_token ∷ []; text = codes "/submission/{num}"; names = (13, 16) ∷ []; value = Submission })
 
 -- all routes, in the order of their patterns, as a router keeps them
 abbrev pub table : RowsOf (RouteOf Route)

@@ -1,10 +1,12 @@
-use mathlib.Core.Bool.{true≢false}
-use Rattle.std.proofs.Common.{refl, sym}
-use Rattle.pid_requests.proofs.LookUps.{found, bad}
+use Rattle.std.proofs.Common.{cond, None, Some, refl, sym, ap}
+use Rattle.std.specs.Option.{option_map}
+use Rattle.pid_lookup.specs.Fields.{bytes_of, look_up_in, look_up_said}
+use Rattle.pid_requests.specs.LookUps.{as_query}
 use Rattle.pid_requests.proofs.look_up.look_up_of.Goals as goal
 
 pub returns-in-Ok : goal.returns-in-Ok
-returns-in-Ok c = sym (found c.args.fields.now (c.in-Ok.flags, c.in-Ok.args, c.in-Ok.size) c.in-Ok.ensures.ok (λ b. true≢false (sym (c.in-Ok.ensures.bad.1 b))))
+returns-in-Ok c = sym (ap (option_map as_query) c.in-Ok.ensures.ok)
 
 pub returns-in-Err : goal.returns-in-Err
-returns-in-Err c = sym (bad c.args.fields.now (c.in-Err.ensures.bad.0 refl))
+unfolding look_up_in
+returns-in-Err c = sym (ap (λ b. option_map as_query (cond b None (Some (look_up_said (bytes_of c.args.fields.now))))) (c.in-Err.ensures.bad.0 refl))
