@@ -7,7 +7,6 @@ mod Exported
 mod KeyFields
 mod LineFronts
 mod LineReplies
-mod LookUps
 mod NoStops
 mod Obeyed
 mod OtherLines

@@ -12,7 +12,7 @@ use Rattle.pid_moderation.specs.CheckTables.{Checks, first_failing}
 use Rattle.pid_moderation.specs.Fields.{Fields, is_once, value, text_at}
 use Rattle.pid_moderation.specs.Forms.{form_checks, command_said}
 use Rattle.pid_fields.specs.FormFields.{fields_in}
-use Rattle.pid_script.specs.LookUpFields.{LookUp, look_up_in}
+use Rattle.pid_lookup.specs.Fields.{LookUp, look_up_in}
 
 -- the field of the key, which each verb may have
 abbrev pub is_key_field : List ℕ × List ℕ → Bool

@@ -1,6 +1,5 @@
 pub mod ScriptLines
 pub mod LineAsks
-pub mod LookUpFields
 pub mod Asking
 pub mod Replies
 pub mod Calling

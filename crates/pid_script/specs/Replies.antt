@@ -17,7 +17,7 @@ use Rattle.pid_moderation.specs.Judgement.{answer, judge, after_all}
 use Rattle.pid_moderation.specs.ReplyLines.{refused_line, reply_text}
 use Rattle.pid_moderation.specs.Views.{views_of, items_of}
 use Rattle.pid_moderation.specs.Writes.{tree_of}
-use Rattle.pid_script.specs.LookUpFields.{LookUp}
+use Rattle.pid_lookup.specs.Fields.{LookUp}
 use Rattle.pid_script.specs.Asking.{command_asked, path_asked, look_up_asked}
 use Rattle.pid_script.specs.ScriptLines.{Ask, Nothing, Commands, Exports, Reads, LooksUp, Unclear, TooLong, ask_of}
 

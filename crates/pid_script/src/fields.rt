@@ -6,13 +6,11 @@ ghost use Rattle.std.specs.Str.{bytes_eq};
 ghost use Rattle.pid_moderation.specs.Fields.{Fields, texts_of, value as value_in, is_once as once_in, times as times_in};
 ghost use Rattle.pid_ident.specs.PathReading.{path_of};
 ghost use Rattle.pid_script.specs.Asking.{command_in, command_asked, other_fields, path_in as path_said, path_asked};
-ghost use Rattle.pid_script.specs.LookUpFields.{LookUp, look_up_in, look_up_said, are_bad};
 
 use pid_fields::fields_of;
 use pid_ident::Path;
-use pid_lookup::{Args, BadField, args_of};
 use pid_moderation::{Command, Refusal, Verb, command_of};
-use std::alloc::{AllocError, Global};
+use std::alloc::Global;
 
 fn key_place(fields: &[(String, String)]) -> Option<usize>
     ensures { result ≡ position (λ f. bytes_eq (string_bytes f.0) (codes "key")) fields.now }
