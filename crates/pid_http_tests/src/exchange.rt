@@ -4,7 +4,7 @@ use pid_http::serve_stream;
 use pid_http_stream::{Served, StreamEnd};
 use pid_ident::{FaultyInput, FaultyOutput, Input};
 use pid_service::{Registry, open};
-use sqlite::{Connection, MemStore};
+use sqlite::{Alter, Connection, MemStore};
 use std::alloc::Global;
 use std::process::Abort;
 use std::test::Fail;
@@ -31,9 +31,9 @@ pub(crate) struct Outcome {
 }
 
 /// Serves what the reader gives.
-pub(crate) fn serve<I: Input>(
+pub(crate) fn serve<S: Alter + Drop, I: Input>(
     alloc: Global,
-    registry: &mut Registry<MemStore>,
+    registry: &mut Registry<S>,
     input: &mut I,
     turns: u64,
 ) -> Outcome {
@@ -46,10 +46,10 @@ pub(crate) fn serve<I: Input>(
 }
 
 /// Asserts what is written for a stream, how many replies that is and how the stream ends.
-pub(crate) fn expect<I: Input>(
+pub(crate) fn expect<S: Alter + Drop, I: Input>(
     rt: &impl Abort,
     alloc: Global,
-    registry: &mut Registry<MemStore>,
+    registry: &mut Registry<S>,
     input: &mut I,
     replies: &[u8],
     answered: u64,
@@ -62,10 +62,10 @@ pub(crate) fn expect<I: Input>(
 }
 
 /// Asserts the reply to each row's request, alone in a stream, over one registry.
-pub(crate) fn expect_rows(
+pub(crate) fn expect_rows<S: Alter + Drop>(
     rt: &impl Abort,
     alloc: Global,
-    registry: &mut Registry<MemStore>,
+    registry: &mut Registry<S>,
     rows: &str,
     end: StreamEnd,
 ) -> Result<(), Fail> {

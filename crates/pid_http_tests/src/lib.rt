@@ -4,9 +4,13 @@
 #[cfg(test)]
 mod exchange;
 #[cfg(test)]
+mod failures;
+#[cfg(test)]
 mod faults;
 #[cfg(test)]
 mod lines;
+#[cfg(test)]
+mod memory;
 #[cfg(test)]
 mod routes;
 #[cfg(test)]
