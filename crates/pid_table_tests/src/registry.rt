@@ -265,12 +265,7 @@ impl Sink for Writer {
     }
 }
 
-fn write_down(
-    told: &mut String,
-    alloc: Global,
-    path: Path,
-    name: &str,
-) -> Result<(), TableFault> {
+fn write_down(told: &mut String, alloc: Global, path: Path, name: &str) -> Result<(), TableFault> {
     told.push_str(path.path_text(alloc)?.as_str())?;
     told.push_str("=")?;
     told.push_str(name)?;
