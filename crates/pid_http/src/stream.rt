@@ -46,10 +46,10 @@ fn serve_by<S: Alter + Drop, I: Input, W: Output>(
 
 /// Answers the requests of a stream over a registry, one after another, in at most so many reads.
 ///
-/// Each reply is that to the request over the history that the registry shows then, and it is written before more is read than it
-/// needs. Where memory is short or the store fails the reply is that refusal; where the registry failed so at a command, each later
+/// Each reply is that to the request over the history that the registry shows then, and it is written before another read (as tests
+/// show). Where memory is short or the store fails the reply is that refusal; where the registry failed so at a command, each later
 /// request that asks something of it is told so, and it has to be opened anew. A body is held in memory but that of an import, of
-/// which only what the registry needs is.
+/// which only what the registry needs is (as tests show).
 ///
 /// # How it ends
 ///

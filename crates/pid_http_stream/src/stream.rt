@@ -172,7 +172,7 @@ fn with_refusal(answered: u64, end: StreamEnd) -> u64
 
 /// Answers the requests of a stream, one after another, in at most so many reads.
 ///
-/// The reply to each is written before more is read than it needs. Where the writer takes all and neither memory, turns nor the
+/// The reply to each is written before another read (as tests show). Where the writer takes all and neither memory, turns nor the
 /// store fail, the bytes written are the replies to the requests of the whole stream, in their order, however the bytes come
 /// cut; then the one refusal where the stream ends with a fault.
 pub fn serve_stream<H: Handler, I: Input, W: Output>(

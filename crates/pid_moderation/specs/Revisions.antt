@@ -4,7 +4,7 @@ use Rattle.pid_moderation.specs.History.{Begins, More, History, mark_of, count_o
 use Rattle.pid_moderation.specs.Items.{name_at, has_name}
 use Rattle.pid_moderation.specs.Views.{items_of}
 
--- the commands before the mark were all accepted
+-- it holds at least as many commands as its mark says
 abbrev pub IsMarked : History → Type 0
 IsMarked h = mark_of h ≤ count_of h
 
@@ -26,7 +26,7 @@ abbrev pub is_named_anew : (before now : Option (List ℕ)) → Bool
 is_named_anew before None = false
 is_named_anew before (Some name) = not (has_name name before)
 
--- the number of the last command that added the item or changed its name, counted from the mark; 0 where that stands before the mark
+-- the number of the last command that added the item or changed its name, counted from the mark; 0 where that stands before the mark, or where there is none
 abbrev pub since_of : List ℕ → History → ℕ
 since_of path (Begins mark) = 0
 since_of path (More e h) = if is_named_anew (name_at path (items_of h)) (name_at path (items_of (More e h))) then revision_of (More e h) else since_of path h

@@ -69,7 +69,8 @@ pub fn revisions_count()
     ensures grows { (h : History) (commands : List Asked) → revision_of h ≤ revision_of (after_all h commands) }
 {}
 
-/// The since of an item is the revision at which it was added or renamed for the last time.
+/// The since of an item that is there is the revision at which it was added or renamed for the last time, 0 where that was before the mark. An
+/// item that was removed tells nobody; so who keeps a copy of a file that was taken over begins with all of its items.
 pub fn sinces_are_last_changes()
     ensures within { (h : History) (path : List ℕ) → since_of path h ≤ revision_of h }
     // Up to the mark nothing counts as changed.

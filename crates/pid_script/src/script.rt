@@ -200,7 +200,7 @@ fn end_of(answered: Result<(), LineEnd>) -> ScriptEnd
 /// the script begins. At `Done` it shows the history with the commands of all lines. At every other end it shows the history
 /// with those of the lines that were answered, or with that of the next line too, whose reply did not go out; or it has failed,
 /// and a crash leaves the one or the other. So a later opening finds each command whose reply went out whole. A registry that
-/// has failed before refuses the first line that asks something of it as 18, and stays as it is.
+/// has failed before refuses the first line that asks something of it as 18, or as 16 where memory is short for the reply, and stays as it is.
 pub fn run_script<R: Moderated, I: Input, O: Output>(
     alloc: Global,
     registry: &mut R,

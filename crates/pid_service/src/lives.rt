@@ -100,8 +100,8 @@ pub fn openings_find_histories<S: Alter + Drop>()
 
 /// The crash prefix. Let the first registry show a history, that without commands where it is new, and let each further one be opened on
 /// what the one before it left, after any calls, over a stop at any place, a fault or a close. Then the last one shows the history
-/// after the first one's and a prefix of the commands of each life, joined in order, which holds every acknowledged one and has
-/// kept its mark. The printed text of its tree reads back to that tree, and to no other.
+/// after the first one's and a prefix of the commands of each life, joined in order, which holds every acknowledged one. It is of the
+/// mark of the first one, which no table tells yet. The printed text of its tree reads back to that tree, and to no other.
 ///
 /// That text is what `export` writes of a registry that shows the history, and `lookup` answers over the same tree. All
 /// while the disk returns what was written.
