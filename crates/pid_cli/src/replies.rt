@@ -2,7 +2,7 @@
 use crate::job_end::JobEnd;
 use itoa::Buffer;
 use pid_ident::{Output, write_all, write_parts};
-use pid_lookup::{Answer, LookupRefusal};
+use pid_lookup::{Answer, LookupRefusal, Unanswered};
 use pid_moderation::{Refusal, Reply, reply_line};
 use pid_tables::TableFault;
 use pid_texts::{FAILED, TextEnd, tell_end};
@@ -53,7 +53,7 @@ pub fn print_answer<O: Output, F: Output>(
     let printed = match &found {
         Ok(Answer::Text(text)) => write_parts(output, &[b"text ", text.as_bytes(), b"\n"]),
         Ok(Answer::NoAnswer) => write_all(output, b"none\n"),
-        Err(LookupRefusal::BadFlags) => write_all(output, b"refused 26 BadFlags\n"),
+        Err(LookupRefusal::BadFlags) => write_all(output, Unanswered::BadFlags.line().as_bytes()),
         Err(_) => return JobEnd::Told(tell_end(TextEnd::Memory, faults)),
     };
     match (printed, found) {

@@ -28,16 +28,16 @@ struct Server<'r, S: Alter + Drop> {
 }
 
 impl<S: Alter + Drop> StreamServer for Server<'_, S> {
-    ghost use Rattle.std.specs.Prelude.{⊤};
+    ghost use Rattle.pid_http.specs.Known.{LivesOn, lives_further, lives_still};
     ghost use Rattle.pid_service.specs.Registries.{is_live};
 
     ghost live = { λ server. is_live server.registry.now };
 
-    ghost goes = { λ a b. ⊤ };
+    ghost goes = { λ a b. LivesOn S.Store a.registry.now b.registry.now };
 
-    ghost stays = { λ a. tt };
+    ghost stays = { λ a. lives_still a.registry.now };
 
-    ghost joins = { λ a b c p q. tt };
+    ghost joins = { λ a b c p q. lives_further a.registry.now b.registry.now c.registry.now p q };
 
     fn is_live(&self) -> bool {
         self.registry.is_live()

@@ -1,22 +1,16 @@
 -- Serves private functions alone; no promise rests on it.
 -- What the service tells of itself as a handler.
-use Rattle.std.specs.Prelude.{◌≡◌, ℕ, false, List, [], ◌∷◌, ◌++◌}
-use Rattle.std.proofs.Common.{refl, sym, subst, ◌∙◌, inl}
-use Rattle.sqlite_trees.specs.declared.store.Store.{Ghosts}
-use Rattle.pid_lives.specs.Calls.{Call}
-use Rattle.pid_lives.specs.Registries.{CallsLead, Showing}
+use Rattle.std.specs.Prelude.{◌≡◌, ℕ, List}
+use Rattle.std.proofs.Common.{sym, subst, ◌∙◌, inl}
 use Rattle.pid_moderation.specs.History.{History}
 use Rattle.pid_moderation.specs.Writes.{tree_of}
-use Rattle.pid_service.specs.Lives.{showing}
-use Rattle.pid_service.specs.Registries.{is_live}
-use Rattle.pid_service.specs.declared.registry.Registry.{Registry}
 use Rattle.pid_tree.specs.Printing.{print}
 use Rattle.pid_http_stream.specs.Replies.{answer_behind}
 use Rattle.pid_http_stream.specs.Requests.{Request}
 use Rattle.pid_http_stream.specs.declared.reply.ReplyHead.{ReplyHead}
 use Rattle.pid_http.specs.Answering.{answer_over, text_answer}
 use Rattle.pid_http.specs.Errands.{errand_of}
-use Rattle.pid_http.specs.Known.{Known, Live, Between, Down, LivesOn}
+use Rattle.pid_http.specs.Known.{Known, Live, Between, Down}
 use Rattle.pid_http.specs.Serving.{IsMet, IsPromised, IsTextHead}
 
 -- the text of the history that is shown
@@ -42,20 +36,3 @@ exports_text Down request head told b body c promised writes = absurd promised
 -- what stayed the same twice stayed the same
 pub same_on : {X : Type 0} (a b c : X) → b ≡ a → c ≡ b → c ≡ a
 same_on a b c p q = q ∙ p
-
-calls_join : {R : Type 0} (w : Showing R) (a b c : R) (first more : List Call) → CallsLead w a first b → CallsLead w b more c → CallsLead w a (first ++ more) c
-calls_join w a b c [] more same leads = subst (λ r. CallsLead w r more c) same leads
-calls_join w a b c (call ∷ calls) more (between, does, leads) further = (between, does, calls_join w between b c calls more leads further)
-
-module _ {S : Type 0} {store : Ghosts S} where
-  -- no call
-  pub lives_still : (r : Registry S store) → LivesOn store r r
-  lives_still r = record { rests = λ off. refl; calls = []; lead = refl }
-
-  -- some calls, and then others
-  pub lives_further : (a b c : Registry S store) → LivesOn store a b → LivesOn store b c → LivesOn store a c
-  lives_further a b c p q = record {
-    rests = λ off. q.rests (subst (λ r. is_live r ≡ false) (sym (p.rests off)) off) ∙ p.rests off;
-    calls = p.calls ++ q.calls;
-    lead = calls_join (showing store) a b c p.calls q.calls p.lead q.lead;
-  }

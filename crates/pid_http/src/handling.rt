@@ -13,8 +13,8 @@ use sqlite::Alter;
 
 impl<S: Alter + Drop> Handler for Service<'_, '_, S> {
     ghost use Rattle.std.specs.Prelude.{◌≡◌, refl};
-    ghost use Rattle.pid_http.specs.Handling.{Writes, exports_text, lives_further, lives_still, same_on};
-    ghost use Rattle.pid_http.specs.Known.{IsKnown, Known, LivesOn};
+    ghost use Rattle.pid_http.specs.Handling.{Writes, exports_text, same_on};
+    ghost use Rattle.pid_http.specs.Known.{IsKnown, Known, LivesOn, lives_further, lives_still};
     ghost use Rattle.pid_http.specs.Serving.{serving};
     ghost use Rattle.pid_service.specs.Registries.{HasCleanDisk};
 

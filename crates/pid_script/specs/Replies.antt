@@ -7,6 +7,8 @@ use Rattle.pid_lookup.specs.declared.answer.Answer.{Answer}
 use Rattle.pid_lookup.specs.declared.answer.Answer.TheVariants.{Text, NoAnswer}
 use Rattle.pid_lookup.specs.Answers.{answer_of}
 use Rattle.pid_lookup.specs.Flags.{is_bad}
+use Rattle.pid_lookup.specs.Unanswered.{unanswered_line}
+use Rattle.pid_lookup.specs.declared.unanswered.Unanswered.TheVariants.{NoItem, BadFlags}
 use Rattle.pid_tree.specs.Printing.{print}
 use Rattle.pid_moderation.specs.declared.command.Command.{Command}
 use Rattle.pid_moderation.specs.declared.refusal.Refusal.{Refusal}
@@ -23,11 +25,11 @@ use Rattle.pid_script.specs.ScriptLines.{Ask, Nothing, Commands, Exports, Reads,
 
 -- what is told of a path without a name
 abbrev pub NO_ITEM : List ℕ
-NO_ITEM = codes "refused 25 NoItem\n"
+NO_ITEM = unanswered_line NoItem
 
 -- what is told of flags that ask for nothing
 abbrev pub BAD_FLAGS : List ℕ
-BAD_FLAGS = codes "refused 26 BadFlags\n"
+BAD_FLAGS = unanswered_line BadFlags
 
 -- the name of a path
 abbrev pub name_line : Option (List ℕ) → List ℕ

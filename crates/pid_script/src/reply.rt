@@ -11,7 +11,7 @@ ghost use Rattle.pid_script.specs.Replies.{name_line, answer_line, BAD_FLAGS};
 use crate::line_end::LineEnd;
 use crate::saying::{say, say_all};
 use pid_ident::{Name, Output};
-use pid_lookup::{Answer, LookupRefusal};
+use pid_lookup::{Answer, LookupRefusal, Unanswered};
 use pid_moderation::{Refusal, Reply, reply_line};
 use std::alloc::Global;
 
@@ -146,7 +146,7 @@ pub fn send_name<O: Output>(
 {
     match name {
         Ok(Some(name)) => say_line(output, held, b"name ", name.as_str().as_bytes()),
-        Ok(None) => say(output, held, b"refused 25 NoItem\n"),
+        Ok(None) => say(output, held, Unanswered::NoItem.line().as_bytes()),
         Err(refusal) => send_answer(alloc, output, held, Err(refusal)),
     }
 }
@@ -168,7 +168,7 @@ pub fn send_found<O: Output>(
     match found {
         Ok(Answer::Text(text)) => say_line(output, held, b"text ", text.as_bytes()),
         Ok(Answer::NoAnswer) => say(output, held, b"none\n"),
-        Err(LookupRefusal::BadFlags) => say(output, held, b"refused 26 BadFlags\n"),
+        Err(LookupRefusal::BadFlags) => say(output, held, Unanswered::BadFlags.line().as_bytes()),
         Err(LookupRefusal::Names(refusal)) => send_answer(alloc, output, held, Err(refusal)),
         Err(LookupRefusal::Memory) => Err(stop_for_memory(output, held)),
     }
