@@ -27,8 +27,7 @@ use Rattle.pid_replies.specs.Outcomes.{outcome_answer}
 use Rattle.pid_replies.specs.Replying.{IsReplyOf, IsBodyOf}
 use Rattle.pid_http.specs.Answering.{answer_over, history_behind, IsRefused, LacksForm}
 use Rattle.pid_http.specs.Errands.{Errand, Answered, Denied, Obeys, command_in, commanded, imported}
-use Rattle.pid_http.specs.Handling.{lives_still}
-use Rattle.pid_http.specs.Known.{Known, Live, Between, Down, IsKnown, LivesOn, Goes}
+use Rattle.pid_http.specs.Known.{Known, Live, Between, Down, IsKnown, LivesOn, Goes, lives_still}
 use Rattle.pid_http.specs.Replying.{IsObeyed, IsBodyMet, IsMetBy, answer_or}
 use Rattle.pid_http.specs.Serving.{IsMet, IsMetOver, FaultLeaves}
 

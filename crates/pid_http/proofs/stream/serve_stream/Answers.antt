@@ -1,4 +1,4 @@
-use Rattle.pid_http.specs.Handling.{lives_still}
+use Rattle.pid_http.specs.Known.{lives_still}
 use Rattle.pid_http.proofs.Served.{none_served}
 use Rattle.pid_http.proofs.stream.serve_stream.Goals as goal
 
