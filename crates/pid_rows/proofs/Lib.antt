@@ -30,3 +30,7 @@ pub mod UnreadLemmas
 pub mod ReadBack
 pub mod SoundReads
 pub mod LabelLemmas
+pub mod SinceTexts
+pub mod SinceFilled
+pub mod SinceCascade
+pub mod SinceRemoved
