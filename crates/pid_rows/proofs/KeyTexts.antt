@@ -4,7 +4,9 @@ use Rattle.sqlite.specs.declared.types.Value.TheVariants.{Null, Int, Text}
 use Rattle.sqlite.specs.Term.{Term, lit, col}
 use Rattle.sqlite.specs.Listing.{understood}
 use Rattle.sqlite_tied.specs.Compute.{everything}
-use Rattle.pid_rows.specs.Schema.{Version, Two, schema_of}
+use Rattle.pid_rows.specs.declared.version.Version.{Version}
+use Rattle.pid_rows.specs.declared.version.Version.TheVariants.{Two}
+use Rattle.pid_rows.specs.Schema.{schema_of}
 use Rattle.pid_rows.proofs.Statements.{equals, IsSelect, IsInsert, IsUpdate, IsDelete}
 use Rattle.pid_rows.proofs.StatementTexts.{select_meta, insert_meta, update_meta, select_account, insert_account, update_account, select_item, insert_item, update_item, delete_item, select_submission, insert_submission, update_submission, withdraw_submission, insert_remark, select_receipt, insert_receipt, insert_since, update_since}
 

@@ -9,7 +9,8 @@ use Rattle.sqlite.specs.declared.error.Error.{Error}
 use Rattle.sqlite_trees.specs.declared.store.Store.{Ghosts}
 use Rattle.pid_moderation.specs.Views.{Views}
 use Rattle.pid_rows.specs.Shows.{Counts, Numbers, ShowsKeeping, Shows, counts_of}
-use Rattle.pid_rows.specs.Schema.{Version, schema_of}
+use Rattle.pid_rows.specs.declared.version.Version.{Version}
+use Rattle.pid_rows.specs.Schema.{schema_of}
 use Rattle.pid_rows.specs.Leaves.{found_in, Leaves, LeavesEither, AtRest, Holds, Within, Written}
 
 pub leaves_on : (old new : State) (v : Views) → Survives old new (λ _. ⊥) → Leaves old v → Leaves new v

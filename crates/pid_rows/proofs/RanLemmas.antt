@@ -25,7 +25,9 @@ use Rattle.sqlite_schema.specs.Rules.{parent_key}
 use Rattle.sqlite_rules.specs.Calls.{ids_of}
 use Rattle.sqlite_schema.specs.declared.schema.Keys.TheVariants.{Enforced}
 use Rattle.sqlite_schema.specs.declared.program.Program.{Program}
-use Rattle.pid_rows.specs.Schema.{Version, One, Two, schema_of, pid_schema}
+use Rattle.pid_rows.specs.declared.version.Version.{Version}
+use Rattle.pid_rows.specs.declared.version.Version.TheVariants.{One, Two}
+use Rattle.pid_rows.specs.Schema.{schema_of, pid_schema}
 use Rattle.pid_rows.proofs.WriteLemmas.{IsPlainTable, UpdatesAlone, on_rows, inserts, updates, deletes, deletes_all}
 
 -- no reference of schema 1 acts

@@ -20,7 +20,8 @@ use Rattle.pid_moderation.specs.declared.facts.State.TheVariants.{Pending, Appro
 use Rattle.pid_moderation.specs.Items.{Items, name_at}
 use Rattle.pid_moderation.specs.Views.{Views, Submitted, Remark, submission_at}
 use Rattle.pid_rows.specs.PairRows.{Map}
-use Rattle.pid_rows.specs.Schema.{Version, number_of}
+use Rattle.pid_rows.specs.declared.version.Version.{Version}
+use Rattle.pid_rows.specs.Schema.{number_of}
 use Rattle.pid_rows.specs.TableRows.{Standing, decider_of}
 use Rattle.pid_rows.specs.Shows.{Counts, labels_of, more_labels, standing_in, counted_from_one, remark_in, receipt_in}
 use Rattle.pid_rows.specs.Writes.{with_submission, with_state, with_remark, with_reply, NamesDecider}

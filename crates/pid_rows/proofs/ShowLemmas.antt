@@ -13,7 +13,9 @@ use Rattle.pid_moderation.specs.declared.rank.Rank.{Rank}
 use Rattle.pid_moderation.specs.Items.{Items, name_at}
 use Rattle.pid_moderation.specs.declared.facts.State.TheVariants.{Pending}
 use Rattle.pid_moderation.specs.Views.{Views, Submitted, Remark, submission_at}
-use Rattle.pid_rows.specs.Schema.{meta, account, item, submission, remark, receipt, Version, One, Two, schema_of, more_tables}
+use Rattle.pid_rows.specs.declared.version.Version.{Version}
+use Rattle.pid_rows.specs.declared.version.Version.TheVariants.{One, Two}
+use Rattle.pid_rows.specs.Schema.{meta, account, item, submission, remark, receipt, schema_of, more_tables}
 use Rattle.pid_rows.specs.PairRows.{Map, RowsAre}
 use Rattle.pid_rows.specs.TableRows.{meta_row, account_row, item_row, submission_row, remark_row, receipt_row, since_row}
 use Rattle.pid_rows.specs.Shows.{Counts, Numbers, ShowsNumbers, ShowsKeeping, labels_of, standing_in, remark_in, receipt_in}

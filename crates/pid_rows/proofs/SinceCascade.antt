@@ -31,7 +31,8 @@ use Rattle.sqlite_rules.proofs.PlaceLemmas.{left_or_taken, row_at_is}
 use Rattle.sqlite_rules.proofs.TableLemmas.{without_all_has}
 use Rattle.pid_rows.proofs.Select.{text_equal, texts_equal}
 use Rattle.pid_rows.specs.TableRows.{item_row, number, since_row}
-use Rattle.pid_rows.specs.Schema.{Two, schema_of, item, item_since, to_item}
+use Rattle.pid_rows.specs.declared.version.Version.TheVariants.{Two}
+use Rattle.pid_rows.specs.Schema.{schema_of, item, item_since, to_item}
 
 -- what is to be done for item_since where these items go
 abbrev pub work_of : List (Row × Row) → Work

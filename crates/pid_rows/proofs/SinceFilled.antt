@@ -28,7 +28,8 @@ use Rattle.pid_rows.proofs.TurnLemmas.{hits, has_mapped, permuted, turns_insert}
 use Rattle.pid_rows.proofs.WriteLemmas.{cast_int, cast_null}
 use Rattle.pid_rows.proofs.Keys.{since_plain}
 use Rattle.pid_rows.proofs.Statements.{program, simple}
-use Rattle.pid_rows.specs.Schema.{Two, schema_of, item_since}
+use Rattle.pid_rows.specs.declared.version.Version.TheVariants.{Two}
+use Rattle.pid_rows.specs.Schema.{schema_of, item_since}
 use Rattle.pid_rows.proofs.StatementTexts.{fill_since}
 use Rattle.pid_rows.proofs.SinceTexts.{fill_is, fill_plain, copied, copying}
 use Rattle.pid_rows.proofs.RanLemmas.{ran_insert}

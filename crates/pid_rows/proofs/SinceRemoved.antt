@@ -27,7 +27,8 @@ use Rattle.sqlite_rules.proofs.ListLemmas.{some_has, some_from, has_filtered}
 use Rattle.sqlite_rules.proofs.ProbeLemmas.{mapped_has}
 use Rattle.sqlite_rules.proofs.PlaceLemmas.{left_or_taken, row_at_is}
 use Rattle.sqlite_rules.proofs.TableLemmas.{without_all_has}
-use Rattle.pid_rows.specs.Schema.{Two, schema_of, item, item_since}
+use Rattle.pid_rows.specs.declared.version.Version.TheVariants.{Two}
+use Rattle.pid_rows.specs.Schema.{schema_of, item, item_since}
 use Rattle.pid_rows.specs.PairRows.{Map, RowsAre}
 use Rattle.pid_rows.specs.TableRows.{item_row, number, since_row}
 use Rattle.pid_rows.proofs.Select.{passing, shown, simple_rows, text_equal, texts_equal}

@@ -12,7 +12,8 @@ use Rattle.sqlite.specs.Does.{lacks_sequence}
 use Rattle.sqlite.specs.Listing.{understood}
 use Rattle.sqlite.proofs.Callers.{IsPlain, command_of, statement_of}
 use Rattle.sqlite_tied.specs.Compute.{everything}
-use Rattle.pid_rows.specs.Schema.{One, Two, schema_of, item_since}
+use Rattle.pid_rows.specs.declared.version.Version.TheVariants.{One, Two}
+use Rattle.pid_rows.specs.Schema.{schema_of, item_since}
 use Rattle.pid_rows.proofs.Statements.{simple, program}
 use Rattle.pid_rows.proofs.StatementTexts.{create_since, fill_since}
 

@@ -14,7 +14,9 @@ use Rattle.pid_moderation.specs.declared.rank.Rank.{Rank}
 use Rattle.pid_moderation.specs.Items.{name_at}
 use Rattle.pid_moderation.specs.Ranks.{rank_number}
 use Rattle.pid_moderation.specs.Views.{Views, Submitted, Remark, submission_at}
-use Rattle.pid_rows.specs.Schema.{Version, One, schema_of, pid_schema, meta, account, item, submission, remark, receipt}
+use Rattle.pid_rows.specs.declared.version.Version.{Version}
+use Rattle.pid_rows.specs.declared.version.Version.TheVariants.{One}
+use Rattle.pid_rows.specs.Schema.{schema_of, pid_schema, meta, account, item, submission, remark, receipt}
 use Rattle.pid_rows.specs.TableRows.{number, meta_row, account_row, item_row, submission_row, remark_row, receipt_row, form_of, name_of, state_number, decider_of, reason_of, kind_of, first_of, second_of, third_of}
 use Rattle.pid_rows.specs.Shows.{Counts, Numbers, ShowsKeeping, ShowsCounting, labels_of, standing_in, remark_in, receipt_in}
 use Rattle.pid_rows.specs.Writes.{with_rank, with_name, without_item, with_submission, with_state, with_remark, with_reply, NamesDecider}
