@@ -18,7 +18,7 @@ use Rattle.pid_moderation.specs.History.{TooLong, Faulty, Good, Deed, Ranks, Sub
 use Rattle.pid_moderation.specs.Items.{Items, name_at}
 use Rattle.pid_moderation.specs.Views.{Views, Submitted, views_of, rank_of, submits_of, submission_at}
 use Rattle.pid_moderation.specs.FactsOfViews.{facts_of, with_item, known, kept_in}
-use Rattle.pid_moderation.specs.CheckTables.{checks, if_named, comment_checks, decision_checks, withdraw_checks, is_so}
+use Rattle.pid_moderation.specs.CheckTables.{command_checks, if_named, comment_checks, decision_checks, withdraw_checks, is_so}
 use Rattle.pid_moderation.specs.Changes.{with_pairs, FitsWrite, FitsEffect, FitsReceipt, Fits, IsThere}
 use Rattle.pid_moderation.specs.Judgement.{Outcome, Refused, Repeated, Accepts, judge, judged}
 use Rattle.pid_moderation.specs.Effects.{edit_of, items_after, write_of, effect_of, receipt_of, change_by, pairs_in, new_pairs, next_place, Decides}
@@ -67,7 +67,7 @@ rejection_fits : (o : Option Submitted) (v : Views) (n : ℕ) (account : List �
 rejection_fits None v n account rank passed = let bad = passed.0 in absurd cc
 rejection_fits (Some s) v n account rank passed = refl
 
-effect_fits : (h : History) (account : List ℕ) (key : Option (List ℕ)) (deed : Deed) → AllPass (checks (to_deed h account key deed) (asks account key deed)) → FitsEffect (effect_of account (to_deed h account key deed) deed) (with_pairs (pairs_in deed) (views_of h))
+effect_fits : (h : History) (account : List ℕ) (key : Option (List ℕ)) (deed : Deed) → AllPass (command_checks (to_deed h account key deed) (asks account key deed)) → FitsEffect (effect_of account (to_deed h account key deed) deed) (with_pairs (pairs_in deed) (views_of h))
 effect_fits h account key (Ranks who rank) passed = refl
 effect_fits h account key (Submits path proposal note) passed = refl
 effect_fits h account key (Comments n text) passed = comment_fits (submission_at n (submits_of h)) (views_of h) n passed.1

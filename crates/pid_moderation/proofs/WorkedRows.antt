@@ -9,8 +9,8 @@ use Rattle.pid_moderation.specs.declared.rank.Rank.TheVariants.{Contributor, Mod
 use Rattle.pid_moderation.specs.declared.refusal.FileFault.TheVariants.{Line}
 use Rattle.pid_moderation.specs.declared.refusal.Refusal.TheVariants.{NoAccount, RankTooLow, NoSubmission, NotPending, NotAuthor, OwnDecision, ParentMissing, HasChildren, NothingToDo, FileFault}
 use Rattle.pid_moderation.specs.History.{Deed, Reading, Good, Faulty, Ranks, Submits, Comments, Withdraws, Approves, Rejects, Imports, Asked, Begins, History, new_history}
-use Rattle.pid_moderation.specs.Views.{items_of}
-use Rattle.pid_moderation.specs.Revisions.{revision_of, since_of, taken_over}
+use Rattle.pid_moderation.specs.Views.{items_of, revision_of, since_of}
+use Rattle.pid_moderation.specs.Revisions.{taken_over}
 use Rattle.pid_moderation.specs.Judgement.{answers, after_all}
 
 abbrev by : List ℕ → Deed → Asked
