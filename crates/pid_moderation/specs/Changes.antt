@@ -1,5 +1,5 @@
 -- What an accepted command does to the views.
-use Rattle.std.specs.Prelude.{◌≡◌, ℕ, ◌+◌, List, true, not, ◌&&◌, ◌==◌, if◌then◌else◌, [], ◌∷◌, ◌++◌, length, Option, Some, None, is_none, is_some}
+use Rattle.std.specs.Prelude.{◌≡◌, ℕ, ◌+◌, List, true, false, not, ◌&&◌, ◌==◌, if◌then◌else◌, [], ◌∷◌, ◌++◌, length, Option, Some, None, is_none, is_some}
 use Rattle.std.specs.Str.{bytes_eq}
 use Rattle.std.specs.Ordering.{eq_by_cmp}
 use Rattle.std.specs.FinMap.Entries.{put, where_key}
@@ -12,7 +12,7 @@ use Rattle.pid_moderation.specs.declared.change.Edit.TheVariants.{Add, Rename, R
 use Rattle.pid_moderation.specs.declared.change.Write.{Write}
 use Rattle.pid_moderation.specs.declared.change.Effect.{Effect}
 use Rattle.pid_moderation.specs.declared.change.Effect.TheVariants.{Nothing, Ranked, Submitted, Remarked, Decided, Imported}
-use Rattle.pid_moderation.specs.Items.{Items, name_at, imported}
+use Rattle.pid_moderation.specs.Items.{Items, name_at, has_name, imported}
 use Rattle.pid_moderation.specs.Views.{Views, Submitted as Submission, submission_at, is_named_anew}
 
 -- the item of a path, added, renamed or removed
@@ -62,10 +62,10 @@ with_pairs pairs v = with_items (v.revision + 1) (imported pairs v.items) v
 abbrev pub IsThere : Option Submission → Type 0
 IsThere o = is_some o ≡ true
 
--- an item is added where there is none, and renamed or removed where there is one
+-- an item is added where there is none, renamed where there is one of another name, and removed where there is one
 abbrev pub FitsEdit : Edit → Option (List ℕ) → Type 0
 FitsEdit (Add name) present = is_none present ≡ true
-FitsEdit (Rename name) present = is_some present ≡ true
+FitsEdit (Rename name) present = (is_some present ≡ true) × (has_name name present ≡ false)
 FitsEdit Remove present = is_some present ≡ true
 
 -- a write tells how many items there are afterwards
