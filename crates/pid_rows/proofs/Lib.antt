@@ -34,3 +34,4 @@ pub mod SinceTexts
 pub mod SinceFilled
 pub mod SinceCascade
 pub mod SinceRemoved
+pub mod MovingLemmas

@@ -1,36 +1,15 @@
 -- DELETE FROM item: the row of item_since that refers to the item goes with it.
-use Rattle.std.proofs.Common.{◌≡◌, ◌≢◌, ◌⊎◌, inl, inr, ℕ, zero, suc, ℤ, pos, List, [], ◌∷◌, ◌++◌, map, Bool, true, false, cond, not, None, Some, Option, Ok, IsSome, refl, sym, ap, subst, ◌∙◌, arith, length, length-append, true≢false}
-use Rattle.std.specs.Prelude.{◌&&◌, bytes_eq}
-use Rattle.std.specs.List.{AllByRecursion, list_any, cons_option}
-use Rattle.std.specs.List.Sorted.{IsPermutation}
-use Rattle.std.proofs.lemmas.List.Sorted.{IsPermutation-sym}
-use Rattle.std.proofs.lemmas.Bool.{cases_Bool, and_parts, and_from}
-use Rattle.sqlite.specs.Tree.{Trees, rowid, IsTable}
+use Rattle.std.proofs.Common.{◌≡◌, ◌⊎◌, inl, inr, ℕ, zero, suc, ℤ, List, [], ◌∷◌, ◌++◌, Bool, true, false, cond, None, Some, Ok, refl, sym, ap, subst, arith, length, length-append}
+use Rattle.std.specs.List.{list_any, cons_option}
+use Rattle.sqlite.specs.Tree.{Trees}
 use Rattle.sqlite.specs.Order.{Row}
-use Rattle.sqlite.specs.Table.{Table}
-use Rattle.sqlite.specs.declared.types.Value.TheVariants.{Null, Int, Text}
-use Rattle.sqlite.specs.Collation.TheVariants.{Binary}
-use Rattle.sqlite.specs.Ops.{binary}
-use Rattle.sqlite.specs.Term.{col}
-use Rattle.sqlite.specs.Edit.{Edit, edit_of, taken_by, row_at, without_all, id_in, Applies}
-use Rattle.sqlite.specs.Program.{overlay}
-use Rattle.sqlite.specs.State.{State, Executes}
-use Rattle.sqlite.specs.Effect.{IsDatabase}
+use Rattle.sqlite.specs.Edit.{edit_of, taken_by, Applies}
 use Rattle.sqlite_schema.specs.declared.schema.Keys.TheVariants.{Enforced}
-use Rattle.sqlite_schema.specs.Rules.{equal}
-use Rattle.sqlite_value.specs.Keys.{plain, first_key, joined}
+use Rattle.sqlite_value.specs.Keys.{plain, joined}
 use Rattle.sqlite_schema.specs.Names.{same_name}
 use Rattle.sqlite_rules.specs.declared.error.Rowids.TheVariants.{Given}
 use Rattle.sqlite_rules.specs.declared.action.Deed.TheVariants.{Delete}
-use Rattle.sqlite_rules.specs.Action.{Work, End, pairs, loses, is_child_of, works, AreChildren, action_edit, Leads, ActsOn, Acts, Writes}
-use Rattle.sqlite_rules.specs.Calls.{ids_of}
-use Rattle.sqlite_rules.specs.Lists.{Has}
-use Rattle.sqlite_rules.proofs.ListLemmas.{some_has, some_from, has_filtered, has_kept}
-use Rattle.sqlite_rules.proofs.ProbeLemmas.{mapped_has}
-use Rattle.sqlite_rules.proofs.PlaceLemmas.{left_or_taken, row_at_is}
-use Rattle.sqlite_rules.proofs.TableLemmas.{without_all_has}
-use Rattle.pid_rows.proofs.Select.{text_equal, texts_equal}
-use Rattle.pid_rows.specs.TableRows.{item_row, number, since_row}
+use Rattle.sqlite_rules.specs.Action.{Work, pairs, loses, works, AreChildren, Leads, ActsOn, Acts, Writes}
 use Rattle.pid_rows.specs.declared.version.Version.TheVariants.{Two}
 use Rattle.pid_rows.specs.Schema.{schema_of, item, item_since, to_item}
 

@@ -1,12 +1,12 @@
 -- INSERT INTO item_since .. SELECT .. FROM item: one row with 0 for each item.
-use Rattle.std.proofs.Common.{◌≡◌, ◌⊎◌, inl, inr, ℕ, ℤ, pos, List, [], ◌∷◌, map, drop, Bool, true, false, cond, None, Some, Option, Ok, refl, sym, ap, subst, ◌∙◌}
+use Rattle.std.proofs.Common.{◌≡◌, inl, inr, ℕ, ℤ, pos, List, [], ◌∷◌, map, drop, None, Some, Option, Ok, refl, sym, ap, subst, ◌∙◌}
 use Rattle.std.specs.Prelude.{option_map}
 use Rattle.std.specs.List.Sorted.{IsPermutation}
 use Rattle.std.proofs.lemmas.List.Sorted.{IsPermutation-sym}
-use Rattle.sqlite.specs.Tree.{rowid, put_row, IsTable}
+use Rattle.sqlite.specs.Tree.{put_row, IsTable}
 use Rattle.sqlite.specs.Order.{Row}
 use Rattle.sqlite.specs.declared.types.Value.{Value}
-use Rattle.sqlite.specs.declared.types.Value.TheVariants.{Null, Int, Text}
+use Rattle.sqlite.specs.declared.types.Value.TheVariants.{Null, Text}
 use Rattle.sqlite.specs.Cast.{cast_row}
 use Rattle.sqlite.specs.Edit.{numbered, with_rowid, next_rowid}
 use Rattle.sqlite.specs.Program.{overlay}
@@ -88,9 +88,9 @@ filled old new items has are empty count h =
     let as_simple : IsAnswer (simple 4 [] copied) (overlay old.now.trees []) [] answer = record { staged = q.staged; grouped = q.grouped; kept = q.kept; distinct = q.distinct; ordered = q.ordered; same = q.same; sorted = q.sorted; shown = q.shown } in
     let same : IsPermutation (map (shown copied []) (passing [] [] stored)) answer = subst (λ xs. IsPermutation (map (shown copied []) (passing [] [] xs)) answer) (none_over old.now.trees 4) (simple_rows 4 [] copied (overlay old.now.trees []) [] answer as_simple) in
     let back : (a : Row) → Has answer a → (p : List ℕ) × (name : List ℕ) × (a ≡ unnumbered p) × (items p ≡ Some name) = (λ a there.
-        let r = has_mapped (shown copied []) (passing [] [] stored) a (permuted answer (map (shown copied []) (passing [] [] stored)) a (IsPermutation-sym _ _ same) there) in
-        let pair = are.sound r.0 (has_filtered (hits [] []) stored r.0 r.1).0 in
-        (pair.key, pair.value, r.2 ∙ ap (shown copied []) pair.is, pair.maps)) in
+    let r = has_mapped (shown copied []) (passing [] [] stored) a (permuted answer (map (shown copied []) (passing [] [] stored)) a (IsPermutation-sym _ _ same) there) in
+    let pair = are.sound r.0 (has_filtered (hits [] []) stored r.0 r.1).0 in
+    (pair.key, pair.value, r.2 ∙ ap (shown copied []) pair.is, pair.maps)) in
     let sources = are_unnumbered answer (λ a there. let it = back a there in (it.0, it.2)) in
     let rows = old.now.trees 11 in
     let next = new.now.trees 11 in

@@ -1,23 +1,20 @@
 -- DELETE FROM item WHERE path = ?1, as the two tables show it afterwards.
-use Rattle.std.proofs.Common.{◌≡◌, ◌≢◌, ◌⊎◌, inl, inr, ℕ, ℤ, List, [], ◌∷◌, ◌++◌, map, Bool, true, false, not, None, Some, Option, Ok, IsSome, refl, sym, ap, subst, ◌∙◌, arith, true≢false}
-use Rattle.std.specs.Prelude.{◌&&◌}
+use Rattle.std.proofs.Common.{◌≡◌, ◌≢◌, inl, inr, ℕ, ℤ, List, [], ◌∷◌, map, true, None, Some, Ok, refl, sym, ap, subst, ◌∙◌, arith, true≢false}
 use Rattle.std.specs.List.{AllByRecursion, list_any}
 use Rattle.std.specs.List.Sorted.{IsPermutation}
 use Rattle.std.proofs.lemmas.List.Sorted.{IsPermutation-sym}
-use Rattle.std.proofs.lemmas.Bool.{and_parts, and_from, both_ways}
-use Rattle.sqlite.specs.Tree.{Trees, rowid, IsTable}
+use Rattle.std.proofs.lemmas.Bool.{and_parts, and_from}
+use Rattle.sqlite.specs.Tree.{Trees, rowid}
 use Rattle.sqlite.specs.Order.{Row}
 use Rattle.sqlite.specs.Table.{Table}
 use Rattle.sqlite.specs.declared.types.Value.TheVariants.{Null, Int, Text}
-use Rattle.sqlite.specs.Collation.TheVariants.{Binary}
 use Rattle.sqlite.specs.Ops.{binary}
 use Rattle.sqlite.specs.Term.{Term, col}
-use Rattle.sqlite.specs.Edit.{Edit, edit_of, taken_by, row_at, without_all, id_in, Applies}
+use Rattle.sqlite.specs.Edit.{edit_of, row_at, without_all, id_in, Applies}
 use Rattle.sqlite.specs.Program.{overlay}
 use Rattle.sqlite.specs.State.{State, Executes}
 use Rattle.sqlite.specs.Effect.{IsDatabase}
 use Rattle.sqlite_schema.specs.declared.schema.Keys.TheVariants.{Enforced}
-use Rattle.sqlite_schema.specs.Rules.{equal}
 use Rattle.sqlite_value.specs.Keys.{plain, first_key}
 use Rattle.sqlite_rules.specs.declared.error.Rowids.TheVariants.{Given}
 use Rattle.sqlite_rules.specs.Action.{pairs, loses, is_child_of, AreChildren}
@@ -28,9 +25,9 @@ use Rattle.sqlite_rules.proofs.ProbeLemmas.{mapped_has}
 use Rattle.sqlite_rules.proofs.PlaceLemmas.{left_or_taken, row_at_is}
 use Rattle.sqlite_rules.proofs.TableLemmas.{without_all_has}
 use Rattle.pid_rows.specs.declared.version.Version.TheVariants.{Two}
-use Rattle.pid_rows.specs.Schema.{schema_of, item, item_since}
+use Rattle.pid_rows.specs.Schema.{schema_of, item}
 use Rattle.pid_rows.specs.PairRows.{Map, RowsAre}
-use Rattle.pid_rows.specs.TableRows.{item_row, number, since_row}
+use Rattle.pid_rows.specs.TableRows.{item_row, since_row}
 use Rattle.pid_rows.proofs.Select.{passing, shown, simple_rows, text_equal, texts_equal}
 use Rattle.pid_rows.proofs.Statements.{program, simple}
 use Rattle.pid_rows.proofs.StatementTexts.{delete_item}
@@ -38,7 +35,7 @@ use Rattle.pid_rows.proofs.KeyTexts.{by_first, delete_item_is}
 use Rattle.pid_rows.proofs.Keys.{item_found, item_plain, texts_decided}
 use Rattle.pid_rows.proofs.MapLemmas.{Sets, none_over, passes_for, has_passing, pairs_set, own_hits, others_miss}
 use Rattle.pid_rows.proofs.TurnLemmas.{AreKeyed, hits, has_mapped, permuted, turns_hit, IsTable-without_all, left_lacks, own_rowid}
-use Rattle.pid_rows.proofs.RanLemmas.{ran_delete_all}
+use Rattle.pid_rows.proofs.RanLemmas.{ran_delete}
 use Rattle.pid_rows.proofs.SinceCascade.{work_of, lost, Cascaded, two_steps}
 
 -- ---- which row of item_since is a child of which item
@@ -115,25 +112,27 @@ module _ (items : Map (List ℕ) (List ℕ)) (since : Map (List ℕ) ℕ) (key :
         let pair = are.sound x (without_all_has ids (mid 11) x h) in
         let id : rowid x ≡ Int pair.id = ap rowid pair.is in
         let other : pair.key ≢ key = (λ same.
-            let maps : since key ≡ Some pair.value = ap since (sym same) ∙ pair.maps in
-            let row : x ≡ since_row pair.id key pair.value = pair.is ∙ ap (λ k. since_row pair.id k pair.value) same in
-            let hit = subst (λ r. list_any (is_child_of (work_of moves) r) moves ≡ true) (sym row) (is_hit pair.id pair.value maps) in
-            left_lacks ids (mid 11) pair.id x (children.complete x pair.id (without_all_has ids (mid 11) x h) hit id) (own_rowid pair.id x id) h) in
+        let maps : since key ≡ Some pair.value = ap since (sym same) ∙ pair.maps in
+        let row : x ≡ since_row pair.id key pair.value = pair.is ∙ ap (λ k. since_row pair.id k pair.value) same in
+        let hit = subst (λ r. list_any (is_child_of (work_of moves) r) moves ≡ true) (sym row) (is_hit pair.id pair.value maps) in
+        left_lacks ids (mid 11) pair.id x (children.complete x pair.id (without_all_has ids (mid 11) x h) hit id) (own_rowid pair.id x id) h) in
         record { id = pair.id; key = pair.key; value = pair.value; is = pair.is; maps = sets.past pair.key other ∙ pair.maps };
     complete = λ p n maps. elim (texts_decided p key) [
       | inl same ↦ absurd (let bad : None ≡ Some n = sym sets.at ∙ ap after (sym same) ∙ maps in cc)
       | inr other ↦
           let there = are.complete p n (sym (sets.past p other) ∙ maps) in
-          let x = since_row there.0 p n in
-          (there.0, elim (left_or_taken (mid 11) ids x are.ordered there.1) [
-            | inl left ↦ left
-            | inr taken ↦ absurd (
-                let id = has_mapped (row_at (mid 11)) ids x taken in
-                let r = children.sound id.0 id.1 in
-                let same = row_at_is (mid 11) id.0 r.0 are.ordered r.1 (own_rowid id.0 r.0 r.3) in
-                let row : r.0 ≡ x = sym same ∙ sym id.2 in
-                other (hit_is there.0 p n (subst (λ y. list_any (is_child_of (work_of moves) y) moves ≡ true) row r.2)))
-          ])
+          let x = since_row there.0 p n in (
+            there.0,
+            elim (left_or_taken (mid 11) ids x are.ordered there.1) [
+              | inl left ↦ left
+              | inr taken ↦ absurd (
+                  let id = has_mapped (row_at (mid 11)) ids x taken in
+                  let r = children.sound id.0 id.1 in
+                  let same = row_at_is (mid 11) id.0 r.0 are.ordered r.1 (own_rowid id.0 r.0 r.3) in
+                  let row : r.0 ≡ x = sym same ∙ sym id.2 in
+                  other (hit_is there.0 p n (subst (λ y. list_any (is_child_of (work_of moves) y) moves ≡ true) row r.2)))
+            ],
+          )
     ];
   })
 
@@ -227,7 +226,7 @@ module _ (old new : State) (items after_items : Map (List ℕ) (List ℕ)) (sinc
 
   pub removed : Removed old new after_items after_since
   removed =
-      let ran = ran_delete_all (schema_of Two) delete_item params old new has 2 item refl item_plain (delete_item_is Two).plain count h (program (simple 4 by_first ids_only)) (delete_item_is Two).is in
+      let ran = ran_delete (schema_of Two) delete_item params old new has 2 item refl item_plain (delete_item_is Two).plain count h (program (simple 4 by_first ids_only)) (delete_item_is Two).is in
       let answer = ran.0 in
       let same : IsPermutation (map (shown ids_only params) (passing by_first params stored)) answer =
       subst (λ xs. IsPermutation (map (shown ids_only params) (passing by_first params xs)) answer) (none_over old.now.trees 4) (simple_rows 4 by_first ids_only (overlay old.now.trees []) params answer (ran.1.answer Null)) in

@@ -1,5 +1,5 @@
 -- What the texts of the migration mean, the one in schema 1 and the other in schema 2.
-use Rattle.std.proofs.Common.{◌≡◌, ℕ, pos, List, [], ◌∷◌, false, Ok, refl}
+use Rattle.std.proofs.Common.{◌≡◌, pos, List, [], ◌∷◌, false, Ok, refl}
 use Rattle.sqlite.specs.declared.types.Value.TheVariants.{Null, Int}
 use Rattle.sqlite.specs.Term.{Term, lit, col}
 use Rattle.sqlite.specs.Query.{Query as SqlQuery}

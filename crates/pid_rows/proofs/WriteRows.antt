@@ -183,7 +183,7 @@ module _ {numbers : Numbers} (old new : State) (c : Counts) (v : Views) (shows :
 pub item_removed : (old new : State) (c : Counts) (v : Views) → ShowsCounting c old.now v → (path : List ℕ) → Ran delete_item (Text path ∷ []) old new → ShowsCounting c new.now (without_item path v)
 item_removed old new c v shows path ran =
     let it = removed old new (λ p. name_at p v.items) (λ p. name_at p (without_item path v).items) (since_in v) (since_in (without_item path v)) path shows.schema shows.items shows.sinces
-        (λ p n is. let found = mapped_some (λ (name : List ℕ). v.since p) (name_at p v.items) n is in (found.0, found.1)) (name_left v.items path) (since_left v path) ran.0 ran.1 in
+    (λ p n is. let found = mapped_some (λ (name : List ℕ). v.since p) (name_at p v.items) n is in (found.0, found.1)) (name_left v.items path) (since_left v path) ran.0 ran.1 in
     record {
       schema = it.schema;
       sound = it.sound;
@@ -216,3 +216,10 @@ named_shows c n path name v db anew h = record {
 pub then_shows : {X P Q : Type 0} (r : Result X TableFault) → (P → Q) → MatchResult r (λ _. P) IsUntold → MatchResult r (λ _. Q) IsUntold
 then_shows (Ok x) f h = f h
 then_shows (Err e) f h = h
+
+pub since_there : (v : Views) (path : List ℕ) → IsSome (name_at path v.items) → IsSome (since_in v path)
+since_there v path there = go (name_at path v.items) there
+  where
+    go : (o : Option (List ℕ)) → IsSome o → IsSome (option_map (λ (name : List ℕ). v.since path) o)
+    go None h = absurd cc
+    go (Some name) h = h

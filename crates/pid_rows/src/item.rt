@@ -49,7 +49,7 @@ fn insert_since<S: Alter>(
     ensures shows { LeadsKeeping S.Store tx.old.conn.now tx.new.conn.now result (λ n v. n.since path.now ≡ None) (with_number path.now since) (λ v. v) }
 {
     let path = path.to_sql();
-    let since = stored(since)?.to_sql();
+    let since = stored(since)?;
     write_one(
         tx,
         "INSERT INTO item_since (path, since) VALUES (?1, ?2)",
@@ -102,7 +102,7 @@ fn update_since<S: Alter>(
     ensures shows { LeadsKeeping S.Store tx.old.conn.now tx.new.conn.now result (λ n v. IsSome (n.since path.now)) (with_number path.now since) (λ v. v) }
 {
     let path = path.to_sql();
-    let since = stored(since)?.to_sql();
+    let since = stored(since)?;
     write_one(
         tx,
         "UPDATE item_since SET since = ?2 WHERE path = ?1",

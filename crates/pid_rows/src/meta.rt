@@ -52,16 +52,13 @@ pub fn count_submissions<S: Alter>(
 }
 
 /// Writes how many commands were accepted. A number that 63 bits do not hold is refused with `Store`.
-pub fn set_revision<S: Alter>(
-    tx: &mut Transaction<'_, S>,
-    revision: u64,
-) -> Result<(), TableFault>
+pub fn set_revision<S: Alter>(tx: &mut Transaction<'_, S>, revision: u64) -> Result<(), TableFault>
     ensures same_reference { tx.new.conn.ghost_name ≡ tx.old.conn.ghost_name }
     ensures goes { GoesOn S.Store tx.old.conn.now tx.new.conn.now result }
     ensures shows { ChangesTo S.Store tx.old.conn.now tx.new.conn.now result (λ v. Unit {0}) (with_revision revision) }
 {
     let label = "revision".to_sql();
-    let value = stored(revision)?.to_sql();
+    let value = stored(revision)?;
     write_one(
         tx,
         "UPDATE meta SET value = ?2 WHERE label = ?1",

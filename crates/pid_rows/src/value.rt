@@ -1,8 +1,9 @@
 //! The values of a row as what they stand for. What breaks its rule is damage.
-ghost use Rattle.std.specs.Prelude.{◌≡◌, ℕ, pos, List, OnOk, IfOk, IfErr, MatchResult, string_bytes};
+ghost use Rattle.std.specs.Prelude.{◌≡◌, ℕ, List, OnOk, IfOk, IfErr, MatchResult, string_bytes};
 ghost use Rattle.std.specs.Str.{bytes_eq, is_utf8};
 ghost use Rattle.sqlite.specs.declared.types.Value.TheVariants.{Text as TextValue};
 ghost use Rattle.sqlite.specs.Order.{column};
+ghost use Rattle.sqlite_value.specs.Value.{owned};
 ghost use Rattle.pid_ident.specs.PathTexts.{IsTextOf, IsPath, path_text};
 ghost use Rattle.pid_ident.specs.Words.{is_name as name_rule, is_account as account_rule, is_text as text_rule};
 ghost use Rattle.pid_ident.specs.declared.path.Path.{Path as PathValue};
@@ -39,11 +40,11 @@ pub fn whole_at(row: &Row, at: usize) -> Result<u64, TableFault>
 }
 
 /// A number as SQLite holds it. One that 63 bits do not hold is refused with `Store`.
-pub(crate) fn stored(number: u64) -> Result<i64, TableFault>
-    ensures { MatchResult result (λ stored. stored ≡ pos number) IsUntold }
+pub(crate) fn stored<'a>(whole: u64) -> Result<ValueRef<'a>, TableFault>
+    ensures { MatchResult result (λ value. owned value ≡ number whole) IsUntold }
 {
-    match i64::try_from(number) {
-        Ok(stored) => Ok(stored),
+    match i64::try_from(whole) {
+        Ok(whole) => Ok(ValueRef::Int(whole)),
         Err(_) => Err(TableFault::Store),
     }
 }
