@@ -112,9 +112,10 @@ def beside(cases, folder):
     cases.equal("and its rows", asked(path, DUMP), AFTER)
 
 
-def stopped(cases, shim, name):
-    """A migration with its call number `at` refused: the file is of the one schema or of the other, with the same rows, and the next one takes it over."""
-    for at in range(1, 10_000):
+def stopped(cases, shim, name, step):
+    """A migration with one call refused, the first and every step-th behind it: the file is of the one schema or of the other, with the same rows, and the next one takes it over."""
+    refusals = 0
+    for at in range(1, 100_000, step):
         with tempfile.TemporaryDirectory(dir=ROOM) as folder:
             path = os.path.join(folder, "old.db")
             old_file(path)
@@ -133,10 +134,11 @@ def stopped(cases, shim, name):
             good = (found, again) in ((BEFORE, MOVED), (AFTER, ALREADY)) and (ran.returncode in (0, 3)) and (ran.returncode == 3 or found == AFTER)
             if not good or (asked(path, DUMP), work(b"", "export", "--db", path)) != (AFTER, EXPORTED):
                 cases.equal(f"{name} {at}: status {ran.returncode}", (found, again), (AFTER, ALREADY))
-                return at
+                return refusals
             if not was_refused:
                 cases.equal(f"{name}: none refused", (ran.stdout, ran.stderr, ran.returncode), MOVED)
-                return at - 1
+                return refusals
+            refusals += 1
 
 
 def run(cases):
@@ -148,12 +150,12 @@ def run(cases):
         by_other_words(cases, folder)
         not_taken_over(cases, folder)
         beside(cases, folder)
-        for name, least in (("refuse_disk", 10), ("refuse_malloc", 50)):
+        for name, step, least in (("refuse_disk", 1, 10), ("refuse_malloc", 11, 20)):
             shim = os.path.join(folder, f"{name}.so")
             source = os.path.join(os.path.dirname(os.path.abspath(__file__)), f"{name}.c")
             if shutil.which("gcc") is None or subprocess.run(["gcc", "-O1", "-shared", "-fPIC", source, "-o", shim, "-ldl"]).returncode != 0:
                 cases.skipped(f"a migration with {name}", "gcc could not build the shim")
                 continue
-            refusals = stopped(cases, shim, name)
+            refusals = stopped(cases, shim, name, step)
             print(f"{name}: {refusals} calls of a migration refused, one in each run")
             cases.equal(f"{name}: calls of a migration were refused", refusals >= least, True)
