@@ -7,6 +7,7 @@ use Rattle.std.specs.Str.Parse.{digits_value}
 use Rattle.pid_ident.specs.Bytes.{is_empty}
 use Rattle.pid_ident.specs.PathReading.{path_of}
 use Rattle.pid_ident.specs.declared.path.Path.{Path}
+use Rattle.pid_moderation.specs.CheckTables.{most_revision}
 use Rattle.pid_moderation.specs.Fields.{Fields, times, value}
 use Rattle.pid_moderation.specs.Forms.{number_in}
 use Rattle.pid_requests.specs.declared.format.Format.{Format}
@@ -67,9 +68,6 @@ above_said text = if is_empty text then Top else below (path_of text)
 -- 1 to 19 decimal digits without a zero in front
 abbrev pub is_long_number : List ℕ → Bool
 is_long_number text = not (is_empty text) && nat_le (length text) 19 && list_all is_ascii_digit text && not (slice_index text 0 == 48)
-
-abbrev pub most_revision : ℕ
-most_revision = 9000000000000000000
 
 -- the number of a change: 1 to the greatest revision
 abbrev pub revision_in : List ℕ → Option ℕ

@@ -8,9 +8,7 @@ ghost use Rattle.pid_moderation.specs.Fields.{texts_of, times as times_in, value
 ghost use Rattle.pid_moderation.specs.Forms.{number_in, is_plain_number as plain_number};
 ghost use Rattle.pid_requests.specs.Queries.{revision_in, is_long_number as long_number};
 
-use pid_moderation::SUBMISSIONS;
-
-const REVISIONS: u64 = 9_000_000_000_000_000_000;
+use pid_moderation::{REVISIONS, SUBMISSIONS};
 
 fn times_by_name(fields: &[(String, String)], name: &str) -> usize
     ensures { result ≡ count_by (λ f. bytes_eq (string_bytes f.0) name.now) fields.now }
