@@ -1,3 +1,5 @@
+pub mod Revisions
+pub mod Versions
 pub mod Conditions
 pub mod Reading
 pub mod PathSets
@@ -9,3 +11,5 @@ pub mod Checking
 pub mod Shapes
 pub mod Queries
 pub mod Clauses
+pub mod NumberSets
+pub mod Lacking

@@ -6,7 +6,7 @@ use Rattle.pid_rows.specs.declared.fault.TableFault.{TableFault}
 use Rattle.pid_rows.specs.Causes.{IsCaused, IsReadable}
 use Rattle.pid_rows.specs.Leaves.{AtRest}
 use Rattle.pid_table_check.specs.Shapes.{HasSomeTable}
-use Rattle.pid_table_check.proofs.Judging.{if_ok}
+use Rattle.pid_table_check.proofs.Each.{if_ok}
 use Rattle.pid_table_check.proofs.Asking.{some_table}
 use Rattle.pid_table_check.proofs.Complete.{complete, each_some}
 use Rattle.pid_table_check.proofs.shape.has_some_table.Goals as goal
