@@ -3,7 +3,8 @@ use Rattle.std.proofs.Common.{List, [], ◌∷◌, codes, refl, arith}
 use Rattle.sqlite.specs.Listing.{understood}
 use Rattle.sqlite_tied.specs.Compute.{everything}
 use Rattle.pid_rows.specs.Queries.{IsQuery}
-use Rattle.pid_rows.specs.Schema.{Two, schema_of, item_since}
+use Rattle.pid_rows.specs.declared.version.Version.TheVariants.{Two}
+use Rattle.pid_rows.specs.Schema.{schema_of, item_since}
 use Rattle.sqlite.specs.Table.{Table as Stored}
 use Rattle.sqlite_schema.specs.declared.schema.Index.{Index}
 use Rattle.pid_rows.proofs.QueryTexts.{IsOneAs, by_key}

@@ -1,5 +1,5 @@
 -- Each schema has its tables, and the empty one has none.
-use Rattle.std.proofs.Common.{◌≡◌, ℕ, List, [], ◌∷◌, ◌++◌, inl, inr, refl, sym, ap, subst, ◌∙◌, Ok, Err, Result}
+use Rattle.std.proofs.Common.{◌≡◌, ℕ, List, [], ◌∷◌, ◌++◌, inl, inr, refl, sym, subst, Ok, Err, Result}
 use Rattle.sqlite.specs.Listing.{understood, listing_schema}
 use Rattle.sqlite.specs.Schema.{Schema}
 use Rattle.sqlite.specs.Table.{Table as Stored}
@@ -11,7 +11,9 @@ use Rattle.sqlite_resolve.specs.declared.error.CompileError.{CompileError}
 use Rattle.sqlite_resolve.specs.declared.error.CompileError.TheVariants.{NoSuchTable}
 use Rattle.sqlite_tied.specs.Compute.{everything}
 use Rattle.sqlite_rules.specs.Lists.{Has}
-use Rattle.pid_rows.specs.Schema.{Version, One, Two, schema_of, no_schema, item_since, more_tables}
+use Rattle.pid_rows.specs.declared.version.Version.{Version}
+use Rattle.pid_rows.specs.declared.version.Version.TheVariants.{One, Two}
+use Rattle.pid_rows.specs.Schema.{schema_of, no_schema, item_since, more_tables}
 use Rattle.pid_table_check.specs.declared.shape.Table.{Table}
 use Rattle.pid_table_check.specs.declared.shape.Table.TheVariants.{Meta, Account, Item, Submission, Remark, Receipt, Since}
 use Rattle.pid_table_check.specs.Queries.{query_of, any_since}

@@ -1,11 +1,11 @@
 -- All conditions of rows that were read.
-use Rattle.std.proofs.Common.{◌≡◌, inl, inr, refl, ℕ, ◌≤◌, List, length, subst, codes, arith}
-use Rattle.sqlite.specs.Order.{Row}
+use Rattle.std.proofs.Common.{◌≡◌, inl, inr, refl, ℕ, ◌≤◌, length, subst, codes, arith}
 use Rattle.sqlite_rules.specs.Lists.{Has}
-use Rattle.pid_rows.specs.Schema.{Version, One, Two}
+use Rattle.pid_rows.specs.declared.version.Version.{Version}
+use Rattle.pid_rows.specs.declared.version.Version.TheVariants.{One, Two}
 use Rattle.pid_table_check.specs.Conditions.{Rows, label_row, AreAccounts, AreItems, AreLabels, AreSinces, AreCounted, AreOfRegistry}
 use Rattle.pid_table_check.specs.Reading.{IsSubmitted}
-use Rattle.pid_table_check.specs.Revisions.{most_revision}
+use Rattle.pid_moderation.specs.CheckTables.{most_revision}
 use Rattle.pid_table_check.proofs.LabelFacts.{same_revision}
 
 pub registry_made : (version : Version) (t : Rows) → AreAccounts t.accounts → AreItems t.items → AreCounted version t → IsSubmitted t → AreOfRegistry version t

@@ -1,14 +1,15 @@
 -- What makes rows of meta those of a registry.
 use Rattle.std.proofs.Common.{◌≡◌, inl, inr, ℕ, ◌<◌, ◌≤◌, List, [], ◌∷◌, length, get_or, refl, sym, ap, subst, ◌∙◌, codes}
-use Rattle.std.specs.List.{All, Any}
+use Rattle.std.specs.List.{All}
 use Rattle.sqlite.specs.declared.types.Value.TheVariants.{Text}
 use Rattle.sqlite.specs.Order.{Row, column}
 use Rattle.sqlite_rules.specs.Lists.{Has}
 use Rattle.pid_rows.specs.TableRows.{number}
-use Rattle.pid_rows.specs.Schema.{Version, One, Two, number_of}
+use Rattle.pid_rows.specs.declared.version.Version.{Version}
+use Rattle.pid_rows.specs.declared.version.Version.TheVariants.{One, Two}
 use Rattle.pid_table_check.specs.Conditions.{labels, label_row, IsNewer, AreLabels}
-use Rattle.pid_table_check.specs.Labels.{IsCount, IsLabelled, HasLabel, HasMore}
-use Rattle.pid_table_check.specs.Revisions.{most_revision}
+use Rattle.pid_table_check.specs.Labels.{IsLabelled, HasLabel, HasMore}
+use Rattle.pid_moderation.specs.CheckTables.{most_revision}
 use Rattle.pid_table_check.proofs.Each.{each_member, each_place, some_member, some_place, at_place}
 use Rattle.pid_table_check.proofs.ItemFacts.{two}
 

@@ -94,15 +94,17 @@ rows_shown table old new rows h =
     let it = subst (ShowsAnswer old new (query_of table) h.0 (at_time [] h.0.formats h.1.now) rows) is_plain.0 h.2 in
     record { query = h.0; is = h.1.is; source = it.0; from = it.1; answer = subst (λ formats. Reads h.0.command it.0 (at_time [] formats h.1.now) rows) is_plain.1 it.2 }
 
-pub answered : (table : Table) (old new : State) (r : Result (Vec Row Global) TableFault) → IfOk r (λ rows. Shown (query_of table) [] old new rows.items)
-    → ((schema : Schema) → old.now.schema ≡ schema → IsPlain (understood schema (query_of table)) → IfErr r IsUntold)
+pub answered : (table : Table) (sql : List ℕ) → sql ≡ query_of table → (old new : State) (r : Result (Vec Row Global) TableFault) → IfOk r (λ rows. Shown sql [] old new rows.items)
+    → ((schema : Schema) → old.now.schema ≡ schema → IsPlain (understood schema sql) → IfErr r IsUntold)
     → (d : Database) → old.now ≡ d → IsAsked d.schema (query_of table) → MatchResult r (λ rows. ShowsRows d (query_of table) rows.items × (new.now ≡ d)) IsUntold
-answered table old new (Ok rows) shown fault d is asked =
+answered table sql text old new (Ok rows) told fault d is asked =
+    let shown = subst (λ q. Shown q [] old new rows.items) text told in
     let plain = asked_plain table old.now.schema (subst (λ (x : Database). IsAsked x.schema (query_of table)) (sym is) asked) in (
       subst (λ (x : Database). ShowsRows x (query_of table) rows.items) is (rows_shown table old new rows.items shown),
       (shown_same (query_of table) [] old new rows.items plain shown).0.now_is ∙ is,
     )
-answered table old new (Err e) shown fault d is asked = fault d.schema (ap (λ (x : Database). x.schema) is) (asked_plain table d.schema asked)
+answered table sql text old new (Err e) told fault d is asked =
+    fault d.schema (ap (λ (x : Database). x.schema) is) (subst (λ q. IsPlain (understood d.schema q)) (sym text) (asked_plain table d.schema asked))
 
 pub later_shown : (db : Database) (rows : List Row) (o : Option ℕ) → ShowsRows db (query_of Meta) rows → IfSome o (λ n. IsNewer n rows) → IfNone o ((n : ℕ) → IsNewer n rows → ⊥) → ShowsLater db o
 later_shown db rows (Some n) shows found none = (rows, shows, found)

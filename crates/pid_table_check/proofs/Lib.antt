@@ -28,3 +28,4 @@ pub mod Judged
 pub mod Stored
 pub mod Later
 pub mod Telling
+pub mod SincesKept

@@ -1,5 +1,5 @@
 -- The conditions hold of rows in any order.
-use Rattle.std.proofs.Common.{◌≡◌, ℕ, ◌≤◌, List, length, sym, subst, subst₂, arith}
+use Rattle.std.proofs.Common.{ℕ, List, length, sym, subst₂, arith}
 use Rattle.std.specs.List.Sorted.{IsPermutation}
 use Rattle.std.proofs.lemmas.List.Sorted.{IsPermutation-sym, length_permutation}
 use Rattle.sqlite.specs.declared.types.Value.{Value}
@@ -9,8 +9,9 @@ use Rattle.pid_moderation.specs.declared.facts.State.{State}
 use Rattle.pid_moderation.specs.declared.facts.State.TheVariants.{Pending, Approved, Rejected, Withdrawn}
 use Rattle.pid_moderation.specs.declared.command.Reply.{Reply}
 use Rattle.pid_moderation.specs.declared.command.Reply.TheVariants.{Done, Numbered, Counts}
-use Rattle.pid_rows.specs.Schema.{Version, One, Two}
-use Rattle.pid_table_check.specs.Conditions.{Rows, HasValue, IsItemRow, AreAccounts, AreItems, HasRemark, AreRemarks, AreLabels, IsDecided, IsSubmissionRow, AreSubmissions, IsOwn, IsReceiptRow, AreReceipts, AreSinces, AreNumbered, AreCounted, AreOfRegistry}
+use Rattle.pid_rows.specs.declared.version.Version.{Version}
+use Rattle.pid_rows.specs.declared.version.Version.TheVariants.{One, Two}
+use Rattle.pid_table_check.specs.Conditions.{Rows, HasValue, IsItemRow, AreAccounts, AreItems, HasRemark, AreRemarks, AreLabels, IsDecided, IsSubmissionRow, AreSubmissions, IsOwn, AreReceipts, AreSinces, AreNumbered, AreOfRegistry}
 
 pub value_moved : (xs ys : List Row) → IsPermutation xs ys → (at : ℕ) (v : Value) → HasValue xs at v → HasValue ys at v
 value_moved xs ys p at v h = (h.0, permuted xs ys h.0 p h.1, h.2)

@@ -1,15 +1,14 @@
 -- What makes rows of item_since go with the items and the revision.
-use Rattle.std.proofs.Common.{◌≡◌, ℕ, ◌≤◌, List, [], ◌∷◌, length, true, refl, sym, ap, subst, ◌∙◌, Some}
+use Rattle.std.proofs.Common.{◌≡◌, ℕ, ◌≤◌, List, [], ◌∷◌, length, true, sym, ap, subst, ◌∙◌}
 use Rattle.std.specs.List.{All}
 use Rattle.std.specs.BTreeSet.{BTreeSet, contains}
 use Rattle.sqlite.specs.declared.types.Value.TheVariants.{Text}
 use Rattle.sqlite.specs.Order.{Row, column}
-use Rattle.sqlite_rules.specs.Lists.{Has}
 use Rattle.pid_ident.specs.declared.path.Path.{Path}
 use Rattle.pid_ident.specs.PathTexts.{IsPath, path_text, path_cmp}
 use Rattle.pid_rows.specs.TableRows.{number}
 use Rattle.pid_tree.proofs.Kin.{same_path}
-use Rattle.pid_table_check.specs.Conditions.{HasItem, IsSinceRow, AreSinces}
+use Rattle.pid_table_check.specs.Conditions.{IsSinceRow, AreSinces}
 use Rattle.pid_table_check.specs.PathSets.{ArePathsOf, HasPathIn}
 use Rattle.pid_table_check.proofs.Each.{each_member, each_place}
 use Rattle.pid_table_check.proofs.ItemFacts.{two, texts_same}

@@ -1,6 +1,6 @@
 -- What the queries answer where the tables were made first: the rows that storage has, in some order.
 use Rattle.std.specs.Prelude.{nat_le, unwrap_or, ◌-◌, ◌^◌}
-use Rattle.std.proofs.Common.{slice_get, cond, ◌≡◌, ℕ, List, [], ◌∷◌, ◌++◌, map, true, false, None, Ok, Err, Result, refl, sym, ap, subst, subst₂, ◌∙◌}
+use Rattle.std.proofs.Common.{slice_get, cond, ◌≡◌, ℕ, List, [], ◌∷◌, ◌++◌, map, true, false, None, refl, sym, ap, subst, subst₂, ◌∙◌}
 use Rattle.std.specs.List.Sorted.{IsPermutation}
 use Rattle.sqlite.specs.declared.types.Value.TheVariants.{Null}
 use Rattle.sqlite.specs.Order.{Row}
@@ -12,7 +12,9 @@ use Rattle.sqlite.specs.Effect.{Database, Reads}
 use Rattle.sqlite.specs.Schema.{Schema}
 use Rattle.sqlite.specs.Command.TheVariants.{Select}
 use Rattle.sqlite.proofs.Callers.{command_of}
-use Rattle.pid_rows.specs.Schema.{Version, One, Two, more_tables}
+use Rattle.pid_rows.specs.declared.version.Version.{Version}
+use Rattle.pid_rows.specs.declared.version.Version.TheVariants.{One, Two}
+use Rattle.pid_rows.specs.Schema.{more_tables}
 use Rattle.pid_rows.proofs.Statements.{IsSelect, program, simple}
 use Rattle.pid_rows.proofs.Select.{passing, shown, simple_rows}
 use Rattle.pid_table_check.specs.Conditions.{Rows, rows_in, AreOfRegistry}
@@ -20,7 +22,7 @@ use Rattle.pid_table_check.specs.Checking.{ShowsRegistry, ShowsDamage}
 use Rattle.pid_table_check.specs.Shapes.{IsMadeFirst, ShowsRows, ShowsSinces, ShowsTables}
 use Rattle.pid_table_check.proofs.Complete.{as_six}
 use Rattle.pid_table_check.proofs.Moved.{AreSame, SameSinces, rows_moved, backwards}
-use Rattle.pid_table_check.proofs.WholeTexts.{six_first, meta_is, account_is, item_is, submission_is, remark_is, receipt_is, since_is}
+use Rattle.pid_table_check.proofs.WholeTexts.{meta_is, account_is, item_is, submission_is, remark_is, receipt_is, since_is}
 
 all_pass : (rows : List Row) → passing [] [] rows ≡ rows
 all_pass [] = refl

@@ -1,25 +1,25 @@
 -- What is told of a database, put together.
-use Rattle.std.proofs.Common.{◌≡◌, inl, inr, ℕ, List, [], ◌∷◌, Option, Some, None, Ok, Err, Result, MatchResult, codes, refl, sym, ap, subst, ◌∙◌, ◌<◌, arith}
-use Rattle.std.specs.Prelude.{◌↔◌, option_map, ◌++◌}
+use Rattle.std.proofs.Common.{◌≡◌, inl, inr, ℕ, List, Option, Some, None, Bool, true, false, Ok, Err, Result, MatchResult, codes, refl, sym, ap, subst, ◌∙◌, ◌<◌, arith}
+use Rattle.std.specs.Prelude.{◌↔◌, ◌++◌}
 use Rattle.std.proofs.lemmas.List.Sorted.{IsPermutation-sym}
 use Rattle.sqlite.specs.Effect.{Database}
 use Rattle.sqlite.specs.Order.{Row}
 use Rattle.sqlite.specs.Schema.{Schema}
 use Rattle.sqlite_rules.specs.Lists.{Has}
-use Rattle.pid_rows.specs.Schema.{Version, One, Two, more_tables}
+use Rattle.pid_rows.specs.declared.version.Version.{Version}
+use Rattle.pid_rows.specs.declared.version.Version.TheVariants.{One, Two}
+use Rattle.pid_rows.specs.Schema.{more_tables}
 use Rattle.pid_rows.specs.declared.fault.TableFault.{TableFault}
 use Rattle.pid_rows.specs.declared.fault.TableFault.TheVariants.{Memory, Store, NewerSchema, Damaged}
 use Rattle.pid_rows.specs.Faults.{IsUntold}
 use Rattle.pid_rows.proofs.TurnLemmas.{permuted}
 use Rattle.pid_table_check.specs.declared.shape.Table.TheVariants.{Meta}
-use Rattle.pid_table_check.specs.declared.version.Version.{Version as Found}
 use Rattle.pid_table_check.specs.Checking.{Explains, Finds, IsRegistry, ShowsRegistry}
-use Rattle.pid_table_check.specs.Conditions.{Rows, rows_in, labels, label_row, IsNewer, AreLabels, AreOfRegistry}
+use Rattle.pid_table_check.specs.Conditions.{Rows, rows_in, labels, label_row, IsNewer, AreOfRegistry}
 use Rattle.pid_table_check.specs.Lacking.{ExplainsLater}
 use Rattle.pid_table_check.specs.Queries.{query_of}
 use Rattle.pid_table_check.specs.Reading.{ShowsFound, TellsDamage, TellsLater}
-use Rattle.pid_table_check.specs.Shapes.{HasEachTable, HasSomeTable, HasNoTable, HasTables, HasTablesOf, IsMadeFirst, ShowsRows, ShowsLater}
-use Rattle.pid_table_check.specs.Versions.{version_of}
+use Rattle.pid_table_check.specs.Shapes.{HasEachTable, HasSomeTable, HasTables, HasTablesOf, IsMadeFirst, ShowsRows, ShowsLater}
 use Rattle.pid_table_check.proofs.Complete.{as_six, each_some, tables_each}
 use Rattle.pid_table_check.proofs.LabelFacts.{label_first, one_number}
 use Rattle.pid_table_check.proofs.ItemFacts.{texts_same}
@@ -38,16 +38,16 @@ untold_later version d (NewerSchema n) h = absurd h
 untold_later version d Damaged h = absurd h
 
 -- no later schema was shown, and then the rest
-pub rest_told : (found : Found) (d : Database) (Q : Type 0) (r : Result (Unit {0}) TableFault) → ShowsLater d None → MatchResult r (λ x. ShowsRegistry (version_of found) d × Q) (TellsDamage (version_of found) d)
-    → MatchResult r (λ x. ShowsFound (Some found) d × Q) (TellsLater (Some (version_of found)) d)
+pub rest_told : (found : Version) (d : Database) (Q : Type 0) (r : Result (Unit {0}) TableFault) → ShowsLater d None → MatchResult r (λ x. ShowsRegistry found d × Q) (TellsDamage found d)
+    → MatchResult r (λ x. ShowsFound (Some found) d × Q) (TellsLater (Some found) d)
 rest_told found d Q (Ok x) none h = ((h.0, none), h.1)
 rest_told found d Q (Err e) none h = go e h
   where
-    go : (e : TableFault) → TellsDamage (version_of found) d e → TellsLater (Some (version_of found)) d e
+    go : (e : TableFault) → TellsDamage found d e → TellsLater (Some found) d e
     go Memory h = tt
     go Store h = tt
     go (NewerSchema n) h = absurd h
-    go Damaged h = (none, λ it same. subst (λ v. TellsDamage v d Damaged) (let is : version_of found ≡ it = cc in is) h)
+    go Damaged h = (none, λ it same. subst (λ v. TellsDamage v d Damaged) (let is : found ≡ it = cc in is) h)
 
 -- the tables are those of one schema alone
 both : (a b : Version) (schema : Schema) → HasTables a schema → HasTables b schema → a ≡ b
@@ -60,33 +60,33 @@ same_version : (o : Option Version) (schema : Schema) (it : Version) → HasTabl
 same_version None schema it none has = absurd (none it has)
 same_version (Some version) schema it one has = ap Some (both version it schema one has)
 
-module _ (d : Database) (found : Option Found) (each : HasEachTable d.schema) (has : HasTablesOf (option_map version_of found) d.schema) where
-  pub explained : (e : TableFault) → TellsLater (option_map version_of found) d e → Explains d e
+module _ (d : Database) (found : Option Version) (each : HasEachTable d.schema) (has : HasTablesOf found d.schema) where
+  pub explained : (e : TableFault) → TellsLater found d e → Explains d e
   explained Memory h = tt
   explained Store h = tt
   explained (NewerSchema n) h = h
-  explained Damaged h = (each_some d.schema each, λ asked. h.0, λ it there. h.1 it (same_version (option_map version_of found) d.schema it has there))
+  explained Damaged h = (each_some d.schema each, λ asked. h.0, λ it there. h.1 it (same_version found d.schema it has there))
 
-pub finds : (d : Database) (found : Option Found) → HasTablesOf (option_map version_of found) d.schema → ShowsFound found d → Finds d found
+pub finds : (d : Database) (found : Option Version) → HasTablesOf found d.schema → ShowsFound found d → Finds d found
 finds d None has h = absurd h
 finds d (Some found) has h = (has, h.0, h.1)
 
 -- a is the database at first, b after it was asked for the six tables, c after it was asked for the seventh
-module _ (a b c : Database) (found : Option Found) (one : b ≡ a) (two : c ≡ b) (each : HasEachTable a.schema) (of : HasEachTable b.schema → HasTablesOf (option_map version_of found) b.schema) where
-  has : HasTablesOf (option_map version_of found) a.schema
-  has = subst (λ (d : Database). HasTablesOf (option_map version_of found) d.schema) one (of (subst (λ (d : Database). HasEachTable d.schema) (sym one) each))
+module _ (a b c : Database) (found : Option Version) (one : b ≡ a) (two : c ≡ b) (each : HasEachTable a.schema) (of : HasEachTable b.schema → HasTablesOf found b.schema) where
+  has : HasTablesOf found a.schema
+  has = subst (λ (d : Database). HasTablesOf found d.schema) one (of (subst (λ (d : Database). HasEachTable d.schema) (sym one) each))
 
   back : (P : Database → Type 0) → P a → P c
   back P h = subst P (sym (two ∙ one)) h
 
-  pub whole_fault : (e : TableFault) → (HasEachTable c.schema → HasTablesOf (option_map version_of found) c.schema → TellsLater (option_map version_of found) c e) → Explains a e
+  pub whole_fault : (e : TableFault) → (HasEachTable c.schema → HasTablesOf found c.schema → TellsLater found c e) → Explains a e
   whole_fault e told =
-      let late = told (back (λ d. HasEachTable d.schema) each) (back (λ d. HasTablesOf (option_map version_of found) d.schema) has) in
-      explained a found each has e (subst (λ d. TellsLater (option_map version_of found) d e) (two ∙ one) late)
+      let late = told (back (λ d. HasEachTable d.schema) each) (back (λ d. HasTablesOf found d.schema) has) in
+      explained a found each has e (subst (λ d. TellsLater found d e) (two ∙ one) late)
 
-  pub whole_found : (HasEachTable c.schema → HasTablesOf (option_map version_of found) c.schema → ShowsFound found c) → Finds a found
+  pub whole_found : (HasEachTable c.schema → HasTablesOf found c.schema → ShowsFound found c) → Finds a found
   whole_found told =
-      let late = told (back (λ d. HasEachTable d.schema) each) (back (λ d. HasTablesOf (option_map version_of found) d.schema) has) in
+      let late = told (back (λ d. HasEachTable d.schema) each) (back (λ d. HasTablesOf found d.schema) has) in
       finds a found has (subst (λ d. ShowsFound found d) (two ∙ one) late)
 
 pub lacked : (d : Database) (e : TableFault) → HasSomeTable d.schema → ¬ (HasEachTable d.schema) → ExplainsLater d e → Explains d e
@@ -125,16 +125,20 @@ module _ (d : Database) (version : Version) (first : IsMadeFirst version d.schem
   never (NewerSchema n) h good = no_later version (rows_in d.trees) good.rows n (newer_stored h.0 n h.1 h.2)
   never Damaged h good = never_damaged version d first good.rows (h.2 version good.tables)
 
-  is_found : (found : Option Found) → Finds d found → (option_map version_of found ≡ Some version) ↔ IsRegistry version d
+  is_found : (found : Option Version) → Finds d found → (found ≡ Some version) ↔ IsRegistry version d
   is_found None h = (λ same. absurd cc, λ good. absurd (h (each_some d.schema (tables_each version d.schema good.tables))))
   is_found (Some found) h = (
     λ same.
-        let is : version_of found ≡ version = cc in
+        let is : found ≡ version = cc in
         record { tables = subst (λ v. HasTables v d.schema) is h.0; rows = registry_stored version d first (subst (λ v. ShowsRegistry v d) is h.1) },
-    λ good. ap Some (both (version_of found) version d.schema h.0 good.tables),
+    λ good. ap Some (both found version d.schema h.0 good.tables),
   )
 
-pub told_stored : (d : Database) (r : Result (Option Found) TableFault) → MatchResult r (Finds d) (Explains d) → (version : Version) → IsMadeFirst version d.schema
-    → MatchResult r (λ found. (option_map version_of found ≡ Some version) ↔ IsRegistry version d) (λ e. IsRegistry version d → IsUntold e)
+pub told_stored : (d : Database) (r : Result (Option Version) TableFault) → MatchResult r (Finds d) (Explains d) → (version : Version) → IsMadeFirst version d.schema
+    → MatchResult r (λ found. (found ≡ Some version) ↔ IsRegistry version d) (λ e. IsRegistry version d → IsUntold e)
 told_stored d (Ok found) h version first = is_found d version first found h
 told_stored d (Err e) h version first = never d version first e h
+
+pub off_on : (b : Bool) → b ≡ false → b ≡ true → ⊥
+off_on true off on = cc
+off_on false off on = cc

@@ -1,15 +1,13 @@
 -- What the whole check tells.
-use Rattle.std.specs.Prelude.{ℕ, Option, Some, None}
+use Rattle.std.specs.Prelude.{Option, Some, None}
 use Rattle.sqlite.specs.Effect.{Database}
-use Rattle.pid_rows.specs.Schema.{Version}
+use Rattle.pid_rows.specs.declared.version.Version.{Version}
 use Rattle.pid_rows.specs.declared.fault.TableFault.{TableFault}
 use Rattle.pid_rows.specs.declared.fault.TableFault.TheVariants.{Memory, Store, NewerSchema, Damaged}
-use Rattle.pid_table_check.specs.declared.version.Version.{Version as Found}
 use Rattle.pid_table_check.specs.Conditions.{Rows, rows_in, AreOfRegistry}
 use Rattle.pid_table_check.specs.Queries.{query_of}
-use Rattle.pid_table_check.specs.Shapes.{HasTables, HasTablesOf, HasSomeTable, HasNoTable, IsAsked, ShowsTables, ShowsLater}
+use Rattle.pid_table_check.specs.Shapes.{HasTables, HasSomeTable, HasNoTable, IsAsked, ShowsTables, ShowsLater}
 use Rattle.pid_table_check.specs.declared.shape.Table.TheVariants.{Meta}
-use Rattle.pid_table_check.specs.Versions.{version_of}
 
 -- the rows that the tables of a schema show are those of a registry, or are not
 abbrev pub ShowsRegistry : Version → Database → Type 0
@@ -19,9 +17,9 @@ abbrev pub ShowsDamage : Version → Database → Type 0
 ShowsDamage version db = (t : Rows) × ShowsTables version db t × ¬ (AreOfRegistry version t)
 
 -- A database of which nothing is there is told as none. One in a schema has its tables, which show a registry, and no later schema.
-abbrev pub Finds : Database → Option Found → Type 0
+abbrev pub Finds : Database → Option Version → Type 0
 Finds db None = HasNoTable db.schema
-Finds db (Some found) = HasTables (version_of found) db.schema × ShowsRegistry (version_of found) db × ShowsLater db None
+Finds db (Some found) = HasTables found db.schema × ShowsRegistry found db × ShowsLater db None
 
 -- A later schema is judged before all else. Damaged is told where there is some table, and where the tables of a schema are there,
 -- of rows that are not a registry's.

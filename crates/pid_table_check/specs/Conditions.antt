@@ -14,9 +14,11 @@ use Rattle.pid_moderation.specs.declared.command.Reply.TheVariants.{Done, Number
 use Rattle.pid_moderation.specs.declared.facts.State.{State}
 use Rattle.pid_moderation.specs.declared.facts.State.TheVariants.{Pending, Approved, Rejected, Withdrawn}
 use Rattle.pid_moderation.specs.CheckTables.{most_items, most_remarks}
-use Rattle.pid_table_check.specs.Revisions.{most_revision}
+use Rattle.pid_moderation.specs.CheckTables.{most_revision}
 use Rattle.pid_moderation.specs.WellMade.{ProposesName}
-use Rattle.pid_rows.specs.Schema.{Version, One, Two, number_of}
+use Rattle.pid_rows.specs.declared.version.Version.{Version}
+use Rattle.pid_rows.specs.declared.version.Version.TheVariants.{One, Two}
+use Rattle.pid_rows.specs.Schema.{number_of}
 use Rattle.pid_rows.specs.TableRows.{number, Standing, kind_of, first_of, second_of, third_of}
 use Rattle.pid_rows.specs.Answers.{standing_row}
 

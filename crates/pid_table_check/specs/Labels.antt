@@ -2,7 +2,8 @@
 use Rattle.std.specs.Prelude.{◌≡◌, ◌⊎◌, ℕ, List, codes}
 use Rattle.std.specs.List.{Any}
 use Rattle.sqlite.specs.Order.{Row}
-use Rattle.pid_rows.specs.Schema.{Version, One, Two}
+use Rattle.pid_rows.specs.declared.version.Version.{Version}
+use Rattle.pid_rows.specs.declared.version.Version.TheVariants.{One, Two}
 use Rattle.pid_table_check.specs.Conditions.{label_row}
 
 -- one of the three labels that each schema has, with its number

@@ -1,5 +1,3 @@
-pub mod Revisions
-pub mod Versions
 pub mod Conditions
 pub mod Reading
 pub mod PathSets

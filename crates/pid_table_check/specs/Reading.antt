@@ -4,18 +4,14 @@ use Rattle.std.specs.declared.alloc.Global.{Global}
 use Rattle.sqlite.specs.Effect.{Database}
 use Rattle.sqlite.specs.Order.{Row}
 use Rattle.sqlite.specs.State.{State, HasCleanDisk}
-use Rattle.pid_rows.specs.Schema.{Version}
+use Rattle.pid_rows.specs.declared.version.Version.{Version}
 use Rattle.pid_rows.specs.declared.fault.TableFault.{TableFault}
 use Rattle.pid_rows.specs.declared.fault.TableFault.TheVariants.{Memory, Store, NewerSchema, Damaged}
 use Rattle.pid_rows.specs.Faults.{IsUntold}
-use Rattle.pid_table_check.specs.declared.shape.Table.TheVariants.{Meta}
 use Rattle.pid_table_check.specs.declared.tables.Tables.{Tables}
 use Rattle.pid_table_check.specs.Conditions.{Rows, AreSubmissions, AreRemarks, AreReceipts}
-use Rattle.pid_table_check.specs.Queries.{query_of}
-use Rattle.pid_table_check.specs.Shapes.{IsAsked, HasTables, ShowsRows, ShowsTables, ShowsLater}
+use Rattle.pid_table_check.specs.Shapes.{IsAsked, ShowsRows, ShowsLater}
 use Rattle.pid_table_check.specs.Checking.{ShowsRegistry, ShowsDamage}
-use Rattle.pid_table_check.specs.declared.version.Version.{Version as Found}
-use Rattle.pid_table_check.specs.Versions.{version_of}
 
 -- the rows that were read
 abbrev pub rows_of : Tables → Rows
@@ -56,6 +52,6 @@ TellsLater version d (NewerSchema n) = ShowsLater d (Some n)
 TellsLater version d Damaged = ShowsLater d None × ((it : Version) → version ≡ Some it → ShowsDamage it d)
 
 -- the tables are those of a schema and show a registry, and no later schema
-abbrev pub ShowsFound : Option Found → Database → Type 0
+abbrev pub ShowsFound : Option Version → Database → Type 0
 ShowsFound None d = ⊥
-ShowsFound (Some found) d = ShowsRegistry (version_of found) d × ShowsLater d None
+ShowsFound (Some found) d = ShowsRegistry found d × ShowsLater d None

@@ -1,7 +1,7 @@
 //! The check of all tables: first which are there, and then their rows in one transaction that is rolled back.
-ghost use Rattle.std.specs.Prelude.{◌≡◌, ◌↔◌, false, None, Some, option_map, MatchResult};
+ghost use Rattle.std.specs.Prelude.{◌≡◌, ◌↔◌, false, None, Some, MatchResult};
 ghost use Rattle.pid_rows.specs.Faults.{IsUntold};
-ghost use Rattle.pid_rows.specs.Schema.{Version as Schema};
+ghost use Rattle.pid_rows.specs.declared.version.Version.{Version as Schema};
 ghost use Rattle.pid_rows.specs.Clauses.{GoesOn, HasCleanDisk, OnlyReads, is_open, seen};
 ghost use Rattle.pid_table_check.specs.declared.shape.Table.TheVariants.{Meta};
 ghost use Rattle.pid_table_check.specs.Checking.{Explains, Finds, IsRegistry, ShowsRegistry};
@@ -9,7 +9,6 @@ ghost use Rattle.pid_table_check.specs.Clauses.{Tells};
 ghost use Rattle.pid_table_check.specs.Queries.{query_of};
 ghost use Rattle.pid_table_check.specs.Reading.{ShowsFound, TellsDamage, TellsLater};
 ghost use Rattle.pid_table_check.specs.Shapes.{HasEachTable, HasTables, HasTablesOf, IsMadeFirst, ShowsLater, ShowsRows};
-ghost use Rattle.pid_table_check.specs.Versions.{version_of};
 
 use crate::judging::are_of_registry;
 use crate::lacking::check_lacking;
@@ -17,8 +16,7 @@ use crate::meta::newer;
 use crate::read::table_rows;
 use crate::shape::{Table, has_each_table, has_some_table, tables_of};
 use crate::tables::read_tables;
-use crate::version::Version;
-use pid_rows::TableFault;
+use pid_rows::{TableFault, Version};
 use sqlite::{Alter, Connection, Row, Transaction};
 use std::alloc::Global;
 
@@ -31,8 +29,8 @@ fn check_rows<S: Alter>(
     ensures same_reference { tx.new.conn.ghost_name ≡ tx.old.conn.ghost_name }
     ensures goes { GoesOn S.Store tx.old.conn.now tx.new.conn.now result }
     ensures told { Tells S.Store tx.old.conn.now tx.new.conn.now result
-        (λ d. HasTables (version_of version) d.schema × ShowsRows d (query_of Meta) meta.items)
-        (λ d x. ShowsRegistry (version_of version) d) (TellsDamage (version_of version)) }
+        (λ d. HasTables version d.schema × ShowsRows d (query_of Meta) meta.items)
+        (λ d x. ShowsRegistry version d) (TellsDamage version) }
 {
     let tables = read_tables(tx, alloc, version, meta)?;
     let good = are_of_registry(&tables, version, alloc)?;
@@ -51,8 +49,8 @@ fn check_tables<S: Alter>(
     ensures same_reference { tx.new.conn.ghost_name ≡ tx.old.conn.ghost_name }
     ensures goes { GoesOn S.Store tx.old.conn.now tx.new.conn.now result }
     ensures told { Tells S.Store tx.old.conn.now tx.new.conn.now result
-        (λ d. HasEachTable d.schema × HasTablesOf (option_map version_of version) d.schema)
-        (λ d x. ShowsFound version d) (TellsLater (option_map version_of version)) }
+        (λ d. HasEachTable d.schema × HasTablesOf version d.schema)
+        (λ d x. ShowsFound version d) (TellsLater version) }
 {
     let meta = table_rows(tx, Table::Meta)?;
     if let Some(number) = newer(meta.as_slice()) {
@@ -72,8 +70,8 @@ fn check_whole<S: Alter>(
 ) -> Result<(), TableFault>
     requires { conn.old.in_transaction ≡ false }
     ensures rests { OnlyReads S.Store conn.old conn.new }
-    ensures told { HasCleanDisk S.Store conn.new → HasEachTable (seen S.Store conn.old).schema → HasTablesOf (option_map version_of version) (seen S.Store conn.old).schema
-        → MatchResult result (λ x. ShowsFound version (seen S.Store conn.old)) (TellsLater (option_map version_of version) (seen S.Store conn.old)) }
+    ensures told { HasCleanDisk S.Store conn.new → HasEachTable (seen S.Store conn.old).schema → HasTablesOf version (seen S.Store conn.old).schema
+        → MatchResult result (λ x. ShowsFound version (seen S.Store conn.old)) (TellsLater version (seen S.Store conn.old)) }
 {
     let mut tx = conn.transaction();
     check_tables(&mut tx, alloc, version)
@@ -98,8 +96,8 @@ pub fn check<S: Alter>(
     ensures told { HasCleanDisk S.Store conn.new → MatchResult result (Finds (seen S.Store conn.old)) (Explains (seen S.Store conn.old)) }
     // Where the tables of a schema were made first, whatever else stands behind them: it finds the schema exactly where storage has a
     // registry in it.
-    ensures stored { HasCleanDisk S.Store conn.new → (schema : Schema) → IsMadeFirst schema (seen S.Store conn.old).schema
-        → MatchResult result (λ found. (option_map version_of found ≡ Some schema) ↔ IsRegistry schema (seen S.Store conn.old)) (λ fault. IsRegistry schema (seen S.Store conn.old) → IsUntold fault) }
+    ensures stored { HasCleanDisk S.Store conn.new → (version : Schema) → IsMadeFirst version (seen S.Store conn.old).schema
+        → MatchResult result (λ found. (found ≡ Some version) ↔ IsRegistry version (seen S.Store conn.old)) (λ fault. IsRegistry version (seen S.Store conn.old) → IsUntold fault) }
 {
     if has_each_table(conn)? {
         let version = tables_of(conn)?;

@@ -1,10 +1,9 @@
 //! All conditions, on rows that were read.
 ghost use Rattle.std.specs.Prelude.{◌↔◌, length, IsTrue, IfOk, IfErr};
 ghost use Rattle.pid_rows.specs.Faults.{IsUntold};
-ghost use Rattle.pid_rows.specs.Schema.{Two};
+ghost use Rattle.pid_rows.specs.declared.version.Version.TheVariants.{Two};
 ghost use Rattle.pid_table_check.specs.Conditions.{AreAccounts, AreLabels, AreCounted, AreOfRegistry};
 ghost use Rattle.pid_table_check.specs.Reading.{rows_of, IsSubmitted};
-ghost use Rattle.pid_table_check.specs.Versions.{version_of};
 
 use crate::account::are_accounts;
 use crate::item::are_items;
@@ -14,16 +13,21 @@ use crate::remark::are_remarks;
 use crate::since::are_sinces;
 use crate::submission::are_submissions;
 use crate::tables::Tables;
-use crate::version::Version;
-use pid_rows::TableFault;
+use pid_rows::{TableFault, Version};
 use std::alloc::Global;
 
 fn have_labels(tables: &Tables, version: Version, revision: u64) -> bool
-    ensures { IsTrue result ↔ AreLabels (version_of version) (length tables.now.items.items) (length tables.now.submissions.items) revision tables.now.meta.items }
+    ensures { IsTrue result ↔ AreLabels version (length tables.now.items.items) (length tables.now.submissions.items) revision tables.now.meta.items }
 {
     let items = tables.items.len() as u64;
     let submissions = tables.submissions.len() as u64;
-    are_labels(tables.meta.as_slice(), version, items, submissions, revision)
+    are_labels(
+        tables.meta.as_slice(),
+        version,
+        items,
+        submissions,
+        revision,
+    )
 }
 
 // Whether they are counted, and changes numbered, in schema 2.
@@ -42,7 +46,7 @@ fn are_numbered(tables: &Tables, alloc: Global) -> Result<bool, TableFault>
 }
 
 fn are_counted(tables: &Tables, version: Version, alloc: Global) -> Result<bool, TableFault>
-    ensures judged { IfOk result (λ good. IsTrue good ↔ AreCounted (version_of version) (rows_of tables.now)) }
+    ensures judged { IfOk result (λ good. IsTrue good ↔ AreCounted version (rows_of tables.now)) }
     ensures untold { IfErr result IsUntold }
 {
     match version {
@@ -71,7 +75,7 @@ pub(crate) fn are_of_registry(
     version: Version,
     alloc: Global,
 ) -> Result<bool, TableFault>
-    ensures judged { IfOk result (λ good. IsTrue good ↔ AreOfRegistry (version_of version) (rows_of tables.now)) }
+    ensures judged { IfOk result (λ good. IsTrue good ↔ AreOfRegistry version (rows_of tables.now)) }
     ensures untold { IfErr result IsUntold }
 {
     if !are_accounts(tables.accounts.as_slice()) {

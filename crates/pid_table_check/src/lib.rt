@@ -19,10 +19,8 @@ mod since;
 mod submission;
 mod tables;
 mod value;
-mod version;
 mod words;
 
 pub use checking::check;
 pub use laws::{schemas_have_tables, shown_tables_are_registries, sound_histories_are_registries};
 pub use shape::has_some_table;
-pub use version::Version;

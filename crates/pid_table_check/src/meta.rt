@@ -6,15 +6,12 @@ ghost use Rattle.sqlite.specs.Order.{column};
 ghost use Rattle.sqlite_rules.specs.Lists.{Has};
 ghost use Rattle.pid_table_check.specs.Conditions.{label_row, IsNewer, AreLabels};
 ghost use Rattle.pid_table_check.specs.Labels.{IsCount, IsLabelled, HasMore};
-ghost use Rattle.pid_table_check.specs.Revisions.{most_revision};
-ghost use Rattle.pid_table_check.specs.Versions.{version_of};
+ghost use Rattle.pid_moderation.specs.CheckTables.{most_revision};
 
 use crate::value::{number_at, text_at};
-use crate::version::Version;
+use pid_moderation::REVISIONS;
+use pid_rows::Version;
 use sqlite::Row;
-
-// The limit of the revision.
-const REVISIONS: u64 = 9_000_000_000_000_000_000;
 
 fn has_label(row: &Row, label: &str) -> bool
     ensures { IsTrue result ↔ (column row.now 0 ≡ TextValue label.now) }
@@ -77,7 +74,13 @@ fn revision(row: &Row) -> Option<u64>
     ensures none { IfNone result ((n : ℕ) → n ≤ most_revision → row.now ≡ label_row (codes "revision", n) → ⊥) }
 {
     match labelled(row, "revision") {
-        Some(number) => { if number <= REVISIONS { Some(number) } else { None } }
+        Some(number) => {
+            if number <= REVISIONS {
+                Some(number)
+            } else {
+                None
+            }
+        }
         None => None,
     }
 }
@@ -104,7 +107,7 @@ fn is_count(row: &Row, schema: u64, items: u64, submissions: u64) -> bool
 }
 
 fn is_label(row: &Row, version: Version, items: u64, submissions: u64, revision: u64) -> bool
-    ensures { IsTrue result ↔ IsLabelled (version_of version) items submissions revision row.now }
+    ensures { IsTrue result ↔ IsLabelled version items submissions revision row.now }
 {
     match version {
         Version::One => is_count(row, 1, items, submissions),
@@ -121,14 +124,14 @@ fn have(rows: &[Row], label: &str, number: u64) -> bool
 }
 
 fn are_each(rows: &[Row], version: Version, items: u64, submissions: u64, revision: u64) -> bool
-    ensures { IsTrue result ↔ All (IsLabelled (version_of version) items submissions revision) rows.now }
+    ensures { IsTrue result ↔ All (IsLabelled version items submissions revision) rows.now }
 {
     rows.iter()
         .all(|row| is_label(row, version, items, submissions, revision))
 }
 
 fn have_more(rows: &[Row], version: Version, revision: u64) -> bool
-    ensures { IsTrue result ↔ HasMore (version_of version) revision rows.now }
+    ensures { IsTrue result ↔ HasMore version revision rows.now }
 {
     match version {
         Version::One => have(rows, "schema", 1),
@@ -145,7 +148,7 @@ pub(crate) fn are_labels(
     submissions: u64,
     revision: u64,
 ) -> bool
-    ensures { IsTrue result ↔ AreLabels (version_of version) items submissions revision rows.now }
+    ensures { IsTrue result ↔ AreLabels version items submissions revision rows.now }
 {
     if !are_each(rows, version, items, submissions, revision) {
         return false;

@@ -1,5 +1,5 @@
 //! Which tables of the schema a database has.
-ghost use Rattle.std.specs.Prelude.{◌≡◌, ◌↔◌, ◌<◌, [], length, option_map, false, true, IsTrue, IfOk, IfErr, OnOk};
+ghost use Rattle.std.specs.Prelude.{◌≡◌, ◌↔◌, ◌<◌, [], length, false, true, IsTrue, IfOk, IfErr, OnOk};
 ghost use Rattle.std.specs.List.{All, Any};
 ghost use Rattle.sqlite.specs.Held.{state};
 ghost use Rattle.pid_rows.specs.Faults.{fault_of, IsUntold};
@@ -8,12 +8,10 @@ ghost use Rattle.pid_moderation.specs.Views.{Views};
 ghost use Rattle.pid_rows.specs.Queries.{IsQuery};
 ghost use Rattle.pid_rows.specs.Schema.{pid_schema};
 ghost use Rattle.pid_table_check.specs.Shapes.{IsAsked, HasEachTable, HasSomeTable, HasTablesOf};
-ghost use Rattle.pid_table_check.specs.Versions.{version_of};
 ghost use Rattle.pid_table_check.specs.Queries.{query_of};
 ghost use Rattle.pid_rows.specs.Clauses.{AtRest, HasCleanDisk, IsCaused, OnlyReads, Tells, is_open, seen};
 
-use crate::version::Version;
-use pid_rows::TableFault;
+use pid_rows::{TableFault, Version};
 use sqlite::{Alter, Connection, Error};
 
 // No text is refused as damage but one that is not understood.
@@ -155,14 +153,12 @@ pub fn has_some_table<S: Alter>(conn: &mut Connection<S>) -> Result<bool, TableF
 }
 
 /// Of which schema the tables are, where each of the six is there.
-pub(crate) fn tables_of<S: Alter>(
-    conn: &mut Connection<S>,
-) -> Result<Option<Version>, TableFault>
+pub(crate) fn tables_of<S: Alter>(conn: &mut Connection<S>) -> Result<Option<Version>, TableFault>
     requires { conn.old.in_transaction ≡ false }
     ensures rests { OnlyReads S.Store conn.old conn.new }
     ensures same { HasCleanDisk S.Store conn.new → IfOk result (λ found. (seen S.Store conn.new) ≡ (seen S.Store conn.old)) }
     ensures found { HasCleanDisk S.Store conn.new → HasEachTable (seen S.Store conn.old).schema
-        → IfOk result (λ found. HasTablesOf (option_map version_of found) (seen S.Store conn.old).schema) }
+        → IfOk result (λ found. HasTablesOf found (seen S.Store conn.old).schema) }
     ensures untold { IfErr result IsUntold }
 {
     if !can_ask(conn, ANY_SINCE)? {

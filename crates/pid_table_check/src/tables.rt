@@ -7,13 +7,11 @@ ghost use Rattle.pid_table_check.specs.declared.shape.Table.TheVariants.{Meta, A
 ghost use Rattle.pid_table_check.specs.Queries.{query_of};
 ghost use Rattle.pid_table_check.specs.Shapes.{HasTables, HasEachTable, ShowsRows, ShowsSinces, ShowsTables};
 ghost use Rattle.pid_table_check.specs.Reading.{rows_of};
-ghost use Rattle.pid_table_check.specs.Versions.{version_of};
 ghost use Rattle.pid_table_check.specs.Clauses.{Tells};
 
 use crate::read::table_rows;
 use crate::shape::Table;
-use crate::version::Version;
-use pid_rows::TableFault;
+use pid_rows::{TableFault, Version};
 use sqlite::{Alter, Row, Transaction};
 use std::alloc::Global;
 
@@ -37,8 +35,8 @@ fn read_items<S: Alter>(
 ) -> Result<(Vec<Row>, Vec<Row>), TableFault>
     ensures same_reference { tx.new.conn.ghost_name ≡ tx.old.conn.ghost_name }
     ensures goes { GoesOn S.Store tx.old.conn.now tx.new.conn.now result }
-    ensures told { Tells S.Store tx.old.conn.now tx.new.conn.now result (λ d. HasTables (version_of version) d.schema)
-        (λ d rows. ShowsRows d (query_of Item) rows.0.items × ShowsSinces (version_of version) d rows.1.items) (λ d. IsUntold) }
+    ensures told { Tells S.Store tx.old.conn.now tx.new.conn.now result (λ d. HasTables version d.schema)
+        (λ d rows. ShowsRows d (query_of Item) rows.0.items × ShowsSinces version d rows.1.items) (λ d. IsUntold) }
 {
     let items = table_rows(tx, Table::Item)?;
     match version {
@@ -50,9 +48,7 @@ fn read_items<S: Alter>(
     }
 }
 
-fn read_submitted<S: Alter>(
-    tx: &mut Transaction<'_, S>,
-) -> Result<(Vec<Row>, Vec<Row>), TableFault>
+fn read_submitted<S: Alter>(tx: &mut Transaction<'_, S>) -> Result<(Vec<Row>, Vec<Row>), TableFault>
     ensures same_reference { tx.new.conn.ghost_name ≡ tx.old.conn.ghost_name }
     ensures goes { GoesOn S.Store tx.old.conn.now tx.new.conn.now result }
     ensures told { Tells S.Store tx.old.conn.now tx.new.conn.now result (λ d. HasEachTable d.schema)
@@ -63,9 +59,7 @@ fn read_submitted<S: Alter>(
     Ok((submissions, remarks))
 }
 
-fn read_accounts<S: Alter>(
-    tx: &mut Transaction<'_, S>,
-) -> Result<(Vec<Row>, Vec<Row>), TableFault>
+fn read_accounts<S: Alter>(tx: &mut Transaction<'_, S>) -> Result<(Vec<Row>, Vec<Row>), TableFault>
     ensures same_reference { tx.new.conn.ghost_name ≡ tx.old.conn.ghost_name }
     ensures goes { GoesOn S.Store tx.old.conn.now tx.new.conn.now result }
     ensures told { Tells S.Store tx.old.conn.now tx.new.conn.now result (λ d. HasEachTable d.schema)
@@ -86,8 +80,8 @@ pub(crate) fn read_tables<S: Alter>(
     ensures same_reference { tx.new.conn.ghost_name ≡ tx.old.conn.ghost_name }
     ensures goes { GoesOn S.Store tx.old.conn.now tx.new.conn.now result }
     ensures told { Tells S.Store tx.old.conn.now tx.new.conn.now result
-        (λ d. HasTables (version_of version) d.schema × ShowsRows d (query_of Meta) meta.items)
-        (λ d tables. ShowsTables (version_of version) d (rows_of tables)) (λ d. IsUntold) }
+        (λ d. HasTables version d.schema × ShowsRows d (query_of Meta) meta.items)
+        (λ d tables. ShowsTables version d (rows_of tables)) (λ d. IsUntold) }
 {
     let (accounts, receipts) = read_accounts(tx)?;
     let (items, sinces) = read_items(tx, alloc, version)?;

@@ -1,4 +1,4 @@
-use Rattle.std.proofs.Common.{Ok, sym, subst, ◌∙◌}
+use Rattle.std.proofs.Common.{Ok, subst, ◌∙◌}
 use Rattle.sqlite.specs.Effect.{Database}
 use Rattle.sqlite.specs.Held.{state}
 use Rattle.pid_rows.proofs.CauseLemmas.{passed_on}
@@ -6,7 +6,7 @@ use Rattle.pid_rows.proofs.OnlyReading.{reads_then}
 use Rattle.pid_table_check.specs.Checking.{Explains}
 use Rattle.pid_table_check.specs.Lacking.{ExplainsLater}
 use Rattle.pid_table_check.specs.Shapes.{HasSomeTable}
-use Rattle.pid_table_check.proofs.Telling.{whole_fault, whole_found, lacked, told_stored}
+use Rattle.pid_table_check.proofs.Telling.{whole_fault, whole_found, lacked, told_stored, off_on}
 use Rattle.pid_table_check.proofs.checking.check.Goals as goal
 
 pub returns-in_err-check_whole-clause-told : goal.returns-in_err-check_whole-clause-told
@@ -50,6 +50,5 @@ returns-in_err-check_lacking-clause-told g c clean =
     let one = c.in_ok-has_each_table.ensures.same mid in
     let two = c.in_ok-has_some_table.ensures.same late in
     let some = subst (λ (x : Database). HasSomeTable x.schema) one ((c.in_ok-has_some_table.ensures.asked late).0 c.if-branch-2.true) in
-    let off = c.if-branch.false in
     passed_on c.from_residual-in_err-check_lacking.result _ _ (Explains a) c.from_residual-in_err-check_lacking.ensures.1
-    (lacked a _ some (λ each. let on = (c.in_ok-has_each_table.ensures.asked mid).1 each in absurd cc) (subst (λ (x : Database). ExplainsLater x _) (two ∙ one) (c.in_err-check_lacking.ensures.told clean)))
+    (lacked a _ some (λ each. off_on _ c.if-branch.false ((c.in_ok-has_each_table.ensures.asked mid).1 each)) (subst (λ (x : Database). ExplainsLater x c.in_err-check_lacking.field-0.0) (two ∙ one) (c.in_err-check_lacking.ensures.told clean)))
