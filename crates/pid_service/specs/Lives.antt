@@ -12,7 +12,6 @@ use Rattle.pid_moderation.specs.Sound.{IsSound}
 use Rattle.pid_moderation.specs.Writes.{tree_of}
 use Rattle.pid_lives.specs.Calls.{Call, nothing_sent, obeyed}
 use Rattle.pid_lives.specs.CrashPrefix.{IsAfterPrefixes}
-use Rattle.pid_lives.specs.Registries.{Showing}
 use Rattle.pid_rows.specs.declared.fault.TableFault.{TableFault}
 use Rattle.pid_rows.specs.Clauses as clauses
 use Rattle.pid_tables.specs.Clauses.{IsOpened, ShowsOrBlank}
@@ -20,6 +19,7 @@ use Rattle.pid_service.specs.declared.importing.ImportEnd.{ImportEnd}
 use Rattle.pid_service.specs.declared.importing.ImportEnd.TheVariants.{Refused, Body}
 use Rattle.pid_service.specs.declared.registry.Registry.{Registry}
 use Rattle.pid_service.specs.Histories.{IsReached, Shows, FailsBetween}
+pub use Rattle.pid_service.specs.Histories.{showing}
 use Rattle.pid_service.specs.Opening.{Opens}
 use Rattle.pid_service.specs.Registries.{HasCleanDisk}
 
@@ -30,10 +30,6 @@ import_sent c (Err (Refused e)) live = obeyed c (Err e) live
 import_sent c (Err Body) live = nothing_sent
 
 module _ {S : Type 0} (store : Ghosts S) where
-  -- how lives see a registry
-  abbrev pub showing : Showing (Registry S store)
-  showing = record { is_clean = HasCleanDisk store; shows = Shows store; fails_between = FailsBetween store }
-
   -- what an open after a crash at this moment may find
   abbrev pub may_leave : Held S → Trees → Type 0
   may_leave conn = (state store conn).may_leave
