@@ -5,6 +5,7 @@ pub mod Judging
 pub mod Obeying
 pub mod Importing
 pub mod Exporting
+pub mod Stub
 pub mod Opening
 pub mod Asking
 pub mod Lives

@@ -7,20 +7,25 @@ use Rattle.pid_ident.specs.Trees.{TreeMap}
 use Rattle.pid_tree.specs.Printing.{print}
 use Rattle.pid_reader.specs.Reading.{Reads}
 use Rattle.pid_moderation.specs.declared.command.Reply.{Reply}
-use Rattle.pid_moderation.specs.History.{Asked, History}
+use Rattle.pid_moderation.specs.History.{Asked, History, new_history}
+use Rattle.pid_moderation.specs.Views.{views_of}
 use Rattle.pid_moderation.specs.Sound.{IsSound}
 use Rattle.pid_moderation.specs.Writes.{tree_of}
 use Rattle.pid_lives.specs.Calls.{Call, nothing_sent, obeyed}
 use Rattle.pid_lives.specs.CrashPrefix.{IsAfterPrefixes}
 use Rattle.pid_rows.specs.declared.fault.TableFault.{TableFault}
 use Rattle.pid_rows.specs.Clauses as clauses
-use Rattle.pid_tables.specs.Clauses.{IsOpened, ShowsOrBlank}
+use Rattle.pid_tables.specs.Clauses.{IsBlank, IsOpened}
+use Rattle.pid_service.specs.declared.below.Step.{Step}
+use Rattle.pid_service.specs.declared.below.Step.TheVariants.{Created, Moved, Already}
+use Rattle.pid_service.specs.declared.below.Version.TheVariants.{One}
+use Rattle.pid_service.specs.Stub.{rests_in as RestsIn, shows_or_blank as ShowsOrBlank}
 use Rattle.pid_service.specs.declared.importing.ImportEnd.{ImportEnd}
 use Rattle.pid_service.specs.declared.importing.ImportEnd.TheVariants.{Refused, Body}
 use Rattle.pid_service.specs.declared.registry.Registry.{Registry}
 use Rattle.pid_service.specs.Histories.{IsReached, Shows, FailsBetween}
 pub use Rattle.pid_service.specs.Histories.{showing}
-use Rattle.pid_service.specs.Opening.{Opens}
+use Rattle.pid_service.specs.Opening.{Moves, Opens}
 use Rattle.pid_service.specs.Registries.{HasCleanDisk}
 
 -- an import whose file comes as an input sends its command, unless the input failed
@@ -53,6 +58,12 @@ module _ {S : Type 0} (store : Ghosts S) where
         (λ r. HasCleanDisk store r → clauses.HasCleanDisk store conn)
         (λ e. clauses.HasCleanDisk store e.1 → clauses.HasCleanDisk store conn)
     pub opened : (h : History) → IsReached h → ShowsOrBlank store conn h → Opens store result h
+
+  -- `migrate` was called on a connection and answered this: its clauses `created`, `moved` and `already`
+  pub record MovesTo (conn : Held S) (result : Result (Held S × Step) (TableFault × Held S)) : Type 0 where
+    pub created : IsBlank store conn → Moves store Created result new_history
+    pub moved : (h : History) → IsReached h → RestsIn store One conn (views_of h) → Moves store Moved result h
+    pub already : (h : History) → IsReached h → clauses.AtRest store conn (views_of h) → Moves store Already result h
 
   -- a registry shows the history after the one at the start and a prefix of the commands of each life, told by its calls
   pub record ShowsPrefixes (r : Registry S store) (start : History) (calls : List (List Call)) : Type 0 where

@@ -1,6 +1,7 @@
 //! The registry: each command is one transaction on its tables.
 #![tactic(auto)]
 
+mod below;
 mod closing;
 mod exporting;
 mod forgetting;
@@ -21,10 +22,11 @@ pub use exporting::ExportFault;
 pub use importing::ImportEnd;
 pub use laws::{commands_lead_on, reached_histories_are_kept};
 pub use lives::{
-    clauses_meet_lives, first_openings_show_nothing, openings_find_histories,
+    clauses_meet_lives, first_openings_show_what_is_there, migrations_keep_histories, openings_find_histories,
     reopened_registries_show_prefixes, repeats_end_doubts,
 };
-pub use opening::open;
+pub use below::{Below, Step, Version};
+pub use opening::{migrate, open};
 pub use registry::Registry;
 pub use running::RunReport;
 

@@ -1,0 +1,10 @@
+use Rattle.std.proofs.Common.{◌≡◌, Some, Option, false, true, refl, sym, ◌∙◌}
+use Rattle.sqlite.specs.Held.{state}
+use Rattle.pid_moderation.specs.Views.{views_of}
+use Rattle.pid_service.specs.declared.below.Version.TheVariants.{Two}
+use Rattle.pid_service.proofs.Opened.{not_today, rests_in_two}
+use Rattle.pid_service.proofs.opening.judge_tables.Goals as goal
+
+pub returns-in-Err-clause-good : goal.returns-in-Err-clause-good
+returns-in-Err-clause-good g c clean h sound rest =
+    c.in-Err.ensures.good clean h sound Two (rests_in_two (state g.S.Store c.args.tables.now.conn) (views_of h) rest)
