@@ -1,11 +1,11 @@
 -- What an opened database is, by what it was.
-use Rattle.std.proofs.Common.{◌≡◌, ◌⊎◌, inl, inr, [], Option, Some, None, Result, Ok, Err, IfErr, MatchResult, refl, rules, sym, subst}
+use Rattle.std.proofs.Common.{◌≡◌, ◌⊎◌, inl, inr, [], Bool, true, false, IsTrue, Option, Some, None, Result, Ok, Err, IfErr, MatchResult, refl, rules, sym, subst}
 use Rattle.sqlite.specs.State.{State, HasCleanDisk}
 use Rattle.sqlite.specs.Effect.{Database}
 use Rattle.pid_moderation.specs.History.{History, new_history}
 use Rattle.pid_moderation.specs.Views.{Views, views_of}
 use Rattle.pid_rows.specs.declared.fault.TableFault.{TableFault}
-use Rattle.pid_rows.specs.declared.fault.TableFault.TheVariants.{Store}
+use Rattle.pid_rows.specs.declared.fault.TableFault.TheVariants.{Memory, Store, NewerSchema, Damaged}
 use Rattle.pid_rows.specs.Faults.{IsUntold}
 use Rattle.pid_rows.specs.Shows.{Shows}
 use Rattle.pid_rows.specs.Leaves.{AtRest, OnlyReads, as_found}
@@ -17,7 +17,6 @@ use Rattle.pid_service.specs.declared.below.Step.TheVariants.{Created, Moved, Al
 use Rattle.pid_service.specs.declared.below.Version.{Version}
 use Rattle.pid_service.specs.declared.below.Version.TheVariants.{One, Two}
 use Rattle.pid_service.specs.Stub.{Explains, Finds, RestsIn, ShowsOrBlank}
-use Rattle.pid_service.specs.Stub as leaves
 use Rattle.pid_service.specs.KeptNames.{AreNamesOf}
 use Rattle.pid_service.specs.Opening.{IsFound, LeavesShown}
 use Rattle.pid_rows.proofs.OnlyReading.{reads_then}
@@ -27,8 +26,8 @@ use Rattle.pid_rows.proofs.OnlyReading.{reads_then}
 pub rest_leaves : (s : State) (h : History) → AtRest s (views_of h) → LeavesShown s h
 rest_leaves s h rest = record { each = λ clean db may. inl (Two, rest.leaves.each clean db may) }
 
-pub either_leaves : (s : State) (h : History) → leaves.LeavesShown s (views_of h) → LeavesShown s h
-either_leaves s h left = record { each = λ clean db may. inl (left.each clean db may) }
+pub older_leaves : (s : State) (h : History) → RestsIn One s (views_of h) → LeavesShown s h
+older_leaves s h older = record { each = λ clean db may. inl (older.leaves.each clean db may) }
 
 pub made_leaves : (s : State) (h : History) → LeavesBareOrNew s → h ≡ new_history → LeavesShown s h
 made_leaves s h left none = record {
@@ -40,7 +39,7 @@ made_leaves s h left none = record {
 
 pub shown_leaves : (s : State) (h : History) → ShowsOrBlank s h → LeavesShown s h
 shown_leaves s h (inl rest) = rest_leaves s h rest
-shown_leaves s h (inr (inl older)) = either_leaves s h older.leaves
+shown_leaves s h (inr (inl older)) = older_leaves s h older
 shown_leaves s h (inr (inr blank)) = record { each = λ clean db may. inr (blank.0.leaves clean db may, blank.1) }
 
 -- what a step tells where the tables were not there, were in schema 1, and were in the schema of today
@@ -56,9 +55,9 @@ step_rests s t h step (inr (inl older)) steps = (steps.moved older).1
 step_rests s t h step (inr (inr blank)) steps = subst (λ (g : History). AtRest t (views_of g)) (sym blank.1) (steps.created blank.0).1
 
 pub step_leaves : (s t : State) (h : History) (e : TableFault) → ShowsOrBlank s h
-    → Steps s h (IsUntold e × LeavesBareOrNew t) (IsUntold e × leaves.LeavesShown t (views_of h)) (IsUntold e × AtRest t (views_of h)) → IsUntold e × LeavesShown t h
+    → Steps s h (IsUntold e × LeavesBareOrNew t) (IsUntold e × RestsIn One t (views_of h)) (IsUntold e × AtRest t (views_of h)) → IsUntold e × LeavesShown t h
 step_leaves s t h e (inl rest) steps = let so = steps.already rest in (so.0, rest_leaves t h so.1)
-step_leaves s t h e (inr (inl older)) steps = let so = steps.moved older in (so.0, either_leaves t h so.1)
+step_leaves s t h e (inr (inl older)) steps = let so = steps.moved older in (so.0, older_leaves t h so.1)
 step_leaves s t h e (inr (inr blank)) steps = let so = steps.created blank.0 in (so.0, made_leaves t h so.1 blank.1)
 
 -- tables at rest were judged
@@ -76,26 +75,49 @@ not_today d (Some Two) finds some other = absurd (other refl)
 not_today d (Some One) finds some other = inr finds
 
 -- where there is some table: a migration before the judgement leaves them, or found a registry in schema 1
+
 abbrev Found : State → State → Step → Type 0
-Found old mid step = ((step ≡ Already) × OnlyReads old mid × (mid.now ≡ old.now)) ⊎ ((step ≡ Moved) × Finds old.now (Some One))
+Found old mid step = ((step ≡ Already) × OnlyReads old mid) ⊎ ((step ≡ Moved) × Finds old.now (Some One))
 
 abbrev Judged : {X : Type 0} → Database → Result X TableFault → Type 0
 Judged d r = MatchResult r (λ x. Finds d (Some Two)) (λ e. Explains d e ⊎ Finds d (Some One))
 
-same_judged : {X : Type 0} (old new : State) (r : Result X TableFault) → OnlyReads old new → Judged old.now r → MatchResult r (λ x. IsFound old.now) (λ e. (Explains old.now e × OnlyReads old new) ⊎ Finds old.now (Some One))
+abbrev IsReady : {X : Type 0} → State → State → Result X TableFault → Type 0
+IsReady old new r = MatchResult r (λ x. IsFound old.now) (λ e. (Explains old.now e × OnlyReads old new) ⊎ Finds old.now (Some One))
+
+untold_explains : (d : Database) (e : TableFault) → IsUntold e → Explains d e
+untold_explains d Memory untold = tt
+untold_explains d Store untold = tt
+untold_explains d (NewerSchema n) untold = absurd untold
+untold_explains d Damaged untold = absurd untold
+
+seen_still : (old new : State) → (IsTrue old.is_open → old.now ≡ old.committed) → OnlyReads old new → IsTrue new.is_open → new.now ≡ old.now
+seen_still old new settled reads = (reads.same old.now (record { sees = λ opened. refl; committed = λ opened. sym (settled opened) })).sees
+
+same_judged : {X : Type 0} (old new : State) (r : Result X TableFault) → OnlyReads old new → Judged old.now r → IsReady old new r
 same_judged old new (Ok x) reads judged = (Two, judged)
 same_judged old new (Err e) reads (inl explains) = inl (explains, reads)
 same_judged old new (Err e) reads (inr found) = inr found
 
-moved_found : {X : Type 0} (old new : State) (r : Result X TableFault) → Finds old.now (Some One) → MatchResult r (λ x. IsFound old.now) (λ e. (Explains old.now e × OnlyReads old new) ⊎ Finds old.now (Some One))
+shut_judged : {X : Type 0} (old new : State) (r : Result X TableFault) → OnlyReads old new → MatchResult r (λ x. ⊥) IsUntold → IsReady old new r
+shut_judged old new (Ok x) reads untold = absurd untold
+shut_judged old new (Err e) reads untold = inl (untold_explains old.now e untold, reads)
+
+moved_found : {X : Type 0} (old new : State) (r : Result X TableFault) → Finds old.now (Some One) → IsReady old new r
 moved_found old new (Ok x) found = (One, found)
 moved_found old new (Err e) found = inr found
 
-pub told_then : {X : Type 0} (old mid new : State) (r : Result X TableFault) (step : Step) → HasSomeTable old.now.schema → OnlyReads mid new → (HasSomeTable mid.now.schema → Judged mid.now r) → Found old mid step
-    → MatchResult r (λ x. IsFound old.now) (λ e. (Explains old.now e × OnlyReads old new) ⊎ Finds old.now (Some One))
-told_then old mid new r step some reads judged (inl (is, before, same)) =
-    same_judged old new r (reads_then old mid new before reads) (subst (λ (d : Database). HasSomeTable d.schema → Judged d r) same judged some)
-told_then old mid new r step some reads judged (inr (is, found)) = moved_found old new r found
+open_or_shut : (b : Bool) → (b ≡ true) ⊎ (b ≡ false)
+open_or_shut true = inl refl
+open_or_shut false = inr refl
+
+pub told_then : {X : Type 0} (old mid new : State) (r : Result X TableFault) (step : Step) → (IsTrue old.is_open → old.now ≡ old.committed) → HasSomeTable old.now.schema → OnlyReads mid new
+    → (mid.is_open ≡ false → MatchResult r (λ x. ⊥) IsUntold) → (HasSomeTable mid.now.schema → Judged mid.now r) → Found old mid step → IsReady old new r
+told_then old mid new r step settled some reads shut judged (inl (is, before)) = elim (open_or_shut mid.is_open) [
+  | inl opened ↦ same_judged old new r (reads_then old mid new before reads) (subst (λ (d : Database). HasSomeTable d.schema → Judged d r) (seen_still old mid settled before opened) judged some)
+  | inr closed ↦ shut_judged old new r (reads_then old mid new before reads) (shut closed)
+]
+told_then old mid new r step settled some reads shut judged (inr (is, found)) = moved_found old new r found
 
 -- a step of the opening, said of the connections around it
 pub moved : {X : Type 0} (P : X → X → Type 0) {a a' b b' : X} → a ≡ a' → b' ≡ b → P a b → P a' b'

@@ -2,13 +2,13 @@
 ghost use Rattle.std.specs.Prelude.{◌≡◌, ◌⊎◌, false, Option, Some, MatchResult};
 ghost use Rattle.pid_moderation.specs.History.{History, new_history};
 ghost use Rattle.pid_moderation.specs.Sound.{IsSound};
-ghost use Rattle.pid_moderation.specs.Views.{views_of};
+ghost use Rattle.pid_moderation.specs.Views.{Views, views_of};
 ghost use Rattle.pid_rows.specs.Clauses.{AtRest, HasCleanDisk, OnlyReads, is_open, seen};
 ghost use Rattle.pid_rows.specs.Faults.{IsUntold};
 ghost use Rattle.pid_table_check.specs.Shapes.{HasNoTable, HasSomeTable};
 ghost use Rattle.pid_tables.specs.Clauses.{IsBlank, IsMet, LeavesBareOrNew};
 ghost use Rattle.pid_tables.specs.Creation.{IsOfMaking};
-ghost use Rattle.pid_service.specs.Stub.{Explains, Finds, leaves_shown as LeavesShown, rests_in as RestsIn};
+ghost use Rattle.pid_service.specs.Stub.{Explains, Finds, rests_in as RestsIn};
 ghost use Rattle.pid_service.specs.declared.below.Version.TheVariants as versions;
 
 use pid_tables::{TableFault, Tables};
@@ -38,11 +38,11 @@ pub trait Below {
         ensures created { HasCleanDisk S.Store conn.new → IsBlank S.Store conn.old
             → MatchResult result (λ step. (step ≡ Step.Created) × AtRest S.Store conn.new (views_of new_history)) (λ e. IsUntold e × LeavesBareOrNew S.Store conn.new) }
         ensures moved { HasCleanDisk S.Store conn.new → (h : History) → IsSound h → RestsIn S.Store versions.One conn.old (views_of h)
-            → MatchResult result (λ step. (step ≡ Step.Moved) × AtRest S.Store conn.new (views_of h)) (λ e. IsUntold e × LeavesShown S.Store conn.new (views_of h)) }
-        ensures already { HasCleanDisk S.Store conn.new → (h : History) → IsSound h → AtRest S.Store conn.old (views_of h)
-            → MatchResult result (λ step. (step ≡ Step.Already) × AtRest S.Store conn.new (views_of h)) (λ e. IsUntold e × AtRest S.Store conn.new (views_of h)) }
+            → MatchResult result (λ step. (step ≡ Step.Moved) × AtRest S.Store conn.new (views_of h)) (λ e. IsUntold e × RestsIn S.Store versions.One conn.new (views_of h)) }
+        ensures already { HasCleanDisk S.Store conn.new → (v : Views) → AtRest S.Store conn.old v
+            → MatchResult result (λ step. (step ≡ Step.Already) × OnlyReads S.Store conn.old conn.new) (λ e. IsUntold e × OnlyReads S.Store conn.old conn.new) }
         ensures found { HasCleanDisk S.Store conn.new → HasSomeTable (seen S.Store conn.old).schema → MatchResult result
-            (λ step. ((step ≡ Step.Already) × OnlyReads S.Store conn.old conn.new × (seen S.Store conn.new ≡ seen S.Store conn.old)) ⊎ ((step ≡ Step.Moved) × Finds (seen S.Store conn.old) (Some versions.One)))
+            (λ step. ((step ≡ Step.Already) × OnlyReads S.Store conn.old conn.new) ⊎ ((step ≡ Step.Moved) × Finds (seen S.Store conn.old) (Some versions.One)))
             (λ e. (Explains (seen S.Store conn.old) e × OnlyReads S.Store conn.old conn.new) ⊎ Finds (seen S.Store conn.old) (Some versions.One)) }
         ensures met { HasCleanDisk S.Store conn.new → HasNoTable (seen S.Store conn.old).schema → IsMet S.Store conn.old → MatchResult result (λ _. ⊥) (λ e. IsOfMaking e × OnlyReads S.Store conn.old conn.new) }
         ensures shut { HasCleanDisk S.Store conn.new → is_open S.Store conn.old ≡ false → MatchResult result (λ _. ⊥) (λ e. IsUntold e × OnlyReads S.Store conn.old conn.new) };

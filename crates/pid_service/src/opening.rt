@@ -36,6 +36,7 @@ fn judge_tables<B: Below, S: Alter + Drop>(tables: &mut Tables<S>, alloc: Global
     requires { tables.old.conn.in_transaction ≡ false }
     ensures rests { OnlyReads S.Store tables.old.conn tables.new.conn }
     ensures good { HasCleanDisk S.Store tables.new.conn → (h : History) → IsSound h → AtRest S.Store tables.old.conn (views_of h) → IfErr result IsUntold }
+    ensures shut { HasCleanDisk S.Store tables.new.conn → is_open S.Store tables.old.conn ≡ false → MatchResult result (λ _. ⊥) IsUntold }
     ensures told { HasCleanDisk S.Store tables.new.conn → HasSomeTable (seen S.Store tables.old.conn).schema
         → MatchResult result (λ _. Finds (seen S.Store tables.old.conn) (Some Two)) (λ e. Explains (seen S.Store tables.old.conn) e ⊎ Finds (seen S.Store tables.old.conn) (Some One)) }
 {
@@ -65,6 +66,8 @@ fn make_ready<B: Below, S: Alter + Drop>(tables: &mut Tables<S>, alloc: Global) 
     ensures shut { HasCleanDisk S.Store tables.new.conn → is_open S.Store tables.old.conn ≡ false → MatchResult result (λ _. ⊥) (λ e. IsUntold e × OnlyReads S.Store tables.old.conn tables.new.conn) }
 {
     reached_histories_are_kept();
+    // Outside a transaction nothing is uncommitted, so that both see the same.
+    let _settled = tables.conn.is_autocommit();
     match B::migrate(&mut tables.conn, alloc) {
         Err(fault) => Err(fault),
         Ok(_) => judge_tables::<B, S>(tables, alloc),
