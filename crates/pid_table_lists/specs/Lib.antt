@@ -1,6 +1,7 @@
 pub mod PendingRows
 pub mod Discussions
 pub mod PendingPages
+pub mod ChangePages
 pub mod Children
 pub mod EachItem
 pub mod Clauses
