@@ -13,7 +13,8 @@ use Rattle.pid_moderation.specs.FactsOfViews.{facts_of}
 use Rattle.pid_moderation.specs.CheckTables.{checks, first_failing, is_ill_formed, reply_to}
 use Rattle.pid_moderation.specs.Judgement.{judged, judge, answer, added, unless, Outcome, Refused, Repeated, Accepts}
 use Rattle.pid_moderation.specs.Effects.{change_by, new_pairs, Decides, LeadsOn}
-use Rattle.pid_moderation.proofs.Changing.{changing}
+use Rattle.pid_moderation.specs.Revisions.{IsMarked}
+use Rattle.pid_moderation.proofs.Changing.{changing, unchanged}
 
 pub ill_formed : (f : Facts) (c : Asked) → is_ill_formed f c.deed ≡ true → judged f c ≡ Refused BadText
 ill_formed f c h = rw h refl
@@ -27,10 +28,10 @@ refused f c e h k r = rw (h, k) (ap (λ o. unless o (reply_to f c.deed)) r)
 pub accepted : (f : Facts) (c : Asked) → is_ill_formed f c.deed ≡ false → f.kept ≡ None → first_failing (checks f c) ≡ None → judged f c ≡ Accepts (reply_to f c.deed)
 accepted f c h k r = rw (h, k) (ap (λ o. unless o (reply_to f c.deed)) r)
 
-leads : (h : History) (c : Asked) (o : Outcome) → views_of (added h c o) ≡ changed (change_by (facts_of (views_of h) c) c o) (with_pairs (new_pairs o c.deed) (views_of h))
-leads h c (Refused e) = refl
-leads h c (Repeated reply) = refl
-leads h c (Accepts reply) = changing h c.account c.key c.deed reply
+leads : (h : History) (c : Asked) (o : Outcome) → IsMarked h → views_of (added h c o) ≡ changed (change_by (facts_of (views_of h) c) c o) (with_pairs (new_pairs o c.deed) (views_of h))
+leads h c (Refused e) marked = unchanged h c
+leads h c (Repeated reply) marked = unchanged h c
+leads h c (Accepts reply) marked = changing h c.account c.key c.deed reply marked
 
 pub answered : (f : Facts) (c : Asked) (result : Result (Change × Reply) Refusal) → Decides f c result → (v : Views) → f ≡ facts_of v c → IfOk result (λ d. answer (judge v c) ≡ Ok d.1)
 answered f c (Ok d) h v e = subst (λ (g : Facts). answer (judged g c) ≡ Ok d.1) e h.0
@@ -40,8 +41,8 @@ pub turned_down : (f : Facts) (c : Asked) (result : Result (Change × Reply) Ref
 turned_down f c (Ok d) h v e = tt
 turned_down f c (Err r) h v e = λ m. subst (λ (g : Facts). answer (judged g c) ≡ Err r) e (h m)
 
-pub leading : (f : Facts) (c : Asked) (result : Result (Change × Reply) Refusal) → Decides f c result → (h : History) → f ≡ facts_of (views_of h) c → IfOk result (λ d. LeadsOn h c d.0)
-leading f c (Ok d) h hist e =
+pub leading : (f : Facts) (c : Asked) (result : Result (Change × Reply) Refusal) → Decides f c result → (h : History) → IsMarked h → f ≡ facts_of (views_of h) c → IfOk result (λ d. LeadsOn h c d.0)
+leading f c (Ok d) h hist marked e =
     let same : d.0 ≡ change_by (facts_of (views_of hist) c) c (judge (views_of hist) c) = h.1 ∙ ap (λ (g : Facts). change_by g c (judged g c)) e in
-    leads hist c (judge (views_of hist) c) ∙ ap (λ (change : Change). changed change (with_pairs (new_pairs (judge (views_of hist) c) c.deed) (views_of hist))) (sym same)
-leading f c (Err r) h hist e = tt
+    leads hist c (judge (views_of hist) c) marked ∙ ap (λ (change : Change). changed change (with_pairs (new_pairs (judge (views_of hist) c) c.deed) (views_of hist))) (sym same)
+leading f c (Err r) h hist marked e = tt

@@ -15,10 +15,10 @@ use Rattle.pid_moderation.specs.declared.facts.Facts.{Facts}
 use Rattle.pid_moderation.specs.declared.rank.Rank.{Rank}
 use Rattle.pid_moderation.specs.declared.refusal.Refusal.{Refusal}
 use Rattle.pid_moderation.specs.History.{TooLong, Faulty, Good, Deed, Ranks, Submits, Comments, Withdraws, Approves, Rejects, Imports, Asked, History}
-use Rattle.pid_moderation.specs.Items.{Items, name_at}
+use Rattle.pid_moderation.specs.Items.{Items, name_at, has_name}
 use Rattle.pid_moderation.specs.Views.{Views, Submitted, views_of, rank_of, submits_of, submission_at}
 use Rattle.pid_moderation.specs.FactsOfViews.{facts_of, with_item, known, kept_in}
-use Rattle.pid_moderation.specs.CheckTables.{checks, if_named, comment_checks, decision_checks, withdraw_checks, is_so}
+use Rattle.pid_moderation.specs.CheckTables.{command_checks, if_named, comment_checks, decision_checks, withdraw_checks, is_so}
 use Rattle.pid_moderation.specs.Changes.{with_pairs, FitsWrite, FitsEffect, FitsReceipt, Fits, IsThere}
 use Rattle.pid_moderation.specs.Judgement.{Outcome, Refused, Repeated, Accepts, judge, judged}
 use Rattle.pid_moderation.specs.Effects.{edit_of, items_after, write_of, effect_of, receipt_of, change_by, pairs_in, new_pairs, next_place, Decides}
@@ -46,7 +46,7 @@ removed_count path items there sorted =
 
 written_fits : (p : Submitted) (proposal : Proposal) (items : Items) (o : Option (List ℕ)) → name_at (path_text p.path) items ≡ o → T (is_sorted text_cmp items) → is_so proposal o ≡ false → FitsWrite (Some (record { path = p.path; edit = edit_of proposal o; items = items_after (edit_of proposal o) (length items) })) items
 written_fits p (Name name) items None e sorted h = (put_count (path_text p.path) name items None e sorted, ap is_none e)
-written_fits p (Name name) items (Some old) e sorted h = (put_count (path_text p.path) name items (Some old) e sorted, ap is_some e)
+written_fits p (Name name) items (Some old) e sorted h = (put_count (path_text p.path) name items (Some old) e sorted, (ap is_some e, ap (has_name name) e ∙ h))
 written_fits p Removal items o e sorted h =
     let there : is_some (name_at (path_text p.path) items) ≡ true = ap is_some e ∙ named_there o h in
     (removed_count (path_text p.path) items there sorted, there)
@@ -67,7 +67,7 @@ rejection_fits : (o : Option Submitted) (v : Views) (n : ℕ) (account : List �
 rejection_fits None v n account rank passed = let bad = passed.0 in absurd cc
 rejection_fits (Some s) v n account rank passed = refl
 
-effect_fits : (h : History) (account : List ℕ) (key : Option (List ℕ)) (deed : Deed) → AllPass (checks (to_deed h account key deed) (asks account key deed)) → FitsEffect (effect_of account (to_deed h account key deed) deed) (with_pairs (pairs_in deed) (views_of h))
+effect_fits : (h : History) (account : List ℕ) (key : Option (List ℕ)) (deed : Deed) → AllPass (command_checks (to_deed h account key deed) (asks account key deed)) → FitsEffect (effect_of account (to_deed h account key deed) deed) (with_pairs (pairs_in deed) (views_of h))
 effect_fits h account key (Ranks who rank) passed = refl
 effect_fits h account key (Submits path proposal note) passed = refl
 effect_fits h account key (Comments n text) passed = comment_fits (submission_at n (submits_of h)) (views_of h) n passed.1

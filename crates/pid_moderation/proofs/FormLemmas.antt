@@ -8,6 +8,7 @@ use Rattle.pid_moderation.specs.declared.refusal.Refusal.TheVariants.{BadText, M
 use Rattle.pid_moderation.specs.declared.verb.Verb.{Verb}
 use Rattle.pid_moderation.specs.Fields.{Fields}
 use Rattle.pid_moderation.specs.CheckTables.{Checks, first_failing}
+use Rattle.pid_moderation.specs.Following.{Follows}
 use Rattle.pid_moderation.specs.Forms.{has_fields, value_checks, form_checks, is_none_or, Says}
 
 abbrev refusal_in : Option (Bool × Refusal) → Option Refusal
@@ -47,3 +48,6 @@ key_fails verb account key fields h f good bad = with_fields verb account key fi
 -- the answer of a call that refused, where what it refused by is told
 pub said_so : {X : Type 0} (cs : Checks) (said : Option X) (result : Result X Refusal) (e : Refusal) → result ≡ Err e → (e ≢ Memory → first_failing cs ≡ Some e) → Says cs said result
 said_so {X = X} cs said result e is h = subst (λ (r : Result X Refusal). Says cs said r) (sym is) h
+
+pub follows_so : {X : Type 0} (cs : Checks) (x : X) (result : Result X Refusal) (e : Refusal) → result ≡ Err e → (e ≢ Memory → first_failing cs ≡ Some e) → Follows cs x result
+follows_so {X = X} cs x result e is h = subst (λ (r : Result X Refusal). Follows cs x r) (sym is) h

@@ -13,7 +13,7 @@ use Rattle.pid_moderation.specs.declared.refusal.Refusal.TheVariants.{NoAccount}
 use Rattle.pid_moderation.specs.History.{Deed, Ranks, Submits, Comments, Withdraws, Approves, Rejects, Imports, Asked, Begins, More, History}
 use Rattle.pid_moderation.specs.Views.{Submitted, views_of, rank_of, ranked, submits_of, submission_at}
 use Rattle.pid_moderation.specs.FactsOfViews.{facts_of, with_item, known}
-use Rattle.pid_moderation.specs.CheckTables.{Checks, checks, if_named, approval_checks}
+use Rattle.pid_moderation.specs.CheckTables.{Checks, command_checks, if_named, approval_checks}
 use Rattle.pid_moderation.specs.Ranks.{has_rank}
 use Rattle.pid_moderation.specs.Sound.{IsKnown}
 use Rattle.pid_moderation.specs.WellMade.{IsWellMade}
@@ -43,7 +43,7 @@ approver_known None h n account key passed = there _ passed.0
 approver_known (Some s) h n account key passed = there _ passed.0
 
 -- whoever was obeyed is an account
-pub caller_known : (h : History) (account : List ℕ) (key : Option (List ℕ)) (deed : Deed) → AllPass (checks (to_deed h account key deed) (asks account key deed)) → IsKnown account h
+pub caller_known : (h : History) (account : List ℕ) (key : Option (List ℕ)) (deed : Deed) → AllPass (command_checks (to_deed h account key deed) (asks account key deed)) → IsKnown account h
 caller_known h account key (Ranks who rank) passed = there _ passed.0
 caller_known h account key (Submits path proposal note) passed = there _ passed.0
 caller_known h account key (Comments n text) passed = there _ passed.0
@@ -103,7 +103,7 @@ still_reached true rank o e h = absurd cc
 still_reached false rank o e h = h
 
 -- whoever ranks others keeps his own rank
-one_stays : (h : History) (account : List ℕ) (key : Option (List ℕ)) (deed : Deed) → HasAdministrator h → AllPass (checks (to_deed h account key deed) (asks account key deed)) → (a : List ℕ) × (has_rank Administrator (ranked a deed (rank_of a h)) ≡ true)
+one_stays : (h : History) (account : List ℕ) (key : Option (List ℕ)) (deed : Deed) → HasAdministrator h → AllPass (command_checks (to_deed h account key deed) (asks account key deed)) → (a : List ℕ) × (has_rank Administrator (ranked a deed (rank_of a h)) ≡ true)
 one_stays h account key (Ranks who rank) old passed = (account, still_reached (bytes_eq account who) rank (rank_of account h) passed.1.1.0 (yes _ passed.1.0))
 one_stays h account key deed old passed = old
 

@@ -1,5 +1,5 @@
 -- Which refusals the judgement gives, whatever the facts are: those with a number from 1 to 15.
-use Rattle.std.proofs.Common.{◌≡◌, ℕ, Bool, true, false, cond, List, [], ◌∷◌, Option, Some, None, Result, Ok, Err, refl, sym, ap, subst}
+use Rattle.std.proofs.Common.{◌≡◌, ℕ, Bool, true, false, cond, List, [], ◌∷◌, ◌++◌, Option, Some, None, Result, Ok, Err, refl, sym, subst}
 use Rattle.std.specs.Prelude.{◌≢◌, find, is_none, nat_le, IfErr, IfSome}
 use Rattle.std.specs.Option.{option_map}
 use Rattle.std.specs.List.{AllByRecursion}
@@ -13,7 +13,7 @@ use Rattle.pid_moderation.specs.declared.facts.Verdict.TheVariants as verdicts
 use Rattle.pid_moderation.specs.declared.refusal.Refusal.{Refusal}
 use Rattle.pid_moderation.specs.declared.refusal.Refusal.TheVariants.{BadText, Failed, Memory, NoAccount}
 use Rattle.pid_moderation.specs.Refusals.{refusal_number}
-use Rattle.pid_moderation.specs.CheckTables.{Checks, checks, comment_checks, decision_checks, approval_checks, withdraw_checks, file_checks, first_failing, if_named, import_checks, is_ill_formed, reply_to}
+use Rattle.pid_moderation.specs.CheckTables.{Checks, command_checks, revision_checks, checks, comment_checks, decision_checks, approval_checks, withdraw_checks, file_checks, first_failing, if_named, import_checks, is_ill_formed, reply_to}
 use Rattle.pid_moderation.specs.Effects.{Decides}
 use Rattle.pid_moderation.specs.History.{Deed, Ranks, Submits, Comments, Withdraws, Approves, Rejects, Imports, Asked}
 use Rattle.pid_moderation.specs.Judgement.{Outcome, Refused, unless, unless_kept, answer, judged}
@@ -44,14 +44,21 @@ file_judge None = (refl, tt)
 file_judge (Some (verdicts.Faulty fault)) = (refl, tt)
 file_judge (Some (verdicts.Good added renamed same items)) = (refl, tt)
 
-checks_judge : (f : Facts) (account : List ℕ) (key : Option (List ℕ)) (deed : Deed) → AllJudge (checks f (asks account key deed))
-checks_judge f account key (Ranks who rank) = (refl, (refl, (refl, (refl, tt))))
-checks_judge f account key (Submits path proposal note) = (refl, (refl, tt))
-checks_judge f account key (Comments n text) = (refl, named_judge f.named comment_checks (λ s. (refl, tt)))
-checks_judge f account key (Withdraws n) = (refl, named_judge f.named (withdraw_checks account) (λ s. (refl, (refl, tt))))
-checks_judge f account key (Approves n) = (refl, named_judge f.named (approval_checks account f) (λ s. (refl, (refl, (refl, (refl, (refl, (refl, (refl, tt)))))))))
-checks_judge f account key (Rejects n reason) = (refl, named_judge f.named (decision_checks account f.rank) (λ s. (refl, (refl, (refl, tt)))))
-checks_judge f account key (Imports reading) = (refl, (refl, file_judge f.file))
+command_judges : (f : Facts) (account : List ℕ) (key : Option (List ℕ)) (deed : Deed) → AllJudge (command_checks f (asks account key deed))
+command_judges f account key (Ranks who rank) = (refl, (refl, (refl, (refl, tt))))
+command_judges f account key (Submits path proposal note) = (refl, (refl, tt))
+command_judges f account key (Comments n text) = (refl, named_judge f.named comment_checks (λ s. (refl, tt)))
+command_judges f account key (Withdraws n) = (refl, named_judge f.named (withdraw_checks account) (λ s. (refl, (refl, tt))))
+command_judges f account key (Approves n) = (refl, named_judge f.named (approval_checks account f) (λ s. (refl, (refl, (refl, (refl, (refl, (refl, (refl, tt)))))))))
+command_judges f account key (Rejects n reason) = (refl, named_judge f.named (decision_checks account f.rank) (λ s. (refl, (refl, (refl, tt)))))
+command_judges f account key (Imports reading) = (refl, (refl, file_judge f.file))
+
+joined : (cs ds : Checks) → AllJudge cs → AllJudge ds → AllJudge (cs ++ ds)
+joined [] ds h k = k
+joined (c ∷ cs) ds h k = (h.0, joined cs ds h.1 k)
+
+checks_judge : (f : Facts) (c : Asked) → AllJudge (checks f c)
+checks_judge f c = joined (command_checks f c) (revision_checks f) (command_judges f c.account c.key c.deed) (refl, tt)
 
 one_judges : (b : Bool) (r : Refusal) (cs : Checks) (reply : Reply) → nat_le (refusal_number r) 15 ≡ true → is_judged (answer (unless (first_failing cs) reply)) ≡ true
     → is_judged (answer (unless (option_map (λ (x : Bool × Refusal). x.1) (cond b (Some (b, r)) (find (λ x. x.0) cs))) reply)) ≡ true
@@ -70,7 +77,7 @@ shown_judges false (Some k) failing reply h = refl
 pub judged_answer : (f : Facts) (c : Asked) → is_judged (answer (judged f c)) ≡ true
 judged_answer f c =
     shown_judges (is_ill_formed f c.deed) f.kept (first_failing (checks f c)) (reply_to f c.deed)
-    (first_judges (checks f c) (reply_to f c.deed) (checks_judge f c.account c.key c.deed))
+    (first_judges (checks f c) (reply_to f c.deed) (checks_judge f c))
 
 not_failed : (r : Refusal) → nat_le (refusal_number r) 15 ≡ true → r ≡ Failed → ⊥
 not_failed r judges is = let off : false ≡ true = subst (λ (x : Refusal). nat_le (refusal_number x) 15 ≡ true) is judges in let no : ⊥ = cc in no

@@ -1,13 +1,13 @@
 -- What holds where every check passes.
-use Rattle.std.proofs.Common.{◌≡◌, Bool, true, false, cond, [], ◌∷◌, Option, Some, None, refl}
-use Rattle.std.specs.Prelude.{find}
+use Rattle.std.proofs.Common.{◌≡◌, Bool, true, false, cond, [], ◌∷◌, ◌++◌, Option, Some, None, refl}
+use Rattle.std.specs.Prelude.{find, nat_le}
 use Rattle.std.specs.Option.{option_map}
 use Rattle.pid_moderation.specs.declared.command.Reply.{Reply}
 use Rattle.pid_moderation.specs.declared.refusal.Refusal.{Refusal}
 use Rattle.pid_moderation.specs.declared.refusal.Refusal.TheVariants.{BadText}
 use Rattle.pid_moderation.specs.declared.facts.Facts.{Facts}
 use Rattle.pid_moderation.specs.History.{Asked}
-use Rattle.pid_moderation.specs.CheckTables.{Checks, checks, first_failing, is_ill_formed, reply_to}
+use Rattle.pid_moderation.specs.CheckTables.{Checks, command_checks, revision_checks, checks, most_revision, first_failing, is_ill_formed, reply_to}
 use Rattle.pid_moderation.specs.Judgement.{judged, unless, unless_kept, Refused, Accepts}
 
 -- no check fails
@@ -23,10 +23,15 @@ pub all_pass : (cs : Checks) → first_failing cs ≡ None → AllPass cs
 all_pass [] h = tt
 all_pass (c ∷ cs) h = let p = one_passes c.0 c cs h in (p.0, all_pass cs p.1)
 
+joined : (cs ds : Checks) → AllPass (cs ++ ds) → AllPass cs × AllPass ds
+joined [] ds h = (tt, h)
+joined (c ∷ cs) ds h = let rest = joined cs ds h.1 in ((h.0, rest.0), rest.1)
+
 pub record Passes (f : Facts) (c : Asked) (reply : Reply) : Type 0 where
   pub well_formed : is_ill_formed f c.deed ≡ false
   pub not_kept : f.kept ≡ None
-  pub all : AllPass (checks f c)
+  pub all : AllPass (command_checks f c)
+  pub counted : nat_le most_revision f.revision ≡ false
   pub reply_is : reply ≡ reply_to f c.deed
 
 not_refused : (o : Option Refusal) (reply given : Reply) → unless o reply ≡ Accepts given → o ≡ None
@@ -43,7 +48,9 @@ accepted_passes f c reply h = formed (is_ill_formed f c.deed) refl h
   where
     after : (o : Option Reply) → f.kept ≡ o → is_ill_formed f c.deed ≡ false → unless_kept o (unless (first_failing (checks f c)) (reply_to f c.deed)) ≡ Accepts reply → Passes f c reply
     after (Some r) k w h = absurd cc
-    after None k w h = record { well_formed = w; not_kept = k; all = all_pass (checks f c) (not_refused _ _ _ h); reply_is = same_reply _ _ _ h }
+    after None k w h =
+        let both = joined (command_checks f c) (revision_checks f) (all_pass (checks f c) (not_refused _ _ _ h)) in
+        record { well_formed = w; not_kept = k; all = both.0; counted = both.1.0; reply_is = same_reply _ _ _ h }
 
     formed : (b : Bool) → is_ill_formed f c.deed ≡ b → cond b (Refused BadText) (unless_kept f.kept (unless (first_failing (checks f c)) (reply_to f c.deed))) ≡ Accepts reply → Passes f c reply
     formed true w h = absurd cc

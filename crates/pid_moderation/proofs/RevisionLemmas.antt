@@ -1,15 +1,22 @@
 -- The mark stays, the revision counts from it on, and the since of an item is that of its last change.
-use Rattle.std.proofs.Common.{◌≡◌, ◌≢◌, ℕ, ◌+◌, ◌-◌, ◌≤◌, suc, Bool, true, false, cond, not, List, [], ◌∷◌, Option, Some, None, refl, sym, ap, ◌∙◌, arith}
-use Rattle.std.specs.Str.{bytes_eq}
+use Rattle.std.proofs.Common.{◌≡◌, ◌≢◌, ℕ, ◌+◌, ◌-◌, ◌≤◌, suc, Bool, true, false, cond, not, List, [], ◌∷◌, ◌++◌, length, Option, Some, None, refl, sym, ap, ◌∙◌, arith}
+use Rattle.std.specs.Prelude.{nat_le}
+use Rattle.std.proofs.lemmas.Bool.Decides.{nat_tests}
 use Rattle.std.proofs.lemmas.Bool.{false_from_ne_true}
 use Rattle.std.proofs.lemmas.Slice.Eq.{bytes_eq-Decides}
 use Rattle.pid_moderation.specs.declared.command.Reply.{Reply}
-use Rattle.pid_moderation.specs.History.{Asked, Accepted, Begins, More, History, mark_of, count_of}
+use Rattle.pid_moderation.specs.declared.facts.Facts.{Facts}
+use Rattle.pid_moderation.specs.declared.facts.Named.{Named}
+use Rattle.pid_moderation.specs.declared.refusal.Refusal.TheVariants.{BadText, Full}
+use Rattle.pid_moderation.specs.CheckTables.{most_revision, command_checks, first_failing, is_ill_formed, reply_to}
+use Rattle.pid_moderation.specs.FactsOfViews.{facts_of, known, named, with_item}
+use Rattle.pid_moderation.specs.History.{Deed, Ranks, Submits, Comments, Withdraws, Approves, Rejects, Imports, Asked, Accepted, Begins, More, History, mark_of, count_of, accepted_in}
 use Rattle.pid_moderation.specs.Items.{name_at, has_name}
-use Rattle.pid_moderation.specs.Judgement.{Outcome, Refused, Repeated, Accepts, judge, answer, answers, added, after, after_all}
-use Rattle.pid_moderation.specs.Revisions.{IsMarked, revision_of, is_named_anew, since_of, taken_over, with_mark}
-use Rattle.pid_moderation.specs.Views.{views_of, rank_of, ranked, submits_of, submitted, state_of, decided, remarks_of, remarked, items_of, itemized, kept_of, receipted}
-use Rattle.pid_moderation.proofs.Changing.{entry}
+use Rattle.pid_moderation.specs.Judgement.{Outcome, Refused, Repeated, Accepts, unless, unless_kept, judge, answer, answers, added, after, after_all}
+use Rattle.pid_moderation.specs.Revisions.{IsMarked, taken_over, with_mark}
+use Rattle.pid_moderation.specs.Views.{Views, views_of, without_numbers, revision_of, is_named_anew, since_of, rank_of, ranked, submits_of, submitted, state_of, decided, remarks_of, remarked, items_of, itemized, kept_of, receipted}
+use Rattle.pid_moderation.proofs.Changing.{asks, entry, not_anew, next_number, facts_revision}
+use Rattle.pid_moderation.proofs.Passing.{accepted_passes}
 
 -- THE MARK
 
@@ -22,7 +29,18 @@ pub mark_stays : (h : History) (cs : List Asked) → mark_of (after_all h cs) �
 mark_stays h [] = refl
 mark_stays h (c ∷ cs) = mark_stays (after h c) cs ∙ same_mark h c (judge (views_of h) c)
 
--- the views go by the commands alone
+pub mark_set : (mark : ℕ) (h : History) → mark_of (with_mark mark h) ≡ mark
+mark_set mark (Begins m) = refl
+mark_set mark (More e h) = mark_set mark h
+
+pub same_accepted : (mark : ℕ) (h : History) → accepted_in (with_mark mark h) ≡ accepted_in h
+same_accepted mark (Begins m) = refl
+same_accepted mark (More e h) = ap (λ es. e ∷ es) (same_accepted mark h)
+
+same_count : (mark : ℕ) (h : History) → count_of (with_mark mark h) ≡ count_of h
+same_count mark h = ap length (same_accepted mark h)
+
+-- the views but for the numbers go by the commands alone
 
 same_ranks : (mark : ℕ) (h : History) (a : List ℕ) → rank_of a (with_mark mark h) ≡ rank_of a h
 same_ranks mark (Begins m) a = refl
@@ -48,7 +66,7 @@ same_kept : (mark : ℕ) (h : History) (a k : List ℕ) → kept_of a k (with_ma
 same_kept mark (Begins m) a k = refl
 same_kept mark (More e h) a k = ap (receipted a k e.asked.account e.asked.key e.reply) (same_kept mark h a k)
 
-pub same_views : (mark : ℕ) (h : History) → views_of (with_mark mark h) ≡ views_of h
+pub same_views : (mark : ℕ) (h : History) → without_numbers (views_of (with_mark mark h)) ≡ without_numbers (views_of h)
 same_views mark h = λ i. record {
   rank = λ a. same_ranks mark h a i;
   submits = same_submits mark h i;
@@ -56,25 +74,97 @@ same_views mark h = λ i. record {
   remarks = λ n. same_remarks mark h n i;
   items = same_items mark h i;
   kept = λ a k. same_kept mark h a k i;
+  revision = 0;
+  since = λ path. 0;
 }
+
+-- so does the judgement while the limit is not met
+
+abbrev judged_if : Bool → Facts → Asked → Outcome
+judged_if last f c = cond (is_ill_formed f c.deed) (Refused BadText) (unless_kept f.kept (unless (first_failing (command_checks f c ++ (last, Full) ∷ [])) (reply_to f c.deed)))
+
+abbrev uncounted : Facts → Facts
+uncounted f = record f { revision = 0 }
+
+same_judged : (last : Bool) (f : Facts) (account : List ℕ) (key : Option (List ℕ)) (deed : Deed) → judged_if last f (asks account key deed) ≡ judged_if last (uncounted f) (asks account key deed)
+same_judged last f account key (Ranks who rank) = refl
+same_judged last f account key (Submits path proposal note) = refl
+same_judged last f account key (Comments n text) = refl
+same_judged last f account key (Withdraws n) = refl
+same_judged last f account key (Approves n) = refl
+same_judged last f account key (Rejects n reason) = refl
+same_judged last f account key (Imports reading) = refl
+
+same_item : (v : Views) (o : Option Named) (f : Facts) → uncounted (with_item v o f) ≡ with_item (without_numbers v) o (uncounted f)
+same_item v None f = refl
+same_item v (Some s) f = refl
+
+same_facts : (v : Views) (account : List ℕ) (key : Option (List ℕ)) (deed : Deed) → uncounted (facts_of v (asks account key deed)) ≡ facts_of (without_numbers v) (asks account key deed)
+same_facts v account None (Approves n) = same_item v (named v n) (known v account None)
+same_facts v account (Some key) (Approves n) = same_item v (named v n) (known v account (Some key))
+same_facts v account None (Imports reading) = refl
+same_facts v account (Some key) (Imports reading) = refl
+same_facts v account None deed = refl
+same_facts v account (Some key) deed = refl
+
+judged_small : (v : Views) (c : Asked) → nat_le most_revision v.revision ≡ false → judge v c ≡ judged_if false (facts_of (without_numbers v) c) c
+judged_small v c small =
+    let last : nat_le most_revision (facts_of v c).revision ≡ false = ap (nat_le most_revision) (facts_revision v c) ∙ small in
+    ap (λ b. judged_if b (facts_of v c) c) last
+    ∙ same_judged false (facts_of v c) c.account c.key c.deed
+    ∙ ap (λ f. judged_if false f c) (same_facts v c.account c.key c.deed)
+
+few : (m n : ℕ) → suc n ≤ most_revision → nat_le most_revision (n - m) ≡ false
+few m n h = grind (arith, nat_tests)
+
+few_marked : (mark : ℕ) (h : History) → suc (count_of h) ≤ most_revision → nat_le most_revision (revision_of (with_mark mark h)) ≡ false
+few_marked mark h small = ap (λ n. nat_le most_revision (n - mark_of (with_mark mark h))) (same_count mark h) ∙ few (mark_of (with_mark mark h)) (count_of h) small
+
+same_judge : (mark : ℕ) (h : History) (c : Asked) → suc (count_of h) ≤ most_revision → judge (views_of (with_mark mark h)) c ≡ judge (views_of h) c
+same_judge mark h c small =
+    judged_small (views_of (with_mark mark h)) c (few_marked mark h small)
+    ∙ ap (λ v. judged_if false (facts_of v c) c) (same_views mark h)
+    ∙ sym (judged_small (views_of h) c (few (mark_of h) (count_of h) small))
 
 same_added : (mark : ℕ) (h : History) (c : Asked) (o : Outcome) → added (with_mark mark h) c o ≡ with_mark mark (added h c o)
 same_added mark h c (Refused e) = refl
 same_added mark h c (Repeated reply) = refl
 same_added mark h c (Accepts reply) = refl
 
-same_after : (mark : ℕ) (h : History) (c : Asked) → after (with_mark mark h) c ≡ with_mark mark (after h c)
-same_after mark h c = ap (λ v. added (with_mark mark h) c (judge v c)) (same_views mark h) ∙ same_added mark h c (judge (views_of h) c)
+same_after : (mark : ℕ) (h : History) (c : Asked) → suc (count_of h) ≤ most_revision → after (with_mark mark h) c ≡ with_mark mark (after h c)
+same_after mark h c small = ap (added (with_mark mark h) c) (same_judge mark h c small) ∙ same_added mark h c (judge (views_of h) c)
 
-pub same_after_all : (mark : ℕ) (h : History) (cs : List Asked) → after_all (with_mark mark h) cs ≡ with_mark mark (after_all h cs)
-same_after_all mark h [] = refl
-same_after_all mark h (c ∷ cs) = ap (λ g. after_all g cs) (same_after mark h c) ∙ same_after_all mark (after h c) cs
+-- with each command there is at most one more
+one_more_counted : (h : History) (c : Asked) (o : Outcome) (left : ℕ) → count_of h + suc left ≤ most_revision → count_of (added h c o) + left ≤ most_revision
+one_more_counted h c (Refused e) left small = one_off (count_of h) left small
+  where
+    one_off : (n left : ℕ) → n + suc left ≤ most_revision → n + left ≤ most_revision
+    one_off n left small = omega arith
+one_more_counted h c (Repeated reply) left small = one_off (count_of h) left small
+  where
+    one_off : (n left : ℕ) → n + suc left ≤ most_revision → n + left ≤ most_revision
+    one_off n left small = omega arith
+one_more_counted h c (Accepts reply) left small = one_over (count_of h) left small
+  where
+    one_over : (n left : ℕ) → n + suc left ≤ most_revision → suc n + left ≤ most_revision
+    one_over n left small = omega arith
 
-pub same_answers : (mark : ℕ) (h : History) (cs : List Asked) → answers (with_mark mark h) cs ≡ answers h cs
-same_answers mark h [] = refl
-same_answers mark h (c ∷ cs) =
-    let rest : answers (after (with_mark mark h) c) cs ≡ answers (after h c) cs = ap (λ g. answers g cs) (same_after mark h c) ∙ same_answers mark (after h c) cs in
-    λ i. answer (judge (same_views mark h i) c) ∷ rest i
+first_fits : (n left : ℕ) → n + suc left ≤ most_revision → suc n ≤ most_revision
+first_fits n left small = omega arith
+
+pub same_after_all : (mark : ℕ) (h : History) (cs : List Asked) → count_of h + length cs ≤ most_revision → after_all (with_mark mark h) cs ≡ with_mark mark (after_all h cs)
+same_after_all mark h [] small = refl
+same_after_all mark h (c ∷ cs) small =
+    ap (λ g. after_all g cs) (same_after mark h c (first_fits (count_of h) (length cs) small))
+    ∙ same_after_all mark (after h c) cs (one_more_counted h c (judge (views_of h) c) (length cs) small)
+
+pub same_answers : (mark : ℕ) (h : History) (cs : List Asked) → count_of h + length cs ≤ most_revision → answers (with_mark mark h) cs ≡ answers h cs
+same_answers mark h [] small = refl
+same_answers mark h (c ∷ cs) small =
+    let first : suc (count_of h) ≤ most_revision = first_fits (count_of h) (length cs) small in
+    let rest : answers (after (with_mark mark h) c) cs ≡ answers (after h c) cs =
+    ap (λ g. answers g cs) (same_after mark h c first) ∙ same_answers mark (after h c) cs (one_more_counted h c (judge (views_of h) c) (length cs) small) in
+    λ i. answer (same_judge mark h c first i) ∷ rest i
 
 one_more : (m n : ℕ) → m ≤ n → m ≤ suc n
 one_more m n h = omega arith
@@ -89,9 +179,6 @@ marked_stays h [] marked = marked
 marked_stays h (c ∷ cs) marked = marked_stays (after h c) cs (marked_then h c (judge (views_of h) c) marked)
 
 -- THE REVISION
-
-next_number : (m n : ℕ) → m ≤ n → suc n - m ≡ n - m + 1
-next_number m n h = omega arith
 
 pub counted : (h : History) (c : Asked) (reply : Reply) (o : Outcome) → o ≡ Accepts reply → IsMarked h → revision_of (added h c o) ≡ revision_of h + 1
 counted h c reply (Refused e) is marked = absurd cc
@@ -116,14 +203,22 @@ pub grows : (h : History) (cs : List Asked) → revision_of h ≤ revision_of (a
 grows h [] = same_or_less (revision_of h)
 grows h (c ∷ cs) = through (revision_of h) (revision_of (after h c)) (revision_of (after_all (after h c) cs)) (grown h c (judge (views_of h) c)) (grows (after h c) cs)
 
+-- it stays within its limit
+
+within_limit : (m n r : ℕ) → r ≡ n - m → nat_le most_revision r ≡ false → suc n - m ≤ most_revision
+within_limit m n r is small = grind (arith, nat_tests)
+
+stays_within : (h : History) (c : Asked) (o : Outcome) → judge (views_of h) c ≡ o → revision_of h ≤ most_revision → revision_of (added h c o) ≤ most_revision
+stays_within h c (Refused e) is old = old
+stays_within h c (Repeated reply) is old = old
+stays_within h c (Accepts reply) is old =
+    within_limit (mark_of h) (count_of h) (facts_of (views_of h) c).revision (facts_revision (views_of h) c) (accepted_passes (facts_of (views_of h) c) c reply is).counted
+
+pub all_within : (h : History) (cs : List Asked) → revision_of h ≤ most_revision → revision_of (after_all h cs) ≤ most_revision
+all_within h [] old = old
+all_within h (c ∷ cs) old = all_within (after h c) cs (stays_within h c (judge (views_of h) c) refl old)
+
 -- THE SINCE OF AN ITEM
-
-same_text : (t : List ℕ) → bytes_eq t t ≡ true
-same_text t = (bytes_eq-Decides t t).1 refl
-
-not_anew : (o : Option (List ℕ)) → is_named_anew o o ≡ false
-not_anew None = refl
-not_anew (Some name) = ap not (same_text name)
 
 has_other : (name : List ℕ) (o : Option (List ℕ)) → o ≢ Some name → has_name name o ≡ false
 has_other name None other = refl
@@ -181,14 +276,6 @@ given h c path name (Repeated reply) now other = absurd (other now)
 given h c path name (Accepts reply) now other = given_here h (entry c reply) path name now (has_other name (name_at path (items_of h)) other)
 
 -- A FILE THAT IS TAKEN OVER
-
-mark_set : (mark : ℕ) (h : History) → mark_of (with_mark mark h) ≡ mark
-mark_set mark (Begins m) = refl
-mark_set mark (More e h) = mark_set mark h
-
-same_count : (mark : ℕ) (h : History) → count_of (with_mark mark h) ≡ count_of h
-same_count mark (Begins m) = refl
-same_count mark (More e h) = ap suc (same_count mark h)
 
 no_more : (m n k : ℕ) → m ≡ k → n ≡ k → n ≤ m
 no_more m n k p q = omega arith

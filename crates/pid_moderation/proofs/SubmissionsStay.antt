@@ -11,7 +11,7 @@ use Rattle.pid_moderation.specs.declared.rank.Rank.{Rank}
 use Rattle.pid_moderation.specs.History.{Deed, Submits, Comments, Withdraws, Approves, Rejects, Begins, More, History}
 use Rattle.pid_moderation.specs.Views.{Views, Submitted, Remark, views_of, rank_of, submits_of, submitted, submission_at, state_of, decided, remarks_of, remarked}
 use Rattle.pid_moderation.specs.FactsOfViews.{with_item, known}
-use Rattle.pid_moderation.specs.CheckTables.{checks, if_named, comment_checks, decision_checks, withdraw_checks, is_ill_formed, most_submissions, most_remarks}
+use Rattle.pid_moderation.specs.CheckTables.{command_checks, if_named, comment_checks, decision_checks, withdraw_checks, is_ill_formed, most_submissions, most_remarks}
 use Rattle.pid_moderation.specs.Sound.{IsKnown, IsGoodSubmission, AreGoodSubmissions, IsDecidedByOther, IsDecidedWell, IsGoodRemark, AreGoodRemarks, IsRemarkedWell}
 use Rattle.pid_moderation.specs.WellMade.{IsWellMade}
 use Rattle.pid_moderation.proofs.Changing.{asks, entry, seen}
@@ -52,7 +52,7 @@ one_within ss s h = rw (length-append ss (s ∷ [])) (within (length ss) h)
     within : (n : ℕ) → nat_le most_submissions n ≡ false → n + 1 ≤ most_submissions
     within n h = grind (arith, nat_tests)
 
-few_stay : (h : History) (account : List ℕ) (key : Option (List ℕ)) (deed : Deed) → FewSubmitted h → AllPass (checks (to_deed h account key deed) (asks account key deed)) → length (submitted account deed (submits_of h)) ≤ most_submissions
+few_stay : (h : History) (account : List ℕ) (key : Option (List ℕ)) (deed : Deed) → FewSubmitted h → AllPass (command_checks (to_deed h account key deed) (asks account key deed)) → length (submitted account deed (submits_of h)) ≤ most_submissions
 few_stay h account key (Submits path proposal note) old passed = one_within (submits_of h) _ passed.1.0
 few_stay h account key deed old passed = old
 
@@ -103,7 +103,7 @@ withdrawn_well : (h : History) (o : Option Submitted) (v : Views) (n : ℕ) (acc
 withdrawn_well h None v n account passed = let bad = passed.0 in absurd cc
 withdrawn_well h (Some s) v n account passed = tt
 
-decided_well : (h : History) (account : List ℕ) (key : Option (List ℕ)) (deed : Deed) → IsKnown account h → IsWellMade (asks account key deed) → is_ill_formed (to_deed h account key deed) deed ≡ false → AreDecided h → AllPass (checks (to_deed h account key deed) (asks account key deed)) → (n : ℕ) → IsDecidedWell h (submission_at n (submitted account deed (submits_of h))) (decided n account deed (state_of n h))
+decided_well : (h : History) (account : List ℕ) (key : Option (List ℕ)) (deed : Deed) → IsKnown account h → IsWellMade (asks account key deed) → is_ill_formed (to_deed h account key deed) deed ≡ false → AreDecided h → AllPass (command_checks (to_deed h account key deed) (asks account key deed)) → (n : ℕ) → IsDecidedWell h (submission_at n (submitted account deed (submits_of h))) (decided n account deed (state_of n h))
 decided_well h account key (Submits path proposal note) caller made formed old passed n = push_well h n (submits_of h) _ (state_of n h) (old n)
 decided_well h account key (Approves m) caller made formed old passed n = well_if h n m (submits_of h) (Approved account) (state_of n h) (approved_well h (submission_at m (submits_of h)) (views_of h) m account key caller passed) (old n)
 decided_well h account key (Rejects m reason) caller made formed old passed n = well_if h n m (submits_of h) (Rejected account reason) (state_of n h) (rejected_well h (submission_at m (submits_of h)) (views_of h) m account reason (rank_of account h) caller made.2 formed passed.1) (old n)
@@ -164,7 +164,7 @@ remarked_if h n m xs r here before = chosen (eqb n m) refl
     chosen true e = subst (λ (k : ℕ). IsRemarkedWell h (submission_at k xs) (remarks_of k h ++ r ∷ [])) (sym ((Decides-eqb n m).0 e)) here
     chosen false e = before
 
-remarked_well : (h : History) (account : List ℕ) (key : Option (List ℕ)) (deed : Deed) → IsKnown account h → IsWellMade (asks account key deed) → is_ill_formed (to_deed h account key deed) deed ≡ false → AreRemarked h → AllPass (checks (to_deed h account key deed) (asks account key deed)) → (n : ℕ) → IsRemarkedWell h (submission_at n (submitted account deed (submits_of h))) (remarked n account deed (remarks_of n h))
+remarked_well : (h : History) (account : List ℕ) (key : Option (List ℕ)) (deed : Deed) → IsKnown account h → IsWellMade (asks account key deed) → is_ill_formed (to_deed h account key deed) deed ≡ false → AreRemarked h → AllPass (command_checks (to_deed h account key deed) (asks account key deed)) → (n : ℕ) → IsRemarkedWell h (submission_at n (submitted account deed (submits_of h))) (remarked n account deed (remarks_of n h))
 remarked_well h account key (Submits path proposal note) caller made formed old passed n = push_remarked h n (submits_of h) _ (remarks_of n h) (old n)
 remarked_well h account key (Comments m text) caller made formed old passed n = remarked_if h n m (submits_of h) (record { author = account; text = text }) (commented_well h (submission_at m (submits_of h)) (views_of h) m (remarks_of m h) _ refl (record { author = caller; text = made.2; filled = formed }) (old m) passed.1) (old n)
 remarked_well h account key deed caller made formed old passed n = old n

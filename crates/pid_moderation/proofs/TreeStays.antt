@@ -17,7 +17,7 @@ use Rattle.pid_ident.specs.PathReading.{parent_text}
 use Rattle.pid_moderation.specs.Items.{Items, name_at, holds_parent, has_children, written, imported}
 use Rattle.pid_moderation.specs.Views.{Views, Submitted, views_of, submits_of, submitted, submission_at, items_of, itemized, carried_out, pairs_of}
 use Rattle.pid_moderation.specs.FactsOfViews.{with_item, known}
-use Rattle.pid_moderation.specs.CheckTables.{checks, lacks_parent, leaves_children, overflows, most_items}
+use Rattle.pid_moderation.specs.CheckTables.{command_checks, lacks_parent, leaves_children, overflows, most_items}
 use Rattle.pid_moderation.specs.WellMade.{IsItem, AllItems, HoldsParents, ProposesName, IsWellMade}
 use Rattle.pid_moderation.proofs.Changing.{asks, seen}
 use Rattle.pid_moderation.proofs.ItemLemmas.{put_keeps, without_keeps, imported_keeps}
@@ -39,7 +39,7 @@ approved_keeps : (o : Option Submitted) (v : Views) (n : ℕ) (account : List �
 approved_keeps None v n account key sound h = sound
 approved_keeps (Some s) v n account key sound h = proposed_keeps (path_text s.path) s.proposal v.items sound h.1.1.1.1.1.0 h.1.1.1.1.1.1.0
 
-parents_stay : (h : History) (account : List ℕ) (key : Option (List ℕ)) (deed : Deed) → IsParented h → IsWellMade (asks account key deed) → AllPass (checks (to_deed h account key deed) (asks account key deed)) → HoldsParents (itemized deed (submits_of h) (items_of h))
+parents_stay : (h : History) (account : List ℕ) (key : Option (List ℕ)) (deed : Deed) → IsParented h → IsWellMade (asks account key deed) → AllPass (command_checks (to_deed h account key deed) (asks account key deed)) → HoldsParents (itemized deed (submits_of h) (items_of h))
 parents_stay h account key (Approves n) sound made passed = approved_keeps (submission_at n (submits_of h)) (views_of h) n account key sound passed
 parents_stay h account key (Imports reading) sound made passed = imported_keeps (pairs_of reading) (items_of h) made.2.tree sound
 parents_stay h account key deed sound made passed = sound
@@ -139,7 +139,7 @@ approved_within (Some s) v n account key sorted h passed = written_within (path_
 not_above : (n : ℕ) → nat_lt most_items n ≡ false → n ≤ most_items
 not_above n h = grind (arith, nat_tests)
 
-within_stays : (h : History) (account : List ℕ) (key : Option (List ℕ)) (deed : Deed) → IsWithin h → AllPass (checks (to_deed h account key deed) (asks account key deed)) → length (itemized deed (submits_of h) (items_of h)) ≤ most_items
+within_stays : (h : History) (account : List ℕ) (key : Option (List ℕ)) (deed : Deed) → IsWithin h → AllPass (command_checks (to_deed h account key deed) (asks account key deed)) → length (itemized deed (submits_of h) (items_of h)) ≤ most_items
 within_stays h account key (Approves n) old passed = approved_within (submission_at n (submits_of h)) (views_of h) n account key (items_sorted h) old passed
 within_stays h account key (Imports TooLong) old passed = old
 within_stays h account key (Imports (Faulty fault)) old passed = old

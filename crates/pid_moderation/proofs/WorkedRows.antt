@@ -1,17 +1,21 @@
 -- Worked rows, by computation.
 use Rattle.std.proofs.Common.{◌≡◌, ℕ, List, [], ◌∷◌, ◌++◌, Some, None, refl}
-use Rattle.std.specs.Prelude.{codes, Ok, Err}
+use Rattle.std.specs.Prelude.{codes, map, Result, Ok, Err}
 use Rattle.pid_ident.specs.declared.path.Path.TheVariants.{Vendor, Device}
 use Rattle.pid_ident.specs.declared.line_kind.LineKind.TheVariants.{Duplicate}
 use Rattle.pid_moderation.specs.declared.command.Proposal.TheVariants.{Name, Removal}
+use Rattle.pid_moderation.specs.declared.command.Reply.{Reply}
 use Rattle.pid_moderation.specs.declared.command.Reply.TheVariants.{Done, Numbered, Counts}
+use Rattle.pid_moderation.specs.declared.refusal.Refusal.{Refusal}
 use Rattle.pid_moderation.specs.declared.rank.Rank.TheVariants.{Contributor, Moderator, Senior}
 use Rattle.pid_moderation.specs.declared.refusal.FileFault.TheVariants.{Line}
-use Rattle.pid_moderation.specs.declared.refusal.Refusal.TheVariants.{NoAccount, RankTooLow, NoSubmission, NotPending, NotAuthor, OwnDecision, ParentMissing, HasChildren, NothingToDo, FileFault}
+use Rattle.pid_moderation.specs.declared.refusal.Refusal.TheVariants.{Full, NoAccount, RankTooLow, NoSubmission, NotPending, NotAuthor, OwnDecision, ParentMissing, HasChildren, NothingToDo, FileFault}
 use Rattle.pid_moderation.specs.History.{Deed, Reading, Good, Faulty, Ranks, Submits, Comments, Withdraws, Approves, Rejects, Imports, Asked, Begins, History, new_history}
-use Rattle.pid_moderation.specs.Views.{items_of}
-use Rattle.pid_moderation.specs.Revisions.{revision_of, since_of, taken_over}
-use Rattle.pid_moderation.specs.Judgement.{answers, after_all}
+use Rattle.pid_moderation.specs.Views.{Views, views_of, items_of, revision_of, since_of}
+use Rattle.pid_moderation.specs.Changes.{with_pairs}
+use Rattle.pid_moderation.specs.CheckTables.{most_revision}
+use Rattle.pid_moderation.specs.Revisions.{taken_over}
+use Rattle.pid_moderation.specs.Judgement.{answer, answers, after_all, judge}
 
 abbrev by : List ℕ → Deed → Asked
 by account deed = record { account = account; key = None; deed = deed }
@@ -49,6 +53,10 @@ with_realtek_same = refl
 
 with_realtek_added : since_of (codes "PC/10ec") (after_all new_history with_realtek) ≡ 4
 with_realtek_added = refl
+
+-- what is written of that file has the number of its command where it is new
+with_realtek_pairs : map (with_pairs ((codes "PC/8086", codes "Intel Corporation") ∷ (codes "PC/10ec", codes "Realtek") ∷ []) (views_of (after_all new_history first_approval))).since (codes "PC/8086" ∷ codes "PC/10ec" ∷ codes "PC/1234" ∷ []) ≡ 3 ∷ 4 ∷ 0 ∷ []
+with_realtek_pairs = refl
 
 -- a file with these three is taken over: nothing has changed yet
 abbrev taken : History
@@ -118,3 +126,28 @@ policy = by root (Ranks alice Contributor) ∷ by root (Submits (Vendor 4332) (N
 
 policy_answers : answers new_history policy ≡ Ok Done ∷ Ok (Numbered 1) ∷ Err OwnDecision ∷ Err NotAuthor ∷ Ok Done ∷ Err OwnDecision ∷ Err NothingToDo ∷ Err NoAccount ∷ Err NoSubmission ∷ Ok Done ∷ Err NotPending ∷ Err NotAuthor ∷ Err NotPending ∷ []
 policy_answers = refl
+
+-- THE LIMIT OF THE REVISION
+
+abbrev before_the_limit : List Asked
+before_the_limit = by root (Ranks alice Contributor) ∷ by alice (Submits (Vendor 32902) (Name (codes "Intel Corporation")) []) ∷ under (codes "k1") root (Imports intel) ∷ []
+
+-- a registry with these three, where so many were accepted
+abbrev at : ℕ → Views
+at revision = record (views_of (after_all new_history before_the_limit)) { revision = revision }
+
+abbrev answers_at : ℕ → List Asked → List (Result Reply Refusal)
+answers_at revision commands = map (λ c. answer (judge (at revision) c)) commands
+
+abbrev one_of_each : List Asked
+one_of_each = by root (Ranks bob Moderator) ∷ by alice (Submits (Vendor 32902) Removal []) ∷ by root (Comments 1 (codes "seen")) ∷ by alice (Withdraws 1) ∷ by root (Approves 1) ∷ by root (Rejects 1 (codes "no")) ∷ by root (Imports intel) ∷ []
+
+one_below_the_limit : answers_at 8999999999999999999 one_of_each ≡ Ok Done ∷ Ok (Numbered 2) ∷ Ok Done ∷ Ok Done ∷ Ok Done ∷ Ok Done ∷ Ok (Counts 0 0 1) ∷ []
+one_below_the_limit = refl
+
+at_the_limit : answers_at most_revision one_of_each ≡ Err Full ∷ Err Full ∷ Err Full ∷ Err Full ∷ Err Full ∷ Err Full ∷ Err Full ∷ []
+at_the_limit = refl
+
+-- a kept reply is answered there, and what fails another check is told by that
+kept_at_the_limit : answers_at most_revision (under (codes "k1") root (Imports intel) ∷ by alice (Approves 1) ∷ by root (Approves 2) ∷ by (codes "carol") (Withdraws 1) ∷ []) ≡ Ok (Counts 1 0 0) ∷ Err RankTooLow ∷ Err NoSubmission ∷ Err NoAccount ∷ []
+kept_at_the_limit = refl

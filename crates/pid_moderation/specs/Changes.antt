@@ -1,5 +1,5 @@
 -- What an accepted command does to the views.
-use Rattle.std.specs.Prelude.{◌≡◌, ℕ, ◌+◌, List, true, not, ◌&&◌, ◌==◌, if◌then◌else◌, [], ◌∷◌, ◌++◌, length, Option, Some, None, is_none, is_some}
+use Rattle.std.specs.Prelude.{◌≡◌, ℕ, ◌+◌, List, true, false, not, ◌&&◌, ◌==◌, if◌then◌else◌, [], ◌∷◌, ◌++◌, length, Option, Some, None, is_none, is_some}
 use Rattle.std.specs.Str.{bytes_eq}
 use Rattle.std.specs.Ordering.{eq_by_cmp}
 use Rattle.std.specs.FinMap.Entries.{put, where_key}
@@ -12,8 +12,8 @@ use Rattle.pid_moderation.specs.declared.change.Edit.TheVariants.{Add, Rename, R
 use Rattle.pid_moderation.specs.declared.change.Write.{Write}
 use Rattle.pid_moderation.specs.declared.change.Effect.{Effect}
 use Rattle.pid_moderation.specs.declared.change.Effect.TheVariants.{Nothing, Ranked, Submitted, Remarked, Decided, Imported}
-use Rattle.pid_moderation.specs.Items.{Items, name_at, imported}
-use Rattle.pid_moderation.specs.Views.{Views, Submitted as Submission, submission_at}
+use Rattle.pid_moderation.specs.Items.{Items, name_at, has_name, imported}
+use Rattle.pid_moderation.specs.Views.{Views, Submitted as Submission, submission_at, is_named_anew}
 
 -- the item of a path, added, renamed or removed
 abbrev pub edited : List ℕ → Edit → Items → Items
@@ -26,15 +26,24 @@ abbrev pub write : Option Write → Items → Items
 write None items = items
 write (Some w) items = edited (path_text w.path) w.edit items
 
-abbrev pub affected : Effect → Views → Views
-affected Nothing v = v
-affected (Ranked who rank is_new) v = record v { rank = λ a. if bytes_eq a who then Some rank else v.rank a }
-affected (Submitted number author path proposal note) v =
+-- the number of a path, where a change with this number leads from items to other items
+abbrev pub renumbered : ℕ → (before now : Items) → (List ℕ → ℕ) → List ℕ → ℕ
+renumbered n before now since path = if is_named_anew (name_at path before) (name_at path now) then n else since path
+
+-- other items, with the number where they are named anew
+abbrev pub with_items : ℕ → Items → Views → Views
+with_items n items v = record v { items = items; since = renumbered n v.items items v.since }
+
+-- what a change with this number does
+abbrev pub affected : ℕ → Effect → Views → Views
+affected n Nothing v = v
+affected n (Ranked who rank is_new) v = record v { rank = λ a. if bytes_eq a who then Some rank else v.rank a }
+affected n (Submitted number author path proposal note) v =
     record v { submits = v.submits ++ record { author = author; path = path; proposal = proposal; note = note } ∷ [] }
-affected (Remarked number place author text) v =
-    record v { remarks = λ n. if n == number then v.remarks n ++ record { author = author; text = text } ∷ [] else v.remarks n }
-affected (Decided number state w) v = record v { state = λ n. if n == number then state else v.state n; items = write w v.items }
-affected (Imported items) v = v
+affected n (Remarked number place author text) v =
+    record v { remarks = λ m. if m == number then v.remarks m ++ record { author = author; text = text } ∷ [] else v.remarks m }
+affected n (Decided number state w) v = record (with_items n (write w v.items) v) { state = λ m. if m == number then state else v.state m }
+affected n (Imported items) v = v
 
 -- the receipt, where there is a key
 abbrev pub keeping : Option Receipt → Views → Views
@@ -42,21 +51,21 @@ keeping None v = v
 keeping (Some r) v = record v { kept = λ a k. if bytes_eq a r.account && bytes_eq k r.key then Some r.reply else v.kept a k }
 
 abbrev pub changed : Change → Views → Views
-changed change v = keeping change.receipt (affected change.effect v)
+changed change v = record (keeping change.receipt (affected change.revision change.effect v)) { revision = change.revision }
 
--- the pairs of a file, written one by one
+-- the pairs of a file, written one by one with the number of their command
 abbrev pub with_pairs : Items → Views → Views
-with_pairs pairs v = record v { items = imported pairs v.items }
+with_pairs pairs v = with_items (v.revision + 1) (imported pairs v.items) v
 
 -- FITS: what the numbers and the kinds of a change say of the views that it is done to
 
 abbrev pub IsThere : Option Submission → Type 0
 IsThere o = is_some o ≡ true
 
--- an item is added where there is none, and renamed or removed where there is one
+-- an item is added where there is none, renamed where there is one of another name, and removed where there is one
 abbrev pub FitsEdit : Edit → Option (List ℕ) → Type 0
 FitsEdit (Add name) present = is_none present ≡ true
-FitsEdit (Rename name) present = is_some present ≡ true
+FitsEdit (Rename name) present = (is_some present ≡ true) × (has_name name present ≡ false)
 FitsEdit Remove present = is_some present ≡ true
 
 -- a write tells how many items there are afterwards

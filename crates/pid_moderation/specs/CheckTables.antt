@@ -48,7 +48,7 @@ abbrev pub leaves_children : Proposal → Bool → Bool
 leaves_children (proposals.Name name) has_children = false
 leaves_children proposals.Removal has_children = has_children
 
--- the limits of a registry: its items, its submissions, the remarks on one submission, and the bytes of a file
+-- the limits of a registry: its items, its submissions, the remarks on one submission, the bytes of a file, and its revision
 abbrev pub most_items : ℕ
 most_items = 100000
 
@@ -60,6 +60,9 @@ most_remarks = 1000000
 
 abbrev pub most_file_bytes : ℕ
 most_file_bytes = 4194304
+
+abbrev pub most_revision : ℕ
+most_revision = 9000000000000000000
 
 -- one item more would be too many
 abbrev pub overflows : Proposal → Option (List ℕ) → ℕ → Bool
@@ -129,8 +132,17 @@ later_checks account f (Approves n) = if_named f.named (approval_checks account 
 later_checks account f (Rejects n reason) = if_named f.named (decision_checks account f.rank)
 later_checks account f (Imports reading) = import_checks f ++ file_checks f.file
 
+-- those of the command alone
+abbrev pub command_checks : Facts → Asked → Checks
+command_checks f c = (is_none f.rank, NoAccount) ∷ later_checks c.account f c.deed
+
+-- one command more is not counted
+abbrev pub revision_checks : Facts → Checks
+revision_checks f = (nat_le most_revision f.revision, Full) ∷ []
+
+-- the last check of every command is that it can be counted
 abbrev pub checks : Facts → Asked → Checks
-checks f c = (is_none f.rank, NoAccount) ∷ later_checks c.account f c.deed
+checks f c = command_checks f c ++ revision_checks f
 
 -- the first check that fails
 abbrev pub first_failing : Checks → Option Refusal

@@ -62,10 +62,10 @@ receipt_of account None reply = None
 receipt_of account (Some key) reply = Some (record { account = account; key = key; reply = reply })
 
 abbrev pub change_of : Facts → Asked → Reply → Change
-change_of f c reply = record { effect = effect_of c.account f c.deed; receipt = receipt_of c.account c.key reply }
+change_of f c reply = record { effect = effect_of c.account f c.deed; receipt = receipt_of c.account c.key reply; revision = f.revision + 1 }
 
-abbrev pub no_change : Change
-no_change = record { effect = Nothing; receipt = None }
+abbrev pub no_change : Facts → Change
+no_change f = record { effect = Nothing; receipt = None; revision = f.revision }
 
 -- what a file brings
 abbrev pub pairs_in : Deed → Items
@@ -81,8 +81,8 @@ new_pairs (Repeated reply) deed = []
 -- a kept reply changes nothing
 abbrev pub change_by : Facts → Asked → Outcome → Change
 change_by f c (Accepts reply) = change_of f c reply
-change_by f c (Refused refusal) = no_change
-change_by f c (Repeated reply) = no_change
+change_by f c (Refused refusal) = no_change f
+change_by f c (Repeated reply) = no_change f
 
 -- the outcome by the facts, with its change; or memory is short
 abbrev pub Decides : Facts → Asked → Result (Change × Reply) Refusal → Type 0

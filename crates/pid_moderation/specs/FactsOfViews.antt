@@ -26,11 +26,12 @@ verdict items (Faulty fault) = Some (verdicts.Faulty fault)
 verdict items (Good pairs) =
     Some (verdicts.Good (count_new items pairs) (count_renamed items pairs) (count_same items pairs) (length (imported pairs items)))
 
--- what is known of every command: the caller's rank, and the reply that is kept for it
+-- what is known of every command: the caller's rank, the reply that is kept for it, and the revision
 abbrev pub known : Views → List ℕ → Option (List ℕ) → Facts
 known v account key = record {
   rank = v.rank account;
   kept = kept_in v account key;
+  revision = v.revision;
   who = None;
   submissions = 0;
   items = 0;

@@ -3,12 +3,12 @@ use Rattle.std.specs.Prelude.{ℕ, ◌≤◌, T, List, length}
 use Rattle.std.specs.FinMap.{entries}
 use Rattle.std.specs.FinMap.Entries.{is_sorted}
 use Rattle.pid_ident.specs.Trees.{IsTree, TreeMap, text_cmp}
-use Rattle.pid_moderation.specs.CheckTables.{most_items}
+use Rattle.pid_moderation.specs.CheckTables.{most_items, most_revision}
 use Rattle.pid_moderation.specs.History.{Asked, Begins, History}
 use Rattle.pid_moderation.specs.Judgement.{after_all}
 use Rattle.pid_moderation.specs.Keys.{times_under}
 use Rattle.pid_moderation.specs.Sound.{IsSound}
-use Rattle.pid_moderation.specs.Views.{items_of}
+use Rattle.pid_moderation.specs.Views.{items_of, revision_of}
 use Rattle.pid_moderation.specs.WellMade.{AreWellMade, IsFile}
 
 -- what well made commands lead to, from any beginning, is sound
@@ -22,6 +22,10 @@ KeysStandOnce = (mark : ℕ) (commands : List Asked) (account key : List ℕ) �
 -- the items of a history are in the order of their paths
 abbrev pub ItemsAreSorted : Type 0
 ItemsAreSorted = (h : History) → T (is_sorted text_cmp (items_of h))
+
+-- the revision stays within its limit, whatever is asked
+abbrev pub RevisionsAreWithin : Type 0
+RevisionsAreWithin = (h : History) (commands : List Asked) → revision_of h ≤ most_revision → revision_of (after_all h commands) ≤ most_revision
 
 -- a tree of names, if it is not too large, is what a file may read to
 abbrev pub TreesAreFiles : Type 0

@@ -1,5 +1,5 @@
 -- What a history shows: each view is the last of, or a filter over, the accepted commands.
-use Rattle.std.specs.Prelude.{ℕ, zero, suc, ◌&&◌, ◌==◌, if◌then◌else◌, List, [], ◌∷◌, ◌++◌, slice_get, Option, Some, None, codes}
+use Rattle.std.specs.Prelude.{ℕ, zero, suc, ◌-◌, Bool, false, not, ◌&&◌, ◌==◌, if◌then◌else◌, List, [], ◌∷◌, ◌++◌, slice_get, Option, Some, None, codes}
 use Rattle.std.specs.Str.{bytes_eq}
 use Rattle.pid_ident.specs.PathTexts.{path_text}
 use Rattle.pid_ident.specs.declared.path.Path.{Path}
@@ -9,8 +9,8 @@ use Rattle.pid_moderation.specs.declared.rank.Rank.{Rank}
 use Rattle.pid_moderation.specs.declared.rank.Rank.TheVariants.{Administrator}
 use Rattle.pid_moderation.specs.declared.facts.State.{State}
 use Rattle.pid_moderation.specs.declared.facts.State.TheVariants.{Pending, Approved, Rejected, Withdrawn}
-use Rattle.pid_moderation.specs.History.{Reading, TooLong, Faulty, Good, Deed, Ranks, Submits, Comments, Withdraws, Approves, Rejects, Imports, Begins, More, History}
-use Rattle.pid_moderation.specs.Items.{Items, written, imported}
+use Rattle.pid_moderation.specs.History.{Reading, TooLong, Faulty, Good, Deed, Ranks, Submits, Comments, Withdraws, Approves, Rejects, Imports, Begins, More, History, mark_of, count_of}
+use Rattle.pid_moderation.specs.Items.{Items, name_at, has_name, written, imported}
 
 pub record Submitted : Type 0 where
   pub author : List ℕ
@@ -35,6 +35,10 @@ pub record Views : Type 0 where
   pub items : Items
   -- the reply to the command of an account under a key
   pub kept : List ℕ → List ℕ → Option Reply
+  -- how many commands were accepted since the mark
+  pub revision : ℕ
+  -- the number of the last command that named the item of a path anew
+  pub since : List ℕ → ℕ
 
 -- the rank that the last command on an account gave it; `root` is an administrator at first
 abbrev pub ranked : List ℕ → Deed → Option Rank → Option Rank
@@ -108,6 +112,20 @@ abbrev pub kept_of : List ℕ → List ℕ → History → Option Reply
 kept_of a k (Begins mark) = None
 kept_of a k (More e h) = receipted a k e.asked.account e.asked.key e.reply (kept_of a k h)
 
+-- how many commands were accepted since the mark
+abbrev pub revision_of : History → ℕ
+revision_of h = count_of h - mark_of h
+
+-- there is a name now, and it is not the one before
+abbrev pub is_named_anew : (before now : Option (List ℕ)) → Bool
+is_named_anew before None = false
+is_named_anew before (Some name) = not (has_name name before)
+
+-- the number of the last command that added the item or changed its name, counted from the mark; 0 where that stands before the mark, or where there is none
+abbrev pub since_of : List ℕ → History → ℕ
+since_of path (Begins mark) = 0
+since_of path (More e h) = if is_named_anew (name_at path (items_of h)) (name_at path (items_of (More e h))) then revision_of (More e h) else since_of path h
+
 abbrev pub views_of : History → Views
 views_of h = record {
   rank = λ a. rank_of a h;
@@ -116,4 +134,10 @@ views_of h = record {
   remarks = λ n. remarks_of n h;
   items = items_of h;
   kept = λ a k. kept_of a k h;
+  revision = revision_of h;
+  since = λ path. since_of path h;
 }
+
+-- the views but for the numbers: no revision, and no number of a change
+abbrev pub without_numbers : Views → Views
+without_numbers v = record v { revision = 0; since = λ path. 0 }

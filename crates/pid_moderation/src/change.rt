@@ -74,4 +74,6 @@ pub enum Effect {
 pub struct Change {
     pub effect: Effect,
     pub receipt: Option<Receipt>,
+    /// The revision that it leads to; for a kept reply the one that is.
+    pub revision: u64,
 }

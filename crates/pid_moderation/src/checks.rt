@@ -26,6 +26,9 @@ pub const SUBMISSIONS: u32 = 2_000_000_000;
 /// Remarks on one submission at most.
 pub const REMARKS: u32 = 1_000_000;
 
+/// The highest revision of a registry.
+pub const REVISIONS: u64 = 9_000_000_000_000_000_000;
+
 /// Bytes that a file to be imported has at most.
 pub const FILE_BYTES: usize = 4_194_304;
 

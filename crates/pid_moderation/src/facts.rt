@@ -41,6 +41,8 @@ pub enum Verdict {
 pub struct Facts {
     pub rank: Option<Rank>,
     pub kept: Option<Reply>,
+    /// How many commands were accepted since the registry began to count.
+    pub revision: u64,
     pub who: Option<Rank>,
     pub submissions: u32,
     pub items: u32,

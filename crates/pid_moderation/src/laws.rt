@@ -1,13 +1,14 @@
 //! Laws of the definitions. Each is the contract of a function that does nothing.
-ghost use Rattle.std.specs.Prelude.{◌≡◌, ◌≢◌, ◌≤◌, ◌+◌, ℕ, List, None, Some};
+ghost use Rattle.std.specs.Prelude.{◌≡◌, ◌≢◌, ◌≤◌, ◌+◌, ℕ, List, None, Some, length};
 ghost use Rattle.std.specs.FinMap.{get, entries};
 ghost use Rattle.pid_moderation.specs.declared.command.Reply.{Reply};
-ghost use Rattle.pid_moderation.specs.History.{Asked, History, Reading, asked, count_of, mark_of};
+ghost use Rattle.pid_moderation.specs.History.{Asked, History, Reading, accepted_in, asked, count_of, mark_of};
+ghost use Rattle.pid_moderation.specs.CheckTables.{most_revision};
 ghost use Rattle.pid_moderation.specs.Items.{name_at};
 ghost use Rattle.pid_moderation.specs.Judgement.{Accepts, after, after_all, answers, judge};
-ghost use Rattle.pid_moderation.specs.Laws.{HistoriesAreSound, KeysStandOnce, ItemsAreSorted, TreesAreFiles};
-ghost use Rattle.pid_moderation.specs.Revisions.{IsMarked, revision_of, since_of, taken_over, with_mark};
-ghost use Rattle.pid_moderation.specs.Views.{items_of, views_of};
+ghost use Rattle.pid_moderation.specs.Laws.{HistoriesAreSound, KeysStandOnce, ItemsAreSorted, RevisionsAreWithin, TreesAreFiles};
+ghost use Rattle.pid_moderation.specs.Revisions.{IsMarked, taken_over, with_mark};
+ghost use Rattle.pid_moderation.specs.Views.{items_of, revision_of, since_of, views_of, without_numbers};
 ghost use Rattle.pid_moderation.specs.WellMade.{HasGoodFile, IsWellMade};
 ghost use Rattle.pid_moderation.specs.Writes.{tree_of, last_written, writes_of};
 
@@ -47,16 +48,21 @@ pub fn marks_stay()
     ensures marked { (h : History) (commands : List Asked) → IsMarked h → IsMarked (after_all h commands) }
 {}
 
-/// What is shown and what is answered does not depend on the mark: the same commands are accepted from any beginning.
+/// What is shown but for the numbers of changes does not depend on the mark, nor, while the revision is below its limit, what is answered:
+/// the same commands are accepted from any beginning.
 pub fn marks_judge_nothing()
-    ensures views { (mark : ℕ) (h : History) → views_of (with_mark mark h) ≡ views_of h }
-    ensures after { (mark : ℕ) (h : History) (commands : List Asked) → after_all (with_mark mark h) commands ≡ with_mark mark (after_all h commands) }
-    ensures answers { (mark : ℕ) (h : History) (commands : List Asked) → answers (with_mark mark h) commands ≡ answers h commands }
+    ensures mark { (mark : ℕ) (h : History) → mark_of (with_mark mark h) ≡ mark }
+    ensures accepted { (mark : ℕ) (h : History) → accepted_in (with_mark mark h) ≡ accepted_in h }
+    ensures views { (mark : ℕ) (h : History) → without_numbers (views_of (with_mark mark h)) ≡ without_numbers (views_of h) }
+    ensures after { (mark : ℕ) (h : History) (commands : List Asked) → count_of h + length commands ≤ most_revision
+        → after_all (with_mark mark h) commands ≡ with_mark mark (after_all h commands) }
+    ensures answers { (mark : ℕ) (h : History) (commands : List Asked) → count_of h + length commands ≤ most_revision
+        → answers (with_mark mark h) commands ≡ answers h commands }
 {}
 
 /// A file that is taken over shows what it showed. Its revision begins at 0, and nothing in it has changed yet.
 pub fn taken_files_begin_anew()
-    ensures views { (h : History) → views_of (taken_over h) ≡ views_of h }
+    ensures views { (h : History) → without_numbers (views_of (taken_over h)) ≡ without_numbers (views_of h) }
     ensures marked { (h : History) → IsMarked (taken_over h) }
     ensures revision { (h : History) → revision_of (taken_over h) ≡ 0 }
     ensures since { (h : History) (path : List ℕ) → since_of path (taken_over h) ≡ 0 }
@@ -67,6 +73,11 @@ pub fn revisions_count()
     ensures accepted { (h : History) (c : Asked) (reply : Reply) → IsMarked h → judge (views_of h) c ≡ Accepts reply
         → revision_of (after h c) ≡ revision_of h + 1 }
     ensures grows { (h : History) (commands : List Asked) → revision_of h ≤ revision_of (after_all h commands) }
+{}
+
+/// The revision does not go beyond its limit, whatever is asked.
+pub fn revisions_are_within()
+    ensures { RevisionsAreWithin }
 {}
 
 /// The since of an item that is there is the revision at which it was added or renamed for the last time, 0 where that was before the mark. An

@@ -16,14 +16,14 @@ mod verb;
 mod wants;
 
 pub use change::{Change, Edit, Effect, Receipt, Write};
-pub use checks::{ITEMS, REMARKS, SUBMISSIONS, breaks_form};
+pub use checks::{ITEMS, REMARKS, REVISIONS, SUBMISSIONS, breaks_form};
 pub use command::{Act, Command, File, Proposal, Reply};
 pub use facts::{Facts, Named, State, Verdict};
 pub use form::command_of;
 pub use laws::{
     command_is_well_made, histories_are_sound, items_are_sorted, keys_stand_once,
-    marks_judge_nothing, marks_stay, revisions_count, sinces_are_last_changes,
-    taken_files_begin_anew, trees_are_files, trees_are_last_writes,
+    marks_judge_nothing, marks_stay, revisions_are_within, revisions_count,
+    sinces_are_last_changes, taken_files_begin_anew, trees_are_files, trees_are_last_writes,
 };
 pub use policy::{before_file, decide};
 pub use rank::{Rank, needed_rank};

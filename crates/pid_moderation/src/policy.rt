@@ -1,10 +1,12 @@
 //! The judgement of a command by facts.
-ghost use Rattle.std.specs.Prelude.{◌≡◌, ◌≢◌, ℕ, false, true, List, [], ◌∷◌, Option, Some, None, IfOk, IfErr, IfSome, IfNone, is_none};
+ghost use Rattle.std.specs.Prelude.{◌≡◌, ◌≢◌, ℕ, ◌+◌, false, true, List, [], ◌∷◌, Option, Some, None, IfOk, IfErr, IfSome, IfNone, is_none};
 ghost use Rattle.pid_moderation.specs.History.{Reading, History, asked, deed_of, Ranks, Submits, Comments, Withdraws, Approves, Rejects, Imports};
 ghost use Rattle.pid_moderation.specs.Views.{Views, views_of};
 ghost use Rattle.pid_moderation.specs.FactsOfViews.{NoRows, facts_at, facts_of};
 ghost use Rattle.pid_moderation.specs.CheckTables.{
   checks as checks_for,
+  command_checks,
+  revision_checks,
   first_failing as first_that_fails,
   later_checks,
   decision_checks,
@@ -20,11 +22,12 @@ ghost use Rattle.pid_moderation.specs.Judgement.{judge, answer};
 ghost use Rattle.pid_moderation.specs.BeforeFile.{SettlesImport, WaitsForFile};
 ghost use Rattle.pid_moderation.specs.Effects.{effect_of, counted, edit_of, items_after, write_of, Decides, LeadsOn, FitsHistory, receipt_of};
 ghost use Rattle.pid_moderation.specs.Following.{Follows};
+ghost use Rattle.pid_moderation.specs.Revisions.{IsMarked};
 
 use crate::change::{Change, Edit, Effect, Receipt, Write};
 use crate::checks::{
-    ITEMS, REMARKS, SUBMISSIONS, first_failing, has_rank, is_ill_formed, is_pending, is_rank,
-    is_removal, is_so, is_unknown, lacks_parent, leaves_children, overflows, pass,
+    ITEMS, REMARKS, REVISIONS, SUBMISSIONS, first_failing, has_rank, is_ill_formed, is_pending,
+    is_rank, is_removal, is_so, is_unknown, lacks_parent, leaves_children, overflows, pass,
 };
 use crate::command::{Act, Command, Proposal, Reply};
 use crate::facts::{Facts, Named, State, Verdict};
@@ -362,7 +365,7 @@ pub fn before_file(facts: &Facts) -> Option<Result<Reply, Refusal>>
 
 // The effect and the reply of a command that breaks no rule of form, and is new.
 fn effect(facts: &Facts, command: &Command) -> Result<(Effect, Reply), Refusal>
-    ensures { (reading : Reading) → let c = asked command.now reading in Follows (checks_for facts.now c) (
+    ensures { (reading : Reading) → let c = asked command.now reading in Follows (command_checks facts.now c) (
       effect_of c.account facts.now c.deed,
       reply_to facts.now c.deed,
     ) result }
@@ -381,6 +384,27 @@ fn effect(facts: &Facts, command: &Command) -> Result<(Effect, Reply), Refusal>
         Act::Reject { number, reason } => reject(facts, account, *number, reason),
         Act::Import { .. } => import(facts),
     }
+}
+
+// The number of one command more.
+fn next_revision(facts: &Facts) -> Result<u64, Refusal>
+    ensures { Follows (revision_checks facts.now) (facts.now.revision + 1) result }
+{
+    pass(&[(REVISIONS <= facts.revision, Refusal::Full)])?;
+    Ok(facts.revision + 1)
+}
+
+// The effect, the reply and the number of such a command.
+fn accept(facts: &Facts, command: &Command) -> Result<(Effect, Reply, u64), Refusal>
+    ensures { (reading : Reading) → let c = asked command.now reading in Follows (checks_for facts.now c) (
+      effect_of c.account facts.now c.deed,
+      reply_to facts.now c.deed,
+      facts.now.revision + 1,
+    ) result }
+{
+    let (effect, reply) = effect(facts, command)?;
+    let revision = next_revision(facts)?;
+    Ok((effect, reply, revision))
 }
 
 fn receipt(command: &Command, reply: Reply) -> Result<Option<Receipt>, AllocError>
@@ -412,13 +436,21 @@ fn by_facts(facts: &Facts, command: &Command) -> Result<(Change, Reply), Refusal
             Change {
                 effect: Effect::Nothing,
                 receipt: None,
+                revision: facts.revision,
             },
             reply,
         ));
     }
-    let (effect, reply) = effect(facts, command)?;
+    let (effect, reply, revision) = accept(facts, command)?;
     let receipt = receipt(command, reply)?;
-    Ok((Change { effect, receipt }, reply))
+    Ok((
+        Change {
+            effect,
+            receipt,
+            revision,
+        },
+        reply,
+    ))
 }
 
 /// Judges a command by the facts of a history: the reply with what it changes, or the first check that fails.
@@ -430,7 +462,7 @@ pub fn decide(facts: &Facts, command: &Command) -> Result<(Change, Reply), Refus
     ensures refusal { (v : Views) (reading : Reading) → facts.now ≡ facts_of v (asked command.now reading) →
         IfErr result (λ e. e ≢ Refusal.Memory → answer (judge v (asked command.now reading)) ≡ Err e) }
     // The change leads from what a history shows to what it shows with the command.
-    ensures change { (h : History) (reading : Reading) → facts.now ≡ facts_of (views_of h) (asked command.now reading) →
+    ensures change { (h : History) (reading : Reading) → IsMarked h → facts.now ≡ facts_of (views_of h) (asked command.now reading) →
         IfOk result (λ d. LeadsOn h (asked command.now reading) d.0) }
     // The numbers are right: storage knows of each row whether it is there, and where a new one goes.
     ensures fits { (h : History) (reading : Reading) → facts.now ≡ facts_of (views_of h) (asked command.now reading) →

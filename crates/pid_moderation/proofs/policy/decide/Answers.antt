@@ -11,7 +11,7 @@ pub returns-clause-refusal : goal.returns-clause-refusal
 returns-clause-refusal c = λ v reading e. turned_down _ _ _ (c.by_facts.ensures reading) v e
 
 pub returns-clause-change : goal.returns-clause-change
-returns-clause-change c = λ h reading e. leading _ _ _ (c.by_facts.ensures reading) h e
+returns-clause-change c = λ h reading marked e. leading _ _ _ (c.by_facts.ensures reading) h marked e
 
 pub returns-clause-fits : goal.returns-clause-fits
 returns-clause-fits c = λ h reading e. fitting _ _ _ (c.by_facts.ensures reading) h e
