@@ -18,11 +18,12 @@ use Rattle.sqlite.specs.Edit.{next_rowid, numbered}
 use Rattle.sqlite_rules.specs.declared.error.Rowids.TheVariants.{Chosen}
 use Rattle.pid_moderation.specs.declared.facts.State.TheVariants.{Pending}
 use Rattle.pid_moderation.specs.Views.{Views}
-use Rattle.pid_rows.specs.Schema.{Two, schema_of, no_schema, meta, account, item, submission, remark, receipt, item_since}
+use Rattle.pid_rows.specs.Schema.{pid_schema, no_schema, meta, account, item, submission, remark, receipt, item_since}
+use Rattle.pid_rows.specs.declared.version.Version.TheVariants.{Two}
 use Rattle.pid_rows.specs.PairRows.{Map, RowsAre}
 use Rattle.pid_rows.specs.TableRows.{number, meta_row}
 use Rattle.sqlite.specs.Order.{Row}
-use Rattle.pid_rows.specs.Shows.{Numbers, ShowsKeeping, no_numbers, labels_of, standing_in, remark_in, counted_from_one}
+use Rattle.pid_rows.specs.Shows.{ShowsCounting, meta_of, standing_in, remark_in, counted_from_one}
 use Rattle.pid_rows.proofs.MapLemmas.{map_added}
 use Rattle.pid_rows.proofs.Keys.{meta_found, meta_plain, meta_cast}
 use Rattle.pid_rows.proofs.KeyTexts.{by_first, pair_terms, insert_meta_is}
@@ -112,7 +113,7 @@ all_made db made = record {
 
 pub label_added : (old new : State) (m : Map (List ℕ) ℕ) (label : List ℕ) (value : ℕ) → HasOnlyMeta m old.now → m label ≡ None → Ran insert_meta (Text label ∷ number value ∷ []) old new → HasOnlyMeta (with_label label value m) new.now
 label_added old new m label value has none ran =
-    let w = map_added meta_row by_first _ meta_found m label (schema_of Two) meta 0 refl meta_plain old new has.schema has.meta insert_meta pair_terms 3 (insert_meta_is Two)
+    let w = map_added meta_row by_first _ meta_found m label pid_schema meta 0 refl meta_plain old new has.schema has.meta insert_meta pair_terms 3 (insert_meta_is Two)
     (number value ∷ []) (Null ∷ Text label ∷ number value ∷ []) refl value
     (λ rs. (next_rowid rs, ap (λ r. numbered Chosen rs (r ∷ [])) (meta_cast Null label value ∙ ap (λ x. x ∷ Text label ∷ number value ∷ []) cast_null)))
     _ (text_set m label (Some value)) ran.0 none ran.1 in
@@ -130,9 +131,9 @@ label_added old new m label value has none ran =
 
 -- no account, no item, nothing
 abbrev pub nothing_yet : Views
-nothing_yet = record { rank = λ _. None; submits = []; state = λ _. Pending; remarks = λ _. []; items = []; kept = λ _ _. None }
+nothing_yet = record { rank = λ _. None; submits = []; state = λ _. Pending; remarks = λ _. []; items = []; kept = λ _ _. None; revision = 0; since = λ _. 0 }
 
-pub shows_nothing : (db : Database) → HasOnlyMeta (labels_of Two (record { items = 0; submissions = 0 }) 0) db → ShowsKeeping Two (record { items = 0; submissions = 0 }) no_numbers db nothing_yet
+pub shows_nothing : (db : Database) → HasOnlyMeta (meta_of (record { items = 0; submissions = 0 }) 0) db → ShowsCounting (record { items = 0; submissions = 0 }) db nothing_yet
 shows_nothing db has = record {
   schema = has.schema;
   sound = has.sound;

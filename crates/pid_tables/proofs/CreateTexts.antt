@@ -2,7 +2,7 @@
 use Rattle.std.proofs.Common.{◌≡◌, ℕ, List, [], ◌∷◌, codes, refl}
 use Rattle.sqlite.specs.Listing.{understood}
 use Rattle.sqlite_tied.specs.Compute.{everything}
-use Rattle.pid_rows.specs.Schema.{meta, account, item, submission, remark, receipt, item_since, Two, schema_of}
+use Rattle.pid_rows.specs.Schema.{meta, account, item, submission, remark, receipt, item_since, pid_schema}
 use Rattle.pid_tables.specs.Making.{making, Creates}
 
 abbrev pub create_meta : List ℕ
@@ -54,5 +54,5 @@ pub item_since_creates : Creates (meta ∷ account ∷ item ∷ submission ∷ r
 unfolding understood everything
 item_since_creates = record { known = (refl, refl, refl, refl); defined = refl; tree = refl; alone = refl }
 
-pub whole_schema : making (meta ∷ account ∷ item ∷ submission ∷ remark ∷ receipt ∷ item_since ∷ []) ≡ schema_of Two
+pub whole_schema : making (meta ∷ account ∷ item ∷ submission ∷ remark ∷ receipt ∷ item_since ∷ []) ≡ pid_schema
 whole_schema = refl

@@ -37,6 +37,12 @@ pub record IsBlank (s : State) : Type 0 where
   pub empty : IsTrue s.is_open → AreMade [] s.now
   pub leaves : HasCleanDisk s → (db : Trees) → s.may_leave db → IsBare db
 
+-- a transaction failed to commit: what was committed before is seen again
+pub record IsUndone (old new : State) : Type 0 where
+  pub was_open : IsTrue new.is_open → IsTrue old.is_open
+  pub sees : IsTrue new.is_open → new.now ≡ old.committed
+  pub committed : IsTrue new.is_open → new.committed ≡ old.committed
+
 -- everything that a crash may leave has no table, or shows the history of a new registry
 pub record LeavesBareOrNew (s : State) : Type 0 where
   pub each : HasCleanDisk s → (db : Trees) → s.may_leave db → IsBare db ⊎ Shows (as_found db) (views_of new_history)

@@ -16,7 +16,7 @@ use Rattle.sqlite_resolve.specs.declared.error.CompileError.{CompileError}
 use Rattle.pid_rows.specs.declared.fault.TableFault.{TableFault}
 use Rattle.pid_rows.specs.Faults.{IsUntold}
 use Rattle.pid_rows.specs.PairRows.{Map, RowsAre}
-use Rattle.pid_rows.specs.Schema.{Two, schema_of, pid_schema}
+use Rattle.pid_rows.specs.Schema.{pid_schema}
 use Rattle.pid_rows.specs.TableRows.{meta_row}
 pub use Rattle.pid_tables.specs.Creation.{making}
 use Rattle.pid_tables.specs.Creation.{AreMade, IsOfMaking, IsMetFault}
@@ -72,7 +72,7 @@ FindsTables old new result = HasCleanDisk new → IsTrue old.in_transaction → 
 
 -- all seven, where meta has some rows and the others have none
 pub record HasOnlyMeta (m : Map (List ℕ) ℕ) (db : Database) : Type 0 where
-  pub schema : db.schema ≡ schema_of Two
+  pub schema : db.schema ≡ pid_schema
   pub sound : IsDatabase db
   pub meta : RowsAre meta_row m (db.trees 0)
   pub accounts : db.trees 2 ≡ []

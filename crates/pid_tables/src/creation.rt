@@ -5,10 +5,10 @@ ghost use Rattle.sqlite.specs.Table.{Table};
 ghost use Rattle.pid_moderation.specs.History.{new_history};
 ghost use Rattle.pid_moderation.specs.Views.{Views, views_of};
 ghost use Rattle.pid_rows.specs.Schema as tables;
-ghost use Rattle.pid_rows.specs.Schema.{Two, pid_schema};
+ghost use Rattle.pid_rows.specs.Schema.{pid_schema};
 ghost use Rattle.pid_rows.specs.Faults.{IsUntold};
 ghost use Rattle.pid_rows.specs.PairRows.{Map};
-ghost use Rattle.pid_rows.specs.Shows.{Shows, labels_of};
+ghost use Rattle.pid_rows.specs.Shows.{Shows, meta_of};
 ghost use Rattle.pid_tables.specs.Creation.{AreMade, IsOfMaking, table_names};
 ghost use Rattle.pid_tables.specs.Making.{making, Creates, IsMakerOf, IsRefused, HasOnlyMeta, with_label};
 ghost use Rattle.pid_rows.specs.Clauses.{AtRest, GoesOn, HasCleanDisk, OnlyReads, is_open, seen};
@@ -117,7 +117,7 @@ fn add_labels<S: Alter>(tx: &mut Transaction<'_, S>) -> Result<(), TableFault>
     ensures same_reference { tx.new.conn.ghost_name ≡ tx.old.conn.ghost_name }
     ensures goes { GoesOn S.Store tx.old.conn.now tx.new.conn.now result }
     ensures added { HasCleanDisk S.Store tx.new.conn.now → IsTrue tx.old.conn.now.in_transaction → HasOnlyMeta (λ _. None) (seen S.Store tx.old.conn.now)
-        → MatchResult result (λ _. HasOnlyMeta (labels_of Two (record { items = 0; submissions = 0 }) 0) (seen S.Store tx.new.conn.now)) IsUntold }
+        → MatchResult result (λ _. HasOnlyMeta (meta_of (record { items = 0; submissions = 0 }) 0) (seen S.Store tx.new.conn.now)) IsUntold }
 {
     add_label(tx, "revision", 0)?;
     add_label(tx, "submissions", 0)?;
@@ -156,6 +156,7 @@ pub fn create<S: Alter>(conn: &mut Connection<S>) -> Result<(), TableFault>
     ensures refused { HasCleanDisk S.Store conn.new → IsMet S.Store conn.old → MatchResult result (λ _. ⊥) IsOfMaking }
     ensures kept { (v : Views) → AtRest S.Store conn.old v → AtRest S.Store conn.new v }
     ensures met { HasCleanDisk S.Store conn.new → (v : Views) → AtRest S.Store conn.old v → MatchResult result (λ _. ⊥) (IsMetFault S.Store conn.old conn.new) }
+    ensures unchanged { HasCleanDisk S.Store conn.new → IfErr result (λ fault. ¬ (IsUntold fault) → OnlyReads S.Store conn.old conn.new) }
 {
     let mut batch = conn.transaction();
     fill(&mut batch)?;
