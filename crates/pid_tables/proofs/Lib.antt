@@ -11,3 +11,4 @@ pub mod ChangeLemmas
 pub mod SchemaNumbers
 pub mod MoveLemmas
 pub mod StandLemmas
+pub mod BringLemmas

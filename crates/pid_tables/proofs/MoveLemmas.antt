@@ -77,3 +77,7 @@ all_err (Err e) f = f e
 pub never_told : {X P : Type 0} (r : Result X TableFault) → IfErr r IsUntold → IfErr r (λ e. ¬ (IsUntold e) → P)
 never_told (Ok x) h = tt
 never_told (Err e) h = λ told. absurd (told h)
+
+pub or_never : {X P Q : Type 0} (r : Result X TableFault) → (P → Q) → IfErr r (λ e. ¬ (IsUntold e) → P) → IfErr r (λ e. ¬ (IsUntold e) → Q)
+or_never (Ok x) f h = tt
+or_never (Err e) f h = λ told. f (h told)

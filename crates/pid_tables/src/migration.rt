@@ -19,7 +19,9 @@ use crate::creation::create;
 use pid_rows::meta::schema_number;
 use pid_rows::moving::move_tables;
 use pid_rows::{TableFault, Version};
-use pid_table_check::{check, has_some_table, sound_histories_are_registries};
+use pid_table_check::{
+    check, has_some_table, schemas_have_tables, sound_histories_are_registries,
+};
 use sqlite::{Alter, Connection};
 use std::alloc::Global;
 
@@ -152,6 +154,7 @@ pub fn migrate<S: Alter>(conn: &mut Connection<S>, alloc: Global) -> Result<Step
         → MatchResult result (λ _. ⊥) (λ fault. IsOfMaking fault × OnlyReads S.Store conn.old conn.new) }
     ensures shut { HasCleanDisk S.Store conn.new → is_open S.Store conn.old ≡ false → MatchResult result (λ _. ⊥) IsUntold }
 {
+    schemas_have_tables();
     let found = standing(conn, alloc)?;
     bring(conn, found)
 }
