@@ -8,7 +8,8 @@ use Rattle.sqlite.specs.Held.{Held, state}
 use Rattle.sqlite_trees.specs.declared.store.Store.{Ghosts}
 use Rattle.pid_moderation.specs.Items.{name_at}
 use Rattle.pid_moderation.specs.Views.{Views}
-use Rattle.pid_rows.specs.Schema.{Version, schema_of, meta, account, item, submission, receipt}
+use Rattle.pid_rows.specs.declared.version.Version.{Version}
+use Rattle.pid_rows.specs.Schema.{schema_of, meta, account, item, submission, receipt}
 use Rattle.pid_rows.specs.TableRows.{number, meta_row, account_row, item_row, submission_row, receipt_row}
 use Rattle.pid_rows.specs.Answers.{value_row, rank_row, name_row, standing_row, reply_row}
 use Rattle.pid_rows.specs.Shows.{Counts, Numbers, ShowsKeeping, Shows, labels_of, standing_in, receipt_in}

@@ -4,9 +4,11 @@ use Rattle.sqlite.specs.declared.types.Value.TheVariants.{Null, Int, Text}
 use Rattle.sqlite.specs.Term.{Term, lit, col}
 use Rattle.sqlite.specs.Listing.{understood}
 use Rattle.sqlite_tied.specs.Compute.{everything}
-use Rattle.pid_rows.specs.Schema.{Version, schema_of}
+use Rattle.pid_rows.specs.declared.version.Version.{Version}
+use Rattle.pid_rows.specs.declared.version.Version.TheVariants.{Two}
+use Rattle.pid_rows.specs.Schema.{schema_of}
 use Rattle.pid_rows.proofs.Statements.{equals, IsSelect, IsInsert, IsUpdate, IsDelete}
-use Rattle.pid_rows.proofs.StatementTexts.{select_meta, insert_meta, update_meta, select_account, insert_account, update_account, select_item, insert_item, update_item, delete_item, select_submission, insert_submission, update_submission, withdraw_submission, insert_remark, select_receipt, insert_receipt}
+use Rattle.pid_rows.proofs.StatementTexts.{select_meta, insert_meta, update_meta, select_account, insert_account, update_account, select_item, insert_item, update_item, delete_item, select_submission, insert_submission, update_submission, withdraw_submission, insert_remark, select_receipt, insert_receipt, insert_since, update_since}
 
 -- the key in the first column behind the rowid, in the rowid, and in the first two columns
 abbrev pub by_first : List Term
@@ -115,3 +117,11 @@ select_receipt_is version = record { is = refl; plain = (refl, refl); unlisted =
 pub insert_receipt_is : (version : Version) → IsInsert (schema_of version) 5 receipt_terms 7 insert_receipt
 unfolding understood everything
 insert_receipt_is version = record { is = refl; plain = (refl, refl) }
+
+pub insert_since_is : IsInsert (schema_of Two) 6 pair_terms 3 insert_since
+unfolding understood everything
+insert_since_is = record { is = refl; plain = (refl, refl) }
+
+pub update_since_is : IsUpdate (schema_of Two) 6 11 by_first pair_change update_since
+unfolding understood everything
+update_since_is = record { is = refl; plain = (refl, refl) }

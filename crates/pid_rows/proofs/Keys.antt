@@ -13,8 +13,8 @@ use Rattle.sqlite.specs.Kind.TheVariants.{Integer}
 use Rattle.pid_moderation.specs.declared.command.Reply.{Reply}
 use Rattle.pid_moderation.specs.Ranks.{rank_number}
 use Rattle.pid_moderation.specs.Views.{Remark}
-use Rattle.pid_rows.specs.Schema.{meta, account, item, submission, remark, receipt}
-use Rattle.pid_rows.specs.TableRows.{number, Standing, meta_row, account_row, item_row, submission_row, remark_row, receipt_row, form_of, name_of, state_number, decider_of, reason_of, kind_of, first_of, second_of, third_of}
+use Rattle.pid_rows.specs.Schema.{meta, account, item, submission, remark, receipt, item_since}
+use Rattle.pid_rows.specs.TableRows.{number, Standing, meta_row, account_row, item_row, submission_row, remark_row, receipt_row, since_row, form_of, name_of, state_number, decider_of, reason_of, kind_of, first_of, second_of, third_of}
 use Rattle.pid_rows.proofs.Select.{texts_equal, text_equal, integers_equal, integer_equal}
 use Rattle.pid_rows.proofs.WriteLemmas.{IsPlainTable, cast_null, cast_int}
 use Rattle.pid_rows.proofs.MapLemmas.{Finds}
@@ -107,6 +107,9 @@ remark_found = numbers_found (λ (r : Remark). Text r.author ∷ Text r.text ∷
 pub receipt_found : Finds receipt_row by_both (λ at. Text at.0 ∷ Text at.1 ∷ [])
 receipt_found = texts_found (λ (r : Reply). number (kind_of r) ∷ number (first_of r) ∷ number (second_of r) ∷ number (third_of r) ∷ [])
 
+pub since_found : Finds since_row by_first (λ key. Text key ∷ [])
+since_found = text_found (λ n. number n ∷ [])
+
 -- ---- the tables take no count of their own, and no default reads the time
 
 pub meta_plain : IsPlainTable meta
@@ -126,6 +129,9 @@ remark_plain = record { uncounted = refl; unstamped = refl }
 
 pub receipt_plain : IsPlainTable receipt
 receipt_plain = record { uncounted = refl; unstamped = refl }
+
+pub since_plain : IsPlainTable item_since
+since_plain = record { uncounted = refl; unstamped = refl }
 
 -- ---- columns take the values as they are
 
@@ -150,3 +156,6 @@ remark_cast id n seq author body = λ i. cast Integer id ∷ cast_int (pos n) i 
 pub receipt_cast : (id : Value) (who token : List ℕ) (kind a b c : ℕ)
     → cast_row receipt (id ∷ Text who ∷ Text token ∷ number kind ∷ number a ∷ number b ∷ number c ∷ []) ≡ cast Integer id ∷ Text who ∷ Text token ∷ number kind ∷ number a ∷ number b ∷ number c ∷ []
 receipt_cast id who token kind a b c = λ i. cast Integer id ∷ Text who ∷ Text token ∷ cast_int (pos kind) i ∷ cast_int (pos a) i ∷ cast_int (pos b) i ∷ cast_int (pos c) i ∷ []
+
+pub since_cast : (id : Value) (path : List ℕ) (n : ℕ) → cast_row item_since (id ∷ Text path ∷ number n ∷ []) ≡ cast Integer id ∷ Text path ∷ number n ∷ []
+since_cast id path n = ap (λ w. cast Integer id ∷ Text path ∷ w ∷ []) (cast_int (pos n))

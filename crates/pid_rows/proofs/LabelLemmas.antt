@@ -23,7 +23,8 @@ use Rattle.pid_rows.specs.declared.fault.TableFault.TheVariants.{Memory, Store, 
 use Rattle.pid_rows.specs.Faults.{IsUntold, IsNotLater}
 use Rattle.pid_rows.specs.LabelRows.{AnswersEach, ExplainsNumber, LacksNumber, HasLabel, IsValueOf}
 use Rattle.pid_rows.specs.Unread.{IsUnread, IsNumber}
-use Rattle.pid_rows.specs.Schema.{Version, schema_of}
+use Rattle.pid_rows.specs.declared.version.Version.{Version}
+use Rattle.pid_rows.specs.Schema.{schema_of}
 use Rattle.pid_rows.specs.TableRows.{number}
 use Rattle.pid_rows.proofs.KeyTexts.{by_first, select_meta_is}
 use Rattle.pid_rows.proofs.MapLemmas.{none_over}

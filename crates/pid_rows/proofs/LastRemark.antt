@@ -29,7 +29,8 @@ use Rattle.pid_rows.specs.TableRows.{number, remark_row}
 use Rattle.pid_rows.proofs.MapLemmas.{none_over}
 use Rattle.pid_rows.proofs.Keys.{pos_same}
 use Rattle.pid_rows.proofs.Select.{passing, shown, integers_equal, integer_equal}
-use Rattle.pid_rows.specs.Schema.{Version, schema_of}
+use Rattle.pid_rows.specs.declared.version.Version.{Version}
+use Rattle.pid_rows.specs.Schema.{schema_of}
 use Rattle.pid_rows.proofs.Statements.{program, first_one}
 use Rattle.pid_rows.proofs.KeyTexts.{by_first}
 use Rattle.pid_rows.proofs.FirstLemmas.{HasNone, IsFirst, first_found}

@@ -8,9 +8,11 @@ use Rattle.sqlite.specs.Steps.{FailsToCommit}
 use Rattle.sqlite.specs.declared.error.Error.{Error}
 use Rattle.sqlite_trees.specs.declared.store.Store.{Ghosts}
 use Rattle.pid_moderation.specs.Views.{Views}
-use Rattle.pid_rows.specs.Shows.{Counts, Numbers, ShowsKeeping, Shows, counts_of}
-use Rattle.pid_rows.specs.Schema.{Version, schema_of}
-use Rattle.pid_rows.specs.Leaves.{found_in, Leaves, LeavesEither, AtRest, Holds, Within, Written}
+use Rattle.pid_rows.specs.Shows.{Counts, Numbers, ShowsKeeping, ShowsIn, Shows, counts_of}
+use Rattle.pid_rows.specs.declared.version.Version.{Version}
+use Rattle.pid_rows.specs.declared.version.Version.TheVariants.{Two}
+use Rattle.pid_rows.specs.Schema.{schema_of}
+use Rattle.pid_rows.specs.Leaves.{found_in, Leaves, LeavesEither, LeavesShown, AtRest, RestsIn, Holds, Within, Written}
 
 pub leaves_on : (old new : State) (v : Views) → Survives old new (λ _. ⊥) → Leaves old v → Leaves new v
 leaves_on old new v s all = record { each = λ clean db may. elim (s.crash clean db may) [ inl was ↦ all.each (omega (arith, s.clean)) db was | inr none ↦ absurd none ] }
@@ -71,3 +73,29 @@ failed_back old new c v w e law early fails written opened = elim (fails (law op
 pub on_err : {X E : Type 0} {Q : Type 0} (r : Result X E) → Q → OnErr r Q
 on_err (Ok x) q = tt
 on_err (Err e) q = q
+
+-- ---- in the one schema or the other
+
+pub shown_on : (old new : State) (v : Views) → Survives old new (λ _. ⊥) → LeavesShown old v → LeavesShown new v
+shown_on old new v s all = record { each = λ clean db may. elim (s.crash clean db may) [ inl was ↦ all.each (omega (arith, s.clean)) db was | inr none ↦ absurd none ] }
+
+pub leaves_shown : (s : State) (v : Views) → Leaves s v → LeavesShown s v
+leaves_shown s v all = record { each = λ clean db may. (Two, all.each clean db may) }
+
+pub rests_in_two : (s : State) (v : Views) → AtRest s v → RestsIn Two s v
+rests_in_two s v rest = record { settled = rest.settled; same = rest.same; shows = rest.shows; leaves = leaves_shown s v rest.leaves }
+
+-- a commit of moved tables, whatever it answers
+pub moved_shown : (old new : State) (v : Views) → Survives old new (λ db. db ≡ old.now.trees) → LeavesShown old v → (HasCleanDisk new → Shows old.now v) → LeavesShown new v
+moved_shown old new v s all shows =
+    record { each = λ clean db may. elim (s.crash clean db may) [ inl was ↦ all.each (omega (arith, s.clean)) db was | inr made ↦ (Two, shows_found old.now v (shows clean) db made) ] }
+
+-- a transaction that was rolled back leaves what was committed before it
+pub given_back_in : (version : Version) (old new : State) (v : Views) → (IsTrue new.is_open → HasCleanDisk new) → new.in_transaction ≡ false → (HasCleanDisk new → IsRolledBack old new) → Survives old new (λ _. ⊥)
+    → (IsTrue old.is_open → ShowsIn version old.committed v) → LeavesShown old v → RestsIn version new v
+given_back_in version old new v law ended undone survives shows leaves = record {
+  settled = ended;
+  same = λ opened. let back = (undone (law opened)).undone opened in back.0 ∙ sym back.1;
+  shows = λ opened. let back = undone (law opened) in subst (λ d. ShowsIn version d v) (sym (back.undone opened).0) (shows (back.was_open opened));
+  leaves = shown_on old new v survives leaves;
+}

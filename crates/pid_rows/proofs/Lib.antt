@@ -30,3 +30,8 @@ pub mod UnreadLemmas
 pub mod ReadBack
 pub mod SoundReads
 pub mod LabelLemmas
+pub mod SinceTexts
+pub mod SinceFilled
+pub mod SinceCascade
+pub mod SinceRemoved
+pub mod MovingLemmas

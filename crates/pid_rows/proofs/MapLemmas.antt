@@ -26,12 +26,11 @@ use Rattle.sqlite_rules.proofs.ProbeLemmas.{mapped_has}
 use Rattle.sqlite_rules.proofs.PlaceLemmas.{given as given_rows}
 use Rattle.sqlite.specs.Schema.{Schema}
 use Rattle.sqlite_schema.specs.declared.schema.Keys.TheVariants.{Enforced}
-use Rattle.sqlite_rules.specs.Action.{works}
 use Rattle.pid_rows.specs.PairRows.{Map, RowsAre}
-use Rattle.pid_rows.proofs.Statements.{simple, program, IsSelect, IsInsert, IsUpdate, IsDelete}
+use Rattle.pid_rows.proofs.Statements.{simple, program, IsSelect, IsInsert, IsUpdate}
 use Rattle.pid_rows.proofs.Select.{passing, shown, simple_rows}
 use Rattle.pid_rows.proofs.WriteLemmas.{IsPlainTable, UpdatesAlone}
-use Rattle.pid_rows.proofs.RanLemmas.{Makes, ran_insert, ran_update, ran_delete}
+use Rattle.pid_rows.proofs.RanLemmas.{Makes, ran_insert, ran_update}
 use Rattle.pid_rows.proofs.TurnLemmas.{AreKeyed, hits, Turns, turns_insert, turns_hit, has_mapped, permuted}
 
 nil_or_first : {X : Type 0} (xs : List X) → (xs ≡ []) ⊎ ((x : X) × Has xs x × (slice_get xs 0 ≡ Some x))
@@ -193,21 +192,5 @@ module _ {K V : Type 0} (row : ℤ → K → V → Row) (tests : List Term) (giv
               let there = mapped_has (λ s. cast_row table (drop 1 s)) ran.0 _ (permuted _ ran.0 _ same (mapped_has out (passing tests params rows) (row found.0 key was) found.1)) in
               (found.0, subst (Has news) (put found.0 ∙ ap (row found.0 key) (some_same e)) there))
               (λ i k w maps miss. own_hits rows are more i k w miss) (λ i k w other. others_miss rows are more i k w other);
-          others = ran.2.applies.tables;
-        }
-
-    pub map_removed : (sql : List ℕ) → IsDelete schema at table.tree tests sql → ((olds news : List Row) → works schema Enforced 0 table.tree olds news ≡ []) → (after : Map K V) → Sets m key None after → (count : ℕ) → Executes sql (given key ++ []) old new (Ok count)
-        → Wrote schema row table old new after
-    map_removed sql s none after sets count h =
-        let params = given key ++ [] in
-        let ran = ran_delete schema sql params old new has at table here plain s.plain count h (program (simple table.tree tests (col 1 0 ∷ []))) s.is none in
-        let next = new.now.trees table.tree in
-        let same = matched params (col 1 0 ∷ []) ran.0 (ran.1.answer Null) in
-        let turns = turns_hit tests [] params rows ran.0 are.ordered keyed same next [] ran.2.applies.fresh ran.2.applies.rows in
-        record {
-          schema_is = ran.2.schema_is;
-          sound = ran.2.sound;
-          rows = pairs_set None after sets rows next [] (hits tests params) are turns (λ x one. absurd one) (λ w e. absurd cc) (λ i k w maps miss. own_hits rows are [] i k w miss)
-              (λ i k w other. others_miss rows are [] i k w other);
           others = ran.2.applies.tables;
         }

@@ -18,7 +18,8 @@ use Rattle.sqlite_rules.specs.Lists.{Has}
 use Rattle.sqlite_rules.proofs.ListLemmas.{all_has}
 use Rattle.sqlite_schema.specs.Rules.{agree, clashes, differ, equal, passes, Obeys}
 use Rattle.sqlite_schema.specs.declared.schema.Constraint.TheVariants.{Unique}
-use Rattle.pid_rows.specs.Schema.{Version, schema_of, item}
+use Rattle.pid_rows.specs.declared.version.Version.{Version}
+use Rattle.pid_rows.specs.Schema.{schema_of, item}
 use Rattle.pid_rows.proofs.Select.{said, text_equal}
 use Rattle.pid_rows.proofs.Lengths.{IsDistinct}
 

@@ -7,10 +7,12 @@ use Rattle.sqlite.specs.Held.{Held, state}
 use Rattle.sqlite.specs.State.{State, HasCleanDisk, Survives, IsUnchanged, IsRolledBack, Fails}
 use Rattle.sqlite.specs.declared.error.Error.{Error}
 use Rattle.sqlite_trees.specs.declared.store.Store.{Ghosts}
-use Rattle.pid_rows.specs.Leaves.{RestsOn, GoesOn, OnlyReads}
-use Rattle.pid_rows.specs.Shows.{Shows}
+use Rattle.pid_rows.specs.Leaves.{RestsOn, RestsIn, GoesOn, OnlyReads}
+use Rattle.pid_rows.specs.Shows.{ShowsIn, Shows}
 use Rattle.pid_rows.proofs.GoingLemmas.{earlier}
-use Rattle.pid_rows.proofs.LeaveLemmas.{leaves_on}
+use Rattle.pid_rows.proofs.LeaveLemmas.{leaves_on, shown_on}
+use Rattle.pid_rows.specs.declared.version.Version.{Version}
+use Rattle.pid_moderation.specs.Views.{Views}
 
 -- while it is open, it was open, sees what it saw or what was committed, and has that committed
 abbrev pub Keeps : State → State → Type 0
@@ -60,6 +62,17 @@ rests_on old new law survives settled keeps = record {
     same d rest = record {
       sees = λ opened. let k = keeps (law opened) opened in elim k.1 [ inl now ↦ now ∙ rest.sees k.0 | inr back ↦ back ∙ rest.committed k.0 ];
       committed = λ opened. let k = keeps (law opened) opened in k.2 ∙ rest.committed k.0;
+    }
+
+-- what rested in either schema still does
+pub rests_in_still : {version : Version} (old new : State) (v : Views) → OnlyReads old new → RestsIn version old v → RestsIn version new v
+rests_in_still {version = version} old new v reads rest =
+    let now = reads.same old.now (record { sees = λ opened. refl; committed = λ opened. sym (rest.same opened) }) in
+    record {
+      settled = reads.settled;
+      same = λ opened. now.sees opened ∙ sym (now.committed opened);
+      shows = λ opened. subst (λ d. ShowsIn version d v) (sym (now.sees opened)) (rest.shows (reads.was_open opened));
+      leaves = shown_on old new v reads.survives rest.leaves;
     }
 
 -- two reads are one

@@ -17,7 +17,8 @@ use Rattle.sqlite.specs.Schema.{Schema}
 use Rattle.pid_rows.specs.TableRows.{number}
 use Rattle.pid_rows.specs.Queries.{Asks, IsOneStatement, IsQueryAs, IsQuery}
 use Rattle.sqlite_typing.specs.Types.{accepts_program}
-use Rattle.pid_rows.specs.Schema.{Version, schema_of}
+use Rattle.pid_rows.specs.declared.version.Version.{Version}
+use Rattle.pid_rows.specs.Schema.{schema_of}
 use Rattle.pid_rows.proofs.Statements.{listing, whole, simple, program, IsSelect}
 use Rattle.pid_rows.proofs.StatementTexts.{select_meta, select_account, select_item, select_submission, select_receipt}
 use Rattle.pid_rows.proofs.KeyTexts.{by_first, by_rowid, by_both, submission_columns, submission_names, receipt_columns, select_meta_is, select_account_is, select_item_is, select_submission_is, select_receipt_is}

@@ -25,14 +25,10 @@ use Rattle.sqlite_schema.specs.Rules.{parent_key}
 use Rattle.sqlite_rules.specs.Calls.{ids_of}
 use Rattle.sqlite_schema.specs.declared.schema.Keys.TheVariants.{Enforced}
 use Rattle.sqlite_schema.specs.declared.program.Program.{Program}
-use Rattle.pid_rows.specs.Schema.{Version, One, Two, schema_of, pid_schema}
-use Rattle.pid_rows.proofs.WriteLemmas.{IsPlainTable, UpdatesAlone, on_rows, inserts, updates, deletes, deletes_all}
-
--- no reference of schema 1 acts
-pub none_acts : (tree : ℕ) (olds news : List Row) → works pid_schema Enforced 0 tree olds news ≡ []
-none_acts tree olds news =
-    elim (length news == 0) as (λ b. flat_map (λ child. filter_map (λ ref. work_by 0 tree (pairs olds news) child ref (deed_for Enforced b ref) (parent_key pid_schema.tables ref)) child.references) pid_schema.tables ≡ [])
-    [ true ↦ refl | false ↦ refl ]
+use Rattle.pid_rows.specs.declared.version.Version.{Version}
+use Rattle.pid_rows.specs.declared.version.Version.TheVariants.{One, Two}
+use Rattle.pid_rows.specs.Schema.{schema_of}
+use Rattle.pid_rows.proofs.WriteLemmas.{IsPlainTable, UpdatesAlone, on_rows, inserts, updates, deletes_all}
 
 not_zero : (n : ℕ) → (suc n == 0) ≡ false
 not_zero n = false_from_ne_true _ (λ same. let is = (Decides-eqb (suc n) 0).0 same in cc)
@@ -109,21 +105,9 @@ module _ (schema : Schema) where
         let made = updates (job old table params) plain q old.now.trees done.0 none done.1 in
         (made.0, made.1, makes_from _ done.0 w.sound done.2 made.2)
 
-    pub ran_delete : (q : Program) → command_of (understood schema sql) ≡ Delete at q → ((olds news : List Row) → works schema Enforced 0 table.tree olds news ≡ [])
-        → (rows : List Row) × Answers (at_now old) q params rows × Makes old new (edit_of old.now.trees table (ids_of rows) Given 0 [])
-    ran_delete q is none =
-        let command = Delete at q in
-        let w = runs_as sql params old new schema has command is is_plain count h in
-        let text = statement_of sql (understood schema sql) in
-        let does = subst (λ s. Does old.step_limit (mode_of old) params (record old.now { schema = s }) text None command (Ok (w.tally, new.now))) has w.changed in
-        let on = subst (λ o. AtPlace (λ t. OnRows (job old t params) (mode_of old) None command old.now.trees) o (Ok (w.tally, new.now))) here does in
-        let done = on_rows (job old table params) (mode_of old) command old.now.trees w.tally new.now on in
-        let made = deletes (job old table params) plain q old.now.trees done.0 none done.1 in
-        (made.0, made.1, makes_from _ done.0 w.sound done.2 made.2)
-
-    pub ran_delete_all : (q : Program) → command_of (understood schema sql) ≡ Delete at q
+    pub ran_delete : (q : Program) → command_of (understood schema sql) ≡ Delete at q
         → (rows : List Row) × Answers (at_now old) q params rows × MakesAll old new (edit_of old.now.trees table (ids_of rows) Given 0 [])
-    ran_delete_all q is =
+    ran_delete q is =
         let command = Delete at q in
         let w = runs_as sql params old new schema has command is is_plain count h in
         let text = statement_of sql (understood schema sql) in

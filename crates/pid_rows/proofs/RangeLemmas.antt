@@ -26,7 +26,8 @@ use Rattle.sqlite_rules.proofs.ListLemmas.{has_filtered, has_kept}
 use Rattle.pid_ident.specs.Trees.{text_cmp}
 use Rattle.pid_moderation.specs.Items.{Items, name_at}
 use Rattle.pid_moderation.specs.Views.{Views}
-use Rattle.pid_rows.specs.Schema.{Version, schema_of}
+use Rattle.pid_rows.specs.declared.version.Version.{Version}
+use Rattle.pid_rows.specs.Schema.{schema_of}
 use Rattle.pid_rows.specs.TableRows.{item_row}
 use Rattle.pid_rows.specs.Shows.{Counts, Numbers, ShowsKeeping}
 use Rattle.pid_rows.specs.Ranges.{is_between, holds_between}

@@ -1,6 +1,6 @@
 -- Rows that show readable views are read.
 use Rattle.std.proofs.Common.{◌≡◌, ◌⊎◌, inl, inr, ℕ, zero, suc, ◌<◌, ◌^◌, List, [], ◌∷◌, length, Bool, true, false, cond, None, Some, Option, Ok, Err, Result, IfOk, IfErr, MatchResult, slice_get, sym, ap, subst, ◌∙◌, arith, codes}
-use Rattle.std.specs.Prelude.{option_map}
+use Rattle.std.specs.Prelude.{option_map, IsSome}
 use Rattle.std.specs.Str.{bytes_eq}
 use Rattle.sqlite_rules.specs.Lists.{Has}
 use Rattle.sqlite.specs.Order.{Row, column}
@@ -12,9 +12,10 @@ use Rattle.pid_moderation.specs.WellMade.{IsItem, AllItems}
 use Rattle.pid_rows.specs.declared.fault.TableFault.{TableFault}
 use Rattle.pid_rows.specs.Answers.{value_row, name_row, standing_row}
 use Rattle.pid_rows.specs.Causes.{IsCaused, IsReadable, IsReadableSubmission, IsReadableState}
-use Rattle.pid_rows.specs.Shows.{meta_of, counts_of, standing_in}
+use Rattle.pid_rows.specs.declared.version.Version.TheVariants.{One, Two}
+use Rattle.pid_rows.specs.Shows.{Counts, labels_of, more_labels, meta_of, counts_of, standing_in}
 use Rattle.pid_rows.specs.TableRows.{number, Standing}
-use Rattle.pid_rows.specs.Unread.{IsUnread, IsNumber, IsWord, IsStandingRow}
+use Rattle.pid_rows.specs.Unread.{IsUnread, IsNumber, IsWhole, IsWord, IsStandingRow}
 use Rattle.pid_rows.proofs.DecodeLemmas.{some_row, number_same, mapped_some, all_at}
 use Rattle.pid_rows.proofs.RangeLemmas.{found_in}
 use Rattle.pid_rows.proofs.UnreadLemmas.{caused_unread}
@@ -46,15 +47,31 @@ pub only_row : {Q : Type 0} (rows : List Row) (row is : Row) → Some row ≡ sl
 only_row rows row is first (inl none) = absurd (let e = first ∙ ap (λ l. slice_get l 0) none.0 in let bad : ⊥ = cc in bad)
 only_row rows row is first (inr one) = let e : Some row ≡ Some is = first ∙ ap (λ l. slice_get l 0) one in cc
 
--- the three labels have numbers of 32 bits
-pub meta_fits : (v : Views) (label : List ℕ) → IsReadable v → (n : ℕ) → meta_of (counts_of v) label ≡ Some n → n < 2 ^ 32
-meta_fits v label readable n = schema (bytes_eq label (codes "schema")) (bytes_eq label (codes "items")) (bytes_eq label (codes "submissions"))
+-- a whole number in a row of its own
+pub whole_read : (old new : State) (v : Views) (row : Row) (r : Result ℕ TableFault) (n : ℕ) → row ≡ value_row n → IfOk r (λ m. column row 0 ≡ number m) → IfErr r (IsUnread (IsWhole (column row 0)))
+    → MatchResult r (λ m. m ≡ n) (λ fault. IsReadable v → IsCaused old new fault)
+whole_read old new v row (Ok m) n is read unread = number_same m n (sym read ∙ ap (λ x. column x 0) is)
+whole_read old new v row (Err e) n is read unread = λ readable. caused_unread old new e (n, ap (λ x. column x 0) is) unread
+
+-- the three labels that both schemas have are there, with numbers of 32 bits
+pub meta_there : (c : Counts) (revision : ℕ) (label : List ℕ) → IsSome (labels_of One c 0 label) → IsSome (meta_of c revision label)
+meta_there c revision label = go (bytes_eq label (codes "schema")) (bytes_eq label (codes "items")) (bytes_eq label (codes "submissions"))
   where
-    schema : (a b c : Bool) → cond a (Some 1) (cond b (Some (length v.items)) (cond c (Some (length v.submits)) None)) ≡ Some n → n < 2 ^ 32
-    schema true b c h = let is : 1 ≡ n = cc in omega (arith, is)
-    schema false true c h = let is : length v.items ≡ n = cc in subst (λ m. m < 2 ^ 32) is readable.item_count
-    schema false false true h = let is : length v.submits ≡ n = cc in subst (λ m. m < 2 ^ 32) is readable.submission_count
-    schema false false false h = absurd (let bad : ⊥ = cc in bad)
+    go : (x y z : Bool) → IsSome (cond x (Some 1) (cond y (Some c.items) (cond z (Some c.submissions) None))) → IsSome (cond x (Some 2) (cond y (Some c.items) (cond z (Some c.submissions) (more_labels Two revision label))))
+    go true y z h = h
+    go false true z h = h
+    go false false true h = h
+    go false false false h = absurd (let bad : ⊥ = cc in bad)
+
+pub meta_fits : (v : Views) (label : List ℕ) → IsSome (labels_of One (counts_of v) 0 label) → IsReadable v → (n : ℕ) → meta_of (counts_of v) v.revision label ≡ Some n → n < 2 ^ 32
+meta_fits v label known readable n = schema (bytes_eq label (codes "schema")) (bytes_eq label (codes "items")) (bytes_eq label (codes "submissions")) known
+  where
+    schema : (a b c : Bool) → IsSome (cond a (Some 1) (cond b (Some (length v.items)) (cond c (Some (length v.submits)) None)))
+        → cond a (Some 2) (cond b (Some (length v.items)) (cond c (Some (length v.submits)) (more_labels Two v.revision label))) ≡ Some n → n < 2 ^ 32
+    schema true b c known h = let is : 2 ≡ n = cc in omega (arith, is)
+    schema false true c known h = let is : length v.items ≡ n = cc in subst (λ m. m < 2 ^ 32) is readable.item_count
+    schema false false true known h = let is : length v.submits ≡ n = cc in subst (λ m. m < 2 ^ 32) is readable.submission_count
+    schema false false false known h = absurd (let bad : ⊥ = cc in bad)
 
 -- ---- items
 

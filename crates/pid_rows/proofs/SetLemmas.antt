@@ -1,6 +1,6 @@
 -- How the maps that tables keep change with the views.
 use Rattle.std.proofs.Common.{◌≡◌, ◌≢◌, inl, inr, ℕ, zero, suc, ◌+◌, Bool, T, List, [], ◌∷◌, ◌++◌, length, true, false, not, cond, None, Some, Option, IsSome, refl, sym, ap, subst, ◌∙◌, codes, arith, slice_get}
-use Rattle.std.specs.Prelude.{bytes_eq, ◌==◌, ◌&&◌, option_map}
+use Rattle.std.specs.Prelude.{bytes_eq, ◌==◌, ◌&&◌, option_map, if◌then◌else◌}
 use Rattle.std.specs.List.{AllByRecursion}
 use Rattle.std.specs.declared.cmp.Ordering.{Ordering}
 use Rattle.std.specs.declared.cmp.Ordering.TheVariants.{Less, Equal, Greater}
@@ -9,7 +9,7 @@ use Rattle.std.specs.Cmp.Lexicographic.{nat_list_cmp_total}
 use Rattle.std.specs.FinMap.{nat_cmp-IsAntisymmetric, slice_cmp-IsAntisymmetric}
 use Rattle.std.specs.FinMap.Entries.{put, where_key, is_sorted, is_sorted-put, is_sorted-where_key, find-put, find-where_key}
 use Rattle.std.proofs.lemmas.Cmp.{tied_itself}
-use Rattle.std.proofs.lemmas.Bool.{cases_Bool, and_parts, false_from_ne_true}
+use Rattle.std.proofs.lemmas.Bool.{cases_Bool, and_parts, false_from_ne_true, both_ways}
 use Rattle.std.proofs.lemmas.Bool.Decides.{Decides-eqb}
 use Rattle.std.proofs.lemmas.Option.{slice_get_past}
 use Rattle.std.proofs.lemmas.Slice.Eq.{bytes_eq-Decides}
@@ -18,12 +18,14 @@ use Rattle.pid_moderation.specs.declared.command.Reply.{Reply}
 use Rattle.pid_moderation.specs.declared.facts.State.{State}
 use Rattle.pid_moderation.specs.declared.facts.State.TheVariants.{Pending, Approved, Rejected, Withdrawn}
 use Rattle.pid_moderation.specs.Items.{Items, name_at}
-use Rattle.pid_moderation.specs.Views.{Views, Submitted, Remark, submission_at}
+use Rattle.pid_moderation.specs.Views.{Views, Submitted, Remark, submission_at, is_named_anew}
 use Rattle.pid_rows.specs.PairRows.{Map}
-use Rattle.pid_rows.specs.Schema.{Version, number_of}
+use Rattle.pid_rows.specs.declared.version.Version.{Version}
+use Rattle.pid_rows.specs.declared.version.Version.TheVariants.{One, Two}
+use Rattle.pid_rows.specs.Schema.{number_of}
 use Rattle.pid_rows.specs.TableRows.{Standing, decider_of}
-use Rattle.pid_rows.specs.Shows.{Counts, labels_of, more_labels, standing_in, counted_from_one, remark_in, receipt_in}
-use Rattle.pid_rows.specs.Writes.{with_submission, with_state, with_remark, with_reply, NamesDecider}
+use Rattle.pid_rows.specs.Shows.{Counts, labels_of, more_labels, standing_in, counted_from_one, remark_in, receipt_in, since_in, numbers_of}
+use Rattle.pid_rows.specs.Writes.{with_name, with_number, without_item, with_submission, with_state, with_remark, with_reply, NamesDecider}
 use Rattle.pid_rows.proofs.MapLemmas.{Sets}
 
 holds : (b : Bool) → T b → b ≡ true
@@ -99,6 +101,68 @@ submissions_set version c revision n = record {
   past = λ k other. labels_past k (bytes_eq k (codes "items")) (bytes_eq k (codes "submissions")) (bytes_eq k (codes "schema")) (Some (number_of version)) (Some c.items) (Some c.items) (Some n) (Some c.submissions) (more_labels version revision k)
       (λ _. refl) (λ same. absurd (other ((bytes_eq-Decides k (codes "submissions")).0 same)));
 }
+
+pub revision_set : (c : Counts) (revision n : ℕ) → Sets (labels_of Two c revision) (codes "revision") (Some n) (labels_of Two c n)
+revision_set c revision n = record {
+  at = refl;
+  past = λ k other. revision_past (bytes_eq k (codes "schema")) (bytes_eq k (codes "items")) (bytes_eq k (codes "submissions")) (bytes_eq k (codes "revision"))
+      (λ same. other ((bytes_eq-Decides k (codes "revision")).0 same));
+}
+  where
+    revision_past : (a b x r : Bool) → (r ≡ true → ⊥) → cond a (Some 2) (cond b (Some c.items) (cond x (Some c.submissions) (cond r (Some n) None))) ≡ cond a (Some 2) (cond b (Some c.items) (cond x (Some c.submissions) (cond r (Some revision) None)))
+    revision_past true b x r other = refl
+    revision_past false true x r other = refl
+    revision_past false false true r other = refl
+    revision_past false false false true other = absurd (other refl)
+    revision_past false false false false other = refl
+
+-- the labels of schema 1, with a revision of 0
+abbrev pub labels_between : Counts → Map (List ℕ) ℕ
+labels_between c label = if bytes_eq label (codes "revision") then Some 0 else labels_of One c 0 label
+
+-- with the number of schema 2 they are those of schema 2
+pub schema_raised : (c : Counts) → Sets (labels_between c) (codes "schema") (Some 2) (labels_of Two c 0)
+schema_raised c = record {
+  at = refl;
+  past = λ k other. elim (cases_Bool (bytes_eq k (codes "revision"))) [
+    | inl same ↦ subst (λ label. labels_of Two c 0 label ≡ labels_between c label) (sym ((bytes_eq-Decides k (codes "revision")).0 same)) refl
+    | inr differ ↦ no_revision k (bytes_eq k (codes "revision")) differ (bytes_eq k (codes "schema")) (bytes_eq k (codes "items")) (bytes_eq k (codes "submissions")) (λ same. other ((bytes_eq-Decides k (codes "schema")).0 same))
+  ];
+}
+  where
+    no_revision : (k : List ℕ) (r : Bool) → r ≡ false → (a b x : Bool) → (a ≡ true → ⊥)
+        → cond a (Some 2) (cond b (Some c.items) (cond x (Some c.submissions) (cond r (Some 0) None))) ≡ cond r (Some 0) (cond a (Some 1) (cond b (Some c.items) (cond x (Some c.submissions) None)))
+    no_revision k true is a b x other = absurd (let bad : ⊥ = cc in bad)
+    no_revision k false is true b x other = absurd (other refl)
+    no_revision k false is false true x other = refl
+    no_revision k false is false false true other = refl
+    no_revision k false is false false false other = refl
+
+-- ---- numbers of items
+
+pub since_left : (v : Views) (path : List ℕ) → Sets (since_in v) path None (since_in (without_item path v))
+since_left v path =
+    let left = name_left v.items path in
+    record { at = ap (option_map (λ (name : List ℕ). v.since path)) left.at; past = λ k other. ap (option_map (λ (name : List ℕ). v.since k)) (left.past k other) }
+
+named_as_before : (o : Option (List ℕ)) (n since : ℕ) → option_map (λ (name : List ℕ). cond (is_named_anew o o) n since) o ≡ option_map (λ (name : List ℕ). since) o
+named_as_before None n since = refl
+named_as_before (Some name) n since = ap (λ b. Some (cond (not b) n since)) ((bytes_eq-Decides name name).1 refl)
+
+-- the number of the path that is named anew, and of no other
+pub since_named : (n : ℕ) (path name : List ℕ) (v : Views) → is_named_anew (name_at path v.items) (Some name) ≡ true → (k : List ℕ) → (with_number path n (numbers_of v)).since k ≡ since_in (with_name n path name v) k
+since_named n path name v anew k = elim (cases_Bool (bytes_eq k path)) [
+  | inl same ↦
+      let is : k ≡ path = (bytes_eq-Decides k path).0 same in
+      let at_path : Some n ≡ since_in (with_name n path name v) path = sym (ap (λ o. option_map (λ (name : List ℕ). cond (is_named_anew (name_at path v.items) o) n (v.since path)) o) put_name.at ∙ ap (λ b. Some (cond b n (v.since path))) anew) in
+      ap (λ b. cond b (Some n) (since_in v k)) same ∙ subst (λ p. Some n ≡ since_in (with_name n path name v) p) (sym is) at_path
+  | inr differ ↦
+      let past = put_name.past k (λ is. both_ways _ differ ((bytes_eq-Decides k path).1 is)) in
+      ap (λ b. cond b (Some n) (since_in v k)) differ ∙ sym (ap (λ o. option_map (λ (name : List ℕ). cond (is_named_anew (name_at k v.items) o) n (v.since k)) o) past ∙ named_as_before (name_at k v.items) n (v.since k))
+]
+  where
+    put_name : Sets (λ p. name_at p v.items) path (Some name) (λ p. name_at p (put text_cmp path name v.items))
+    put_name = name_put v.items path name
 
 -- ---- places in lists
 

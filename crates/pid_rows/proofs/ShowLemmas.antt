@@ -13,13 +13,16 @@ use Rattle.pid_moderation.specs.declared.rank.Rank.{Rank}
 use Rattle.pid_moderation.specs.Items.{Items, name_at}
 use Rattle.pid_moderation.specs.declared.facts.State.TheVariants.{Pending}
 use Rattle.pid_moderation.specs.Views.{Views, Submitted, Remark, submission_at}
-use Rattle.pid_rows.specs.Schema.{meta, account, item, submission, remark, receipt, Version, One, Two, schema_of, more_tables}
+use Rattle.pid_rows.specs.declared.version.Version.{Version}
+use Rattle.pid_rows.specs.declared.version.Version.TheVariants.{One, Two}
+use Rattle.pid_rows.specs.Schema.{meta, account, item, submission, remark, receipt, item_since, schema_of, more_tables}
 use Rattle.pid_rows.specs.PairRows.{Map, RowsAre}
 use Rattle.pid_rows.specs.TableRows.{meta_row, account_row, item_row, submission_row, remark_row, receipt_row, since_row}
+use Rattle.pid_rows.specs.Writes.{with_revision}
 use Rattle.pid_rows.specs.Shows.{Counts, Numbers, ShowsNumbers, ShowsKeeping, labels_of, standing_in, remark_in, receipt_in}
 use Rattle.pid_rows.proofs.MapLemmas.{Wrote}
 
-still : {K V : Type 0} (row : ℤ → K → V → Row) (m : Map K V) (rows next : List Row) → next ≡ rows → RowsAre row m rows → RowsAre row m next
+pub still : {K V : Type 0} (row : ℤ → K → V → Row) (m : Map K V) (rows next : List Row) → next ≡ rows → RowsAre row m rows → RowsAre row m next
 still row m rows next same = subst (λ xs. RowsAre row m xs) (sym same)
 
 pub on_ok : {X E : Type 0} {P Q : Type 0} (r : Result X E) → (P → Q) → OnOk r P → OnOk r Q
@@ -29,7 +32,7 @@ on_ok (Err e) f h = tt
 -- the table of schema 2 is as it was
 sinces_still : (version : Version) (numbers : Numbers) (tree : ℕ) (old new : State) → AllByRecursion (λ (t : Table). t.tree ≢ tree → new.now.trees t.tree ≡ old.now.trees t.tree) (more_tables version) → 11 ≢ tree
     → ShowsNumbers version numbers old.now.trees → ShowsNumbers version numbers new.now.trees
-sinces_still One numbers tree old new others past shows = tt
+sinces_still One numbers tree old new others past shows = shows
 sinces_still Two numbers tree old new others past shows = still since_row numbers.since _ _ (others.0 past) shows
 
 module _ {version : Version} {numbers : Numbers} (old new : State) (c : Counts) (v : Views) (shows : ShowsKeeping version c numbers old.now v) where
@@ -116,4 +119,39 @@ module _ {version : Version} {numbers : Numbers} (old new : State) (c : Counts) 
     remarks = still remark_row (remark_in v) _ _ (w.others.1.1.1.1.0 (λ e. omega arith)) shows.remarks;
     receipts = w.rows;
     sinces = sinces_still version numbers 9 old new w.others.1.1.1.1.1.1 (λ e. omega arith) shows.sinces;
+  }
+
+-- ---- what schema 2 has beside
+
+-- maps that find the same have the same rows
+pub rows_same : {K V : Type 0} (row : ℤ → K → V → Row) (m n : Map K V) (rows : List Row) → ((k : K) → m k ≡ n k) → RowsAre row m rows → RowsAre row n rows
+rows_same row m n rows same are = subst (λ f. RowsAre row f rows) (λ i k. same k i) are
+
+module _ {numbers : Numbers} (old new : State) (c : Counts) (v : Views) (shows : ShowsKeeping Two c numbers old.now v) where
+  pub wrote_since : (since : Map (List ℕ) ℕ) → Wrote (schema_of Two) since_row item_since old new since → ShowsKeeping Two c (record numbers { since = since }) new.now v
+  wrote_since since w = record {
+    schema = w.schema_is;
+    sound = w.sound;
+    views = shows.views;
+    meta = still meta_row (labels_of Two c numbers.revision) _ _ (w.others.0 (λ e. omega arith)) shows.meta;
+    accounts = still account_row v.rank _ _ (w.others.1.0 (λ e. omega arith)) shows.accounts;
+    items = still item_row _ _ _ (w.others.1.1.0 (λ e. omega arith)) shows.items;
+    submissions = still submission_row (standing_in v) _ _ (w.others.1.1.1.0 (λ e. omega arith)) shows.submissions;
+    remarks = still remark_row (remark_in v) _ _ (w.others.1.1.1.1.0 (λ e. omega arith)) shows.remarks;
+    receipts = still receipt_row (receipt_in v) _ _ (w.others.1.1.1.1.1.0 (λ e. omega arith)) shows.receipts;
+    sinces = w.rows;
+  }
+
+  pub wrote_revision : (n : ℕ) → Wrote (schema_of Two) meta_row meta old new (labels_of Two c n) → ShowsKeeping Two c (record numbers { revision = n }) new.now (with_revision n v)
+  wrote_revision n w = record {
+    schema = w.schema_is;
+    sound = w.sound;
+    views = record { sorted = shows.views.sorted; paths = shows.views.paths; pending = shows.views.pending };
+    meta = w.rows;
+    accounts = still account_row v.rank _ _ (w.others.1.0 (λ e. omega arith)) shows.accounts;
+    items = still item_row _ _ _ (w.others.1.1.0 (λ e. omega arith)) shows.items;
+    submissions = still submission_row (standing_in v) _ _ (w.others.1.1.1.0 (λ e. omega arith)) shows.submissions;
+    remarks = still remark_row (remark_in v) _ _ (w.others.1.1.1.1.0 (λ e. omega arith)) shows.remarks;
+    receipts = still receipt_row (receipt_in v) _ _ (w.others.1.1.1.1.1.0 (λ e. omega arith)) shows.receipts;
+    sinces = still since_row numbers.since _ _ (w.others.1.1.1.1.1.1.0 (λ e. omega arith)) shows.sinces;
   }

@@ -51,3 +51,15 @@ select_receipt = codes "SELECT kind, a, b, c FROM receipt WHERE account = ?1 AND
 
 abbrev pub insert_receipt : List ℕ
 insert_receipt = codes "INSERT INTO receipt (account, token, kind, a, b, c) VALUES (?1, ?2, ?3, ?4, ?5, ?6)"
+
+abbrev pub create_since : List ℕ
+create_since = codes "CREATE TABLE item_since (path TEXT NOT NULL PRIMARY KEY REFERENCES item(path) ON DELETE CASCADE, since INTEGER NOT NULL) STRICT"
+
+abbrev pub fill_since : List ℕ
+fill_since = codes "INSERT INTO item_since (path, since) SELECT path, 0 FROM item"
+
+abbrev pub insert_since : List ℕ
+insert_since = codes "INSERT INTO item_since (path, since) VALUES (?1, ?2)"
+
+abbrev pub update_since : List ℕ
+update_since = codes "UPDATE item_since SET since = ?2 WHERE path = ?1"

@@ -223,7 +223,7 @@ module _ (schema : Schema) (sql : List ℕ) (params : Row) (old new : State) (ha
 
 -- ---- which texts write
 
-known_text : (sql : List ℕ) (r : Result Compiled CompileError) (command : Command) → command_of r ≡ command → IsPlain r → IsWrite (statement_of sql r) command → IsWriteAs sql r
+pub known_text : (sql : List ℕ) (r : Result Compiled CompileError) (command : Command) → command_of r ≡ command → IsPlain r → IsWrite (statement_of sql r) command → IsWriteAs sql r
 known_text sql (Ok c) command is plain writes = (plain.0, subst (IsWrite (text_of sql c)) (sym is) writes)
 known_text sql (Err e) command is plain writes = plain
 

@@ -1,5 +1,5 @@
 -- What each statement that writes leaves of what the tables show.
-use Rattle.std.proofs.Common.{◌≡◌, ℕ, ◌+◌, pos, List, [], ◌∷◌, ◌++◌, length, None, Some, Option, Ok, IsSome, refl, ap, ◌∙◌, codes}
+use Rattle.std.proofs.Common.{◌≡◌, ℕ, ◌+◌, pos, List, [], ◌∷◌, ◌++◌, length, true, None, Some, Option, Ok, Err, Result, MatchResult, IsSome, refl, ap, ◌∙◌, codes, arith}
 use Rattle.std.specs.Prelude.{option_map}
 use Rattle.sqlite.specs.declared.types.Value.TheVariants.{Null, Int, Text}
 use Rattle.sqlite.specs.Order.{Row}
@@ -13,19 +13,26 @@ use Rattle.pid_moderation.specs.declared.facts.State.TheVariants.{Pending, Withd
 use Rattle.pid_moderation.specs.declared.rank.Rank.{Rank}
 use Rattle.pid_moderation.specs.Items.{name_at}
 use Rattle.pid_moderation.specs.Ranks.{rank_number}
-use Rattle.pid_moderation.specs.Views.{Views, Submitted, Remark, submission_at}
-use Rattle.pid_rows.specs.Schema.{Version, One, schema_of, pid_schema, meta, account, item, submission, remark, receipt}
-use Rattle.pid_rows.specs.TableRows.{number, meta_row, account_row, item_row, submission_row, remark_row, receipt_row, form_of, name_of, state_number, decider_of, reason_of, kind_of, first_of, second_of, third_of}
-use Rattle.pid_rows.specs.Shows.{Counts, Numbers, ShowsKeeping, ShowsCounting, labels_of, standing_in, remark_in, receipt_in}
-use Rattle.pid_rows.specs.Writes.{with_rank, with_name, without_item, with_submission, with_state, with_remark, with_reply, NamesDecider}
+use Rattle.pid_moderation.specs.Views.{Views, Submitted, Remark, submission_at, is_named_anew}
+use Rattle.pid_rows.specs.declared.version.Version.{Version}
+use Rattle.pid_rows.specs.declared.version.Version.TheVariants.{Two}
+use Rattle.pid_rows.specs.Schema.{schema_of, meta, account, item, submission, remark, receipt, item_since}
+use Rattle.pid_rows.specs.TableRows.{number, meta_row, account_row, item_row, submission_row, remark_row, receipt_row, since_row, form_of, name_of, state_number, decider_of, reason_of, kind_of, first_of, second_of, third_of}
+use Rattle.pid_rows.specs.Shows.{Counts, Numbers, ShowsKeeping, ShowsCounting, labels_of, standing_in, remark_in, receipt_in, since_in, numbers_of}
+use Rattle.pid_rows.specs.Writes.{with_rank, with_name, with_item, with_number, with_revision, without_item, with_submission, with_state, with_remark, with_reply, NamesDecider}
 use Rattle.pid_rows.proofs.WriteLemmas.{cast_null, cast_int}
-use Rattle.pid_rows.proofs.RanLemmas.{none_acts, updates_alone}
-use Rattle.pid_rows.proofs.MapLemmas.{map_added, map_changed, map_removed}
-use Rattle.pid_rows.proofs.SetLemmas.{text_set, put_sorted, left_sorted, name_put, name_left, items_set, submissions_set, past_the_last, not_before, all_with, submission_set, state_set, not_there, any_author, past_all, remark_set, reply_set}
-use Rattle.pid_rows.proofs.Keys.{meta_found, account_found, item_found, submission_found, remark_found, receipt_found, meta_plain, account_plain, item_plain, submission_plain, remark_plain, receipt_plain, meta_cast, account_cast, item_cast, submission_cast, remark_cast, receipt_cast}
-use Rattle.pid_rows.proofs.KeyTexts.{by_first, by_rowid, by_both, pair_terms, pair_change, submission_terms, submission_change, withdrawal, remark_terms, receipt_terms, update_meta_is, insert_account_is, update_account_is, insert_item_is, update_item_is, delete_item_is, insert_submission_is, update_submission_is, withdraw_submission_is, insert_remark_is, insert_receipt_is}
-use Rattle.pid_rows.proofs.StatementTexts.{update_meta, insert_account, update_account, insert_item, update_item, delete_item, insert_submission, update_submission, withdraw_submission, insert_remark, insert_receipt}
-use Rattle.pid_rows.proofs.ShowLemmas.{wrote_meta, wrote_account, wrote_item, wrote_submission, wrote_remark, wrote_receipt}
+use Rattle.pid_rows.proofs.RanLemmas.{updates_alone}
+use Rattle.pid_rows.proofs.MapLemmas.{map_added, map_changed}
+use Rattle.pid_rows.proofs.SetLemmas.{text_set, put_sorted, left_sorted, name_put, name_left, items_set, submissions_set, past_the_last, not_before, all_with, submission_set, state_set, not_there, any_author, past_all, remark_set, reply_set, revision_set, since_left, since_named}
+use Rattle.pid_rows.proofs.Keys.{meta_found, account_found, item_found, submission_found, remark_found, receipt_found, since_found, meta_plain, account_plain, item_plain, submission_plain, remark_plain, receipt_plain, since_plain, meta_cast, account_cast, item_cast, submission_cast, remark_cast, receipt_cast, since_cast}
+use Rattle.pid_rows.proofs.KeyTexts.{by_first, by_rowid, by_both, pair_terms, pair_change, submission_terms, submission_change, withdrawal, remark_terms, receipt_terms, update_meta_is, insert_account_is, update_account_is, insert_item_is, update_item_is, insert_submission_is, update_submission_is, withdraw_submission_is, insert_remark_is, insert_receipt_is, insert_since_is, update_since_is}
+use Rattle.pid_rows.proofs.StatementTexts.{update_meta, insert_account, update_account, insert_item, update_item, delete_item, insert_submission, update_submission, withdraw_submission, insert_remark, insert_receipt, insert_since, update_since}
+use Rattle.pid_rows.proofs.ShowLemmas.{still, rows_same, wrote_meta, wrote_account, wrote_item, wrote_submission, wrote_remark, wrote_receipt, wrote_since, wrote_revision}
+use Rattle.pid_rows.proofs.SinceRemoved.{removed}
+use Rattle.pid_rows.proofs.DecodeLemmas.{mapped_some}
+use Rattle.pid_rows.specs.Faults.{IsUntold}
+use Rattle.pid_rows.specs.declared.fault.TableFault.{TableFault}
+use Rattle.sqlite.specs.Effect.{Database}
 
 -- it was carried out
 abbrev pub Ran : List ℕ → Row → State → State → Type 0
@@ -56,7 +63,7 @@ module _ {version : Version} {numbers : Numbers} (old new : State) (c : Counts) 
 
   -- ---- items
 
-  pub item_added : (path name : List ℕ) → name_at path v.items ≡ None → Ran insert_item (Text path ∷ Text name ∷ []) old new → ShowsKeeping version c numbers new.now (with_name path name v)
+  pub item_added : (path name : List ℕ) → name_at path v.items ≡ None → Ran insert_item (Text path ∷ Text name ∷ []) old new → ShowsKeeping version c numbers new.now (with_item path name v)
   item_added path name none ran =
       wrote_item old new c v shows _ (put_sorted path name v.items shows.views.sorted)
       (map_added item_row by_first _ item_found (λ p. name_at p v.items) path (schema_of version) item 2 refl item_plain old new shows.schema shows.items insert_item pair_terms 3 (insert_item_is version)
@@ -64,7 +71,7 @@ module _ {version : Version} {numbers : Numbers} (old new : State) (c : Counts) 
       (λ rs. (next_rowid rs, ap (λ r. numbered Chosen rs (r ∷ [])) (item_cast Null path name ∙ ap (λ w. w ∷ Text path ∷ Text name ∷ []) cast_null)))
       _ (name_put v.items path name) ran.0 none ran.1)
 
-  pub item_renamed : (path name : List ℕ) → IsSome (name_at path v.items) → Ran update_item (Text path ∷ Text name ∷ []) old new → ShowsKeeping version c numbers new.now (with_name path name v)
+  pub item_renamed : (path name : List ℕ) → IsSome (name_at path v.items) → Ran update_item (Text path ∷ Text name ∷ []) old new → ShowsKeeping version c numbers new.now (with_item path name v)
   item_renamed path name some ran =
       let was = some_there (name_at path v.items) some in
       wrote_item old new c v shows _ (put_sorted path name v.items shows.views.sorted)
@@ -146,9 +153,73 @@ module _ {version : Version} {numbers : Numbers} (old new : State) (c : Counts) 
       (λ rs. (next_rowid rs, ap (λ x. numbered Chosen rs (x ∷ [])) (receipt_cast Null who token (kind_of reply) (first_of reply) (second_of reply) (third_of reply) ∙ ap (λ w. w ∷ Text who ∷ Text token ∷ rest) cast_null)))
       _ (reply_set v who token reply) ran.0 none ran.1)
 
--- in schema 1 nothing refers to an item
+-- ---- what schema 2 has beside
+
+module _ {numbers : Numbers} (old new : State) (c : Counts) (v : Views) (shows : ShowsKeeping Two c numbers old.now v) where
+  pub since_added : (path : List ℕ) (n : ℕ) → numbers.since path ≡ None → Ran insert_since (Text path ∷ number n ∷ []) old new → ShowsKeeping Two c (with_number path n numbers) new.now v
+  since_added path n none ran =
+      wrote_since old new c v shows _
+      (map_added since_row by_first _ since_found numbers.since path (schema_of Two) item_since 6 refl since_plain old new shows.schema shows.sinces insert_since pair_terms 3 insert_since_is
+      (number n ∷ []) (Null ∷ Text path ∷ number n ∷ []) refl n
+      (λ rs. (next_rowid rs, ap (λ r. numbered Chosen rs (r ∷ [])) (since_cast Null path n ∙ ap (λ w. w ∷ Text path ∷ number n ∷ []) cast_null)))
+      _ (text_set numbers.since path (Some n)) ran.0 none ran.1)
+
+  pub since_changed : (path : List ℕ) (n : ℕ) → IsSome (numbers.since path) → Ran update_since (Text path ∷ number n ∷ []) old new → ShowsKeeping Two c (with_number path n numbers) new.now v
+  since_changed path n some ran =
+      let was = some_there (numbers.since path) some in
+      wrote_since old new c v shows _
+      (map_changed since_row by_first _ since_found numbers.since path (schema_of Two) item_since 6 refl since_plain old new shows.schema shows.sinces update_since pair_change update_since_is (updates_alone Two item_since old.now.trees)
+      (number n ∷ []) was.0 n (λ id. since_cast (Int id) path n ∙ ap (λ w. w ∷ Text path ∷ number n ∷ []) (cast_int id))
+      _ (text_set numbers.since path (Some n)) ran.0 was.1 ran.1)
+
+  pub revision_written : (n : ℕ) → Ran update_meta (Text (codes "revision") ∷ number n ∷ []) old new → ShowsKeeping Two c (record numbers { revision = n }) new.now (with_revision n v)
+  revision_written n ran =
+      wrote_revision old new c v shows n
+      (map_changed meta_row by_first _ meta_found (labels_of Two c numbers.revision) (codes "revision") (schema_of Two) meta 0 refl meta_plain old new shows.schema shows.meta update_meta pair_change (update_meta_is Two) (updates_alone Two meta old.now.trees)
+      (number n ∷ []) numbers.revision n (λ id. meta_cast (Int id) (codes "revision") n ∙ ap (λ w. w ∷ Text (codes "revision") ∷ number n ∷ []) (cast_int id))
+      _ (revision_set c numbers.revision n) ran.0 refl ran.1)
+
+-- both rows of the item go
 pub item_removed : (old new : State) (c : Counts) (v : Views) → ShowsCounting c old.now v → (path : List ℕ) → Ran delete_item (Text path ∷ []) old new → ShowsCounting c new.now (without_item path v)
 item_removed old new c v shows path ran =
-    wrote_item old new c v shows _ (left_sorted path v.items shows.views.sorted)
-    (map_removed item_row by_first _ item_found (λ p. name_at p v.items) path pid_schema item 2 refl item_plain old new shows.schema shows.items delete_item (delete_item_is One) (none_acts 4)
-    _ (name_left v.items path) ran.0 ran.1)
+    let it = removed old new (λ p. name_at p v.items) (λ p. name_at p (without_item path v).items) (since_in v) (since_in (without_item path v)) path shows.schema shows.items shows.sinces
+    (λ p n is. let found = mapped_some (λ (name : List ℕ). v.since p) (name_at p v.items) n is in (found.0, found.1)) (name_left v.items path) (since_left v path) ran.0 ran.1 in
+    record {
+      schema = it.schema;
+      sound = it.sound;
+      views = record { sorted = left_sorted path v.items shows.views.sorted; paths = shows.views.paths; pending = shows.views.pending };
+      meta = still meta_row (labels_of Two c v.revision) _ _ (it.others.0 (λ e. omega arith) (λ e. omega arith)) shows.meta;
+      accounts = still account_row v.rank _ _ (it.others.1.0 (λ e. omega arith) (λ e. omega arith)) shows.accounts;
+      items = it.of_items;
+      submissions = still submission_row (standing_in v) _ _ (it.others.1.1.1.0 (λ e. omega arith) (λ e. omega arith)) shows.submissions;
+      remarks = still remark_row (remark_in v) _ _ (it.others.1.1.1.1.0 (λ e. omega arith) (λ e. omega arith)) shows.remarks;
+      receipts = still receipt_row (receipt_in v) _ _ (it.others.1.1.1.1.1.0 (λ e. omega arith) (λ e. omega arith)) shows.receipts;
+      sinces = it.of_since;
+    }
+
+-- an item that is named anew has its number
+pub named_shows : (c : Counts) (n : ℕ) (path name : List ℕ) (v : Views) (db : Database) → is_named_anew (name_at path v.items) (Some name) ≡ true → ShowsKeeping Two c (with_number path n (numbers_of v)) db (with_item path name v)
+    → ShowsCounting c db (with_name n path name v)
+named_shows c n path name v db anew h = record {
+  schema = h.schema;
+  sound = h.sound;
+  views = record { sorted = h.views.sorted; paths = h.views.paths; pending = h.views.pending };
+  meta = h.meta;
+  accounts = h.accounts;
+  items = h.items;
+  submissions = h.submissions;
+  remarks = h.remarks;
+  receipts = h.receipts;
+  sinces = rows_same since_row _ (since_in (with_name n path name v)) (db.trees 11) (since_named n path name v anew) h.sinces;
+}
+
+pub then_shows : {X P Q : Type 0} (r : Result X TableFault) → (P → Q) → MatchResult r (λ _. P) IsUntold → MatchResult r (λ _. Q) IsUntold
+then_shows (Ok x) f h = f h
+then_shows (Err e) f h = h
+
+pub since_there : (v : Views) (path : List ℕ) → IsSome (name_at path v.items) → IsSome (since_in v path)
+since_there v path there = go (name_at path v.items) there
+  where
+    go : (o : Option (List ℕ)) → IsSome o → IsSome (option_map (λ (name : List ℕ). v.since path) o)
+    go None h = absurd cc
+    go (Some name) h = h

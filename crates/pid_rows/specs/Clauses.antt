@@ -12,7 +12,8 @@ use Rattle.pid_moderation.specs.Views.{Views}
 use Rattle.pid_rows.specs.declared.fault.TableFault.{TableFault}
 use Rattle.pid_rows.specs.Causes as causes
 use Rattle.pid_rows.specs.Leaves as leaves
-use Rattle.pid_rows.specs.Shows.{Counts}
+use Rattle.pid_rows.specs.Shows.{Counts, Numbers}
+use Rattle.pid_rows.specs.declared.version.Version.{Version}
 
 module _ {S : Type 0} (store : Ghosts S) where
   -- no fault has shut the connection
@@ -29,6 +30,12 @@ module _ {S : Type 0} (store : Ghosts S) where
 
   abbrev pub AtRest : Held S → Views → Type 0
   AtRest conn v = leaves.AtRest (state store conn) v
+
+  abbrev pub RestsIn : Version → Held S → Views → Type 0
+  RestsIn version conn v = leaves.RestsIn version (state store conn) v
+
+  abbrev pub LeavesShown : Held S → Views → Type 0
+  LeavesShown conn v = leaves.LeavesShown (state store conn) v
 
   abbrev pub Holds : Held S → Views → Type 0
   Holds conn v = leaves.Holds (state store conn) v
@@ -80,3 +87,9 @@ module _ {S : Type 0} (store : Ghosts S) where
   -- the same, where the counts stay as they are
   abbrev pub ChangesTo : {X : Type 0} → Held S → Held S → Result X TableFault → (Views → Type 0) → (Views → Views) → Type 0
   ChangesTo old new result IsFor next = LeadsTo old new result IsFor (λ c. c) next
+
+  abbrev pub LeadsKeeping : {X : Type 0} → Held S → Held S → Result X TableFault → (Numbers → Views → Type 0) → (Numbers → Numbers) → (Views → Views) → Type 0
+  LeadsKeeping old new result IsFor renumber next = leaves.LeadsKeeping (state store old) (state store new) result IsFor renumber next
+
+  abbrev pub Moves : {X : Type 0} → Held S → Held S → Result X TableFault → Type 0
+  Moves old new result = leaves.Moves (state store old) (state store new) result

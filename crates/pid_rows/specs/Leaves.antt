@@ -14,6 +14,8 @@
 -- commit the one or the other. `Written` says more than `Within`: the connection is open. A read goes from at rest to at rest
 -- (`OnlyReads`), a call in a transaction stays in it (`GoesOn`) and leads on to the next views (`LeadsTo`). A connection that a
 -- fault has shut shows nothing, but what a crash leaves is as good as it was.
+--
+-- All of it is of schema 2. `RestsIn` is at rest in one schema or the other, and `Moves` leads from the one to the other.
 use Rattle.std.specs.Prelude.{◌≡◌, ◌⊎◌, false, Result, OnOk, MatchResult, IsTrue}
 use Rattle.sqlite.specs.Tree.{Trees}
 use Rattle.sqlite.specs.State.{State, HasCleanDisk, Survives}
@@ -23,14 +25,16 @@ use Rattle.pid_moderation.specs.Views.{Views}
 use Rattle.pid_rows.specs.declared.fault.TableFault.{TableFault}
 use Rattle.pid_rows.specs.Faults.{IsUntold}
 use Rattle.pid_rows.specs.Causes.{IsCaused, IsReadable}
-use Rattle.pid_rows.specs.Schema.{pid_schema}
-use Rattle.pid_rows.specs.Shows.{Counts, ShowsCounting, Shows}
+use Rattle.pid_rows.specs.declared.version.Version.{Version}
+use Rattle.pid_rows.specs.declared.version.Version.TheVariants.{One, Two}
+use Rattle.pid_rows.specs.Schema.{schema_of, pid_schema}
+use Rattle.pid_rows.specs.Shows.{Counts, Numbers, ShowsKeeping, ShowsIn, ShowsCounting, Shows, numbers_of}
 
 -- trees as an open finds them, with the schema that they list
 abbrev pub found_in : Schema → Trees → Database
 found_in schema db = record { schema = schema; trees = db }
 
--- where they list schema 1
+-- where they list schema 2
 abbrev pub as_found : Trees → Database
 as_found = found_in pid_schema
 
@@ -41,6 +45,21 @@ pub record Leaves (s : State) (v : Views) : Type 0 where
 -- everything that a crash may leave shows the one or the other
 pub record LeavesEither (s : State) (first second : Views) : Type 0 where
   pub each : HasCleanDisk s → (db : Trees) → s.may_leave db → Shows (as_found db) first ⊎ Shows (as_found db) second
+
+-- trees that show the views in the one schema or the other
+abbrev pub IsShown : Trees → Views → Type 0
+IsShown db v = (version : Version) × ShowsIn version (found_in (schema_of version) db) v
+
+-- everything that a crash may leave shows the views, in the one schema or the other
+pub record LeavesShown (s : State) (v : Views) : Type 0 where
+  pub each : HasCleanDisk s → (db : Trees) → s.may_leave db → IsShown db v
+
+-- outside a transaction, while it is open, the connection shows the views in this schema; what a crash may leave shows them in one or the other
+pub record RestsIn (version : Version) (s : State) (v : Views) : Type 0 where
+  pub settled : s.in_transaction ≡ false
+  pub same : IsTrue s.is_open → s.now ≡ s.committed
+  pub shows : IsTrue s.is_open → ShowsIn version s.now v
+  pub leaves : LeavesShown s v
 
 -- outside a transaction, while it is open, the connection shows the views, and so does each thing that a crash may leave
 pub record AtRest (s : State) (v : Views) : Type 0 where
@@ -78,6 +97,19 @@ abbrev pub LeadsTo : {X : Type 0} → State → State → Result X TableFault �
 LeadsTo old new result IsFor recount next =
     HasCleanDisk new → IsTrue old.in_transaction → (c : Counts) (v : Views) → ShowsCounting c old.now v → IsFor c v
     → MatchResult result (λ _. ShowsCounting (recount c) new.now (next v)) IsUntold
+
+-- The same of one of the two statements that a change of an item takes: the numbers are told apart from the views.
+abbrev pub LeadsKeeping : {X : Type 0} → State → State → Result X TableFault → (Numbers → Views → Type 0) → (Numbers → Numbers) → (Views → Views) → Type 0
+LeadsKeeping old new result IsFor renumber next =
+    HasCleanDisk new → IsTrue old.in_transaction → (c : Counts) (numbers : Numbers) (v : Views) → ShowsKeeping Two c numbers old.now v → IsFor numbers v
+    → MatchResult result (λ _. ShowsKeeping Two c (renumber numbers) new.now (next v)) IsUntold
+
+-- Where the transaction, while it is open, shows views in schema 1, it answers a value only with it showing the same in schema 2,
+-- and a fault only for want of memory, or where the store failed or refused.
+abbrev pub Moves : {X : Type 0} → State → State → Result X TableFault → Type 0
+Moves old new result =
+    HasCleanDisk new → IsTrue old.in_transaction → (c : Counts) (v : Views) → (IsTrue old.is_open → ShowsKeeping One c (numbers_of v) old.now v)
+    → MatchResult result (λ _. ShowsCounting c new.now v) IsUntold
 
 -- while it is open, the connection sees this database, and it is committed
 pub record RestsOn (s : State) (d : Database) : Type 0 where

@@ -4,6 +4,7 @@ pub mod PairRows
 pub mod TableRows
 pub mod Answers
 pub mod Shows
+pub mod Moving
 pub mod Causes
 pub mod Queries
 pub mod Unread

@@ -15,6 +15,8 @@ use Rattle.sqlite_schema.specs.declared.schema.Index.{Index}
 use Rattle.sqlite_schema.specs.declared.schema.Action.TheVariants.{NoAction, Cascade}
 use Rattle.sqlite_value.specs.Keys.{plain}
 use Rattle.sqlite_catalog.specs.Listing.{automatic}
+use Rattle.pid_rows.specs.declared.version.Version.{Version}
+use Rattle.pid_rows.specs.declared.version.Version.TheVariants.{One, Two}
 
 abbrev pub column_of : Kind → List ℕ → Column
 column_of kind name = record { name = name; kind = kind; is_strict = true; not_null = true; default = Null; collation = Binary }
@@ -92,11 +94,6 @@ to_item = record (refers 1 (codes "item") (codes "path")) { on_delete = Cascade 
 abbrev pub item_since : Table
 item_since = keyed (codes "item_since") 11 (words (codes "path") ∷ number (codes "since") ∷ []) (1 ∷ []) [] (to_item ∷ [])
 
--- the schemas of the tables
-pub data Version : Type 0 where
-  One : Version
-  Two : Version
-
 -- the number of a schema, as meta has it
 abbrev pub number_of : Version → ℕ
 number_of One = 1
@@ -121,7 +118,7 @@ schema_of version = record {
 
 -- the schema that this program makes
 abbrev pub pid_schema : Schema
-pid_schema = schema_of One
+pid_schema = schema_of Two
 
 abbrev pub no_schema : Schema
 no_schema = record { tables = []; indexes = []; views = [] }

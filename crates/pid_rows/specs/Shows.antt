@@ -11,7 +11,9 @@ use Rattle.pid_moderation.specs.declared.command.Reply.{Reply}
 use Rattle.pid_moderation.specs.declared.facts.State.TheVariants.{Pending}
 use Rattle.pid_moderation.specs.Items.{name_at}
 use Rattle.pid_moderation.specs.Views.{Views, Submitted, Remark, submission_at}
-use Rattle.pid_rows.specs.Schema.{Version, One, Two, schema_of, number_of}
+use Rattle.pid_rows.specs.declared.version.Version.{Version}
+use Rattle.pid_rows.specs.declared.version.Version.TheVariants.{One, Two}
+use Rattle.pid_rows.specs.Schema.{schema_of, number_of}
 use Rattle.pid_rows.specs.PairRows.{Map, RowsAre}
 use Rattle.pid_rows.specs.TableRows.{Standing, meta_row, account_row, item_row, submission_row, remark_row, receipt_row, since_row}
 
@@ -20,14 +22,10 @@ pub record Counts : Type 0 where
   pub items : ℕ
   pub submissions : ℕ
 
--- what the tables of schema 2 keep of changes: the revision, and by paths the numbers of the last changes
+-- what the tables keep of changes: the revision, and by paths the numbers of the last changes
 pub record Numbers : Type 0 where
   pub revision : ℕ
   pub since : Map (List ℕ) ℕ
-
--- schema 1 keeps none
-abbrev pub no_numbers : Numbers
-no_numbers = record { revision = 0; since = λ path. None }
 
 -- what the schemas have in labels beside the three
 abbrev pub more_labels : Version → ℕ → Map (List ℕ) ℕ
@@ -42,9 +40,9 @@ labels_of version counts revision label =
     else if bytes_eq label (codes "submissions") then Some counts.submissions
     else more_labels version revision label
 
--- those of schema 1
-abbrev pub meta_of : Counts → Map (List ℕ) ℕ
-meta_of counts = labels_of One counts 0
+-- those of schema 2
+abbrev pub meta_of : Counts → ℕ → Map (List ℕ) ℕ
+meta_of counts revision = labels_of Two counts revision
 
 -- each submission, by its number, as it stands
 abbrev pub standing_in : Views → Map ℕ Standing
@@ -70,9 +68,9 @@ pub record AreViews (v : Views) : Type 0 where
   pub paths : AllByRecursion (λ (s : Submitted). IsPath s.path) v.submits
   pub pending : (n : ℕ) → submission_at n v.submits ≡ None → v.state n ≡ Pending
 
--- the table that schema 2 has beside shows the numbers by paths
+-- schema 2 has a table of the numbers by paths; schema 1 has none, and shows only what has no other number than 0
 abbrev pub ShowsNumbers : Version → Numbers → Trees → Type 0
-ShowsNumbers One numbers db = Unit {0}
+ShowsNumbers One numbers db = (numbers.revision ≡ 0) × ((path : List ℕ) (since : ℕ) → numbers.since path ≡ Some since → since ≡ 0)
 ShowsNumbers Two numbers db = RowsAre since_row numbers.since (db 11)
 
 -- tables of a schema show the views, while they keep these counts and these numbers
@@ -93,17 +91,21 @@ abbrev pub counts_of : Views → Counts
 counts_of v = record { items = length v.items; submissions = length v.submits }
 
 -- a path has a number where it has an item
-abbrev pub since_in : Views → (List ℕ → ℕ) → Map (List ℕ) ℕ
-since_in v since path = option_map (λ name. since path) (name_at path v.items)
+abbrev pub since_in : Views → Map (List ℕ) ℕ
+since_in v path = option_map (λ name. v.since path) (name_at path v.items)
 
--- tables of a schema show the views with a revision and, for each path, the number of its last change; schema 1 tells no number
-abbrev pub ShowsIn : Version → Database → Views → ℕ → (List ℕ → ℕ) → Type 0
-ShowsIn version db v revision since = ShowsKeeping version (counts_of v) (record { revision = revision; since = since_in v since }) db v
+-- the numbers that the views have
+abbrev pub numbers_of : Views → Numbers
+numbers_of v = record { revision = v.revision; since = since_in v }
 
--- the tables of schema 1 show the views, and meta has these counts
+-- tables of a schema show the views
+abbrev pub ShowsIn : Version → Database → Views → Type 0
+ShowsIn version db v = ShowsKeeping version (counts_of v) (numbers_of v) db v
+
+-- tables of schema 2 show the views, but that meta has these counts
 abbrev pub ShowsCounting : Counts → Database → Views → Type 0
-ShowsCounting counts db v = ShowsKeeping One counts no_numbers db v
+ShowsCounting counts db v = ShowsKeeping Two counts (numbers_of v) db v
 
--- the tables of schema 1 show the views, and meta has their counts
+-- tables of schema 2, which this program makes, show the views
 abbrev pub Shows : Database → Views → Type 0
-Shows db v = ShowsCounting (counts_of v) db v
+Shows db v = ShowsIn Two db v

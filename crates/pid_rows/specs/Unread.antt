@@ -31,6 +31,10 @@ IsMistold Written fault = (fault ≡ Damaged) × ¬ Written
 abbrev pub IsNumber : Value → Type 0
 IsNumber value = (n : ℕ) × (n < 2 ^ 32) × (value ≡ number n)
 
+-- a whole number, however large
+abbrev pub IsWhole : Value → Type 0
+IsWhole value = (n : ℕ) × (value ≡ number n)
+
 -- a text that keeps a rule
 abbrev pub IsWord : (List ℕ → Bool) → Value → Type 0
 IsWord rule value = (word : List ℕ) × (rule word ≡ true) × (value ≡ Text word)

@@ -9,14 +9,28 @@ use Rattle.pid_moderation.specs.declared.facts.State.{State}
 use Rattle.pid_moderation.specs.declared.facts.State.TheVariants.{Pending, Approved, Rejected, Withdrawn}
 use Rattle.pid_moderation.specs.declared.rank.Rank.{Rank}
 use Rattle.pid_moderation.specs.Views.{Views, Submitted, Remark}
+use Rattle.pid_moderation.specs.Changes.{with_items}
+use Rattle.pid_rows.specs.Shows.{Numbers}
 
 -- an account has this rank
 abbrev pub with_rank : List ℕ → Rank → Views → Views
 with_rank name rank v = record v { rank = λ a. if bytes_eq a name then Some rank else v.rank a }
 
--- a path has this name
-abbrev pub with_name : List ℕ → List ℕ → Views → Views
-with_name path name v = record v { items = put text_cmp path name v.items }
+-- a path has this name, and the number where that names it anew
+abbrev pub with_name : ℕ → List ℕ → List ℕ → Views → Views
+with_name n path name v = with_items n (put text_cmp path name v.items) v
+
+-- a path has this name; the numbers are told elsewhere
+abbrev pub with_item : List ℕ → List ℕ → Views → Views
+with_item path name v = record v { items = put text_cmp path name v.items }
+
+-- a path has this number
+abbrev pub with_number : List ℕ → ℕ → Numbers → Numbers
+with_number path n numbers = record numbers { since = λ p. if bytes_eq p path then Some n else numbers.since p }
+
+-- so many commands were accepted
+abbrev pub with_revision : ℕ → Views → Views
+with_revision n v = record v { revision = n }
 
 -- a path has no item
 abbrev pub without_item : List ℕ → Views → Views

@@ -1,6 +1,6 @@
-//! The table of items: paths and their names.
+//! The tables of items: paths and their names, and the numbers of the last changes of these.
 ghost use Rattle.std.specs.Prelude.{◌≡◌, ◌⊎◌, ◌||◌, ◌++◌, [], ◌∷◌, true, false, None, IfOk, IfErr, IsSome, option_map, slice_get, codes};
-ghost use Rattle.pid_moderation.specs.Items.{name_at as item_at, has_children as are_children};
+ghost use Rattle.pid_moderation.specs.Items.{name_at as item_at, has_children as are_children, has_name};
 ghost use Rattle.sqlite.specs.Order.{column};
 ghost use Rattle.sqlite.specs.declared.types.Value.TheVariants.{Text as TextValue};
 ghost use Rattle.pid_rows.specs.Answers.{name_row};
@@ -10,27 +10,25 @@ ghost use Rattle.pid_ident.specs.PathTexts.{path_text};
 ghost use Rattle.pid_moderation.specs.WellMade.{AllItems, HoldsParents};
 ghost use Rattle.pid_rows.specs.Shows.{AreViews};
 ghost use Rattle.pid_rows.specs.Unread.{IsUnread, IsItemRow};
-ghost use Rattle.pid_rows.specs.Writes.{with_name, without_item};
-ghost use Rattle.pid_rows.specs.Clauses.{ChangesTo, GoesOn, Reads};
+ghost use Rattle.pid_rows.specs.Writes.{with_name, with_item, with_number, without_item};
+ghost use Rattle.pid_rows.specs.Clauses.{ChangesTo, GoesOn, LeadsKeeping, Reads};
 
 use crate::fault::TableFault;
 use crate::run::{read_rows, write_one};
-use crate::value::{name_at, path_at};
+use crate::value::{name_at, path_at, stored};
 use pid_ident::{Id16, Name, Path, hex4};
 use sqlite::types::{ToSql, ValueRef};
 use sqlite::{Alter, Connection, Row, Transaction};
 use std::alloc::{AllocError, Global};
 
-/// Adds an item at a path that has none. The path is the text of a path, as `PC/8086/1237`; neither it nor the name is
-/// tested, and nor is whether the path's parent is there. A path that has an item is refused with `Store`.
-pub fn add_item<S: Alter>(
+fn insert_item<S: Alter>(
     tx: &mut Transaction<'_, S>,
     path: &str,
     name: &str,
 ) -> Result<(), TableFault>
     ensures same_reference { tx.new.conn.ghost_name ≡ tx.old.conn.ghost_name }
     ensures goes { GoesOn S.Store tx.old.conn.now tx.new.conn.now result }
-    ensures shows { ChangesTo S.Store tx.old.conn.now tx.new.conn.now result (λ v. item_at path.now v.items ≡ None) (with_name path.now name.now) }
+    ensures shows { LeadsKeeping S.Store tx.old.conn.now tx.new.conn.now result (λ n v. item_at path.now v.items ≡ None) (λ n. n) (with_item path.now name.now) }
 {
     let path = path.to_sql();
     let name = name.to_sql();
@@ -41,15 +39,49 @@ pub fn add_item<S: Alter>(
     )
 }
 
-/// Gives the item at a path another name, which is not tested. Where the path has no item it writes nothing and answers `Ok`.
-pub fn rename_item<S: Alter>(
+fn insert_since<S: Alter>(
+    tx: &mut Transaction<'_, S>,
+    path: &str,
+    since: u64,
+) -> Result<(), TableFault>
+    ensures same_reference { tx.new.conn.ghost_name ≡ tx.old.conn.ghost_name }
+    ensures goes { GoesOn S.Store tx.old.conn.now tx.new.conn.now result }
+    ensures shows { LeadsKeeping S.Store tx.old.conn.now tx.new.conn.now result (λ n v. n.since path.now ≡ None) (with_number path.now since) (λ v. v) }
+{
+    let path = path.to_sql();
+    let since = stored(since)?;
+    write_one(
+        tx,
+        "INSERT INTO item_since (path, since) VALUES (?1, ?2)",
+        &[path, since],
+    )
+}
+
+/// Adds an item at a path that has none, with the number of its change. The path is the text of a path, as `PC/8086/1237`;
+/// neither it nor the name is tested, and nor is whether the path's parent is there. A path that has an item is refused with
+/// `Store`, and so is a number that 63 bits do not hold.
+pub fn add_item<S: Alter>(
+    tx: &mut Transaction<'_, S>,
+    path: &str,
+    name: &str,
+    since: u64,
+) -> Result<(), TableFault>
+    ensures same_reference { tx.new.conn.ghost_name ≡ tx.old.conn.ghost_name }
+    ensures goes { GoesOn S.Store tx.old.conn.now tx.new.conn.now result }
+    ensures shows { ChangesTo S.Store tx.old.conn.now tx.new.conn.now result (λ v. item_at path.now v.items ≡ None) (with_name since path.now name.now) }
+{
+    insert_item(tx, path, name)?;
+    insert_since(tx, path, since)
+}
+
+fn update_item<S: Alter>(
     tx: &mut Transaction<'_, S>,
     path: &str,
     name: &str,
 ) -> Result<(), TableFault>
     ensures same_reference { tx.new.conn.ghost_name ≡ tx.old.conn.ghost_name }
     ensures goes { GoesOn S.Store tx.old.conn.now tx.new.conn.now result }
-    ensures shows { ChangesTo S.Store tx.old.conn.now tx.new.conn.now result (λ v. IsSome (item_at path.now v.items)) (with_name path.now name.now) }
+    ensures shows { LeadsKeeping S.Store tx.old.conn.now tx.new.conn.now result (λ n v. IsSome (item_at path.now v.items)) (λ n. n) (with_item path.now name.now) }
 {
     let path = path.to_sql();
     let name = name.to_sql();
@@ -60,7 +92,42 @@ pub fn rename_item<S: Alter>(
     )
 }
 
-/// Takes the item of a path away, if there is one. Items below it stay.
+fn update_since<S: Alter>(
+    tx: &mut Transaction<'_, S>,
+    path: &str,
+    since: u64,
+) -> Result<(), TableFault>
+    ensures same_reference { tx.new.conn.ghost_name ≡ tx.old.conn.ghost_name }
+    ensures goes { GoesOn S.Store tx.old.conn.now tx.new.conn.now result }
+    ensures shows { LeadsKeeping S.Store tx.old.conn.now tx.new.conn.now result (λ n v. IsSome (n.since path.now)) (with_number path.now since) (λ v. v) }
+{
+    let path = path.to_sql();
+    let since = stored(since)?;
+    write_one(
+        tx,
+        "UPDATE item_since SET since = ?2 WHERE path = ?1",
+        &[path, since],
+    )
+}
+
+/// Gives the item at a path another name, which is not tested, and the number of its change. Where the path has no item it
+/// writes nothing and answers `Ok`. A number that 63 bits do not hold is refused with `Store`.
+pub fn rename_item<S: Alter>(
+    tx: &mut Transaction<'_, S>,
+    path: &str,
+    name: &str,
+    since: u64,
+) -> Result<(), TableFault>
+    ensures same_reference { tx.new.conn.ghost_name ≡ tx.old.conn.ghost_name }
+    ensures goes { GoesOn S.Store tx.old.conn.now tx.new.conn.now result }
+    ensures shows { ChangesTo S.Store tx.old.conn.now tx.new.conn.now result
+        (λ v. IsSome (item_at path.now v.items) × (has_name name.now (item_at path.now v.items) ≡ false)) (with_name since path.now name.now) }
+{
+    update_item(tx, path, name)?;
+    update_since(tx, path, since)
+}
+
+/// Takes the item of a path away, if there is one, with its number. Items below it stay.
 pub fn remove_item<S: Alter>(tx: &mut Transaction<'_, S>, path: &str) -> Result<(), TableFault>
     ensures same_reference { tx.new.conn.ghost_name ≡ tx.old.conn.ghost_name }
     ensures goes { GoesOn S.Store tx.old.conn.now tx.new.conn.now result }

@@ -8,10 +8,13 @@ pub mod account;
 mod fault;
 pub mod item;
 pub mod meta;
+pub mod moving;
 pub mod receipt;
 pub mod remark;
 pub mod run;
 pub mod submission;
 pub mod value;
+mod version;
 
 pub use fault::TableFault;
+pub use version::Version;

@@ -1,17 +1,20 @@
-//! The table of counts.
+//! The table of counts and of the revision.
 ghost use Rattle.std.specs.Prelude.{◌≡◌, false, Some, IsSome, IfOk, IfErr, codes, length, option_map, slice_get};
 ghost use Rattle.sqlite.specs.Order.{Row as Values};
 ghost use Rattle.sqlite_rules.specs.Lists.{Has};
 ghost use Rattle.pid_rows.specs.Answers.{value_row};
 ghost use Rattle.pid_rows.specs.Faults.{IsUntold, IsNotLater};
 ghost use Rattle.pid_rows.specs.LabelRows.{AnswersEach, ExplainsNumber, HasLabel, IsValueOf};
-ghost use Rattle.pid_rows.specs.Schema.{Version, schema_of};
-ghost use Rattle.pid_rows.specs.Shows.{Counts, meta_of, counts_of};
+ghost use Rattle.pid_rows.specs.declared.version.Version.{Version};
+ghost use Rattle.pid_rows.specs.declared.version.Version.TheVariants.{One};
+ghost use Rattle.pid_rows.specs.Schema.{schema_of};
+ghost use Rattle.pid_rows.specs.Shows.{Counts, labels_of, meta_of, counts_of};
+ghost use Rattle.pid_rows.specs.Writes.{with_revision};
 ghost use Rattle.pid_rows.specs.Clauses.{ChangesTo, GoesOn, HasCleanDisk, LeadsTo, OnlyReads, Reads, Tells, seen};
 
 use crate::fault::TableFault;
 use crate::run::{read_inside, read_rows, write_one};
-use crate::value::number_at;
+use crate::value::{number_at, stored, whole_at};
 use sqlite::types::ToSql;
 use sqlite::{Alter, Connection, Row, Transaction};
 
@@ -48,6 +51,21 @@ pub fn count_submissions<S: Alter>(
     )
 }
 
+/// Writes how many commands were accepted. A number that 63 bits do not hold is refused with `Store`.
+pub fn set_revision<S: Alter>(tx: &mut Transaction<'_, S>, revision: u64) -> Result<(), TableFault>
+    ensures same_reference { tx.new.conn.ghost_name ≡ tx.old.conn.ghost_name }
+    ensures goes { GoesOn S.Store tx.old.conn.now tx.new.conn.now result }
+    ensures shows { ChangesTo S.Store tx.old.conn.now tx.new.conn.now result (λ v. Unit {0}) (with_revision revision) }
+{
+    let label = "revision".to_sql();
+    let value = stored(revision)?;
+    write_one(
+        tx,
+        "UPDATE meta SET value = ?2 WHERE label = ?1",
+        &[label, value],
+    )
+}
+
 /// Reads one row and drops it: an answer of `Ok` means that the connection is open and the transaction goes on.
 pub fn touch<S: Alter>(tx: &mut Transaction<'_, S>) -> Result<(), TableFault>
     ensures same_reference { tx.new.conn.ghost_name ≡ tx.old.conn.ghost_name }
@@ -62,7 +80,7 @@ pub fn touch<S: Alter>(tx: &mut Transaction<'_, S>) -> Result<(), TableFault>
 fn value_rows<S: Alter>(conn: &mut Connection<S>, label: &str) -> Result<Vec<Row>, TableFault>
     requires { conn.old.in_transaction ≡ false }
     ensures reads { Reads S.Store conn.old conn.new result
-        (λ v rows. slice_get rows.items 0 ≡ option_map value_row (meta_of (counts_of v) label.now)) }
+        (λ v rows. slice_get rows.items 0 ≡ option_map value_row (meta_of (counts_of v) v.revision label.now)) }
     ensures valued { HasCleanDisk S.Store conn.new → (version : Version) → (seen S.Store conn.old).schema ≡ schema_of version
         → IfOk result (λ rows. (x : Values) → Has rows.items x → IsValueOf (seen S.Store conn.old).trees label.now x) }
     ensures each { HasCleanDisk S.Store conn.new → (version : Version) → (seen S.Store conn.old).schema ≡ schema_of version
@@ -74,11 +92,11 @@ fn value_rows<S: Alter>(conn: &mut Connection<S>, label: &str) -> Result<Vec<Row
     read_rows(conn, "SELECT value FROM meta WHERE label = ?1", &[label])
 }
 
-// The number of one of the three labels.
+// The number of one of the three labels that both schemas have.
 fn count<S: Alter>(conn: &mut Connection<S>, label: &str) -> Result<u32, TableFault>
     requires { conn.old.in_transaction ≡ false }
     ensures rests { OnlyReads S.Store conn.old conn.new }
-    ensures found { ((c : Counts) → IsSome (meta_of c label.now)) → Tells S.Store conn.old conn.new result (λ v n. Some n ≡ meta_of (counts_of v) label.now) }
+    ensures found { ((c : Counts) → IsSome (labels_of One c 0 label.now)) → Tells S.Store conn.old conn.new result (λ v n. Some n ≡ meta_of (counts_of v) v.revision label.now) }
     ensures labelled { HasCleanDisk S.Store conn.new → (version : Version) → (seen S.Store conn.old).schema ≡ schema_of version → IfOk result (HasLabel (seen S.Store conn.old).trees label.now) }
     ensures refused { HasCleanDisk S.Store conn.new → (version : Version) → (seen S.Store conn.old).schema ≡ schema_of version → IfErr result (ExplainsNumber (seen S.Store conn.old).trees label.now) }
     ensures never { IfErr result IsNotLater }
@@ -106,11 +124,23 @@ pub fn submissions<S: Alter>(conn: &mut Connection<S>) -> Result<u32, TableFault
     count(conn, "submissions")
 }
 
-/// The number of the schema, by the table of counts: 1 in tables that this program made, another in those of a later one.
+/// How many commands were accepted, by the table of counts. A number that is missing, or that is no whole number, is `Damaged`.
+pub fn revision<S: Alter>(conn: &mut Connection<S>) -> Result<u64, TableFault>
+    requires { conn.old.in_transaction ≡ false }
+    ensures { Reads S.Store conn.old conn.new result (λ v n. n ≡ v.revision) }
+{
+    let rows = value_rows(conn, "revision")?;
+    match rows.first() {
+        Some(row) => whole_at(row, 0),
+        None => Err(TableFault::Damaged),
+    }
+}
+
+/// The number of the schema, by the table of counts: 1 or 2 in tables that this program made, another in those of a later one.
 /// A number that is missing, or that 32 bits do not hold, is `Damaged`.
 pub fn schema_number<S: Alter>(conn: &mut Connection<S>) -> Result<u32, TableFault>
     requires { conn.old.in_transaction ≡ false }
-    ensures reads { Reads S.Store conn.old conn.new result (λ v n. n ≡ 1) }
+    ensures reads { Reads S.Store conn.old conn.new result (λ v n. n ≡ 2) }
     ensures labelled { HasCleanDisk S.Store conn.new → (version : Version) → (seen S.Store conn.old).schema ≡ schema_of version → IfOk result (HasLabel (seen S.Store conn.old).trees (codes "schema")) }
     ensures refused { HasCleanDisk S.Store conn.new → (version : Version) → (seen S.Store conn.old).schema ≡ schema_of version → IfErr result (ExplainsNumber (seen S.Store conn.old).trees (codes "schema")) }
     ensures never { IfErr result IsNotLater }

@@ -1,15 +1,17 @@
 //! The values of a row as what they stand for. What breaks its rule is damage.
-ghost use Rattle.std.specs.Prelude.{◌≡◌, ℕ, List, OnOk, IfOk, IfErr, string_bytes};
+ghost use Rattle.std.specs.Prelude.{◌≡◌, ℕ, List, OnOk, IfOk, IfErr, MatchResult, string_bytes};
 ghost use Rattle.std.specs.Str.{bytes_eq, is_utf8};
 ghost use Rattle.sqlite.specs.declared.types.Value.TheVariants.{Text as TextValue};
 ghost use Rattle.sqlite.specs.Order.{column};
+ghost use Rattle.sqlite_value.specs.Value.{owned};
 ghost use Rattle.pid_ident.specs.PathTexts.{IsTextOf, IsPath, path_text};
 ghost use Rattle.pid_ident.specs.Words.{is_name as name_rule, is_account as account_rule, is_text as text_rule};
 ghost use Rattle.pid_ident.specs.declared.path.Path.{Path as PathValue};
 ghost use Rattle.pid_moderation.specs.declared.command.Reply.{Reply as ReplyValue};
 ghost use Rattle.pid_moderation.specs.declared.rank.Rank.{Rank as RankValue};
 ghost use Rattle.pid_moderation.specs.Ranks.{rank_number};
-ghost use Rattle.pid_rows.specs.Unread.{IsUnread, IsMistold, IsNumber, IsWord, IsPathText, IsProposal, IsState, IsReplyRow};
+ghost use Rattle.pid_rows.specs.Faults.{IsUntold};
+ghost use Rattle.pid_rows.specs.Unread.{IsUnread, IsMistold, IsNumber, IsWhole, IsWord, IsPathText, IsProposal, IsState, IsReplyRow};
 ghost use Rattle.pid_rows.specs.TableRows.{number, form_of, name_of, state_number, decider_of, reason_of, kind_of, first_of, second_of, third_of};
 
 use crate::fault::TableFault;
@@ -26,6 +28,25 @@ pub fn number_at(row: &Row, at: usize) -> Result<u32, TableFault>
 {
     let number = row.get(at)?;
     Ok(number)
+}
+
+/// The whole number in a column, counted from 0. Any other value is `Damaged`.
+pub fn whole_at(row: &Row, at: usize) -> Result<u64, TableFault>
+    ensures read { IfOk result (λ n. column row.now at ≡ number n) }
+    ensures unread { IfErr result (IsUnread (IsWhole (column row.now at))) }
+{
+    let number = row.get(at)?;
+    Ok(number)
+}
+
+/// A number as SQLite holds it. One that 63 bits do not hold is refused with `Store`.
+pub(crate) fn stored<'a>(whole: u64) -> Result<ValueRef<'a>, TableFault>
+    ensures { MatchResult result (λ value. owned value ≡ number whole) IsUntold }
+{
+    match i64::try_from(whole) {
+        Ok(whole) => Ok(ValueRef::Int(whole)),
+        Err(_) => Err(TableFault::Store),
+    }
 }
 
 fn text_at(row: &Row, at: usize) -> Result<String, TableFault>

@@ -1,4 +1,4 @@
-use Rattle.pid_rows.specs.Schema.{One}
+use Rattle.pid_rows.specs.declared.version.Version.TheVariants.{Two}
 use Rattle.pid_rows.specs.Shows.{counts_of}
 use Rattle.pid_rows.proofs.StatementTexts.{select_account}
 use Rattle.sqlite.specs.Held.{state}
@@ -11,5 +11,5 @@ returns g c = record {
   rests = c.read_rows.ensures.rests;
   told = λ clean v rest.
       at_rest g.S.Store c.args.conn.now (state g.S.Store c.read_rows.new.conn) v select_account _ c.read_rows.result (λ rows. rows.items) _ rest (λ new rows shows h. rank_found _ new (counts_of v) v shows rows.items c.args.name.now h)
-      (rw c.to_sql-name.ensures at (c.read_rows.ensures.shown clean)) ((rw c.to_sql-name.ensures at (c.read_rows.ensures.caused clean v rest)) (account_query One c.args.name.now));
+      (rw c.to_sql-name.ensures at (c.read_rows.ensures.shown clean)) ((rw c.to_sql-name.ensures at (c.read_rows.ensures.caused clean v rest)) (account_query Two c.args.name.now));
 }

@@ -1,4 +1,4 @@
-use Rattle.pid_rows.specs.Schema.{One}
+use Rattle.pid_rows.specs.declared.version.Version.TheVariants.{Two}
 use Rattle.pid_rows.specs.Shows.{counts_of}
 use Rattle.pid_rows.proofs.StatementTexts.{select_item}
 use Rattle.sqlite.specs.Held.{state}
@@ -11,5 +11,5 @@ returns g c = record {
   rests = c.read_rows.ensures.rests;
   told = λ clean v rest.
       at_rest g.S.Store c.args.conn.now (state g.S.Store c.read_rows.new.conn) v select_item _ c.read_rows.result (λ rows. rows.items) _ rest (λ new rows shows h. name_found _ new (counts_of v) v shows rows.items c.args.path.now h)
-      (rw c.to_sql-path.ensures at (c.read_rows.ensures.shown clean)) ((rw c.to_sql-path.ensures at (c.read_rows.ensures.caused clean v rest)) (item_query One c.args.path.now));
+      (rw c.to_sql-path.ensures at (c.read_rows.ensures.shown clean)) ((rw c.to_sql-path.ensures at (c.read_rows.ensures.caused clean v rest)) (item_query Two c.args.path.now));
 }

@@ -1,4 +1,4 @@
-use Rattle.pid_rows.specs.Schema.{One}
+use Rattle.pid_rows.specs.declared.version.Version.TheVariants.{Two}
 use Rattle.pid_rows.specs.Shows.{counts_of}
 use Rattle.pid_rows.proofs.RangeLemmas.{select_between, between_found}
 use Rattle.sqlite.specs.Held.{state}
@@ -11,5 +11,5 @@ returns g c = record {
   rests = c.read_rows.ensures.rests;
   told = λ clean v rest.
       at_rest g.S.Store c.args.conn.now (state g.S.Store c.read_rows.new.conn) v select_between _ c.read_rows.result (λ rows. rows.items) _ rest (λ new rows shows h. (shows.views, between_found _ new (counts_of v) v shows c.args.low.now c.args.high.now rows.items h))
-      (c.read_rows.ensures.shown clean) (c.read_rows.ensures.caused clean v rest (between_query One c.args.low.now c.args.high.now));
+      (c.read_rows.ensures.shown clean) (c.read_rows.ensures.caused clean v rest (between_query Two c.args.low.now c.args.high.now));
 }

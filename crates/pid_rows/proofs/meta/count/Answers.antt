@@ -4,7 +4,7 @@ use Rattle.sqlite.specs.Held.{state}
 use Rattle.pid_rows.specs.Answers.{value_row}
 use Rattle.pid_rows.specs.Shows.{meta_of, counts_of}
 use Rattle.pid_rows.proofs.DecodeLemmas.{no_row}
-use Rattle.pid_rows.proofs.ReadBack.{value_read, meta_fits}
+use Rattle.pid_rows.proofs.ReadBack.{value_read, meta_fits, meta_there}
 use Rattle.pid_rows.proofs.LabelLemmas.{label_read, label_refused, none_lacks, untold_explains, unread_never}
 use Rattle.pid_rows.proofs.CauseLemmas.{passed_from}
 use Rattle.pid_rows.specs.LabelRows.{ExplainsNumber}
@@ -13,14 +13,14 @@ use Rattle.pid_rows.proofs.meta.count.Goals as goal
 pub returns-in-Some-clause-found : goal.returns-in-Some-clause-found
 returns-in-Some-clause-found g c known clean v rest =
     let found = c.in_ok-rows.ensures.reads.told clean v rest in
-    value_read (state g.S.Store c.args.conn.now) (state g.S.Store c.value_rows.new.conn) v c.in-Some.row.now c.number_at.result (meta_of (counts_of v) c.args.label.now)
-    (c.in-Some.ensures.value ∙ ap (λ l. slice_get l 0) c.deref.ensures.value ∙ found) (meta_fits v c.args.label.now) c.number_at.ensures.read c.number_at.ensures.unread
+    value_read (state g.S.Store c.args.conn.now) (state g.S.Store c.value_rows.new.conn) v c.in-Some.row.now c.number_at.result (meta_of (counts_of v) v.revision c.args.label.now)
+    (c.in-Some.ensures.value ∙ ap (λ l. slice_get l 0) c.deref.ensures.value ∙ found) (meta_fits v c.args.label.now (known (counts_of v))) c.number_at.ensures.read c.number_at.ensures.unread
 
 pub returns-clause-found : goal.returns-clause-found
 returns-clause-found g c known clean v rest readable =
     let found = c.in_ok-rows.ensures.reads.told clean v rest in
-    let none = no_row value_row (meta_of (counts_of v) c.args.label.now) (c.in-None.ensures.value ∙ ap (λ l. slice_get l 0) c.deref.ensures.value ∙ found) in
-    let some = subst IsSome (sym none) (known (counts_of v)) in
+    let none = no_row value_row (meta_of (counts_of v) v.revision c.args.label.now) (c.in-None.ensures.value ∙ ap (λ l. slice_get l 0) c.deref.ensures.value ∙ found) in
+    let some = subst IsSome (sym none) (meta_there (counts_of v) v.revision c.args.label.now (known (counts_of v))) in
     let bad : ⊥ = cc in
     bad
 

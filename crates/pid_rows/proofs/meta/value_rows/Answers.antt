@@ -1,5 +1,6 @@
 use Rattle.std.proofs.Common.{true}
-use Rattle.pid_rows.specs.Schema.{One, schema_of}
+use Rattle.pid_rows.specs.declared.version.Version.TheVariants.{Two}
+use Rattle.pid_rows.specs.Schema.{schema_of}
 use Rattle.pid_rows.specs.Shows.{counts_of}
 use Rattle.pid_rows.proofs.StatementTexts.{select_meta}
 use Rattle.sqlite.specs.Held.{state}
@@ -14,7 +15,7 @@ returns-clause-reads g c = record {
   rests = c.read_rows.ensures.rests;
   told = λ clean v rest.
       at_rest g.S.Store c.args.conn.now (state g.S.Store c.read_rows.new.conn) v select_meta _ c.read_rows.result (λ rows. rows.items) _ rest (λ new rows shows h. value_found _ new (counts_of v) v shows rows.items c.args.label.now h)
-      (rw (c.to_sql-label.ensures) at (c.read_rows.ensures.shown clean)) ((rw c.to_sql-label.ensures at (c.read_rows.ensures.caused clean v rest)) (meta_query One c.args.label.now));
+      (rw (c.to_sql-label.ensures) at (c.read_rows.ensures.shown clean)) ((rw c.to_sql-label.ensures at (c.read_rows.ensures.caused clean v rest)) (meta_query Two c.args.label.now));
 }
 
 pub returns-clause-valued : goal.returns-clause-valued
