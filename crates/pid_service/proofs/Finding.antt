@@ -1,29 +1,24 @@
 -- From the end of a life to the next opening.
-use Rattle.std.proofs.Common.{◌≡◌, ◌⊎◌, ◌∙◌, inl, inr, [], Bool, true, false, Ok, Err, refl, sym, ap, subst, arith}
+use Rattle.std.proofs.Common.{◌≡◌, ◌⊎◌, inl, inr, [], Bool, true, false, Ok, Err, refl, sym, subst, arith}
 use Rattle.sqlite.specs.Held.{Held, state}
-use Rattle.sqlite.specs.Effect.{Database}
-use Rattle.sqlite.specs.Schema.{Schema}
-use Rattle.sqlite.specs.State.{State, Opens, IsLive}
-use Rattle.sqlite.specs.Tree.{Trees}
-use Rattle.sqlite_catalog.proofs.ReadLemmas.{lists_once}
 use Rattle.sqlite_trees.specs.declared.store.Store.{Ghosts}
 use Rattle.pid_moderation.specs.History.{History, new_history}
-use Rattle.pid_moderation.specs.Views.{Views, views_of}
+use Rattle.pid_moderation.specs.Views.{views_of}
 use Rattle.pid_lives.specs.Registries.{Finds}
 use Rattle.pid_rows.specs.declared.fault.TableFault.{TableFault}
 use Rattle.pid_rows.specs.Clauses as clauses
 use Rattle.pid_rows.specs.Clauses.{AtRest}
 use Rattle.pid_rows.specs.Faults.{IsUntold}
 use Rattle.pid_tables.specs.Clauses.{IsOpened}
-use Rattle.pid_service.specs.declared.below.Step.{Step}
-use Rattle.pid_service.specs.declared.below.Version.{Version}
-use Rattle.pid_service.specs.declared.below.Version.TheVariants.{One, Two}
-use Rattle.pid_rows.specs.Leaves.{found_in}
+use Rattle.pid_rows.specs.declared.version.Version.{Version}
+use Rattle.pid_rows.specs.declared.version.Version.TheVariants.{One, Two}
+use Rattle.pid_rows.specs.Leaves.{IsShown, found_in}
 use Rattle.pid_rows.specs.Schema.{schema_of}
-use Rattle.pid_service.specs.Stub.{IsShown, RestsIn, ShowsIn, schema_in}
-use Rattle.pid_service.specs.Stub.{shows_or_blank as ShowsOrBlank}
+use Rattle.pid_rows.specs.Shows.{ShowsIn}
+use Rattle.pid_tables.specs.declared.migration.Step.{Step}
+use Rattle.pid_tables.specs.Clauses.{ShowsOrBlank}
 use Rattle.pid_tables.specs.Creation.{IsBare}
-use Rattle.pid_tables.proofs.OpenLemmas.{LeavesCommitted, opened_bare, opened_shown}
+use Rattle.pid_tables.proofs.OpenLemmas.{LeavesCommitted, opened_bare, opened_rests, opened_shown}
 use Rattle.pid_service.specs.declared.registry.Registry.{Registry}
 use Rattle.pid_service.specs.Histories.{FailsBetween, IsReached, Shows}
 use Rattle.pid_service.specs.Lives.{LeavesTablesTo, IsAfterStop, MovesTo, OpensTo, showing}
@@ -36,26 +31,14 @@ none_reached = record { mark = 0; commands = []; made = tt; reached = refl; mark
 pub live_never_failed : {X : Type 0} (live : Bool) → live ≡ true → live ≡ false → X
 live_never_failed live on off = let no : ⊥ = cc in absurd no
 
--- the trees of schema 1 that were found are those of the connection
-opened_older : (s : State) (v : Views) → LeavesCommitted s → Opens s → IsLive s → ShowsIn One (found_in (schema_of (schema_in One)) s.now.trees) v → RestsIn One s v
-opened_older s v law opens live shows =
-    let schema = schema_of (schema_in One) in
-    let now : s.now ≡ found_in schema s.now.trees = ap (λ (x : Schema). found_in x s.now.trees) (lists_once _ s.now.schema schema (live opens.is_open).0.lists shows.sound.lists) in
-    record {
-      settled = opens.autocommit;
-      same = λ opened. opens.clean;
-      shows = λ opened. subst (λ (d : Database). ShowsIn One d v) (sym now) shows;
-      leaves = record { each = λ clean db may. subst (λ (t : Trees). IsShown t v) (sym (law db opens.is_open may ∙ ap (λ (d : Database). d.trees) (sym opens.clean))) (One, shows) };
-    }
-
 module _ {S : Type 0} (store : Ghosts S) where
   -- while a connection is open, a crash leaves what was committed
   abbrev pub IsSettled : Type 0
   IsSettled = (conn : Held S) → LeavesCommitted (state store conn)
 
-  opened_in : IsSettled → (conn : Held S) (h : History) → IsOpened store conn → (version : Version) → ShowsIn version (found_in (schema_of (schema_in version)) (clauses.seen store conn).trees) (views_of h) → ShowsOrBlank store conn h
+  opened_in : IsSettled → (conn : Held S) (h : History) → IsOpened store conn → (version : Version) → ShowsIn version (found_in (schema_of version) (clauses.seen store conn).trees) (views_of h) → ShowsOrBlank store conn h
   opened_in law conn h opens Two shows = inl (opened_shown (state store conn) (views_of h) (law conn) opens.0 opens.1 shows)
-  opened_in law conn h opens One shows = inr (inl (opened_older (state store conn) (views_of h) (law conn) opens.0 opens.1 shows))
+  opened_in law conn h opens One shows = inr (inl (opened_rests One (state store conn) (views_of h) (law conn) opens.0 opens.1 shows))
 
   left_found : IsSettled → (earlier conn : Held S) (h : History) → IsAfterStop store earlier conn → LeavesHistory store earlier h → ShowsOrBlank store conn h
   left_found law earlier conn h stop left = elim (left.each stop.clean _ stop.found) [

@@ -1,22 +1,23 @@
 -- What an opened database is, by what it was.
-use Rattle.std.proofs.Common.{◌≡◌, ◌⊎◌, inl, inr, [], Bool, true, false, IsTrue, Option, Some, None, Result, Ok, Err, IfErr, MatchResult, refl, rules, sym, subst}
+use Rattle.std.proofs.Common.{◌≡◌, ◌⊎◌, inl, inr, [], Bool, true, false, IsTrue, Some, Result, Ok, Err, IfErr, MatchResult, refl, rules, sym, subst}
 use Rattle.sqlite.specs.State.{State, HasCleanDisk}
 use Rattle.sqlite.specs.Effect.{Database}
 use Rattle.pid_moderation.specs.History.{History, new_history}
 use Rattle.pid_moderation.specs.Views.{Views, views_of}
 use Rattle.pid_rows.specs.declared.fault.TableFault.{TableFault}
 use Rattle.pid_rows.specs.declared.fault.TableFault.TheVariants.{Memory, Store, NewerSchema, Damaged}
+use Rattle.pid_rows.specs.declared.version.Version.{Version}
+use Rattle.pid_rows.specs.declared.version.Version.TheVariants.{One, Two}
 use Rattle.pid_rows.specs.Faults.{IsUntold}
 use Rattle.pid_rows.specs.Shows.{Shows}
-use Rattle.pid_rows.specs.Leaves.{AtRest, OnlyReads, as_found}
+use Rattle.pid_rows.specs.Leaves.{AtRest, OnlyReads, RestsIn, as_found}
+use Rattle.pid_table_check.specs.Checking.{Explains, Finds}
 use Rattle.pid_table_check.specs.Shapes.{HasSomeTable}
 use Rattle.pid_tables.specs.Creation.{IsBlank, LeavesBareOrNew}
 use Rattle.pid_name_cache.specs.Entries.{Entries}
-use Rattle.pid_service.specs.declared.below.Step.{Step}
-use Rattle.pid_service.specs.declared.below.Step.TheVariants.{Created, Moved, Already}
-use Rattle.pid_service.specs.declared.below.Version.{Version}
-use Rattle.pid_service.specs.declared.below.Version.TheVariants.{One, Two}
-use Rattle.pid_service.specs.Stub.{Explains, Finds, RestsIn, ShowsOrBlank}
+use Rattle.pid_tables.specs.declared.migration.Step.{Step}
+use Rattle.pid_tables.specs.declared.migration.Step.TheVariants.{Created, Moved, Already}
+use Rattle.pid_tables.specs.ShowsOrBlank.{ShowsOrBlank}
 use Rattle.pid_service.specs.KeptNames.{AreNamesOf}
 use Rattle.pid_service.specs.Opening.{IsFound, LeavesShown}
 use Rattle.pid_rows.proofs.OnlyReading.{reads_then}
@@ -64,15 +65,6 @@ step_leaves s t h e (inr (inr blank)) steps = let so = steps.created blank.0 in 
 pub judged_ready : {X : Type 0} (s t : State) (h : History) (r : Result X TableFault) → OnlyReads s t → AtRest s (views_of h) → IfErr r IsUntold → MatchResult r (λ x. AtRest t (views_of h)) (λ e. IsUntold e × LeavesShown t h)
 judged_ready s t h (Ok x) reads rest untold = reads.kept (views_of h) rest
 judged_ready s t h (Err e) reads rest untold = (untold, rest_leaves t h (reads.kept (views_of h) rest))
-
-pub rests_in_two : (s : State) (v : Views) → AtRest s v → RestsIn Two s v
-rests_in_two s v rest = record { settled = rest.settled; same = rest.same; shows = rest.shows; leaves = record { each = λ clean db may. (Two, rest.leaves.each clean db may) } }
-
--- found in another schema than that of today
-pub not_today : (d : Database) (found : Option Version) → Finds d found → HasSomeTable d.schema → (found ≡ Some Two → ⊥) → Explains d Store ⊎ Finds d (Some One)
-not_today d None none some other = absurd (none some)
-not_today d (Some Two) finds some other = absurd (other refl)
-not_today d (Some One) finds some other = inr finds
 
 -- where there is some table: a migration before the judgement leaves them, or found a registry in schema 1
 

@@ -5,7 +5,6 @@ pub mod Judging
 pub mod Obeying
 pub mod Importing
 pub mod Exporting
-pub mod Stub
 pub mod Opening
 pub mod Asking
 pub mod Lives

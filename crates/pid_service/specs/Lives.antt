@@ -14,12 +14,11 @@ use Rattle.pid_moderation.specs.Writes.{tree_of}
 use Rattle.pid_lives.specs.Calls.{Call, nothing_sent, obeyed}
 use Rattle.pid_lives.specs.CrashPrefix.{IsAfterPrefixes}
 use Rattle.pid_rows.specs.declared.fault.TableFault.{TableFault}
+use Rattle.pid_rows.specs.declared.version.Version.TheVariants.{One}
 use Rattle.pid_rows.specs.Clauses as clauses
-use Rattle.pid_tables.specs.Clauses.{IsBlank, IsOpened}
-use Rattle.pid_service.specs.declared.below.Step.{Step}
-use Rattle.pid_service.specs.declared.below.Step.TheVariants.{Created, Moved, Already}
-use Rattle.pid_service.specs.declared.below.Version.TheVariants.{One}
-use Rattle.pid_service.specs.Stub.{rests_in as RestsIn, shows_or_blank as ShowsOrBlank}
+use Rattle.pid_tables.specs.declared.migration.Step.{Step}
+use Rattle.pid_tables.specs.declared.migration.Step.TheVariants.{Created, Moved, Already}
+use Rattle.pid_tables.specs.Clauses.{IsBlank, IsOpened, ShowsOrBlank}
 use Rattle.pid_service.specs.declared.importing.ImportEnd.{ImportEnd}
 use Rattle.pid_service.specs.declared.importing.ImportEnd.TheVariants.{Refused, Body}
 use Rattle.pid_service.specs.declared.registry.Registry.{Registry}
@@ -62,7 +61,7 @@ module _ {S : Type 0} (store : Ghosts S) where
   -- `migrate` was called on a connection and answered this: its clauses `created`, `moved` and `already`
   pub record MovesTo (conn : Held S) (result : Result (Held S × Step) (TableFault × Held S)) : Type 0 where
     pub created : IsBlank store conn → Moves store Created result new_history
-    pub moved : (h : History) → IsReached h → RestsIn store One conn (views_of h) → Moves store Moved result h
+    pub moved : (h : History) → IsReached h → clauses.RestsIn store One conn (views_of h) → Moves store Moved result h
     pub already : (h : History) → IsReached h → clauses.AtRest store conn (views_of h) → Moves store Already result h
 
   -- a registry shows the history after the one at the start and a prefix of the commands of each life, told by its calls

@@ -8,14 +8,15 @@ use Rattle.sqlite_trees.specs.declared.store.Store.{Ghosts}
 use Rattle.pid_moderation.specs.History.{History, new_history}
 use Rattle.pid_moderation.specs.Views.{views_of}
 use Rattle.pid_rows.specs.declared.fault.TableFault.{TableFault}
+use Rattle.pid_rows.specs.declared.version.Version.{Version}
+use Rattle.pid_rows.specs.declared.version.Version.TheVariants.{One}
 use Rattle.pid_rows.specs.Clauses as clauses
 use Rattle.pid_rows.specs.Clauses.{seen}
 use Rattle.pid_rows.specs.Faults.{IsUntold}
+use Rattle.pid_rows.specs.Leaves.{IsShown}
+use Rattle.pid_table_check.specs.Checking.{Explains, Finds}
+use Rattle.pid_tables.specs.declared.migration.Step.{Step}
 use Rattle.pid_tables.specs.Creation.{IsBare}
-use Rattle.pid_service.specs.declared.below.Step.{Step}
-use Rattle.pid_service.specs.declared.below.Version.{Version}
-use Rattle.pid_service.specs.declared.below.Version.TheVariants.{One}
-use Rattle.pid_service.specs.Stub.{Explains, Finds, IsShown}
 use Rattle.pid_service.specs.declared.registry.Registry.{Registry}
 use Rattle.pid_service.specs.Histories.{Shows}
 use Rattle.pid_service.specs.Registries as registries

@@ -3,22 +3,21 @@ ghost use Rattle.std.specs.Prelude.{◌≡◌, ◌⊎◌, ◌↔◌, true, false
 ghost use Rattle.pid_moderation.specs.History.{History, new_history};
 ghost use Rattle.pid_moderation.specs.Sound.{IsSound};
 ghost use Rattle.pid_moderation.specs.Views.{views_of};
-ghost use Rattle.pid_rows.specs.Clauses.{AtRest, HasCleanDisk, OnlyReads, is_open, seen};
+ghost use Rattle.pid_rows.specs.declared.version.Version.TheVariants.{One, Two};
+ghost use Rattle.pid_rows.specs.Clauses.{AtRest, HasCleanDisk, OnlyReads, RestsIn, is_open, seen};
 ghost use Rattle.pid_rows.specs.Faults.{IsUntold};
+ghost use Rattle.pid_table_check.specs.Checking.{Explains, Finds};
 ghost use Rattle.pid_table_check.specs.Shapes.{HasNoTable, HasSomeTable};
-ghost use Rattle.pid_tables.specs.Clauses.{IsBlank, IsMet};
+ghost use Rattle.pid_tables.specs.Clauses.{IsBlank, IsMet, ShowsOrBlank};
 ghost use Rattle.pid_tables.specs.Creation.{IsOfMaking};
-ghost use Rattle.pid_service.specs.Stub.{Explains, Finds, rests_in as RestsIn, shows_or_blank as ShowsOrBlank};
-ghost use Rattle.pid_service.specs.declared.below.Version.TheVariants.{One, Two};
 ghost use Rattle.pid_service.specs.Histories.{IsReached};
 ghost use Rattle.pid_service.specs.Opening.{IsFound, LeavesHistory, Moves, Opens, Refuses, Rejects};
 ghost use Rattle.pid_service.specs.Registries as registries;
 
-use crate::below::{Below, Step, Version};
 use crate::laws::reached_histories_are_kept;
 use crate::registry::Registry;
 use pid_name_cache::NameCache;
-use pid_tables::{TableFault, Tables};
+use pid_tables::{Step, TableFault, Tables, Version};
 use sqlite::{Alter, Connection};
 use std::alloc::Global;
 
@@ -32,7 +31,7 @@ fn is_today(found: Option<Version>) -> bool
 }
 
 // Judges tables in the schema of today. There are no others behind a migration.
-fn judge_tables<B: Below, S: Alter + Drop>(tables: &mut Tables<S>, alloc: Global) -> Result<(), TableFault>
+fn judge_tables<S: Alter + Drop>(tables: &mut Tables<S>, alloc: Global) -> Result<(), TableFault>
     requires { tables.old.conn.in_transaction ≡ false }
     ensures rests { OnlyReads S.Store tables.old.conn tables.new.conn }
     ensures good { HasCleanDisk S.Store tables.new.conn → (h : History) → IsSound h → AtRest S.Store tables.old.conn (views_of h) → IfErr result IsUntold }
@@ -40,7 +39,7 @@ fn judge_tables<B: Below, S: Alter + Drop>(tables: &mut Tables<S>, alloc: Global
     ensures told { HasCleanDisk S.Store tables.new.conn → HasSomeTable (seen S.Store tables.old.conn).schema
         → MatchResult result (λ _. Finds (seen S.Store tables.old.conn) (Some Two)) (λ e. Explains (seen S.Store tables.old.conn) e ⊎ Finds (seen S.Store tables.old.conn) (Some One)) }
 {
-    match B::check(tables, alloc) {
+    match tables.check(alloc) {
         Err(fault) => Err(fault),
         Ok(found) => {
             if is_today(found) {
@@ -53,7 +52,7 @@ fn judge_tables<B: Below, S: Alter + Drop>(tables: &mut Tables<S>, alloc: Global
 }
 
 // Makes the tables where there is none, moves those of schema 1, and judges them.
-fn make_ready<B: Below, S: Alter + Drop>(tables: &mut Tables<S>, alloc: Global) -> Result<(), TableFault>
+fn make_ready<S: Alter + Drop>(tables: &mut Tables<S>, alloc: Global) -> Result<(), TableFault>
     requires { tables.old.conn.in_transaction ≡ false }
     ensures settled { tables.new.conn.in_transaction ≡ false }
     ensures clean { HasCleanDisk S.Store tables.new.conn → HasCleanDisk S.Store tables.old.conn }
@@ -68,9 +67,9 @@ fn make_ready<B: Below, S: Alter + Drop>(tables: &mut Tables<S>, alloc: Global) 
     reached_histories_are_kept();
     // Outside a transaction nothing is uncommitted, so that both see the same.
     let _settled = tables.conn.is_autocommit();
-    match B::migrate(&mut tables.conn, alloc) {
+    match pid_tables::migrate(&mut tables.conn, alloc) {
         Err(fault) => Err(fault),
-        Ok(_) => judge_tables::<B, S>(tables, alloc),
+        Ok(_) => judge_tables(tables, alloc),
     }
 }
 
@@ -81,7 +80,7 @@ fn make_ready<B: Below, S: Alter + Drop>(tables: &mut Tables<S>, alloc: Global) 
 /// `Damaged` of tables that break a condition (docs/STORAGE.md), or where something else has the name of one; else `Memory` or `Store`.
 /// Other tables, indexes and views are borne: that is tested, not promised. After a refusal where there was no table, open the files anew
 /// rather than the connection that came back.
-pub fn open<B: Below, S: Alter + Drop>(
+pub fn open<S: Alter + Drop>(
     alloc: Global,
     conn: Connection<S>,
 ) -> Result<Registry<S>, (TableFault, Connection<S>)>
@@ -103,7 +102,7 @@ pub fn open<B: Below, S: Alter + Drop>(
         return Err((TableFault::Memory, conn));
     };
     let mut tables = Tables::new(conn);
-    match make_ready::<B, S>(&mut tables, alloc) {
+    match make_ready(&mut tables, alloc) {
         Ok(()) => Ok(Registry {
             tables,
             names,
@@ -119,7 +118,7 @@ pub fn open<B: Below, S: Alter + Drop>(
 ///
 /// The history stays the same, and all of it stands before the mark: each name has the number 0, and so has the revision. Where it fails it
 /// hands the connection back, as `open` does, with the same faults.
-pub fn migrate<B: Below, S: Alter + Drop>(
+pub fn migrate<S: Alter + Drop>(
     alloc: Global,
     mut conn: Connection<S>,
 ) -> Result<(Connection<S>, Step), (TableFault, Connection<S>)>
@@ -135,7 +134,7 @@ pub fn migrate<B: Below, S: Alter + Drop>(
     ensures shut { is_open S.Store conn ≡ false → Rejects S.Store (λ r. r.0) conn result IsUntold }
 {
     reached_histories_are_kept();
-    match B::migrate(&mut conn, alloc) {
+    match pid_tables::migrate(&mut conn, alloc) {
         Ok(step) => Ok((conn, step)),
         Err(fault) => Err((fault, conn)),
     }

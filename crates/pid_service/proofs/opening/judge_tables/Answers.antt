@@ -1,8 +1,7 @@
-use Rattle.std.proofs.Common.{◌≡◌, Some, Option, false, true, refl, sym, ◌∙◌}
 use Rattle.sqlite.specs.Held.{state}
 use Rattle.pid_moderation.specs.Views.{views_of}
-use Rattle.pid_service.specs.declared.below.Version.TheVariants.{Two}
-use Rattle.pid_service.proofs.Opened.{not_today, rests_in_two}
+use Rattle.pid_rows.specs.declared.version.Version.TheVariants.{Two}
+use Rattle.pid_rows.proofs.LeaveLemmas.{rests_in_two}
 use Rattle.pid_service.proofs.opening.judge_tables.Goals as goal
 
 pub returns-in-Err-clause-good : goal.returns-in-Err-clause-good

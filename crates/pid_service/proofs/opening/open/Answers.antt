@@ -4,9 +4,8 @@ use Rattle.pid_moderation.specs.Views.{views_of}
 use Rattle.pid_rows.specs.Clauses.{HasCleanDisk, OnlyReads, seen}
 use Rattle.pid_rows.specs.Faults.{IsUntold}
 use Rattle.pid_table_check.specs.Shapes.{HasNoTable, HasSomeTable}
-use Rattle.pid_tables.specs.Clauses.{IsMet}
+use Rattle.pid_tables.specs.Clauses.{IsMet, ShowsOrBlank}
 use Rattle.pid_tables.specs.Creation.{IsOfMaking}
-use Rattle.pid_service.specs.Stub.{shows_or_blank as ShowsOrBlank}
 use Rattle.pid_service.specs.Opening.{IsFound, LeavesHistory, Refuses}
 use Rattle.pid_service.proofs.Opened.{moved, no_names, shown_leaves}
 use Rattle.pid_service.proofs.opening.open.Goals as goal
