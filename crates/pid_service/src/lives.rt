@@ -1,7 +1,7 @@
 //! From the calls on registries to the crash prefix. Each law is the contract of a function that does nothing of its own.
 //!
 //! The calls of a life each do what `clauses_meet_lives` says of their clauses; from the end of a life to the next opening leads
-//! `openings_find_histories`. So lives lead from a first opening, of which `first_openings_show_nothing` speaks, to a last one,
+//! `openings_find_histories`. So lives lead from a first opening, of which `first_openings_show_what_is_there` speaks, to a last one,
 //! and `reopened_registries_show_prefixes` says what that shows.
 ghost use Rattle.std.specs.Prelude.{◌≡◌, ◌⊎◌, ℕ, true, false, List, [], Option, Some, Ok, Err, Result};
 ghost use Rattle.sqlite.specs.Held.{Held};
@@ -117,7 +117,7 @@ pub fn openings_find_histories<S: Alter + Drop>()
 /// The crash prefix. Let the first registry show a history, that without commands where it is new, and let each further one be opened on
 /// what the one before it left, after any calls, over a stop at any place, a fault or a close. Then the last one shows the history
 /// after the first one's and a prefix of the commands of each life, joined in order, which holds every acknowledged one. It is of the
-/// mark of the first one, which no table tells yet. The printed text of its tree reads back to that tree, and to no other.
+/// mark of the first one, from which the revision and the numbers that the tables show are counted. The printed text of its tree reads back to that tree, and to no other.
 ///
 /// That text is what `export` writes of a registry that shows the history, and `lookup` answers over the same tree. All
 /// while the disk returns what was written.
