@@ -1,7 +1,6 @@
 //! Opens a registry, and moves a database to the schema of today.
 ghost use Rattle.std.specs.Prelude.{◌≡◌, ◌⊎◌, ◌↔◌, true, false, Some, IfOk, IfErr, MatchResult};
 ghost use Rattle.pid_moderation.specs.History.{History, new_history};
-ghost use Rattle.pid_moderation.specs.Sound.{IsSound};
 ghost use Rattle.pid_moderation.specs.Views.{views_of};
 ghost use Rattle.pid_rows.specs.declared.version.Version.TheVariants.{One, Two};
 ghost use Rattle.pid_rows.specs.Clauses.{AtRest, HasCleanDisk, OnlyReads, RestsIn, is_open, seen};
@@ -34,11 +33,12 @@ fn is_today(found: Option<Version>) -> bool
 fn judge_tables<S: Alter + Drop>(tables: &mut Tables<S>, alloc: Global) -> Result<(), TableFault>
     requires { tables.old.conn.in_transaction ≡ false }
     ensures rests { OnlyReads S.Store tables.old.conn tables.new.conn }
-    ensures good { HasCleanDisk S.Store tables.new.conn → (h : History) → IsSound h → AtRest S.Store tables.old.conn (views_of h) → IfErr result IsUntold }
+    ensures good { HasCleanDisk S.Store tables.new.conn → (h : History) → IsReached h → AtRest S.Store tables.old.conn (views_of h) → IfErr result IsUntold }
     ensures shut { HasCleanDisk S.Store tables.new.conn → is_open S.Store tables.old.conn ≡ false → MatchResult result (λ _. ⊥) IsUntold }
     ensures told { HasCleanDisk S.Store tables.new.conn → HasSomeTable (seen S.Store tables.old.conn).schema
         → MatchResult result (λ _. Finds (seen S.Store tables.old.conn) (Some Two)) (λ e. Explains (seen S.Store tables.old.conn) e ⊎ Finds (seen S.Store tables.old.conn) (Some One)) }
 {
+    reached_histories_are_kept();
     match tables.check(alloc) {
         Err(fault) => Err(fault),
         Ok(found) => {
