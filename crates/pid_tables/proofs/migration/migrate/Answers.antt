@@ -38,13 +38,13 @@ returns-in_err-standing-clause-moved g c clean h sound rest =
     let old = state g.S.Store c.args.conn.now in
     let mid = state g.S.Store c.standing.new.conn in
     passed_on c.from_residual.result _ _ (λ fault. IsUntold fault × RestsIn One mid (views_of h)) c.from_residual.ensures.1
-    (c.in_err-standing.ensures.earlier clean h sound rest, rests_still One old mid (views_of h) c.standing.ensures.rests rest)
+    (c.in_err-standing.ensures.earlier clean h sound rest, rests_in_still old mid (views_of h) c.standing.ensures.rests rest)
 
 pub returns-clause-moved : goal.returns-clause-moved
 returns-clause-moved g c clean h sound rest =
     let old = state g.S.Store c.args.conn.now in
     let mid = state g.S.Store c.standing.new.conn in
-    c.bring.ensures.moved clean (c.in_ok-standing.ensures.earlier (c.bring.ensures.clean clean) h sound rest) (views_of h) (rests_still One old mid (views_of h) c.standing.ensures.rests rest)
+    c.bring.ensures.moved clean (c.in_ok-standing.ensures.earlier (c.bring.ensures.clean clean) h sound rest) (views_of h) (rests_in_still old mid (views_of h) c.standing.ensures.rests rest)
 
 -- ---- tables of schema 2
 
