@@ -1,8 +1,9 @@
 //! The tables of a registry, over a connection.
-ghost use Rattle.std.specs.Prelude.{◌≡◌, ◌↔◌, codes, false, Some, length, map, IfOk, IsTrue, option_map, IfErr, MatchResult, OnOk};
+ghost use Rattle.std.specs.Prelude.{◌≡◌, ◌≤◌, ◌↔◌, codes, false, Some, length, map, IfOk, IsTrue, option_map, IfErr, MatchResult, OnOk};
 ghost use Rattle.pid_moderation.specs.History.{History};
 ghost use Rattle.pid_moderation.specs.Sound.{IsSound};
-ghost use Rattle.pid_moderation.specs.Views.{Views, views_of};
+ghost use Rattle.pid_moderation.specs.CheckTables.{most_revision};
+ghost use Rattle.pid_moderation.specs.Views.{Views, revision_of, views_of};
 ghost use Rattle.pid_ident.specs.PathTexts.{path_text};
 ghost use Rattle.pid_moderation.specs.FactsOfViews.{facts_at};
 ghost use Rattle.pid_moderation.specs.Items.{name_at};
@@ -161,8 +162,8 @@ impl<S: Alter + Drop> Tables<S> {
         // a registry in it.
         ensures stored { HasCleanDisk S.Store self.new.conn → (schema : Schema) → IsMadeFirst schema (seen S.Store self.old.conn).schema
             → MatchResult result (λ found. (found ≡ Some schema) ↔ IsRegistry schema (seen S.Store self.old.conn)) (λ fault. IsRegistry schema (seen S.Store self.old.conn) → IsUntold fault) }
-        // Tables that show a sound history are neither damaged nor of a later schema.
-        ensures good { HasCleanDisk S.Store self.new.conn → (h : History) → IsSound h → (schema : Schema) → RestsIn S.Store schema self.old.conn (views_of h)
+        // Tables that show a sound history, whose revision is within its limit, are neither damaged nor of a later schema.
+        ensures good { HasCleanDisk S.Store self.new.conn → (h : History) → IsSound h → revision_of h ≤ most_revision → (schema : Schema) → RestsIn S.Store schema self.old.conn (views_of h)
             → MatchResult result (λ found. found ≡ Some schema) IsUntold }
     {
         sound_histories_are_registries();

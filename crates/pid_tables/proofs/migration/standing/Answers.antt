@@ -8,7 +8,7 @@ use Rattle.pid_rows.specs.Shows.{counts_of, numbers_of}
 use Rattle.pid_rows.proofs.CauseLemmas.{passed_on}
 use Rattle.pid_rows.proofs.OnlyReading.{reads_then, rests_in_still}
 use Rattle.pid_table_check.specs.Checking.{Explains}
-use Rattle.pid_tables.proofs.StandLemmas.{seen_still, untold_explains, told_before, as_standing, none_found, good_found}
+use Rattle.pid_tables.proofs.StandLemmas.{seen_still, untold_explains, told_before, as_standing, none_found, none_within, good_found}
 use Rattle.pid_tables.proofs.migration.standing.Goals as goal
 
 -- ---- all reads see the same
@@ -64,7 +64,7 @@ pub returns-clause-earlier : goal.returns-clause-earlier
 returns-clause-earlier g c clean h sound rest =
     let old = state g.S.Store c.args.conn.now in
     let mid = state g.S.Store c.is_current.new.conn in
-    good_found One mid (views_of h) c.check.result (rests_in_still old mid (views_of h) c.is_current.ensures.rests rest) (c.sound_histories_are_registries.ensures h sound One mid.now) (c.check.ensures.shut clean) (c.check.ensures.stored clean)
+    good_found One mid (views_of h) c.check.result (rests_in_still old mid (views_of h) c.is_current.ensures.rests rest) (λ shows. c.sound_histories_are_registries.ensures h sound (none_within _ shows.sinces.0) One mid.now shows) (c.check.ensures.shut clean) (c.check.ensures.stored clean)
 
 -- ---- no table
 
