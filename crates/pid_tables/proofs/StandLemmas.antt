@@ -53,7 +53,7 @@ none_found db (Ok None) none told = refl
 none_found db (Ok (Some version)) none told = absurd (none (tables_some version db.schema told.0))
 none_found db (Err Memory) none told = tt
 none_found db (Err Store) none told = tt
-none_found db (Err (NewerSchema n)) none told = absurd (none (_, inl refl, told.1.query, told.1.is))
+none_found db (Err (NewerSchema n)) none told = absurd (none (_, inl refl, (told.1.query, told.1.is)))
 none_found db (Err Damaged) none told = absurd (none told.0)
 
 -- ---- tables that show a sound history

@@ -1,6 +1,5 @@
 use Rattle.std.proofs.Common.{sym, subst, ◌∙◌}
 use Rattle.sqlite.specs.Effect.{Database}
-use Rattle.sqlite.specs.Held.{state}
 use Rattle.pid_rows.specs.Shows.{ShowsKeeping}
 use Rattle.pid_table_check.specs.Shapes.{HasSomeTable}
 use Rattle.pid_tables.proofs.StandLemmas.{tables_some}

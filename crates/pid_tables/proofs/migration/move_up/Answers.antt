@@ -1,4 +1,4 @@
-use Rattle.std.proofs.Common.{◌≡◌, Bool, true, false, OnOk, OnErr, IsTrue, refl, sym, rules, arith, subst, ◌∙◌}
+use Rattle.std.proofs.Common.{◌≡◌, Ok, OnOk, OnErr, refl, rules, arith, subst}
 use Rattle.sqlite.specs.Held.{state}
 use Rattle.sqlite.specs.State.{HasCleanDisk}
 use Rattle.sqlite.proofs.StateLemmas.{clean_if_open}
@@ -41,7 +41,7 @@ returns-clause-kept g c v rest =
     let goes = rw c.transaction-batch.ensures.begun at c.in_ok-move_tables.ensures.goes in
     let shows = rw c.transaction-batch.ensures.begun at c.in_ok-move_tables.ensures.shows in
     subst (λ h. OnErr c.commit.result (RestsIn One (state g.S.Store h) v)) same
-    (failed_rests g.S.Store One c.args.conn.now first end _ c.commit.result v (clean_if_open (g.S.Store.view end.store) (g.met.S.Store.shut_if_dirty end.store))
+    (failed_rests g.S.Store One c.args.conn.now first end (Ok c.in_ok-move_tables.field-0) c.commit.result v (clean_if_open (g.S.Store.view end.store) (g.met.S.Store.shut_if_dirty end.store))
     rest goes (λ clean. shows clean refl (counts_of v) v rest.shows) c.commit.ensures.ended c.commit.ensures.survives
     (λ clean. c.commit.ensures.undone clean (goes.going (earlier (state g.S.Store first) (state g.S.Store end) c.commit.ensures.survives clean) refl).1))
 
