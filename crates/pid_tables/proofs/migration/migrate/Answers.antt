@@ -1,15 +1,13 @@
-use Rattle.std.proofs.Common.{◌⊎◌, inl, Some}
 use Rattle.sqlite.specs.Held.{state}
 use Rattle.pid_moderation.specs.Views.{views_of}
 use Rattle.pid_rows.specs.declared.version.Version.TheVariants.{One}
 use Rattle.pid_rows.specs.Faults.{IsUntold}
-use Rattle.pid_rows.specs.Leaves.{OnlyReads, RestsIn}
+use Rattle.pid_rows.specs.Leaves.{RestsIn}
 use Rattle.pid_rows.proofs.CauseLemmas.{passed_on}
 use Rattle.pid_rows.proofs.OnlyReading.{reads_then, rests_in_still}
-use Rattle.pid_table_check.specs.Checking.{Explains, Finds}
-use Rattle.pid_tables.specs.Creation.{IsOfMaking, LeavesBareOrNew}
-use Rattle.pid_tables.proofs.BringLemmas.{blank_leaves, none_there, untold_making, still_met, met_reads, left_alone, or_untold, brought}
-use Rattle.pid_tables.proofs.MoveLemmas.{all_err, or_never}
+use Rattle.pid_tables.specs.Creation.{LeavesBareOrNew}
+use Rattle.pid_tables.proofs.BringLemmas.{blank_leaves, none_there, still_met, met_reads, left_alone, or_untold, brought}
+use Rattle.pid_tables.proofs.MoveLemmas.{or_never}
 use Rattle.pid_tables.proofs.OpenLemmas.{still_blank}
 use Rattle.pid_tables.proofs.migration.migrate.Goals as goal
 
