@@ -1,10 +1,10 @@
 -- What is brought to schema 2, by what stood there.
-use Rattle.std.proofs.Common.{◌≡◌, ◌⊎◌, inl, inr, ℕ, List, Bool, true, false, None, Some, Option, Ok, Err, Result, IfOk, MatchResult, IsTrue, refl, sym, subst, ◌∙◌}
+use Rattle.std.proofs.Common.{◌≡◌, ◌⊎◌, inl, inr, ℕ, List, true, false, None, Some, Option, Ok, Err, Result, IfOk, MatchResult, IsTrue, refl, sym, subst}
 use Rattle.std.proofs.lemmas.Bool.{cases_Bool}
 use Rattle.sqlite.specs.Change.{is_used}
 use Rattle.sqlite.specs.Effect.{Database}
 use Rattle.sqlite.specs.Held.{Held, state}
-use Rattle.sqlite.specs.State.{State, HasCleanDisk}
+use Rattle.sqlite.specs.State.{State}
 use Rattle.sqlite_rules.specs.Lists.{Has}
 use Rattle.sqlite_trees.specs.declared.store.Store.{Ghosts}
 use Rattle.pid_rows.specs.declared.fault.TableFault.{TableFault}
@@ -20,7 +20,7 @@ use Rattle.pid_table_check.specs.Shapes.{HasNoTable, HasSomeTable}
 use Rattle.pid_tables.specs.Creation.{table_names, IsBlank, IsMet, IsOfMaking, LeavesBareOrNew}
 use Rattle.pid_tables.specs.Steps.{IsStanding}
 use Rattle.pid_tables.specs.declared.migration.Step.{Step}
-use Rattle.pid_tables.specs.declared.migration.Step.TheVariants.{Created, Moved, Already}
+use Rattle.pid_tables.specs.declared.migration.Step.TheVariants.{Moved, Already}
 
 -- ---- no table
 
@@ -55,9 +55,9 @@ pub left_alone : {S : Type 0} (g : Ghosts S) (old : State) (mid end : Held S) (r
 left_alone g old mid end (Ok x) reads h = (h.0, subst (λ c. OnlyReads old (state g c)) (sym h.1) reads)
 left_alone g old mid end (Err e) reads h = h
 
-pub or_untold : {P : Step → Type 0} {Q : TableFault → Type 0} (r : Result Step TableFault) → MatchResult r P (λ _. ⊥) → MatchResult r P Q
-or_untold (Ok x) h = h
-or_untold (Err e) h = absurd h
+pub or_untold : (P : Step → Type 0) (Q : TableFault → Type 0) (r : Result Step TableFault) → MatchResult r P (λ _. ⊥) → MatchResult r P Q
+or_untold P Q (Ok x) h = h
+or_untold P Q (Err e) h = absurd h
 
 -- ---- any tables
 

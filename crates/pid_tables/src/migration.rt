@@ -1,5 +1,5 @@
 //! Brings the tables of a database to schema 2.
-ghost use Rattle.std.specs.Prelude.{◌≡◌, ◌⊎◌, None, Some, true, false, IfErr, IfOk, IsTrue, MatchResult, OnErr, OnOk};
+ghost use Rattle.std.specs.Prelude.{◌≡◌, ◌⊎◌, None, Some, false, IfErr, IfOk, IsTrue, MatchResult, OnErr, OnOk};
 ghost use Rattle.pid_moderation.specs.History.{History, new_history};
 ghost use Rattle.pid_moderation.specs.Sound.{IsSound};
 ghost use Rattle.pid_moderation.specs.Views.{Views, views_of};
@@ -19,9 +19,7 @@ use crate::creation::create;
 use pid_rows::meta::schema_number;
 use pid_rows::moving::move_tables;
 use pid_rows::{TableFault, Version};
-use pid_table_check::{
-    check, has_some_table, schemas_have_tables, sound_histories_are_registries,
-};
+use pid_table_check::{check, has_some_table, schemas_have_tables, sound_histories_are_registries};
 use sqlite::{Alter, Connection};
 use std::alloc::Global;
 
@@ -37,6 +35,21 @@ pub enum Step {
 }
 
 // Whether the labels name schema 2. Labels that cannot be read name none.
+fn names_latest<S: Alter>(conn: &mut Connection<S>) -> Result<bool, TableFault>
+    requires { conn.old.in_transaction ≡ false }
+    ensures rests { OnlyReads S.Store conn.old conn.new }
+    ensures shown { HasCleanDisk S.Store conn.new → (version : Schema) (counts : Counts) (numbers : Numbers) (v : Views)
+        → ShowsKeeping version counts numbers (seen S.Store conn.old) v → IfOk result (λ is. is ≡ is_latest version) }
+    ensures untold { IfErr result IsUntold }
+{
+    match schema_number(conn) {
+        Ok(number) => Ok(number == 2),
+        Err(TableFault::Damaged) => Ok(false),
+        Err(fault) => Err(fault),
+    }
+}
+
+// Whether there are tables, and their labels name schema 2.
 fn is_current<S: Alter>(conn: &mut Connection<S>) -> Result<bool, TableFault>
     requires { conn.old.in_transaction ≡ false }
     ensures rests { OnlyReads S.Store conn.old conn.new }
@@ -46,13 +59,11 @@ fn is_current<S: Alter>(conn: &mut Connection<S>) -> Result<bool, TableFault>
     ensures was_open { HasCleanDisk S.Store conn.new → OnOk result (IsTrue (is_open S.Store conn.old)) }
     ensures untold { IfErr result IsUntold }
 {
-    if !has_some_table(conn)? {
-        return Ok(false);
-    }
-    match schema_number(conn) {
-        Ok(number) => Ok(number == 2),
-        Err(TableFault::Damaged) => Ok(false),
-        Err(fault) => Err(fault),
+    schemas_have_tables();
+    if has_some_table(conn)? {
+        names_latest(conn)
+    } else {
+        Ok(false)
     }
 }
 
@@ -95,10 +106,7 @@ fn move_up<S: Alter>(conn: &mut Connection<S>) -> Result<(), TableFault>
 }
 
 // Brings what stands to schema 2.
-fn bring<S: Alter>(
-    conn: &mut Connection<S>,
-    found: Option<Version>,
-) -> Result<Step, TableFault>
+fn bring<S: Alter>(conn: &mut Connection<S>, found: Option<Version>) -> Result<Step, TableFault>
     requires { conn.old.in_transaction ≡ false }
     ensures settled { conn.new.in_transaction ≡ false }
     ensures clean { HasCleanDisk S.Store conn.new → HasCleanDisk S.Store conn.old }
