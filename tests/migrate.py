@@ -86,7 +86,6 @@ BROKEN = {
     "a revision": ("INSERT INTO meta VALUES ('revision', 0)", b"open: Damaged\n"),
     "a wrong count": ("UPDATE meta SET value = 2 WHERE label = 'items'", b"open: Damaged\n"),
     "no name": ("UPDATE item SET name = ''", b"open: Damaged\n"),
-    "schema 2": ("UPDATE meta SET value = 2 WHERE label = 'schema'", b"open: Damaged\n"),
     "a later schema": ("UPDATE meta SET value = 3 WHERE label = 'schema'", b"open: NewerSchema 3\n"),
 }
 
@@ -101,6 +100,13 @@ def not_taken_over(cases, folder):
         before = asked(path, "SELECT type, name, sql FROM sqlite_master; " + DUMP)
         cases.equal(f"schema 1 with {name}", (migrate(path), script(path)), ((b"", told, 3),) * 2)
         cases.equal(f"schema 1 with {name}: as it was", asked(path, "SELECT type, name, sql FROM sqlite_master; " + DUMP), before)
+
+
+def called_later(cases, folder):
+    """Tables of schema 1 whose label names schema 2: there is nothing to take over, and they are no registry."""
+    path = os.path.join(folder, "called.db")
+    old_file(path, "UPDATE meta SET value = 2 WHERE label = 'schema'")
+    cases.equal("schema 1, called 2", (migrate(path), script(path)), (ALREADY, (b"", b"open: Damaged\n", 3)))
 
 
 def beside(cases, folder):
@@ -149,6 +155,7 @@ def run(cases):
         taken_over(cases, folder)
         by_other_words(cases, folder)
         not_taken_over(cases, folder)
+        called_later(cases, folder)
         beside(cases, folder)
         for name, step, least in (("refuse_disk", 1, 10), ("refuse_malloc", 11, 20)):
             shim = os.path.join(folder, f"{name}.so")
