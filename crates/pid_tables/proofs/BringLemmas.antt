@@ -55,9 +55,9 @@ pub left_alone : {S : Type 0} (g : Ghosts S) (old : State) (mid end : Held S) (r
 left_alone g old mid end (Ok x) reads h = (h.0, subst (λ c. OnlyReads old (state g c)) (sym h.1) reads)
 left_alone g old mid end (Err e) reads h = h
 
-pub or_untold : {P : Step → Type 0} {Q : TableFault → Type 0} (r : Result Step TableFault) → MatchResult r P (λ _. ⊥) → MatchResult r P Q
-or_untold (Ok x) h = h
-or_untold (Err e) h = absurd h
+pub or_untold : (P : Step → Type 0) (Q : TableFault → Type 0) (r : Result Step TableFault) → MatchResult r P (λ _. ⊥) → MatchResult r P Q
+or_untold P Q (Ok x) h = h
+or_untold P Q (Err e) h = absurd h
 
 -- ---- any tables
 

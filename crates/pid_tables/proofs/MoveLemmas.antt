@@ -74,9 +74,9 @@ pub all_err : {X : Type 0} {P : TableFault → Type 0} (r : Result X TableFault)
 all_err (Ok x) f = tt
 all_err (Err e) f = f e
 
-pub never_told : {X P : Type 0} (r : Result X TableFault) → IfErr r IsUntold → IfErr r (λ e. ¬ (IsUntold e) → P)
-never_told (Ok x) h = tt
-never_told (Err e) h = λ told. absurd (told h)
+pub never_told : {X : Type 0} (P : Type 0) (r : Result X TableFault) → IfErr r IsUntold → IfErr r (λ e. ¬ (IsUntold e) → P)
+never_told P (Ok x) h = tt
+never_told P (Err e) h = λ told. absurd (told h)
 
 pub or_never : {X P Q : Type 0} (r : Result X TableFault) → (P → Q) → IfErr r (λ e. ¬ (IsUntold e) → P) → IfErr r (λ e. ¬ (IsUntold e) → Q)
 or_never (Ok x) f h = tt

@@ -12,6 +12,7 @@ use Rattle.pid_rows.specs.declared.version.Version.TheVariants.{One}
 use Rattle.pid_rows.specs.Leaves.{as_found, found_in, AtRest, RestsIn, OnlyReads}
 use Rattle.pid_rows.specs.Schema.{no_schema, pid_schema, schema_of}
 use Rattle.pid_rows.specs.Shows.{Shows, ShowsIn}
+use Rattle.pid_rows.proofs.OnlyReading.{rests_in_still}
 use Rattle.pid_tables.specs.Creation.{AreMade, IsBare, IsBlank}
 use Rattle.pid_tables.specs.ShowsOrBlank.{ShowsOrBlank}
 
@@ -62,5 +63,5 @@ still_blank old new reads blank =
 
 pub still_shown : (old new : State) (h : History) → OnlyReads old new → ShowsOrBlank old h → ShowsOrBlank new h
 still_shown old new h reads (inl rest) = inl (reads.kept _ rest)
-still_shown old new h reads (inr (inl rest)) = inr (inl (rests_still One old new _ reads rest))
+still_shown old new h reads (inr (inl rest)) = inr (inl (rests_in_still old new _ reads rest))
 still_shown old new h reads (inr (inr blank)) = inr (inr (still_blank old new reads blank.0, blank.1))

@@ -1,5 +1,5 @@
 -- What the label of the schema tells.
-use Rattle.std.proofs.Common.{◌≡◌, inl, inr, ℕ, Some, Bool, ◌<◌, ◌^◌, arith, codes, refl, sym, ap, subst, ◌∙◌}
+use Rattle.std.proofs.Common.{◌≡◌, inl, inr, ℕ, Some, Ok, Err, Result, IfOk, IfErr, MatchResult, ◌<◌, ◌^◌, arith, codes, refl, sym, ap, subst, ◌∙◌}
 use Rattle.std.specs.Prelude.{◌==◌}
 use Rattle.sqlite.specs.Effect.{Database}
 use Rattle.sqlite.specs.Order.{Row, column}
@@ -7,7 +7,10 @@ use Rattle.sqlite.specs.declared.types.Value.TheVariants.{Int, Text}
 use Rattle.pid_moderation.specs.Views.{Views}
 use Rattle.pid_rows.specs.declared.version.Version.{Version}
 use Rattle.pid_rows.specs.declared.version.Version.TheVariants.{One, Two}
-use Rattle.pid_rows.specs.LabelRows.{HasLabel, LacksNumber}
+use Rattle.pid_rows.specs.declared.fault.TableFault.{TableFault}
+use Rattle.pid_rows.specs.declared.fault.TableFault.TheVariants.{Memory, Store, NewerSchema, Damaged}
+use Rattle.pid_rows.specs.Faults.{IsUntold}
+use Rattle.pid_rows.specs.LabelRows.{HasLabel, LacksNumber, ExplainsNumber}
 use Rattle.pid_rows.specs.PairRows.{IsPairRow}
 use Rattle.pid_rows.specs.Schema.{number_of}
 use Rattle.pid_rows.specs.Shows.{Counts, Numbers, ShowsKeeping, labels_of}
@@ -41,6 +44,14 @@ module _ {version : Version} {c : Counts} {numbers : Numbers} (db : Database) (v
   schema_there (inr it) =
       let pair = shows.meta.sound it.0 it.1 in
       it.3 (number_of version, small version, ap (λ x. column x 2) pair.is ∙ ap number (labelled it.0 pair it.2))
+
+  -- so it is told, where no fault hinders
+  pub number_told : (r : Result ℕ TableFault) → IfOk r (HasLabel db.trees (codes "schema")) → IfErr r (ExplainsNumber db.trees (codes "schema")) → MatchResult r (λ n. n ≡ number_of version) IsUntold
+  number_told (Ok n) label bad = schema_told n label
+  number_told (Err Memory) label bad = tt
+  number_told (Err Store) label bad = tt
+  number_told (Err (NewerSchema n)) label bad = bad
+  number_told (Err Damaged) label bad = schema_there bad
 
 pub second_is_latest : (version : Version) (n : ℕ) → n ≡ number_of version → (n == 2) ≡ is_latest version
 second_is_latest One n is = ap (λ m. m == 2) is

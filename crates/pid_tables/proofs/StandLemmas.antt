@@ -1,9 +1,10 @@
 -- What stands in a database, as reads tell it.
-use Rattle.std.proofs.Common.{◌≡◌, ◌↔◌, inl, inr, [], ◌++◌, Bool, true, false, None, Some, Option, Ok, Err, Result, MatchResult, IsTrue, refl, sym, ap, subst, ◌∙◌}
+use Rattle.std.proofs.Common.{◌≡◌, ◌↔◌, ◌≤◌, ℕ, arith, inl, inr, [], ◌++◌, Bool, true, false, None, Some, Option, Ok, Err, Result, MatchResult, IsTrue, refl, sym, ap, subst, ◌∙◌}
 use Rattle.std.proofs.lemmas.Bool.{cases_Bool}
 use Rattle.sqlite.specs.Effect.{Database}
 use Rattle.sqlite.specs.Schema.{Schema}
 use Rattle.sqlite.specs.State.{State, HasCleanDisk}
+use Rattle.pid_moderation.specs.CheckTables.{most_revision}
 use Rattle.pid_moderation.specs.Views.{Views}
 use Rattle.pid_rows.specs.declared.fault.TableFault.{TableFault}
 use Rattle.pid_rows.specs.declared.fault.TableFault.TheVariants.{Memory, Store, NewerSchema, Damaged}
@@ -16,6 +17,7 @@ use Rattle.pid_rows.specs.Shows.{ShowsIn}
 use Rattle.pid_table_check.specs.Checking.{Explains, Finds, IsRegistry}
 use Rattle.pid_table_check.specs.Queries.{query_of}
 use Rattle.pid_table_check.specs.Shapes.{HasNoTable, HasSomeTable, HasTables, IsMadeFirst}
+use Rattle.pid_table_check.proofs.Complete.{made_first}
 use Rattle.pid_tables.specs.Steps.{IsStanding}
 
 -- where nothing was uncommitted, reads see the same
@@ -51,27 +53,24 @@ none_found db (Ok None) none told = refl
 none_found db (Ok (Some version)) none told = absurd (none (tables_some version db.schema told.0))
 none_found db (Err Memory) none told = tt
 none_found db (Err Store) none told = tt
-none_found db (Err (NewerSchema n)) none told = absurd (none (_, inl refl, told.1.query, told.1.is))
+none_found db (Err (NewerSchema n)) none told = absurd (none (_, inl refl, (told.1.query, told.1.is)))
 none_found db (Err Damaged) none told = absurd (none told.0)
 
 -- ---- tables that show a sound history
 
-ends : (version : Version) → (schema_of version).tables ≡ (schema_of version).tables ++ []
-ends One = refl
-ends Two = refl
-
-pub made_first : (version : Version) (schema : Schema) → schema ≡ schema_of version → IsMadeFirst version schema
-made_first version schema is = ([], ap (λ (s : Schema). s.tables) is ∙ ends version)
+-- tables of schema 1 show no revision
+pub none_within : (n : ℕ) → n ≡ 0 → n ≤ most_revision
+none_within n is = omega (arith, is)
 
 pub good_found : (version : Version) (s : State) (v : Views) (r : Result (Option Version) TableFault) → RestsIn version s v → (ShowsIn version s.now v → IsRegistry version s.now)
     → (s.is_open ≡ false → MatchResult r (λ _. ⊥) IsUntold)
     → ((schema : Version) → IsMadeFirst schema s.now.schema → MatchResult r (λ found. (found ≡ Some schema) ↔ IsRegistry schema s.now) (λ fault. IsRegistry schema s.now → IsUntold fault))
     → MatchResult r (λ found. found ≡ Some version) IsUntold
 good_found version s v (Ok x) rest good shut stored = elim (cases_Bool s.is_open) [
-  | inl opened ↦ let shows = rest.shows opened in (stored version (made_first version s.now.schema shows.schema)).1 (good shows)
+  | inl opened ↦ let shows = rest.shows opened in (stored version (subst (IsMadeFirst version) (sym shows.schema) (made_first version))).1 (good shows)
   | inr closed ↦ absurd (shut closed)
 ]
 good_found version s v (Err e) rest good shut stored = elim (cases_Bool s.is_open) [
-  | inl opened ↦ let shows = rest.shows opened in stored version (made_first version s.now.schema shows.schema) (good shows)
+  | inl opened ↦ let shows = rest.shows opened in stored version (subst (IsMadeFirst version) (sym shows.schema) (made_first version)) (good shows)
   | inr closed ↦ shut closed
 ]

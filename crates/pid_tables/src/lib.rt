@@ -17,6 +17,6 @@ pub use pid_rows::item::Item;
 pub use pid_rows::{TableFault, Version};
 pub use pid_rows::remark::Comment;
 pub use pid_rows::submission::Submission;
-pub use pid_table_lists::{Discussion, EachEnd, PAGE, Pending};
+pub use pid_table_lists::{ChangedItem, Changes, Discussion, EachEnd, PAGE, Pending};
 pub use putting::Put;
 pub use tables::Tables;

@@ -37,6 +37,21 @@ pub enum Step {
 }
 
 // Whether the labels name schema 2. Labels that cannot be read name none.
+fn names_latest<S: Alter>(conn: &mut Connection<S>) -> Result<bool, TableFault>
+    requires { conn.old.in_transaction ≡ false }
+    ensures rests { OnlyReads S.Store conn.old conn.new }
+    ensures shown { HasCleanDisk S.Store conn.new → (version : Schema) (counts : Counts) (numbers : Numbers) (v : Views)
+        → ShowsKeeping version counts numbers (seen S.Store conn.old) v → IfOk result (λ is. is ≡ is_latest version) }
+    ensures untold { IfErr result IsUntold }
+{
+    match schema_number(conn) {
+        Ok(number) => Ok(number == 2),
+        Err(TableFault::Damaged) => Ok(false),
+        Err(fault) => Err(fault),
+    }
+}
+
+// Whether there are tables, and their labels name schema 2.
 fn is_current<S: Alter>(conn: &mut Connection<S>) -> Result<bool, TableFault>
     requires { conn.old.in_transaction ≡ false }
     ensures rests { OnlyReads S.Store conn.old conn.new }
@@ -46,13 +61,11 @@ fn is_current<S: Alter>(conn: &mut Connection<S>) -> Result<bool, TableFault>
     ensures was_open { HasCleanDisk S.Store conn.new → OnOk result (IsTrue (is_open S.Store conn.old)) }
     ensures untold { IfErr result IsUntold }
 {
-    if !has_some_table(conn)? {
-        return Ok(false);
-    }
-    match schema_number(conn) {
-        Ok(number) => Ok(number == 2),
-        Err(TableFault::Damaged) => Ok(false),
-        Err(fault) => Err(fault),
+    schemas_have_tables();
+    if has_some_table(conn)? {
+        names_latest(conn)
+    } else {
+        Ok(false)
     }
 }
 

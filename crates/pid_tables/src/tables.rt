@@ -1,8 +1,10 @@
 //! The tables of a registry, over a connection.
-ghost use Rattle.std.specs.Prelude.{◌≡◌, ◌↔◌, codes, false, Some, length, map, IfOk, IsTrue, option_map, IfErr, MatchResult, OnOk};
+ghost use Rattle.std.specs.Prelude.{◌≡◌, ◌≤◌, ◌↔◌, codes, false, Some, length, map, IfOk, IsTrue, option_map, IfErr, MatchResult, OnOk};
+ghost use Rattle.std.specs.Option.{option_copied};
 ghost use Rattle.pid_moderation.specs.History.{History};
 ghost use Rattle.pid_moderation.specs.Sound.{IsSound};
-ghost use Rattle.pid_moderation.specs.Views.{Views, views_of};
+ghost use Rattle.pid_moderation.specs.CheckTables.{most_revision};
+ghost use Rattle.pid_moderation.specs.Views.{Views, revision_of, views_of};
 ghost use Rattle.pid_ident.specs.PathTexts.{path_text};
 ghost use Rattle.pid_moderation.specs.FactsOfViews.{facts_at};
 ghost use Rattle.pid_moderation.specs.Items.{name_at};
@@ -17,6 +19,7 @@ ghost use Rattle.pid_rows.specs.Schema.{schema_of};
 ghost use Rattle.pid_rows.specs.declared.version.Version.TheVariants.{One};
 ghost use Rattle.pid_rows.specs.declared.version.Version.{Version as Schema};
 ghost use Rattle.pid_rows.specs.ItemPairs.{pair_of};
+ghost use Rattle.pid_table_lists.specs.ChangePages.{AreHeld, changes_in, page_of, start_text};
 ghost use Rattle.pid_table_lists.specs.Children.{children_of};
 ghost use Rattle.pid_table_lists.specs.Discussions.{discussion_in, shown_of};
 ghost use Rattle.pid_table_lists.specs.EachItem.{TakesEach, TakesSome, placed_from};
@@ -33,7 +36,8 @@ use pid_rows::item::{Item, item_name};
 use pid_rows::meta::{items, schema_number};
 use pid_table_check::{check, has_some_table, sound_histories_are_registries};
 use pid_table_lists::{
-    Discussion, EachEnd, PAGE, Pending, children, discussed, each_item, pending_page,
+    Changes, Discussion, EachEnd, PAGE, Pending, changes_page, children, discussed, each_item,
+    pending_page,
 };
 use sqlite::{Alter, Connection};
 use std::alloc::Global;
@@ -120,6 +124,23 @@ impl<S: Alter + Drop> Tables<S> {
         pending_page(&mut self.conn, alloc, after)
     }
 
+    /// The first items whose names were changed by a command behind this number, and whose paths come behind that path, `PAGE` at most;
+    /// with the revision. From no path on, and then from the last path that was told, pages go through all of them.
+    ///
+    /// It holds of views whose numbers SQLite holds, as those of every history do whose revision is within its limit.
+    pub fn changes_page(
+        &mut self,
+        alloc: Global,
+        since: u64,
+        after: Option<&Path>,
+    ) -> Result<Changes, TableFault>
+        requires { self.old.conn.in_transaction ≡ false }
+        ensures { Reads S.Store self.old.conn self.new.conn result
+            (λ v changes. AreHeld v → page_of changes ≡ changes_in PAGE since (start_text (option_copied after.entry)) v) }
+    {
+        changes_page(&mut self.conn, alloc, since, after)
+    }
+
     /// How many items there are.
     pub fn items(&mut self) -> Result<u32, TableFault>
         requires { self.old.conn.in_transaction ≡ false }
@@ -161,8 +182,8 @@ impl<S: Alter + Drop> Tables<S> {
         // a registry in it.
         ensures stored { HasCleanDisk S.Store self.new.conn → (schema : Schema) → IsMadeFirst schema (seen S.Store self.old.conn).schema
             → MatchResult result (λ found. (found ≡ Some schema) ↔ IsRegistry schema (seen S.Store self.old.conn)) (λ fault. IsRegistry schema (seen S.Store self.old.conn) → IsUntold fault) }
-        // Tables that show a sound history are neither damaged nor of a later schema.
-        ensures good { HasCleanDisk S.Store self.new.conn → (h : History) → IsSound h → (schema : Schema) → RestsIn S.Store schema self.old.conn (views_of h)
+        // Tables that show a sound history, whose revision is within its limit, are neither damaged nor of a later schema.
+        ensures good { HasCleanDisk S.Store self.new.conn → (h : History) → IsSound h → revision_of h ≤ most_revision → (schema : Schema) → RestsIn S.Store schema self.old.conn (views_of h)
             → MatchResult result (λ found. found ≡ Some schema) IsUntold }
     {
         sound_histories_are_registries();

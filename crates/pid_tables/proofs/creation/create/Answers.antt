@@ -100,5 +100,5 @@ returns-clause-unchanged g c clean =
     let same : end ≡ c.conn-2-1.given.0 = search rules in
     let late : HasCleanDisk (state g.S.Store end) = search rules in
     let goes = rw c.transaction-batch.ensures.begun at c.in_ok-fill.ensures.goes in
-    never_told c.commit.result (all_untold (state g.S.Store first) (state g.S.Store end) c.commit.result
+    never_told _ c.commit.result (all_untold (state g.S.Store first) (state g.S.Store end) c.commit.result
     (c.commit.ensures.caused late (goes.going (earlier (state g.S.Store first) (state g.S.Store end) c.commit.ensures.survives late) refl).1))

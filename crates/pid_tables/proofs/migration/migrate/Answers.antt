@@ -5,7 +5,7 @@ use Rattle.pid_rows.specs.declared.version.Version.TheVariants.{One}
 use Rattle.pid_rows.specs.Faults.{IsUntold}
 use Rattle.pid_rows.specs.Leaves.{OnlyReads, RestsIn}
 use Rattle.pid_rows.proofs.CauseLemmas.{passed_on}
-use Rattle.pid_rows.proofs.OnlyReading.{reads_then}
+use Rattle.pid_rows.proofs.OnlyReading.{reads_then, rests_in_still}
 use Rattle.pid_table_check.specs.Checking.{Explains, Finds}
 use Rattle.pid_tables.specs.Creation.{IsOfMaking, LeavesBareOrNew}
 use Rattle.pid_tables.proofs.BringLemmas.{blank_leaves, none_there, untold_making, still_met, met_reads, left_alone, or_untold, brought}
@@ -15,11 +15,11 @@ use Rattle.pid_tables.proofs.migration.migrate.Goals as goal
 
 -- ---- no table
 
-pub returns-in_err-standing-clause-created : goal.returns-in_err-standing-clause-created
-returns-in_err-standing-clause-created g c clean blank =
+pub returns-in_err-found-clause-created : goal.returns-in_err-found-clause-created
+returns-in_err-found-clause-created g c clean blank =
     let old = state g.S.Store c.args.conn.now in
     let mid = state g.S.Store c.standing.new.conn in
-    let bad = c.in_err-standing.ensures in
+    let bad = c.in_err-found.ensures in
     passed_on c.from_residual.result _ _ (λ fault. IsUntold fault × LeavesBareOrNew mid) c.from_residual.ensures.1
     (none_there old c.schemas_have_tables.ensures.none blank (λ closed. bad.shut clean closed) (λ none. bad.bare clean none), blank_leaves mid (still_blank old mid c.standing.ensures.rests blank))
 
@@ -28,53 +28,38 @@ returns-clause-created g c clean blank =
     let old = state g.S.Store c.args.conn.now in
     let mid = state g.S.Store c.standing.new.conn in
     let first = c.bring.ensures.clean clean in
-    let good = c.in_ok-standing.ensures in
+    let good = c.in_ok-found.ensures in
     c.bring.ensures.created clean (none_there old c.schemas_have_tables.ensures.none blank (λ closed. absurd (good.shut first closed)) (λ none. good.bare first none)) (still_blank old mid c.standing.ensures.rests blank)
 
 -- ---- tables of schema 1
 
-pub returns-in_err-standing-clause-moved : goal.returns-in_err-standing-clause-moved
-returns-in_err-standing-clause-moved g c clean h sound rest =
+pub returns-in_err-found-clause-moved : goal.returns-in_err-found-clause-moved
+returns-in_err-found-clause-moved g c clean h sound rest =
     let old = state g.S.Store c.args.conn.now in
     let mid = state g.S.Store c.standing.new.conn in
     passed_on c.from_residual.result _ _ (λ fault. IsUntold fault × RestsIn One mid (views_of h)) c.from_residual.ensures.1
-    (c.in_err-standing.ensures.earlier clean h sound rest, rests_still One old mid (views_of h) c.standing.ensures.rests rest)
+    (c.in_err-found.ensures.earlier clean h sound rest, rests_in_still old mid (views_of h) c.standing.ensures.rests rest)
 
 pub returns-clause-moved : goal.returns-clause-moved
 returns-clause-moved g c clean h sound rest =
     let old = state g.S.Store c.args.conn.now in
     let mid = state g.S.Store c.standing.new.conn in
-    c.bring.ensures.moved clean (c.in_ok-standing.ensures.earlier (c.bring.ensures.clean clean) h sound rest) (views_of h) (rests_still One old mid (views_of h) c.standing.ensures.rests rest)
+    c.bring.ensures.moved clean (c.in_ok-found.ensures.earlier (c.bring.ensures.clean clean) h sound rest) (views_of h) (rests_in_still old mid (views_of h) c.standing.ensures.rests rest)
 
 -- ---- tables of schema 2
-
-pub returns-in_err-standing-clause-already : goal.returns-in_err-standing-clause-already
-returns-in_err-standing-clause-already g c clean v rest =
-    let old = state g.S.Store c.args.conn.now in
-    let mid = state g.S.Store c.standing.new.conn in
-    passed_on c.from_residual.result _ _ (λ fault. IsUntold fault × OnlyReads old mid) c.from_residual.ensures.1 (c.in_err-standing.ensures.latest clean v rest, c.standing.ensures.rests)
 
 pub returns-clause-already : goal.returns-clause-already
 returns-clause-already g c clean v rest =
     let old = state g.S.Store c.args.conn.now in
-    or_untold c.bring.result (left_alone g.S.Store old c.standing.new.conn c.bring.new.conn c.bring.result c.standing.ensures.rests (c.bring.ensures.already (c.in_ok-standing.ensures.latest (c.bring.ensures.clean clean) v rest)))
+    or_untold _ _ c.bring.result (left_alone g.S.Store old c.standing.new.conn c.bring.new.conn c.bring.result c.standing.ensures.rests (c.bring.ensures.already (c.in_ok-found.ensures.latest (c.bring.ensures.clean clean) v rest)))
 
 -- ---- any tables
-
-pub returns-in_err-standing-clause-found : goal.returns-in_err-standing-clause-found
-returns-in_err-standing-clause-found g c clean some =
-    let old = state g.S.Store c.args.conn.now in
-    let mid = state g.S.Store c.standing.new.conn in
-    passed_on c.from_residual.result _ _ (λ fault. (Explains old.now fault × OnlyReads old mid) ⊎ Finds old.now (Some One)) c.from_residual.ensures.1 (inl (c.in_err-standing.ensures.told clean, c.standing.ensures.rests))
 
 pub returns-clause-found : goal.returns-clause-found
 returns-clause-found g c clean some =
     let old = state g.S.Store c.args.conn.now in
-    brought old (state g.S.Store c.bring.new.conn) c.in_ok-standing.field-0 c.bring.result (c.in_ok-standing.ensures.told (c.bring.ensures.clean clean)) some c.bring.ensures.step
+    brought old (state g.S.Store c.bring.new.conn) c.in_ok-found.found c.bring.result (c.in_ok-found.ensures.told (c.bring.ensures.clean clean)) some c.bring.ensures.step
     (λ is. left_alone g.S.Store old c.standing.new.conn c.bring.new.conn c.bring.result c.standing.ensures.rests (c.bring.ensures.already is))
-
-pub returns-in_err-standing-clause-unchanged : goal.returns-in_err-standing-clause-unchanged
-returns-in_err-standing-clause-unchanged g c clean = all_err c.from_residual.result (λ _ _. c.standing.ensures.rests)
 
 pub returns-clause-unchanged : goal.returns-clause-unchanged
 returns-clause-unchanged g c clean =
@@ -84,21 +69,12 @@ returns-clause-unchanged g c clean =
 
 -- ---- something else
 
-pub returns-in_err-standing-clause-met : goal.returns-in_err-standing-clause-met
-returns-in_err-standing-clause-met g c clean none met =
-    let old = state g.S.Store c.args.conn.now in
-    let mid = state g.S.Store c.standing.new.conn in
-    passed_on c.from_residual.result _ _ (λ fault. IsOfMaking fault × OnlyReads old mid) c.from_residual.ensures.1 (untold_making _ (c.in_err-standing.ensures.bare clean none), c.standing.ensures.rests)
-
 pub returns-clause-met : goal.returns-clause-met
 returns-clause-met g c clean none met =
     let old = state g.S.Store c.args.conn.now in
     let mid = state g.S.Store c.standing.new.conn in
     met_reads old mid (state g.S.Store c.bring.new.conn) c.bring.result c.standing.ensures.rests
-    (c.bring.ensures.met clean (c.in_ok-standing.ensures.bare (c.bring.ensures.clean clean) none) (still_met old mid c.standing.ensures.rests c.standing.ensures.same met))
-
-pub returns-in_err-standing-clause-shut : goal.returns-in_err-standing-clause-shut
-returns-in_err-standing-clause-shut g c clean closed = passed_on c.from_residual.result _ _ IsUntold c.from_residual.ensures.1 (c.in_err-standing.ensures.shut clean closed)
+    (c.bring.ensures.met clean (c.in_ok-found.ensures.bare (c.bring.ensures.clean clean) none) (still_met old mid c.standing.ensures.rests c.standing.ensures.same met))
 
 pub returns-clause-shut : goal.returns-clause-shut
-returns-clause-shut g c clean closed = absurd (c.in_ok-standing.ensures.shut (c.bring.ensures.clean clean) closed)
+returns-clause-shut g c clean closed = absurd (c.in_ok-found.ensures.shut (c.bring.ensures.clean clean) closed)

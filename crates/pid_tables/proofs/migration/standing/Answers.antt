@@ -1,4 +1,4 @@
-use Rattle.std.proofs.Common.{◌≡◌, inl, true, false, IsTrue, refl, sym, ap, ◌∙◌}
+use Rattle.std.proofs.Common.{inl, refl, sym, ap, ◌∙◌}
 use Rattle.std.specs.Prelude.{not}
 use Rattle.sqlite.specs.Held.{state}
 use Rattle.pid_moderation.specs.Views.{views_of}
@@ -6,27 +6,27 @@ use Rattle.pid_rows.specs.declared.version.Version.TheVariants.{One, Two}
 use Rattle.pid_rows.specs.Faults.{IsUntold}
 use Rattle.pid_rows.specs.Shows.{counts_of, numbers_of}
 use Rattle.pid_rows.proofs.CauseLemmas.{passed_on}
-use Rattle.pid_rows.proofs.OnlyReading.{reads_then}
+use Rattle.pid_rows.proofs.OnlyReading.{reads_then, rests_in_still}
 use Rattle.pid_table_check.specs.Checking.{Explains}
-use Rattle.pid_tables.proofs.StandLemmas.{seen_still, untold_explains, told_before, as_standing, none_found, good_found}
+use Rattle.pid_tables.proofs.StandLemmas.{seen_still, untold_explains, told_before, as_standing, none_found, none_within, good_found}
 use Rattle.pid_tables.proofs.migration.standing.Goals as goal
 
 -- ---- all reads see the same
 
 pub returns-in_err-is_current-clause-same : goal.returns-in_err-is_current-clause-same
 returns-in_err-is_current-clause-same g c =
-    seen_still (state g.S.Store c.args.conn.now) (state g.S.Store c.is_current.new.conn) (c.is_autocommit.ensures.settled (c.is_autocommit.ensures.value ∙ ap not c.requires)) c.is_current.ensures.rests
+    seen_still (state g.S.Store c.args.conn.now) (state g.S.Store c.is_current.new.conn) (c.is_autocommit-settled.ensures.settled (c.is_autocommit-settled.ensures.value ∙ ap not c.requires)) c.is_current.ensures.rests
 
 pub returns-then-branch-clause-same : goal.returns-then-branch-clause-same
 returns-then-branch-clause-same g c =
-    seen_still (state g.S.Store c.args.conn.now) (state g.S.Store c.is_current.new.conn) (c.is_autocommit.ensures.settled (c.is_autocommit.ensures.value ∙ ap not c.requires)) c.is_current.ensures.rests
+    seen_still (state g.S.Store c.args.conn.now) (state g.S.Store c.is_current.new.conn) (c.is_autocommit-settled.ensures.settled (c.is_autocommit-settled.ensures.value ∙ ap not c.requires)) c.is_current.ensures.rests
 
 pub returns-clause-same : goal.returns-clause-same
 returns-clause-same g c =
     let old = state g.S.Store c.args.conn.now in
     let mid = state g.S.Store c.is_current.new.conn in
     let new = state g.S.Store c.check.new.conn in
-    seen_still old new (c.is_autocommit.ensures.settled (c.is_autocommit.ensures.value ∙ ap not c.requires)) (reads_then old mid new c.is_current.ensures.rests c.check.ensures.rests)
+    seen_still old new (c.is_autocommit-settled.ensures.settled (c.is_autocommit-settled.ensures.value ∙ ap not c.requires)) (reads_then old mid new c.is_current.ensures.rests c.check.ensures.rests)
 
 -- ---- where a fault has shut the connection
 
@@ -64,7 +64,7 @@ pub returns-clause-earlier : goal.returns-clause-earlier
 returns-clause-earlier g c clean h sound rest =
     let old = state g.S.Store c.args.conn.now in
     let mid = state g.S.Store c.is_current.new.conn in
-    good_found One mid (views_of h) c.check.result (rests_still One old mid (views_of h) c.is_current.ensures.rests rest) (c.sound_histories_are_registries.ensures h sound One mid.now) (c.check.ensures.shut clean) (c.check.ensures.stored clean)
+    good_found One mid (views_of h) c.check.result (rests_in_still old mid (views_of h) c.is_current.ensures.rests rest) (λ shows. c.sound_histories_are_registries.ensures h sound (none_within _ shows.sinces.0) One mid.now shows) (c.check.ensures.shut clean) (c.check.ensures.stored clean)
 
 -- ---- no table
 
@@ -78,7 +78,7 @@ pub returns-clause-bare : goal.returns-clause-bare
 returns-clause-bare g c clean none =
     let old = state g.S.Store c.args.conn.now in
     let mid = state g.S.Store c.is_current.new.conn in
-    let still = seen_still old mid (c.is_autocommit.ensures.settled (c.is_autocommit.ensures.value ∙ ap not c.requires)) c.is_current.ensures.rests in
+    let still = seen_still old mid (c.is_autocommit-settled.ensures.settled (c.is_autocommit-settled.ensures.value ∙ ap not c.requires)) c.is_current.ensures.rests in
     none_found old.now c.check.result none (told_before old mid c.check.result still (c.check.ensures.shut clean) (c.check.ensures.told clean))
 
 -- ---- any tables
@@ -95,5 +95,5 @@ pub returns-clause-told : goal.returns-clause-told
 returns-clause-told g c clean =
     let old = state g.S.Store c.args.conn.now in
     let mid = state g.S.Store c.is_current.new.conn in
-    let still = seen_still old mid (c.is_autocommit.ensures.settled (c.is_autocommit.ensures.value ∙ ap not c.requires)) c.is_current.ensures.rests in
+    let still = seen_still old mid (c.is_autocommit-settled.ensures.settled (c.is_autocommit-settled.ensures.value ∙ ap not c.requires)) c.is_current.ensures.rests in
     as_standing old.now c.check.result (told_before old mid c.check.result still (c.check.ensures.shut clean) (c.check.ensures.told clean))
