@@ -35,3 +35,4 @@ pub mod SinceFilled
 pub mod SinceCascade
 pub mod SinceRemoved
 pub mod MovingLemmas
+pub mod WorkedRows

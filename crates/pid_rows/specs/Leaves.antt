@@ -104,11 +104,11 @@ LeadsKeeping old new result IsFor renumber next =
     HasCleanDisk new → IsTrue old.in_transaction → (c : Counts) (numbers : Numbers) (v : Views) → ShowsKeeping Two c numbers old.now v → IsFor numbers v
     → MatchResult result (λ _. ShowsKeeping Two c (renumber numbers) new.now (next v)) IsUntold
 
--- Where the transaction shows views in schema 1, it answers a value only with the transaction showing the same in schema 2,
+-- Where the transaction, while it is open, shows views in schema 1, it answers a value only with it showing the same in schema 2,
 -- and a fault only for want of memory, or where the store failed or refused.
 abbrev pub Moves : {X : Type 0} → State → State → Result X TableFault → Type 0
 Moves old new result =
-    HasCleanDisk new → IsTrue old.in_transaction → (c : Counts) (v : Views) → ShowsKeeping One c (numbers_of v) old.now v
+    HasCleanDisk new → IsTrue old.in_transaction → (c : Counts) (v : Views) → (IsTrue old.is_open → ShowsKeeping One c (numbers_of v) old.now v)
     → MatchResult result (λ _. ShowsCounting c new.now v) IsUntold
 
 -- while it is open, the connection sees this database, and it is committed

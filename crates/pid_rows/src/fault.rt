@@ -13,7 +13,7 @@ use thiserror::Error;
 ///
 /// - `Memory`: memory was short. The same call may succeed later.
 /// - `Store`: the disk failed or refused, an earlier fault has shut the connection, the connection's limit of steps was met,
-///   or the database refused the statement: a key that is there twice, or a row that another needs.
+///   or the database refused the statement: a key that is there twice, a row that another needs, or a number that it does not hold.
 /// - `NewerSchema`: the tables are of a later schema, of this number.
 /// - `Damaged`: a table, a row or a value is not one that this program writes.
 #[derive(Clone, Copy, Debug, PartialEq, Eq, Error)]

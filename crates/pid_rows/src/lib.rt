@@ -1,4 +1,7 @@
-//! The rows of a registry's tables in a SQLite database: one statement at a time, each on one table.
+//! The rows of a registry's tables in a SQLite database: one statement at a time, each on one table. An item and the number of
+//! its last change stand in two tables, and one call writes both.
+//!
+//! The tables are of schema 2. `moving` makes tables of schema 1 such.
 //!
 //! A read runs in a transaction of its own, which it rolls back; a write runs in its caller's.
 //! `TableFault` says what each fault means.

@@ -5,7 +5,7 @@ ghost use Rattle.pid_rows.specs.declared.version.Version.TheVariants.{One};
 ghost use Rattle.pid_rows.specs.Faults.{IsUntold};
 ghost use Rattle.pid_rows.specs.Moving.{IsBetween};
 ghost use Rattle.pid_rows.specs.Shows.{Counts, ShowsKeeping, ShowsCounting, numbers_of};
-ghost use Rattle.pid_rows.specs.Clauses.{GoesOn, HasCleanDisk, Moves, seen};
+ghost use Rattle.pid_rows.specs.Clauses.{GoesOn, HasCleanDisk, Moves, is_open, seen};
 
 use crate::fault::TableFault;
 use crate::run::write_one;
@@ -17,7 +17,7 @@ fn add_table<S: Alter>(tx: &mut Transaction<'_, S>) -> Result<(), TableFault>
     ensures same_reference { tx.new.conn.ghost_name ≡ tx.old.conn.ghost_name }
     ensures goes { GoesOn S.Store tx.old.conn.now tx.new.conn.now result }
     ensures added { HasCleanDisk S.Store tx.new.conn.now → IsTrue tx.old.conn.now.in_transaction
-        → (c : Counts) (v : Views) → ShowsKeeping One c (numbers_of v) (seen S.Store tx.old.conn.now) v
+        → (c : Counts) (v : Views) → (IsTrue (is_open S.Store tx.old.conn.now) → ShowsKeeping One c (numbers_of v) (seen S.Store tx.old.conn.now) v)
         → MatchResult result (λ _. IsBetween c (seen S.Store tx.new.conn.now) v) IsUntold }
 {
     write_one(

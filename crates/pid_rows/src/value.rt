@@ -35,8 +35,8 @@ pub fn whole_at(row: &Row, at: usize) -> Result<u64, TableFault>
     ensures read { IfOk result (λ n. column row.now at ≡ number n) }
     ensures unread { IfErr result (IsUnread (IsWhole (column row.now at))) }
 {
-    let number = row.get(at)?;
-    Ok(number)
+    let whole = row.get(at)?;
+    Ok(whole)
 }
 
 /// A number as SQLite holds it. One that 63 bits do not hold is refused with `Store`.

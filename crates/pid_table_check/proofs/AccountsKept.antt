@@ -10,7 +10,8 @@ use Rattle.pid_moderation.specs.History.{History}
 use Rattle.pid_moderation.specs.Ranks.{has_rank, rank_number}
 use Rattle.pid_moderation.specs.Sound.{IsSound}
 use Rattle.pid_moderation.specs.Views.{rank_of, views_of}
-use Rattle.pid_rows.specs.Shows.{Shows}
+use Rattle.pid_rows.specs.Shows.{ShowsIn}
+use Rattle.pid_rows.specs.declared.version.Version.{Version}
 use Rattle.pid_rows.specs.TableRows.{account_row}
 use Rattle.pid_table_check.specs.Conditions.{columns, rows_in, HasAccount, IsAccountRow, AreAccounts}
 use Rattle.pid_rows.proofs.Lengths.{some_there, mapped, unmapped}
@@ -28,7 +29,7 @@ at_most Moderator = omega arith
 at_most Senior = omega arith
 at_most Administrator = omega arith
 
-module _ (h : History) (sound : IsSound h) (db : Database) (shows : Shows db (views_of h)) where
+module _ (h : History) (sound : IsSound h) (version : Version) (db : Database) (shows : ShowsIn version db (views_of h)) where
   pub account_known : (name : List ℕ) → is_some (rank_of name h) ≡ true → HasAccount (rows_in db.trees).accounts name
   account_known name known =
       let rank = some_there (rank_of name h) known in

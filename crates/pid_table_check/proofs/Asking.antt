@@ -1,5 +1,5 @@
 -- What it leaves, and what it tells, to prepare the text of a query.
-use Rattle.std.proofs.Common.{◌≡◌, ◌⊎◌, inl, inr, ℕ, zero, suc, List, [], ◌∷◌, Bool, true, false, Some, Ok, Err, Result, IfOk, IfErr, OnOk, IsTrue, refl, sym, ap, subst, ◌∙◌, ◌+◌, ◌<◌, length, get_or, arith}
+use Rattle.std.proofs.Common.{◌≡◌, ◌⊎◌, inl, inr, ℕ, zero, suc, List, [], ◌∷◌, Bool, true, false, Some, Ok, Err, Result, IfOk, IfErr, OnOk, IsTrue, refl, sym, ap, subst, ◌∙◌, ◌+◌, ◌<◌, length, get_or, map, arith}
 use Rattle.std.specs.Result.{result_err}
 use Rattle.std.specs.List.{All, Any}
 use Rattle.std.specs.Prelude.{◌↔◌}
@@ -27,9 +27,9 @@ use Rattle.pid_rows.proofs.OnlyReading.{keeps_left, rests_on, reads_then}
 use Rattle.pid_rows.proofs.Lengths.{mapped, unmapped}
 use Rattle.pid_rows.proofs.ReadLemmas.{not_run}
 use Rattle.pid_table_check.specs.declared.shape.Table.{Table}
-use Rattle.pid_table_check.specs.declared.shape.Table.TheVariants.{Meta, Account, Item, Submission, Remark, Receipt}
+use Rattle.pid_table_check.specs.declared.shape.Table.TheVariants.{Meta, Account, Item, Submission, Remark, Receipt, Since}
 use Rattle.pid_table_check.specs.Queries.{query_of}
-use Rattle.pid_table_check.specs.Shapes.{table_texts, IsAsked, HasEachTable, HasSomeTable}
+use Rattle.pid_table_check.specs.Shapes.{IsAsked, HasEachTable, HasSomeTable}
 use Rattle.pid_table_check.proofs.Each.{same_there, one_more, each_member, each_place, some_member, some_place}
 
 pub err_of : {X E : Type 0} (r : Result X E) (e : E) → result_err r ≡ Some e → r ≡ Err e
@@ -127,37 +127,35 @@ module _ (a b c : State) (tables : List Table) (at : ℕ) (t : Table) (sql : Lis
   pub missed : asked ≡ false → HasCleanDisk c → ¬ (All Has tables)
   missed off clean all = let on = (here clean).1 (all at t less) in cc
 
--- ---- the six tables
+-- ---- all tables
 
 abbrev six : List Table
 six = Meta ∷ Account ∷ Item ∷ Submission ∷ Remark ∷ Receipt ∷ []
 
-in_six : (t : Table) → members.Has six t
-in_six Meta = inl refl
-in_six Account = inr (inl refl)
-in_six Item = inr (inr (inl refl))
-in_six Submission = inr (inr (inr (inl refl)))
-in_six Remark = inr (inr (inr (inr (inl refl))))
-in_six Receipt = inr (inr (inr (inr (inr (inl refl)))))
+abbrev seven : List Table
+seven = Meta ∷ Account ∷ Item ∷ Submission ∷ Remark ∷ Receipt ∷ Since ∷ []
 
-module _ (schema : Schema) (asked : Bool) where
+module _ (schema : Schema) (tables : List Table) where
   abbrev Is : Table → Type 0
   Is t = IsAsked schema (query_of t)
 
-  from : (text : List ℕ) → members.Has table_texts text → (t : Table) × (text ≡ query_of t)
-  from text has = let it = unmapped query_of six text has in (it.0, it.2)
+  from : (text : List ℕ) → members.Has (map query_of tables) text → (t : Table) × members.Has tables t × (text ≡ query_of t)
+  from text has = unmapped query_of tables text has
 
-  to : (t : Table) → members.Has table_texts (query_of t)
-  to t = mapped query_of six t (in_six t)
+  each_of : All Is tables → (text : List ℕ) → members.Has (map query_of tables) text → IsAsked schema text
+  each_of all text has = let t = from text has in subst (IsAsked schema) (sym t.2) (each_member Is tables all t.0 t.1)
 
-  pub each_table : (IsTrue asked ↔ All Is six) → IsTrue asked ↔ HasEachTable schema
-  each_table judged = (
-    λ on text has. let t = from text has in subst (IsAsked schema) (sym t.1) (each_member Is six (judged.0 on) t.0 (in_six t.0)),
-    λ each. judged.1 (each_place Is six (λ t has. each (query_of t) (to t))),
-  )
+  all_of : ((text : List ℕ) → members.Has (map query_of tables) text → IsAsked schema text) → All Is tables
+  all_of each = each_place Is tables (λ t has. each (query_of t) (mapped query_of tables t has))
 
-  pub some_table : (IsTrue asked ↔ Any Is six) → IsTrue asked ↔ HasSomeTable schema
-  some_table judged = (
-    λ on. let t = some_member Is six (judged.0 on) in (query_of t.0, to t.0, t.2),
-    λ some. let t = from some.0 some.1 in judged.1 (some_place Is six t.0 (in_six t.0) (subst (IsAsked schema) t.1 some.2)),
-  )
+  some_of : Any Is tables → (text : List ℕ) × members.Has (map query_of tables) text × IsAsked schema text
+  some_of any = let t = some_member Is tables any in (query_of t.0, mapped query_of tables t.0 t.1, t.2)
+
+  any_of : ((text : List ℕ) × members.Has (map query_of tables) text × IsAsked schema text) → Any Is tables
+  any_of some = let t = from some.0 some.1 in some_place Is tables t.0 t.1 (subst (IsAsked schema) t.2 some.2)
+
+pub each_table : (schema : Schema) (asked : Bool) → (IsTrue asked ↔ All (Is schema six) six) → IsTrue asked ↔ HasEachTable schema
+each_table schema asked judged = (λ on. each_of schema six (judged.0 on), λ each. judged.1 (all_of schema six each))
+
+pub some_table : (schema : Schema) (asked : Bool) → (IsTrue asked ↔ Any (Is schema seven) seven) → IsTrue asked ↔ HasSomeTable schema
+some_table schema asked judged = (λ on. some_of schema seven (judged.0 on), λ some. judged.1 (any_of schema seven some))

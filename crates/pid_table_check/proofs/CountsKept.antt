@@ -1,5 +1,5 @@
 -- Tables that show a sound history are counted.
-use Rattle.std.proofs.Common.{◌≡◌, ◌≢◌, ◌⊎◌, inl, inr, ℕ, zero, suc, ◌≤◌, ◌<◌, List, [], ◌∷◌, length, map, Bool, true, false, Option, Some, None, refl, sym, ap, subst, ◌∙◌, arith, codes, cond}
+use Rattle.std.proofs.Common.{◌≡◌, ◌≢◌, inl, inr, ℕ, zero, suc, ◌≤◌, ◌<◌, List, [], ◌∷◌, length, map, Bool, true, false, Option, Some, None, refl, sym, ap, subst, subst₂, ◌∙◌, arith, codes, cond}
 use Rattle.std.specs.Prelude.{is_some, bytes_eq, option_map}
 use Rattle.std.specs.Ordering.{is_lt, is_eq, eq_by_cmp}
 use Rattle.std.specs.List.{AllByRecursion}
@@ -19,10 +19,12 @@ use Rattle.pid_moderation.specs.Items.{Items, name_at}
 use Rattle.pid_moderation.specs.Views.{Views, Submitted, submission_at}
 use Rattle.pid_rows.proofs.Keys.{numbers_decided}
 use Rattle.pid_rows.proofs.SetLemmas.{tied}
-use Rattle.pid_rows.specs.Schema.{One}
-use Rattle.pid_rows.specs.Shows.{Shows, counts_of, meta_of}
+use Rattle.pid_rows.specs.declared.version.Version.{Version}
+use Rattle.pid_rows.specs.declared.version.Version.TheVariants.{One, Two}
+use Rattle.pid_rows.specs.Schema.{number_of}
+use Rattle.pid_rows.specs.Shows.{ShowsIn, counts_of, labels_of, more_labels as more_rows}
 use Rattle.pid_rows.specs.TableRows.{Standing, meta_row, item_row, submission_row, number}
-use Rattle.pid_table_check.specs.Conditions.{columns, rows_in, labels, label_row, AreCounts}
+use Rattle.pid_table_check.specs.Conditions.{columns, rows_in, more_labels, labels, label_row, AreLabels}
 use Rattle.pid_rows.proofs.Lengths.{IsDistinct, some_there, same_length, mapped, unmapped}
 use Rattle.pid_rows.proofs.OneRowEach.{rowids_apart, item_keys_apart}
 use Rattle.pid_table_check.proofs.SubmissionsKept.{submitted_at, there_at, stands_as}
@@ -92,10 +94,10 @@ down_apart : (n : ℕ) → IsDistinct (map number (countdown n))
 down_apart zero = tt
 down_apart (suc n) = (above_all (suc n) (countdown n) (λ k h. let it = down_within n k h in omega (arith, it.1)), down_apart n)
 
-module _ (db : Database) (v : Views) (shows : Shows db v) where
+module _ (version : Version) (db : Database) (v : Views) (shows : ShowsIn version db v) where
   pub items_length : length (db.trees 4) ≡ length v.items
   items_length = same_length (λ r. column r 1) (λ (e : List ℕ × List ℕ). Text e.0) (db.trees 4) v.items
-      (item_keys_apart One db shows.sound shows.schema shows.items.ordered (λ r h. let pair = shows.items.sound r h in (pair.id, pair.key, ap rowid pair.is, ap (λ (x : Row). column x 1) pair.is)))
+      (item_keys_apart version db shows.sound shows.schema shows.items.ordered (λ r h. let pair = shows.items.sound r h in (pair.id, pair.key, ap rowid pair.is, ap (λ (x : Row). column x 1) pair.is)))
       (items_apart v.items shows.views.sorted)
       (λ r h. let pair = shows.items.sound r h in subst (Has (map (λ (e : List ℕ × List ℕ). Text e.0) v.items)) (sym (ap (λ (x : Row). column x 1) pair.is)) (key_there pair.key pair.value v.items pair.maps))
       (λ e h.
@@ -118,49 +120,50 @@ module _ (db : Database) (v : Views) (shows : Shows db v) where
       mapped rowid (db.trees 6) (submission_row row.0 n standing) row.1)
       ∙ down_length (length v.submits)
 
-  told : List (List ℕ × ℕ)
-  told = (codes "schema", 1) ∷ (codes "items", length v.items) ∷ (codes "submissions", length v.submits) ∷ []
+  abbrev Told : List ℕ × ℕ → Type 0
+  Told e = Has (labels version (length v.items) (length v.submits) v.revision) e
 
-  told_same : told ≡ labels (length (rows_in db.trees).items) (length (rows_in db.trees).submissions)
-  unfolding told
-  told_same = λ i. (codes "schema", 1) ∷ (codes "items", sym (length-map (db.trees 4) (columns (1 ∷ 2 ∷ [])) ∙ items_length) i) ∷ (codes "submissions", sym (length-map (db.trees 6) (columns (0 ∷ 2 ∷ 3 ∷ 4 ∷ 5 ∷ 6 ∷ 7 ∷ 8 ∷ 9 ∷ [])) ∙ submissions_length) i) ∷ []
+  same_pair : (key l : List ℕ) (value n : ℕ) → bytes_eq key l ≡ true → ◌≡◌ {A = Option ℕ} (Some n) (Some value) → ◌≡◌ {A = List ℕ × ℕ} (key, value) (l, n)
+  same_pair key l value n t same = let is : key ≡ l = (bytes_eq-Decides key l).0 t in let that : n ≡ value = cc in λ i. (is i, sym that i)
 
-  label_told : (key : List ℕ) (value : ℕ) → meta_of (counts_of v) key ≡ Some value → Has told (key, value)
-  unfolding told
+  more_told : (it : Version) (key : List ℕ) (value : ℕ) → more_rows it v.revision key ≡ Some value → Has {X = List ℕ × ℕ} (more_labels it v.revision) (key, value)
+  more_told One key value e = absurd cc
+  more_told Two key value e = go (bytes_eq key (codes "revision")) refl e
+    where
+      go : (b : Bool) → bytes_eq key (codes "revision") ≡ b → cond b (Some v.revision) None ≡ Some value → Has {X = List ℕ × ℕ} ((codes "revision", v.revision) ∷ []) (key, value)
+      go true t same = inl (same_pair key (codes "revision") value v.revision t same)
+      go false t same = absurd cc
+
+  label_told : (key : List ℕ) (value : ℕ) → labels_of version (counts_of v) v.revision key ≡ Some value → Told (key, value)
   label_told key value e = go (bytes_eq key (codes "schema")) refl (bytes_eq key (codes "items")) refl (bytes_eq key (codes "submissions")) refl e
     where
-      both : (l : List ℕ) (n : ℕ) → bytes_eq key l ≡ true → ◌≡◌ {A = Option ℕ} (Some n) (Some value) → ◌≡◌ {A = List ℕ × ℕ} (key, value) (l, n)
-      both l n t same = let is : key ≡ l = (bytes_eq-Decides key l).0 t in let that : n ≡ value = cc in λ i. (is i, sym that i)
-
       go : (a : Bool) → bytes_eq key (codes "schema") ≡ a → (b : Bool) → bytes_eq key (codes "items") ≡ b → (d : Bool) → bytes_eq key (codes "submissions") ≡ d
-          → cond a (Some 1) (cond b (Some (length v.items)) (cond d (Some (length v.submits)) None)) ≡ Some value
-          → (◌≡◌ {A = List ℕ × ℕ} (key, value) (codes "schema", 1)) ⊎ ((◌≡◌ {A = List ℕ × ℕ} (key, value) (codes "items", length v.items)) ⊎ ((◌≡◌ {A = List ℕ × ℕ} (key, value) (codes "submissions", length v.submits)) ⊎ ⊥))
-      go true p b q d r same = inl (both (codes "schema") 1 p same)
-      go false p true q d r same = inr (inl (both (codes "items") (length v.items) q same))
-      go false p false q true r same = inr (inr (inl (both (codes "submissions") (length v.submits) r same)))
-      go false p false q false r same = absurd cc
+          → cond a (Some (number_of version)) (cond b (Some (length v.items)) (cond d (Some (length v.submits)) (more_rows version v.revision key))) ≡ Some value → Told (key, value)
+      go true p b q d r same = inl (same_pair key (codes "schema") value (number_of version) p same)
+      go false p true q d r same = inr (inl (same_pair key (codes "items") value (length v.items) q same))
+      go false p false q true r same = inr (inr (inl (same_pair key (codes "submissions") value (length v.submits) r same)))
+      go false p false q false r same = inr (inr (inr (more_told version key value same)))
 
-  told_there : (e : List ℕ × ℕ) → Has told e → Has (rows_in db.trees).meta (label_row e)
-  unfolding told
-  told_there e (inl same) = at (codes "schema") 1 refl e same
-    where
-      at : (label : List ℕ) (n : ℕ) → meta_of (counts_of v) label ≡ Some n → (e : List ℕ × ℕ) → e ≡ (label, n) → Has (rows_in db.trees).meta (label_row e)
-      at label n is e same = let row = shows.meta.complete label n is in subst (λ (x : List ℕ × ℕ). Has (rows_in db.trees).meta (label_row x)) (sym same) (mapped (columns (1 ∷ 2 ∷ [])) (db.trees 0) (meta_row row.0 label n) row.1)
+  at : (label : List ℕ) (n : ℕ) → labels_of version (counts_of v) v.revision label ≡ Some n → (e : List ℕ × ℕ) → e ≡ (label, n) → Has (rows_in db.trees).meta (label_row e)
+  at label n is e same = let row = shows.meta.complete label n is in subst (λ (x : List ℕ × ℕ). Has (rows_in db.trees).meta (label_row x)) (sym same) (mapped (columns (1 ∷ 2 ∷ [])) (db.trees 0) (meta_row row.0 label n) row.1)
+
+  more_there : (it : Version) → it ≡ version → (e : List ℕ × ℕ) → Has (more_labels it v.revision) e → Has (rows_in db.trees).meta (label_row e)
+  more_there One is e none = absurd none
+  more_there Two is e (inl same) = at (codes "revision") v.revision (ap (λ x. labels_of x (counts_of v) v.revision (codes "revision")) (sym is)) e same
+  more_there Two is e (inr none) = absurd none
+
+  told_there : (e : List ℕ × ℕ) → Told e → Has (rows_in db.trees).meta (label_row e)
+  told_there e (inl same) = at (codes "schema") (number_of version) refl e same
   told_there e (inr (inl same)) = at (codes "items") (length v.items) refl e same
-    where
-      at : (label : List ℕ) (n : ℕ) → meta_of (counts_of v) label ≡ Some n → (e : List ℕ × ℕ) → e ≡ (label, n) → Has (rows_in db.trees).meta (label_row e)
-      at label n is e same = let row = shows.meta.complete label n is in subst (λ (x : List ℕ × ℕ). Has (rows_in db.trees).meta (label_row x)) (sym same) (mapped (columns (1 ∷ 2 ∷ [])) (db.trees 0) (meta_row row.0 label n) row.1)
   told_there e (inr (inr (inl same))) = at (codes "submissions") (length v.submits) refl e same
-    where
-      at : (label : List ℕ) (n : ℕ) → meta_of (counts_of v) label ≡ Some n → (e : List ℕ × ℕ) → e ≡ (label, n) → Has (rows_in db.trees).meta (label_row e)
-      at label n is e same = let row = shows.meta.complete label n is in subst (λ (x : List ℕ × ℕ). Has (rows_in db.trees).meta (label_row x)) (sym same) (mapped (columns (1 ∷ 2 ∷ [])) (db.trees 0) (meta_row row.0 label n) row.1)
-  told_there e (inr (inr (inr none))) = absurd none
+  told_there e (inr (inr (inr more))) = more_there version refl e more
 
-  pub counts_kept : AreCounts (length (rows_in db.trees).items) (length (rows_in db.trees).submissions) (rows_in db.trees).meta
-  counts_kept = record {
-    each = λ r h.
-        let from = unmapped (columns (1 ∷ 2 ∷ [])) (db.trees 0) r h in
-        let pair = shows.meta.sound from.0 from.1 in
-        ((pair.key, pair.value), subst (λ l. Has l (pair.key, pair.value)) told_same (label_told pair.key pair.value pair.maps), from.2 ∙ ap (columns (1 ∷ 2 ∷ [])) pair.is);
-    there = λ e h. told_there e (subst (λ l. Has l e) (sym told_same) h);
-  }
+  pub labels_kept : AreLabels version (length (rows_in db.trees).items) (length (rows_in db.trees).submissions) v.revision (rows_in db.trees).meta
+  labels_kept = subst₂ (λ x y. AreLabels version x y v.revision (rows_in db.trees).meta) (sym (length-map (db.trees 4) (columns (1 ∷ 2 ∷ [])) ∙ items_length))
+      (sym (length-map (db.trees 6) (columns (0 ∷ 2 ∷ 3 ∷ 4 ∷ 5 ∷ 6 ∷ 7 ∷ 8 ∷ 9 ∷ [])) ∙ submissions_length)) (record {
+        each = λ r h.
+            let from = unmapped (columns (1 ∷ 2 ∷ [])) (db.trees 0) r h in
+            let pair = shows.meta.sound from.0 from.1 in
+            ((pair.key, pair.value), label_told pair.key pair.value pair.maps, from.2 ∙ ap (columns (1 ∷ 2 ∷ [])) pair.is);
+        there = told_there;
+      })

@@ -1,5 +1,5 @@
 -- Rows by their places in a list, and as members of it.
-use Rattle.std.proofs.Common.{◌≡◌, inl, inr, ℕ, zero, suc, ◌+◌, ◌<◌, List, [], ◌∷◌, length, get_or, refl, sym, subst, ◌∙◌, arith}
+use Rattle.std.proofs.Common.{◌≡◌, inl, inr, ℕ, zero, suc, ◌+◌, ◌<◌, List, [], ◌∷◌, length, get_or, Ok, Err, Result, IfOk, refl, sym, subst, ◌∙◌, arith}
 use Rattle.std.specs.List.{All, Any}
 use Rattle.sqlite_rules.specs.Lists.{Has}
 use Rattle.pid_rows.proofs.Keys.{numbers_decided}
@@ -38,3 +38,7 @@ one_more P xs at x less is here before k d most = elim (numbers_decided k at) [
   | inl same ↦ subst (λ n. P n (get_or xs n d)) (sym same) (subst (P at) (is ∙ same_there xs at x d less) here)
   | inr other ↦ before k d (omega (arith, most, other))
 ]
+
+pub if_ok : {X E : Type 0} {P Q : X → Type 0} (r : Result X E) → ((x : X) → P x → Q x) → IfOk r P → IfOk r Q
+if_ok (Ok x) f h = f x h
+if_ok (Err e) f h = tt

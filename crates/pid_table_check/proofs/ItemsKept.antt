@@ -16,12 +16,13 @@ use Rattle.pid_moderation.specs.Sound.{IsSound}
 use Rattle.pid_moderation.specs.Views.{items_of, views_of}
 use Rattle.pid_moderation.specs.Writes.{tree_of}
 use Rattle.pid_moderation.specs.Laws.{ItemsAreSorted}
-use Rattle.pid_rows.specs.Shows.{Shows}
+use Rattle.pid_rows.specs.Shows.{ShowsIn}
+use Rattle.pid_rows.specs.declared.version.Version.{Version}
 use Rattle.pid_rows.specs.TableRows.{item_row}
 use Rattle.pid_table_check.specs.Conditions.{columns, rows_in, HasItem, IsItemRow, AreItems}
 use Rattle.pid_rows.proofs.Lengths.{some_there, mapped, unmapped}
 
-module _ (sorted : ItemsAreSorted) (h : History) (sound : IsSound h) (db : Database) (shows : Shows db (views_of h)) where
+module _ (sorted : ItemsAreSorted) (h : History) (sound : IsSound h) (version : Version) (db : Database) (shows : ShowsIn version db (views_of h)) where
   got : (k : List ℕ) → get (tree_of h) k ≡ name_at k (items_of h)
   got k = get-from_sorted text_cmp (items_of h) k (sorted h)
 

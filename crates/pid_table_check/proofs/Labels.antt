@@ -1,11 +1,11 @@
--- What the query of the labels shows, whatever the schema.
-use Rattle.std.specs.Prelude.{IfSome, IfNone}
-use Rattle.std.proofs.Common.{◌≡◌, ℕ, List, [], true, false, cond, Option, Some, None, Ok, Err, Result, refl, sym, subst}
+-- What the queries of the tables show, whatever the schema.
+use Rattle.std.specs.Prelude.{IfSome, IfNone, Vec}
+use Rattle.std.proofs.Common.{◌≡◌, ℕ, List, [], true, false, cond, Option, Some, None, Ok, Err, Result, MatchResult, IfOk, IfErr, refl, sym, ap, subst, ◌∙◌}
 use Rattle.sqlite.specs.Order.{Row}
 use Rattle.sqlite.specs.Schema.{Schema}
 use Rattle.sqlite.specs.Listing.{understood, reads_listing, if_select, is_select, listing_schema}
 use Rattle.sqlite.specs.Effect.{Database, Reads}
-use Rattle.sqlite.specs.State.{State, Shown, ShowsRows}
+use Rattle.sqlite.specs.State.{State, Shown, ShowsRows as ShowsAnswer}
 use Rattle.sqlite.specs.Given.{IsPlain}
 use Rattle.sqlite.specs.Clock.{timed as at_time}
 use Rattle.sqlite.specs.Command.{Command}
@@ -18,7 +18,14 @@ use Rattle.sqlite_resolve.specs.Lowering.{Checked, and_then}
 use Rattle.sqlite_syntax.specs.declared.statement.Parsed.{Parsed}
 use Rattle.sqlite_tied.specs.Compute.{everything}
 use Rattle.pid_table_check.specs.Conditions.{IsNewer}
-use Rattle.pid_table_check.specs.Shapes.{meta_text, IsAsked, ShowsLabels, ShowsLater}
+use Rattle.pid_table_check.specs.Queries.{query_of}
+use Rattle.pid_table_check.specs.declared.shape.Table.{Table}
+use Rattle.pid_table_check.specs.declared.shape.Table.TheVariants.{Meta, Account, Item, Submission, Remark, Receipt, Since}
+use Rattle.pid_table_check.specs.Shapes.{IsAsked, ShowsRows, ShowsLater}
+use Rattle.std.specs.declared.alloc.Global.{Global}
+use Rattle.pid_rows.proofs.ReadLemmas.{shown_same}
+use Rattle.pid_rows.specs.declared.fault.TableFault.{TableFault}
+use Rattle.pid_rows.specs.Faults.{IsUntold}
 
 -- a statement, if it is one, that shows nothing of a write and reads no time
 abbrev IsPlainIfAsked : Result Compiled CompileError → Type 0
@@ -29,9 +36,15 @@ abbrev OnlyReads : Checked Parsed → Type 0
 OnlyReads (Ok p) = (schema : Schema) → ((base : ℕ) → returning schema base p.statement ≡ Ok None) × (timed schema p.formats p.statement ≡ [])
 OnlyReads (Err e) = Unit {0}
 
-only_reads : OnlyReads (first meta_text)
+only_reads : (table : Table) → OnlyReads (first (query_of table))
 unfolding everything
-only_reads = λ schema. (λ base. refl, refl)
+only_reads Meta = λ schema. (λ base. refl, refl)
+only_reads Account = λ schema. (λ base. refl, refl)
+only_reads Item = λ schema. (λ base. refl, refl)
+only_reads Submission = λ schema. (λ base. refl, refl)
+only_reads Remark = λ schema. (λ base. refl, refl)
+only_reads Receipt = λ schema. (λ base. refl, refl)
+only_reads Since = λ schema. (λ base. refl, refl)
 
 module _ (schema : Schema) (p : Parsed) where
   abbrev IsPlan : Checked (List (List ℕ) × (Command × Option Returning)) → Type 0
@@ -52,9 +65,9 @@ module _ (schema : Schema) (p : Parsed) where
   unfolding planned meaning
   planned_plain shows untimed = is_plan (timed schema p.formats p.statement) untimed (returning schema _ p.statement) (shows _) (command schema p.formats _ p.statement)
 
-compiled_plain : (schema : Schema) → IsPlainIfAsked (compiled schema meta_text)
+compiled_plain : (table : Table) (schema : Schema) → IsPlainIfAsked (compiled schema (query_of table))
 unfolding compiled
-compiled_plain schema = go (first meta_text) only_reads
+compiled_plain table schema = go (first (query_of table)) (only_reads table)
   where
     go : (r : Checked Parsed) → OnlyReads r → IsPlainIfAsked (and_then r (λ p. and_then (planned schema p) (λ plan. Ok (with_command p plan))))
     go (Ok p) h = with_plan schema p (planned schema p) (planned_plain schema p (h schema).0 (h schema).1)
@@ -64,23 +77,35 @@ listed_plain : (r : Result Compiled CompileError) → IsPlainIfAsked r → IsPla
 listed_plain (Ok c) h = elim (is_select c.command) as (λ b. IsPlainIfAsked (cond b (Ok c) (Err NoSuchTable))) [ true ↦ h | false ↦ tt ]
 listed_plain (Err e) h = tt
 
-plain : (schema : Schema) → IsPlainIfAsked (understood schema meta_text)
+plain : (table : Table) (schema : Schema) → IsPlainIfAsked (understood schema (query_of table))
 unfolding understood
-plain schema = elim (reads_listing schema meta_text) as (λ b. IsPlainIfAsked (cond b (if_select (compiled listing_schema meta_text)) (compiled schema meta_text))) [
-  | true ↦ listed_plain (compiled listing_schema meta_text) (compiled_plain listing_schema)
-  | false ↦ compiled_plain schema
+plain table schema = elim (reads_listing schema (query_of table)) as (λ b. IsPlainIfAsked (cond b (if_select (compiled listing_schema (query_of table))) (compiled schema (query_of table)))) [
+  | true ↦ listed_plain (compiled listing_schema (query_of table)) (compiled_plain table listing_schema)
+  | false ↦ compiled_plain table schema
 ]
 
-pub asked_plain : (schema : Schema) → IsAsked schema meta_text → IsPlain (understood schema meta_text)
-asked_plain schema asked = subst IsPlain (sym asked.1) (subst IsPlainIfAsked asked.1 (plain schema))
+pub asked_plain : (table : Table) (schema : Schema) → IsAsked schema (query_of table) → IsPlain (understood schema (query_of table))
+asked_plain table schema asked = subst IsPlain (sym asked.1) (subst IsPlainIfAsked asked.1 (plain table schema))
 
-pub labels_shown : (old new : State) (rows : List Row) → Shown meta_text [] old new rows → ShowsLabels old.now rows
+rows_shown : (table : Table) (old new : State) (rows : List Row) → Shown (query_of table) [] old new rows → ShowsRows old.now (query_of table) rows
 unfolding Shown
-labels_shown old new rows h =
-    let is_plain = subst IsPlainIfAsked h.1.is (plain old.now.schema) in
-    let it = subst (ShowsRows old new meta_text h.0 (at_time [] h.0.formats h.1.now) rows) is_plain.0 h.2 in
+rows_shown table old new rows h =
+    let is_plain = subst IsPlainIfAsked h.1.is (plain table old.now.schema) in
+    let it = subst (ShowsAnswer old new (query_of table) h.0 (at_time [] h.0.formats h.1.now) rows) is_plain.0 h.2 in
     record { query = h.0; is = h.1.is; source = it.0; from = it.1; answer = subst (λ formats. Reads h.0.command it.0 (at_time [] formats h.1.now) rows) is_plain.1 it.2 }
 
-pub later_shown : (db : Database) (rows : List Row) (o : Option ℕ) → ShowsLabels db rows → IfSome o (λ n. IsNewer n rows) → IfNone o ((n : ℕ) → IsNewer n rows → ⊥) → ShowsLater db o
+pub answered : (table : Table) (sql : List ℕ) → sql ≡ query_of table → (old new : State) (r : Result (Vec Row Global) TableFault) → IfOk r (λ rows. Shown sql [] old new rows.items)
+    → ((schema : Schema) → old.now.schema ≡ schema → IsPlain (understood schema sql) → IfErr r IsUntold)
+    → (d : Database) → old.now ≡ d → IsAsked d.schema (query_of table) → MatchResult r (λ rows. ShowsRows d (query_of table) rows.items × (new.now ≡ d)) IsUntold
+answered table sql text old new (Ok rows) told fault d is asked =
+    let shown = subst (λ q. Shown q [] old new rows.items) text told in
+    let plain = asked_plain table old.now.schema (subst (λ (x : Database). IsAsked x.schema (query_of table)) (sym is) asked) in (
+      subst (λ (x : Database). ShowsRows x (query_of table) rows.items) is (rows_shown table old new rows.items shown),
+      (shown_same (query_of table) [] old new rows.items plain shown).0.now_is ∙ is,
+    )
+answered table sql text old new (Err e) told fault d is asked =
+    fault d.schema (ap (λ (x : Database). x.schema) is) (subst (λ q. IsPlain (understood d.schema q)) (sym text) (asked_plain table d.schema asked))
+
+pub later_shown : (db : Database) (rows : List Row) (o : Option ℕ) → ShowsRows db (query_of Meta) rows → IfSome o (λ n. IsNewer n rows) → IfNone o ((n : ℕ) → IsNewer n rows → ⊥) → ShowsLater db o
 later_shown db rows (Some n) shows found none = (rows, shows, found)
 later_shown db rows None shows found none = (rows, shows, none)

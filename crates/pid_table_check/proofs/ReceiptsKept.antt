@@ -10,7 +10,8 @@ use Rattle.pid_moderation.specs.declared.command.Reply.TheVariants.{Done, Number
 use Rattle.pid_moderation.specs.History.{History}
 use Rattle.pid_moderation.specs.Sound.{IsSound, IsBy, IsOwnReply}
 use Rattle.pid_moderation.specs.Views.{Submitted, submits_of, submission_at, state_of, views_of}
-use Rattle.pid_rows.specs.Shows.{Shows}
+use Rattle.pid_rows.specs.Shows.{ShowsIn}
+use Rattle.pid_rows.specs.declared.version.Version.{Version}
 use Rattle.pid_rows.specs.TableRows.{Standing, submission_row}
 use Rattle.pid_rows.proofs.Lengths.{mapped, unmapped}
 use Rattle.pid_table_check.specs.Conditions.{columns, rows_in, IsOwn, IsReceiptRow, AreReceipts}
@@ -19,7 +20,7 @@ by : (account : List ℕ) (o : Option Submitted) → IsBy account o → (s : Sub
 by account None h = absurd h
 by account (Some s) h = (s, refl, h)
 
-module _ (h : History) (sound : IsSound h) (db : Database) (shows : Shows db (views_of h)) where
+module _ (h : History) (sound : IsSound h) (version : Version) (db : Database) (shows : ShowsIn version db (views_of h)) where
   own : (account : List ℕ) (reply : Reply) → IsOwnReply h account reply → IsOwn (rows_in db.trees).submissions account reply
   own account Done mine = tt
   own account (Numbered n) mine =

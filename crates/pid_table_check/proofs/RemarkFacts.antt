@@ -41,7 +41,7 @@ either true c h = refl
 either false c (inl h) = absurd cc
 either false c (inr h) = h
 
-equal : (o : Ordering) → is_eq o ≡ true → o ≡ Equal
+pub equal : (o : Ordering) → is_eq o ≡ true → o ≡ Equal
 equal Less h = absurd cc
 equal Equal h = refl
 equal Greater h = absurd cc

@@ -8,7 +8,8 @@ use Rattle.pid_moderation.specs.CheckTables.{most_remarks}
 use Rattle.pid_moderation.specs.History.{History}
 use Rattle.pid_moderation.specs.Sound.{IsSound, IsGoodRemark, AreGoodRemarks, IsRemarkedWell}
 use Rattle.pid_moderation.specs.Views.{Submitted, Remark, submits_of, submission_at, remarks_of, views_of}
-use Rattle.pid_rows.specs.Shows.{Shows, counted_from_one}
+use Rattle.pid_rows.specs.Shows.{ShowsIn, counted_from_one}
+use Rattle.pid_rows.specs.declared.version.Version.{Version}
 use Rattle.pid_rows.specs.TableRows.{remark_row}
 use Rattle.pid_rows.proofs.Lengths.{mapped, unmapped}
 use Rattle.pid_table_check.specs.Conditions.{columns, rows_in, IsRemarkRow, AreRemarks}
@@ -45,7 +46,7 @@ remarked : (h : History) (o : Option Submitted) (rs : List Remark) (place : ℕ)
 remarked h None rs place r none e = absurd (none_counted rs place r none e)
 remarked h (Some s) rs place r well e = well
 
-module _ (h : History) (sound : IsSound h) (db : Database) (shows : Shows db (views_of h)) where
+module _ (h : History) (sound : IsSound h) (version : Version) (db : Database) (shows : ShowsIn version db (views_of h)) where
   remark_good : (r : Row) → Has (rows_in db.trees).remarks r → IsRemarkRow (rows_in db.trees).remarks r
   remark_good r has =
       let from = unmapped (columns (1 ∷ 2 ∷ 3 ∷ 4 ∷ [])) (db.trees 7) r has in

@@ -15,8 +15,11 @@ use Rattle.pid_moderation.specs.declared.facts.State.{State}
 use Rattle.pid_moderation.specs.declared.facts.State.TheVariants.{Pending, Approved, Rejected, Withdrawn}
 use Rattle.pid_moderation.specs.WellMade.{ProposesName}
 use Rattle.pid_rows.specs.TableRows.{number, form_of, name_of}
-use Rattle.pid_table_check.specs.Conditions.{HasAccount, AreAccounts, IsDecided, IsSubmissionRow}
+use Rattle.pid_table_check.specs.Conditions.{HasAccount, AreAccounts, IsDecided, IsSubmissionRow, AreSubmissions}
 use Rattle.pid_table_check.specs.NameSets.{AreNamesOf, IsAmong, IsDecidedAmong, IsSubmissionAmong, Stands}
+use Rattle.std.specs.List.{All}
+use Rattle.pid_table_check.specs.NumberSets.{CountFromOne}
+use Rattle.pid_table_check.proofs.Each.{each_member, each_place}
 use Rattle.pid_table_check.proofs.ItemFacts.{texts_same}
 use Rattle.pid_table_check.proofs.AccountFacts.{account_named}
 
@@ -57,20 +60,20 @@ module _ (names : BTreeSet (String Global)) (r : Row) where
   rejected_reason author e (Rejected decider reason, n, d, w, good) = (reason, w, good.2, good.3)
   rejected_reason author e (Withdrawn, n, d, w, good) = absurd (let bad : 2 ≡ 3 = numbers_same 2 3 (sym e ∙ n) in omega (arith, bad))
 
-  module _ (num : ℕ) where
-    pub num_of : IsSubmissionAmong names num r → column r 0 ≡ number num
-    num_of it = ap (λ (x : Row). column x 0) it.is
+  module _ (count : ℕ) where
+    pub num_of : IsSubmissionAmong names count r → (n : ℕ) × (column r 0 ≡ number n) × (1 ≤ n) × (n ≤ count)
+    num_of it = (it.num, ap (λ (x : Row). column x 0) it.is, it.within.0, it.within.1)
 
-    pub path_of : IsSubmissionAmong names num r → (p : Path) × IsPath p × (column r 2 ≡ Text (path_text p))
+    pub path_of : IsSubmissionAmong names count r → (p : Path) × IsPath p × (column r 2 ≡ Text (path_text p))
     path_of it = (it.standing.submitted.path, it.path, ap (λ (x : Row). column x 2) it.is)
 
-    pub proposal_of : IsSubmissionAmong names num r → Proposes r
+    pub proposal_of : IsSubmissionAmong names count r → Proposes r
     proposal_of it = (it.standing.submitted.proposal, ap (λ (x : Row). column x 3) it.is, ap (λ (x : Row). column x 4) it.is, it.proposal)
 
-    pub note_of : IsSubmissionAmong names num r → (text : List ℕ) × (column r 5 ≡ Text text) × (is_text text ≡ true)
+    pub note_of : IsSubmissionAmong names count r → (text : List ℕ) × (column r 5 ≡ Text text) × (is_text text ≡ true)
     note_of it = (it.standing.submitted.note, ap (λ (x : Row). column x 5) it.is, it.note)
 
-    pub author_of : IsSubmissionAmong names num r → (author : List ℕ) × (column r 1 ≡ Text author) × IsAmong names author × Stands names r author
+    pub author_of : IsSubmissionAmong names count r → (author : List ℕ) × (column r 1 ≡ Text author) × IsAmong names author × Stands names r author
     author_of it = (
       it.standing.submitted.author,
       ap (λ (x : Row). column x 1) it.is,
@@ -78,7 +81,7 @@ module _ (names : BTreeSet (String Global)) (r : Row) where
       (it.standing.state, ap (λ (x : Row). column x 6) it.is, ap (λ (x : Row). column x 7) it.is, ap (λ (x : Row). column x 8) it.is, it.state),
     )
 
-    pub stands_of : (author : List ℕ) → column r 1 ≡ Text author → IsSubmissionAmong names num r → IsAmong names author × Stands names r author
+    pub stands_of : (author : List ℕ) → column r 1 ≡ Text author → IsSubmissionAmong names count r → IsAmong names author × Stands names r author
     stands_of author is it = let of = author_of it in subst (λ a. IsAmong names a × Stands names r a) (texts_same _ _ (sym of.1 ∙ is)) (of.2, of.3)
 
 nine : (r : Row) → length r ≡ 9 → r ≡ column r 0 ∷ column r 1 ∷ column r 2 ∷ column r 3 ∷ column r 4 ∷ column r 5 ∷ column r 6 ∷ column r 7 ∷ column r 8 ∷ []
@@ -94,11 +97,13 @@ nine (a ∷ b ∷ c ∷ d ∷ e ∷ f ∷ []) len = absurd (omega (arith, len))
 nine (a ∷ b ∷ c ∷ d ∷ e ∷ f ∷ g ∷ []) len = absurd (omega (arith, len))
 nine (a ∷ b ∷ c ∷ d ∷ e ∷ f ∷ g ∷ h ∷ []) len = absurd (omega (arith, len))
 
-pub submission_made : (names : BTreeSet (String Global)) (num : ℕ) (r : Row) (author : List ℕ) → length r ≡ 9 → column r 0 ≡ number num → ((p : Path) × IsPath p × (column r 2 ≡ Text (path_text p)))
-    → Proposes r → ((text : List ℕ) × (column r 5 ≡ Text text) × (is_text text ≡ true)) → column r 1 ≡ Text author → (IsAmong names author × Stands names r author) → IsSubmissionAmong names num r
-submission_made names num r author len same path proposal note is it = record {
+pub submission_made : (names : BTreeSet (String Global)) (count : ℕ) (r : Row) (author : List ℕ) → length r ≡ 9 → ((n : ℕ) × (column r 0 ≡ number n) × (1 ≤ n) × (n ≤ count)) → ((p : Path) × IsPath p × (column r 2 ≡ Text (path_text p)))
+    → Proposes r → ((text : List ℕ) × (column r 5 ≡ Text text) × (is_text text ≡ true)) → column r 1 ≡ Text author → (IsAmong names author × Stands names r author) → IsSubmissionAmong names count r
+submission_made names count r author len num path proposal note is it = record {
+  num = num.0;
+  within = (num.2, num.3);
   standing = record { submitted = record { author = author; path = path.0; proposal = proposal.0; note = note.0 }; state = it.1.0 };
-  is = nine r len ∙ (λ i. same i ∷ is i ∷ path.2 i ∷ proposal.1 i ∷ proposal.2 i ∷ note.1 i ∷ it.1.1 i ∷ it.1.2 i ∷ it.1.3 i ∷ []);
+  is = nine r len ∙ (λ i. num.1 i ∷ is i ∷ path.2 i ∷ proposal.1 i ∷ proposal.2 i ∷ note.1 i ∷ it.1.1 i ∷ it.1.2 i ∷ it.1.3 i ∷ []);
   author = it.0;
   path = path.1;
   proposal = proposal.3;
@@ -130,12 +135,12 @@ module _ (accounts : List Row) (good : AreAccounts accounts) (names : BTreeSet (
   decided_among author (Rejected decider reason) h = (h.0, listed decider h.1, h.2, h.3)
   decided_among author Withdrawn h = tt
 
-  pub row_of : (count num : ℕ) (r : Row) → 1 ≤ num → num ≤ count → IsSubmissionAmong names num r → IsSubmissionRow accounts count r
-  row_of count num r low high it = record {
-    num = num;
+  row_of : (count : ℕ) (r : Row) → IsSubmissionAmong names count r → IsSubmissionRow accounts count r
+  row_of count r it = record {
+    num = it.num;
     standing = it.standing;
     is = it.is;
-    within = (low, high);
+    within = it.within;
     author = known _ it.author;
     path = it.path;
     proposal = it.proposal;
@@ -143,13 +148,24 @@ module _ (accounts : List Row) (good : AreAccounts accounts) (names : BTreeSet (
     state = decided it.standing.submitted.author it.standing.state it.state;
   }
 
-  pub row_among : (count : ℕ) (r : Row) (it : IsSubmissionRow accounts count r) → IsSubmissionAmong names it.num r
+  row_among : (count : ℕ) (r : Row) (it : IsSubmissionRow accounts count r) → IsSubmissionAmong names count r
   row_among count r it = record {
+    num = it.num;
     standing = it.standing;
     is = it.is;
+    within = it.within;
     author = listed _ it.author;
     path = it.path;
     proposal = it.proposal;
     note = it.note;
     state = decided_among it.standing.submitted.author it.standing.state it.state;
   }
+
+  pub submissions_made : (rows : List Row) → All (IsSubmissionAmong names (length rows)) rows → CountFromOne rows → AreSubmissions accounts rows
+  submissions_made rows all counted = record { each = λ r h. row_of (length rows) r (each_member (IsSubmissionAmong names (length rows)) rows all r h); counted = counted }
+
+  pub submissions_among : (rows : List Row) → AreSubmissions accounts rows → All (IsSubmissionAmong names (length rows)) rows
+  submissions_among rows good = each_place (IsSubmissionAmong names (length rows)) rows (λ r h. row_among (length rows) r (good.each r h))
+
+pub counted_of : (accounts rows : List Row) → AreSubmissions accounts rows → CountFromOne rows
+counted_of accounts rows good = good.counted

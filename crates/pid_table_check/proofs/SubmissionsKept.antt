@@ -13,7 +13,8 @@ use Rattle.pid_moderation.specs.declared.facts.State.TheVariants.{Pending, Appro
 use Rattle.pid_moderation.specs.History.{History}
 use Rattle.pid_moderation.specs.Sound.{IsSound, IsGoodSubmission, AreGoodSubmissions, IsDecidedByOther, IsDecidedWell}
 use Rattle.pid_moderation.specs.Views.{Submitted, submits_of, submission_at, state_of, views_of}
-use Rattle.pid_rows.specs.Shows.{Shows}
+use Rattle.pid_rows.specs.Shows.{ShowsIn}
+use Rattle.pid_rows.specs.declared.version.Version.{Version}
 use Rattle.pid_rows.specs.TableRows.{Standing, submission_row, number}
 use Rattle.pid_table_check.specs.Conditions.{columns, rows_in, HasValue, IsDecided, IsSubmissionRow, AreSubmissions}
 use Rattle.pid_rows.proofs.Lengths.{mapped, unmapped}
@@ -51,11 +52,11 @@ good_path h (suc n) s sound e = good_at h (submits_of h) n s sound.submissions e
 differs : (a b : List ℕ) → bytes_eq a b ≡ false → a ≢ b
 differs a b unlike same = both_ways _ unlike ((bytes_eq-Decides a b).1 same)
 
-module _ (h : History) (sound : IsSound h) (db : Database) (shows : Shows db (views_of h)) where
+module _ (h : History) (sound : IsSound h) (version : Version) (db : Database) (shows : ShowsIn version db (views_of h)) where
   decided : (author : List ℕ) (state : State) → IsDecidedByOther h author state → IsDecided (rows_in db.trees).accounts author state
   decided author Pending d = tt
-  decided author (Approved decider) d = (differs decider author d.0, account_known h sound db shows decider d.1)
-  decided author (Rejected decider reason) d = (differs decider author d.0, account_known h sound db shows decider d.1, d.2, d.3)
+  decided author (Approved decider) d = (differs decider author d.0, account_known h sound version db shows decider d.1)
+  decided author (Rejected decider reason) d = (differs decider author d.0, account_known h sound version db shows decider d.1, d.2, d.3)
   decided author Withdrawn d = tt
 
   module _ (same : length (db.trees 6) ≡ length (submits_of h)) where
@@ -78,7 +79,7 @@ module _ (h : History) (sound : IsSound h) (db : Database) (shows : Shows db (vi
           standing = standing;
           is = from.2 ∙ ap (columns (0 ∷ 2 ∷ 3 ∷ 4 ∷ 5 ∷ 6 ∷ 7 ∷ 8 ∷ 9 ∷ [])) pair.is;
           within = (bounds.0, omega (arith, bounds.1, count));
-          author = account_known h sound db shows standing.submitted.author good.author;
+          author = account_known h sound version db shows standing.submitted.author good.author;
           path = good.path;
           proposal = good.proposal;
           note = good.note;

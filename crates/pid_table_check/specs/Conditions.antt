@@ -1,4 +1,4 @@
--- When the rows of the six tables are what some registry kept: choices of this project.
+-- When the rows of the tables are what some registry kept: choices of this project.
 use Rattle.std.specs.Prelude.{◌≡◌, ◌≢◌, ℕ, suc, ◌+◌, ◌≤◌, ◌<◌, true, false, List, [], ◌∷◌, length, map, Some, codes}
 use Rattle.sqlite.specs.declared.types.Value.{Value}
 use Rattle.sqlite.specs.declared.types.Value.TheVariants.{Text}
@@ -14,11 +14,15 @@ use Rattle.pid_moderation.specs.declared.command.Reply.TheVariants.{Done, Number
 use Rattle.pid_moderation.specs.declared.facts.State.{State}
 use Rattle.pid_moderation.specs.declared.facts.State.TheVariants.{Pending, Approved, Rejected, Withdrawn}
 use Rattle.pid_moderation.specs.CheckTables.{most_items, most_remarks}
+use Rattle.pid_moderation.specs.CheckTables.{most_revision}
 use Rattle.pid_moderation.specs.WellMade.{ProposesName}
+use Rattle.pid_rows.specs.declared.version.Version.{Version}
+use Rattle.pid_rows.specs.declared.version.Version.TheVariants.{One, Two}
+use Rattle.pid_rows.specs.Schema.{number_of}
 use Rattle.pid_rows.specs.TableRows.{number, Standing, kind_of, first_of, second_of, third_of}
 use Rattle.pid_rows.specs.Answers.{standing_row}
 
--- the rows of the six tables, by the columns of the schema in their order
+-- the rows of the tables, by the columns of the schema in their order; those of item_since mean something in schema 2 alone
 pub record Rows : Type 0 where
   pub meta : List Row
   pub accounts : List Row
@@ -26,6 +30,7 @@ pub record Rows : Type 0 where
   pub submissions : List Row
   pub remarks : List Row
   pub receipts : List Row
+  pub sinces : List Row
 
 -- the values of some columns of a row, as storage keeps it
 abbrev pub columns : List ℕ → Row → Row
@@ -40,6 +45,7 @@ rows_in db = record {
   submissions = map (columns (0 ∷ 2 ∷ 3 ∷ 4 ∷ 5 ∷ 6 ∷ 7 ∷ 8 ∷ 9 ∷ [])) (db 6);
   remarks = map (columns (1 ∷ 2 ∷ 3 ∷ 4 ∷ [])) (db 7);
   receipts = map (columns (1 ∷ 2 ∷ 3 ∷ 4 ∷ 5 ∷ 6 ∷ [])) (db 9);
+  sinces = map (columns (1 ∷ 2 ∷ [])) (db 11);
 }
 
 -- some row has the value in the column
@@ -48,21 +54,26 @@ HasValue rows at value = (r : Row) × Has rows r × (column r at ≡ value)
 
 -- ---- meta
 
--- the three labels with their numbers: the schema, how many items there are, and how many submissions
-abbrev pub labels : ℕ → ℕ → List (List ℕ × ℕ)
-labels items submissions = (codes "schema", 1) ∷ (codes "items", items) ∷ (codes "submissions", submissions) ∷ []
+-- what a schema has in labels beside the three: schema 2 has the revision
+abbrev pub more_labels : Version → ℕ → List (List ℕ × ℕ)
+more_labels One revision = []
+more_labels Two revision = (codes "revision", revision) ∷ []
+
+-- the labels of a schema with their numbers: that of the schema, how many items there are, and how many submissions
+abbrev pub labels : Version → ℕ → ℕ → ℕ → List (List ℕ × ℕ)
+labels version items submissions revision = (codes "schema", number_of version) ∷ (codes "items", items) ∷ (codes "submissions", submissions) ∷ more_labels version revision
 
 abbrev pub label_row : List ℕ × ℕ → Row
 label_row e = Text e.0 ∷ number e.1 ∷ []
 
--- the rows of meta are those of the three labels
-pub record AreCounts (items submissions : ℕ) (meta : List Row) : Type 0 where
-  pub each : (r : Row) → Has meta r → (e : List ℕ × ℕ) × Has (labels items submissions) e × (r ≡ label_row e)
-  pub there : (e : List ℕ × ℕ) → Has (labels items submissions) e → Has meta (label_row e)
+-- the rows of meta are those of the labels
+pub record AreLabels (version : Version) (items submissions revision : ℕ) (meta : List Row) : Type 0 where
+  pub each : (r : Row) → Has meta r → (e : List ℕ × ℕ) × Has (labels version items submissions revision) e × (r ≡ label_row e)
+  pub there : (e : List ℕ × ℕ) → Has (labels version items submissions revision) e → Has meta (label_row e)
 
 -- a later schema says its number
 abbrev pub IsNewer : ℕ → List Row → Type 0
-IsNewer n meta = (1 < n) × Has meta (label_row (codes "schema", n))
+IsNewer n meta = (2 < n) × Has meta (label_row (codes "schema", n))
 
 -- ---- account
 
@@ -170,17 +181,41 @@ pub record IsReceiptRow (submissions : List Row) (r : Row) : Type 0 where
 abbrev pub AreReceipts : List Row → List Row → Type 0
 AreReceipts submissions receipts = (r : Row) → Has receipts r → IsReceiptRow submissions r
 
+-- ---- item_since
+
+-- the path of an item, and the number of the last change of its name, which is at most the revision
+pub record IsSinceRow (revision : ℕ) (r : Row) : Type 0 where
+  pub path : Path
+  pub since : ℕ
+  pub is : r ≡ Text (path_text path) ∷ number since ∷ []
+  pub in_range : IsPath path
+  pub within : since ≤ revision
+
+-- each item has a row
+pub record AreSinces (revision : ℕ) (items sinces : List Row) : Type 0 where
+  pub each : (r : Row) → Has sinces r → IsSinceRow revision r
+  pub there : (path : Path) → IsPath path → HasItem items path → HasItem sinces path
+
+-- schema 1 keeps no numbers of changes
+abbrev pub AreNumbered : Version → ℕ → Rows → Type 0
+AreNumbered One revision t = Unit {0}
+AreNumbered Two revision t = AreSinces revision t.items t.sinces
+
+-- meta has the labels with the counts, and the numbers of changes go with the revision
+pub record AreCounted (version : Version) (t : Rows) : Type 0 where
+  pub revision : ℕ
+  pub limit : revision ≤ most_revision
+  pub labels : AreLabels version (length t.items) (length t.submissions) revision t.meta
+  pub sinces : AreNumbered version revision t
+
 -- ---- all of them
 
-pub record AreOfRegistry (t : Rows) : Type 0 where
-  pub counts : AreCounts (length t.items) (length t.submissions) t.meta
+-- The rows are those of a registry in this schema. What the tables themselves keep of their rows is not said again: that a remark is on a
+-- submission and a receipt of an account, that a row of item_since is of an item, and that no key stands twice.
+pub record AreOfRegistry (version : Version) (t : Rows) : Type 0 where
+  pub counts : AreCounted version t
   pub accounts : AreAccounts t.accounts
   pub items : AreItems t.items
   pub submissions : AreSubmissions t.accounts t.submissions
   pub remarks : AreRemarks t.remarks
   pub receipts : AreReceipts t.submissions t.receipts
-
--- It speaks of the trees of a database of the schema: what the schema itself keeps of the rows, as that a remark is on a submission
--- and a receipt of an account, is not said again.
-abbrev pub IsRegistry : Trees → Type 0
-IsRegistry db = AreOfRegistry (rows_in db)

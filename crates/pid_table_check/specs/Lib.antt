@@ -9,3 +9,5 @@ pub mod Checking
 pub mod Shapes
 pub mod Queries
 pub mod Clauses
+pub mod NumberSets
+pub mod Lacking

@@ -1,5 +1,5 @@
 -- The names of accounts as a set, and rows of submissions judged by it.
-use Rattle.std.specs.Prelude.{◌≡◌, ◌≢◌, ◌↔◌, ◌<◌, ℕ, ◌+◌, true, false, ◌∷◌, length, get_or, List, IsUtf8, String}
+use Rattle.std.specs.Prelude.{◌≡◌, ◌≢◌, ◌↔◌, ◌≤◌, ℕ, true, false, ◌∷◌, List, IsUtf8, String}
 use Rattle.std.specs.BTreeSet.{BTreeSet, contains_text}
 use Rattle.std.specs.declared.alloc.Global.{Global}
 use Rattle.sqlite.specs.declared.types.Value.TheVariants.{Text}
@@ -12,7 +12,7 @@ use Rattle.pid_moderation.specs.declared.facts.State.{State}
 use Rattle.pid_moderation.specs.declared.facts.State.TheVariants.{Pending, Approved, Rejected, Withdrawn}
 use Rattle.pid_rows.specs.TableRows.{number, Standing, state_number, decider_of, reason_of}
 use Rattle.pid_rows.specs.Answers.{standing_row}
-use Rattle.pid_table_check.specs.Conditions.{Rows, HasAccount, AreAccounts}
+use Rattle.pid_table_check.specs.Conditions.{HasAccount}
 
 -- the set has exactly the texts in the first column of the rows
 abbrev pub AreNamesOf : BTreeSet (String Global) → List Row → Type 0
@@ -32,21 +32,14 @@ IsDecidedAmong names author Withdrawn = Unit {0}
 abbrev pub Stands : BTreeSet (String Global) → Row → List ℕ → Type 0
 Stands names r author = (s : State) × (column r 6 ≡ number (state_number s)) × (column r 7 ≡ Text (decider_of author s)) × (column r 8 ≡ Text (reason_of s)) × IsDecidedAmong names author s
 
--- the submission of a number, with its author and decider in the set
-pub record IsSubmissionAmong (names : BTreeSet (String Global)) (num : ℕ) (r : Row) : Type 0 where
+-- a submission whose number is at most the count, with its author and decider in the set
+pub record IsSubmissionAmong (names : BTreeSet (String Global)) (count : ℕ) (r : Row) : Type 0 where
+  pub num : ℕ
   pub standing : Standing
   pub is : r ≡ number num ∷ standing_row standing
+  pub within : (1 ≤ num) × (num ≤ count)
   pub author : IsAmong names standing.submitted.author
   pub path : IsPath standing.submitted.path
   pub proposal : ProposesName standing.submitted.proposal
   pub note : is_text standing.submitted.note ≡ true
   pub state : IsDecidedAmong names standing.submitted.author standing.state
-
--- they are submissions 1, 2, .. in their order
-abbrev pub AreSubmissionsAmong : BTreeSet (String Global) → List Row → Type 0
-AreSubmissionsAmong names rows = (i : ℕ) (d : Row) → i < length rows → IsSubmissionAmong names (i + 1) (get_or rows i d)
-
--- the accounts are good, and the set has their names
-pub record AreReady (names : BTreeSet (String Global)) (t : Rows) : Type 0 where
-  pub accounts : AreAccounts t.accounts
-  pub named : AreNamesOf names t.accounts

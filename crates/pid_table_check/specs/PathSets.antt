@@ -2,7 +2,7 @@
 use Rattle.std.specs.Prelude.{◌≡◌, ◌↔◌, ℕ, true, List, [], ◌∷◌, Some}
 use Rattle.std.specs.BTreeSet.{BTreeSet, contains}
 use Rattle.sqlite.specs.declared.types.Value.TheVariants.{Text}
-use Rattle.sqlite.specs.Order.{Row}
+use Rattle.sqlite.specs.Order.{Row, column}
 use Rattle.pid_ident.specs.declared.path.Path.{Path}
 use Rattle.pid_ident.specs.PathTexts.{IsPath, path_text, path_cmp, parent_of}
 use Rattle.pid_ident.specs.Words.{is_name}
@@ -20,3 +20,7 @@ pub record IsItemAmong (paths : BTreeSet Path) (r : Row) : Type 0 where
   pub in_range : IsPath path
   pub good : is_name name ≡ true
   pub parent : (above : Path) → parent_of path ≡ Some above → contains path_cmp paths above ≡ true
+
+-- the path in the row, if there is one, is in the set
+abbrev pub HasPathIn : BTreeSet Path → Row → Type 0
+HasPathIn paths r = (path : Path) → IsPath path → column r 0 ≡ Text (path_text path) → contains path_cmp paths path ≡ true

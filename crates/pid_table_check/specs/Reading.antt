@@ -1,37 +1,57 @@
--- What a call in a transaction tells of the rows that the transaction shows.
-use Rattle.std.specs.Prelude.{◌≡◌, ◌≤◌, ℕ, List, Result, MatchResult, Vec}
-use Rattle.std.specs.List.Sorted.{IsPermutation}
+-- What calls in a transaction tell of the rows that the transaction shows.
+use Rattle.std.specs.Prelude.{◌≡◌, ℕ, List, Option, Some, None, Result, MatchResult, Vec}
 use Rattle.std.specs.declared.alloc.Global.{Global}
-use Rattle.sqlite.specs.Order.{Row, column}
-use Rattle.sqlite.specs.Tree.{IsAscending}
+use Rattle.sqlite.specs.Effect.{Database}
+use Rattle.sqlite.specs.Order.{Row}
 use Rattle.sqlite.specs.State.{State, HasCleanDisk}
+use Rattle.pid_rows.specs.declared.version.Version.{Version}
 use Rattle.pid_rows.specs.declared.fault.TableFault.{TableFault}
 use Rattle.pid_rows.specs.declared.fault.TableFault.TheVariants.{Memory, Store, NewerSchema, Damaged}
 use Rattle.pid_rows.specs.Faults.{IsUntold}
-use Rattle.pid_rows.specs.Schema.{pid_schema}
-use Rattle.pid_rows.specs.TableRows.{number}
-use Rattle.pid_table_check.specs.Conditions.{Rows, rows_in}
+use Rattle.pid_table_check.specs.declared.tables.Tables.{Tables}
+use Rattle.pid_table_check.specs.Conditions.{Rows, AreSubmissions, AreRemarks, AreReceipts}
+use Rattle.pid_table_check.specs.Shapes.{IsAsked, ShowsRows, ShowsLater}
+use Rattle.pid_table_check.specs.Checking.{ShowsRegistry, ShowsDamage}
 
--- the rows are not those of a registry, or nothing is told of them
-abbrev pub Refutes : Type 0 → TableFault → Type 0
-Refutes Good Memory = Unit {0}
-Refutes Good Store = Unit {0}
-Refutes Good (NewerSchema n) = ⊥
-Refutes Good Damaged = ¬ Good
+-- the rows that were read
+abbrev pub rows_of : Tables → Rows
+rows_of t = record {
+  meta = t.meta.items;
+  accounts = t.accounts.items;
+  items = t.items.items;
+  submissions = t.submissions.items;
+  remarks = t.remarks.items;
+  receipts = t.receipts.items;
+  sinces = t.sinces.items;
+}
 
--- Where the tables are those of the schema, a value says so of their rows, which stay as they are, and a fault says so too.
-abbrev pub Judges : {X : Type 0} → State → State → Result X TableFault → (Rows → X → Type 0) → (Rows → TableFault → Type 0) → Type 0
-Judges old new result Says Fails =
-    HasCleanDisk new → old.now.schema ≡ pid_schema → MatchResult result (λ x. Says (rows_in old.now.trees) x × (new.now ≡ old.now)) (λ e. Fails (rows_in old.now.trees) e)
+-- submissions are good, and what hangs on them
+abbrev pub IsSubmitted : Rows → Type 0
+IsSubmitted t = AreSubmissions t.accounts t.submissions × AreRemarks t.remarks × AreReceipts t.submissions t.receipts
 
--- all rows of one table, in some order
-abbrev pub Answers : State → State → Result (Vec Row Global) TableFault → (Rows → List Row) → Type 0
-Answers old new result table = Judges old new result (λ t rows. IsPermutation (table t) rows.items) (λ t e. IsUntold e)
+-- Of the database that the transaction sees, where a condition holds, a value says what it says, and the database stays; a fault says what it says.
+abbrev pub Tells : {X : Type 0} → State → State → Result X TableFault → (Database → Type 0) → (Database → X → Type 0) → (Database → TableFault → Type 0) → Type 0
+Tells old new result Has Says Fails = HasCleanDisk new → (d : Database) → old.now ≡ d → Has d → MatchResult result (λ x. Says d x × (new.now ≡ d)) (Fails d)
 
--- no number in the first column is followed by a smaller one
-abbrev pub IsInOrder : List Row → Type 0
-IsInOrder rows = IsAscending (λ r s. (m n : ℕ) → column r 0 ≡ number m → column s 0 ≡ number n → m ≤ n) rows
+-- the rows that a query answers, where it can be asked
+abbrev pub Answers : State → State → Result (Vec Row Global) TableFault → List ℕ → Type 0
+Answers old new result text = Tells old new result (λ d. IsAsked d.schema text) (λ d rows. ShowsRows d text rows.items) (λ d. IsUntold)
 
--- all rows of one table, where they are good; Damaged where they are not
-abbrev pub Checks : State → State → Result (Vec Row Global) TableFault → (Rows → List Row) → (Rows → Type 0) → Type 0
-Checks old new result table Good = Judges old new result (λ t rows. IsPermutation (table t) rows.items × Good t) (λ t e. Refutes (Good t) e)
+-- the tables of the schema are not a registry's, or nothing is told of them
+abbrev pub TellsDamage : Version → Database → TableFault → Type 0
+TellsDamage version d Memory = Unit {0}
+TellsDamage version d Store = Unit {0}
+TellsDamage version d (NewerSchema n) = ⊥
+TellsDamage version d Damaged = ShowsDamage version d
+
+-- a later schema is judged first; tables of neither schema are damaged
+abbrev pub TellsLater : Option Version → Database → TableFault → Type 0
+TellsLater version d Memory = Unit {0}
+TellsLater version d Store = Unit {0}
+TellsLater version d (NewerSchema n) = ShowsLater d (Some n)
+TellsLater version d Damaged = ShowsLater d None × ((it : Version) → version ≡ Some it → ShowsDamage it d)
+
+-- the tables are those of a schema and show a registry, and no later schema
+abbrev pub ShowsFound : Option Version → Database → Type 0
+ShowsFound None d = ⊥
+ShowsFound (Some found) d = ShowsRegistry found d × ShowsLater d None

@@ -1,64 +1,81 @@
--- Which tables of the schema a database has, and what its table of labels shows: a choice of this project.
-use Rattle.std.specs.Prelude.{◌≡◌, ℕ, List, [], ◌∷◌, Option, Some, None, Ok, codes}
+-- Which tables of a schema a database has, and which rows they show: choices of this project.
+use Rattle.std.specs.Prelude.{◌≡◌, ◌++◌, ℕ, List, [], ◌∷◌, Option, Some, None, Ok}
 use Rattle.sqlite.specs.Order.{Row}
 use Rattle.sqlite.specs.Schema.{Schema}
+use Rattle.sqlite.specs.Table.{Table as Stored}
 use Rattle.sqlite.specs.Effect.{Database, Reads}
 use Rattle.sqlite.specs.Listing.{understood, reads_listing, IsSourceOf}
 use Rattle.sqlite_resolve.specs.declared.compiled.Compiled.{Compiled}
 use Rattle.sqlite_rules.specs.Lists.{Has}
-use Rattle.pid_rows.specs.declared.fault.TableFault.{TableFault}
-use Rattle.pid_rows.specs.declared.fault.TableFault.TheVariants.{Memory, Store, NewerSchema, Damaged}
-use Rattle.pid_table_check.specs.Conditions.{IsNewer}
+use Rattle.pid_rows.specs.declared.version.Version.{Version}
+use Rattle.pid_rows.specs.declared.version.Version.TheVariants.{One, Two}
+use Rattle.pid_rows.specs.Schema.{schema_of}
+use Rattle.pid_table_check.specs.declared.shape.Table.TheVariants.{Meta, Account, Item, Submission, Remark, Receipt, Since}
+use Rattle.pid_table_check.specs.Conditions.{Rows, IsNewer}
+use Rattle.pid_table_check.specs.Queries.{query_of, any_since}
 
-abbrev pub meta_text : List ℕ
-meta_text = codes "SELECT label, value FROM meta"
-
--- each table is asked for by its columns' names
-abbrev pub table_texts : List (List ℕ)
-table_texts =
-    meta_text
-    ∷ codes "SELECT name, rank FROM account"
-    ∷ codes "SELECT path, name FROM item"
-    ∷ codes "SELECT num, author, path, form, name, note, state, decider, reason FROM submission ORDER BY num"
-    ∷ codes "SELECT num, seq, author, body FROM remark"
-    ∷ codes "SELECT account, token, kind, a, b, c FROM receipt"
-    ∷ []
+-- the queries of the tables of a schema
+abbrev pub table_texts : Version → List (List ℕ)
+table_texts One = query_of Meta ∷ query_of Account ∷ query_of Item ∷ query_of Submission ∷ query_of Remark ∷ query_of Receipt ∷ []
+table_texts Two = query_of Meta ∷ query_of Account ∷ query_of Item ∷ query_of Submission ∷ query_of Remark ∷ query_of Receipt ∷ query_of Since ∷ []
 
 -- the text can be prepared: it is understood as a statement under the schema
 abbrev pub IsAsked : Schema → List ℕ → Type 0
 IsAsked schema text = (c : Compiled) × (understood schema text ≡ Ok c)
 
--- each table can be asked for
+-- each of the six tables that both schemas have can be asked for
 abbrev pub HasEachTable : Schema → Type 0
-HasEachTable schema = (text : List ℕ) → Has table_texts text → IsAsked schema text
+HasEachTable schema = (text : List ℕ) → Has (table_texts One) text → IsAsked schema text
 
--- some table can
+-- some of the seven can
 abbrev pub HasSomeTable : Schema → Type 0
-HasSomeTable schema = (text : List ℕ) × Has table_texts text × IsAsked schema text
+HasSomeTable schema = (text : List ℕ) × Has (table_texts Two) text × IsAsked schema text
 
 abbrev pub HasNoTable : Schema → Type 0
 HasNoTable schema = ¬ (HasSomeTable schema)
 
--- some can, but not each
-abbrev pub LacksATable : Schema → Type 0
-LacksATable schema = HasSomeTable schema × ¬ (HasEachTable schema)
+-- a table, or a view, has the name item_since, whatever its columns
+abbrev pub HasSinceTable : Schema → Type 0
+HasSinceTable schema = IsAsked schema any_since
 
--- the query of the labels answers these rows
-pub record ShowsLabels (db : Database) (rows : List Row) : Type 0 where
+-- the tables of a schema are there: beside the six, schema 1 has no table item_since, and schema 2 has it with its columns
+abbrev pub HasTables : Version → Schema → Type 0
+HasTables One schema = HasEachTable schema × ¬ (HasSinceTable schema)
+HasTables Two schema = HasEachTable schema × HasSinceTable schema × IsAsked schema (query_of Since)
+
+-- these tables, or those of neither schema, are there
+abbrev pub HasTablesOf : Option Version → Schema → Type 0
+HasTablesOf (Some version) schema = HasTables version schema
+HasTablesOf None schema = (version : Version) → ¬ (HasTables version schema)
+
+-- the tables of a schema were made first, in their order; whatever else was made stands behind them
+abbrev pub IsMadeFirst : Version → Schema → Type 0
+IsMadeFirst version schema = (others : List Stored) × (schema.tables ≡ (schema_of version).tables ++ others)
+
+-- the query answers these rows
+pub record ShowsRows (db : Database) (text : List ℕ) (rows : List Row) : Type 0 where
   pub query : Compiled
-  pub is : understood db.schema meta_text ≡ Ok query
+  pub is : understood db.schema text ≡ Ok query
   pub source : Database
-  pub from : IsSourceOf (reads_listing db.schema meta_text) db source
+  pub from : IsSourceOf (reads_listing db.schema text) db source
   pub answer : Reads query.command source [] rows
+
+-- schema 1 has no table item_since to ask for
+abbrev pub ShowsSinces : Version → Database → List Row → Type 0
+ShowsSinces One db rows = Unit {0}
+ShowsSinces Two db rows = ShowsRows db (query_of Since) rows
+
+-- the queries of the tables of a schema answer these rows
+pub record ShowsTables (version : Version) (db : Database) (t : Rows) : Type 0 where
+  pub meta : ShowsRows db (query_of Meta) t.meta
+  pub accounts : ShowsRows db (query_of Account) t.accounts
+  pub items : ShowsRows db (query_of Item) t.items
+  pub submissions : ShowsRows db (query_of Submission) t.submissions
+  pub remarks : ShowsRows db (query_of Remark) t.remarks
+  pub receipts : ShowsRows db (query_of Receipt) t.receipts
+  pub sinces : ShowsSinces version db t.sinces
 
 -- the labels show a later schema of this number, or none
 abbrev pub ShowsLater : Database → Option ℕ → Type 0
-ShowsLater db (Some n) = (rows : List Row) × ShowsLabels db rows × IsNewer n rows
-ShowsLater db None = (rows : List Row) × ShowsLabels db rows × ((n : ℕ) → ¬ (IsNewer n rows))
-
--- A later schema is judged before all else: it is Damaged where the labels can't be asked for, or show none.
-abbrev pub ExplainsLater : Database → TableFault → Type 0
-ExplainsLater db Memory = Unit {0}
-ExplainsLater db Store = Unit {0}
-ExplainsLater db (NewerSchema n) = ShowsLater db (Some n)
-ExplainsLater db Damaged = IsAsked db.schema meta_text → ShowsLater db None
+ShowsLater db (Some n) = (rows : List Row) × ShowsRows db (query_of Meta) rows × IsNewer n rows
+ShowsLater db None = (rows : List Row) × ShowsRows db (query_of Meta) rows × ((n : ℕ) → ¬ (IsNewer n rows))

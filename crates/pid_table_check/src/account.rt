@@ -1,19 +1,14 @@
 //! Accounts: each has a name and a rank, `root` is one, and some account is an administrator.
-ghost use Rattle.std.specs.Prelude.{◌≡◌, ◌≤◌, ◌↔◌, ℕ, IsTrue, IfErr, codes};
+ghost use Rattle.std.specs.Prelude.{◌≡◌, ◌≤◌, ◌↔◌, ℕ, IsTrue, codes};
 ghost use Rattle.std.specs.List.{All, Any};
 ghost use Rattle.sqlite.specs.declared.types.Value.TheVariants.{Text as TextValue};
 ghost use Rattle.sqlite.specs.Order.{column};
 ghost use Rattle.pid_rows.specs.TableRows.{number};
-ghost use Rattle.pid_rows.specs.Faults.{IsNotLater};
 ghost use Rattle.pid_table_check.specs.Conditions.{IsAccountRow, AreAccounts};
-ghost use Rattle.pid_rows.specs.Clauses.{GoesOn};
-ghost use Rattle.pid_table_check.specs.Clauses.{Checks};
 
-use crate::read::account_rows;
 use crate::value::{number_at, text_at};
 use pid_ident::is_account;
-use pid_rows::TableFault;
-use sqlite::{Alter, Row, Transaction};
+use sqlite::Row;
 
 fn has_rank(row: &Row) -> bool
     ensures { IsTrue result ↔ ((rank : ℕ) × (column row.now 1 ≡ number rank) × (rank ≤ 3)) }
@@ -84,21 +79,4 @@ pub(crate) fn are_accounts(rows: &[Row]) -> bool
         return false;
     }
     have_administrator(rows)
-}
-
-/// Reads the accounts, which are those of a registry.
-pub(crate) fn checked_accounts<S: Alter>(
-    tx: &mut Transaction<'_, S>,
-) -> Result<Vec<Row>, TableFault>
-    ensures same_reference { tx.new.conn.ghost_name ≡ tx.old.conn.ghost_name }
-    ensures goes { GoesOn S.Store tx.old.conn.now tx.new.conn.now result }
-    ensures never { IfErr result IsNotLater }
-    ensures checks { Checks S.Store tx.old.conn.now tx.new.conn.now result (λ t. t.accounts) (λ t. AreAccounts t.accounts) }
-{
-    let rows = account_rows(tx)?;
-    if are_accounts(rows.as_slice()) {
-        Ok(rows)
-    } else {
-        Err(TableFault::Damaged)
-    }
 }

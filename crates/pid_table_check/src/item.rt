@@ -6,16 +6,13 @@ ghost use Rattle.sqlite.specs.Order.{Row as Values};
 ghost use Rattle.pid_ident.specs.PathTexts.{path_cmp, parent_of};
 ghost use Rattle.pid_table_check.specs.Conditions.{AreItems};
 ghost use Rattle.pid_table_check.specs.PathSets.{ArePathsOf, IsItemAmong};
-ghost use Rattle.pid_rows.specs.Faults.{IsUntold, IsNotLater};
-ghost use Rattle.pid_rows.specs.Clauses.{GoesOn};
-ghost use Rattle.pid_table_check.specs.Clauses.{Checks};
+ghost use Rattle.pid_rows.specs.Faults.{IsUntold};
 
-use crate::read::item_rows;
 use crate::words::{has_name, path_at};
 use pid_ident::Path;
 use pid_moderation::ITEMS;
 use pid_rows::TableFault;
-use sqlite::{Alter, Row, Transaction};
+use sqlite::Row;
 use std::alloc::Global;
 use std::collections::BTreeSet;
 
@@ -33,7 +30,8 @@ fn add_path(paths: &mut BTreeSet<Path>, row: &Row) -> Result<(), TableFault>
     }
 }
 
-fn paths_of(rows: &[Row], alloc: Global) -> Result<BTreeSet<Path>, TableFault>
+/// The paths in the first column of the rows.
+pub(crate) fn paths_of(rows: &[Row], alloc: Global) -> Result<BTreeSet<Path>, TableFault>
     ensures paths { IfOk result (λ paths. ArePathsOf paths rows.now) }
     ensures untold { IfErr result IsUntold }
 {
@@ -84,23 +82,4 @@ pub(crate) fn are_items(rows: &[Row], alloc: Global) -> Result<bool, TableFault>
     }
     let paths = paths_of(rows, alloc)?;
     Ok(are_item_rows(rows, &paths))
-}
-
-/// Reads the items, which are those of a registry.
-pub(crate) fn checked_items<S: Alter>(
-    tx: &mut Transaction<'_, S>,
-    alloc: Global,
-) -> Result<Vec<Row>, TableFault>
-    ensures same_reference { tx.new.conn.ghost_name ≡ tx.old.conn.ghost_name }
-    ensures goes { GoesOn S.Store tx.old.conn.now tx.new.conn.now result }
-    ensures never { IfErr result IsNotLater }
-    ensures checks { Checks S.Store tx.old.conn.now tx.new.conn.now result (λ t. t.items) (λ t. AreItems t.items) }
-{
-    let rows = item_rows(tx)?;
-    let good = are_items(rows.as_slice(), alloc)?;
-    if good {
-        Ok(rows)
-    } else {
-        Err(TableFault::Damaged)
-    }
 }

@@ -1,35 +1,45 @@
 //! Laws of the definitions. Each is the contract of a function that does nothing.
-ghost use Rattle.std.specs.Prelude.{ℕ, List};
+ghost use Rattle.std.specs.Prelude.{◌≤◌, ℕ, List};
 ghost use Rattle.sqlite.specs.Effect.{Database};
+ghost use Rattle.pid_moderation.specs.CheckTables.{most_revision};
 ghost use Rattle.pid_moderation.specs.History.{Asked, Begins, History};
 ghost use Rattle.pid_moderation.specs.Judgement.{after_all};
 ghost use Rattle.pid_moderation.specs.Sound.{IsSound};
-ghost use Rattle.pid_moderation.specs.Views.{views_of};
+ghost use Rattle.pid_moderation.specs.Views.{revision_of, views_of};
 ghost use Rattle.pid_moderation.specs.WellMade.{AreWellMade};
-ghost use Rattle.pid_rows.specs.Shows.{Shows};
-ghost use Rattle.pid_rows.specs.Schema.{no_schema, pid_schema};
-ghost use Rattle.pid_table_check.specs.Conditions.{IsRegistry};
-ghost use Rattle.pid_table_check.specs.Shapes.{HasNoTable, HasEachTable};
+ghost use Rattle.pid_rows.specs.declared.version.Version.{Version};
+ghost use Rattle.pid_rows.specs.Schema.{no_schema, schema_of};
+ghost use Rattle.pid_rows.specs.Shows.{ShowsIn};
+ghost use Rattle.pid_table_check.specs.Checking.{IsRegistry};
+ghost use Rattle.pid_table_check.specs.Shapes.{HasNoTable, HasEachTable, HasTables, IsMadeFirst};
 
-use pid_moderation::{histories_are_sound, items_are_sorted};
+use pid_moderation::{
+    histories_are_sound, items_are_sorted, revisions_are_within, sinces_are_last_changes,
+};
 
-/// Every database that shows a sound history meets all conditions on its rows.
+/// Every database that shows a sound history whose revision is within its limit, in either schema, has the tables of the schema and meets
+/// all conditions on their rows.
 pub fn sound_histories_are_registries()
-    ensures { (h : History) → IsSound h → (db : Database) → Shows db (views_of h) → IsRegistry db.trees }
+    ensures { (h : History) → IsSound h → revision_of h ≤ most_revision → (version : Version) (db : Database) → ShowsIn version db (views_of h) → IsRegistry version db }
 {
     items_are_sorted();
+    sinces_are_last_changes();
 }
 
 /// So does every database that shows what well made commands lead to, from any beginning.
 pub fn shown_tables_are_registries()
-    ensures { (mark : ℕ) (commands : List Asked) → AreWellMade commands → (db : Database) → Shows db (views_of (after_all (Begins mark) commands)) → IsRegistry db.trees }
+    ensures { (mark : ℕ) (commands : List Asked) → AreWellMade commands → (version : Version) (db : Database)
+        → ShowsIn version db (views_of (after_all (Begins mark) commands)) → IsRegistry version db }
 {
     histories_are_sound();
+    revisions_are_within();
     sound_histories_are_registries();
 }
 
-/// A database without any table has none of the six, and one of schema 1 has each.
+/// A database without any table has none of the seven. Those of each schema have all tables of the schema, which were made first.
 pub fn schemas_have_tables()
     ensures none { HasNoTable no_schema }
-    ensures each { HasEachTable pid_schema }
+    ensures each { (version : Version) → HasEachTable (schema_of version) }
+    ensures tables { (version : Version) → HasTables version (schema_of version) }
+    ensures first { (version : Version) → IsMadeFirst version (schema_of version) }
 {}

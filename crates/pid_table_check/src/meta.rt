@@ -1,12 +1,16 @@
-//! The table of labels: the number of the schema, and how many items and submissions there are.
-ghost use Rattle.std.specs.Prelude.{◌≡◌, ◌↔◌, ◌<◌, ℕ, IsTrue, IfSome, IfNone, codes};
+//! The table of labels: the number of the schema, how many items and submissions there are, and the revision.
+ghost use Rattle.std.specs.Prelude.{◌≡◌, ◌↔◌, ◌<◌, ◌≤◌, ℕ, IsTrue, IfSome, IfNone, codes};
 ghost use Rattle.std.specs.List.{All, Any};
 ghost use Rattle.sqlite.specs.declared.types.Value.TheVariants.{Text as TextValue};
 ghost use Rattle.sqlite.specs.Order.{column};
-ghost use Rattle.pid_table_check.specs.Conditions.{label_row, IsNewer, AreCounts};
-ghost use Rattle.pid_table_check.specs.Labels.{IsLabelled};
+ghost use Rattle.sqlite_rules.specs.Lists.{Has};
+ghost use Rattle.pid_table_check.specs.Conditions.{label_row, IsNewer, AreLabels};
+ghost use Rattle.pid_table_check.specs.Labels.{IsCount, IsLabelled, HasMore};
+ghost use Rattle.pid_moderation.specs.CheckTables.{most_revision};
 
 use crate::value::{number_at, text_at};
+use pid_moderation::REVISIONS;
+use pid_rows::Version;
 use sqlite::Row;
 
 fn has_label(row: &Row, label: &str) -> bool
@@ -42,11 +46,11 @@ fn is_labelled(row: &Row, label: &str, number: u64) -> bool
 }
 
 fn later(row: &Row) -> Option<u64>
-    ensures found { IfSome result (λ n. (1 < n) × (row.now ≡ label_row (codes "schema", n))) }
-    ensures none { IfNone result ((n : ℕ) → 1 < n → row.now ≡ label_row (codes "schema", n) → ⊥) }
+    ensures found { IfSome result (λ n. (2 < n) × (row.now ≡ label_row (codes "schema", n))) }
+    ensures none { IfNone result ((n : ℕ) → 2 < n → row.now ≡ label_row (codes "schema", n) → ⊥) }
 {
     match labelled(row, "schema") {
-        Some(number) => { if number > 1 { Some(number) } else { None } }
+        Some(number) => { if number > 2 { Some(number) } else { None } }
         None => None,
     }
 }
@@ -64,12 +68,53 @@ pub(crate) fn newer(rows: &[Row]) -> Option<u64>
     None
 }
 
-fn is_count(row: &Row, items: u64, submissions: u64) -> bool
-    ensures { IsTrue result ↔ IsLabelled items submissions row.now }
+// The number under the label of the revision, where it is within the limit.
+fn revision(row: &Row) -> Option<u64>
+    ensures found { IfSome result (λ n. (n ≤ most_revision) × (row.now ≡ label_row (codes "revision", n))) }
+    ensures none { IfNone result ((n : ℕ) → n ≤ most_revision → row.now ≡ label_row (codes "revision", n) → ⊥) }
 {
-    is_labelled(row, "schema", 1)
+    match labelled(row, "revision") {
+        Some(number) => {
+            if number <= REVISIONS {
+                Some(number)
+            } else {
+                None
+            }
+        }
+        None => None,
+    }
+}
+
+/// The revision, within its limit.
+pub(crate) fn revision_in(rows: &[Row]) -> Option<u64>
+    ensures found { IfSome result (λ n. (n ≤ most_revision) × Has rows.now (label_row (codes "revision", n))) }
+    ensures none { IfNone result ((n : ℕ) → n ≤ most_revision → Has rows.now (label_row (codes "revision", n)) → ⊥) }
+{
+    for row in rows {
+        if let Some(number) = revision(row) {
+            return Some(number);
+        }
+    }
+    None
+}
+
+fn is_count(row: &Row, schema: u64, items: u64, submissions: u64) -> bool
+    ensures { IsTrue result ↔ IsCount schema items submissions row.now }
+{
+    is_labelled(row, "schema", schema)
         || is_labelled(row, "items", items)
         || is_labelled(row, "submissions", submissions)
+}
+
+fn is_label(row: &Row, version: Version, items: u64, submissions: u64, revision: u64) -> bool
+    ensures { IsTrue result ↔ IsLabelled version items submissions revision row.now }
+{
+    match version {
+        Version::One => is_count(row, 1, items, submissions),
+        Version::Two => {
+            is_count(row, 2, items, submissions) || is_labelled(row, "revision", revision)
+        }
+    }
 }
 
 fn have(rows: &[Row], label: &str, number: u64) -> bool
@@ -78,21 +123,37 @@ fn have(rows: &[Row], label: &str, number: u64) -> bool
     rows.iter().any(|row| is_labelled(row, label, number))
 }
 
-fn are_labels(rows: &[Row], items: u64, submissions: u64) -> bool
-    ensures { IsTrue result ↔ All (IsLabelled items submissions) rows.now }
+fn are_each(rows: &[Row], version: Version, items: u64, submissions: u64, revision: u64) -> bool
+    ensures { IsTrue result ↔ All (IsLabelled version items submissions revision) rows.now }
 {
-    rows.iter().all(|row| is_count(row, items, submissions))
+    rows.iter()
+        .all(|row| is_label(row, version, items, submissions, revision))
 }
 
-/// Whether the rows of meta are those of a registry with so many items and submissions.
-#[tactic(auto, using(crate::proofs::LabelFacts::counts_made, crate::proofs::LabelFacts::labels_of, crate::proofs::LabelFacts::schema_of, crate::proofs::LabelFacts::items_of, crate::proofs::LabelFacts::submissions_of))]
-pub(crate) fn are_counts(rows: &[Row], items: u64, submissions: u64) -> bool
-    ensures { IsTrue result ↔ AreCounts items submissions rows.now }
+fn have_more(rows: &[Row], version: Version, revision: u64) -> bool
+    ensures { IsTrue result ↔ HasMore version revision rows.now }
 {
-    if !are_labels(rows, items, submissions) {
+    match version {
+        Version::One => have(rows, "schema", 1),
+        Version::Two => have(rows, "schema", 2) && have(rows, "revision", revision),
+    }
+}
+
+/// Whether the rows of meta are those of a registry in a schema, with so many items and submissions and this revision.
+#[tactic(auto, using(crate::proofs::LabelFacts::labels_made, crate::proofs::LabelFacts::labels_of, crate::proofs::LabelFacts::more_of, crate::proofs::LabelFacts::items_of, crate::proofs::LabelFacts::submissions_of))]
+pub(crate) fn are_labels(
+    rows: &[Row],
+    version: Version,
+    items: u64,
+    submissions: u64,
+    revision: u64,
+) -> bool
+    ensures { IsTrue result ↔ AreLabels version items submissions revision rows.now }
+{
+    if !are_each(rows, version, items, submissions, revision) {
         return false;
     }
-    if !have(rows, "schema", 1) {
+    if !have_more(rows, version, revision) {
         return false;
     }
     if !have(rows, "items", items) {

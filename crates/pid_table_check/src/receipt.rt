@@ -7,18 +7,14 @@ ghost use Rattle.std.specs.List.{All};
 ghost use Rattle.pid_rows.specs.TableRows.{number};
 ghost use Rattle.pid_table_check.specs.Conditions.{IsReceiptRow, AreReceipts};
 ghost use Rattle.pid_table_check.specs.AuthorSets.{AreAuthorsOf, HasReply, HasCounts, IsNumbered};
-ghost use Rattle.pid_rows.specs.Faults.{IsUntold, IsNotLater};
-ghost use Rattle.pid_table_check.specs.Reading.{Refutes};
-ghost use Rattle.pid_rows.specs.Clauses.{GoesOn};
-ghost use Rattle.pid_table_check.specs.Clauses.{Judges};
+ghost use Rattle.pid_rows.specs.Faults.{IsUntold};
 
-use crate::authors::is_by;
-use crate::read::receipt_rows;
+use crate::authors::{authors_of, is_by};
 use crate::value::{number_at, text_at};
 use pid_ident::{is_account, is_key};
 use pid_moderation::ITEMS;
 use pid_rows::TableFault;
-use sqlite::{Alter, Row, Transaction};
+use sqlite::Row;
 use std::alloc::Global;
 use std::collections::BTreeSet;
 
@@ -149,24 +145,15 @@ fn are_receipt_rows(
     Ok(true)
 }
 
-/// Reads the receipts, which are those of a registry whose submissions have these authors.
-pub(crate) fn checked_receipts<S: Alter>(
-    tx: &mut Transaction<'_, S>,
-    authors: &BTreeSet<(u64, String)>,
+/// Whether the rows of receipts are those of a registry with these submissions.
+pub(crate) fn are_receipts(
+    rows: &[Row],
+    submissions: &[Row],
     alloc: Global,
-) -> Result<(), TableFault>
-    ensures same_reference { tx.new.conn.ghost_name ≡ tx.old.conn.ghost_name }
-    ensures goes { GoesOn S.Store tx.old.conn.now tx.new.conn.now result }
-    ensures never { IfErr result IsNotLater }
-    ensures checks { Judges S.Store tx.old.conn.now tx.new.conn.now result
-        (λ t x. AreAuthorsOf authors.now t.submissions → AreReceipts t.submissions t.receipts)
-        (λ t e. AreAuthorsOf authors.now t.submissions → Refutes (AreReceipts t.submissions t.receipts) e) }
+) -> Result<bool, TableFault>
+    ensures judged { IfOk result (λ good. IsTrue good ↔ AreReceipts submissions.now rows.now) }
+    ensures untold { IfErr result IsUntold }
 {
-    let rows = receipt_rows(tx)?;
-    let good = are_receipt_rows(rows.as_slice(), authors, alloc)?;
-    if good {
-        Ok(())
-    } else {
-        Err(TableFault::Damaged)
-    }
+    let authors = authors_of(submissions, alloc)?;
+    are_receipt_rows(rows, &authors, alloc)
 }

@@ -5,16 +5,13 @@ ghost use Rattle.sqlite.specs.Order.{column, Row as Values};
 ghost use Rattle.pid_rows.specs.TableRows.{number};
 ghost use Rattle.pid_table_check.specs.Conditions.{AreRemarks};
 ghost use Rattle.pid_table_check.specs.PlaceSets.{ArePlacesOf, Follows, HasPlace, IsRemarkAmong};
-ghost use Rattle.pid_rows.specs.Faults.{IsUntold, IsNotLater};
-ghost use Rattle.pid_rows.specs.Clauses.{GoesOn};
-ghost use Rattle.pid_table_check.specs.Clauses.{Checks};
+ghost use Rattle.pid_rows.specs.Faults.{IsUntold};
 
-use crate::read::remark_rows;
 use crate::value::{has_words, number_at};
 use crate::words::has_filled_text;
 use pid_moderation::REMARKS;
 use pid_rows::TableFault;
-use sqlite::{Alter, Row, Transaction};
+use sqlite::Row;
 use std::alloc::Global;
 use std::collections::BTreeSet;
 
@@ -111,23 +108,4 @@ pub(crate) fn are_remarks(rows: &[Row], alloc: Global) -> Result<bool, TableFaul
 {
     let places = places_of(rows, alloc)?;
     Ok(are_remark_rows(rows, &places))
-}
-
-/// Reads the remarks, which are those of a registry.
-pub(crate) fn checked_remarks<S: Alter>(
-    tx: &mut Transaction<'_, S>,
-    alloc: Global,
-) -> Result<Vec<Row>, TableFault>
-    ensures same_reference { tx.new.conn.ghost_name ≡ tx.old.conn.ghost_name }
-    ensures goes { GoesOn S.Store tx.old.conn.now tx.new.conn.now result }
-    ensures never { IfErr result IsNotLater }
-    ensures checks { Checks S.Store tx.old.conn.now tx.new.conn.now result (λ t. t.remarks) (λ t. AreRemarks t.remarks) }
-{
-    let rows = remark_rows(tx)?;
-    let good = are_remarks(rows.as_slice(), alloc)?;
-    if good {
-        Ok(rows)
-    } else {
-        Err(TableFault::Damaged)
-    }
 }

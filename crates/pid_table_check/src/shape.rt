@@ -7,11 +7,11 @@ ghost use Rattle.pid_rows.specs.declared.fault.TableFault.TheVariants.{Damaged};
 ghost use Rattle.pid_moderation.specs.Views.{Views};
 ghost use Rattle.pid_rows.specs.Queries.{IsQuery};
 ghost use Rattle.pid_rows.specs.Schema.{pid_schema};
-ghost use Rattle.pid_table_check.specs.Shapes.{IsAsked, HasEachTable, HasSomeTable};
+ghost use Rattle.pid_table_check.specs.Shapes.{IsAsked, HasEachTable, HasSomeTable, HasTablesOf};
 ghost use Rattle.pid_table_check.specs.Queries.{query_of};
 ghost use Rattle.pid_rows.specs.Clauses.{AtRest, HasCleanDisk, IsCaused, OnlyReads, Tells, is_open, seen};
 
-use pid_rows::TableFault;
+use pid_rows::{TableFault, Version};
 use sqlite::{Alter, Connection, Error};
 
 // No text is refused as damage but one that is not understood.
@@ -42,31 +42,19 @@ pub(crate) fn can_ask<S: Alter>(conn: &mut Connection<S>, sql: &str) -> Result<b
     }
 }
 
-/// The query of the table `meta`, and so on: each asks for the columns by their names.
-pub(crate) const META: &str = "SELECT label, value FROM meta";
-
-pub(crate) const ACCOUNTS: &str = "SELECT name, rank FROM account";
-
-pub(crate) const ITEMS: &str = "SELECT path, name FROM item";
-
-pub(crate) const SUBMISSIONS: &str =
-    "SELECT num, author, path, form, name, note, state, decider, reason FROM submission ORDER BY num";
-
-pub(crate) const REMARKS: &str = "SELECT num, seq, author, body FROM remark";
-
-pub(crate) const RECEIPTS: &str = "SELECT account, token, kind, a, b, c FROM receipt";
-
+/// The tables of the schemas; the last is in schema 2 alone.
 #[derive(Clone, Copy)]
-enum Table {
+pub(crate) enum Table {
     Meta,
     Account,
     Item,
     Submission,
     Remark,
     Receipt,
+    Since,
 }
 
-const TABLES: [Table; 6] = [
+const SIX: [Table; 6] = [
     Table::Meta,
     Table::Account,
     Table::Item,
@@ -75,16 +63,33 @@ const TABLES: [Table; 6] = [
     Table::Receipt,
 ];
 
-fn query(table: Table) -> &'static str
+const SEVEN: [Table; 7] = [
+    Table::Meta,
+    Table::Account,
+    Table::Item,
+    Table::Submission,
+    Table::Remark,
+    Table::Receipt,
+    Table::Since,
+];
+
+// It asks for a table of this name, whatever its columns.
+const ANY_SINCE: &str = "SELECT count(*) FROM item_since";
+
+/// The query of a table: it asks for the columns by their names.
+pub(crate) fn query(table: Table) -> &'static str
     ensures { result.now ≡ query_of table }
 {
     match table {
-        Table::Meta => META,
-        Table::Account => ACCOUNTS,
-        Table::Item => ITEMS,
-        Table::Submission => SUBMISSIONS,
-        Table::Remark => REMARKS,
-        Table::Receipt => RECEIPTS,
+        Table::Meta => "SELECT label, value FROM meta",
+        Table::Account => "SELECT name, rank FROM account",
+        Table::Item => "SELECT path, name FROM item",
+        Table::Submission => {
+            "SELECT num, author, path, form, name, note, state, decider, reason FROM submission"
+        }
+        Table::Remark => "SELECT num, seq, author, body FROM remark",
+        Table::Receipt => "SELECT account, token, kind, a, b, c FROM receipt",
+        Table::Since => "SELECT path, since FROM item_since",
     }
 }
 
@@ -121,7 +126,7 @@ fn has_any<S: Alter>(conn: &mut Connection<S>, tables: &[Table]) -> Result<bool,
     Ok(false)
 }
 
-/// Whether each of the six tables is there.
+/// Whether each of the six tables that both schemas have is there.
 pub(crate) fn has_each_table<S: Alter>(conn: &mut Connection<S>) -> Result<bool, TableFault>
     requires { conn.old.in_transaction ≡ false }
     ensures rests { OnlyReads S.Store conn.old conn.new }
@@ -130,10 +135,10 @@ pub(crate) fn has_each_table<S: Alter>(conn: &mut Connection<S>) -> Result<bool,
     ensures was_open { HasCleanDisk S.Store conn.new → OnOk result (IsTrue (is_open S.Store conn.old)) }
     ensures untold { IfErr result IsUntold }
 {
-    has_all(conn, &TABLES)
+    has_all(conn, &SIX)
 }
 
-/// Whether some of the six tables is there: whether a query of its columns by their names can be prepared. Nothing is said
+/// Whether some of the seven tables is there: whether a query of its columns by their names can be prepared. Nothing is said
 /// of its rows.
 pub fn has_some_table<S: Alter>(conn: &mut Connection<S>) -> Result<bool, TableFault>
     requires { conn.old.in_transaction ≡ false }
@@ -144,5 +149,23 @@ pub fn has_some_table<S: Alter>(conn: &mut Connection<S>) -> Result<bool, TableF
     ensures untold { IfErr result IsUntold }
     ensures found { Tells S.Store conn.old conn.new result (λ v some. some ≡ true) }
 {
-    has_any(conn, &TABLES)
+    has_any(conn, &SEVEN)
+}
+
+/// Of which schema the tables are, where each of the six is there.
+pub(crate) fn tables_of<S: Alter>(conn: &mut Connection<S>) -> Result<Option<Version>, TableFault>
+    requires { conn.old.in_transaction ≡ false }
+    ensures rests { OnlyReads S.Store conn.old conn.new }
+    ensures same { HasCleanDisk S.Store conn.new → IfOk result (λ found. (seen S.Store conn.new) ≡ (seen S.Store conn.old)) }
+    ensures found { HasCleanDisk S.Store conn.new → HasEachTable (seen S.Store conn.old).schema
+        → IfOk result (λ found. HasTablesOf found (seen S.Store conn.old).schema) }
+    ensures untold { IfErr result IsUntold }
+{
+    if !can_ask(conn, ANY_SINCE)? {
+        return Ok(Some(Version::One));
+    }
+    if can_ask(conn, query(Table::Since))? {
+        return Ok(Some(Version::Two));
+    }
+    Ok(None)
 }

@@ -1,30 +1,29 @@
-//! Submissions: each is one of an account, stands as it may, and they count from 1.
-ghost use Rattle.std.specs.Prelude.{◌≡◌, ◌≢◌, ◌↔◌, List, ℕ, true, IsTrue, IfErr};
+//! Submissions: each is one of an account and stands as it may.
+ghost use Rattle.std.specs.Prelude.{◌≡◌, ◌≢◌, ◌↔◌, ◌≤◌, List, ℕ, length, true, IsTrue, IfOk, IfErr};
 ghost use Rattle.sqlite.specs.declared.types.Value.TheVariants.{Text as TextValue};
 ghost use Rattle.sqlite.specs.Order.{column};
 ghost use Rattle.pid_moderation.specs.WellMade.{ProposesName};
 ghost use Rattle.pid_rows.specs.TableRows.{number, form_of, name_of, state_number, decider_of, reason_of};
-ghost use Rattle.pid_rows.specs.Faults.{IsNotLater};
-ghost use Rattle.pid_table_check.specs.NameSets.{IsAmong, IsDecidedAmong, IsSubmissionAmong, AreSubmissionsAmong, Stands, AreReady};
-ghost use Rattle.std.specs.List.Sorted.{IsPermutation};
-ghost use Rattle.pid_table_check.specs.Conditions.{AreSubmissions};
-ghost use Rattle.pid_table_check.specs.Reading.{Refutes};
-ghost use Rattle.pid_rows.specs.Clauses.{GoesOn};
-ghost use Rattle.pid_table_check.specs.Clauses.{Judges};
+ghost use Rattle.pid_rows.specs.Faults.{IsUntold};
+ghost use Rattle.pid_table_check.specs.NameSets.{IsAmong, IsDecidedAmong, IsSubmissionAmong, Stands};
+ghost use Rattle.std.specs.List.{All};
+ghost use Rattle.pid_table_check.specs.Conditions.{AreAccounts, AreSubmissions};
 
 use crate::names;
-use crate::read::submission_rows;
+use crate::names::names_of;
+use crate::numbers::count_from_one;
 use crate::value::{number_at, text_at};
 use crate::words::{has_filled_text, has_name, has_path, has_text, is_blank};
 use pid_rows::TableFault;
-use sqlite::{Alter, Row, Transaction};
+use sqlite::Row;
+use std::alloc::Global;
 use std::collections::BTreeSet;
 
-fn is_numbered(row: &Row, num: u64) -> bool
-    ensures { IsTrue result ↔ (column row.now 0 ≡ number num) }
+fn is_numbered(row: &Row, count: u64) -> bool
+    ensures { IsTrue result ↔ ((n : ℕ) × (column row.now 0 ≡ number n) × (1 ≤ n) × (n ≤ count)) }
 {
     match number_at(row, 0) {
-        Some(told) => told == num,
+        Some(num) => num >= 1 && num <= count,
         None => false,
     }
 }
@@ -80,13 +79,13 @@ fn is_of_author(row: &Row, names: &BTreeSet<String>, author: &str) -> bool
 }
 
 #[tactic(auto, using(crate::proofs::SubmissionFacts::num_of, crate::proofs::SubmissionFacts::path_of, crate::proofs::SubmissionFacts::proposal_of, crate::proofs::SubmissionFacts::note_of))]
-fn is_submission_row(row: &Row, names: &BTreeSet<String>, num: u64) -> bool
-    ensures { IsTrue result ↔ IsSubmissionAmong names.now num row.now }
+fn is_submission_row(row: &Row, names: &BTreeSet<String>, count: u64) -> bool
+    ensures { IsTrue result ↔ IsSubmissionAmong names.now count row.now }
 {
     if row.column_count() != 9 {
         return false;
     }
-    if !is_numbered(row, num) {
+    if !is_numbered(row, count) {
         return false;
     }
     if !has_path(row, 2) {
@@ -104,34 +103,25 @@ fn is_submission_row(row: &Row, names: &BTreeSet<String>, num: u64) -> bool
     }
 }
 
-/// Whether the rows are submissions of a registry, numbered from 1 in their order.
-pub(crate) fn are_submission_rows(rows: &[Row], names: &BTreeSet<String>) -> bool
-    ensures { IsTrue result ↔ AreSubmissionsAmong names.now rows.now }
+fn are_submission_rows(rows: &[Row], names: &BTreeSet<String>) -> bool
+    ensures { IsTrue result ↔ All (IsSubmissionAmong names.now (length rows.now)) rows.now }
 {
-    for (at, row) in rows.iter().enumerate() {
-        if !is_submission_row(row, names, at as u64 + 1) {
-            return false;
-        }
-    }
-    true
+    let count = rows.len() as u64;
+    rows.iter().all(|row| is_submission_row(row, names, count))
 }
 
-/// Reads the submissions, which are those of a registry whose accounts have these names.
-pub(crate) fn checked_submissions<S: Alter>(
-    tx: &mut Transaction<'_, S>,
-    names: &BTreeSet<String>,
-) -> Result<Vec<Row>, TableFault>
-    ensures same_reference { tx.new.conn.ghost_name ≡ tx.old.conn.ghost_name }
-    ensures goes { GoesOn S.Store tx.old.conn.now tx.new.conn.now result }
-    ensures never { IfErr result IsNotLater }
-    ensures checks { Judges S.Store tx.old.conn.now tx.new.conn.now result
-        (λ t rows. IsPermutation t.submissions rows.items × (AreReady names.now t → AreSubmissions t.accounts t.submissions))
-        (λ t e. AreReady names.now t → Refutes (AreSubmissions t.accounts t.submissions) e) }
+/// Whether the rows are submissions of a registry with these accounts, which are good.
+pub(crate) fn are_submissions(
+    rows: &[Row],
+    accounts: &[Row],
+    alloc: Global,
+) -> Result<bool, TableFault>
+    ensures judged { AreAccounts accounts.now → IfOk result (λ good. IsTrue good ↔ AreSubmissions accounts.now rows.now) }
+    ensures untold { IfErr result IsUntold }
 {
-    let rows = submission_rows(tx)?;
-    if are_submission_rows(rows.as_slice(), names) {
-        Ok(rows)
-    } else {
-        Err(TableFault::Damaged)
+    let names = names_of(accounts, alloc)?;
+    if !are_submission_rows(rows, &names) {
+        return Ok(false);
     }
+    count_from_one(rows, alloc)
 }

@@ -1,54 +1,54 @@
-use Rattle.pid_table_check.proofs.Complete.{complete, each_some}
-use Rattle.std.proofs.Common.{MatchResult, None, sym, subst}
+use Rattle.std.proofs.Common.{Ok, subst, ◌∙◌}
 use Rattle.sqlite.specs.Effect.{Database}
 use Rattle.sqlite.specs.Held.{state}
 use Rattle.pid_rows.proofs.CauseLemmas.{passed_on}
-use Rattle.pid_table_check.specs.Shapes.{HasEachTable, ShowsLater, ExplainsLater}
-use Rattle.pid_table_check.proofs.Later.{untold_later}
+use Rattle.pid_rows.proofs.OnlyReading.{reads_then}
+use Rattle.pid_table_check.specs.Checking.{Explains}
+use Rattle.pid_table_check.specs.Lacking.{ExplainsLater}
+use Rattle.pid_table_check.specs.Shapes.{HasSomeTable}
+use Rattle.pid_table_check.proofs.Telling.{whole_fault, whole_found, lacked, told_stored, off_on}
 use Rattle.pid_table_check.proofs.checking.check.Goals as goal
 
-pub returns-then-branch-clause-bare : goal.returns-then-branch-clause-bare
-returns-then-branch-clause-bare g c clean none = absurd (none (each_some _ ((c.in_ok-has_each_table.ensures.asked (c.check_whole.ensures.rests.clean clean)).0 c.if-branch.true)))
+pub returns-in_err-check_whole-clause-told : goal.returns-in_err-check_whole-clause-told
+returns-in_err-check_whole-clause-told g c clean =
+    let a = (state g.S.Store c.args.conn.now).now in
+    let b = (state g.S.Store c.has_each_table.new.conn).now in
+    let d = (state g.S.Store c.tables_of.new.conn).now in
+    let late = c.in_err-check_whole.ensures.rests.clean clean in
+    let mid = c.in_ok-version.ensures.rests.clean late in
+    passed_on c.from_residual-in_err-check_whole.result _ _ (Explains a) c.from_residual-in_err-check_whole.ensures.1
+    (whole_fault a b d c.in_ok-version.version (c.in_ok-has_each_table.ensures.same mid) (c.in_ok-version.ensures.same late) ((c.in_ok-has_each_table.ensures.asked mid).0 c.if-branch.true) (c.in_ok-version.ensures.found late) _ (c.in_err-check_whole.ensures.told clean))
 
-pub returns-then-branch-2-clause-told : goal.returns-then-branch-2-clause-told
-returns-then-branch-2-clause-told g c clean has =
-    let early = c.in_ok-has_some_table.ensures.rests.clean (c.check_lacking.ensures.rests.clean clean) in
-    let each = (c.in_ok-has_each_table.ensures.asked early).1 (complete _ has) in
-    let off = c.if-branch.false in
-    absurd cc
+pub returns-in_err-check_whole-clause-stored : goal.returns-in_err-check_whole-clause-stored
+returns-in_err-check_whole-clause-stored g c clean = told_stored (state g.S.Store c.args.conn.now).now c.from_residual-in_err-check_whole.result (returns-in_err-check_whole-clause-told g c clean)
 
-pub returns-clause-told : goal.returns-clause-told
-returns-clause-told g c clean has =
-    let early = c.in_ok-has_some_table.ensures.rests.clean clean in
-    let each = (c.in_ok-has_each_table.ensures.asked early).1 (complete _ has) in
-    let off = c.if-branch.false in
-    absurd cc
+pub returns-then-branch-clause-told : goal.returns-then-branch-clause-told
+returns-then-branch-clause-told g c clean =
+    let a = (state g.S.Store c.args.conn.now).now in
+    let b = (state g.S.Store c.has_each_table.new.conn).now in
+    let d = (state g.S.Store c.tables_of.new.conn).now in
+    let late = c.in_ok-check_whole.ensures.rests.clean clean in
+    let mid = c.in_ok-version.ensures.rests.clean late in
+    whole_found a b d c.in_ok-version.version (c.in_ok-has_each_table.ensures.same mid) (c.in_ok-version.ensures.same late) ((c.in_ok-has_each_table.ensures.asked mid).0 c.if-branch.true) (c.in_ok-version.ensures.found late) (c.in_ok-check_whole.ensures.told clean)
 
-pub returns-in_err-has_each_table-clause-later : goal.returns-in_err-has_each_table-clause-later
-returns-in_err-has_each_table-clause-later g c clean each =
-    let db = (state g.S.Store c.args.conn.now).now in
-    passed_on c.from_residual.result _ _ (ExplainsLater db) c.from_residual.ensures.1 (untold_later db _ c.in_err-has_each_table.ensures.untold)
+pub returns-then-branch-clause-stored : goal.returns-then-branch-clause-stored
+returns-then-branch-clause-stored g c clean = told_stored (state g.S.Store c.args.conn.now).now (Ok c.in_ok-version.version) (returns-then-branch-clause-told g c clean)
 
-pub returns-then-branch-clause-later : goal.returns-then-branch-clause-later
-returns-then-branch-clause-later g c clean each =
-    let same = c.in_ok-has_each_table.ensures.same (c.check_whole.ensures.rests.clean clean) in
-    subst (λ (d : Database). MatchResult c.check_whole.result (λ x. ShowsLater d None) (ExplainsLater d)) same (c.check_whole.ensures.later clean (subst (λ (d : Database). HasEachTable d.schema) (sym same) each))
+pub returns-in_err-check_lacking-clause-rests : goal.returns-in_err-check_lacking-clause-rests
+returns-in_err-check_lacking-clause-rests g c =
+    let a = state g.S.Store c.args.conn.now in
+    let b = state g.S.Store c.has_each_table.new.conn in
+    let d = state g.S.Store c.has_some_table.new.conn in
+    let end = state g.S.Store c.check_lacking.new.conn in
+    reads_then a d end (reads_then a b d c.in_ok-has_each_table.ensures.rests c.in_ok-has_some_table.ensures.rests) c.in_err-check_lacking.ensures.rests
 
-pub returns-in_err-has_some_table-clause-later : goal.returns-in_err-has_some_table-clause-later
-returns-in_err-has_some_table-clause-later g c clean each =
-    let db = (state g.S.Store c.args.conn.now).now in
-    passed_on c.from_residual-in_err-has_some_table.result _ _ (ExplainsLater db) c.from_residual-in_err-has_some_table.ensures.1 (untold_later db _ c.in_err-has_some_table.ensures.untold)
-
-pub returns-then-branch-2-clause-later : goal.returns-then-branch-2-clause-later
-returns-then-branch-2-clause-later g c clean each =
-    let early = c.in_ok-has_some_table.ensures.rests.clean (c.check_lacking.ensures.rests.clean clean) in
-    let on = (c.in_ok-has_each_table.ensures.asked early).1 each in
-    let off = c.if-branch.false in
-    absurd cc
-
-pub returns-clause-later : goal.returns-clause-later
-returns-clause-later g c clean each =
-    let early = c.in_ok-has_some_table.ensures.rests.clean clean in
-    let on = (c.in_ok-has_each_table.ensures.asked early).1 each in
-    let off = c.if-branch.false in
-    absurd cc
+pub returns-in_err-check_lacking-clause-told : goal.returns-in_err-check_lacking-clause-told
+returns-in_err-check_lacking-clause-told g c clean =
+    let a = (state g.S.Store c.args.conn.now).now in
+    let late = c.in_err-check_lacking.ensures.rests.clean clean in
+    let mid = c.in_ok-has_some_table.ensures.rests.clean late in
+    let one = c.in_ok-has_each_table.ensures.same mid in
+    let two = c.in_ok-has_some_table.ensures.same late in
+    let some = subst (λ (x : Database). HasSomeTable x.schema) one ((c.in_ok-has_some_table.ensures.asked late).0 c.if-branch-2.true) in
+    passed_on c.from_residual-in_err-check_lacking.result _ _ (Explains a) c.from_residual-in_err-check_lacking.ensures.1
+    (lacked a _ some (λ each. off_on _ c.if-branch.false ((c.in_ok-has_each_table.ensures.asked mid).1 each)) (subst (λ (x : Database). ExplainsLater x c.in_err-check_lacking.field-0.0) (two ∙ one) (c.in_err-check_lacking.ensures.told clean)))

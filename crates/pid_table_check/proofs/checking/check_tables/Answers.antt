@@ -1,43 +1,32 @@
-use Rattle.std.proofs.Common.{inl, refl, ℕ, List, sym, subst, arith, ◌∙◌}
-use Rattle.std.proofs.lemmas.List.Sorted.{IsPermutation-sym}
+use Rattle.std.proofs.Common.{◌≡◌, MatchResult, Option, None, Some, ℕ, List, inl, refl, sym, subst, ◌∙◌, arith}
 use Rattle.sqlite.specs.Held.{state}
 use Rattle.sqlite.specs.Order.{Row}
 use Rattle.sqlite.specs.State.{HasCleanDisk}
-use Rattle.pid_table_check.specs.Conditions.{IsNewer}
-use Rattle.pid_table_check.proofs.Whole.{newer_moved, rest_told}
+use Rattle.pid_rows.specs.declared.version.Version.{Version}
 use Rattle.pid_rows.proofs.CauseLemmas.{passed_on}
-use Rattle.pid_table_check.specs.Shapes.{ExplainsLater}
-use Rattle.pid_table_check.proofs.Later.{untold_later, never_later}
+use Rattle.pid_table_check.specs.Conditions.{IsNewer}
+use Rattle.pid_table_check.specs.Reading.{ShowsFound, TellsLater}
+use Rattle.pid_table_check.specs.Shapes.{HasTablesOf}
+use Rattle.pid_table_check.proofs.Telling.{untold_later, rest_told}
 use Rattle.pid_table_check.proofs.checking.check_tables.Goals as goal
 
-pub returns-in-Some-clause-checks : goal.returns-in-Some-clause-checks
-returns-in-Some-clause-checks g c clean has =
-    let it = c.in_ok-meta.ensures.answers clean has in
-    newer_moved c.in-Some.number c.in_ok-meta.meta.items _ (IsPermutation-sym _ _ it.0) (subst (IsNewer c.in-Some.number) c.as_slice.ensures.value c.in-Some.ensures.found)
+pub returns-in_err-meta-clause-told : goal.returns-in_err-meta-clause-told
+returns-in_err-meta-clause-told g c clean d is has =
+    passed_on c.from_residual.result _ _ (TellsLater c.args.version d) c.from_residual.ensures.1 (untold_later _ d _ (c.in_err-meta.ensures.answers clean d is (has.0 _ (inl refl))))
 
-pub returns-clause-checks : goal.returns-clause-checks
-returns-clause-checks g c =
-    let a = state g.S.Store c.args.tx.now.conn.now in
-    let b = state g.S.Store c.meta_rows.new.tx.conn.now in
-    let d = state g.S.Store c.check_rows.new.tx.conn.now in
-    let back : HasCleanDisk d → HasCleanDisk b = λ late. omega (arith, late, c.check_rows.ensures.goes.survives.clean) in
-    let none = subst (λ (m : List Row). (n : ℕ) → IsNewer n m → ⊥) (c.as_slice.ensures.value ∙ sym c.as_slice-in-None.ensures.value) c.in-None.ensures.none in
-    rest_told a b d c.in_ok-meta.meta c.as_slice-in-None.result.now c.as_slice-in-None.ensures.value back c.in_ok-meta.ensures.answers none c.check_rows.result c.check_rows.ensures.checks
+pub returns-in-None-clause-told : goal.returns-in-None-clause-told
+returns-in-None-clause-told g c clean d is has =
+    let it = c.in_ok-meta.ensures.answers clean d is (has.0 _ (inl refl)) in
+    let none = subst (λ (m : List Row). (n : ℕ) → IsNewer n m → ⊥) c.as_slice.ensures.value c.in_default.ensures.none in
+    ((c.in_ok-meta.meta.items, it.0, none), λ v same. absurd (let bad : ◌≡◌ {A = Option Version} None (Some v) = sym (c.in-None.is) ∙ same in cc))
 
--- ---- a later schema, whatever the schema
-
-pub returns-in_err-meta-clause-later : goal.returns-in_err-meta-clause-later
-returns-in_err-meta-clause-later g c clean each =
-    let db = (state g.S.Store c.args.tx.now.conn.now).now in
-    passed_on c.from_residual.result _ _ (ExplainsLater db) c.from_residual.ensures.1 (untold_later db _ (c.in_err-meta.ensures.asked clean (each _ (inl refl))))
-
-pub returns-in-Some-clause-later : goal.returns-in-Some-clause-later
-returns-in-Some-clause-later g c clean each = (c.in_ok-meta.meta.items, c.in_ok-meta.ensures.labels clean, subst (IsNewer c.in-Some.number) c.as_slice.ensures.value c.in-Some.ensures.found)
-
-pub returns-clause-later : goal.returns-clause-later
-returns-clause-later g c clean each =
-    let db = (state g.S.Store c.args.tx.now.conn.now).now in
-    let b = state g.S.Store c.meta_rows.new.tx.conn.now in
-    let early : HasCleanDisk b = omega (arith, clean, c.check_rows.ensures.goes.survives.clean) in
-    let none = subst (λ (m : List Row). (n : ℕ) → IsNewer n m → ⊥) c.as_slice.ensures.value c.in-None.ensures.none in
-    never_later db c.check_rows.result (c.in_ok-meta.meta.items, c.in_ok-meta.ensures.labels early, none) c.check_rows.ensures.never
+pub returns-in-Some-version-clause-told : goal.returns-in-Some-version-clause-told
+returns-in-Some-version-clause-told g c clean d is has =
+    let early : HasCleanDisk (state g.S.Store c.table_rows.new.tx.conn.now) = omega (arith, clean, c.check_rows.ensures.goes.survives.clean) in
+    let it = c.in_ok-meta.ensures.answers early d is (has.0 _ (inl refl)) in
+    let none = subst (λ (m : List Row). (n : ℕ) → IsNewer n m → ⊥) c.as_slice.ensures.value c.in_default.ensures.none in
+    let version = c.in-Some-version.version in
+    let tables = subst (λ (o : Option Version). HasTablesOf o d.schema) c.in-Some-version.is has.1 in
+    let end = (state g.S.Store c.check_rows.new.tx.conn.now).now in
+    subst (λ (o : Option Version). MatchResult c.check_rows.result (λ x. ShowsFound o d × (end ≡ d)) (TellsLater o d)) (sym c.in-Some-version.is)
+    (rest_told version d (end ≡ d) c.check_rows.result (c.in_ok-meta.meta.items, it.0, none) (c.check_rows.ensures.told clean d it.1 (tables, it.0)))

@@ -1,10 +1,10 @@
-use Rattle.std.proofs.Common.{◌≡◌, true, rules, arith, subst}
+use Rattle.std.proofs.Common.{◌≡◌, rules, arith, subst, refl}
 use Rattle.sqlite.specs.Held.{state}
 use Rattle.sqlite.specs.State.{HasCleanDisk}
 use Rattle.sqlite.proofs.StateLemmas.{clean_if_open}
 use Rattle.pid_rows.specs.Leaves.{OnlyReads}
 use Rattle.pid_rows.proofs.OnlyReading.{reads_begun}
-use Rattle.pid_table_check.proofs.Whole.{told_whole}
+use Rattle.pid_table_check.proofs.Telling.{first_of}
 use Rattle.pid_table_check.proofs.checking.check_whole.Goals as goal
 
 pub returns-clause-rests : goal.returns-clause-rests
@@ -18,21 +18,9 @@ returns-clause-rests g c =
     (clean_if_open (g.S.Store.view end.store) (g.met.S.Store.shut_if_dirty end.store)) goes c.drop-tx.ensures.ended c.drop-tx.ensures.undone c.drop-tx.ensures.survives)
 
 pub returns-clause-told : goal.returns-clause-told
-returns-clause-told g c clean has =
+returns-clause-told g c clean each has =
     let end = c.drop-tx.new.self.0 in
     let same : end ≡ c.conn-1.given.0 = search rules in
     let late : HasCleanDisk (state g.S.Store end) = search rules in
-    let first = c.check_tables.new.tx.conn.now in
-    let mid : HasCleanDisk (state g.S.Store first) = omega (arith, c.drop-tx.ensures.survives.clean) in
-    let checks = rw c.transaction-tx.ensures.begun at c.check_tables.ensures.checks in
-    let begun = state g.S.Store (record c.args.conn.now { in_transaction = true }) in
-    told_whole begun (state g.S.Store first) c.check_tables.result (checks mid has)
-
-pub returns-clause-later : goal.returns-clause-later
-returns-clause-later g c clean each =
-    let end = c.drop-tx.new.self.0 in
-    let same : end ≡ c.conn-1.given.0 = search rules in
-    let late : HasCleanDisk (state g.S.Store end) = search rules in
-    let first = c.check_tables.new.tx.conn.now in
-    let mid : HasCleanDisk (state g.S.Store first) = omega (arith, c.drop-tx.ensures.survives.clean) in
-    (rw c.transaction-tx.ensures.begun at c.check_tables.ensures.later) mid each
+    let mid : HasCleanDisk (state g.S.Store c.check_tables.new.tx.conn.now) = omega (arith, c.drop-tx.ensures.survives.clean) in
+    first_of _ _ _ c.check_tables.result ((rw c.transaction-tx.ensures.begun at c.check_tables.ensures.told) mid _ refl (each, has))

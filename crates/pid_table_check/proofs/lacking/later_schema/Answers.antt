@@ -1,9 +1,10 @@
-use Rattle.std.proofs.Common.{◌≡◌, rules, arith, subst}
+use Rattle.std.proofs.Common.{◌≡◌, rules, arith, subst, refl}
 use Rattle.sqlite.specs.Held.{state}
 use Rattle.sqlite.specs.State.{HasCleanDisk}
 use Rattle.sqlite.proofs.StateLemmas.{clean_if_open}
 use Rattle.pid_rows.specs.Leaves.{OnlyReads}
 use Rattle.pid_rows.proofs.OnlyReading.{reads_begun}
+use Rattle.pid_table_check.proofs.Telling.{first_of}
 use Rattle.pid_table_check.proofs.lacking.later_schema.Goals as goal
 
 pub returns-clause-rests : goal.returns-clause-rests
@@ -17,9 +18,9 @@ returns-clause-rests g c =
     (clean_if_open (g.S.Store.view end.store) (g.met.S.Store.shut_if_dirty end.store)) goes c.drop-tx.ensures.ended c.drop-tx.ensures.undone c.drop-tx.ensures.survives)
 
 pub returns-clause-shows : goal.returns-clause-shows
-returns-clause-shows g c clean =
+returns-clause-shows g c clean asked =
     let end = c.drop-tx.new.self.0 in
     let same : end ≡ c.conn-1.given.0 = search rules in
     let late : HasCleanDisk (state g.S.Store end) = search rules in
     let mid : HasCleanDisk (state g.S.Store c.read_later.new.tx.conn.now) = omega (arith, c.drop-tx.ensures.survives.clean) in
-    rw c.transaction-tx.ensures.begun at (c.read_later.ensures.shows mid)
+    first_of _ _ _ c.read_later.result ((rw c.transaction-tx.ensures.begun at c.read_later.ensures.shows) mid _ refl asked)

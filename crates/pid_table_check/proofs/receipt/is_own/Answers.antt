@@ -1,7 +1,7 @@
 use Rattle.std.proofs.Common.{◌≡◌, rules}
 use Rattle.sqlite.specs.Order.{column}
 use Rattle.pid_rows.specs.TableRows.{number}
-use Rattle.pid_table_check.proofs.Judging.{if_ok}
+use Rattle.pid_table_check.proofs.Each.{if_ok}
 use Rattle.pid_table_check.proofs.ReceiptFacts.{numbered, numbered_back, counted, counted_back}
 use Rattle.pid_table_check.proofs.receipt.is_own.Goals as goal
 

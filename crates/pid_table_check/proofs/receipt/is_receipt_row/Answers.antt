@@ -1,6 +1,6 @@
 use Rattle.std.proofs.Common.{◌≡◌, length, true, refl, rules, arith}
 use Rattle.pid_ident.specs.Words.{is_account}
-use Rattle.pid_table_check.proofs.Judging.{if_ok}
+use Rattle.pid_table_check.proofs.Each.{if_ok}
 use Rattle.pid_table_check.proofs.WordTexts.{account_utf8}
 use Rattle.pid_table_check.proofs.ReceiptFacts.{receipt_made, account_of, account_is}
 use Rattle.pid_table_check.proofs.receipt.is_receipt_row.Goals as goal

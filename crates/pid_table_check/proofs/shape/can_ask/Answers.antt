@@ -3,7 +3,7 @@ use Rattle.sqlite.specs.Held.{state}
 use Rattle.sqlite.specs.Order.{Row}
 use Rattle.sqlite.specs.State.{IsNotRun}
 use Rattle.sqlite.proofs.StateLemmas.{clean_if_open}
-use Rattle.pid_table_check.proofs.Judging.{if_ok}
+use Rattle.pid_table_check.proofs.Each.{if_ok}
 use Rattle.pid_table_check.proofs.Asking.{err_of, rests, refused, unasked, unasked_caused, on_if_ok, told_caused}
 use Rattle.pid_table_check.proofs.shape.can_ask.Goals as goal
 

@@ -1,4 +1,4 @@
-use Rattle.pid_table_check.proofs.Judging.{if_ok}
+use Rattle.pid_table_check.proofs.Each.{if_ok}
 use Rattle.pid_table_check.proofs.Asking.{each_table}
 use Rattle.pid_table_check.proofs.shape.has_each_table.Goals as goal
 

@@ -3,7 +3,7 @@ use Rattle.pid_table_check.proofs.SubmissionFacts.{submission_made, author_of, s
 use Rattle.pid_table_check.proofs.submission.is_submission_row.Goals as goal
 
 pub returns-in-None : goal.returns-in-None
-returns-in-None c = (λ no. absurd cc, λ it. let of = author_of c.args.names.now c.args.row.now c.args.num it in absurd (c.in-None.ensures.none of.0 of.1 of.2.0))
+returns-in-None c = (λ no. absurd cc, λ it. let of = author_of c.args.names.now c.args.row.now c.args.count it in absurd (c.in-None.ensures.none of.0 of.1 of.2.0))
 
 pub returns-in-Some : goal.returns-in-Some
 returns-in-Some c =
@@ -11,6 +11,6 @@ returns-in-Some c =
     let names = c.args.names.now in
     let len : length r ≡ 9 = grind (arith, c.if-column_count-ne9.false, c.column_count.ensures) in
     let found = c.in-Some.ensures.found in (
-      λ yes. submission_made names c.args.num r c.in-Some.author.now len (c.if-not-is_numbered.ensures.0 refl) (c.if-not-has_path.ensures.0 refl) (c.if-not-proposes.ensures.0 refl) (c.if-not-has_text.ensures.0 refl) found (c.is_of_author.ensures.0 yes),
-      λ it. c.is_of_author.ensures.1 (stands_of names r c.args.num c.in-Some.author.now found it),
+      λ yes. submission_made names c.args.count r c.in-Some.author.now len (c.if-not-is_numbered.ensures.0 refl) (c.if-not-has_path.ensures.0 refl) (c.if-not-proposes.ensures.0 refl) (c.if-not-has_text.ensures.0 refl) found (c.is_of_author.ensures.0 yes),
+      λ it. c.is_of_author.ensures.1 (stands_of names r c.args.count c.in-Some.author.now found it),
     )
