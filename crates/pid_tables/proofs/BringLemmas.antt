@@ -1,10 +1,10 @@
 -- What is brought to schema 2, by what stood there.
-use Rattle.std.proofs.Common.{◌≡◌, ◌⊎◌, inl, inr, ℕ, List, Bool, true, false, None, Some, Option, Ok, Err, Result, IfOk, MatchResult, IsTrue, refl, sym, subst, ◌∙◌}
+use Rattle.std.proofs.Common.{◌≡◌, ◌⊎◌, inl, inr, ℕ, List, true, false, None, Some, Option, Ok, Err, Result, IfOk, MatchResult, IsTrue, refl, sym, subst}
 use Rattle.std.proofs.lemmas.Bool.{cases_Bool}
 use Rattle.sqlite.specs.Change.{is_used}
 use Rattle.sqlite.specs.Effect.{Database}
 use Rattle.sqlite.specs.Held.{Held, state}
-use Rattle.sqlite.specs.State.{State, HasCleanDisk}
+use Rattle.sqlite.specs.State.{State}
 use Rattle.sqlite_rules.specs.Lists.{Has}
 use Rattle.sqlite_trees.specs.declared.store.Store.{Ghosts}
 use Rattle.pid_rows.specs.declared.fault.TableFault.{TableFault}
@@ -20,7 +20,7 @@ use Rattle.pid_table_check.specs.Shapes.{HasNoTable, HasSomeTable}
 use Rattle.pid_tables.specs.Creation.{table_names, IsBlank, IsMet, IsOfMaking, LeavesBareOrNew}
 use Rattle.pid_tables.specs.Steps.{IsStanding}
 use Rattle.pid_tables.specs.declared.migration.Step.{Step}
-use Rattle.pid_tables.specs.declared.migration.Step.TheVariants.{Created, Moved, Already}
+use Rattle.pid_tables.specs.declared.migration.Step.TheVariants.{Moved, Already}
 
 -- ---- no table
 

@@ -1,12 +1,11 @@
 -- What the move of the tables leaves.
-use Rattle.std.proofs.Common.{◌≡◌, inl, inr, Bool, true, false, Ok, Err, Result, IfErr, OnErr, IsTrue, refl, sym, ap, subst, ◌∙◌}
+use Rattle.std.proofs.Common.{◌≡◌, inl, inr, true, false, Ok, Err, Result, IfErr, OnErr, IsTrue, refl, sym, subst, ◌∙◌}
 use Rattle.sqlite.proofs.Callers.{survives_begin}
 use Rattle.sqlite.proofs.StateLemmas.{survives_then}
 use Rattle.sqlite.specs.Effect.{Database}
 use Rattle.sqlite.specs.Held.{Held, state}
 use Rattle.sqlite.specs.State.{State, HasCleanDisk, Survives}
 use Rattle.sqlite.specs.Steps.{FailsToCommit}
-use Rattle.sqlite.specs.Tree.{Trees}
 use Rattle.sqlite.specs.declared.error.Error.{Error}
 use Rattle.sqlite_trees.specs.declared.store.Store.{Ghosts}
 use Rattle.pid_moderation.specs.Views.{Views}
@@ -16,7 +15,7 @@ use Rattle.pid_rows.specs.declared.version.Version.{Version}
 use Rattle.pid_rows.specs.declared.version.Version.TheVariants.{Two}
 use Rattle.pid_rows.specs.Causes.{IsCaused}
 use Rattle.pid_rows.specs.Faults.{IsUntold}
-use Rattle.pid_rows.specs.Leaves.{GoesOn, OnlyReads, RestsIn}
+use Rattle.pid_rows.specs.Leaves.{GoesOn, RestsIn}
 use Rattle.pid_rows.specs.Shows.{Shows, ShowsIn}
 use Rattle.pid_rows.proofs.GoingLemmas.{earlier}
 use Rattle.pid_rows.proofs.LeaveLemmas.{shows_found}

@@ -8,7 +8,6 @@ use Rattle.sqlite_catalog.proofs.ReadLemmas.{lists_once}
 use Rattle.pid_moderation.specs.History.{History}
 use Rattle.pid_moderation.specs.Views.{Views}
 use Rattle.pid_rows.specs.declared.version.Version.{Version}
-use Rattle.pid_rows.specs.declared.version.Version.TheVariants.{One}
 use Rattle.pid_rows.specs.Leaves.{as_found, found_in, AtRest, RestsIn, OnlyReads}
 use Rattle.pid_rows.specs.Schema.{no_schema, pid_schema, schema_of}
 use Rattle.pid_rows.specs.Shows.{Shows, ShowsIn}

@@ -1,9 +1,9 @@
 -- What stands in a database, as reads tell it.
-use Rattle.std.proofs.Common.{◌≡◌, ◌↔◌, ◌≤◌, ℕ, arith, inl, inr, [], ◌++◌, Bool, true, false, None, Some, Option, Ok, Err, Result, MatchResult, IsTrue, refl, sym, ap, subst, ◌∙◌}
+use Rattle.std.proofs.Common.{◌≡◌, ◌↔◌, ◌≤◌, ℕ, arith, inl, inr, false, None, Some, Option, Ok, Err, Result, MatchResult, IsTrue, refl, sym, subst}
 use Rattle.std.proofs.lemmas.Bool.{cases_Bool}
 use Rattle.sqlite.specs.Effect.{Database}
 use Rattle.sqlite.specs.Schema.{Schema}
-use Rattle.sqlite.specs.State.{State, HasCleanDisk}
+use Rattle.sqlite.specs.State.{State}
 use Rattle.pid_moderation.specs.CheckTables.{most_revision}
 use Rattle.pid_moderation.specs.Views.{Views}
 use Rattle.pid_rows.specs.declared.fault.TableFault.{TableFault}
@@ -12,10 +12,8 @@ use Rattle.pid_rows.specs.declared.version.Version.{Version}
 use Rattle.pid_rows.specs.declared.version.Version.TheVariants.{One, Two}
 use Rattle.pid_rows.specs.Faults.{IsUntold}
 use Rattle.pid_rows.specs.Leaves.{OnlyReads, RestsIn}
-use Rattle.pid_rows.specs.Schema.{schema_of}
 use Rattle.pid_rows.specs.Shows.{ShowsIn}
 use Rattle.pid_table_check.specs.Checking.{Explains, Finds, IsRegistry}
-use Rattle.pid_table_check.specs.Queries.{query_of}
 use Rattle.pid_table_check.specs.Shapes.{HasNoTable, HasSomeTable, HasTables, IsMadeFirst}
 use Rattle.pid_table_check.proofs.Complete.{made_first}
 use Rattle.pid_tables.specs.Steps.{IsStanding}

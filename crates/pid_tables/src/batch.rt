@@ -3,7 +3,7 @@ ghost use Rattle.std.specs.Prelude.{◌≡◌, ◌+◌, true, false, length, is_
 ghost use Rattle.pid_ident.specs.PathTexts.{path_text};
 ghost use Rattle.pid_moderation.specs.Items.{name_at};
 ghost use Rattle.pid_moderation.specs.Views.{Views, submission_at};
-ghost use Rattle.pid_moderation.specs.Changes.{edited, with_items, affected, changed, FitsEdit, FitsEffect, FitsReceipt, FitsWrite, Fits};
+ghost use Rattle.pid_moderation.specs.Changes.{edited, with_items, affected, changed, FitsEdit, FitsEffect, FitsWrite, Fits};
 ghost use Rattle.pid_rows.specs.Faults.{IsUntold};
 ghost use Rattle.pid_rows.specs.Shows.{Counts, ShowsCounting, Shows, counts_of};
 ghost use Rattle.pid_rows.specs.Writes.{with_rank, with_name, with_revision, with_submission};

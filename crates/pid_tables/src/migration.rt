@@ -1,5 +1,5 @@
 //! Brings the tables of a database to schema 2.
-ghost use Rattle.std.specs.Prelude.{◌≡◌, ◌⊎◌, None, Some, true, false, IfErr, IfOk, IsTrue, MatchResult, OnErr, OnOk};
+ghost use Rattle.std.specs.Prelude.{◌≡◌, ◌⊎◌, None, Some, false, IfErr, IfOk, IsTrue, MatchResult, OnErr, OnOk};
 ghost use Rattle.pid_moderation.specs.History.{History, new_history};
 ghost use Rattle.pid_moderation.specs.Sound.{IsSound};
 ghost use Rattle.pid_moderation.specs.Views.{Views, views_of};
@@ -19,9 +19,7 @@ use crate::creation::create;
 use pid_rows::meta::schema_number;
 use pid_rows::moving::move_tables;
 use pid_rows::{TableFault, Version};
-use pid_table_check::{
-    check, has_some_table, schemas_have_tables, sound_histories_are_registries,
-};
+use pid_table_check::{check, has_some_table, schemas_have_tables, sound_histories_are_registries};
 use sqlite::{Alter, Connection};
 use std::alloc::Global;
 
@@ -108,10 +106,7 @@ fn move_up<S: Alter>(conn: &mut Connection<S>) -> Result<(), TableFault>
 }
 
 // Brings what stands to schema 2.
-fn bring<S: Alter>(
-    conn: &mut Connection<S>,
-    found: Option<Version>,
-) -> Result<Step, TableFault>
+fn bring<S: Alter>(conn: &mut Connection<S>, found: Option<Version>) -> Result<Step, TableFault>
     requires { conn.old.in_transaction ≡ false }
     ensures settled { conn.new.in_transaction ≡ false }
     ensures clean { HasCleanDisk S.Store conn.new → HasCleanDisk S.Store conn.old }
@@ -165,7 +160,7 @@ pub fn migrate<S: Alter>(conn: &mut Connection<S>, alloc: Global) -> Result<Step
     // Something else under the name of a table is refused, and left as it is.
     ensures met { HasCleanDisk S.Store conn.new → HasNoTable (seen S.Store conn.old).schema → IsMet S.Store conn.old
         → MatchResult result (λ _. ⊥) (λ fault. IsOfMaking fault × OnlyReads S.Store conn.old conn.new) }
-    ensures shut { HasCleanDisk S.Store conn.new → is_open S.Store conn.old ≡ false → MatchResult result (λ _. ⊥) IsUntold }
+    ensures shut { HasCleanDisk S.Store conn.new → is_open S.Store conn.old ≡ false → MatchResult result (λ _. ⊥) (λ fault. IsUntold fault × OnlyReads S.Store conn.old conn.new) }
 {
     schemas_have_tables();
     let found = standing(conn, alloc)?;

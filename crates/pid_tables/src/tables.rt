@@ -31,9 +31,9 @@ use crate::gather::gather_facts;
 use pid_ident::{Account, Key, Name, Path};
 use pid_moderation::{Facts, Rows};
 use pid_reader::Sink;
-use pid_rows::{TableFault, Version};
 use pid_rows::item::{Item, item_name};
 use pid_rows::meta::{items, schema_number};
+use pid_rows::{TableFault, Version};
 use pid_table_check::{check, has_some_table, sound_histories_are_registries};
 use pid_table_lists::{
     Changes, Discussion, EachEnd, PAGE, Pending, changes_page, children, discussed, each_item,
