@@ -4,7 +4,8 @@
  *   registry FILE make < LINES     a new registry; each line is a path, a tab and a name; one transaction
  *   registry FILE rows COUNT       a new registry with COUNT rows in each table
  *   registry FILE submissions N    a new registry with N submissions, all decided
- *   registry FILE JOB TIMES        JOB: nothing, export, open, unknown, keyed
+ *   registry FILE old N            a registry of schema 1 with N items
+ *   registry FILE JOB TIMES        JOB: nothing, export, open, unknown, keyed, migrate
  */
 #include <sqlite3.h>
 #include <stdio.h>
@@ -53,7 +54,7 @@ static int rows(sqlite3_stmt *statement)
     return count;
 }
 
-static void create(void)
+static void create_old(void)
 {
     run("CREATE TABLE meta (label TEXT NOT NULL PRIMARY KEY, value INTEGER NOT NULL) STRICT;"
         "CREATE TABLE account (name TEXT NOT NULL PRIMARY KEY, rank INTEGER NOT NULL CHECK (rank BETWEEN 0 AND 3)) STRICT;"
@@ -69,6 +70,21 @@ static void create(void)
         "INSERT INTO account VALUES ('root', 3), ('bob', 1)");
 }
 
+/* What schema 2 has more. */
+static void add_since(void)
+{
+    run("CREATE TABLE item_since (path TEXT NOT NULL PRIMARY KEY REFERENCES item(path) ON DELETE CASCADE, since INTEGER NOT NULL) STRICT;"
+        "INSERT INTO item_since SELECT path, 0 FROM item;"
+        "INSERT INTO meta VALUES ('revision', 0);"
+        "UPDATE meta SET value = 2 WHERE label = 'schema'");
+}
+
+static void create(void)
+{
+    create_old();
+    add_since();
+}
+
 /* Each line is looked for and, where it is new, added; the count of items follows. */
 static void make(void)
 {
@@ -80,6 +96,7 @@ static void make(void)
     run("BEGIN IMMEDIATE");
     sqlite3_stmt *find = prepared("SELECT name FROM item WHERE path = ?1");
     sqlite3_stmt *add = prepared("INSERT INTO item (path, name) VALUES (?1, ?2)");
+    sqlite3_stmt *since = prepared("INSERT INTO item_since (path, since) VALUES (?1, 1)");
     sqlite3_stmt *count = prepared("UPDATE meta SET value = ?1 WHERE label = 'items'");
     while (fgets(line, sizeof line, stdin)) {
         char *name = strchr(line, '\t');
@@ -90,15 +107,18 @@ static void make(void)
             text(add, 1, line);
             text(add, 2, name);
             rows(add);
+            text(since, 1, line);
+            rows(since);
             added++;
         }
     }
     sqlite3_bind_int(count, 1, added);
     rows(count);
+    run("UPDATE meta SET value = 1 WHERE label = 'revision'");
     run("COMMIT");
 }
 
-/* Accounts a0, a1, ..; a vendor or a device each; decided submissions; a remark on each; a receipt for each. */
+/* Accounts a0, a1, ..; a vendor or a device each, with its number; decided submissions; a remark on each; a receipt for each. */
 static void fill(int count)
 {
     char word[64];
@@ -106,6 +126,7 @@ static void fill(int count)
     create();
     sqlite3_stmt *account = prepared("INSERT INTO account VALUES (?1, 0)");
     sqlite3_stmt *item = prepared("INSERT INTO item VALUES (?1, 'a')");
+    sqlite3_stmt *since = prepared("INSERT INTO item_since VALUES (?1, 0)");
     sqlite3_stmt *submission = prepared("INSERT INTO submission VALUES (?1, 'bob', 'PC/0001', 0, 'a', '', 1, 'root', '')");
     sqlite3_stmt *remark = prepared("INSERT INTO remark VALUES (?1, 1, 'root', 'seen')");
     sqlite3_stmt *receipt = prepared("INSERT INTO receipt VALUES ('bob', ?1, 1, ?2, 0, 0)");
@@ -122,11 +143,13 @@ static void fill(int count)
         snprintf(word, sizeof word, at < 65536 ? "PC/%04x" : "PC/ffff/%04x", at & 0xffff);
         text(item, 1, word);
         rows(item);
+        text(since, 1, word);
+        rows(since);
         rows(submission);
         rows(remark);
         rows(receipt);
     }
-    sqlite3_stmt *counts = prepared("UPDATE meta SET value = ?1 WHERE label <> 'schema'");
+    sqlite3_stmt *counts = prepared("UPDATE meta SET value = ?1 WHERE label IN ('items', 'submissions')");
     sqlite3_bind_int(counts, 1, count);
     rows(counts);
     run("COMMIT");
@@ -143,6 +166,24 @@ static void fill_submissions(int count)
         rows(submission);
     }
     sqlite3_stmt *counts = prepared("UPDATE meta SET value = ?1 WHERE label = 'submissions'");
+    sqlite3_bind_int(counts, 1, count);
+    rows(counts);
+    run("COMMIT");
+}
+
+/* The items alone. */
+static void fill_old(int count)
+{
+    char word[64];
+    run("BEGIN");
+    create_old();
+    sqlite3_stmt *item = prepared("INSERT INTO item VALUES (?1, 'a')");
+    for (int at = 0; at < count; at++) {
+        snprintf(word, sizeof word, at < 65536 ? "PC/%04x" : "PC/ffff/%04x", at & 0xffff);
+        text(item, 1, word);
+        rows(item);
+    }
+    sqlite3_stmt *counts = prepared("UPDATE meta SET value = ?1 WHERE label = 'items'");
     sqlite3_bind_int(counts, 1, count);
     rows(counts);
     run("COMMIT");
@@ -172,6 +213,24 @@ static void print_items(void)
     sqlite3_finalize(all);
 }
 
+/* The number of a label. */
+static int number_of(sqlite3_stmt *label, const char *name)
+{
+    text(label, 1, name);
+    if (sqlite3_step(label) != SQLITE_ROW)
+        stop("label");
+    int number = sqlite3_column_int(label, 0);
+    sqlite3_reset(label);
+    return number;
+}
+
+static void set_label(sqlite3_stmt *count, const char *name, int number)
+{
+    text(count, 1, name);
+    sqlite3_bind_int(count, 2, number);
+    rows(count);
+}
+
 /* A receipt under the key is looked for, and the reply kept there. */
 static void keep(sqlite3_stmt *receipt, const char *account, const char *key, int kind, int number)
 {
@@ -197,12 +256,11 @@ static void commands(int times)
     sqlite3_stmt *submit = prepared("INSERT INTO submission (num, author, path, form, name, note, state, decider, reason) VALUES (?1, ?2, ?3, ?4, ?5, ?6, 0, '', '')");
     sqlite3_stmt *count = prepared("UPDATE meta SET value = ?2 WHERE label = ?1");
     sqlite3_stmt *decide = prepared("UPDATE submission SET state = ?2, decider = ?3, reason = ?4 WHERE num = ?1");
+    sqlite3_stmt *add = prepared("INSERT INTO item (path, name) VALUES (?1, ?2)");
     sqlite3_stmt *rename = prepared("UPDATE item SET name = ?2 WHERE path = ?1");
-    text(label, 1, "submissions");
-    if (sqlite3_step(label) != SQLITE_ROW)
-        stop("label");
-    int number = sqlite3_column_int(label, 0);
-    sqlite3_reset(label);
+    sqlite3_stmt *add_since = prepared("INSERT INTO item_since (path, since) VALUES (?1, ?2)");
+    sqlite3_stmt *set_since = prepared("UPDATE item_since SET since = ?2 WHERE path = ?1");
+    int number = number_of(label, "submissions");
     for (int at = 0; at < times; at++) {
         char low[32], high[32];
         number++;
@@ -213,8 +271,8 @@ static void commands(int times)
         text(kept, 1, "bob");
         text(kept, 2, key);
         rows(kept);
-        text(label, 1, "submissions");
-        rows(label);
+        int revision = number_of(label, "revision");
+        number_of(label, "submissions");
         run("BEGIN IMMEDIATE");
         sqlite3_bind_int(submit, 1, number);
         text(submit, 2, "bob");
@@ -223,9 +281,8 @@ static void commands(int times)
         text(submit, 5, "renamed");
         text(submit, 6, "");
         rows(submit);
-        text(count, 1, "submissions");
-        sqlite3_bind_int(count, 2, number);
-        rows(count);
+        set_label(count, "submissions", number);
+        set_label(count, "revision", revision + 1);
         keep(receipt, "bob", key, 1, number);
         run("COMMIT");
 
@@ -234,14 +291,14 @@ static void commands(int times)
         text(kept, 1, "root");
         text(kept, 2, key);
         rows(kept);
+        revision = number_of(label, "revision");
         sqlite3_bind_int(named, 1, number);
         rows(named);
         sqlite3_bind_int(places, 1, number);
         rows(places);
-        text(label, 1, "items");
-        rows(label);
+        int items = number_of(label, "items");
         text(item, 1, path);
-        rows(item);
+        int is_there = rows(item);
         for (int front = 0; front < 2; front++) {
             snprintf(low, sizeof low, "P%c%s/", front ? 'S' : 'C', path + 2);
             snprintf(high, sizeof high, "P%c%s0", front ? 'S' : 'C', path + 2);
@@ -255,12 +312,15 @@ static void commands(int times)
         text(decide, 3, "root");
         text(decide, 4, "");
         rows(decide);
-        text(rename, 1, path);
-        text(rename, 2, "renamed");
-        rows(rename);
-        sqlite3_bind_int(count, 2, 0);
-        text(count, 1, "none");
-        rows(count);
+        sqlite3_stmt *write = is_there ? rename : add, *since = is_there ? set_since : add_since;
+        text(write, 1, path);
+        text(write, 2, "renamed");
+        rows(write);
+        text(since, 1, path);
+        sqlite3_bind_int(since, 2, revision + 1);
+        rows(since);
+        set_label(count, "items", items + !is_there);
+        set_label(count, "revision", revision + 1);
         keep(receipt, "root", key, 0, 0);
         run("COMMIT");
     }
@@ -273,6 +333,12 @@ static int job(const char *name, int times)
         return 0;
     if (strcmp(name, "keyed") == 0) {
         commands(times);
+        return 0;
+    }
+    if (strcmp(name, "migrate") == 0) {
+        run("BEGIN IMMEDIATE");
+        add_since();
+        run("COMMIT");
         return 0;
     }
     if (strcmp(name, "export") == 0) {
@@ -312,6 +378,8 @@ int main(int count, char **words)
         fill(atoi(words[3]));
     else if (count == 4 && strcmp(words[2], "submissions") == 0)
         fill_submissions(atoi(words[3]));
+    else if (count == 4 && strcmp(words[2], "old") == 0)
+        fill_old(atoi(words[3]));
     else if (count != 4 || job(words[2], atoi(words[3])) != 0)
         return 2;
     return 0;

@@ -10,6 +10,8 @@ import limits
 import lookups
 import lspci
 import memory
+import migrate
+import mirror
 import progress
 import proxy
 import real_file
@@ -22,7 +24,7 @@ import words
 import worked_rows
 from program import Cases
 
-PARTS = {it.__name__: it for it in (worked_rows, words, fault_gallery, limits, real_file, lspci, lookups, registry, jobs, progress, stops, scripts, serving, http_routes, serving_faults, proxy, memory)}
+PARTS = {it.__name__: it for it in (worked_rows, words, fault_gallery, limits, real_file, lspci, lookups, registry, migrate, jobs, progress, stops, scripts, serving, http_routes, serving_faults, proxy, mirror, memory)}
 
 
 def processor_seconds():

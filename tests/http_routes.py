@@ -93,6 +93,10 @@ QUESTIONS = [
     ("/submission/x", 3),
     ("/pending", 0),
     ("/pending?after=3", 0),
+    ("/changes", 0),
+    ("/changes?since=6&after=PC/8086", 0),
+    ("/changes?since=9000000000000000000", 0),
+    ("/changes?after=PC", 1),
 ]
 
 
@@ -127,6 +131,8 @@ def as_text(told):
         return "".join(line_of(it) for it in told)
     if "state" in told:
         lines = discussion(told)
+    elif "revision" in told:
+        lines = [f"revision {told['revision']}"] + [f"{it['since']} {it['path']} {it['name']}" for it in told["items"]]
     elif "ok" not in told:
         lines = [told["name"]]
     elif not told["ok"]:

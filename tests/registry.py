@@ -55,9 +55,20 @@ CHANGED = {
     "one more label": ("INSERT INTO meta VALUES ('more', 1)", "damaged"),
     "no schema": ("DELETE FROM meta WHERE label = 'schema'", "damaged"),
     "schema 0": ("UPDATE meta SET value = 0 WHERE label = 'schema'", "damaged"),
-    "a later schema": ("UPDATE meta SET value = 2 WHERE label = 'schema'", "newer"),
-    "a later schema before all else": ("UPDATE meta SET value = 2 WHERE label = 'schema'; DELETE FROM item", "newer"),
-    "a later schema before a missing table": ("UPDATE meta SET value = 2 WHERE label = 'schema'; DROP TABLE receipt", "newer"),
+    "a later schema": ("UPDATE meta SET value = 3 WHERE label = 'schema'", "newer"),
+    "a later schema before all else": ("UPDATE meta SET value = 3 WHERE label = 'schema'; DELETE FROM item", "newer"),
+    "a later schema before a missing table": ("UPDATE meta SET value = 3 WHERE label = 'schema'; DROP TABLE receipt", "newer"),
+    "schema 1": ("UPDATE meta SET value = 1 WHERE label = 'schema'", "damaged"),
+    "no revision": ("DELETE FROM meta WHERE label = 'revision'", "damaged"),
+    "a revision below 0": ("UPDATE meta SET value = -1 WHERE label = 'revision'", "damaged"),
+    "the last revision": ("UPDATE meta SET value = 9000000000000000000 WHERE label = 'revision'", None),
+    "a revision behind the last": ("UPDATE meta SET value = 9000000000000000001 WHERE label = 'revision'", "damaged"),
+    "an item without a number": ("DELETE FROM item_since WHERE path = 'PC/8086/1237'", "damaged"),
+    "a number of no item": ("INSERT INTO item_since VALUES ('PC/9999', 0)", "store"),
+    "another number": ("UPDATE item_since SET since = 0 WHERE path = 'PC/8086'", None),
+    "a number above the revision": ("UPDATE item_since SET since = 1000 WHERE path = 'PC/8086'", "damaged"),
+    "a number below 0": ("UPDATE item_since SET since = -1 WHERE path = 'PC/8086'", "damaged"),
+    "no numbers": ("DROP TABLE item_since", "damaged"),
     "a missing table": ("DROP TABLE receipt", "damaged"),
     "a missing column": ("DROP TABLE item; CREATE TABLE item (path TEXT NOT NULL PRIMARY KEY) STRICT", "damaged"),
     "missing labels": ("DROP TABLE meta", "damaged"),
@@ -93,7 +104,8 @@ CHANGED = {
 TOLD = {
     None: (b"", b"", 0),
     "damaged": (b"", b"open: Damaged\n", 3),
-    "newer": (b"", b"open: NewerSchema 2\n", 3),
+    "store": (b"", b"open: Store\n", 3),
+    "newer": (b"", b"open: NewerSchema 3\n", 3),
 }
 
 
@@ -134,7 +146,7 @@ def try_unopened(cases, folder):
     with open(broken, "rb") as file:
         cases.equal("no database: it stays", file.read(), b"no database" * 1000)
     open(empty, "wb").close()
-    cases.equal("an empty file becomes a registry", (script(empty), asked(empty, "SELECT count(*) FROM meta")), ((b"", b"", 0), "3\n"))
+    cases.equal("an empty file becomes a registry", (script(empty), asked(empty, "SELECT count(*) FROM meta")), ((b"", b"", 0), "4\n"))
     holder = subprocess.Popen([WHOLE, "script", "--db", locked], stdin=subprocess.PIPE, stdout=subprocess.PIPE)
     holder.stdin.write(b"import root file=8086++Intel\n")
     holder.stdin.flush()
@@ -151,7 +163,7 @@ def try_small(cases, path):
     cases.equal("references", asked(path, "PRAGMA foreign_key_check"), "")
     schema = asked(path, "SELECT sql FROM sqlite_master WHERE sql IS NOT NULL").splitlines()
     cases.equal("the schema", sorted(schema), texts_of_schema())
-    cases.equal("meta", asked(path, "SELECT * FROM meta ORDER BY label"), "items|7\nschema|1\nsubmissions|2\n")
+    cases.equal("meta", asked(path, "SELECT * FROM meta ORDER BY label"), "items|7\nrevision|6\nschema|2\nsubmissions|2\n")
     cases.equal("accounts", asked(path, "SELECT * FROM account ORDER BY name"), "bob|1\nroot|3\n")
     items = "PC/0000|renamed\nPC/0001|renamed\nPC/1af4|Red Hat\nPC/8086|Intel\nPC/8086/1237|440FX\nPD/01|Mass\nPS/1af4/1100|Qemu\n"
     cases.equal("items", asked(path, "SELECT * FROM item ORDER BY path"), items)

@@ -1,10 +1,10 @@
 //! The jobs of a registry, over any store. Each hands the connection back, where the registry is live.
 use crate::job_end::JobEnd;
-use crate::replies::tell_unopened;
+use crate::replies::{print_step, tell_unopened};
 use crate::serving::{Port, serve_registry};
 use pid_ident::{Account, Input, Key, Output};
 use pid_script::{ScriptEnd, run_script};
-use pid_service::{ExportFault, ImportEnd, Registry, open};
+use pid_service::{ExportFault, ImportEnd, Registry, migrate, open};
 use pid_tables::TableFault;
 use sqlite::{Alter, Connection};
 use std::alloc::Global;
@@ -23,6 +23,8 @@ pub enum RegistryJob<I> {
     },
     Export,
     Serve(Port),
+    /// The tables alone: no registry is opened.
+    Migrate,
 }
 
 /// Opens the registry of a connection, or begins it, and does the job.
@@ -36,12 +38,28 @@ pub fn work_on<S: Alter + Drop, I: Input + Drop, O: Output, F: Output>(
     if !conn.is_autocommit() {
         return (JobEnd::Told(tell_unopened(TableFault::Store, faults)), None);
     }
+    if matches!(job, RegistryJob::Migrate) {
+        return take_over(rt.alloc(), conn, output, faults);
+    }
     match open(rt.alloc(), conn) {
         Ok(registry) => {
             let mut registry = registry;
             let end = do_job(rt, &mut registry, job, output, faults);
             (end, handed_back(registry))
         }
+        Err((fault, _)) => (JobEnd::Told(tell_unopened(fault, faults)), None),
+    }
+}
+
+// Brings the tables to the newest schema.
+fn take_over<S: Alter + Drop, O: Output, F: Output>(
+    alloc: Global,
+    conn: Connection<S>,
+    output: &mut O,
+    faults: &mut F,
+) -> (JobEnd, Option<Connection<S>>) {
+    match migrate(alloc, conn) {
+        Ok((conn, step)) => (print_step(step, output), Some(conn)),
         Err((fault, _)) => (JobEnd::Told(tell_unopened(fault, faults)), None),
     }
 }
@@ -70,6 +88,8 @@ fn do_job<S: Alter + Drop, I: Input + Drop, O: Output, F: Output>(
             input,
         } => bring_in(registry, account, key, input),
         RegistryJob::Export => print_all(registry, output),
+        // Done before the registry is opened.
+        RegistryJob::Migrate => JobEnd::Told(0),
         RegistryJob::Serve(port) => serve_registry(rt, registry, port, output, faults),
     }
 }

@@ -4,7 +4,7 @@ use itoa::Buffer;
 use pid_ident::{Output, write_all, write_parts};
 use pid_lookup::{Answer, LookupRefusal, Unanswered};
 use pid_moderation::{Refusal, Reply, reply_line};
-use pid_tables::TableFault;
+use pid_tables::{Step, TableFault};
 use pid_texts::{FAILED, TextEnd, tell_end};
 use std::alloc::{AllocError, Global};
 
@@ -60,6 +60,19 @@ pub fn print_answer<O: Output, F: Output>(
         (Err(_), _) => JobEnd::FileFailed,
         (Ok(()), Ok(Answer::Text(_))) => JobEnd::Told(0),
         (Ok(()), _) => JobEnd::Told(REFUSED),
+    }
+}
+
+/// Prints what a migration came to, with status 0.
+pub fn print_step<O: Output>(step: Step, output: &mut O) -> JobEnd {
+    let line: &[u8] = match step {
+        Step::Created => b"created schema 2\n",
+        Step::Moved => b"moved to schema 2\n",
+        Step::Already => b"schema 2 already\n",
+    };
+    match write_all(output, line) {
+        Ok(()) => JobEnd::Told(0),
+        Err(_) => JobEnd::FileFailed,
     }
 }
 

@@ -69,6 +69,10 @@ fn run_job<I: Read + Drop, O: Write + Drop, F: Write + Drop>(
             });
             work_on_file(rt, db, job, &mut output, &mut faults)
         }
+        Job::Migrate { db } => {
+            let job: RegistryJob<Plain<I>> = RegistryJob::Migrate;
+            work_on_file(rt, db, job, &mut output, &mut faults)
+        }
         _ => {
             let job = RegistryJob::Script(Plain::new(input));
             work_on_memory(rt, job, &mut output, &mut faults)

@@ -15,6 +15,7 @@ use Rattle.pid_moderation.specs.Writes.{tree_of}
 use Rattle.pid_moderation.specs.declared.refusal.Refusal.{Refusal}
 use Rattle.pid_moderation.specs.declared.refusal.Refusal.TheVariants.{NoSubmission, Memory, Failed}
 use Rattle.pid_rows.specs.TableRows.{Standing}
+use Rattle.pid_table_lists.specs.ChangePages.{changes_in, start_text}
 use Rattle.pid_table_lists.specs.Children.{children_of}
 use Rattle.pid_table_lists.specs.Discussions.{discussion_in}
 use Rattle.pid_table_lists.specs.PendingPages.{pending_in}
@@ -25,12 +26,13 @@ use Rattle.pid_http_stream.specs.declared.reply.Content.TheVariants.{Text}
 use Rattle.pid_http_stream.specs.declared.reply.Status.TheVariants.{Okay}
 use Rattle.pid_requests.specs.declared.format.Format.{Format}
 use Rattle.pid_requests.specs.declared.look_up.LookUpQuery.{LookUpQuery}
+use Rattle.pid_replies.specs.ChangeAnswers.{changes_answer}
 use Rattle.pid_replies.specs.ItemAnswers.{item_answer, items_answer}
 use Rattle.pid_replies.specs.LookUpAnswers.{look_up_answer}
 use Rattle.pid_replies.specs.Outcomes.{outcome_answer, missing_answer}
 use Rattle.pid_replies.specs.PendingAnswers.{pending_answer}
 use Rattle.pid_replies.specs.SubmissionAnswers.{submission_answer}
-use Rattle.pid_http.specs.Errands.{Errand, Answered, Denied, Obeys, Exports, Reads, Lists, LooksUp, Shows, Waits, format_of, known_answer}
+use Rattle.pid_http.specs.Errands.{Errand, Answered, Denied, Obeys, Exports, Reads, Lists, LooksUp, Shows, Waits, Follows, format_of, known_answer}
 
 -- the item at a path, or that there is none
 abbrev pub named_answer : Path → Format → Option (List ℕ) → Answer
@@ -76,6 +78,7 @@ answer_over h (Lists above format) = listed_answer format (items_below above (it
 answer_over h (LooksUp look_up) = look_up_answer (looked_up look_up h)
 answer_over h (Shows number format) = shown_answer number format (discussion_in (views_of h) number)
 answer_over h (Waits number format) = pending_answer format (pending_in PAGE number (views_of h))
+answer_over h (Follows since after format) = changes_answer format (changes_in PAGE since (start_text after) (views_of h))
 
 -- the history behind it: only a command that is accepted adds to the one before
 abbrev pub history_behind : History → Option Asked → History

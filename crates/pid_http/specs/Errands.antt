@@ -17,6 +17,8 @@ use Rattle.pid_requests.specs.declared.format.Format.TheVariants.{Json}
 use Rattle.pid_requests.specs.declared.look_up.LookUpQuery.{LookUpQuery}
 use Rattle.pid_requests.specs.declared.query.Above.{Above}
 use Rattle.pid_requests.specs.declared.query.Above.TheVariants as above
+use Rattle.pid_requests.specs.declared.query.Start.{Start}
+use Rattle.pid_requests.specs.declared.query.Start.TheVariants as starts
 use Rattle.pid_requests.specs.declared.question.Question.{Question}
 use Rattle.pid_requests.specs.declared.question.Question.TheVariants as questions
 use Rattle.pid_replies.specs.EarlyAnswers.{early_answer}
@@ -42,6 +44,8 @@ pub data Errand : Type 0 where
   Shows : ℕ → Format → Errand
   -- the pending submissions with greater numbers than this
   Waits : ℕ → Format → Errand
+  -- the items that were named anew by commands with greater numbers than this, behind a path or from the first one on
+  Follows : ℕ → Option Path → Format → Errand
 
 -- the command that the registry is to obey, if it is one
 abbrev pub command_in : Errand → Option Asked
@@ -56,6 +60,7 @@ format_of (Reads path format) = format
 format_of (Lists above format) = format
 format_of (Shows number format) = format
 format_of (Waits number format) = format
+format_of (Follows since after format) = format
 format_of errand = Json
 
 -- the answer that is known without the registry; none where that is asked
@@ -90,6 +95,12 @@ listed format above.Top = Lists None format
 listed format (above.Below path) = Lists (Some path) format
 listed format above.BadPath = Answered (outcome_answer format (Err BadPath))
 
+-- the items that were named anew, behind a path or from the first one on; what is no path's text is refused
+abbrev pub followed : ℕ → Format → Start → Errand
+followed since format starts.First = Follows since None format
+followed since format (starts.Behind path) = Follows since (Some path) format
+followed since format starts.BadPath = Answered (outcome_answer format (Err BadPath))
+
 -- the submission with a number; what is no number is refused
 abbrev pub shown : Format → Option ℕ → Errand
 shown format None = Answered (outcome_answer format (Err BadText))
@@ -109,6 +120,7 @@ errand_for (questions.Children above format) s body = listed format above
 errand_for (questions.LookUp look_up) s body = LooksUp look_up
 errand_for (questions.Submission number format) s body = shown format number
 errand_for (questions.Pending after format) s body = Waits after format
+errand_for (questions.Changes since start format) s body = followed since format start
 errand_for (questions.Command verb format) s body = sent format (λ sending. command_made verb sending body) s
 errand_for (questions.Import format) s body = imported format s body
 

@@ -1,16 +1,16 @@
 //! What a request asks for, answered by the registry.
 ghost use Rattle.std.specs.Prelude.{◌≡◌, Err};
-ghost use Rattle.pid_http.specs.Errands.{errand_for, listed, read_at, shown};
+ghost use Rattle.pid_http.specs.Errands.{errand_for, followed, listed, read_at, shown};
 ghost use Rattle.pid_http.specs.Replying.{Replies, sending_in};
 
-use crate::asking::{list, look_up, read, show, wait};
+use crate::asking::{follow, list, look_up, read, show, wait};
 use crate::commanding::command;
 use crate::exporting::export;
 use pid_http_stream::Reply;
 use pid_ident::Path;
 use pid_moderation::Refusal;
 use pid_replies::{Early, early_reply, refusal_reply};
-use pid_requests::{Above, Format, Question, Sender};
+use pid_requests::{Above, Format, Question, Sender, Start};
 use pid_service::Registry;
 use sqlite::Alter;
 use std::alloc::{AllocError, Global};
@@ -58,6 +58,22 @@ fn answer_submission<S: Alter + Drop>(
     }
 }
 
+fn answer_changes<S: Alter + Drop>(
+    alloc: Global,
+    registry: &mut Registry<S>,
+    since: u64,
+    start: Start,
+    format: Format,
+) -> Result<Reply, AllocError>
+    ensures { Replies S.Store registry.old registry.new (followed since format start) result }
+{
+    match start {
+        Start::First => follow(alloc, registry, since, None, format),
+        Start::Behind(path) => follow(alloc, registry, since, Some(&path), format),
+        Start::BadPath => refusal_reply(alloc, format, Refusal::BadPath),
+    }
+}
+
 /// Answers what a request asks for. An import comes here only where there was no memory to know it by its head.
 pub(crate) fn answer<S: Alter + Drop>(
     alloc: Global,
@@ -83,6 +99,11 @@ pub(crate) fn answer<S: Alter + Drop>(
             answer_submission(alloc, registry, number, format)
         }
         Question::Pending { after, format } => wait(alloc, registry, after, format),
+        Question::Changes {
+            since,
+            start,
+            format,
+        } => answer_changes(alloc, registry, since, start, format),
         Question::Command { verb, format } => {
             command(alloc, registry, verb, format, sender, body)
         }

@@ -1,11 +1,14 @@
 //! Questions to the registry, each with its reply.
 ghost use Rattle.std.specs.Prelude.{◌≡◌, map, option_map, IfOk};
+ghost use Rattle.std.specs.Option.{option_copied};
 ghost use Rattle.pid_ident.specs.PathTexts.{path_text};
 ghost use Rattle.pid_moderation.specs.Views.{items_of};
 ghost use Rattle.pid_rows.specs.ItemPairs.{pair_of};
 ghost use Rattle.pid_service.specs.Asking.{Answers};
+ghost use Rattle.pid_table_lists.specs.ChangePages.{page_of};
 ghost use Rattle.pid_table_lists.specs.Discussions.{shown_of};
 ghost use Rattle.pid_table_lists.specs.PendingPages.{told_of};
+ghost use Rattle.pid_replies.specs.ChangeAnswers.{changes_answer};
 ghost use Rattle.pid_replies.specs.PendingAnswers.{pending_answer};
 ghost use Rattle.pid_replies.specs.Replying.{IsReplyOf};
 ghost use Rattle.pid_replies.specs.SubmissionAnswers.{submission_answer};
@@ -17,11 +20,12 @@ use pid_http_stream::Reply;
 use pid_ident::{Name, Path};
 use pid_moderation::Refusal;
 use pid_replies::{
-    item_reply, items_reply, look_up_reply, missing_reply, pending_reply, refusal_reply,
-    submission_reply,
+    changes_reply, item_reply, items_reply, look_up_reply, missing_reply, pending_reply,
+    refusal_reply, submission_reply,
 };
 use pid_requests::{Format, LookUpQuery};
 use pid_service::{Registry, clauses_meet_lives};
+use pid_table_lists::Changes;
 use pid_tables::{Discussion, Item, Pending};
 use sqlite::Alter;
 use std::alloc::{AllocError, Global};
@@ -182,4 +186,32 @@ pub(crate) fn wait<S: Alter + Drop>(
     clauses_meet_lives::<S>();
     let found = registry.pending(after);
     waiting_reply(alloc, format, found)
+}
+
+fn followed_reply(
+    alloc: Global,
+    format: Format,
+    found: Result<Changes, Refusal>,
+) -> Result<Reply, AllocError>
+    ensures { IfOk result (λ reply. IsReplyOf reply (answer_or format (λ changes. changes_answer format (page_of changes)) found)) }
+{
+    match found {
+        Ok(changes) => changes_reply(alloc, format, &changes),
+        Err(refusal) => refusal_reply(alloc, format, refusal),
+    }
+}
+
+/// The items that were named anew by later commands, behind a path or from the first one on.
+pub(crate) fn follow<S: Alter + Drop>(
+    alloc: Global,
+    registry: &mut Registry<S>,
+    since: u64,
+    after: Option<&Path>,
+    format: Format,
+) -> Result<Reply, AllocError>
+    ensures { Replies S.Store registry.old registry.new (errands.Follows since (option_copied after.entry) format) result }
+{
+    clauses_meet_lives::<S>();
+    let found = registry.changes(since, after);
+    followed_reply(alloc, format, found)
 }

@@ -7,12 +7,14 @@ use Rattle.std.proofs.lemmas.List.{take_all, drop_all, take-append-drop, append-
 use Rattle.httparse.specs.Spans.{IsRequestAt}
 use Rattle.httparse.specs.declared.spans.HeaderSpan.{HeaderSpan}
 use Rattle.httparse.specs.declared.spans.RequestSpans.{RequestSpans}
-use Rattle.pid_http_stream.specs.Bodies.{padded, BodyState, HasBrokenOff, HasReadBody}
+use Rattle.pid_http_stream.specs.Bodies.{padded, BodyState, HasBrokenOff, IsWithinBody, HasReadBody}
 use Rattle.pid_http_stream.specs.BodyLengths.{longest_body}
 use Rattle.pid_http_stream.specs.Conducts.{Conduct, StandsStill}
 use Rattle.pid_http_stream.specs.Endings.{IsShort}
 use Rattle.pid_http_stream.specs.Handling.{MayReply, IsAsked}
-use Rattle.pid_http_stream.specs.Intakes.{StandsAt}
+use Rattle.pid_http_stream.specs.Intakes.{IsWaiting, StandsAt}
+use Rattle.pid_http_stream.specs.MomentLaws.{since_so}
+use Rattle.pid_http_stream.specs.Moments.{AllSince}
 use Rattle.pid_http_stream.specs.Requests.{Request, IsRequest}
 use Rattle.pid_http_stream.specs.Steps.{IsAskedOver, Asks, whole_so, broken_so, asked_so}
 use Rattle.pid_http_stream.specs.declared.asking.Asked.TheVariants as asked
@@ -252,3 +254,22 @@ from_broken false result (Some g) fault e = cc
 -- why it broke off
 pub broken_cause : {E : Type 0} (held : List ℕ) (headers : List HeaderSpan) (spans : RequestSpans) (w : ℕ) (A B : BodyState) → Reading held headers spans w A B → (result : Result Reply E) (fault : BodyFault) → asked_so result B.wanted B.fault ≡ asked.Broken fault → HasBrokenOff B fault
 broken_cause held headers spans w A B r result fault e = broken_told held headers spans w A B r fault (from_broken (B.wanted == 0) result B.fault fault e)
+
+still_short : (held : List ℕ) (headers : List HeaderSpan) (spans : RequestSpans) (w : ℕ) (A B : BodyState) (r : Reading held headers spans w A B) (came : List ℕ) → length A.held + length came < A.wanted → length (drop spans.len held ++ came) < w
+still_short held headers spans w A B r came wants =
+    let d = drop spans.len held in
+    let n_is = r.n_is in
+    let wanted = r.wanted_is in
+    let first : length (take r.n d) ≡ r.n = length-take-le r.n d (omega (arith, n_is)) in
+    let held_is : length A.held ≡ length (take r.n d) = ap length r.held_is in
+    let both = length-append d came in
+    omega (arith, wants, held_is, first, n_is, wanted, both)
+
+-- while its body was read the request was not whole
+pub body_waits : (held : List ℕ) (headers : List HeaderSpan) (spans : RequestSpans) (w : ℕ) (A B : BodyState) → Reading held headers spans w A B → AllSince (IsWaiting held A.to_come A.taken) A.moments B.moments
+body_waits held headers spans w A B r = since_so (IsWithinBody A) (IsWaiting held A.to_come A.taken) A.moments B.moments (λ m x. record {
+  rest = held ++ x.came;
+  comes = record { piece = x.came; consumed = x.consumed; kept = refl };
+  none = short_is_none (held ++ x.came) (stands_short held headers spans w r.stands x.came (still_short held headers spans w A B r x.came x.wants));
+  writer = x.taken;
+}) r.read.moments

@@ -1,13 +1,15 @@
 -- What one read of a body leaves of it.
-use Rattle.std.proofs.Common.{◌≡◌, ℕ, zero, suc, ◌+◌, ◌-◌, ◌^◌, ◌<◌, ◌≤◌, List, [], ◌∷◌, ◌++◌, length, take, Option, Some, None, refl, sym, ap, subst, ◌∙◌, append_assoc, arith}
+use Rattle.std.proofs.Common.{◌≡◌, ℕ, zero, suc, ◌+◌, ◌-◌, ◌^◌, ◌<◌, ◌≤◌, List, [], ◌∷◌, ◌++◌, length, take, Option, Some, None, refl, sym, ap, subst, ◌∙◌, append_assoc, length-append, arith}
 use Rattle.std.specs.Prelude.{option_map, min, IfSome, IsSome, is_some, false}
 use Rattle.std.specs.Io.KnownBytes.{Consumes, IsAtEnd, Keeps}
 use Rattle.std.proofs.KnownBytes.{Consumes-nil, Consumes-trans}
 use Rattle.std.proofs.lemmas.List.{take-append-le, take_all, append-nil}
 use Rattle.pid_ident.specs.Reading.{StaysKept}
 use Rattle.pid_ident.specs.declared.io.ReadFault.{ReadFault}
-use Rattle.pid_http_stream.specs.Bodies.{padded, Turns, SpendsTurns, BodyState, IsCauseOf, HasBrokenOff, IsTold, HasReadBody}
+use Rattle.pid_http_stream.specs.Bodies.{padded, Turns, SpendsTurns, BodyState, IsCauseOf, HasBrokenOff, IsTold, IsWithinBody, HasReadBody}
 use Rattle.pid_http_stream.specs.BodyLaws.{no_turns, stays_kept}
+use Rattle.pid_http_stream.specs.MomentLaws.{since_none, since_so}
+use Rattle.pid_http_stream.specs.Moments.{Moment, AllSince, IsMoment}
 use Rattle.pid_http_stream.specs.declared.body_input.BodyFault.{BodyFault}
 
 -- bytes given from the front leave the others
@@ -76,9 +78,9 @@ untold : (f : Option BodyFault) (s : BodyState) → f ≡ None → s.fault ≡ f
 untold f s e same = subst (λ (x : Option BodyFault). IfSome x (HasBrokenOff s)) (sym (same ∙ e)) tt
 
 -- some of what was held was given
-pub gave_held : (f : Option BodyFault) (known : Option (List ℕ)) (kept : Option ReadFault) (turns : Turns) (wanted n : ℕ) (held behind piece : List ℕ) → f ≡ None → held ≡ piece ++ behind → length piece ≡ n → n ≤ wanted
-    → HasReadBody (record { held = held; wanted = wanted; fault = f; to_come = known; kept = kept; turns = turns }) (record { held = behind; wanted = wanted - n; fault = f; to_come = known; kept = kept; turns = turns })
-gave_held f known kept turns wanted n held behind piece none e l h = record {
+pub gave_held : (f : Option BodyFault) (known : Option (List ℕ)) (kept : Option ReadFault) (turns : Turns) (ms : Option (List Moment)) (u : Option (List ℕ)) (wanted n : ℕ) (held behind piece : List ℕ) → f ≡ None → held ≡ piece ++ behind → length piece ≡ n → n ≤ wanted
+    → HasReadBody (record { held = held; wanted = wanted; fault = f; to_come = known; kept = kept; turns = turns; moments = ms; taken = u }) (record { held = behind; wanted = wanted - n; fault = f; to_come = known; kept = kept; turns = turns; moments = ms; taken = u })
+gave_held f known kept turns ms u wanted n held behind piece none e l h = record {
   used = piece;
   came = [];
   consumed = Consumes-nil known;
@@ -86,17 +88,29 @@ gave_held f known kept turns wanted n held behind piece none e l h = record {
   counted = omega arith;
   turns = no_turns turns;
   fault = stays_kept f;
-  told = λ t. untold f (record { held = behind; wanted = wanted - n; fault = f; to_come = known; kept = kept; turns = turns }) none refl;
+  told = λ t. untold f (record { held = behind; wanted = wanted - n; fault = f; to_come = known; kept = kept; turns = turns; moments = ms; taken = u }) none refl;
+  taken = refl;
+  moments = since_none (IsWithinBody (record { held = held; wanted = wanted; fault = f; to_come = known; kept = kept; turns = turns; moments = ms; taken = u })) ms;
 }
 
 -- a turn was spent
 pub one_turn : (reads left reads_after : ℕ) → 0 < left → reads_after ≡ min (reads + 1) (2 ^ 64 - 1) → SpendsTurns (record { reads = reads; left = left }) (record { reads = reads_after; left = left - 1 })
 one_turn reads left reads_after some count = record { spent = omega arith; exact = λ h. omega arith; fewer = omega arith }
 
+-- the reader was read where bytes were wanted and none were held
+read_within : (s : BodyState) (ns : Option (List Moment)) → s.held ≡ [] → 0 < s.wanted → AllSince (IsMoment s.to_come s.taken) s.moments ns → AllSince (IsWithinBody s) s.moments ns
+read_within s ns none wants noted = since_so (IsMoment s.to_come s.taken) (IsWithinBody s) s.moments ns (λ m is. record {
+  came = [];
+  consumed = subst (λ (x : Moment). Consumes s.to_come x.to_come []) (sym is) (Consumes-nil s.to_come);
+  wants = let empty : length s.held ≡ 0 = ap length none in omega (arith, empty, wants);
+  taken = ap (λ (x : Moment). x.taken) is;
+}) noted
+
 -- some of the reader's bytes were given
-pub gave_read : (f : Option BodyFault) (known left : Option (List ℕ)) (kept still : Option ReadFault) (a b : Turns) (wanted n : ℕ) (held piece : List ℕ) → f ≡ None → held ≡ [] → Consumes known left piece → length piece ≡ n → n ≤ wanted → SpendsTurns a b
-    → HasReadBody (record { held = held; wanted = wanted; fault = f; to_come = known; kept = kept; turns = a }) (record { held = held; wanted = wanted - n; fault = f; to_come = left; kept = still; turns = b })
-gave_read f known left kept still a b wanted n held piece none e c l h spent = record {
+pub gave_read : (f : Option BodyFault) (known left : Option (List ℕ)) (kept still : Option ReadFault) (a b : Turns) (ms ns : Option (List Moment)) (u : Option (List ℕ)) (wanted n : ℕ) (held piece : List ℕ) → f ≡ None → held ≡ [] → Consumes known left piece → length piece ≡ n → n ≤ wanted → SpendsTurns a b
+    → 0 < wanted → AllSince (IsMoment known u) ms ns
+    → HasReadBody (record { held = held; wanted = wanted; fault = f; to_come = known; kept = kept; turns = a; moments = ms; taken = u }) (record { held = held; wanted = wanted - n; fault = f; to_come = left; kept = still; turns = b; moments = ns; taken = u })
+gave_read f known left kept still a b ms ns u wanted n held piece none e c l h spent wants noted = record {
   used = piece;
   came = piece;
   consumed = c;
@@ -104,14 +118,16 @@ gave_read f known left kept still a b wanted n held piece none e c l h spent = r
   counted = omega arith;
   turns = spent;
   fault = stays_kept f;
-  told = λ t. untold f (record { held = held; wanted = wanted - n; fault = f; to_come = left; kept = still; turns = b }) none refl;
+  told = λ t. untold f (record { held = held; wanted = wanted - n; fault = f; to_come = left; kept = still; turns = b; moments = ns; taken = u }) none refl;
+  taken = refl;
+  moments = read_within (record { held = held; wanted = wanted; fault = f; to_come = known; kept = kept; turns = a; moments = ms; taken = u }) ns e wants noted;
 }
 
 -- no byte was given, and this is the fault now
-pub broke_off : (f : Option BodyFault) (known left : Option (List ℕ)) (kept still : Option ReadFault) (a b : Turns) (wanted : ℕ) (held : List ℕ) (fault : BodyFault) → f ≡ None → Consumes known left [] → SpendsTurns a b
-    → 0 < wanted → held ≡ [] → IsCauseOf fault (record { held = held; wanted = wanted; fault = Some fault; to_come = left; kept = still; turns = b })
-    → HasReadBody (record { held = held; wanted = wanted; fault = f; to_come = known; kept = kept; turns = a }) (record { held = held; wanted = wanted; fault = Some fault; to_come = left; kept = still; turns = b })
-broke_off f known left kept still a b wanted held fault none c spent wants none_held cause = record {
+pub broke_off : (f : Option BodyFault) (known left : Option (List ℕ)) (kept still : Option ReadFault) (a b : Turns) (ms ns : Option (List Moment)) (u : Option (List ℕ)) (wanted : ℕ) (held : List ℕ) (fault : BodyFault) → f ≡ None → Consumes known left [] → SpendsTurns a b
+    → 0 < wanted → held ≡ [] → AllSince (IsMoment known u) ms ns → IsCauseOf fault (record { held = held; wanted = wanted; fault = Some fault; to_come = left; kept = still; turns = b; moments = ns; taken = u })
+    → HasReadBody (record { held = held; wanted = wanted; fault = f; to_come = known; kept = kept; turns = a; moments = ms; taken = u }) (record { held = held; wanted = wanted; fault = Some fault; to_come = left; kept = still; turns = b; moments = ns; taken = u })
+broke_off f known left kept still a b ms ns u wanted held fault none c spent wants none_held noted cause = record {
   used = [];
   came = [];
   consumed = c;
@@ -120,4 +136,12 @@ broke_off f known left kept still a b wanted held fault none c spent wants none_
   turns = spent;
   fault = subst (λ (x : Option BodyFault). StaysKept x (Some fault)) (sym none) tt;
   told = λ t. record { wants = wants; none_held = none_held; cause = cause };
+  taken = refl;
+  moments = read_within (record { held = held; wanted = wanted; fault = f; to_come = known; kept = kept; turns = a; moments = ms; taken = u }) ns none_held wants noted;
 }
+
+-- what came is no longer than what was to come
+pub more_than : (known left : Option (List ℕ)) (came : List ℕ) (n : ℕ) → Consumes known left came → n < length came → IfSome known (λ bytes. n < length bytes)
+more_than None left came n c more = tt
+more_than (Some bytes) None came n c more = absurd c
+more_than (Some bytes) (Some rest) came n c more = let lengths : length bytes ≡ length came + length rest = ap length c ∙ length-append came rest in omega (arith, more, lengths)

@@ -7,8 +7,10 @@ use Rattle.std.proofs.KnownBytes.{Consumes-nil, Consumes-trans}
 use Rattle.std.proofs.lemmas.List.{append-nil, take_all, take-append-drop, take-append-le}
 use Rattle.httparse.specs.Grammar.{HasNoRequest as HasNoRequestHead}
 use Rattle.pid_http_stream.specs.Endings.{HasFault, IsNoHead}
-use Rattle.pid_http_stream.specs.Intakes.{ComesIn, HasNoLineEnd, WantsMore}
+use Rattle.pid_http_stream.specs.Intakes.{ComesIn, HasNoLineEnd, IsWaiting, WantsMore}
 use Rattle.pid_http_stream.specs.Leftovers.{AreLineEnds}
+use Rattle.pid_http_stream.specs.MomentLaws.{since_then, since_so}
+use Rattle.pid_http_stream.specs.Moments.{Moment, AllSince, IsMoment}
 use Rattle.pid_http_stream.specs.Requests.{HasNoRequest}
 use Rattle.pid_http_stream.specs.declared.judging.StreamFault.{StreamFault}
 use Rattle.pid_http_stream.specs.declared.judging.StreamFault.TheVariants.{BadHead}
@@ -45,3 +47,15 @@ held_first held after piece n wants e same =
 
 pub not_line_ends : (b : Bool) (held : List ℕ) → IsTrue b ↔ AreLineEnds held → b ≡ false → ¬ (AreLineEnds held)
 not_line_ends b held both no_end x = iff_false both no_end x
+
+-- the reader was read once more, while no whole request stood in what had come
+pub waits_on : (held now : List ℕ) (x y taken : Option (List ℕ)) (a b c : Option (List Moment)) → ComesIn held now x y → HasNoRequest now
+    → AllSince (IsWaiting held x taken) a b → AllSince (IsMoment y taken) b c → AllSince (IsWaiting held x taken) a c
+waits_on held now x y taken a b c came none first next =
+    since_then (IsWaiting held x taken) a b c first
+    (since_so (IsMoment y taken) (IsWaiting held x taken) b c (λ m is. record {
+      rest = now;
+      comes = subst (λ (k : Moment). ComesIn held now x k.to_come) (sym is) came;
+      none = none;
+      writer = ap (λ (k : Moment). k.taken) is;
+    }) next)

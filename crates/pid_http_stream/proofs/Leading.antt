@@ -19,6 +19,10 @@ joined a b c P Q R f p q = record {
   leads = λ h u is. let x = p.leads (q.good h) u is in let y = q.leads h x.0 x.1 in (y.0, y.1, f u x.0 y.0 x.2 y.2);
 }
 
+-- what was known before besides
+pub beside : {H V : Type 0} {is_good : H → Type 0} {stands : H → V → Type 0} (a b : H) (P Q R : V → V → Type 0) → ((u v w : V) → P u v → Q u w → R u v) → Leads is_good stands a b P → Leads is_good stands a b Q → Leads is_good stands a b R
+beside a b P Q R f p q = record { good = p.good; leads = λ h u is. let x = p.leads h u is in let y = q.leads h u is in (x.0, x.1, f u x.0 y.0 x.2 y.2) }
+
 -- the body was read to its end before
 pub asked_left : {H E : Type 0} (conduct : Conduct H) (a b : H) (request : Request) (result : Result Reply E) (left : Option (List ℕ)) → IsAtEnd left → IsAsked conduct a request result (Some []) b → IsAsked conduct a request result left b
 asked_left conduct a b request (Ok reply) left end is = is

@@ -4,10 +4,12 @@ use Rattle.std.specs.Prelude.{IfSome}
 use Rattle.std.specs.Io.KnownBytes.{Consumes, IsAtEnd}
 use Rattle.pid_http_stream.specs.Conducts.{Conduct}
 use Rattle.pid_http_stream.specs.Endings.{HasFault}
-use Rattle.pid_http_stream.specs.Intakes.{ComesIn}
+use Rattle.pid_http_stream.specs.Intakes.{ComesIn, IsWaiting}
 use Rattle.pid_http_stream.specs.Leftovers.{IsLeftover}
+use Rattle.pid_http_stream.specs.MomentLaws.{since_then, since_so}
+use Rattle.pid_http_stream.specs.Moments.{Moment, AllSince}
 use Rattle.pid_http_stream.specs.Requests.{HasNoRequest}
-use Rattle.pid_http_stream.specs.Serving.{counted, IsServed}
+use Rattle.pid_http_stream.specs.Serving.{counted, AnswersFront, IsCaughtUp, IsServed}
 use Rattle.pid_http_stream.specs.Steps.{count_with, IsRefused, Steps, stop_end}
 use Rattle.pid_http_stream.specs.declared.intake.Stop.{Stop}
 use Rattle.pid_http_stream.specs.declared.judging.StreamFault.{StreamFault}
@@ -66,3 +68,39 @@ loop_ended conduct a b c t u v input mid read left held after lent behind count 
     if_some input _ _ (λ s x.
     let y = subst (λ (l : List ℕ). IsServing conduct (record { handler = a; handler_after = b; taken = t; taken_after = u }) s read l count) (sym same) (comes conduct _ s mid read held after count x came) in
     steps_ended conduct a b c t u v s read left lent behind count end y (where_known read _ s y.read y.consumed step)) serving
+
+-- ---- the moments at which more was read
+
+caught_up : {H : Type 0} (conduct : Conduct H) (a b : H) (t u mid : Option (List ℕ)) (s held : List ℕ) (count : ℕ) → IsServing conduct (record { handler = a; handler_after = b; taken = t; taken_after = u }) s mid held count
+    → (m : Moment) → IsWaiting held mid u m → IsCaughtUp conduct a t s m
+caught_up conduct a b t u mid s held count serving m x =
+    let y = comes conduct (record { handler = a; handler_after = b; taken = t; taken_after = u }) s mid m.to_come held x.rest count serving x.comes in
+    record {
+      read = y.read;
+      consumed = y.consumed;
+      rest = x.rest;
+      last = b;
+      count = count;
+      before = subst (λ (k : Option (List ℕ)). AnswersFront conduct (record { handler = a; handler_after = b; taken = t; taken_after = k }) y.read x.rest count) (sym x.writer) y.before;
+      none = x.none;
+    }
+
+-- for a head
+pub loop_waits : {H : Type 0} (conduct : Conduct H) (a b : H) (t u input mid : Option (List ℕ)) (held : List ℕ) (count : ℕ) (xs ys zs : Option (List Moment))
+    → IfSome input (λ s. IsServing conduct (record { handler = a; handler_after = b; taken = t; taken_after = u }) s mid held count)
+    → IfSome input (λ s. AllSince (IsCaughtUp conduct a t s) xs ys) → AllSince (IsWaiting held mid u) ys zs
+    → IfSome input (λ s. AllSince (IsCaughtUp conduct a t s) xs zs)
+loop_waits conduct a b t u None mid held count xs ys zs serving past now = tt
+loop_waits conduct a b t u (Some s) mid held count xs ys zs serving past now =
+    since_then (IsCaughtUp conduct a t s) xs ys zs past (since_so (IsWaiting held mid u) (IsCaughtUp conduct a t s) ys zs (caught_up conduct a b t u mid s held count serving) now)
+
+-- for a head, and then for the body behind it
+pub loop_waits_within : {H : Type 0} (conduct : Conduct H) (a b : H) (t u input mid read : Option (List ℕ)) (held after lent : List ℕ) (count : ℕ) (xs ys zs ws : Option (List Moment))
+    → IfSome input (λ s. IsServing conduct (record { handler = a; handler_after = b; taken = t; taken_after = u }) s mid held count)
+    → IfSome input (λ s. AllSince (IsCaughtUp conduct a t s) xs ys) → AllSince (IsWaiting held mid u) ys zs → ComesIn held after mid read → lent ≡ after → AllSince (IsWaiting lent read u) zs ws
+    → IfSome input (λ s. AllSince (IsCaughtUp conduct a t s) xs ws)
+loop_waits_within conduct a b t u input mid read held after lent count xs ys zs ws serving past now came same then =
+    loop_waits conduct a b t u input read after count xs zs ws
+    (if_some input _ _ (λ s x. comes conduct (record { handler = a; handler_after = b; taken = t; taken_after = u }) s mid read held after count x came) serving)
+    (loop_waits conduct a b t u input mid held count xs ys zs serving past now)
+    (subst (λ (l : List ℕ). AllSince (IsWaiting l read u) zs ws) same then)

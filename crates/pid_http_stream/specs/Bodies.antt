@@ -5,6 +5,7 @@ use Rattle.std.specs.Io.KnownBytes.{Consumes, IsAtEnd}
 use Rattle.pid_ident.specs.declared.io.ReadFault.{ReadFault}
 use Rattle.pid_ident.specs.declared.io.ReadFault.TheVariants.{Device}
 use Rattle.pid_ident.specs.Reading.{StaysKept}
+use Rattle.pid_http_stream.specs.Moments.{Moment, AllSince}
 use Rattle.pid_http_stream.specs.declared.body_input.BodyFault.{BodyFault}
 use Rattle.pid_http_stream.specs.declared.body_input.BodyFault.TheVariants as faults
 
@@ -31,7 +32,8 @@ pub record SpendsTurns (a b : Turns) : Type 0 where
   pub exact : a.reads + a.left ≤ 2 ^ 64 - 1 → b.reads + b.left ≡ a.reads + a.left
   pub fewer : b.left ≤ a.left
 
--- the reader of a body: what came with the head, how many bytes are wanted, its fault, and the reader under it
+-- the reader of a body: what came with the head, how many bytes are wanted, its fault, the reader under it, and what the writer
+-- beside that had taken
 pub record BodyState : Type 0 where
   pub held : List ℕ
   pub wanted : ℕ
@@ -39,6 +41,8 @@ pub record BodyState : Type 0 where
   pub to_come : Option (List ℕ)
   pub kept : Option ReadFault
   pub turns : Turns
+  pub moments : Option (List Moment)
+  pub taken : Option (List ℕ)
 
 -- why there is this fault
 abbrev pub IsCauseOf : BodyFault → BodyState → Type 0
@@ -56,6 +60,13 @@ pub record HasBrokenOff (s : BodyState) (fault : BodyFault) : Type 0 where
 abbrev pub IsTold : BodyState → Type 0
 IsTold s = IfSome s.fault (HasBrokenOff s)
 
+-- when the reader under it was read, bytes were still wanted, and nothing more was written
+pub record IsWithinBody (s : BodyState) (m : Moment) : Type 0 where
+  pub came : List ℕ
+  pub consumed : Consumes s.to_come m.to_come came
+  pub wants : length s.held + length came < s.wanted
+  pub taken : m.taken ≡ s.taken
+
 -- bytes were used from the front: those that were held, and those that came
 pub record HasReadBody (a b : BodyState) : Type 0 where
   pub used : List ℕ
@@ -66,3 +77,5 @@ pub record HasReadBody (a b : BodyState) : Type 0 where
   pub turns : SpendsTurns a.turns b.turns
   pub fault : StaysKept a.fault b.fault
   pub told : IsTold a → IsTold b
+  pub taken : b.taken ≡ a.taken
+  pub moments : AllSince (IsWithinBody a) a.moments b.moments

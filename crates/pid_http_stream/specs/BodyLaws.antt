@@ -1,9 +1,11 @@
 -- Proofs alone, no definitions: the laws that the reader of a body gives for `stays` and `joins` of `Input`.
-use Rattle.std.proofs.Common.{ℕ, List, [], ◌++◌, Option, Some, None, refl, sym, ap, ◌∙◌, append_assoc, length-append, arith}
+use Rattle.std.proofs.Common.{◌≡◌, ℕ, ◌+◌, List, [], ◌++◌, Option, Some, None, refl, sym, ap, ◌∙◌, append_assoc, length, length-append, arith}
 use Rattle.std.proofs.lemmas.List.{append-nil}
 use Rattle.std.proofs.KnownBytes.{Consumes-nil, Consumes-trans}
 use Rattle.pid_ident.specs.Reading.{StaysKept}
-use Rattle.pid_http_stream.specs.Bodies.{Turns, SpendsTurns, BodyState, HasReadBody}
+use Rattle.pid_http_stream.specs.Bodies.{Turns, SpendsTurns, BodyState, IsWithinBody, HasReadBody}
+use Rattle.pid_http_stream.specs.MomentLaws.{since_none, since_then, since_so}
+use Rattle.pid_http_stream.specs.Moments.{Moment}
 use Rattle.pid_http_stream.specs.declared.body_input.BodyFault.{BodyFault}
 
 -- no read costs nothing
@@ -39,6 +41,18 @@ no_body_reads s = record {
   turns = no_turns s.turns;
   fault = stays_kept s.fault;
   told = λ h. h;
+  taken = refl;
+  moments = since_none (IsWithinBody s) s.moments;
+}
+
+within_first : (a b c : BodyState) → HasReadBody a b → (m : Moment) → IsWithinBody b m → IsWithinBody a m
+within_first a b c p m x = record {
+  came = p.came ++ x.came;
+  consumed = Consumes-trans a.to_come b.to_come m.to_come p.came x.came p.consumed x.consumed;
+  wants =
+      let given : length a.held + length p.came ≡ length p.used + length b.held = sym (length-append a.held p.came) ∙ ap length p.given ∙ length-append p.used b.held in
+      omega (arith, given, p.counted, x.wants, length-append p.came x.came);
+  taken = x.taken ∙ p.taken;
 }
 
 -- some reads of a body and then others are reads of it
@@ -52,4 +66,6 @@ more_body_reads a b c p q = record {
   turns = more_turns a.turns b.turns c.turns p.turns q.turns;
   fault = kept_then a.fault b.fault c.fault p.fault q.fault;
   told = λ h. q.told (p.told h);
+  taken = q.taken ∙ p.taken;
+  moments = since_then (IsWithinBody a) a.moments b.moments c.moments p.moments (since_so (IsWithinBody b) (IsWithinBody a) b.moments c.moments (within_first a b c p) q.moments);
 }

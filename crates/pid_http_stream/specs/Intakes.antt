@@ -11,6 +11,7 @@ use Rattle.pid_http_stream.specs.BodyLengths.{body_length, longest_body}
 use Rattle.pid_http_stream.specs.Endings.{HasFault}
 use Rattle.pid_http_stream.specs.Heads.{longest_head, most_fields}
 use Rattle.pid_http_stream.specs.Leftovers.{IsLeftover}
+use Rattle.pid_http_stream.specs.Moments.{Moment}
 use Rattle.pid_http_stream.specs.Requests.{HasNoRequest}
 use Rattle.pid_http_stream.specs.declared.body_length.BodyLength.TheVariants.{Bytes}
 use Rattle.pid_http_stream.specs.declared.judging.Judged.{Judged}
@@ -25,6 +26,13 @@ pub record ComesIn (held held_after : List ℕ) (input input_after : Option (Lis
   pub piece : List ℕ
   pub consumed : Consumes input input_after piece
   pub kept : held_after ≡ held ++ piece
+
+-- when the reader was read, no whole request stood in what had come behind what was held, and the writer had taken this
+pub record IsWaiting (held : List ℕ) (input taken : Option (List ℕ)) (m : Moment) : Type 0 where
+  pub rest : List ℕ
+  pub comes : ComesIn held rest input m.to_come
+  pub none : HasNoRequest rest
+  pub writer : m.taken ≡ taken
 
 -- only a piece changes what is held
 abbrev pub StaysBut : List ℕ → List ℕ → Filled → Type 0

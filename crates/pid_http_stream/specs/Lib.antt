@@ -9,6 +9,8 @@ pub mod Connections
 pub mod Streams
 pub mod Replies
 pub mod Leading
+pub mod Moments
+pub mod MomentLaws
 pub mod Conducts
 pub mod Serving
 pub mod Handling

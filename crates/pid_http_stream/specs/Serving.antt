@@ -3,6 +3,7 @@ use Rattle.std.specs.Prelude.{◌≡◌, ℕ, ◌+◌, ◌-◌, ◌^◌, ◌≤�
 use Rattle.std.specs.Io.KnownBytes.{Appends, Consumes}
 use Rattle.pid_http_stream.specs.Conducts.{Conduct, StandsStill, AreReplies}
 use Rattle.pid_http_stream.specs.Endings.{HasFault}
+use Rattle.pid_http_stream.specs.Moments.{Moment}
 use Rattle.pid_http_stream.specs.Replies.{Answer, answer_behind, reply_head, reply_text, fault_answer}
 use Rattle.pid_http_stream.specs.Requests.{Request, IsRequest, HasNoRequest}
 use Rattle.pid_http_stream.specs.Streams.{closes, Ending, clean, closed, faulty, Fronts, Splits}
@@ -126,6 +127,17 @@ pub record LacksMemory {H : Type 0} (conduct : Conduct H) (o : Outside H) (strea
   pub mid : H
   pub before : AnswersFront conduct (record { handler = o.handler; handler_after = mid; taken = o.taken; taken_after = o.taken_after }) stream rest count
   pub after : StandsStill conduct mid o.handler_after ⊎ ((request : Request) × (behind : List ℕ) × IsRequest rest request behind × conduct.leaves mid request o.handler_after)
+
+-- a reader was read at this moment, as pipelining wants it (RFC 9112, section 9.3.2): the requests at the front of what had come
+-- were answered, the writer had taken the replies, and no whole request stood behind them
+pub record IsCaughtUp {H : Type 0} (conduct : Conduct H) (start : H) (taken : Option (List ℕ)) (stream : List ℕ) (m : Moment) : Type 0 where
+  pub read : List ℕ
+  pub consumed : Consumes (Some stream) m.to_come read
+  pub rest : List ℕ
+  pub last : H
+  pub count : ℕ
+  pub before : AnswersFront conduct (record { handler = start; handler_after = last; taken = taken; taken_after = m.taken }) read rest count
+  pub none : HasNoRequest rest
 
 -- a fault of a head, or of a body
 abbrev pub is_head_fault : StreamFault → Bool

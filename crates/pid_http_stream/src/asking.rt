@@ -6,16 +6,18 @@ ghost use Rattle.httparse.specs.Spans.{IsRequestAt};
 ghost use Rattle.pid_http_stream.specs.Bodies.{SpendsTurns};
 ghost use Rattle.pid_http_stream.specs.BodyLengths.{longest_body};
 ghost use Rattle.pid_http_stream.specs.Handling.{IsAsked};
-ghost use Rattle.pid_http_stream.specs.Intakes.{StandsAt};
+ghost use Rattle.pid_http_stream.specs.Intakes.{IsWaiting, StandsAt};
 ghost use Rattle.pid_http_stream.specs.Leading.{Leads};
+ghost use Rattle.pid_http_stream.specs.Moments.{AllSince};
 ghost use Rattle.pid_http_stream.specs.Requests.{Request};
 ghost use Rattle.pid_http_stream.specs.Steps.{Asks, asked_so};
 
 use crate::body_input::{BodyFault, BodyInput};
 use crate::handler::{Handler, NoReply, Reply, Wanted};
 use crate::head::Head;
+use crate::incoming::Incoming;
 use crate::intake::READ_SIZE;
-use pid_ident::Input;
+use pid_ident::{Input, Output};
 use std::alloc::Global;
 
 /// What came of asking the handler.
@@ -123,19 +125,21 @@ fn asked_of(reply: Result<Reply, NoReply>, wanted: usize, fault: Option<BodyFaul
 
 /// Has a request answered whose head stands at the front of the bytes held, and whose body has so many bytes: those that came
 /// with the head, and then those of the reader.
-pub(crate) fn ask_over<H: Handler, I: Input>(
+pub(crate) fn ask_over<H: Handler, I: Incoming<W>, W: Output>(
     alloc: Global,
     handler: &mut H,
     head: &Head<'_>,
     told: usize,
     input: &mut I,
     left: &mut u64,
+    output: &W,
 ) -> Asked
     requires { StandsAt head.now.bytes.now head.now.fields.now head.now.spans told }
     ensures becomes { H.becomes handler.old handler.new }
     ensures asked { Leads H.is_good H.stands handler.old handler.new (λ v w. IfSome (I.to_come input.old) (λ _. Asks (record { answers = H.answers; leaves = H.leaves; gives_up = H.gives_up; promises = H.promises })
         (record { a = v; b = w; input = I.to_come input.old; input_after = I.to_come input.new }) head.now.bytes.now head.now.fields.now head.now.spans told result)) }
     ensures turns { SpendsTurns (record { reads = I.reads input.old; left = left.old }) (record { reads = I.reads input.new; left = left.new }) }
+    ensures waits { AllSince (IsWaiting head.now.bytes.now (I.to_come input.old) (W.taken output.now)) (I.moments input.old) (I.moments input.new) }
     ensures fault { result ≡ Asked.Broken BodyFault.ReadFault → IsSome (I.read_fault input.new) }
     ensures spent { result ≡ Asked.Broken BodyFault.TurnsSpent → left.new ≡ 0 }
     ensures goes { I.goes input.old input.new }
@@ -144,6 +148,7 @@ pub(crate) fn ask_over<H: Handler, I: Input>(
         held: came_with(head, told),
         wanted: told,
         input,
+        output,
         left: *left,
         reads: 0,
         fault: None,

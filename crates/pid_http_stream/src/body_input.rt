@@ -1,7 +1,8 @@
 //! The body of a request as a reader of its own.
 ghost use Rattle.std.specs.Prelude.{◌≡◌, ◌≤◌, length};
 
-use pid_ident::{Input, ReadFault};
+use crate::incoming::Incoming;
+use pid_ident::{Input, Output, ReadFault};
 
 /// Why a body was not read to its end.
 #[derive(Clone, Copy, Debug, PartialEq, Eq)]
@@ -17,13 +18,15 @@ pub(crate) enum BodyFault {
 /// The body of a request: what came with its head, and then the reader under it, up to the length that the head said. It keeps
 /// its fault.
 #[derive(Drop)]
-pub(crate) struct BodyInput<'h, 'i, I: Input> {
+pub(crate) struct BodyInput<'h, 'i, 'o, I: Incoming<W>, W: Output> {
     /// What came with the head and was not given yet.
     pub(crate) held: &'h [u8],
     /// How many bytes are still to be given.
     pub(crate) wanted: usize,
     /// The reader under it.
     pub(crate) input: &'i mut I,
+    /// The writer that is shown to that.
+    pub(crate) output: &'o W,
     /// How many reads of that may still be made.
     pub(crate) left: u64,
     /// How many reads were made of the body.
@@ -33,7 +36,7 @@ pub(crate) struct BodyInput<'h, 'i, I: Input> {
     ghost fits: { length held.now ≤ wanted },
 }
 
-impl<I: Input> Input for BodyInput<'_, '_, I> {
+impl<I: Incoming<W>, W: Output> Input for BodyInput<'_, '_, '_, I, W> {
     ghost use Rattle.std.specs.Prelude.{◌≡◌, ◌++◌, option_map};
     ghost use Rattle.std.proofs.Common.{refl, ◌∙◌};
     ghost use Rattle.pid_http_stream.specs.Bodies.{padded, fault_told, HasReadBody};
@@ -47,12 +50,12 @@ impl<I: Input> Input for BodyInput<'_, '_, I> {
 
     ghost goes = { λ a b. (b.input.ghost_name ≡ a.input.ghost_name) × I.goes a.input.now b.input.now
         × HasReadBody
-        (record { held = a.held.now; wanted = a.wanted; fault = a.fault; to_come = I.to_come a.input.now; kept = I.read_fault a.input.now; turns = record { reads = I.reads a.input.now; left = a.left } })
-        (record { held = b.held.now; wanted = b.wanted; fault = b.fault; to_come = I.to_come b.input.now; kept = I.read_fault b.input.now; turns = record { reads = I.reads b.input.now; left = b.left } }) };
+        (record { held = a.held.now; wanted = a.wanted; fault = a.fault; to_come = I.to_come a.input.now; kept = I.read_fault a.input.now; turns = record { reads = I.reads a.input.now; left = a.left }; moments = I.moments a.input.now; taken = W.taken a.output.now })
+        (record { held = b.held.now; wanted = b.wanted; fault = b.fault; to_come = I.to_come b.input.now; kept = I.read_fault b.input.now; turns = record { reads = I.reads b.input.now; left = b.left }; moments = I.moments b.input.now; taken = W.taken b.output.now }) };
 
-    ghost stays = { λ a. (refl, I.stays a.input.now, no_body_reads (record { held = a.held.now; wanted = a.wanted; fault = a.fault; to_come = I.to_come a.input.now; kept = I.read_fault a.input.now; turns = record { reads = I.reads a.input.now; left = a.left } })) };
+    ghost stays = { λ a. (refl, I.stays a.input.now, no_body_reads (record { held = a.held.now; wanted = a.wanted; fault = a.fault; to_come = I.to_come a.input.now; kept = I.read_fault a.input.now; turns = record { reads = I.reads a.input.now; left = a.left }; moments = I.moments a.input.now; taken = W.taken a.output.now })) };
 
-    ghost joins = { λ a b c p q. (q.0 ∙ p.0, I.joins a.input.now b.input.now c.input.now p.1 q.1, more_body_reads _ (record { held = b.held.now; wanted = b.wanted; fault = b.fault; to_come = I.to_come b.input.now; kept = I.read_fault b.input.now; turns = record { reads = I.reads b.input.now; left = b.left } }) _ p.2 q.2) };
+    ghost joins = { λ a b c p q. (q.0 ∙ p.0, I.joins a.input.now b.input.now c.input.now p.1 q.1, more_body_reads _ (record { held = b.held.now; wanted = b.wanted; fault = b.fault; to_come = I.to_come b.input.now; kept = I.read_fault b.input.now; turns = record { reads = I.reads b.input.now; left = b.left }; moments = I.moments b.input.now; taken = W.taken b.output.now }) _ p.2 q.2) };
 
     fn read(&mut self, buffer: &mut [u8]) -> Result<usize, ReadFault> {
         self.reads = self.reads.saturating_add(1);
@@ -76,7 +79,7 @@ impl<I: Input> Input for BodyInput<'_, '_, I> {
         }
         self.left -= 1;
         let room = buffer.len().min(self.wanted);
-        match self.input.read(&mut buffer[..room]) {
+        match self.input.read_behind(self.output, &mut buffer[..room]) {
             Err(_) => {
                 self.fault = Some(BodyFault::ReadFault);
                 Err(ReadFault::Device)

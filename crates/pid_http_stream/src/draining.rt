@@ -1,5 +1,5 @@
 //! A body that nobody wants.
-ghost use Rattle.std.specs.Prelude.{◌≡◌, IfOk};
+ghost use Rattle.std.specs.Prelude.{◌≡◌, ◌⊎◌, ◌<◌, IfOk, IfErr, IfSome, IsSome, length};
 ghost use Rattle.std.specs.Io.KnownBytes.{IsAtEnd};
 
 use crate::body_length::LONGEST_BODY;
@@ -11,6 +11,7 @@ use pid_ident::Input;
 /// has more bytes than a body may.
 pub fn discard<B: Input>(body: &mut B) -> Result<(), NoReply>
     ensures whole { IfOk result (λ _. IsAtEnd (B.to_come body.new)) }
+    ensures fails { IfErr result (λ _. IsSome (B.read_fault body.new) ⊎ IfSome (B.to_come body.old) (λ text. LONGEST_BODY < length text)) }
     ensures goes { B.goes body.old body.new }
 {
     let mut buffer = [0u8; READ_SIZE];

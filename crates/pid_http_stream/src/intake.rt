@@ -4,14 +4,16 @@ ghost use Rattle.std.specs.Io.KnownBytes.{IsAtEnd};
 ghost use Rattle.httparse.specs.Grammar.{HasNoRequest as HasNoHeadYet};
 ghost use Rattle.httparse.specs.declared.spans.HeaderSpan.{HeaderSpan as FieldSpan};
 ghost use Rattle.pid_http_stream.specs.Bodies.{SpendsTurns};
-ghost use Rattle.pid_http_stream.specs.Intakes.{ComesIn, HasNoLineEnd, IsHeadRead, IsJudged, StaysBut, WantsMore};
+ghost use Rattle.pid_http_stream.specs.Intakes.{ComesIn, HasNoLineEnd, IsHeadRead, IsJudged, IsWaiting, StaysBut, WantsMore};
+ghost use Rattle.pid_http_stream.specs.Moments.{AllSince, IsMoment};
 ghost use Rattle.pid_http_stream.specs.Requests.{HasNoRequest};
 
+use crate::incoming::Incoming;
 use crate::judging::{
     Judged, LONGEST_HEAD, MOST_FIELDS, StreamFault, are_line_ends, judge, judge_unended,
 };
 use httparse::spans::{HeaderSpan, RequestSpans};
-use pid_ident::Input;
+use pid_ident::Output;
 
 /// The most that one read asks for, in bytes.
 pub(crate) const READ_SIZE: usize = 4096;
@@ -57,7 +59,12 @@ fn keep(held: &mut Vec<u8>, piece: &[u8]) -> Filled
 
 // Reads once, and keeps what came. Room is made first, so that nothing is read that can't be kept; and nothing is read while a
 // whole request is held.
-fn fill<I: Input>(held: &mut Vec<u8>, left: &mut u64, input: &mut I) -> Filled
+fn fill<I: Incoming<W>, W: Output>(
+    held: &mut Vec<u8>,
+    left: &mut u64,
+    input: &mut I,
+    output: &W,
+) -> Filled
     requires waits { HasNoRequest held.old.items }
     ensures comes { ComesIn held.old.items held.new.items (I.to_come input.old) (I.to_come input.new) }
     ensures stays { StaysBut held.old.items held.new.items result }
@@ -65,6 +72,7 @@ fn fill<I: Input>(held: &mut Vec<u8>, left: &mut u64, input: &mut I) -> Filled
     ensures turns { SpendsTurns (record { reads = I.reads input.old; left = left.old }) (record { reads = I.reads input.new; left = left.new }) }
     ensures pace { result ≡ Filled.Piece → left.new * READ_SIZE + length held.new.items ≤ left.old * READ_SIZE + length held.old.items }
     ensures goes_on { result ≡ Filled.Piece → left.new < left.old }
+    ensures noted { AllSince (IsMoment (I.to_come input.old) (W.taken output.now)) (I.moments input.old) (I.moments input.new) }
     ensures fault { result ≡ Filled.Stopped Stop.ReadFault → IsSome (I.read_fault input.new) }
     ensures spent { result ≡ Filled.Stopped Stop.TurnsSpent → left.new ≡ 0 }
     ensures goes { I.goes input.old input.new }
@@ -77,7 +85,7 @@ fn fill<I: Input>(held: &mut Vec<u8>, left: &mut u64, input: &mut I) -> Filled
     }
     *left -= 1;
     let mut buffer = [0u8; READ_SIZE];
-    match input.read(&mut buffer) {
+    match input.read_behind(output, &mut buffer) {
         Err(_) => Filled::Stopped(Stop::ReadFault),
         Ok(0) => Filled::End,
         Ok(count) => keep(held, &buffer[..count]),
@@ -128,10 +136,11 @@ fn judge_more(held: &[u8], before: usize, fields: &mut [HeaderSpan]) -> Judged
 }
 
 /// Reads until a head has come, or none can come.
-pub(crate) fn read_head<I: Input>(
+pub(crate) fn read_head<I: Incoming<W>, W: Output>(
     held: &mut Vec<u8>,
     left: &mut u64,
     input: &mut I,
+    output: &W,
     fields: &mut [HeaderSpan],
 ) -> HeadRead
     requires { length fields.old ≡ MOST_FIELDS }
@@ -139,6 +148,7 @@ pub(crate) fn read_head<I: Input>(
     ensures head { IsHeadRead held.new.items fields.new (I.to_come input.new) result }
     ensures turns { SpendsTurns (record { reads = I.reads input.old; left = left.old }) (record { reads = I.reads input.new; left = left.new }) }
     ensures pace { left.new * READ_SIZE + length held.new.items ≤ left.old * READ_SIZE + length held.old.items }
+    ensures waits { AllSince (IsWaiting held.old.items (I.to_come input.old) (W.taken output.now)) (I.moments input.old) (I.moments input.new) }
     ensures fault { result ≡ HeadRead.Stopped Stop.ReadFault → IsSome (I.read_fault input.new) }
     ensures spent { result ≡ HeadRead.Stopped Stop.TurnsSpent → left.new ≡ 0 }
     ensures goes { I.goes input.old input.new }
@@ -151,7 +161,7 @@ pub(crate) fn read_head<I: Input>(
             Judged::More => {}
         }
         let before = held.len();
-        match fill(held, left, input) {
+        match fill(held, left, input, output) {
             Filled::Stopped(stop) => return HeadRead::Stopped(stop),
             Filled::End => return judge_end(held),
             Filled::Piece => {

@@ -1,21 +1,23 @@
 //! A stream of requests, answered one after another.
 ghost use Rattle.std.specs.Prelude.{◌≡◌, None, ℕ, ◌+◌, ◌-◌, ◌*◌, ◌^◌, ◌<◌, ◌≤◌, List, length, drop, IsSome, IfSome};
 ghost use Rattle.pid_http_stream.specs.Bodies.{SpendsTurns};
-ghost use Rattle.pid_http_stream.specs.Intakes.{StandsAt};
+ghost use Rattle.pid_http_stream.specs.Intakes.{IsWaiting, StandsAt};
 ghost use Rattle.pid_http_stream.specs.Leading.{Leads};
-ghost use Rattle.pid_http_stream.specs.Serving.{IsServed};
+ghost use Rattle.pid_http_stream.specs.Moments.{AllSince};
+ghost use Rattle.pid_http_stream.specs.Serving.{IsCaughtUp, IsServed};
 ghost use Rattle.pid_http_stream.specs.Steps.{EndsBroken, IsRefused, Steps, answered_so, count_with, stop_end};
 
 use crate::asking::{Asked, ask_over};
 use crate::body_input::BodyFault;
 use crate::handler::Handler;
 use crate::head::Head;
+use crate::incoming::Incoming;
 use crate::intake::{HeadRead, Stop, read_head};
 use crate::judging::{MOST_FIELDS, StreamFault};
 use crate::reply::write_fault;
 use crate::sending::{Sent, send};
 use httparse::spans::EMPTY_HEADER_SPAN;
-use pid_ident::{Input, Output};
+use pid_ident::Output;
 use std::alloc::Global;
 
 /// How the serving of a stream ended.
@@ -113,7 +115,7 @@ fn answered_by(sent: Sent, closes: bool) -> Answered
 }
 
 // Serves the request whose head stands at the front of the bytes held, and whose body has so many bytes.
-fn serve_request<H: Handler, I: Input, W: Output>(
+fn serve_request<H: Handler, I: Incoming<W>, W: Output>(
     alloc: Global,
     handler: &mut H,
     head: &Head<'_>,
@@ -128,13 +130,14 @@ fn serve_request<H: Handler, I: Input, W: Output>(
         (record { a = v; b = w; input = I.to_come input.old; input_after = I.to_come input.new }) head.now.bytes.now (drop (head.now.spans.len + told) head.now.bytes.now)
         (W.taken out.old) (W.taken out.new) result)) }
     ensures turns { SpendsTurns (record { reads = I.reads input.old; left = left.old }) (record { reads = I.reads input.new; left = left.new }) }
+    ensures waits { AllSince (IsWaiting head.now.bytes.now (I.to_come input.old) (W.taken out.old)) (I.moments input.old) (I.moments input.new) }
     ensures read_fault { result ≡ Answered.Ended StreamEnd.ReadFault → IsSome (I.read_fault input.new) }
     ensures write_fault { result ≡ Answered.Ended StreamEnd.WriteFault → IsSome (W.write_fault out.new) }
     ensures store_fault { result ≡ Answered.Ended StreamEnd.StoreFault → W.write_fault out.new ≡ None }
     ensures spent { result ≡ Answered.Ended StreamEnd.TurnsSpent → left.new ≡ 0 }
     ensures goes { I.goes input.old input.new }
 {
-    match ask_over(alloc, handler, head, told, input, left) {
+    match ask_over(alloc, handler, head, told, input, left, out) {
         Asked::Reply(reply) => {
             let closes = head.closes();
             answered_by(send(handler, reply, closes, out), closes)
@@ -172,10 +175,10 @@ fn with_refusal(answered: u64, end: StreamEnd) -> u64
 
 /// Answers the requests of a stream, one after another, in at most so many reads.
 ///
-/// The reply to each is written before another read (as tests show). Where the writer takes all and neither memory, turns nor the
-/// store fail, the bytes written are the replies to the requests of the whole stream, in their order, however the bytes come
-/// cut; then the one refusal where the stream ends with a fault.
-pub fn serve_stream<H: Handler, I: Input, W: Output>(
+/// Whenever it reads, the requests that came whole are answered, and the writer has taken their replies. Where the writer takes
+/// all and neither memory, turns nor the store fail, the bytes written are the replies to the requests of the whole stream, in
+/// their order, however the bytes come cut; then the one refusal where the stream ends with a fault.
+pub fn serve_stream<H: Handler, I: Incoming<W>, W: Output>(
     alloc: Global,
     handler: &mut H,
     input: &mut I,
@@ -185,6 +188,8 @@ pub fn serve_stream<H: Handler, I: Input, W: Output>(
     ensures becomes { H.becomes handler.old handler.new }
     ensures served { Leads H.is_good H.stands handler.old handler.new (λ v w. IfSome (I.to_come input.old) (λ stream. IsServed (record { answers = H.answers; leaves = H.leaves; gives_up = H.gives_up; promises = H.promises })
         (record { handler = v; handler_after = w; taken = W.taken output.old; taken_after = W.taken output.new }) stream (I.to_come input.new) result.end result.answered)) }
+    ensures caught_up { Leads H.is_good H.stands handler.old handler.new (λ v _. IfSome (I.to_come input.old) (λ stream.
+        AllSince (IsCaughtUp (record { answers = H.answers; leaves = H.leaves; gives_up = H.gives_up; promises = H.promises }) v (W.taken output.old) stream) (I.moments input.old) (I.moments input.new))) }
     ensures reads { I.reads input.new ≤ I.reads input.old + turns }
     ensures turns { result.end ≡ StreamEnd.TurnsSpent → I.reads input.old + turns ≤ 2 ^ 64 - 1 → I.reads input.new ≡ I.reads input.old + turns }
     ensures read_fault { result.end ≡ StreamEnd.ReadFault → IsSome (I.read_fault input.new) }
@@ -197,7 +202,7 @@ pub fn serve_stream<H: Handler, I: Input, W: Output>(
     let mut left = turns;
     let mut answered: u64 = 0;
     'serving: loop {
-        match read_head(&mut held, &mut left, input, &mut fields) {
+        match read_head(&mut held, &mut left, input, output, &mut fields) {
             HeadRead::Nothing => return Served {
                 answered,
                 end: StreamEnd::Clean,

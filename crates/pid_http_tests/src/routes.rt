@@ -60,6 +60,8 @@ GET /pending | 200 OK json []
 GET /pending?after=0&format=text | 200 OK text 
 GET /pending?after=00&format=text | 400 Bad Request json {"ok":false,"refused":3,"word":"BadText"}
 GET /pending?after=1&after=2 | 400 Bad Request json {"ok":false,"refused":3,"word":"BadText"}
+GET /changes | 200 OK json {"items":[{"name":"Intel Corporation","path":"PC/8086","since":3}],"revision":3}
+GET /changes?since=3&format=text | 200 OK text revision 3;
 GET /nope | 404 Not Found json {"ok":false,"refused":24,"word":"NoRoute"}
 GET nope | 400 Bad Request json {"ok":false,"refused":28,"word":"BadTarget"}
 GET http://a/pending | 400 Bad Request json {"ok":false,"refused":28,"word":"BadTarget"}
@@ -127,6 +129,34 @@ POST /submit alice path=PC/8086&remove=yes | 200 OK json {\"num\":5,\"ok\":true}
 POST /approve root num=5 | 409 Conflict json {\"ok\":false,\"refused\":12,\"word\":\"HasChildren\"}
 ";
 
+// Three commands name the first item, and a fourth the second.
+const CHANGES: &str = r#"GET /changes | 200 OK json {"items":[],"revision":0}
+POST /account root who=alice&rank=0 | 200 OK json {"ok":true}
+POST /submit alice path=PC/8086&name=Intel+Corporation | 200 OK json {"num":1,"ok":true}
+POST /approve root num=1 | 200 OK json {"ok":true}
+POST /import?format=text i1/root 8086  Intel Corporation;10ec  Realtek; | 200 OK text ok added=1 renamed=0 same=1;
+POST /import?format=text i1/root 10ec  J; | 200 OK text ok added=1 renamed=0 same=1;
+GET /changes?since=3 | 200 OK json {"items":[{"name":"Realtek","path":"PC/10ec","since":4}],"revision":4}
+GET /changes?format=text | 200 OK text revision 4;4 PC/10ec Realtek;3 PC/8086 Intel Corporation;
+GET /changes?format=text&after=PC/10ec&since=0 | 200 OK text revision 4;3 PC/8086 Intel Corporation;
+GET /changes?after=PC/8086 | 200 OK json {"items":[],"revision":4}
+GET /changes?after=PC/4321&format=text | 200 OK text revision 4;3 PC/8086 Intel Corporation;
+GET /changes?after=&format=text&since=4 | 200 OK text revision 4;
+GET /changes?since=9000000000000000000 | 200 OK json {"items":[],"revision":4}
+GET /changes?since=9000000000000000001 | 400 Bad Request json {"ok":false,"refused":3,"word":"BadText"}
+GET /changes?since=03 | 400 Bad Request json {"ok":false,"refused":3,"word":"BadText"}
+GET /changes?since=&format=text | 400 Bad Request json {"ok":false,"refused":3,"word":"BadText"}
+GET /changes?since=1&since=1 | 400 Bad Request json {"ok":false,"refused":3,"word":"BadText"}
+GET /changes?of=PC/8086 | 400 Bad Request json {"ok":false,"refused":3,"word":"BadText"}
+GET /changes?after=PC | 400 Bad Request json {"ok":false,"refused":1,"word":"BadPath"}
+GET /changes?after=PC&format=text | 400 Bad Request text refused 1 BadPath;
+GET /changes?after=PC&since=x | 400 Bad Request json {"ok":false,"refused":3,"word":"BadText"}
+POST /changes root since=0 | 405 Method Not Allowed allow GET
+POST /submit alice path=PC/10ec&remove=yes | 200 OK json {"num":2,"ok":true}
+POST /approve root num=2 | 200 OK json {"ok":true}
+GET /changes?format=text | 200 OK text revision 6;3 PC/8086 Intel Corporation;
+"#;
+
 const ALL: [&str; 5] = [FIRST_NAME, READS, COMMANDS, DISCUSSION, IMPORTS];
 
 #[test]
@@ -137,6 +167,13 @@ fn each_route_answers(rt: HostRuntime) -> Result<(), Fail> {
         expect_rows(&rt, alloc, &mut registry, rows, StreamEnd::Clean)?;
     }
     Ok(())
+}
+
+#[test]
+fn changes_are_told(rt: HostRuntime) -> Result<(), Fail> {
+    let alloc = rt.alloc();
+    let mut registry = new_in_memory(alloc)?;
+    expect_rows(&rt, alloc, &mut registry, CHANGES, StreamEnd::Clean)
 }
 
 // All requests in one stream, in one piece and in pieces.

@@ -22,7 +22,7 @@ equal_order Equal h = refl
 equal_order Greater h = absurd cc
 
 -- texts that tie are one
-tied : (q k : List ℕ) → eq_by_cmp text_cmp q k ≡ true → q ≡ k
+pub tied : (q k : List ℕ) → eq_by_cmp text_cmp q k ≡ true → q ≡ k
 tied q k h = slice_cmp-IsAntisymmetric nat_cmp-IsAntisymmetric q k (equal_order (text_cmp q k) h)
 
 all_items : (es : Items) → AreEntries es → AllItems es

@@ -43,34 +43,39 @@ left takes faults limit (Err (Cut (Fault f))) rest text old new cut = went_fault
 left takes faults limit (Err TooLong) rest text old new cut = went_either takes faults old (lines_of text) new cut.1
 left takes faults limit (Err ReadFault) rest text old new cut = went_either takes faults old (lines_of text) new cut.1
 
-took_same : {K : Type 0} (puts : K → Item → Put → K → Type 0) (old new : PutSink K Global) (entries : List Numbered) → Took (TakesEntry puts) old entries new → new.batch.ghost_name ≡ old.batch.ghost_name
+took_same : {K : Type 0} (puts : ℕ → K → Item → Put → K → Type 0) (old new : PutSink K Global) (entries : List Numbered) → Took (TakesEntry puts) old entries new → new.batch.ghost_name ≡ old.batch.ghost_name
 took_same puts old new [] took = ap (λ (s : PutSink _ Global). s.batch.ghost_name) took
 took_same puts old new (entry ∷ entries) took = took.2.0 ∙ took_same puts old took.0 entries took.1
 
-pub left_same : {K : Type 0} (puts : K → Item → Put → K → Type 0) (gives_up : K → K → Type 0) (old new : PutSink K Global) → Went (TakesEntry puts) (LeavesEntry puts gives_up) old new → new.batch.ghost_name ≡ old.batch.ghost_name
+took_number : {K : Type 0} (puts : ℕ → K → Item → Put → K → Type 0) (old new : PutSink K Global) (entries : List Numbered) → Took (TakesEntry puts) old entries new → new.revision ≡ old.revision
+took_number puts old new [] took = ap (λ (s : PutSink _ Global). s.revision) took
+took_number puts old new (entry ∷ entries) took = took.2.1 ∙ took_number puts old took.0 entries took.1
+
+pub left_same : {K : Type 0} (puts : ℕ → K → Item → Put → K → Type 0) (gives_up : K → K → Type 0) (old new : PutSink K Global) → Went (TakesEntry puts) (LeavesEntry puts gives_up) old new → new.batch.ghost_name ≡ old.batch.ghost_name
 left_same puts gives_up old new (entries, inl took) = took_same puts old new entries took
 left_same puts gives_up old new (entries, inr (entry, f, between, took, fault)) = fault.0 ∙ took_same puts old between entries took
 
-took_all : {K : Type 0} (puts : K → Item → Put → K → Type 0) (old new : PutSink K Global) (entries : List Numbered) → old.tally ≡ no_tally → Took (TakesEntry puts) old entries new
-    → PutAll puts old.batch.now (map item_in entries) new.tally new.batch.now
+took_all : {K : Type 0} (puts : ℕ → K → Item → Put → K → Type 0) (old new : PutSink K Global) (entries : List Numbered) → old.tally ≡ no_tally → Took (TakesEntry puts) old entries new
+    → PutAll (puts old.revision) old.batch.now (map item_in entries) new.tally new.batch.now
 took_all puts old new [] none took = (ap (λ (s : PutSink _ Global). s.batch.now) took, ap (λ (s : PutSink _ Global). s.tally) took ∙ none)
-took_all puts old new (entry ∷ entries) none (between, took, (same, (put, puts_it, counted))) = (between.batch.now, between.tally, put, took_all puts old between entries none took, puts_it, counted)
+took_all puts old new (entry ∷ entries) none (between, took, (same, number, (put, puts_it, counted))) =
+    (between.batch.now, between.tally, put, took_all puts old between entries none took, subst (λ (n : ℕ). puts n between.batch.now (item_in entry) put new.batch.now) (took_number puts old between entries took) puts_it, counted)
 
-pub left_some : {K : Type 0} (puts : K → Item → Put → K → Type 0) (gives_up : K → K → Type 0) (old new : PutSink K Global) → old.tally ≡ no_tally → Went (TakesEntry puts) (LeavesEntry puts gives_up) old new
-    → PutSome puts gives_up old.batch.now new.batch.now
+pub left_some : {K : Type 0} (puts : ℕ → K → Item → Put → K → Type 0) (gives_up : K → K → Type 0) (old new : PutSink K Global) → old.tally ≡ no_tally → Went (TakesEntry puts) (LeavesEntry puts gives_up) old new
+    → PutSome (puts old.revision) gives_up old.batch.now new.batch.now
 left_some puts gives_up old new none (entries, inl took) = (map item_in entries, new.tally, inl (took_all puts old new entries none took))
 left_some puts gives_up old new none (entries, inr (entry, f, between, took, (same, inl gave))) = (map item_in entries, between.tally, inr (between.batch.now, took_all puts old between entries none took, gave))
 left_some puts gives_up old new none (entries, inr (entry, f, between, took, (same, inr (put, puts_it)))) =
-    (item_in entry ∷ map item_in entries, tallied put between.tally, inl (between.batch.now, between.tally, put, took_all puts old between entries none took, puts_it, refl))
+    (item_in entry ∷ map item_in entries, tallied put between.tally, inl (between.batch.now, between.tally, put, took_all puts old between entries none took, subst (λ (n : ℕ). puts n between.batch.now (item_in entry) put new.batch.now) (took_number puts old between entries took) puts_it, refl))
 
-pub put_ok : {K : Type 0} (puts : K → Item → Put → K → Type 0) (gives_up : K → K → Type 0) (rest : Option (List ℕ)) (text : List ℕ) (old new : PutSink K Global)
+pub put_ok : {K : Type 0} (puts : ℕ → K → Item → Put → K → Type 0) (gives_up : K → K → Type 0) (rest : Option (List ℕ)) (text : List ℕ) (old new : PutSink K Global)
     → ((lines : List (List ℕ)) → map item_in (numbered_of lines) ≡ entries_of lines) → old.tally ≡ no_tally
-    → CutsInput {X = Unit {0}} (TakesEntry puts) (LeavesEntry puts gives_up) most_file_bytes (Ok tt) rest text old new → PutsFile puts gives_up (Ok new.tally) rest text old.batch.now new.batch.now
+    → CutsInput {X = Unit {0}} (TakesEntry puts) (LeavesEntry puts gives_up) most_file_bytes (Ok tt) rest text old new → PutsFile (puts old.revision) gives_up (Ok new.tally) rest text old.batch.now new.batch.now
 put_ok puts gives_up rest text old new law none (whole, (good, took)) =
-    (whole, good, subst (λ (items : List Item). PutAll puts old.batch.now items new.tally new.batch.now) (law (lines_of text)) (took_all puts old new (numbered_of (lines_of text)) none took))
+    (whole, good, subst (λ (items : List Item). PutAll (puts old.revision) old.batch.now items new.tally new.batch.now) (law (lines_of text)) (took_all puts old new (numbered_of (lines_of text)) none took))
 
-pub put_err : {K : Type 0} (puts : K → Item → Put → K → Type 0) (gives_up : K → K → Type 0) (e : InputEnd TableFault) (rest : Option (List ℕ)) (text : List ℕ) (old new : PutSink K Global) → PutSome puts gives_up old.batch.now new.batch.now
-    → CutsInput {X = Unit {0}} (TakesEntry puts) (LeavesEntry puts gives_up) most_file_bytes (Err e) rest text old new → PutsFile puts gives_up (Err e) rest text old.batch.now new.batch.now
+pub put_err : {K : Type 0} (puts : ℕ → K → Item → Put → K → Type 0) (gives_up : K → K → Type 0) (e : InputEnd TableFault) (rest : Option (List ℕ)) (text : List ℕ) (old new : PutSink K Global) → PutSome (puts old.revision) gives_up old.batch.now new.batch.now
+    → CutsInput {X = Unit {0}} (TakesEntry puts) (LeavesEntry puts gives_up) most_file_bytes (Err e) rest text old new → PutsFile (puts old.revision) gives_up (Err e) rest text old.batch.now new.batch.now
 put_err puts gives_up (Cut (Refused r)) rest text old new some (whole, inl told) = (whole, inl told.0, some)
 put_err puts gives_up (Cut (Refused r)) rest text old new some (whole, inr told) = (whole, inr told.0, some)
 put_err puts gives_up (Cut (Fault f)) rest text old new some cut = (cut.0, some)

@@ -1,6 +1,9 @@
 -- The judgement of an import, by what its file reads to.
-use Rattle.std.proofs.Common.{◌≡◌, ◌≢◌, inl, ℕ, ◌+◌, ◌<◌, Bool, true, false, List, [], ◌∷◌, length, Option, Some, None, Result, Ok, Err, IfOk, IfErr, is_none, not, refl, sym, ap, subst, ◌∙◌, arith, T}
+use Rattle.std.proofs.Common.{◌≡◌, ◌≢◌, inl, ℕ, ◌+◌, ◌<◌, Bool, true, false, cond, List, [], ◌∷◌, ◌++◌, length, Option, Some, None, Result, Ok, Err, IfOk, IfErr, is_none, not, refl, sym, ap, subst, ◌∙◌, arith, T}
 use Rattle.std.specs.FinMap.Entries.{is_sorted}
+use Rattle.std.specs.Option.{option_map}
+use Rattle.std.specs.Prelude.{find, nat_le}
+use Rattle.std.proofs.lemmas.Bool.Decides.{nat_tests}
 use Rattle.pid_ident.specs.Trees.{text_cmp}
 use Rattle.pid_reader.specs.Lines.{lines_of}
 use Rattle.pid_reader.specs.Reading.{entries_of}
@@ -17,7 +20,7 @@ use Rattle.pid_moderation.specs.declared.refusal.Refusal.{Refusal}
 use Rattle.pid_moderation.specs.declared.refusal.Refusal.TheVariants as refusals
 use Rattle.pid_moderation.specs.BeforeFile.{import_of}
 use Rattle.pid_moderation.specs.Changes.{changed, with_pairs, Fits}
-use Rattle.pid_moderation.specs.CheckTables.{checks, first_failing, reply_to, most_file_bytes}
+use Rattle.pid_moderation.specs.CheckTables.{Checks, checks, command_checks, revision_checks, first_failing, reply_to, most_file_bytes, most_revision}
 use Rattle.pid_moderation.specs.Effects.{Decides, LeadsOn, FitsHistory, new_pairs, change_by}
 use Rattle.pid_moderation.specs.FactsOfViews.{NoRows, facts_at, facts_of, kept_in}
 use Rattle.pid_moderation.specs.History.{Reading, TooLong, Faulty, Good, Imports, Asked, History, asked, Deed, deed_of, is_import}
@@ -30,7 +33,7 @@ use Rattle.pid_rows.specs.Shows.{counts_of}
 use Rattle.pid_tables.specs.Applies.{IsCounted}
 use Rattle.pid_import.specs.declared.tally.Tally.{Tally}
 use Rattle.pid_import.specs.Files.{file_reading}
-use Rattle.pid_import.specs.Importing.{IsPut, JudgesFile, Refuses}
+use Rattle.pid_import.specs.Importing.{IsNext, IsPut, JudgesFile, Refuses}
 use Rattle.pid_import.specs.Judging.{IsOpen}
 use Rattle.pid_import.specs.Tallies.{tally_of}
 use Rattle.pid_import.proofs.Counting.{counted_apart, items_then}
@@ -69,12 +72,12 @@ allowed : (h : History) (command : Command) (f : Facts) → IsOpen h command f
     → first_failing ((is_none ((views_of h).rank command.account), refusals.NoAccount) ∷ (not (has_rank Senior ((views_of h).rank command.account)), refusals.RankTooLow) ∷ []) ≡ None
 allowed h command f open_ = subst (λ (x : Facts). first_failing ((is_none x.rank, refusals.NoAccount) ∷ (not (has_rank Senior x.rank), refusals.RankTooLow) ∷ []) ≡ None) open_.facts open_.waits.allowed
 
-faulty_by : (kept : Option Reply) (unknown low : Bool) (reply : Reply) (f : FileFault) → kept ≡ None → first_failing ((unknown, refusals.NoAccount) ∷ (low, refusals.RankTooLow) ∷ []) ≡ None
-    → answer (unless_kept kept (unless (first_failing ((unknown, refusals.NoAccount) ∷ (low, refusals.RankTooLow) ∷ (true, refusals.FileFault f) ∷ [])) reply)) ≡ Err (refusals.FileFault f)
-faulty_by (Some r) unknown low reply f none passes = absurd (let no : ⊥ = cc in no)
-faulty_by None true low reply f none passes = absurd (let no : ⊥ = cc in no)
-faulty_by None false true reply f none passes = absurd (let no : ⊥ = cc in no)
-faulty_by None false false reply f none passes = refl
+faulty_by : (kept : Option Reply) (unknown low last : Bool) (reply : Reply) (f : FileFault) → kept ≡ None → first_failing ((unknown, refusals.NoAccount) ∷ (low, refusals.RankTooLow) ∷ []) ≡ None
+    → answer (unless_kept kept (unless (first_failing ((unknown, refusals.NoAccount) ∷ (low, refusals.RankTooLow) ∷ (true, refusals.FileFault f) ∷ (last, refusals.Full) ∷ [])) reply)) ≡ Err (refusals.FileFault f)
+faulty_by (Some r) unknown low last reply f none passes = absurd (let no : ⊥ = cc in no)
+faulty_by None true low last reply f none passes = absurd (let no : ⊥ = cc in no)
+faulty_by None false true last reply f none passes = absurd (let no : ⊥ = cc in no)
+faulty_by None false false last reply f none passes = refl
 
 pub faulty : (h : History) (command : Command) (g : Facts) (reading : Reading) (f : FileFault) → is_import command.act ≡ true → IsOpen h command g → reading ≡ Faulty f → Refuses h (asked command reading) (refusals.FileFault f)
 faulty h command g reading f is open_ faulty_is =
@@ -82,7 +85,7 @@ faulty h command g reading f is open_ faulty_is =
     let a = command.account in
     let k = command.key in
     let told : answer (judge v (import_of a k (Faulty f))) ≡ Err (refusals.FileFault f) =
-    faulty_by (kept_in v a k) (is_none (v.rank a)) (not (has_rank Senior (v.rank a))) _ f (none_kept h command g open_) (allowed h command g open_) in
+    faulty_by (kept_in v a k) (is_none (v.rank a)) (not (has_rank Senior (v.rank a))) (nat_le most_revision v.revision) _ f (none_kept h command g open_) (allowed h command g open_) in
     let here = subst (λ (c : Asked). answer (judge v c) ≡ Err (refusals.FileFault f)) (sym (asks_import command reading is ∙ ap (import_of a k) faulty_is)) told in
     inl (here, refused_stays h (asked command reading) (refusals.FileFault f) here)
 
@@ -111,10 +114,29 @@ facts_put h command f items sum text t apart sorted is open_ many added was =
 -- THE JUDGEMENT OF A GOOD FILE
 
 accepted_parts : (kept : Option Reply) (failing : Option Refusal) (to d : Reply) (pairs : Items) → kept ≡ None → answer (unless_kept kept (unless failing to)) ≡ Ok d
-    → (new_pairs (unless_kept kept (unless failing to)) (Imports (Good pairs)) ≡ pairs) × (unless_kept kept (unless failing to) ≡ Accepts to)
-accepted_parts None None to d pairs none told = (refl, refl)
+    → (new_pairs (unless_kept kept (unless failing to)) (Imports (Good pairs)) ≡ pairs) × (unless_kept kept (unless failing to) ≡ Accepts to) × (failing ≡ None)
+accepted_parts None None to d pairs none told = (refl, refl, refl)
 accepted_parts None (Some e) to d pairs none told = absurd (let no : ⊥ = cc in no)
 accepted_parts (Some r) failing to d pairs none told = absurd (let no : ⊥ = cc in no)
+
+-- where no check fails, the last one does not
+
+one_passes : (b : Bool) (c : Bool × Refusal) (cs : Checks) → option_map (λ (x : Bool × Refusal). x.1) (cond b (Some c) (find (λ x. x.0) cs)) ≡ None → (b ≡ false) × (first_failing cs ≡ None)
+one_passes true c cs none = absurd (let no : ⊥ = cc in no)
+one_passes false c cs none = (refl, none)
+
+later_pass : (cs ds : Checks) → first_failing (cs ++ ds) ≡ None → first_failing ds ≡ None
+later_pass [] ds none = none
+later_pass (c ∷ cs) ds none = later_pass cs ds (one_passes c.0 c (cs ++ ds) none).1
+
+counted : (v : Views) (account : List ℕ) (key : Option (List ℕ)) (pairs : Items) → first_failing (checks (facts_of v (import_of account key (Good pairs))) (import_of account key (Good pairs))) ≡ None → v.revision < most_revision
+counted v account key pairs none =
+    let c = import_of account key (Good pairs) in
+    let last = later_pass (command_checks (facts_of v c) c) (revision_checks (facts_of v c)) none in
+    below v.revision (one_passes (nat_le most_revision v.revision) (nat_le most_revision v.revision, refusals.Full) [] last).0
+  where
+    below : (n : ℕ) → nat_le most_revision n ≡ false → n < most_revision
+    below n low = grind (arith, nat_tests)
 
 -- what decide tells of a file
 abbrev pub Told : History → Asked → Facts → Result (Change × Reply) Refusal → Type 0
@@ -131,6 +153,7 @@ judged_good h account key pairs f (Ok d) none is told =
     let parts = accepted_parts g.kept (first_failing (checks g c)) (reply_to g c.deed) d.1 pairs none told.0 in
     let change : d.0 ≡ change_by g c (judge v c) = told.4.1 ∙ ap (λ (x : Facts). change_by x c (judged x c)) is in
     let whole : d.0 ≡ change_by g c (Accepts (reply_to g c.deed)) = change ∙ ap (change_by g c) parts.1 in (
+      counted v account key pairs parts.2,
       told.0,
       subst (λ (ps : Items). views_of (after h c) ≡ changed d.0 (with_pairs ps v)) parts.0 told.2,
       subst (λ (ps : Items). Fits d.0 (with_pairs ps v)) parts.0 told.3,
@@ -143,3 +166,7 @@ judged_file h command text f t g result is open_ was facts told =
     let pairs = entries_of (lines_of text) in
     let same : import_of command.account command.key (Good pairs) ≡ asked command (file_reading text) = sym (asks_import command (file_reading text) is ∙ ap (import_of command.account command.key) (good_reading text was.short was.good)) in
     subst (λ (c : Asked). f ≡ facts_of (views_of h) c → Told h c f result → JudgesFile h c pairs result) same (judged_good h command.account command.key pairs f result (none_kept h command g open_)) facts told
+
+-- the number that its pairs were put with is that of an import that can be counted
+pub next_is : (h : History) (command : Command) (f : Facts) (n : ℕ) → IsOpen h command f → IsNext f.revision n → (views_of h).revision < most_revision → n ≡ (views_of h).revision + 1
+next_is h command f n open_ next low = subst (λ (m : ℕ). IsNext m n) (ap (λ (x : Facts). x.revision) open_.facts) next low

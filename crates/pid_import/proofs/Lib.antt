@@ -4,6 +4,7 @@ pub mod Counting
 pub mod Refused
 pub mod Judged
 pub mod FilePut
+pub mod InTurn
 pub mod PutLemmas
 pub mod PutInto
 pub mod BringIn

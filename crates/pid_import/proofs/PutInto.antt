@@ -8,7 +8,6 @@ use Rattle.pid_reader.specs.LookingBack.{Item}
 use Rattle.pid_reader.specs.Lines.{lines_of}
 use Rattle.pid_reader.specs.Reading.{entries_of}
 use Rattle.pid_reader.specs.declared.whole_input.InputEnd.{InputEnd}
-use Rattle.pid_moderation.specs.Changes.{with_pairs}
 use Rattle.pid_moderation.specs.Views.{Views}
 use Rattle.pid_rows.specs.declared.fault.TableFault.{TableFault}
 use Rattle.pid_rows.specs.Leaves.{Holds, Within}
@@ -17,14 +16,15 @@ use Rattle.pid_tables.specs.declared.putting.Put.{Put}
 use Rattle.pid_import.specs.declared.tally.Tally.{Tally}
 use Rattle.pid_import.specs.Clauses.{Puts, GivesUp}
 use Rattle.pid_import.specs.PutFiles.{PutSome, PutsFile}
+use Rattle.pid_import.specs.Putting.{put_in_turn}
 use Rattle.pid_import.specs.Tallies.{tally_of}
 use Rattle.pid_import.proofs.FilePut.{some_put}
 use Rattle.pid_import.proofs.PutLemmas.{some_holds, some_same, some_clean, all_within, all_tally}
 
 module _ {S : Type 0} (store : Ghosts S) where
   -- as the putter's members say of a transaction
-  abbrev pub puts : Transaction S → Item → Put → Transaction S → Type 0
-  puts s item put t = (t.conn.ghost_name ≡ s.conn.ghost_name) × Puts store s.conn.now t.conn.now item put
+  abbrev pub puts : ℕ → Transaction S → Item → Put → Transaction S → Type 0
+  puts n s item put t = (t.conn.ghost_name ≡ s.conn.ghost_name) × Puts store n s.conn.now t.conn.now item put
 
   abbrev pub gives_up : Transaction S → Transaction S → Type 0
   gives_up s t = (t.conn.ghost_name ≡ s.conn.ghost_name) × GivesUp store s.conn.now t.conn.now
@@ -32,22 +32,22 @@ module _ {S : Type 0} (store : Ghosts S) where
   abbrev pub shown : Transaction S → State
   shown s = state store s.conn.now
 
-  module _ (r : Result Tally (InputEnd TableFault)) (rest : Option (List ℕ)) (text : List ℕ) (start end : Transaction S) (put : PutsFile puts gives_up r rest text start end) where
-    some : PutSome puts gives_up start end
-    some = some_put puts gives_up r rest text start end put
+  module _ (n : ℕ) (r : Result Tally (InputEnd TableFault)) (rest : Option (List ℕ)) (text : List ℕ) (start end : Transaction S) (put : PutsFile (puts n) gives_up r rest text start end) where
+    some : PutSome (puts n) gives_up start end
+    some = some_put (puts n) gives_up r rest text start end put
 
     pub put_name : end.conn.ghost_name ≡ start.conn.ghost_name
-    put_name = some_same (λ (s : Transaction S). s.conn.ghost_name) puts gives_up (λ s item put t h. h.0) (λ s t h. h.0) start end some
+    put_name = some_same (λ (s : Transaction S). s.conn.ghost_name) (puts n) gives_up (λ s item put t h. h.0) (λ s t h. h.0) start end some
 
     pub put_clean : HasCleanDisk (shown end) → HasCleanDisk (shown start)
-    put_clean = some_clean shown puts gives_up (λ s item put t h. h.1) (λ s t h. h.1) start end some
+    put_clean = some_clean n shown (puts n) gives_up (λ s item put t h. h.1) (λ s t h. h.1) start end some
 
     pub put_holds : (c : Counts) (v w : Views) → Within c (shown start) v w → Holds (shown end) v
-    put_holds = some_holds shown puts gives_up (λ s item put t h. h.1) (λ s t h. h.1) start end some
+    put_holds = some_holds n shown (puts n) gives_up (λ s item put t h. h.1) (λ s t h. h.1) start end some
 
-  module _ (tally : Tally) (rest : Option (List ℕ)) (text : List ℕ) (start end : Transaction S) (put : PutsFile puts gives_up (Ok tally) rest text start end) (v : Views) (begun : Within (counts_of v) (shown start) v v) where
-    pub put_within : Within (counts_of v) (shown end) v (with_pairs (entries_of (lines_of text)) v)
-    put_within = all_within shown puts gives_up (λ s item put t h. h.1) (λ s t h. h.1) start end (entries_of (lines_of text)) tally put.2 (counts_of v) v v begun
+  module _ (n : ℕ) (tally : Tally) (rest : Option (List ℕ)) (text : List ℕ) (start end : Transaction S) (put : PutsFile (puts n) gives_up (Ok tally) rest text start end) (v : Views) (begun : Within (counts_of v) (shown start) v v) where
+    pub put_within : Within (counts_of v) (shown end) v (put_in_turn n (entries_of (lines_of text)) v)
+    put_within = all_within n shown (puts n) gives_up (λ s item put t h. h.1) (λ s t h. h.1) start end (entries_of (lines_of text)) tally put.2 (counts_of v) v v begun
 
     pub put_tally : HasCleanDisk (shown end) → tally ≡ tally_of v.items (entries_of (lines_of text))
-    put_tally clean = all_tally shown puts gives_up (λ s item put t h. h.1) (λ s t h. h.1) start end (entries_of (lines_of text)) tally put.2 clean (counts_of v) v v begun
+    put_tally clean = all_tally n shown (puts n) gives_up (λ s item put t h. h.1) (λ s t h. h.1) start end (entries_of (lines_of text)) tally put.2 clean (counts_of v) v v begun

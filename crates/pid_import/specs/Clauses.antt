@@ -1,6 +1,6 @@
 -- What clauses say of the connection of an import: the words of Putting and Importing, said of what the connection shows; `store` is
 -- `S.Store`.
-use Rattle.std.specs.Prelude.{Result}
+use Rattle.std.specs.Prelude.{ℕ, Result}
 use Rattle.sqlite.specs.Held.{Held, state}
 use Rattle.sqlite_trees.specs.declared.store.Store.{Ghosts}
 use Rattle.pid_moderation.specs.declared.command.Reply.{Reply}
@@ -12,8 +12,8 @@ use Rattle.pid_import.specs.Importing as importing
 use Rattle.pid_import.specs.Putting as putting
 
 module _ {S : Type 0} (store : Ghosts S) where
-  abbrev pub Puts : Held S → Held S → Item → Put → Type 0
-  Puts old new item put = putting.Puts (state store old) (state store new) item put
+  abbrev pub Puts : ℕ → Held S → Held S → Item → Put → Type 0
+  Puts n old new item put = putting.Puts n (state store old) (state store new) item put
 
   abbrev pub GivesUp : Held S → Held S → Type 0
   GivesUp old new = putting.GivesUp (state store old) (state store new)

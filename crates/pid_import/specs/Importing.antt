@@ -1,5 +1,5 @@
 -- An import whose file is brought in, step by step.
-use Rattle.std.specs.Prelude.{◌≡◌, ◌≢◌, ◌⊎◌, ◌+◌, ◌≤◌, ℕ, List, length, Option, None, Result, Ok, Err}
+use Rattle.std.specs.Prelude.{◌≡◌, ◌≢◌, ◌⊎◌, ◌+◌, ◌≤◌, ◌<◌, ℕ, List, length, Option, None, Result, Ok, Err}
 use Rattle.sqlite.specs.State.{State}
 use Rattle.pid_reader.specs.Lines.{lines_of}
 use Rattle.pid_reader.specs.Reading.{entries_of, refused}
@@ -13,11 +13,11 @@ use Rattle.pid_moderation.specs.declared.command.Reply.{Reply}
 use Rattle.pid_moderation.specs.declared.refusal.Refusal.{Refusal}
 use Rattle.pid_moderation.specs.declared.refusal.Refusal.TheVariants as refusals
 use Rattle.pid_moderation.specs.Changes.{changed, with_pairs, Fits}
-use Rattle.pid_moderation.specs.CheckTables.{most_file_bytes}
+use Rattle.pid_moderation.specs.CheckTables.{most_file_bytes, most_revision}
 use Rattle.pid_moderation.specs.History.{Asked, History}
 use Rattle.pid_moderation.specs.Items.{Items}
 use Rattle.pid_moderation.specs.Judgement.{judge, answer, after}
-use Rattle.pid_moderation.specs.Views.{views_of, items_of}
+use Rattle.pid_moderation.specs.Views.{views_of, items_of, revision_of}
 use Rattle.pid_rows.specs.declared.fault.TableFault.{TableFault}
 use Rattle.pid_rows.specs.Leaves.{AtRest, LeavesEither, Written}
 use Rattle.pid_rows.specs.Shows.{counts_of}
@@ -39,9 +39,13 @@ pub record IsPut (h : History) (text : List ℕ) (t : Tally) : Type 0 where
   pub good : refused text ≡ None
   pub tally : t ≡ tally_of (items_of h) (entries_of (lines_of text))
 
+-- Serves private functions alone: the number of one command more, where it can be counted.
+abbrev pub IsNext : ℕ → ℕ → Type 0
+IsNext revision n = revision < most_revision → n ≡ revision + 1
+
 -- Serves private functions alone: an import whose pairs were put is accepted with a change for the views with these, or it is refused.
 abbrev pub JudgesFile : History → Asked → Items → Result (Change × Reply) Refusal → Type 0
-JudgesFile h c pairs (Ok d) = (answer (judge (views_of h) c) ≡ Ok d.1) × (views_of (after h c) ≡ changed d.0 (with_pairs pairs (views_of h)))
+JudgesFile h c pairs (Ok d) = (revision_of h < most_revision) × (answer (judge (views_of h) c) ≡ Ok d.1) × (views_of (after h c) ≡ changed d.0 (with_pairs pairs (views_of h)))
     × Fits d.0 (with_pairs pairs (views_of h)) × IsCounted d.0.effect (counts_of (views_of h)) (with_pairs pairs (views_of h))
 JudgesFile h c pairs (Err e) = Refuses h c e
 

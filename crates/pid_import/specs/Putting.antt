@@ -1,9 +1,9 @@
 -- Serves private functions alone; no promise rests on it.
 -- What putting an entry of a file does to a transaction.
-use Rattle.std.specs.Prelude.{◌≡◌}
+use Rattle.std.specs.Prelude.{◌≡◌, ℕ, [], ◌∷◌}
 use Rattle.sqlite.specs.State.{State, HasCleanDisk}
 use Rattle.pid_reader.specs.LookingBack.{Item}
-use Rattle.pid_moderation.specs.Items.{name_at}
+use Rattle.pid_moderation.specs.Items.{Items, name_at}
 use Rattle.pid_moderation.specs.Views.{Views}
 use Rattle.pid_rows.specs.Leaves.{Holds, Within, Written}
 use Rattle.pid_rows.specs.Shows.{Counts}
@@ -11,10 +11,15 @@ use Rattle.pid_rows.specs.Writes.{with_name}
 use Rattle.pid_tables.specs.declared.putting.Put.{Put}
 use Rattle.pid_tables.specs.Puts.{put_over}
 
--- one entry is put: the transaction shows the views with it, and tells what it was to these
-pub record Puts (old new : State) (item : Item) (put : Put) : Type 0 where
+-- the pairs, put in turn with this number, of which the last is the first here
+abbrev pub put_in_turn : ℕ → Items → Views → Views
+put_in_turn n [] v = v
+put_in_turn n (pair ∷ pairs) v = with_name n pair.0 pair.1 (put_in_turn n pairs v)
+
+-- one entry is put with this number: the transaction shows the views with it, and tells what it was to these
+pub record Puts (n : ℕ) (old new : State) (item : Item) (put : Put) : Type 0 where
   pub clean : HasCleanDisk new → HasCleanDisk old
-  pub written : (c : Counts) (v w : Views) → Within c old v w → Written c new v (with_name item.0 item.1 w)
+  pub written : (c : Counts) (v w : Views) → Within c old v w → Written c new v (with_name n item.0 item.1 w)
   pub told : HasCleanDisk new → (c : Counts) (v w : Views) → Within c old v w → put ≡ put_over item.1 (name_at item.0 w.items)
 
 -- an entry is not put, and the transaction is given up

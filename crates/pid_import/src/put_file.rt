@@ -3,16 +3,17 @@ ghost use Rattle.std.specs.Prelude.{◌≡◌, ◌≢◌, ℕ, List, length, tru
 ghost use Rattle.std.specs.Io.KnownBytes.{Consumes};
 ghost use Rattle.pid_reader.specs.Lines.{lines_of};
 ghost use Rattle.pid_reader.specs.Reading.{entries_of};
-ghost use Rattle.pid_moderation.specs.Changes.{with_pairs};
 ghost use Rattle.pid_moderation.specs.History.{History, asked, is_import};
+ghost use Rattle.pid_moderation.specs.Revisions.{IsMarked};
 ghost use Rattle.pid_moderation.specs.Views.{Views, views_of, items_of};
 ghost use Rattle.pid_rows.specs.Clauses.{AtRest, HasCleanDisk, Holds, Within};
 ghost use Rattle.pid_rows.specs.Shows.{Counts, counts_of};
 ghost use Rattle.pid_import.specs.Clauses.{Applies, EndsImport};
 ghost use Rattle.pid_import.specs.Files.{file_reading};
-ghost use Rattle.pid_import.specs.Importing.{IsPut, IsStopOf, IsStopOfLive, JudgesFile, ReadsFile};
+ghost use Rattle.pid_import.specs.Importing.{IsNext, IsPut, IsStopOf, IsStopOfLive, JudgesFile, ReadsFile};
 ghost use Rattle.pid_import.specs.Judging.{IsOpen};
 ghost use Rattle.pid_import.specs.PutFiles.{PutsFile};
+ghost use Rattle.pid_import.specs.Putting.{put_in_turn};
 
 use crate::faults::refusal_of;
 use crate::laws::texts_read_to_files;
@@ -48,19 +49,20 @@ pub enum Stop {
     Failed(Refusal),
 }
 
-/// Puts the entries of the input's text where names go, and counts them.
+/// Puts the entries of the input's text where names go, with the number of their command, and counts them.
 pub(crate) fn put_file<K: Putter, I: Input>(
     batch: &mut K,
     alloc: Global,
+    revision: u64,
     input: &mut I,
 ) -> Result<Tally, InputEnd<TableFault>>
-    ensures puts { (text : List ℕ) × Consumes (I.to_come input.old) (I.to_come input.new) text × PutsFile K.puts K.gives_up result (I.to_come input.new) text batch.old batch.new }
+    ensures puts { (text : List ℕ) × Consumes (I.to_come input.old) (I.to_come input.new) text × PutsFile (K.puts revision) K.gives_up result (I.to_come input.new) text batch.old batch.new }
     ensures fault { result ≡ Err InputEnd.ReadFault → IsSome (I.read_fault input.new) }
     ensures fault_first { IsSome (I.read_fault input.new) → result ≡ Err InputEnd.ReadFault }
     ensures goes { I.goes input.old input.new }
 {
     numbered_entries_are_entries();
-    let mut sink = PutSink::new(batch, alloc);
+    let mut sink = PutSink::new(batch, alloc, revision);
     match cut_input(alloc, FILE_BYTES, input, &mut sink) {
         Ok(()) => Ok(sink.tally),
         Err(end) => Err(end),
@@ -87,6 +89,13 @@ fn stop_of(end: InputEnd<TableFault>) -> Stop
     }
 }
 
+// The number that an import has where it is accepted.
+fn next_revision(facts: &Facts) -> u64
+    ensures { IsNext facts.now.revision result }
+{
+    facts.revision.saturating_add(1)
+}
+
 // Judges an import whose file was put.
 fn judge_file(
     facts: &mut Facts,
@@ -94,7 +103,7 @@ fn judge_file(
     tally: Tally,
     command: &Command,
 ) -> Result<(Change, Reply), Refusal>
-    ensures judged { (h : History) (text : List ℕ) → is_import command.now.act ≡ true → IsOpen h command.now facts.old → items ≡ length (items_of h) → IsPut h text tally
+    ensures judged { (h : History) (text : List ℕ) → IsMarked h → is_import command.now.act ≡ true → IsOpen h command.now facts.old → items ≡ length (items_of h) → IsPut h text tally
         → JudgesFile h (asked command.now (file_reading text)) (entries_of (lines_of text)) result }
     ensures alive { IfErr result (λ e. e ≢ Refusal.Failed) }
 {
@@ -124,12 +133,13 @@ fn apply_file<S: Alter>(
     ensures same_reference { batch.new.conn.ghost_name ≡ batch.old.conn.ghost_name }
     ensures clean { HasCleanDisk S.Store batch.new.conn.now → HasCleanDisk S.Store batch.old.conn.now }
     ensures holds { (c : Counts) (v w : Views) → Within S.Store batch.old.conn.now c v w → Holds S.Store batch.new.conn.now v }
-    ensures applied { (h : History) (text : List ℕ) → is_import command.now.act ≡ true → IsOpen h command.now facts.old → items ≡ length (items_of h) → IsPut h text tally
-        → Within S.Store batch.old.conn.now (counts_of (views_of h)) (views_of h) (with_pairs (entries_of (lines_of text)) (views_of h))
+    ensures applied { (h : History) (text : List ℕ) (n : ℕ) → IsMarked h → is_import command.now.act ≡ true → IsOpen h command.now facts.old → items ≡ length (items_of h) → IsPut h text tally
+        → IsNext facts.old.revision n → Within S.Store batch.old.conn.now (counts_of (views_of h)) (views_of h) (put_in_turn n (entries_of (lines_of text)) (views_of h))
         → Applies S.Store batch.new.conn.now result h (asked command.now (file_reading text)) }
     ensures reads { IfErr result (λ e. e ≢ Stop.Body) }
     ensures alive { IfErr result IsStopOfLive }
 {
+    texts_read_to_files();
     match judge_file(facts, items, tally, command) {
         Err(refusal) => Err(Stop::Refused(refusal)),
         Ok((change, reply)) => match apply(batch, alloc, &change) {
@@ -157,7 +167,7 @@ pub fn bring_in<S: Alter, I: Input>(
     ensures clean { HasCleanDisk S.Store conn.new → HasCleanDisk S.Store conn.old }
     // Some text was read; the import is answered, and the tables are left, as of a command with this file.
     ensures stops { (text : List ℕ) × Consumes (I.to_come input.old) (I.to_come input.new) text × ReadsFile result (I.to_come input.new) text
-        × (HasCleanDisk S.Store conn.new → (h : History) → AtRest S.Store conn.old (views_of h) → is_import command.now.act ≡ true → IsOpen h command.now facts.old → items ≡ length (items_of h)
+        × (HasCleanDisk S.Store conn.new → (h : History) → AtRest S.Store conn.old (views_of h) → IsMarked h → is_import command.now.act ≡ true → IsOpen h command.now facts.old → items ≡ length (items_of h)
         → EndsImport S.Store conn.new result h (asked command.now (file_reading text))) }
     ensures fault { result ≡ Err Stop.Body → IsSome (I.read_fault input.new) }
     ensures fault_first { IsSome (I.read_fault input.new) → result ≡ Err Stop.Body }
@@ -165,8 +175,9 @@ pub fn bring_in<S: Alter, I: Input>(
     // Only a registry that has failed is told as such.
     ensures alive { IfErr result IsStopOfLive }
 {
+    let revision = next_revision(facts);
     let mut batch = begin(conn);
-    match put_file(&mut batch, alloc, input) {
+    match put_file(&mut batch, alloc, revision, input) {
         Err(end) => {
             roll_back(batch);
             Err(stop_of(end))

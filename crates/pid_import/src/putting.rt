@@ -15,14 +15,20 @@ pub(crate) trait Putter {
     ghost use Rattle.pid_ident.specs.PathTexts.{path_text};
     ghost use Rattle.pid_tables.specs.declared.putting.Put.{Put};
 
-    /// Before, an item, what it was to what is there, and after.
-    ghost puts: { Self → List ℕ × List ℕ → Put → Self → Type 0 };
+    /// The number of the command, before, an item, what it was to what is there, and after.
+    ghost puts: { ℕ → Self → List ℕ × List ℕ → Put → Self → Type 0 };
 
     /// Before and after, where nothing is put.
     ghost gives_up: { Self → Self → Type 0 };
 
-    fn put_name(&mut self, alloc: Global, path: &Path, name: &str) -> Result<Put, TableFault>
-        ensures put { IfOk result (λ put. puts self.old (path_text path.now, name.now) put self.new) }
+    fn put_name(
+        &mut self,
+        alloc: Global,
+        path: &Path,
+        name: &str,
+        revision: u64,
+    ) -> Result<Put, TableFault>
+        ensures put { IfOk result (λ put. puts revision self.old (path_text path.now, name.now) put self.new) }
         ensures fault { OnErr result (gives_up self.old self.new) };
 }
 
@@ -30,32 +36,41 @@ impl<S: Alter> Putter for Transaction<'_, S> {
     ghost use Rattle.std.specs.Prelude.{◌≡◌};
     ghost use Rattle.pid_import.specs.Clauses.{Puts, GivesUp};
 
-    ghost puts = { λ s item put t. (t.conn.ghost_name ≡ s.conn.ghost_name) × Puts S.Store s.conn.now t.conn.now item put };
+    ghost puts = { λ n s item put t. (t.conn.ghost_name ≡ s.conn.ghost_name) × Puts S.Store n s.conn.now t.conn.now item put };
 
     ghost gives_up = { λ s t. (t.conn.ghost_name ≡ s.conn.ghost_name) × GivesUp S.Store s.conn.now t.conn.now };
 
-    fn put_name(&mut self, alloc: Global, path: &Path, name: &str) -> Result<Put, TableFault> {
-        put(self, alloc, path, name)
+    fn put_name(
+        &mut self,
+        alloc: Global,
+        path: &Path,
+        name: &str,
+        revision: u64,
+    ) -> Result<Put, TableFault> {
+        put(self, alloc, path, name, revision)
     }
 }
 
-/// Puts entries where they go, and counts them.
+/// Puts entries where they go, with the number of their command, and counts them.
 #[derive(Drop)]
 pub(crate) struct PutSink<'k, K: Putter, A> {
     batch: &'k mut K,
     alloc: A,
+    revision: u64,
     pub(crate) tally: Tally,
 }
 
 impl<'k, K: Putter> PutSink<'k, K, Global> {
-    pub(crate) fn new(batch: &'k mut K, alloc: Global) -> PutSink<'k, K, Global>
+    pub(crate) fn new(batch: &'k mut K, alloc: Global, revision: u64) -> PutSink<'k, K, Global>
         ensures same_reference { result.batch.ghost_name ≡ batch.entry.ghost_name }
         ensures now { result.batch.now ≡ batch.old }
+        ensures number { result.revision ≡ revision }
         ensures none { result.tally ≡ no_tally }
     {
         PutSink {
             batch,
             alloc,
+            revision,
             tally: Tally {
                 added: 0,
                 renamed: 0,
@@ -113,7 +128,9 @@ impl<K: Putter> Sink for PutSink<'_, K, Global> {
     ghost faults = { LeavesEntry K.puts K.gives_up };
 
     fn entry(&mut self, entry: &Entry<'_>) -> Result<(), TableFault> {
-        let put = self.batch.put_name(self.alloc, &entry.path, entry.name)?;
+        let put = self
+            .batch
+            .put_name(self.alloc, &entry.path, entry.name, self.revision)?;
         self.tally = tally_with(put, self.tally)?;
         Ok(())
     }

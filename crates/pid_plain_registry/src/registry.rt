@@ -1,7 +1,7 @@
 //! The registry over the list of what it accepted.
 ghost use Rattle.std.specs.Prelude.{◌≡◌, ◌≢◌, length, is_some, IfOk, IfErr, OnOk, OnErr, Some, Ok, Err};
 ghost use Rattle.pid_moderation.specs.History.{More, Reading, asked, deed_of, new_history};
-ghost use Rattle.pid_moderation.specs.Views.{Views, rank_of, submits_of, items_of, submission_at};
+ghost use Rattle.pid_moderation.specs.Views.{Views, rank_of, submits_of, items_of, revision_of, submission_at};
 ghost use Rattle.pid_moderation.specs.FactsOfViews.{known as known_by, named as named_in, looked_at, facts_of, with_file, with_item};
 ghost use Rattle.pid_moderation.specs.Judgement.{judge, answer, after};
 ghost use Rattle.pid_moderation.specs.Wants.{wanted_by};
@@ -64,6 +64,13 @@ impl PlainRegistry {
         items_after(self.alloc, self.accepted.as_slice())
     }
 
+    /// How many commands were accepted.
+    pub fn revision(&self) -> usize
+        ensures { result ≡ revision_of (shown self.now) }
+    {
+        self.accepted.as_slice().len()
+    }
+
     // The reply that is kept for a command.
     fn kept(&self, command: &Command) -> Option<Reply>
         ensures { result ≡ (known_by (views self.now) command.now.account command.now.key).kept }
@@ -81,6 +88,7 @@ impl PlainRegistry {
         Facts {
             rank: self.rank(&command.account),
             kept: self.kept(command),
+            revision: self.revision() as u64,
             who: None,
             submissions: 0,
             items: 0,

@@ -16,6 +16,13 @@ fn number_at(fields: &[(String, String)], name: &str) -> u32 {
     }
 }
 
+fn revision_at(fields: &[(String, String)]) -> u64 {
+    match value(fields, "revision") {
+        Some(digits) => digits.parse::<u64>().unwrap_or(0),
+        None => 0,
+    }
+}
+
 fn rank_at(fields: &[(String, String)], name: &str) -> Option<Rank> {
     match text_at(fields, name) {
         "0" => Some(Rank::Contributor),
@@ -87,6 +94,7 @@ fn facts_in(alloc: Global, row: &str) -> Result<Facts, Fail> {
     Ok(Facts {
         rank: rank_at(fields, "rank"),
         kept: value(fields, "kept").map(|_| Reply::Numbered(7)),
+        revision: revision_at(fields),
         who: rank_at(fields, "who"),
         submissions: number_at(fields, "submissions"),
         items: number_at(fields, "items"),
@@ -288,6 +296,46 @@ import root file=a | file=long | refused 3 BadText
 #[test]
 fn checks_imports(rt: HostRuntime) -> Result<(), Fail> {
     expect_answers(&rt, rt.alloc(), IMPORT_CHECKS)
+}
+
+// At the limit of the revision nothing more is accepted, whatever it is; a kept reply is answered, and what another check refuses is told by that.
+const REVISION_CHECKS: &str = "\
+account root who=bob&rank=1 | rank=3&revision=9000000000000000000 | refused 15 Full
+submit alice path=PC/8086&name=a | rank=0&revision=9000000000000000000 | refused 15 Full
+comment alice num=1&text=a | rank=0&author=bob&path=PC/8086&revision=9000000000000000000 | refused 15 Full
+withdraw alice num=1 | rank=0&author=alice&path=PC/8086&revision=9000000000000000000 | refused 15 Full
+approve root num=1 | rank=2&author=bob&path=PC/8086&name=a&present=b&parent=yes&items=1&revision=9000000000000000000 | refused 15 Full
+reject root num=1&reason=no | rank=2&author=bob&path=PC/8086&revision=9000000000000000000 | refused 15 Full
+import root file=a | rank=2&file=good&items=3&revision=9000000000000000000 | refused 15 Full
+account root who=bob&rank=1 | rank=3&revision=8999999999999999999 | ok
+submit alice path=PC/8086&name=a | rank=0&revision=8999999999999999999 | ok 1
+comment alice num=1&text=a | rank=0&author=bob&path=PC/8086&revision=8999999999999999999 | ok
+withdraw alice num=1 | rank=0&author=alice&path=PC/8086&revision=8999999999999999999 | ok
+approve root num=1 | rank=2&author=bob&path=PC/8086&name=a&present=b&parent=yes&items=1&revision=8999999999999999999 | ok
+reject root num=1&reason=no | rank=2&author=bob&path=PC/8086&revision=8999999999999999999 | ok
+import root file=a | rank=2&file=good&items=3&revision=8999999999999999999 | ok added=1 renamed=2 same=3
+account root who=bob&rank=1 | kept=yes&rank=3&revision=9000000000000000000 | ok 7
+import root file=a | kept=yes&rank=2&file=good&items=3&revision=9000000000000000000 | ok 7
+withdraw alice num=1 | revision=9000000000000000000 | refused 4 NoAccount
+approve root num=1 | rank=2&author=bob&path=PC/8086&name=a&present=a&parent=yes&items=1&revision=9000000000000000000 | refused 13 NothingToDo
+import root file=a | rank=2&file=faulty&revision=9000000000000000000 | refused 14 FileFault line=3 kind=7 Duplicate
+";
+
+#[test]
+fn refuses_what_cannot_be_counted(rt: HostRuntime) -> Result<(), Fail> {
+    expect_answers(&rt, rt.alloc(), REVISION_CHECKS)
+}
+
+// What is accepted has the next number, and a kept reply that of the last command.
+#[test]
+fn numbers_changes(rt: HostRuntime) -> Result<(), Fail> {
+    let alloc = rt.alloc();
+    let command = command_in(alloc, "account root who=bob&rank=1")??;
+    let accepted = decide(&facts_in(alloc, "rank=3&revision=41")?, &command)?;
+    assert_eq!(rt; accepted.0.revision, 42);
+    let kept = decide(&facts_in(alloc, "kept=yes&rank=3&revision=41")?, &command)?;
+    assert_eq!(rt; kept.0.revision, 41);
+    Ok(())
 }
 
 const EARLY_IMPORTS: &str = "\

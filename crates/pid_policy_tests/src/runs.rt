@@ -277,9 +277,11 @@ fn tells_ranks_and_counts(rt: HostRuntime) -> Result<(), Fail> {
     expect_told(&rt, alloc, &mut registry, RANKS)?;
     assert_eq!(rt; registry.rank(&bob), Some(Rank::Moderator));
     assert_eq!(rt; registry.submissions(), 1);
+    assert_eq!(rt; registry.revision(), 3);
     let (command, file) = order_in(alloc, "approve root num=1")?;
     let facts = registry.facts(&command, &file)?;
     assert_eq!(rt; facts.rank, Some(Rank::Administrator));
+    assert_eq!(rt; facts.revision, 3);
     assert_eq!(rt; facts.items, 0);
     assert!(rt; facts.has_parent);
     assert!(rt; !facts.has_children);

@@ -9,16 +9,23 @@ use Rattle.pid_rows.specs.declared.fault.TableFault.{TableFault}
 use Rattle.pid_rows.specs.Clauses as clauses
 use Rattle.pid_rows.specs.Clauses.{AtRest}
 use Rattle.pid_rows.specs.Faults.{IsUntold}
-use Rattle.pid_tables.specs.Clauses.{IsOpened, ShowsOrBlank}
+use Rattle.pid_tables.specs.Clauses.{IsOpened}
+use Rattle.pid_rows.specs.declared.version.Version.{Version}
+use Rattle.pid_rows.specs.declared.version.Version.TheVariants.{One, Two}
+use Rattle.pid_rows.specs.Leaves.{IsShown, found_in}
+use Rattle.pid_rows.specs.Schema.{schema_of}
+use Rattle.pid_rows.specs.Shows.{ShowsIn}
+use Rattle.pid_tables.specs.declared.migration.Step.{Step}
+use Rattle.pid_tables.specs.Clauses.{ShowsOrBlank}
 use Rattle.pid_tables.specs.Creation.{IsBare}
-use Rattle.pid_tables.proofs.OpenLemmas.{LeavesCommitted, opened_bare, opened_shown}
+use Rattle.pid_tables.proofs.OpenLemmas.{LeavesCommitted, opened_bare, opened_rests, opened_shown}
 use Rattle.pid_service.specs.declared.registry.Registry.{Registry}
 use Rattle.pid_service.specs.Histories.{FailsBetween, IsReached, Shows}
-use Rattle.pid_service.specs.Lives.{LeavesTablesTo, IsAfterStop, OpensTo, showing}
+use Rattle.pid_service.specs.Lives.{LeavesTablesTo, IsAfterStop, MovesTo, OpensTo, showing}
 use Rattle.pid_service.specs.Opening.{LeavesHistory}
 use Rattle.pid_service.specs.Registries.{HasCleanDisk, connection, is_live}
 
-none_reached : IsReached new_history
+pub none_reached : IsReached new_history
 none_reached = record { mark = 0; commands = []; made = tt; reached = refl; marked = omega arith }
 
 pub live_never_failed : {X : Type 0} (live : Bool) → live ≡ true → live ≡ false → X
@@ -29,10 +36,14 @@ module _ {S : Type 0} (store : Ghosts S) where
   abbrev pub IsSettled : Type 0
   IsSettled = (conn : Held S) → LeavesCommitted (state store conn)
 
+  opened_in : IsSettled → (conn : Held S) (h : History) → IsOpened store conn → (version : Version) → ShowsIn version (found_in (schema_of version) (clauses.seen store conn).trees) (views_of h) → ShowsOrBlank store conn h
+  opened_in law conn h opens Two shows = inl (opened_shown (state store conn) (views_of h) (law conn) opens.0 opens.1 shows)
+  opened_in law conn h opens One shows = inr (inl (opened_rests One (state store conn) (views_of h) (law conn) opens.0 opens.1 shows))
+
   left_found : IsSettled → (earlier conn : Held S) (h : History) → IsAfterStop store earlier conn → LeavesHistory store earlier h → ShowsOrBlank store conn h
   left_found law earlier conn h stop left = elim (left.each stop.clean _ stop.found) [
-    | inl shows ↦ inl (opened_shown (state store conn) (views_of h) (law conn) stop.opened.0 stop.opened.1 shows)
-    | inr bare ↦ inr (opened_bare (state store conn) (law conn) stop.opened.0 stop.opened.1 bare.0, bare.1)
+    | inl shown ↦ opened_in law conn h stop.opened shown.0 shown.1
+    | inr bare ↦ inr (inr (opened_bare (state store conn) (law conn) stop.opened.0 stop.opened.1 bare.0, bare.1))
   ]
 
   pub stop_finds : IsSettled → (ended : Registry S store) (conn : Held S) → IsAfterStop store (connection ended) conn → LeavesTablesTo store ended conn
@@ -82,13 +93,33 @@ module _ {S : Type 0} (store : Ghosts S) where
 
   -- the first opening
   pub bare_shows_none : IsSettled → (conn : Held S) → IsOpened store conn → IsBare (clauses.seen store conn).trees → ShowsOrBlank store conn new_history
-  bare_shows_none law conn opens bare = inr (opened_bare (state store conn) (law conn) opens.0 opens.1 bare, refl)
+  bare_shows_none law conn opens bare = inr (inr (opened_bare (state store conn) (law conn) opens.0 opens.1 bare, refl))
 
-  pub first_shows_none : (conn : Held S) (first : Registry S store) → ShowsOrBlank store conn new_history → OpensTo store conn (Ok first) → HasCleanDisk store first → Shows store first new_history
-  first_shows_none conn first shows opens clean = opens.opened new_history none_reached shows clean
+  pub shown_rests : IsSettled → (conn : Held S) (h : History) → IsOpened store conn → IsShown (clauses.seen store conn).trees (views_of h) → ShowsOrBlank store conn h
+  shown_rests law conn h opens shown = opened_in law conn h opens shown.0 shown.1
 
-  pub failure_shows_none : IsSettled → (conn back next : Held S) (fault : TableFault) → ShowsOrBlank store conn new_history → OpensTo store conn (Err (fault, back)) → IsAfterStop store back next → ShowsOrBlank store next new_history
-  failure_shows_none law conn back next fault shows opens stop = left_found law back next new_history stop (opens.opened new_history none_reached shows stop.clean).1
+  pub first_shows : (conn : Held S) (first : Registry S store) (h : History) → IsReached h → ShowsOrBlank store conn h → OpensTo store conn (Ok first) → HasCleanDisk store first → Shows store first h
+  first_shows conn first h reached shows opens clean = opens.opened h reached shows clean
+
+  pub first_failure_shows : IsSettled → (conn back next : Held S) (fault : TableFault) (h : History) → IsReached h → ShowsOrBlank store conn h → OpensTo store conn (Err (fault, back)) → IsAfterStop store back next → ShowsOrBlank store next h
+  first_failure_shows law conn back next fault h reached shows opens stop = left_found law back next h stop (opens.opened h reached shows stop.clean).1
+
+  -- a migration before it
+  pub move_shows : (conn moved : Held S) (step : Step) (h : History) → IsReached h → ShowsOrBlank store conn h → MovesTo store conn (Ok (moved, step)) → clauses.HasCleanDisk store moved → AtRest store moved (views_of h)
+  move_shows conn moved step h reached (inl rest) moves clean = (moves.already h reached rest clean).1
+  move_shows conn moved step h reached (inr (inl older)) moves clean = (moves.moved h reached older clean).1
+  move_shows conn moved step h reached (inr (inr blank)) moves clean = subst (λ (g : History). AtRest store moved (views_of g)) (sym blank.1) (moves.created blank.0 clean).1
+
+  move_leaves : (conn back : Held S) (fault : TableFault) (h : History) → IsReached h → ShowsOrBlank store conn h → MovesTo store conn (Err (fault, back)) → clauses.HasCleanDisk store back → IsUntold fault × LeavesHistory store back h
+  move_leaves conn back fault h reached (inl rest) moves clean = moves.already h reached rest clean
+  move_leaves conn back fault h reached (inr (inl older)) moves clean = moves.moved h reached older clean
+  move_leaves conn back fault h reached (inr (inr blank)) moves clean = subst (λ (g : History). IsUntold fault × LeavesHistory store back g) (sym blank.1) (moves.created blank.0 clean)
+
+  pub move_untold : (conn back : Held S) (fault : TableFault) (h : History) → IsReached h → ShowsOrBlank store conn h → MovesTo store conn (Err (fault, back)) → clauses.HasCleanDisk store back → IsUntold fault
+  move_untold conn back fault h reached shows moves clean = (move_leaves conn back fault h reached shows moves clean).0
+
+  pub move_failure_shows : IsSettled → (conn back next : Held S) (fault : TableFault) (h : History) → IsReached h → ShowsOrBlank store conn h → MovesTo store conn (Err (fault, back)) → IsAfterStop store back next → ShowsOrBlank store next h
+  move_failure_shows law conn back next fault h reached shows moves stop = left_found law back next h stop (move_leaves conn back fault h reached shows moves stop.clean).1
 
   pub still_between : (old new : Registry S store) (h next : History) → new ≡ old → FailsBetween store old h next → FailsBetween store new h next
   still_between old new h next same between = subst (λ r. FailsBetween store r h next) (sym same) between

@@ -1,5 +1,5 @@
 -- What the judgement says of the history after a command.
-use Rattle.std.proofs.Common.{◌≡◌, ◌≢◌, ◌⊎◌, inl, inr, Bool, true, false, [], Option, Some, None, Err, refl, subst, if◌then◌else◌, is_some}
+use Rattle.std.proofs.Common.{◌≡◌, ◌≢◌, ◌⊎◌, inl, inr, Bool, true, false, [], Option, Some, None, Err, refl, subst, ap, ◌∙◌, ◌+◌, if◌then◌else◌, is_some}
 use Rattle.std.proofs.lemmas.Bool.{false≢true}
 use Rattle.pid_moderation.specs.declared.change.Change.{Change}
 use Rattle.pid_moderation.specs.declared.command.Act.{Act}
@@ -13,9 +13,10 @@ use Rattle.pid_moderation.specs.CheckTables.{checks, first_failing, is_ill_forme
 use Rattle.pid_moderation.specs.Effects.{new_pairs, LeadsOn, FitsHistory}
 use Rattle.pid_moderation.specs.FactsOfViews.{facts_of}
 use Rattle.pid_moderation.specs.History.{Asked, History, Reading, asked, deed_of, is_import}
-use Rattle.pid_moderation.specs.Items.{Items}
+use Rattle.pid_moderation.specs.Items.{Items, name_at}
 use Rattle.pid_moderation.specs.Judgement.{Outcome, Refused, Repeated, Accepts, unless, unless_kept, judge, answer, added, after}
-use Rattle.pid_moderation.specs.Views.{views_of}
+use Rattle.pid_moderation.specs.Views.{Views, views_of}
+use Rattle.pid_moderation.proofs.Changing.{not_anew}
 use Rattle.pid_service.specs.Histories.{IsFault}
 
 refusal_adds : (h : History) (c : Asked) (o : Outcome) (e : Refusal) → answer o ≡ Err e → added h c o ≡ h
@@ -51,13 +52,18 @@ no_pairs (Approve n) reading (Accepts r) other = refl
 no_pairs (Reject n reason) reading (Accepts r) other = refl
 no_pairs (Import file) reading (Accepts r) other = absurd (let no : ⊥ = cc in no)
 
+-- without pairs nothing is named anew
+no_more : (v : Views) → with_pairs [] v ≡ v
+no_more v = λ i. record v { since = λ path. if not_anew (name_at path v.items) i then v.revision + 1 else v.since path }
+
 pub leads : (h : History) (command : Command) (reading : Reading) (change : Change) → is_import command.act ≡ false → LeadsOn h (asked command reading) change → views_of (after h (asked command reading)) ≡ changed change (views_of h)
 leads h command reading change other led =
     subst (λ (ps : Items). views_of (after h (asked command reading)) ≡ changed change (with_pairs ps (views_of h))) (no_pairs command.act reading (judge (views_of h) (asked command reading)) other) led
+    ∙ ap (changed change) (no_more (views_of h))
 
 pub fits : (h : History) (command : Command) (reading : Reading) (change : Change) → is_import command.act ≡ false → FitsHistory h (asked command reading) change → Fits change (views_of h)
 fits h command reading change other fit =
-    subst (λ (ps : Items). Fits change (with_pairs ps (views_of h))) (no_pairs command.act reading (judge (views_of h) (asked command reading)) other) fit
+    subst (Fits change) (no_more (views_of h)) (subst (λ (ps : Items). Fits change (with_pairs ps (views_of h))) (no_pairs command.act reading (judge (views_of h) (asked command reading)) other) fit)
 
 told_by : (h : History) (c : Asked) (e : Refusal) → answer (judge (views_of h) c) ≡ Err e → ((answer (judge (views_of h) c) ≡ Err e) × (after h c ≡ h)) ⊎ IsFault e
 told_by h c e same = inl (same, refused_stays h c e same)

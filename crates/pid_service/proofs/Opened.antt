@@ -1,111 +1,119 @@
 -- What an opened database is, by what it was.
-use Rattle.std.proofs.Common.{◌≡◌, inl, inr, [], Bool, true, false, IsTrue, Result, Ok, Err, IfErr, OnOk, OnErr, ℕ, List, refl, rules, sym, subst, ◌∙◌}
+use Rattle.std.proofs.Common.{◌≡◌, ◌⊎◌, inl, inr, [], Bool, true, false, IsTrue, Some, Result, Ok, Err, IfErr, MatchResult, refl, rules, sym, subst}
 use Rattle.sqlite.specs.State.{State, HasCleanDisk}
-use Rattle.sqlite.specs.Schema.{Schema}
+use Rattle.sqlite.specs.Effect.{Database}
 use Rattle.pid_moderation.specs.History.{History, new_history}
 use Rattle.pid_moderation.specs.Views.{Views, views_of}
 use Rattle.pid_rows.specs.declared.fault.TableFault.{TableFault}
 use Rattle.pid_rows.specs.declared.fault.TableFault.TheVariants.{Memory, Store, NewerSchema, Damaged}
+use Rattle.pid_rows.specs.declared.version.Version.{Version}
+use Rattle.pid_rows.specs.declared.version.Version.TheVariants.{One, Two}
 use Rattle.pid_rows.specs.Faults.{IsUntold}
-use Rattle.pid_rows.specs.Schema.{no_schema}
 use Rattle.pid_rows.specs.Shows.{Shows}
-use Rattle.pid_rows.specs.Leaves.{AtRest, OnlyReads, as_found}
-use Rattle.sqlite.specs.Effect.{Database}
-use Rattle.pid_table_check.specs.Checking.{Explains}
-use Rattle.pid_table_check.specs.Conditions.{Rows}
-use Rattle.pid_table_check.specs.Shapes.{ExplainsLater, HasEachTable, HasSomeTable, HasNoTable}
-use Rattle.sqlite.specs.Change.{is_used}
-use Rattle.sqlite_rules.specs.Lists.{Has}
-use Rattle.pid_tables.specs.Creation.{AreMade, table_names, IsBlank, IsMet, IsOfMaking, LeavesBareOrNew}
-use Rattle.pid_tables.specs.ShowsOrBlank.{ShowsOrBlank}
+use Rattle.pid_rows.specs.Leaves.{AtRest, OnlyReads, RestsIn, as_found}
+use Rattle.pid_table_check.specs.Checking.{Explains, Finds}
+use Rattle.pid_table_check.specs.Shapes.{HasSomeTable}
+use Rattle.pid_tables.specs.Creation.{IsBlank, LeavesBareOrNew}
 use Rattle.pid_name_cache.specs.Entries.{Entries}
+use Rattle.pid_tables.specs.declared.migration.Step.{Step}
+use Rattle.pid_tables.specs.declared.migration.Step.TheVariants.{Created, Moved, Already}
+use Rattle.pid_tables.specs.ShowsOrBlank.{ShowsOrBlank}
 use Rattle.pid_service.specs.KeptNames.{AreNamesOf}
-use Rattle.pid_service.specs.Opening.{LeavesShown}
+use Rattle.pid_service.specs.Opening.{IsFound, LeavesShown}
+use Rattle.pid_rows.proofs.OnlyReading.{reads_then}
 
-pub still_blank : (old new : State) → OnlyReads old new → IsBlank old → IsBlank new
-still_blank old new reads blank =
-    let now = reads.same old.now (record { sees = λ opened. refl; committed = λ opened. sym (blank.same opened) }) in
-    record {
-      settled = reads.settled;
-      same = λ opened. now.sees opened ∙ sym (now.committed opened);
-      empty = λ opened. subst (AreMade []) (sym (now.sees opened)) (blank.empty (reads.was_open opened));
-      leaves = λ clean db may. elim (reads.survives.crash clean db may) [ inl before ↦ blank.leaves (reads.clean clean) db before | inr none ↦ absurd none ];
-    }
+-- what is at rest in the schema of today leaves the history, and so do the tables of schema 1 and what a creation leaves
 
-pub still_shown : (old new : State) (h : History) → OnlyReads old new → ShowsOrBlank old h → ShowsOrBlank new h
-still_shown old new h reads (inl rest) = inl (reads.kept _ rest)
-still_shown old new h reads (inr blank) = inr (still_blank old new reads blank.0, blank.1)
+pub rest_leaves : (s : State) (h : History) → AtRest s (views_of h) → LeavesShown s h
+rest_leaves s h rest = record { each = λ clean db may. inl (Two, rest.leaves.each clean db may) }
+
+pub older_leaves : (s : State) (h : History) → RestsIn One s (views_of h) → LeavesShown s h
+older_leaves s h older = record { each = λ clean db may. inl (older.leaves.each clean db may) }
+
+pub made_leaves : (s : State) (h : History) → LeavesBareOrNew s → h ≡ new_history → LeavesShown s h
+made_leaves s h left none = record {
+  each = λ clean db may. elim (left.each clean db may) [
+    | inl bare ↦ inr (bare, none)
+    | inr new ↦ inl (Two, subst (λ (g : History). Shows (as_found db) (views_of g)) (sym none) new)
+  ];
+}
 
 pub shown_leaves : (s : State) (h : History) → ShowsOrBlank s h → LeavesShown s h
-shown_leaves s h (inl rest) = record { each = λ clean db may. inl (rest.leaves.each clean db may) }
-shown_leaves s h (inr blank) = record { each = λ clean db may. inr (blank.0.leaves clean db may, blank.1) }
+shown_leaves s h (inl rest) = rest_leaves s h rest
+shown_leaves s h (inr (inl older)) = older_leaves s h older
+shown_leaves s h (inr (inr blank)) = record { each = λ clean db may. inr (blank.0.leaves clean db may, blank.1) }
 
-made_leaves : (s : State) (h : History) → LeavesBareOrNew s → h ≡ new_history → LeavesShown s h
-made_leaves s h left none = record { each = λ clean db may. elim (left.each clean db may) [ inl bare ↦ inr (bare, none) | inr new ↦ inl (subst (λ (g : History). Shows (as_found db) (views_of g)) (sym none) new) ] }
+-- what a step tells where the tables were not there, were in schema 1, and were in the schema of today
+pub record Steps (s : State) (h : History) (New : Type 0) (Old : Type 0) (Today : Type 0) : Type 0 where
+  pub created : IsBlank s → New
+  pub moved : RestsIn One s (views_of h) → Old
+  pub already : AtRest s (views_of h) → Today
 
--- tables were made
-pub made_ready : {X E : Type 0} (s t : State) (h : History) (r : Result X E) → ShowsOrBlank s h → (AtRest s (views_of h) → ⊥) → (IsBlank s → OnOk r (AtRest t (views_of new_history))) → OnOk r (AtRest t (views_of h))
-made_ready s t h r (inl rest) never made = absurd (never rest)
-made_ready s t h r (inr blank) never made = subst (λ (g : History). OnOk r (AtRest t (views_of g))) (sym blank.1) (made blank.0)
+pub step_rests : (s t : State) (h : History) (step : Step) → ShowsOrBlank s h
+    → Steps s h ((step ≡ Created) × AtRest t (views_of new_history)) ((step ≡ Moved) × AtRest t (views_of h)) ((step ≡ Already) × AtRest t (views_of h)) → AtRest t (views_of h)
+step_rests s t h step (inl rest) steps = (steps.already rest).1
+step_rests s t h step (inr (inl older)) steps = (steps.moved older).1
+step_rests s t h step (inr (inr blank)) steps = subst (λ (g : History). AtRest t (views_of g)) (sym blank.1) (steps.created blank.0).1
 
-pub made_untold : {X : Type 0} (s : State) (h : History) (r : Result X TableFault) → ShowsOrBlank s h → (AtRest s (views_of h) → ⊥) → (IsBlank s → IfErr r IsUntold) → IfErr r IsUntold
-made_untold s h r (inl rest) never made = absurd (never rest)
-made_untold s h r (inr blank) never made = made blank.0
+pub step_leaves : (s t : State) (h : History) (e : TableFault) → ShowsOrBlank s h
+    → Steps s h (IsUntold e × LeavesBareOrNew t) (IsUntold e × RestsIn One t (views_of h)) (IsUntold e × AtRest t (views_of h)) → IsUntold e × LeavesShown t h
+step_leaves s t h e (inl rest) steps = let so = steps.already rest in (so.0, rest_leaves t h so.1)
+step_leaves s t h e (inr (inl older)) steps = let so = steps.moved older in (so.0, older_leaves t h so.1)
+step_leaves s t h e (inr (inr blank)) steps = let so = steps.created blank.0 in (so.0, made_leaves t h so.1 blank.1)
 
-pub made_crash : (s t : State) (h : History) → ShowsOrBlank s h → (AtRest s (views_of h) → AtRest t (views_of h)) → (IsBlank s → LeavesBareOrNew t) → LeavesShown t h
-made_crash s t h (inl rest) kept made = shown_leaves t h (inl (kept rest))
-made_crash s t h (inr blank) kept made = made_leaves t h (made blank.0) blank.1
+-- tables at rest were judged
+pub judged_ready : {X : Type 0} (s t : State) (h : History) (r : Result X TableFault) → OnlyReads s t → AtRest s (views_of h) → IfErr r IsUntold → MatchResult r (λ x. AtRest t (views_of h)) (λ e. IsUntold e × LeavesShown t h)
+judged_ready s t h (Ok x) reads rest untold = reads.kept (views_of h) rest
+judged_ready s t h (Err e) reads rest untold = (untold, rest_leaves t h (reads.kept (views_of h) rest))
 
--- tables were found
-pub never_blank : (s : State) → IsTrue s.is_open → HasSomeTable s.now.schema → HasNoTable no_schema → IsBlank s → ⊥
-never_blank s opened some none blank = none (subst HasSomeTable (blank.empty opened).schema some)
+-- where there is some table: a migration before the judgement leaves them, or found a registry in schema 1
 
-pub found_rest : {Q : Type 0} (s : State) (h : History) → ShowsOrBlank s h → (IsBlank s → ⊥) → (AtRest s (views_of h) → Q) → Q
-found_rest s h (inl rest) never then_so = then_so rest
-found_rest s h (inr blank) never then_so = absurd (never blank.0)
+abbrev Found : State → State → Step → Type 0
+Found old mid step = ((step ≡ Already) × OnlyReads old mid) ⊎ ((step ≡ Moved) × Finds old.now (Some One))
 
-pub untold_explains : (t : Rows) (e : TableFault) → IsUntold e → Explains t e
-untold_explains t Memory untold = tt
-untold_explains t Store untold = tt
-untold_explains t (NewerSchema n) untold = absurd untold
-untold_explains t Damaged untold = absurd untold
+abbrev Judged : {X : Type 0} → Database → Result X TableFault → Type 0
+Judged d r = MatchResult r (λ x. Finds d (Some Two)) (λ e. Explains d e ⊎ Finds d (Some One))
 
-pub untold_later : (db : Database) (e : TableFault) → IsUntold e → ExplainsLater db e
-untold_later db Memory untold = tt
-untold_later db Store untold = tt
-untold_later db (NewerSchema n) untold = absurd untold
-untold_later db Damaged untold = absurd untold
+abbrev IsReady : {X : Type 0} → State → State → Result X TableFault → Type 0
+IsReady old new r = MatchResult r (λ x. IsFound old.now) (λ e. (Explains old.now e × OnlyReads old new) ⊎ Finds old.now (Some One))
 
-pub untold_making : (e : TableFault) → IsUntold e → IsOfMaking e
-untold_making Memory untold = tt
-untold_making Store untold = tt
-untold_making (NewerSchema n) untold = absurd untold
-untold_making Damaged untold = absurd untold
+untold_explains : (d : Database) (e : TableFault) → IsUntold e → Explains d e
+untold_explains d Memory untold = tt
+untold_explains d Store untold = tt
+untold_explains d (NewerSchema n) untold = absurd untold
+untold_explains d Damaged untold = absurd untold
 
-pub each_some : (schema : Schema) → HasEachTable schema → HasSomeTable schema
-each_some schema each = (_, inl refl, each _ (inl refl))
+seen_still : (old new : State) → (IsTrue old.is_open → old.now ≡ old.committed) → OnlyReads old new → IsTrue new.is_open → new.now ≡ old.now
+seen_still old new settled reads = (reads.same old.now (record { sees = λ opened. refl; committed = λ opened. sym (settled opened) })).sees
+
+same_judged : {X : Type 0} (old new : State) (r : Result X TableFault) → OnlyReads old new → Judged old.now r → IsReady old new r
+same_judged old new (Ok x) reads judged = (Two, judged)
+same_judged old new (Err e) reads (inl explains) = inl (explains, reads)
+same_judged old new (Err e) reads (inr found) = inr found
+
+shut_judged : {X : Type 0} (old new : State) (r : Result X TableFault) → OnlyReads old new → MatchResult r (λ x. ⊥) IsUntold → IsReady old new r
+shut_judged old new (Ok x) reads untold = absurd untold
+shut_judged old new (Err e) reads untold = inl (untold_explains old.now e untold, reads)
+
+moved_found : {X : Type 0} (old new : State) (r : Result X TableFault) → Finds old.now (Some One) → IsReady old new r
+moved_found old new (Ok x) found = (One, found)
+moved_found old new (Err e) found = inr found
+
+open_or_shut : (b : Bool) → (b ≡ true) ⊎ (b ≡ false)
+open_or_shut true = inl refl
+open_or_shut false = inr refl
+
+pub told_then : {X : Type 0} (old mid new : State) (r : Result X TableFault) (step : Step) → (IsTrue old.is_open → old.now ≡ old.committed) → HasSomeTable old.now.schema → OnlyReads mid new
+    → (mid.is_open ≡ false → MatchResult r (λ x. ⊥) IsUntold) → (HasSomeTable mid.now.schema → Judged mid.now r) → Found old mid step → IsReady old new r
+told_then old mid new r step settled some reads shut judged (inl (is, before)) = elim (open_or_shut mid.is_open) [
+  | inl opened ↦ same_judged old new r (reads_then old mid new before reads) (subst (λ (d : Database). HasSomeTable d.schema → Judged d r) (seen_still old mid settled before opened) judged some)
+  | inr closed ↦ shut_judged old new r (reads_then old mid new before reads) (shut closed)
+]
+told_then old mid new r step settled some reads shut judged (inr (is, found)) = moved_found old new r found
 
 -- a step of the opening, said of the connections around it
 pub moved : {X : Type 0} (P : X → X → Type 0) {a a' b b' : X} → a ≡ a' → b' ≡ b → P a b → P a' b'
 moved P {a} {a'} {b} {b'} start end p = subst (λ x. P x b') start (subst (λ y. P a y) (sym end) p)
-
--- something has one of the six names
-abbrev MetIn : Database → Type 0
-MetIn db = (name : List ℕ) × Has table_names name × (is_used db.schema name ≡ true)
-
-pub met_same : (old new : State) → (IsTrue new.is_open → HasCleanDisk new) → OnlyReads old new → (HasCleanDisk new → new.now ≡ old.now) → IsMet old → IsMet new
-met_same old new law reads same met opened = subst MetIn (sym (same (law opened))) (met (reads.was_open opened))
-
-pub all_ok : {X E Q : Type 0} (r : Result X E) → Q → OnOk r Q
-all_ok (Ok x) q = q
-all_ok (Err e) q = tt
-
-pub all_err : {X E Q : Type 0} (r : Result X E) → Q → OnErr r Q
-all_err (Ok x) q = tt
-all_err (Err e) q = q
-
-pub never : (b : Bool) → b ≡ false → IsTrue b → ⊥
-never b off on = let no : ⊥ = cc in no
 
 pub no_names : (names : Entries) (v : Views) → names ≡ [] → AreNamesOf names v
 no_names names v none = subst (λ (n : Entries). AreNamesOf n v) (sym none) (record { known = λ entry there. absurd (let no : ⊥ = search rules in no) })

@@ -7,9 +7,10 @@ use Rattle.pid_moderation.specs.Judgement.{after_all}
 use Rattle.pid_moderation.specs.Revisions.{IsMarked}
 use Rattle.pid_moderation.specs.Views.{views_of}
 use Rattle.pid_moderation.specs.WellMade.{AreWellMade}
+use Rattle.pid_lives.specs.Registries.{Showing}
 use Rattle.pid_rows.specs.Clauses.{AtRest, LeavesEither}
 use Rattle.pid_service.specs.declared.registry.Registry.{Registry}
-use Rattle.pid_service.specs.Registries.{connection, is_live}
+use Rattle.pid_service.specs.Registries.{HasCleanDisk, connection, is_live}
 use Rattle.pid_service.specs.KeptNames.{KeepsNames}
 
 -- Commands lead to the history from its beginning, at least as many accepted as its mark says. What the mark is no table tells.
@@ -35,3 +36,7 @@ module _ {S : Type 0} (store : Ghosts S) where
     pub before : IsReached h
     pub next : IsReached after
     pub leaves : LeavesEither store (connection r) (views_of h) (views_of after)
+
+  -- how lives see a registry
+  abbrev pub showing : Showing (Registry S store)
+  showing = record { is_clean = HasCleanDisk store; shows = Shows; fails_between = FailsBetween }

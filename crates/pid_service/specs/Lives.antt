@@ -7,20 +7,24 @@ use Rattle.pid_ident.specs.Trees.{TreeMap}
 use Rattle.pid_tree.specs.Printing.{print}
 use Rattle.pid_reader.specs.Reading.{Reads}
 use Rattle.pid_moderation.specs.declared.command.Reply.{Reply}
-use Rattle.pid_moderation.specs.History.{Asked, History}
+use Rattle.pid_moderation.specs.History.{Asked, History, new_history}
+use Rattle.pid_moderation.specs.Views.{views_of}
 use Rattle.pid_moderation.specs.Sound.{IsSound}
 use Rattle.pid_moderation.specs.Writes.{tree_of}
 use Rattle.pid_lives.specs.Calls.{Call, nothing_sent, obeyed}
 use Rattle.pid_lives.specs.CrashPrefix.{IsAfterPrefixes}
-use Rattle.pid_lives.specs.Registries.{Showing}
 use Rattle.pid_rows.specs.declared.fault.TableFault.{TableFault}
+use Rattle.pid_rows.specs.declared.version.Version.TheVariants.{One}
 use Rattle.pid_rows.specs.Clauses as clauses
-use Rattle.pid_tables.specs.Clauses.{IsOpened, ShowsOrBlank}
+use Rattle.pid_tables.specs.declared.migration.Step.{Step}
+use Rattle.pid_tables.specs.declared.migration.Step.TheVariants.{Created, Moved, Already}
+use Rattle.pid_tables.specs.Clauses.{IsBlank, IsOpened, ShowsOrBlank}
 use Rattle.pid_service.specs.declared.importing.ImportEnd.{ImportEnd}
 use Rattle.pid_service.specs.declared.importing.ImportEnd.TheVariants.{Refused, Body}
 use Rattle.pid_service.specs.declared.registry.Registry.{Registry}
 use Rattle.pid_service.specs.Histories.{IsReached, Shows, FailsBetween}
-use Rattle.pid_service.specs.Opening.{Opens}
+pub use Rattle.pid_service.specs.Histories.{showing}
+use Rattle.pid_service.specs.Opening.{Moves, Opens}
 use Rattle.pid_service.specs.Registries.{HasCleanDisk}
 
 -- an import whose file comes as an input sends its command, unless the input failed
@@ -30,10 +34,6 @@ import_sent c (Err (Refused e)) live = obeyed c (Err e) live
 import_sent c (Err Body) live = nothing_sent
 
 module _ {S : Type 0} (store : Ghosts S) where
-  -- how lives see a registry
-  abbrev pub showing : Showing (Registry S store)
-  showing = record { is_clean = HasCleanDisk store; shows = Shows store; fails_between = FailsBetween store }
-
   -- what an open after a crash at this moment may find
   abbrev pub may_leave : Held S → Trees → Type 0
   may_leave conn = (state store conn).may_leave
@@ -57,6 +57,12 @@ module _ {S : Type 0} (store : Ghosts S) where
         (λ r. HasCleanDisk store r → clauses.HasCleanDisk store conn)
         (λ e. clauses.HasCleanDisk store e.1 → clauses.HasCleanDisk store conn)
     pub opened : (h : History) → IsReached h → ShowsOrBlank store conn h → Opens store result h
+
+  -- `migrate` was called on a connection and answered this: its clauses `created`, `moved` and `already`
+  pub record MovesTo (conn : Held S) (result : Result (Held S × Step) (TableFault × Held S)) : Type 0 where
+    pub created : IsBlank store conn → Moves store Created result new_history
+    pub moved : (h : History) → IsReached h → clauses.RestsIn store One conn (views_of h) → Moves store Moved result h
+    pub already : (h : History) → IsReached h → clauses.AtRest store conn (views_of h) → Moves store Already result h
 
   -- a registry shows the history after the one at the start and a prefix of the commands of each life, told by its calls
   pub record ShowsPrefixes (r : Registry S store) (start : History) (calls : List (List Call)) : Type 0 where

@@ -1,5 +1,5 @@
 //! Names in memory, before a change is written.
-ghost use Rattle.std.specs.Prelude.{◌≡◌, false};
+ghost use Rattle.std.specs.Prelude.{◌≡◌, ◌≢◌, ℕ, false, []};
 ghost use Rattle.pid_moderation.specs.Changes.{affected, changed};
 ghost use Rattle.pid_moderation.specs.Views.{Views};
 ghost use Rattle.pid_service.specs.KeptNames.{AreNamesOf};
@@ -8,7 +8,7 @@ use pid_moderation::{Change, Effect};
 use pid_name_cache::NameCache;
 
 fn writes_items(effect: &Effect) -> bool
-    ensures { (v : Views) → result ≡ false → (affected effect.now v).items ≡ v.items }
+    ensures { (n : ℕ) (v : Views) → result ≡ false → (affected n effect.now v).items ≡ v.items }
 {
     match effect {
         Effect::Decided { write, .. } => write.is_some(),
@@ -22,7 +22,8 @@ fn writes_items(effect: &Effect) -> bool
 
 /// Forgets all names where the change writes an item.
 pub(crate) fn forget_for(names: &mut NameCache, change: &Change)
-    ensures { (v : Views) → AreNamesOf names.old v → AreNamesOf names.new (changed change.now v) }
+    ensures right { (v : Views) → AreNamesOf names.old v → AreNamesOf names.new (changed change.now v) }
+    ensures forgets { (v : Views) → (changed change.now v).items ≢ v.items → names.new ≡ [] }
 {
     if !writes_items(&change.effect) {
         return;

@@ -10,6 +10,7 @@ ghost use Rattle.pid_moderation.specs.Views.{items_of};
 ghost use Rattle.pid_service.specs.Histories.{IsReached, Shows};
 ghost use Rattle.pid_service.specs.Importing.{AnswersPast, HasRead, IsEndOfLive, IsPlain, ObeysImport};
 ghost use Rattle.pid_service.specs.Obeying.{Obeys};
+ghost use Rattle.pid_service.specs.KeptNames.{kept_names};
 ghost use Rattle.pid_service.specs.Registries.{HasCleanDisk, is_live as lives};
 
 use crate::laws::{commands_lead_on, reached_histories_are_kept};
@@ -88,6 +89,7 @@ impl<S: Alter + Drop> Registry<S> {
         ensures obeyed { HasRead result (I.to_come input.old) (I.to_come input.new) (λ text.
             HasCleanDisk S.Store self.new → (h : History) → Shows S.Store self.old h → is_import command.now.act ≡ true → IsOpen h command.now facts.old → items ≡ length (items_of h)
             → IsReached (after h (asked command.now (file_reading text))) → ObeysImport S.Store result self.new h (asked command.now (file_reading text))) }
+        ensures forgets { kept_names self.new ≡ [] }
         ensures fault { result ≡ Err ImportEnd.Body → IsSome (I.read_fault input.new) }
         ensures fault_first { IsSome (I.read_fault input.new) → result ≡ Err ImportEnd.Body }
         ensures goes { I.goes input.old input.new }
@@ -118,6 +120,7 @@ impl<S: Alter + Drop> Registry<S> {
         ensures obeyed { HasRead result (I.to_come input.old) (I.to_come input.new) (λ text.
             HasCleanDisk S.Store self.new → (h : History) → Shows S.Store self.old h → is_import command.now.act ≡ true
             → ObeysImport S.Store result self.new h (asked command.now (file_reading text))) }
+        ensures forgets { (h : History) → Shows S.Store self.old h → (kept_names self.new ≡ []) ⊎ Shows S.Store self.new h }
         ensures fault { result ≡ Err ImportEnd.Body → IsSome (I.read_fault input.new) }
         ensures fault_first { IsSome (I.read_fault input.new) → result ≡ Err ImportEnd.Body }
         ensures goes { I.goes input.old input.new }
@@ -139,6 +142,7 @@ impl<S: Alter + Drop> Registry<S> {
         ensures clean { HasCleanDisk S.Store self.new → HasCleanDisk S.Store self.old }
         ensures obeyed { HasCleanDisk S.Store self.new → (h : History) → Shows S.Store self.old h → is_import command.now.act ≡ true → length file.now ≤ most_file_bytes
             → Obeys S.Store result self.new h (asked command.now (file_reading file.now)) }
+        ensures forgets { (h : History) → Shows S.Store self.old h → (kept_names self.new ≡ []) ⊎ Shows S.Store self.new h }
         ensures alive { IfErr result (λ e. e ≢ Refusal.Failed) }
     {
         let mut input = SliceInput::new(file);
@@ -163,6 +167,8 @@ impl<S: Alter + Drop> Registry<S> {
         // An import of what was read of the input is obeyed.
         ensures obeyed { HasRead result (I.to_come input.old) (I.to_come input.new) (λ text.
             HasCleanDisk S.Store self.new → (h : History) → Shows S.Store self.old h → ObeysImport S.Store result self.new h (import_of account key (file_reading text))) }
+        // No name is kept in memory, unless it shows the history as before.
+        ensures forgets { (h : History) → Shows S.Store self.old h → (kept_names self.new ≡ []) ⊎ Shows S.Store self.new h }
         // Body is answered exactly where the input failed.
         ensures fault { result ≡ Err ImportEnd.Body → IsSome (I.read_fault input.new) }
         ensures fault_first { IsSome (I.read_fault input.new) → result ≡ Err ImportEnd.Body }
@@ -193,6 +199,7 @@ impl<S: Alter + Drop> Registry<S> {
         // A file that is too long is refused before all else.
         ensures form { lives self.old ≡ true → most_file_bytes < length file.now → (result ≡ Err Refusal.BadText) × (self.new ≡ self.old) }
         ensures obeyed { HasCleanDisk S.Store self.new → (h : History) → Shows S.Store self.old h → Obeys S.Store result self.new h (import_of account key (file_reading file.now)) }
+        ensures forgets { (h : History) → Shows S.Store self.old h → (kept_names self.new ≡ []) ⊎ Shows S.Store self.new h }
         ensures alive { lives self.old ≡ true → IfErr result (λ e. e ≢ Refusal.Failed) }
     {
         long_files_are_refused();

@@ -2,6 +2,7 @@
 ghost use Rattle.std.specs.Prelude.{◌≡◌, ◌≢◌, false, is_some, IfOk, IfErr};
 ghost use Rattle.pid_moderation.specs.FactsOfViews.{facts_of};
 ghost use Rattle.pid_moderation.specs.History.{History, Reading, asked, is_import};
+ghost use Rattle.pid_moderation.specs.Revisions.{IsMarked};
 ghost use Rattle.pid_moderation.specs.Views.{views_of};
 ghost use Rattle.pid_rows.specs.Clauses.{AtRest, HasCleanDisk, OnlyReads};
 ghost use Rattle.pid_service.specs.Histories.{IsFault, IsReached};
@@ -29,7 +30,7 @@ fn is_there(reply: Option<Reply>) -> bool
 }
 
 fn judged_by(facts: &Facts, command: &Command) -> Result<Judged, Refusal>
-    ensures judged { (h : History) (reading : Reading) → is_import command.now.act ≡ false → facts.now ≡ facts_of (views_of h) (asked command.now reading) → Judges h (asked command.now reading) result }
+    ensures judged { (h : History) (reading : Reading) → IsMarked h → is_import command.now.act ≡ false → facts.now ≡ facts_of (views_of h) (asked command.now reading) → Judges h (asked command.now reading) result }
     ensures alive { IfErr result (λ e. e ≢ Refusal.Failed) }
 {
     match decide(facts, command) {

@@ -21,10 +21,10 @@ pub use exporting::ExportFault;
 pub use importing::ImportEnd;
 pub use laws::{commands_lead_on, reached_histories_are_kept};
 pub use lives::{
-    clauses_meet_lives, first_openings_show_nothing, openings_find_histories,
+    clauses_meet_lives, first_openings_show_what_is_there, migrations_keep_histories, openings_find_histories,
     reopened_registries_show_prefixes, repeats_end_doubts,
 };
-pub use opening::open;
+pub use opening::{migrate, open};
 pub use registry::Registry;
 pub use running::RunReport;
 
@@ -32,4 +32,5 @@ pub use running::RunReport;
 pub use pid_ident::{Account, Input, Key, Name, Output, Path};
 pub use pid_lookup::{Answer, Args, LookupRefusal, args_of};
 pub use pid_moderation::{Command, Refusal, Reply, command_of, reply_line};
-pub use pid_tables::{Discussion, Item, Pending, TableFault};
+pub use pid_table_lists::{ChangedItem, Changes};
+pub use pid_tables::{Discussion, Item, Pending, Step, TableFault};

@@ -1,7 +1,7 @@
 //! From the calls on registries to the crash prefix. Each law is the contract of a function that does nothing of its own.
 //!
 //! The calls of a life each do what `clauses_meet_lives` says of their clauses; from the end of a life to the next opening leads
-//! `openings_find_histories`. So lives lead from a first opening, of which `first_openings_show_nothing` speaks, to a last one,
+//! `openings_find_histories`. So lives lead from a first opening, of which `first_openings_show_what_is_there` speaks, to a last one,
 //! and `reopened_registries_show_prefixes` says what that shows.
 ghost use Rattle.std.specs.Prelude.{◌≡◌, ◌⊎◌, ℕ, true, false, List, [], Option, Some, Ok, Err, Result};
 ghost use Rattle.sqlite.specs.Held.{Held};
@@ -17,15 +17,17 @@ ghost use Rattle.pid_lives.specs.Registries.{CallsLead, Does, Finds, LivesLead};
 ghost use Rattle.pid_rows.specs.declared.fault.TableFault.{TableFault};
 ghost use Rattle.pid_rows.specs.Clauses as clauses;
 ghost use Rattle.pid_rows.specs.Faults.{IsUntold};
+ghost use Rattle.pid_rows.specs.Leaves.{IsShown};
+ghost use Rattle.pid_tables.specs.declared.migration.Step.{Step};
 ghost use Rattle.pid_tables.specs.Clauses.{IsOpened, ShowsOrBlank};
 ghost use Rattle.pid_tables.specs.Creation.{IsBare};
 ghost use Rattle.pid_service.specs.declared.importing.ImportEnd as ends;
 ghost use Rattle.pid_service.specs.declared.importing.ImportEnd.TheVariants.{Body, Refused};
 ghost use Rattle.pid_service.specs.declared.registry.Registry as registry;
 ghost use Rattle.pid_service.specs.declared.running.RunReport as runs;
-ghost use Rattle.pid_service.specs.Histories.{FailsBetween, Shows};
+ghost use Rattle.pid_service.specs.Histories.{FailsBetween, IsReached, Shows};
 ghost use Rattle.pid_service.specs.Importing.{ObeysImport};
-ghost use Rattle.pid_service.specs.Lives.{LeavesTablesTo, IsAfterStop, OpensTo, ShowsPrefixes, import_sent, showing as registry_showing};
+ghost use Rattle.pid_service.specs.Lives.{LeavesTablesTo, IsAfterStop, MovesTo, OpensTo, ShowsPrefixes, import_sent, showing as registry_showing};
 ghost use Rattle.pid_service.specs.Obeying.{Obeys};
 ghost use Rattle.pid_service.specs.Registries.{HasCleanDisk, connection, is_live as lives};
 ghost use Rattle.pid_service.specs.Running.{Runs};
@@ -70,14 +72,28 @@ pub fn clauses_meet_lives<S: Alter + Drop>()
     calls_do::<Registry<S>>();
 }
 
-/// The first opening. A database without tables has what the history of a new registry shows, and the registry that is opened there
-/// shows that history. Where the opening failed, what it leaves to a stop still shows it.
-pub fn first_openings_show_nothing<S: Alter + Drop>()
+/// The first opening. A database without tables has what the history of a new registry shows, and one that was just opened on tables has the
+/// history that they show, in whichever schema. The registry that is opened there shows that history. Where the opening failed, what it leaves to
+/// a stop still shows it.
+pub fn first_openings_show_what_is_there<S: Alter + Drop>()
     ensures bare { (conn : Held S) → IsOpened S.Store conn → IsBare (clauses.seen S.Store conn).trees → ShowsOrBlank S.Store conn new_history }
-    ensures opened { (conn : Held S) (first : registry.Registry S S.Store) → ShowsOrBlank S.Store conn new_history → OpensTo S.Store conn (Ok first)
-        → HasCleanDisk S.Store first → Shows S.Store first new_history }
-    ensures failed { (conn back next : Held S) (fault : TableFault) → ShowsOrBlank S.Store conn new_history → OpensTo S.Store conn (Err (fault, back))
-        → IsAfterStop S.Store back next → ShowsOrBlank S.Store next new_history }
+    ensures new { IsReached new_history }
+    ensures there { (conn : Held S) (h : History) → IsOpened S.Store conn → IsShown (clauses.seen S.Store conn).trees (views_of h) → ShowsOrBlank S.Store conn h }
+    ensures opened { (conn : Held S) (first : registry.Registry S S.Store) (h : History) → IsReached h → ShowsOrBlank S.Store conn h
+        → OpensTo S.Store conn (Ok first) → HasCleanDisk S.Store first → Shows S.Store first h }
+    ensures failed { (conn back next : Held S) (fault : TableFault) (h : History) → IsReached h → ShowsOrBlank S.Store conn h
+        → OpensTo S.Store conn (Err (fault, back)) → IsAfterStop S.Store back next → ShowsOrBlank S.Store next h }
+{}
+
+/// A migration before an opening. The tables that it leaves show the history in the schema of today. Where it failed it told of no damage and no
+/// later schema, and what it leaves to a stop shows the same history, in the one schema or the other.
+pub fn migrations_keep_histories<S: Alter + Drop>()
+    ensures moved { (conn moved : Held S) (step : Step) (h : History) → IsReached h → ShowsOrBlank S.Store conn h
+        → MovesTo S.Store conn (Ok (moved, step)) → clauses.HasCleanDisk S.Store moved → clauses.AtRest S.Store moved (views_of h) }
+    ensures untold { (conn back : Held S) (fault : TableFault) (h : History) → IsReached h → ShowsOrBlank S.Store conn h
+        → MovesTo S.Store conn (Err (fault, back)) → clauses.HasCleanDisk S.Store back → IsUntold fault }
+    ensures failed { (conn back next : Held S) (fault : TableFault) (h : History) → IsReached h → ShowsOrBlank S.Store conn h
+        → MovesTo S.Store conn (Err (fault, back)) → IsAfterStop S.Store back next → ShowsOrBlank S.Store next h }
 {}
 
 /// From the end of a life to the next opening.
@@ -101,7 +117,7 @@ pub fn openings_find_histories<S: Alter + Drop>()
 /// The crash prefix. Let the first registry show a history, that without commands where it is new, and let each further one be opened on
 /// what the one before it left, after any calls, over a stop at any place, a fault or a close. Then the last one shows the history
 /// after the first one's and a prefix of the commands of each life, joined in order, which holds every acknowledged one. It is of the
-/// mark of the first one, which no table tells yet. The printed text of its tree reads back to that tree, and to no other.
+/// mark of the first one, from which the revision and the numbers that the tables show are counted. The printed text of its tree reads back to that tree, and to no other.
 ///
 /// That text is what `export` writes of a registry that shows the history, and `lookup` answers over the same tree. All
 /// while the disk returns what was written.

@@ -1,5 +1,5 @@
 //! One command: it is judged, and what comes of it is written.
-ghost use Rattle.std.specs.Prelude.{◌≡◌, ◌≢◌, false, true, Ok, Err, IfErr, OnOk, OnErr};
+ghost use Rattle.std.specs.Prelude.{◌≡◌, ◌≢◌, false, true, [], Ok, Err, IfErr, OnOk, OnErr};
 ghost use Rattle.pid_moderation.specs.Changes.{changed, Fits};
 ghost use Rattle.pid_moderation.specs.CheckTables.{is_broken};
 ghost use Rattle.pid_moderation.specs.History.{Asked, History, Reading, asked, is_import};
@@ -10,7 +10,7 @@ ghost use Rattle.pid_import.specs.Files.{asks};
 ghost use Rattle.pid_service.specs.Histories.{IsFault, IsReached, Shows};
 ghost use Rattle.pid_service.specs.Judging.{Judges};
 ghost use Rattle.pid_service.specs.KeptNames.{AreNamesOf, kept_names};
-ghost use Rattle.pid_service.specs.Obeying.{Obeys};
+ghost use Rattle.pid_service.specs.Obeying.{Forgets, Obeys};
 ghost use Rattle.pid_service.specs.Registries.{HasCleanDisk, connection, is_live as lives};
 
 use crate::forgetting::forget_for;
@@ -29,6 +29,7 @@ impl<S: Alter + Drop> Registry<S> {
         ensures stands { (v : Views) → AtRest S.Store (connection self.old) v → Fits change.now v → OnOk result (AtRest S.Store (connection self.new) (changed change.now v)) }
         ensures either { (v : Views) → AtRest S.Store (connection self.old) v → Fits change.now v → OnErr result (LeavesEither S.Store (connection self.new) v (changed change.now v)) }
         ensures names { (v : Views) → AreNamesOf (kept_names self.old) v → OnOk result (AreNamesOf (kept_names self.new) (changed change.now v)) }
+        ensures forgets { (v : Views) → (changed change.now v).items ≢ v.items → kept_names self.new ≡ [] }
         ensures lives { OnOk result (lives self.new ≡ lives self.old) }
         ensures fails { OnErr result (lives self.new ≡ false) }
         ensures fault { IfErr result IsFault }
@@ -48,6 +49,7 @@ impl<S: Alter + Drop> Registry<S> {
     fn settle(&mut self, judged: Judged) -> Result<Reply, Refusal>
         ensures clean { HasCleanDisk S.Store self.new → HasCleanDisk S.Store self.old }
         ensures settled { (h : History) (c : Asked) → Shows S.Store self.old h → IsReached (after h c) → Judges h c (Ok judged) → Obeys S.Store result self.new h c }
+        ensures forgets { (h : History) (c : Asked) → Shows S.Store self.old h → Judges h c (Ok judged) → Forgets S.Store self.new h c }
         ensures alive { IfErr result (λ e. e ≢ Refusal.Failed) }
     {
         match judged {
@@ -63,6 +65,7 @@ impl<S: Alter + Drop> Registry<S> {
     fn obey_act(&mut self, command: &Command) -> Result<Reply, Refusal>
         ensures clean { HasCleanDisk S.Store self.new → HasCleanDisk S.Store self.old }
         ensures obeyed { HasCleanDisk S.Store self.new → (h : History) → Shows S.Store self.old h → is_import command.now.act ≡ false → Obeys S.Store result self.new h (asks command.now) }
+        ensures forgets { HasCleanDisk S.Store self.new → (h : History) → Shows S.Store self.old h → is_import command.now.act ≡ false → Forgets S.Store self.new h (asks command.now) }
         ensures alive { IfErr result (λ e. e ≢ Refusal.Failed) }
     {
         command_is_well_made(command);
@@ -77,6 +80,7 @@ impl<S: Alter + Drop> Registry<S> {
     fn obey_good(&mut self, command: &Command) -> Result<Reply, Refusal>
         ensures clean { HasCleanDisk S.Store self.new → HasCleanDisk S.Store self.old }
         ensures obeyed { HasCleanDisk S.Store self.new → (h : History) → Shows S.Store self.old h → is_broken command.now.act ≡ false → Obeys S.Store result self.new h (asks command.now) }
+        ensures forgets { HasCleanDisk S.Store self.new → (h : History) → Shows S.Store self.old h → Forgets S.Store self.new h (asks command.now) }
         ensures alive { IfErr result (λ e. e ≢ Refusal.Failed) }
     {
         if let Act::Import { file } = &command.act {
@@ -92,6 +96,7 @@ impl<S: Alter + Drop> Registry<S> {
         ensures failed { lives self.old ≡ false → (result ≡ Err Refusal.Failed) × (self.new ≡ self.old) }
         ensures form { lives self.old ≡ true → is_broken command.now.act ≡ true → (result ≡ Err Refusal.BadText) × (self.new ≡ self.old) }
         ensures obeyed { HasCleanDisk S.Store self.new → (h : History) → Shows S.Store self.old h → Obeys S.Store result self.new h (asks command.now) }
+        ensures forgets { HasCleanDisk S.Store self.new → (h : History) → Shows S.Store self.old h → Forgets S.Store self.new h (asks command.now) }
         ensures alive { lives self.old ≡ true → IfErr result (λ e. e ≢ Refusal.Failed) }
     {
         if !self.live {
@@ -115,6 +120,8 @@ impl<S: Alter + Drop> Registry<S> {
         // What breaks a rule of form is refused before all else.
         ensures form { lives self.old ≡ true → is_broken command.act ≡ true → (result ≡ Err Refusal.BadText) × (self.new ≡ self.old) }
         ensures obeyed { HasCleanDisk S.Store self.new → (h : History) → Shows S.Store self.old h → Obeys S.Store result self.new h (asks command) }
+        // Where it leaves other items, no name is kept in memory.
+        ensures forgets { HasCleanDisk S.Store self.new → (h : History) → Shows S.Store self.old h → Forgets S.Store self.new h (asks command) }
         // And no live one gives this answer, whatever its disk does.
         ensures alive { lives self.old ≡ true → IfErr result (λ e. e ≢ Refusal.Failed) }
     {

@@ -1,54 +1,80 @@
-//! Opens a registry.
-ghost use Rattle.std.specs.Prelude.{◌≡◌, true, false, None, IfOk, IfErr, OnOk, OnErr, MatchResult};
-ghost use Rattle.pid_moderation.specs.History.{History};
+//! Opens a registry, and moves a database to the schema of today.
+ghost use Rattle.std.specs.Prelude.{◌≡◌, ◌⊎◌, ◌↔◌, true, false, Some, IfOk, IfErr, MatchResult};
+ghost use Rattle.pid_moderation.specs.History.{History, new_history};
 ghost use Rattle.pid_moderation.specs.Views.{views_of};
-ghost use Rattle.pid_rows.specs.Clauses.{AtRest, HasCleanDisk, OnlyReads, is_open, seen};
+ghost use Rattle.pid_rows.specs.declared.version.Version.TheVariants.{One, Two};
+ghost use Rattle.pid_rows.specs.Clauses.{AtRest, HasCleanDisk, OnlyReads, RestsIn, is_open, seen};
 ghost use Rattle.pid_rows.specs.Faults.{IsUntold};
-ghost use Rattle.pid_rows.specs.Schema.{pid_schema};
-ghost use Rattle.pid_table_check.specs.Checking.{Explains};
-ghost use Rattle.pid_table_check.specs.Conditions.{IsRegistry, rows_in};
-ghost use Rattle.pid_table_check.specs.Shapes.{ExplainsLater, HasEachTable, HasNoTable, HasSomeTable, LacksATable, ShowsLater};
-ghost use Rattle.pid_tables.specs.Clauses.{IsMet, ShowsOrBlank};
+ghost use Rattle.pid_table_check.specs.Checking.{Explains, Finds};
+ghost use Rattle.pid_table_check.specs.Shapes.{HasNoTable, HasSomeTable};
+ghost use Rattle.pid_tables.specs.Clauses.{IsBlank, IsMet, ShowsOrBlank};
 ghost use Rattle.pid_tables.specs.Creation.{IsOfMaking};
 ghost use Rattle.pid_service.specs.Histories.{IsReached};
-ghost use Rattle.pid_service.specs.Opening.{LeavesHistory, Opens, Rejects};
+ghost use Rattle.pid_service.specs.Opening.{Fails, IsFound, LeavesHistory, Moves, Opens, Refuses, Rejects};
 ghost use Rattle.pid_service.specs.Registries as registries;
 
 use crate::laws::reached_histories_are_kept;
 use crate::registry::Registry;
 use pid_name_cache::NameCache;
-use pid_table_check::{has_some_table, schemas_have_tables};
-use pid_tables::{TableFault, Tables, create};
+use pid_tables::{Step, TableFault, Tables, Version};
 use sqlite::{Alter, Connection};
 use std::alloc::Global;
 
-// Makes the tables where there is none, and else judges them.
+fn is_today(found: Option<Version>) -> bool
+    ensures { result ≡ true ↔ (found ≡ Some Two) }
+{
+    match found {
+        Some(Version::Two) => true,
+        Some(Version::One) | None => false,
+    }
+}
+
+// Judges tables in the schema of today. There are no others behind a migration.
+fn judge_tables<S: Alter + Drop>(tables: &mut Tables<S>, alloc: Global) -> Result<(), TableFault>
+    requires { tables.old.conn.in_transaction ≡ false }
+    ensures rests { OnlyReads S.Store tables.old.conn tables.new.conn }
+    ensures good { HasCleanDisk S.Store tables.new.conn → (h : History) → IsReached h → AtRest S.Store tables.old.conn (views_of h) → IfErr result IsUntold }
+    ensures shut { HasCleanDisk S.Store tables.new.conn → is_open S.Store tables.old.conn ≡ false → MatchResult result (λ _. ⊥) IsUntold }
+    ensures told { HasCleanDisk S.Store tables.new.conn → HasSomeTable (seen S.Store tables.old.conn).schema
+        → MatchResult result (λ _. Finds (seen S.Store tables.old.conn) (Some Two)) (λ e. Explains (seen S.Store tables.old.conn) e ⊎ Finds (seen S.Store tables.old.conn) (Some One)) }
+{
+    reached_histories_are_kept();
+    match tables.check(alloc) {
+        Err(fault) => Err(fault),
+        Ok(found) => {
+            if is_today(found) {
+                Ok(())
+            } else {
+                Err(TableFault::Store)
+            }
+        }
+    }
+}
+
+// Makes the tables where there is none, moves those of schema 1, and judges them.
 fn make_ready<S: Alter + Drop>(tables: &mut Tables<S>, alloc: Global) -> Result<(), TableFault>
     requires { tables.old.conn.in_transaction ≡ false }
     ensures settled { tables.new.conn.in_transaction ≡ false }
     ensures clean { HasCleanDisk S.Store tables.new.conn → HasCleanDisk S.Store tables.old.conn }
-    ensures ready { HasCleanDisk S.Store tables.new.conn → (h : History) → IsReached h → ShowsOrBlank S.Store tables.old.conn h → OnOk result (AtRest S.Store tables.new.conn (views_of h)) }
-    ensures untold { HasCleanDisk S.Store tables.new.conn → (h : History) → IsReached h → ShowsOrBlank S.Store tables.old.conn h → IfErr result IsUntold }
-    ensures crash { HasCleanDisk S.Store tables.new.conn → (h : History) → IsReached h → ShowsOrBlank S.Store tables.old.conn h → OnErr result (LeavesHistory S.Store tables.new.conn h) }
-    ensures told { HasCleanDisk S.Store tables.new.conn → (seen S.Store tables.old.conn).schema ≡ pid_schema
-        → MatchResult result (λ x. IsRegistry (seen S.Store tables.old.conn).trees) (Explains (rows_in (seen S.Store tables.old.conn).trees)) }
-    ensures lacking { HasCleanDisk S.Store tables.new.conn → LacksATable (seen S.Store tables.old.conn).schema → MatchResult result (λ x. ⊥) (ExplainsLater (seen S.Store tables.old.conn)) }
-    ensures later { HasCleanDisk S.Store tables.new.conn → HasEachTable (seen S.Store tables.old.conn).schema
-        → MatchResult result (λ x. ShowsLater (seen S.Store tables.old.conn) None) (ExplainsLater (seen S.Store tables.old.conn)) }
-    ensures met { HasCleanDisk S.Store tables.new.conn → HasNoTable (seen S.Store tables.old.conn).schema → IsMet S.Store tables.old.conn → MatchResult result (λ _. ⊥) IsOfMaking }
+    ensures ready { HasCleanDisk S.Store tables.new.conn → (h : History) → IsReached h → ShowsOrBlank S.Store tables.old.conn h
+        → MatchResult result (λ _. AtRest S.Store tables.new.conn (views_of h)) (λ e. IsUntold e × LeavesHistory S.Store tables.new.conn h) }
+    ensures told { HasCleanDisk S.Store tables.new.conn → HasSomeTable (seen S.Store tables.old.conn).schema
+        → MatchResult result (λ _. IsFound (seen S.Store tables.old.conn)) (λ e. Refuses S.Store tables.old.conn e tables.new.conn) }
+    ensures met { HasCleanDisk S.Store tables.new.conn → HasNoTable (seen S.Store tables.old.conn).schema → IsMet S.Store tables.old.conn
+        → MatchResult result (λ _. ⊥) (λ e. IsOfMaking e × OnlyReads S.Store tables.old.conn tables.new.conn) }
     ensures shut { HasCleanDisk S.Store tables.new.conn → is_open S.Store tables.old.conn ≡ false → MatchResult result (λ _. ⊥) IsUntold }
-    ensures rests { HasCleanDisk S.Store tables.new.conn → HasSomeTable (seen S.Store tables.old.conn).schema → OnlyReads S.Store tables.old.conn tables.new.conn }
-    ensures rests_met { IsMet S.Store tables.old.conn → OnlyReads S.Store tables.old.conn tables.new.conn }
 {
     reached_histories_are_kept();
-    schemas_have_tables();
-    if has_some_table(&mut tables.conn)? {
-        return tables.check(alloc);
+    // Outside a transaction nothing is uncommitted, so that both see the same.
+    let _settled = tables.conn.is_autocommit();
+    match pid_tables::migrate(&mut tables.conn, alloc) {
+        Err(fault) => Err(fault),
+        Ok(_) => judge_tables(tables, alloc),
     }
-    create(&mut tables.conn)
 }
 
-/// Opens the registry whose tables the connection has, or makes a new one where it has none of them.
+/// Opens the registry whose tables the connection has, or makes a new one where it has none of them. Tables of an older schema are moved first,
+/// as `migrate` does.
 ///
 /// Where it fails it hands the connection back: `NewerSchema` of a schema that is later than this one, which is judged first;
 /// `Damaged` of tables that break a condition (docs/STORAGE.md), or where something else has the name of one; else `Memory` or `Store`.
@@ -62,23 +88,16 @@ pub fn open<S: Alter + Drop>(
     ensures clean { MatchResult result (λ r. registries.HasCleanDisk S.Store r → HasCleanDisk S.Store conn) (λ e. HasCleanDisk S.Store e.1 → HasCleanDisk S.Store conn) }
     ensures lives { IfOk result (λ r. registries.is_live r ≡ true) }
     ensures settled { IfErr result (λ e. e.1.in_transaction ≡ false) }
-    // Tables that show a history are opened as they are. Where there is no table, a new registry is made.
+    // Tables that show a history are opened with that history, whichever schema they have. Where there is no table, a new registry is made.
     ensures opened { (h : History) → IsReached h → ShowsOrBlank S.Store conn h → Opens S.Store result h }
-    // The six tables alone are opened only where they keep all conditions of a registry, and are refused for one that fails.
-    ensures told { (seen S.Store conn).schema ≡ pid_schema → MatchResult result (λ r. registries.HasCleanDisk S.Store r → IsRegistry (seen S.Store conn).trees)
-        (λ e. HasCleanDisk S.Store e.1 → Explains (rows_in (seen S.Store conn).trees) e.0 × OnlyReads S.Store conn e.1) }
-    // Some of the six without the others are refused.
-    ensures lacking { LacksATable (seen S.Store conn).schema → Rejects S.Store conn result (ExplainsLater (seen S.Store conn)) }
-    // Of six tables, whatever else they are, a later schema is refused, and no other is told as later.
-    ensures later { HasEachTable (seen S.Store conn).schema → MatchResult result (λ r. registries.HasCleanDisk S.Store r → ShowsLater (seen S.Store conn) None)
-        (λ e. HasCleanDisk S.Store e.1 → ExplainsLater (seen S.Store conn) e.0 × OnlyReads S.Store conn e.1) }
-    // Something else under one of their names is refused too.
-    ensures met { HasNoTable (seen S.Store conn).schema → IsMet S.Store conn → Rejects S.Store conn result IsOfMaking }
-    ensures shut { is_open S.Store conn ≡ false → Rejects S.Store conn result IsUntold }
-    // Where there is some table, a refusal leaves everything as it was.
-    ensures rests { HasSomeTable (seen S.Store conn).schema → IfErr result (λ e. HasCleanDisk S.Store e.1 → OnlyReads S.Store conn e.1) }
+    // Where there is some table, they are opened only where they keep all conditions of a registry in the schema that they name. Of others
+    // the fault tells which one fails, and everything is as it was.
+    ensures told { HasSomeTable (seen S.Store conn).schema → MatchResult result (λ r. registries.HasCleanDisk S.Store r → IsFound (seen S.Store conn))
+        (λ e. HasCleanDisk S.Store e.1 → Refuses S.Store conn e.0 e.1) }
+    // Where there is none, something else under one of their names is refused.
+    ensures met { HasNoTable (seen S.Store conn).schema → IsMet S.Store conn → Rejects S.Store registries.connection conn result IsOfMaking }
+    ensures shut { is_open S.Store conn ≡ false → Fails S.Store registries.connection result }
 {
-    schemas_have_tables();
     let Ok(names) = NameCache::new(alloc) else {
         return Err((TableFault::Memory, conn));
     };
@@ -91,5 +110,32 @@ pub fn open<S: Alter + Drop>(
             alloc,
         }),
         Err(fault) => Err((fault, tables.into_conn())),
+    }
+}
+
+/// Moves a database to the schema of today, in one transaction: it makes the tables where there is none (`Created`), moves those of schema 1,
+/// once all its conditions were judged (`Moved`), and leaves those of schema 2 unjudged (`Already`).
+///
+/// The history stays the same, and all of it stands before the mark: each name has the number 0, and so has the revision. Where it fails it
+/// hands the connection back, as `open` does, with the same faults.
+pub fn migrate<S: Alter + Drop>(
+    alloc: Global,
+    mut conn: Connection<S>,
+) -> Result<(Connection<S>, Step), (TableFault, Connection<S>)>
+    requires { conn.in_transaction ≡ false }
+    ensures clean { MatchResult result (λ r. HasCleanDisk S.Store r.0 → HasCleanDisk S.Store conn) (λ e. HasCleanDisk S.Store e.1 → HasCleanDisk S.Store conn) }
+    ensures settled { MatchResult result (λ r. r.0.in_transaction ≡ false) (λ e. e.1.in_transaction ≡ false) }
+    ensures created { IsBlank S.Store conn → Moves S.Store Step.Created result new_history }
+    ensures moved { (h : History) → IsReached h → RestsIn S.Store One conn (views_of h) → Moves S.Store Step.Moved result h }
+    ensures already { (h : History) → IsReached h → AtRest S.Store conn (views_of h) → Moves S.Store Step.Already result h }
+    // Where a condition fails of schema 1, the fault tells which one, and everything is as it was.
+    ensures told { HasSomeTable (seen S.Store conn).schema → IfErr result (λ e. HasCleanDisk S.Store e.1 → Refuses S.Store conn e.0 e.1) }
+    ensures met { HasNoTable (seen S.Store conn).schema → IsMet S.Store conn → Rejects S.Store (λ r. r.0) conn result IsOfMaking }
+    ensures shut { is_open S.Store conn ≡ false → Fails S.Store (λ r. r.0) result }
+{
+    reached_histories_are_kept();
+    match pid_tables::migrate(&mut conn, alloc) {
+        Ok(step) => Ok((conn, step)),
+        Err(fault) => Err((fault, conn)),
     }
 }

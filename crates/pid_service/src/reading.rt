@@ -1,9 +1,10 @@
 //! Questions to a registry.
-ghost use Rattle.std.specs.Prelude.{◌≡◌, ◌⊎◌, false, map, option_map, Some, Err, IfErr};
+ghost use Rattle.std.specs.Prelude.{◌≡◌, ◌⊎◌, false, map, option_copied, option_map, Some, Err, IfErr};
 ghost use Rattle.pid_ident.specs.PathTexts.{path_text};
 ghost use Rattle.pid_moderation.specs.Items.{name_at};
 ghost use Rattle.pid_moderation.specs.Views.{items_of, views_of};
 ghost use Rattle.pid_rows.specs.ItemPairs.{pair_of};
+ghost use Rattle.pid_table_lists.specs.ChangePages.{changes_in, page_of, start_text};
 ghost use Rattle.pid_table_lists.specs.Children.{children_of};
 ghost use Rattle.pid_table_lists.specs.Discussions.{discussion_in, shown_of};
 ghost use Rattle.pid_table_lists.specs.PendingPages.{pending_in, told_of};
@@ -15,6 +16,7 @@ use crate::registry::Registry;
 use pid_ident::{Name, Path};
 use pid_import::refusal_of;
 use pid_moderation::Refusal;
+use pid_table_lists::{Changes, changes_page};
 use pid_tables::{Discussion, Item, PAGE, Pending};
 use sqlite::Alter;
 
@@ -75,6 +77,22 @@ impl<S: Alter + Drop> Registry<S> {
         match self.tables.submission(self.alloc, number) {
             Ok(Some(found)) => Ok(found),
             Ok(None) => Err(Refusal::NoSubmission),
+            Err(fault) => Err(refusal_of(fault)),
+        }
+    }
+
+    /// The items that were named anew after a revision, in the canonical order, `PAGE` at most: each with its path, its name and the
+    /// number of the last change of it. Behind none, and then behind the last path that was told, pages go through all of them. Items that
+    /// were removed are not told. With it the revision that they are told of.
+    pub fn changes(&mut self, since: u64, after: Option<&Path>) -> Result<Changes, Refusal>
+        ensures { Answers S.Store self.old self.new result (λ h changes. page_of changes ≡ changes_in PAGE since (start_text (option_copied after.entry)) (views_of h)) }
+    {
+        if !self.live {
+            return Err(Refusal::Failed);
+        }
+        reached_histories_are_kept();
+        match changes_page(&mut self.tables.conn, self.alloc, since, after) {
+            Ok(changes) => Ok(changes),
             Err(fault) => Err(refusal_of(fault)),
         }
     }

@@ -2,7 +2,7 @@
 //!
 //! A row is a command, as `comment alice num=1&text=seen`, where the key of a caller stands before a slash; or `import`, the
 //! caller and the file, which comes whole, or by pieces with `slowly`; or a question: `export`, `read`, `children` with a path or `top`, `submission` and `pending` with a
-//! number, `lookup` with its fields. In a row `;` ends a line of a file and `>` is a tab.
+//! number, `changes` with a revision and a path, if there is one, `lookup` with its fields. In a row `;` ends a line of a file and `>` is a tab.
 use pid_ident::{Account, FaultyInput, FaultyOutput, Key, Path};
 use pid_lookup::{Answer, LookupRefusal, args_of};
 use pid_moderation::{Proposal, Refusal, Reply, State, reply_line};
@@ -263,6 +263,29 @@ fn submission<S: Alter + Drop>(
     }
 }
 
+// The revision, and the items that were named anew behind a revision and a path, where there is one.
+fn changes<S: Alter + Drop>(
+    registry: &mut Registry<S>,
+    alloc: Global,
+    rest: &str,
+) -> Result<String, Fail> {
+    let (since, after) = rest.split_once(' ').unwrap_or((rest, ""));
+    let after = Path::parse(after);
+    let found = match registry.changes(since.parse::<u64>()?, after.as_ref()) {
+        Ok(found) => found,
+        Err(refusal) => return refused(alloc, refusal),
+    };
+    let mut told = String::from_str(alloc, "revision ")?;
+    told.push_str(found.revision.to_string(alloc)?.as_str())?;
+    told.push(';')?;
+    for item in &found.items {
+        told.push_str(item.since.to_string(alloc)?.as_str())?;
+        told.push(' ')?;
+        tell_item(&mut told, alloc, item.path, item.name.as_str())?;
+    }
+    Ok(told)
+}
+
 fn lookup<S: Alter + Drop>(
     registry: &mut Registry<S>,
     alloc: Global,
@@ -301,6 +324,7 @@ pub(crate) fn told<S: Alter + Drop>(
         "pending" => pending(registry, alloc, rest.parse::<u32>()?),
         "submission" => submission(registry, alloc, rest.parse::<u32>()?),
         "lookup" => lookup(registry, alloc, rest),
+        "changes" => changes(registry, alloc, rest),
         _ => obey(registry, alloc, row),
     }
 }

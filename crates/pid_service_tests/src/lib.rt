@@ -12,6 +12,8 @@ mod kept_names;
 #[cfg(test)]
 mod look_ups;
 #[cfg(test)]
+mod migrations;
+#[cfg(test)]
 mod openings;
 #[cfg(test)]
 mod runs;

@@ -7,7 +7,7 @@ use std::alloc::Global;
 use std::test::Fail;
 
 // What opening tells of the database, and the connection.
-fn told_of(
+pub(crate) fn told_of(
     alloc: Global,
     conn: Connection<MemStore>,
 ) -> Result<(Option<TableFault>, Connection<MemStore>), Fail> {
@@ -43,7 +43,7 @@ fn what_was_closed_is_opened_again(rt: HostRuntime) -> Result<(), Fail> {
 }
 
 // A statement that damages a registry, what it is told as, and a statement that mends it.
-const DAMAGES: [(&str, TableFault, &str); 6] = [
+const DAMAGES: [(&str, TableFault, &str); 9] = [
     (
         "UPDATE meta SET value = 3 WHERE label = 'items'",
         TableFault::Damaged,
@@ -70,9 +70,24 @@ const DAMAGES: [(&str, TableFault, &str); 6] = [
         "UPDATE receipt SET a = 1",
     ),
     (
+        "UPDATE meta SET value = 3 WHERE label = 'schema'",
+        TableFault::NewerSchema(3),
         "UPDATE meta SET value = 2 WHERE label = 'schema'",
-        TableFault::NewerSchema(2),
-        "UPDATE meta SET value = 1 WHERE label = 'schema'",
+    ),
+    (
+        "UPDATE meta SET value = 2 WHERE label = 'revision'",
+        TableFault::Damaged,
+        "UPDATE meta SET value = 3 WHERE label = 'revision'",
+    ),
+    (
+        "UPDATE item_since SET since = 4",
+        TableFault::Damaged,
+        "UPDATE item_since SET since = 3",
+    ),
+    (
+        "DELETE FROM item_since",
+        TableFault::Damaged,
+        "INSERT INTO item_since VALUES ('PC/8086', 3)",
     ),
 ];
 
@@ -94,11 +109,15 @@ fn damage_is_refused_and_stays(rt: HostRuntime) -> Result<(), Fail> {
 }
 
 // What stands in a database before it is opened, and what opening tells.
-const BESIDE: [(&str, Option<TableFault>); 4] = [
+const BESIDE: [(&str, Option<TableFault>); 5] = [
     ("CREATE TABLE other (x INTEGER)", None),
     ("CREATE TABLE meta (x INTEGER)", Some(TableFault::Damaged)),
     (
         "CREATE TABLE receipt (x INTEGER)",
+        Some(TableFault::Damaged),
+    ),
+    (
+        "CREATE TABLE item_since (x INTEGER)",
         Some(TableFault::Damaged),
     ),
     (

@@ -1,7 +1,8 @@
 //! The disk stops at a call, and fails each one after: what opening then finds. The contracts say what a crash may leave; these
 //! tests show that the calls get there, over files in memory that keep what was synced alone.
-use crate::asking::{new_in_memory, opened, told};
-use pid_service::{Registry, open};
+use crate::asking::{expect_told, new_in_memory, opened, told};
+use crate::migrations::{MOVED, write_older};
+use pid_service::{Registry, Step, migrate, open};
 use pid_tables::TableFault;
 use sqlite::{Alter, Connection, FileStore, Files, Options};
 use sqlite_disk::{Crash, Disk, Fuse, Memory};
@@ -359,4 +360,86 @@ fn a_stop_of_an_import(rt: HostRuntime) -> Result<(), Fail> {
 #[test]
 fn a_stop_of_an_import_by_pieces(rt: HostRuntime) -> Result<(), Fail> {
     stop_import(&rt, rt.alloc(), "slowly")
+}
+
+// What files of the database of schema 1 hold.
+fn held_older(alloc: Global) -> Result<Held, Fail> {
+    let none = Held {
+        log: Vec::new(alloc),
+        db: Vec::new(alloc),
+    };
+    match connected(alloc, laid(alloc, &none, ALL)?) {
+        Ok(mut conn) => {
+            write_older(&mut conn)?;
+            let files = left(conn);
+            bytes_of(alloc, &files)
+        }
+        Err(_) => Err("a connection")?,
+    }
+}
+
+// Moves the tables. Where that is told as done, it was; else memory was short or the store failed.
+fn migrated<S: Alter + Drop>(
+    alloc: Global,
+    conn: Connection<S>,
+) -> Result<(bool, Connection<S>), Fail> {
+    if !conn.is_autocommit() {
+        return Err("a transaction is left")?;
+    }
+    match migrate(alloc, conn) {
+        Ok((conn, Step::Moved)) => Ok((true, conn)),
+        Ok(_) => Err("another step")?,
+        Err((TableFault::Memory | TableFault::Store, conn)) => Ok((false, conn)),
+        Err((fault, _)) => Err(fault)?,
+    }
+}
+
+// Whether the tables were moved, and the files behind it.
+fn migrated_files(
+    alloc: Global,
+    files: Files<Stopping>,
+) -> Result<(bool, Files<Stopping>), Fail> {
+    match connected(alloc, files) {
+        Ok(conn) => {
+            let (is_moved, conn) = migrated(alloc, conn)?;
+            Ok((is_moved, left(conn)))
+        }
+        Err(files) => Ok((false, files)),
+    }
+}
+
+// Opened again, the registry shows the same history.
+fn expect_moved<S: Alter + Drop>(
+    rt: &impl Abort,
+    alloc: Global,
+    conn: Connection<S>,
+) -> Result<(), Fail> {
+    let mut registry = opened(alloc, conn)?;
+    expect_told(rt, alloc, &mut registry, MOVED)
+}
+
+// Stops one of the files at each call of a migration, until it meets no stop.
+fn stop_migration(rt: &impl Abort, alloc: Global, of_log: bool) -> Result<(), Fail> {
+    let held = held_older(alloc)?;
+    for calls in 0..MOST {
+        let files = laid(alloc, &held, stop_at(of_log, calls))?;
+        let (is_moved, mut files) = migrated_files(alloc, files)?;
+        let is_whole = !has_stopped(&mut files);
+        crash(&mut files);
+        match connected(alloc, files) {
+            Ok(conn) => expect_moved(rt, alloc, conn)?,
+            Err(_) => return Err("the files are opened again")?,
+        }
+        if is_whole {
+            assert!(rt; is_moved);
+            return Ok(());
+        }
+    }
+    Err("a migration without a stop")?
+}
+
+#[test]
+fn a_stop_of_a_migration(rt: HostRuntime) -> Result<(), Fail> {
+    stop_migration(&rt, rt.alloc(), true)?;
+    stop_migration(&rt, rt.alloc(), false)
 }

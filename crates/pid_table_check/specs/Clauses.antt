@@ -9,8 +9,8 @@ use Rattle.pid_rows.specs.declared.fault.TableFault.{TableFault}
 use Rattle.pid_table_check.specs.Reading as reading
 
 module _ {S : Type 0} (store : Ghosts S) where
-  abbrev pub Tells : {X : Type 0} → Held S → Held S → Result X TableFault → (Database → Type 0) → (Database → X → Type 0) → (Database → TableFault → Type 0) → Type 0
-  Tells old new result Has Says Fails = reading.Tells (state store old) (state store new) result Has Says Fails
+  abbrev pub Judges : {X : Type 0} → Held S → Held S → Result X TableFault → (Database → Type 0) → (Database → X → Type 0) → (Database → TableFault → Type 0) → Type 0
+  Judges old new result Has Says Fails = reading.Judges (state store old) (state store new) result Has Says Fails
 
   abbrev pub Answers : Held S → Held S → Result (Vec Row Global) TableFault → List ℕ → Type 0
   Answers old new result text = reading.Answers (state store old) (state store new) result text

@@ -29,13 +29,13 @@ rows_of t = record {
 abbrev pub IsSubmitted : Rows → Type 0
 IsSubmitted t = AreSubmissions t.accounts t.submissions × AreRemarks t.remarks × AreReceipts t.submissions t.receipts
 
--- Of the database that the transaction sees, where a condition holds, a value says what it says, and the database stays; a fault says what it says.
-abbrev pub Tells : {X : Type 0} → State → State → Result X TableFault → (Database → Type 0) → (Database → X → Type 0) → (Database → TableFault → Type 0) → Type 0
-Tells old new result Has Says Fails = HasCleanDisk new → (d : Database) → old.now ≡ d → Has d → MatchResult result (λ x. Says d x × (new.now ≡ d)) (Fails d)
+-- Where the transaction sees a database of which `Has` holds: a value says `Says` of it, and the transaction still sees it; a fault says `Fails`.
+abbrev pub Judges : {X : Type 0} → State → State → Result X TableFault → (Database → Type 0) → (Database → X → Type 0) → (Database → TableFault → Type 0) → Type 0
+Judges old new result Has Says Fails = HasCleanDisk new → (d : Database) → old.now ≡ d → Has d → MatchResult result (λ x. Says d x × (new.now ≡ d)) (Fails d)
 
 -- the rows that a query answers, where it can be asked
 abbrev pub Answers : State → State → Result (Vec Row Global) TableFault → List ℕ → Type 0
-Answers old new result text = Tells old new result (λ d. IsAsked d.schema text) (λ d rows. ShowsRows d text rows.items) (λ d. IsUntold)
+Answers old new result text = Judges old new result (λ d. IsAsked d.schema text) (λ d rows. ShowsRows d text rows.items) (λ d. IsUntold)
 
 -- the tables of the schema are not a registry's, or nothing is told of them
 abbrev pub TellsDamage : Version → Database → TableFault → Type 0

@@ -5,7 +5,7 @@ ghost use Rattle.pid_rows.specs.declared.version.Version.{Version as Schema};
 ghost use Rattle.pid_rows.specs.Clauses.{GoesOn, HasCleanDisk, OnlyReads, is_open, seen};
 ghost use Rattle.pid_table_check.specs.declared.shape.Table.TheVariants.{Meta};
 ghost use Rattle.pid_table_check.specs.Checking.{Explains, Finds, IsRegistry, ShowsRegistry};
-ghost use Rattle.pid_table_check.specs.Clauses.{Tells};
+ghost use Rattle.pid_table_check.specs.Clauses.{Judges};
 ghost use Rattle.pid_table_check.specs.Queries.{query_of};
 ghost use Rattle.pid_table_check.specs.Reading.{ShowsFound, TellsDamage, TellsLater};
 ghost use Rattle.pid_table_check.specs.Shapes.{HasEachTable, HasTables, HasTablesOf, IsMadeFirst, ShowsLater, ShowsRows};
@@ -28,7 +28,7 @@ fn check_rows<S: Alter>(
 ) -> Result<(), TableFault>
     ensures same_reference { tx.new.conn.ghost_name ≡ tx.old.conn.ghost_name }
     ensures goes { GoesOn S.Store tx.old.conn.now tx.new.conn.now result }
-    ensures told { Tells S.Store tx.old.conn.now tx.new.conn.now result
+    ensures told { Judges S.Store tx.old.conn.now tx.new.conn.now result
         (λ d. HasTables version d.schema × ShowsRows d (query_of Meta) meta.items)
         (λ d x. ShowsRegistry version d) (TellsDamage version) }
 {
@@ -48,7 +48,7 @@ fn check_tables<S: Alter>(
 ) -> Result<(), TableFault>
     ensures same_reference { tx.new.conn.ghost_name ≡ tx.old.conn.ghost_name }
     ensures goes { GoesOn S.Store tx.old.conn.now tx.new.conn.now result }
-    ensures told { Tells S.Store tx.old.conn.now tx.new.conn.now result
+    ensures told { Judges S.Store tx.old.conn.now tx.new.conn.now result
         (λ d. HasEachTable d.schema × HasTablesOf version d.schema)
         (λ d x. ShowsFound version d) (TellsLater version) }
 {

@@ -3,7 +3,7 @@ ghost use Rattle.std.specs.Prelude.{◌≡◌, false, MatchResult};
 ghost use Rattle.pid_rows.specs.Faults.{IsUntold};
 ghost use Rattle.pid_rows.specs.Clauses.{GoesOn, HasCleanDisk, OnlyReads, seen};
 ghost use Rattle.pid_table_check.specs.declared.shape.Table.TheVariants.{Meta};
-ghost use Rattle.pid_table_check.specs.Clauses.{Tells};
+ghost use Rattle.pid_table_check.specs.Clauses.{Judges};
 ghost use Rattle.pid_table_check.specs.Queries.{query_of};
 ghost use Rattle.pid_table_check.specs.Shapes.{IsAsked, ShowsLater};
 ghost use Rattle.pid_table_check.specs.Lacking.{ExplainsLater};
@@ -17,7 +17,7 @@ use sqlite::{Alter, Connection, Transaction};
 fn read_later<S: Alter>(tx: &mut Transaction<'_, S>) -> Result<Option<u64>, TableFault>
     ensures same_reference { tx.new.conn.ghost_name ≡ tx.old.conn.ghost_name }
     ensures goes { GoesOn S.Store tx.old.conn.now tx.new.conn.now result }
-    ensures shows { Tells S.Store tx.old.conn.now tx.new.conn.now result (λ d. IsAsked d.schema (query_of Meta)) ShowsLater (λ d. IsUntold) }
+    ensures shows { Judges S.Store tx.old.conn.now tx.new.conn.now result (λ d. IsAsked d.schema (query_of Meta)) ShowsLater (λ d. IsUntold) }
 {
     let rows = table_rows(tx, Table::Meta)?;
     Ok(newer(rows.as_slice()))

@@ -7,7 +7,7 @@ ghost use Rattle.pid_table_check.specs.declared.shape.Table.TheVariants.{Meta, A
 ghost use Rattle.pid_table_check.specs.Queries.{query_of};
 ghost use Rattle.pid_table_check.specs.Shapes.{HasTables, HasEachTable, ShowsRows, ShowsSinces, ShowsTables};
 ghost use Rattle.pid_table_check.specs.Reading.{rows_of};
-ghost use Rattle.pid_table_check.specs.Clauses.{Tells};
+ghost use Rattle.pid_table_check.specs.Clauses.{Judges};
 
 use crate::read::table_rows;
 use crate::shape::Table;
@@ -35,7 +35,7 @@ fn read_items<S: Alter>(
 ) -> Result<(Vec<Row>, Vec<Row>), TableFault>
     ensures same_reference { tx.new.conn.ghost_name ≡ tx.old.conn.ghost_name }
     ensures goes { GoesOn S.Store tx.old.conn.now tx.new.conn.now result }
-    ensures told { Tells S.Store tx.old.conn.now tx.new.conn.now result (λ d. HasTables version d.schema)
+    ensures told { Judges S.Store tx.old.conn.now tx.new.conn.now result (λ d. HasTables version d.schema)
         (λ d rows. ShowsRows d (query_of Item) rows.0.items × ShowsSinces version d rows.1.items) (λ d. IsUntold) }
 {
     let items = table_rows(tx, Table::Item)?;
@@ -51,7 +51,7 @@ fn read_items<S: Alter>(
 fn read_submitted<S: Alter>(tx: &mut Transaction<'_, S>) -> Result<(Vec<Row>, Vec<Row>), TableFault>
     ensures same_reference { tx.new.conn.ghost_name ≡ tx.old.conn.ghost_name }
     ensures goes { GoesOn S.Store tx.old.conn.now tx.new.conn.now result }
-    ensures told { Tells S.Store tx.old.conn.now tx.new.conn.now result (λ d. HasEachTable d.schema)
+    ensures told { Judges S.Store tx.old.conn.now tx.new.conn.now result (λ d. HasEachTable d.schema)
         (λ d rows. ShowsRows d (query_of Submission) rows.0.items × ShowsRows d (query_of Remark) rows.1.items) (λ d. IsUntold) }
 {
     let submissions = table_rows(tx, Table::Submission)?;
@@ -62,7 +62,7 @@ fn read_submitted<S: Alter>(tx: &mut Transaction<'_, S>) -> Result<(Vec<Row>, Ve
 fn read_accounts<S: Alter>(tx: &mut Transaction<'_, S>) -> Result<(Vec<Row>, Vec<Row>), TableFault>
     ensures same_reference { tx.new.conn.ghost_name ≡ tx.old.conn.ghost_name }
     ensures goes { GoesOn S.Store tx.old.conn.now tx.new.conn.now result }
-    ensures told { Tells S.Store tx.old.conn.now tx.new.conn.now result (λ d. HasEachTable d.schema)
+    ensures told { Judges S.Store tx.old.conn.now tx.new.conn.now result (λ d. HasEachTable d.schema)
         (λ d rows. ShowsRows d (query_of Account) rows.0.items × ShowsRows d (query_of Receipt) rows.1.items) (λ d. IsUntold) }
 {
     let accounts = table_rows(tx, Table::Account)?;
@@ -79,7 +79,7 @@ pub(crate) fn read_tables<S: Alter>(
 ) -> Result<Tables, TableFault>
     ensures same_reference { tx.new.conn.ghost_name ≡ tx.old.conn.ghost_name }
     ensures goes { GoesOn S.Store tx.old.conn.now tx.new.conn.now result }
-    ensures told { Tells S.Store tx.old.conn.now tx.new.conn.now result
+    ensures told { Judges S.Store tx.old.conn.now tx.new.conn.now result
         (λ d. HasTables version d.schema × ShowsRows d (query_of Meta) meta.items)
         (λ d tables. ShowsTables version d (rows_of tables)) (λ d. IsUntold) }
 {

@@ -132,8 +132,8 @@ fn put_two(tables: &mut Tables<MemStore>, alloc: Global) -> Result<(Put, Put), T
     }
     let path = Path::parse("PC/8086").ok_or(TableFault::Damaged)?;
     let mut batch = begin(&mut tables.conn);
-    let renamed = put(&mut batch, alloc, &path, "Intel Corporation")?;
-    let same = put(&mut batch, alloc, &path, "Intel Corporation")?;
+    let renamed = put(&mut batch, alloc, &path, "Intel Corporation", 9)?;
+    let same = put(&mut batch, alloc, &path, "Intel Corporation", 9)?;
     roll_back(batch);
     Ok((renamed, same))
 }
@@ -215,8 +215,50 @@ fn commands_are_carried_out(rt: HostRuntime) -> Result<(), Fail> {
     assert!(rt; matches!(facts.kept, Some(Reply::Numbered(4))));
     let third = facts_of_bob(&mut tables, alloc, Rows::Submission(3))?;
     assert!(rt; third.named.is_some_and(|named| named.remarks == 1));
-    assert!(rt; judged(&mut tables, alloc)? == 1);
-    assert!(rt; made_anew(alloc)? == (0, 1));
+    assert!(rt; third.revision == 9);
+    assert!(rt; judged(&mut tables, alloc)? == 2);
+    assert!(rt; made_anew(alloc)? == (0, 2));
+    Ok(())
+}
+
+// The items that were named anew since a revision, the number of the last of them, and the revision now.
+fn changed(
+    tables: &mut Tables<MemStore>,
+    alloc: Global,
+    since: u64,
+    after: Option<&Path>,
+) -> Result<(String, u64, u64), TableFault> {
+    if !tables.conn.is_autocommit() {
+        return Err(TableFault::Store);
+    }
+    let mut told = String::new(alloc);
+    let mut last = 0;
+    let changes = tables.changes_page(alloc, since, after)?;
+    for item in &changes.items {
+        write_down(&mut told, alloc, item.path, item.name.as_str())?;
+        last = item.since;
+    }
+    Ok((told, last, changes.revision))
+}
+
+#[test]
+fn changes_are_told(rt: HostRuntime) -> Result<(), Fail> {
+    let alloc = rt.alloc();
+    let mut tables = new_in_memory(alloc)?;
+    let none = changed(&mut tables, alloc, 0, None)?;
+    assert!(rt; none.0.as_str() == "");
+    assert!(rt; none.2 == 0);
+    replies(&mut tables, alloc, LINES)?;
+    let all = changed(&mut tables, alloc, 0, None)?;
+    assert!(rt; all.0.as_str() == "PC/8086=Intel\nPC/8086/1237=440FX\n");
+    assert!(rt; (all.1, all.2) == (5, 8));
+    let later = changed(&mut tables, alloc, 4, None)?;
+    assert!(rt; later.0.as_str() == "PC/8086/1237=440FX\n");
+    let vendor = Path::parse("PC/8086");
+    let behind = changed(&mut tables, alloc, 3, vendor.as_ref())?;
+    assert!(rt; behind.0.as_str() == "PC/8086/1237=440FX\n");
+    let newest = changed(&mut tables, alloc, 5, None)?;
+    assert!(rt; newest.0.as_str() == "");
     Ok(())
 }
 

@@ -1,11 +1,11 @@
 -- What `check` wrote for the text of its input.
-use Rattle.std.specs.Prelude.{◌≡◌, ℕ, ◌≤◌, ◌⊎◌, [], ◌∷◌, ◌++◌, List, Option, None, length, codes, decimal}
+use Rattle.std.specs.Prelude.{ℕ, ◌⊎◌, [], ◌∷◌, ◌++◌, List, Option, length, codes, decimal}
 use Rattle.std.specs.Io.KnownBytes.{Appends}
-use Rattle.pid_reader.specs.Reading.{refused, history_of}
+use Rattle.pid_reader.specs.Reading.{history_of}
 use Rattle.pid_reader.specs.LookingBack.{entries_back}
 use Rattle.pid_ident.specs.Sending.{SendsFront}
+use Rattle.pid_texts.specs.Judgements.{IsGood}
 use Rattle.pid_texts.specs.Told.{IsTold}
-use Rattle.pid_texts.specs.declared.text_end.TheConstants.{LARGEST}
 use Rattle.pid_texts.specs.declared.text_end.TextEnd.{TextEnd}
 use Rattle.pid_texts.specs.declared.text_end.TextEnd.TheVariants.{Done, Line, TooManyEntries, TooLarge, Memory, ReadFault, WriteFault}
 
@@ -16,11 +16,6 @@ count_of text = length (entries_back (history_of text))
 -- the line of a good text with so many entries: ok 35598
 abbrev pub ok_line : ℕ → List ℕ
 ok_line count = codes "ok " ++ decimal count ++ 10 ∷ []
-
--- the text is good: it is short enough, and nothing in it is refused
-pub record IsGood (text : List ℕ) : Type 0 where
-  pub short : length text ≤ LARGEST
-  pub good : refused text ≡ None
 
 -- what was written, by the end: the count of a good text, or why there is none
 abbrev pub IsChecked : TextEnd → List ℕ → Option (List ℕ) → Option (List ℕ) → Type 0

@@ -7,6 +7,11 @@ use Rattle.pid_texts.specs.declared.text_end.TheConstants.{LARGEST}
 use Rattle.pid_texts.specs.declared.text_end.TextEnd.{TextEnd}
 use Rattle.pid_texts.specs.declared.text_end.TextEnd.TheVariants.{Done, Line, TooManyEntries, TooLarge, Memory, ReadFault, WriteFault}
 
+-- the text is good: it is short enough, and nothing in it is refused
+pub record IsGood (text : List ℕ) : Type 0 where
+  pub short : length text ≤ LARGEST
+  pub good : refused text ≡ None
+
 -- the text is short enough, nothing in it is refused, and it reads to the tree
 pub record ReadsWithin (text : List ℕ) (t : TreeMap) : Type 0 where
   pub short : length text ≤ LARGEST

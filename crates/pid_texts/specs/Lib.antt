@@ -3,3 +3,4 @@ pub mod Judgements
 pub mod Told
 pub mod Tidied
 pub mod Checked
+pub mod Statuses

@@ -1,6 +1,7 @@
 //! `tidy` and `check` between the files of a process, and the statuses that they end with.
-ghost use Rattle.std.specs.Prelude.{◌≡◌, true, false};
+ghost use Rattle.std.specs.Prelude.{◌≡◌, true, false, IfSome};
 ghost use Rattle.std.specs.Io.KnownBytes.{Keeps};
+ghost use Rattle.pid_texts.specs.Statuses.{IsStatusFor};
 ghost use Rattle.pid_texts.specs.TextEnds.{failed_line, fault_line, status_of};
 ghost use Rattle.pid_texts.specs.Told.{TriesLine};
 
@@ -17,7 +18,8 @@ pub const FAILED: u8 = 3;
 
 const BUFFER: usize = 65_536;
 
-/// Writes the canonical text of the input to the output, or the line of its fault to `faults`; answers the status.
+/// Writes the canonical text of the input to the output, or the line of its fault to `faults`; answers the status: 0 of a good
+/// text, 1 of one that is refused, and 3 where memory, the reader or a writer failed.
 ///
 /// A file that failed is told as `file: failed`, but where nobody reads the output any more.
 pub fn run_tidy<I: Read + Drop, O: Write + Drop, F: Write + Drop>(
@@ -25,7 +27,9 @@ pub fn run_tidy<I: Read + Drop, O: Write + Drop, F: Write + Drop>(
     input: I,
     output: O,
     faults: F,
-) -> u8 {
+) -> u8
+    ensures status { IfSome (I.remaining input) (λ text. IsStatusFor text result) }
+{
     let mut faults = Plain::new(faults);
     let Ok(buffer) = BufWriter::with_capacity(alloc, BUFFER, Watched::new(output)) else {
         return tell_end(TextEnd::Memory, &mut faults);
@@ -41,7 +45,7 @@ pub fn run_tidy<I: Read + Drop, O: Write + Drop, F: Write + Drop>(
     status(end, buffer.get_ref().is_unread(), &mut faults)
 }
 
-/// Writes the count of the input's entries, or the line of its fault, to the output; answers the status.
+/// Writes the count of the input's entries, or the line of its fault, to the output; answers the status as `run_tidy` does.
 ///
 /// A file that failed is told on `faults` as `file: failed`, but where nobody reads the output any more.
 pub fn run_check<I: Read + Drop, O: Write + Drop, F: Write + Drop>(
@@ -49,7 +53,9 @@ pub fn run_check<I: Read + Drop, O: Write + Drop, F: Write + Drop>(
     input: I,
     output: O,
     faults: F,
-) -> u8 {
+) -> u8
+    ensures status { IfSome (I.remaining input) (λ text. IsStatusFor text result) }
+{
     let mut input = Plain::new(input);
     let mut output = Plain::new(Watched::new(output));
     let end = check(alloc, &mut input, &mut output);

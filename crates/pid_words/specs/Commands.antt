@@ -58,6 +58,10 @@ import = command (codes "import") (required (option (codes "db")) ∷ required (
 abbrev pub export : App
 export = command (codes "export") (required (option (codes "db")) ∷ [])
 
+-- migrate --db FILE
+abbrev pub migrate : App
+migrate = command (codes "migrate") (required (option (codes "db")) ∷ [])
+
 -- a million connections, where nothing is said of them
 abbrev pub million : Rule → Rule
 million rule = record rule { defaults = codes "1000000" ∷ [] }
@@ -88,6 +92,11 @@ import_commands = script ∷ import ∷ []
 abbrev pub export_commands : List App
 export_commands = export ∷ serve ∷ []
 
+-- those that keep a registry's file as it should be
+abbrev pub care_commands : List App
+care_commands = migrate ∷ []
+
 -- `pciids` and its subcommands
 abbrev pub commands : App
-commands = with_subcommands export_commands (with_subcommands import_commands (with_subcommands text_commands (with_version (new_app (codes "pciids")))))
+commands = with_subcommands care_commands (with_subcommands export_commands (with_subcommands import_commands (with_subcommands text_commands
+    (with_version (new_app (codes "pciids"))))))

@@ -24,6 +24,7 @@ pub data Task : Type 0 where
   Imports : (db account : Text) (key : Option Text) (ids : Text) → Task
   Exports : (db : Text) → Task
   Serves : (db : Text) (port connections : ℕ) → Task
+  Migrates : (db : Text) → Task
 
 -- the text behind a reference that may be missing
 abbrev pub text_of : Option (Bor Text) → Option Text
@@ -43,6 +44,7 @@ task_of (jobs.Script db) = Runs (text_of db)
 task_of (jobs.Import db account key ids) = Imports db.now account.now (text_of key) ids.now
 task_of (jobs.Export db) = Exports db.now
 task_of (jobs.Serve db port connections) = Serves db.now port connections
+task_of (jobs.Migrate db) = Migrates db.now
 
 -- the value of an option that must be there
 abbrev pub needed : Text → List Row → Text
@@ -73,6 +75,7 @@ tasks = (codes "check", λ rows. Checks)
     ∷ (codes "import", λ rows. Imports (needed (codes "db") rows) (needed (codes "account") rows) (first_of (codes "key") rows) (needed (codes "ids") rows))
     ∷ (codes "export", λ rows. Exports (needed (codes "db") rows))
     ∷ (codes "serve", λ rows. Serves (needed (codes "db") rows) (number_of 16 (codes "port") rows) (number_of 32 (codes "connections") rows))
+    ∷ (codes "migrate", λ rows. Migrates (needed (codes "db") rows))
     ∷ (codes "tidy", λ rows. Tidies)
     ∷ []
 

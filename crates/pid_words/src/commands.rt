@@ -2,7 +2,7 @@
 ghost use Rattle.std.specs.Prelude.{◌≡◌, false, [], IfOk, codes};
 ghost use Rattle.clap.specs.Words.{app_of, new_app, rule_of, with_rule, with_subcommand};
 ghost use Rattle.clap.specs.declared.builder.command.Command.TheViews.{out-Command};
-ghost use Rattle.pid_words.specs.Commands.{class_rules, command as command_named, commands as the_commands, counted, device_rules, export, export_commands, import, import_commands, lookup, million, operand, option as option_named, request_rules, required, script, serve, text_commands, with_rules, with_subcommands, with_version};
+ghost use Rattle.pid_words.specs.Commands.{care_commands, class_rules, command as command_named, commands as the_commands, counted, device_rules, export, export_commands, import, import_commands, lookup, migrate, million, operand, option as option_named, request_rules, required, script, serve, text_commands, with_rules, with_subcommands, with_version};
 
 use clap::{Arg, Command, value_parser};
 use std::alloc::{AllocError, Global};
@@ -54,6 +54,11 @@ const IMPORTS: &str =
 const EXPORTS: &str = "Example: pciids export --db registry.db > pci.ids";
 
 const SERVES: &str = "Example: pciids serve --db registry.db --port 8086";
+
+const MIGRATES: &str = "\
+Example: pciids migrate --db registry.db
+
+Each command on a registry does this first. The reply is 'created schema 2', 'moved to schema 2' or 'schema 2 already'.";
 
 // An option that takes one value, with the value's name and a line of help.
 fn option<'a>(alloc: Global, name: &'a str, value: &'a str, help: &'a str) -> Arg<'a>
@@ -304,6 +309,22 @@ fn serve_command<'a>(alloc: Global) -> Result<Command<'a>, AllocError>
         .arg(connections(alloc))
 }
 
+fn migrate_start<'a>(alloc: Global) -> Command<'a>
+    ensures app { app_of result ≡ command_named (codes "migrate") [] }
+    ensures local { (out-Command result).has_globals ≡ false }
+{
+    Command::new(alloc, "migrate")
+        .about("Brings a registry's file to the newest schema")
+        .after_help(MIGRATES)
+}
+
+fn migrate_command<'a>(alloc: Global) -> Result<Command<'a>, AllocError>
+    ensures app { IfOk result (λ c. app_of c ≡ migrate) }
+    ensures local { IfOk result (λ c. (out-Command c).has_globals ≡ false) }
+{
+    migrate_start(alloc).arg(needed_db(alloc))
+}
+
 fn own_command<'a>(alloc: Global) -> Result<Command<'a>, AllocError>
     ensures app { IfOk result (λ c. app_of c ≡ with_version (new_app (codes "pciids"))) }
 {
@@ -348,11 +369,18 @@ fn with_exports<'a>(alloc: Global, command: Command<'a>) -> Result<Command<'a>, 
     with_command(command, serve_command(alloc)?)
 }
 
+fn with_care<'a>(alloc: Global, command: Command<'a>) -> Result<Command<'a>, AllocError>
+    ensures { IfOk result (λ c. app_of c ≡ with_subcommands care_commands (app_of command.entry)) }
+{
+    with_command(command, migrate_command(alloc)?)
+}
+
 /// The commands of the program.
 pub fn commands<'a>(alloc: Global) -> Result<Command<'a>, AllocError>
     ensures { IfOk result (λ c. app_of c ≡ the_commands) }
 {
     let command = with_texts(alloc, own_command(alloc)?)?;
     let command = with_imports(alloc, command)?;
-    with_exports(alloc, command)
+    let command = with_exports(alloc, command)?;
+    with_care(alloc, command)
 }

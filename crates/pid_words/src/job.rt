@@ -32,6 +32,9 @@ pub enum Job<'a> {
         port: u16,
         connections: u32,
     },
+    Migrate {
+        db: &'a str,
+    },
 }
 
 /// The values of a look-up, which are not judged yet, and the file that it is made in.

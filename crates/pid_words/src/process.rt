@@ -70,7 +70,8 @@ fn hint(words: &[String]) -> &'static str {
     match words.get(1).map(String::as_str) {
         Some("check") => "A file is read from standard input: pciids check < FILE\n",
         Some("tidy") => "A file is read from standard input: pciids tidy < FILE\n",
-        Some("lookup" | "script" | "import" | "export" | "serve") => "",
+        Some("lookup" | "script" | "import" | "export" | "serve" | "migrate") => "",
+        Some(word) if word.as_bytes().first() == Some(&b'-') => "",
         _ => "A file is read from standard input: pciids < FILE\n",
     }
 }

@@ -74,6 +74,9 @@ fn job_named<'a>(name: &str, given: &ArgMatches<'a>) -> Job<'a>
             port: port_given(given),
             connections: connections_given(given),
         },
+        "migrate" => Job::Migrate {
+            db: needed_text(given, "db"),
+        },
         _ => Job::Tidy,
     }
 }

@@ -2,7 +2,7 @@ use Rattle.std.proofs.Common.{rules, refl, sym, subst, arith}
 use Rattle.pid_http_stream.specs.BodyLaws.{more_turns}
 use Rattle.pid_http_stream.specs.Intakes.{IsHeadRead}
 use Rattle.pid_http_stream.specs.Requests.{HasNoRequest}
-use Rattle.pid_http_stream.proofs.HeadReads.{comes_then, any_faulty, no_request_yet}
+use Rattle.pid_http_stream.proofs.HeadReads.{comes_then, any_faulty, no_request_yet, waits_on}
 use Rattle.pid_http_stream.proofs.intake.read_head.Goals as goal
 
 pub reading-preserved : goal.reading-preserved
@@ -12,7 +12,8 @@ reading-preserved g c = record {
   turns = more_turns _ _ _ c.reading.invariant.turns c.in-Piece.ensures.turns;
   pace = omega (arith, c.reading.invariant.pace, c.in-Piece.ensures.pace refl);
   room = search rules;
-  goes = g.met.I.Input.joins _ _ _ c.reading.invariant.goes c.in-Piece.ensures.goes;
+  waits = waits_on _ _ _ _ _ _ _ _ c.reading.invariant.comes (no_request_yet _ (rw c.in-More.is at c.reading.invariant.judged).none) c.reading.invariant.waits c.in-Piece.ensures.noted;
+  goes = g.met.I.Incoming.joins _ _ _ c.reading.invariant.goes c.in-Piece.ensures.goes;
 }
 
 pub returns-in-Faulty-clause-head : goal.returns-in-Faulty-clause-head
@@ -34,10 +35,16 @@ pub returns-in-End-clause-turns : goal.returns-in-End-clause-turns
 returns-in-End-clause-turns g c = more_turns _ _ _ c.reading.invariant.turns c.in-End.ensures.turns
 
 pub returns-in-End-clause-head : goal.returns-in-End-clause-head
-returns-in-End-clause-head g c = subst (λ l. IsHeadRead l c.reading.fields (g.I.Input.to_come c.fill.new.input) c.judge_end.result) c.deref-in-End.ensures.value (c.judge_end.ensures.judged _ _ (c.in-End.ensures.end refl))
+returns-in-End-clause-head g c = subst (λ l. IsHeadRead l c.reading.fields (g.I.Incoming.to_come c.fill.new.input) c.judge_end.result) c.deref-in-End.ensures.value (c.judge_end.ensures.judged _ _ (c.in-End.ensures.end refl))
 
 pub returns-in-End-clause-fault : goal.returns-in-End-clause-fault
 returns-in-End-clause-fault g c = λ e. absurd (c.judge_end.ensures.no_fault e)
 
 pub returns-in-End-clause-spent : goal.returns-in-End-clause-spent
 returns-in-End-clause-spent g c = λ e. absurd (c.judge_end.ensures.not_spent e)
+
+pub returns-in-Stopped-clause-waits : goal.returns-in-Stopped-clause-waits
+returns-in-Stopped-clause-waits g c = waits_on _ _ _ _ _ _ _ _ c.reading.invariant.comes (no_request_yet _ (rw c.in-More.is at c.reading.invariant.judged).none) c.reading.invariant.waits c.in-Stopped.ensures.noted
+
+pub returns-in-End-clause-waits : goal.returns-in-End-clause-waits
+returns-in-End-clause-waits g c = waits_on _ _ _ _ _ _ _ _ c.reading.invariant.comes (no_request_yet _ (rw c.in-More.is at c.reading.invariant.judged).none) c.reading.invariant.waits c.in-End.ensures.noted

@@ -1,7 +1,7 @@
 use Rattle.std.proofs.Common.{rules, arith}
 use Rattle.pid_http_stream.specs.BodyLaws.{more_turns}
-use Rattle.pid_http_stream.proofs.Leading.{turned, joined}
-use Rattle.pid_http_stream.proofs.Looping.{loop_nothing, loop_faulty, loop_stopped, loop_open, loop_closed, loop_ended}
+use Rattle.pid_http_stream.proofs.Leading.{turned, joined, beside}
+use Rattle.pid_http_stream.proofs.Looping.{loop_nothing, loop_faulty, loop_stopped, loop_open, loop_closed, loop_ended, loop_waits, loop_waits_within}
 use Rattle.pid_http_stream.proofs.stream.serve_stream.Goals as goal
 
 pub returns-in-Nothing-clause-served : goal.returns-in-Nothing-clause-served
@@ -22,17 +22,33 @@ returns-in-Ended-clause-served g c = joined _ _ _ _ _ _ (λ u v w serving steppe
 pub serving-preserved : goal.serving-preserved
 serving-preserved g c = record {
   serving = joined _ _ _ _ _ _ (λ u v w serving stepped. loop_open _ _ _ _ _ _ _ _ _ _ _ _ _ _ _ _ _ _ serving c.in-Head.ensures.comes c.deref.ensures.value stepped c.saturating_add-answered.ensures c.drop_front.ensures) c.serving.invariant.serving c.in-Open.ensures.stepped;
+  caught_up = joined _ _ _ _ _ _ (λ u v w past step. past) (beside _ _ _ _ _ (λ u v w serving past. loop_waits_within _ _ _ _ _ _ _ _ _ _ _ _ _ _ _ _ serving past c.in-Head.ensures.waits c.in-Head.ensures.comes c.deref.ensures.value c.in-Open.ensures.waits) c.serving.invariant.serving c.serving.invariant.caught_up) c.in-Open.ensures.stepped;
   becomes = g.met.H.Handler.joins _ _ _ c.serving.invariant.becomes c.serve_request.ensures.becomes;
   room = search rules;
   turns = more_turns _ _ _ c.serving.invariant.turns (more_turns _ _ _ c.read_head.ensures.turns c.serve_request.ensures.turns);
-  goes = g.met.I.Input.joins _ _ _ (g.met.I.Input.joins _ _ _ c.serving.invariant.goes c.read_head.ensures.goes) c.serve_request.ensures.goes;
+  goes = g.met.I.Incoming.joins _ _ _ (g.met.I.Incoming.joins _ _ _ c.serving.invariant.goes c.read_head.ensures.goes) c.serve_request.ensures.goes;
 }
 
 pub overflow_add-spans : goal.overflow_add-spans
 overflow_add-spans g c = let stands = c.in-Head.ensures.head in omega (arith, stands.short, stands.fits)
 
 pub returns-in-Closed-clause-goes : goal.returns-in-Closed-clause-goes
-returns-in-Closed-clause-goes g c = g.met.I.Input.joins _ _ _ (g.met.I.Input.joins _ _ _ c.serving.invariant.goes c.read_head.ensures.goes) c.serve_request.ensures.goes
+returns-in-Closed-clause-goes g c = g.met.I.Incoming.joins _ _ _ (g.met.I.Incoming.joins _ _ _ c.serving.invariant.goes c.read_head.ensures.goes) c.serve_request.ensures.goes
 
 pub returns-in-Ended-clause-goes : goal.returns-in-Ended-clause-goes
-returns-in-Ended-clause-goes g c = g.met.I.Input.joins _ _ _ (g.met.I.Input.joins _ _ _ c.serving.invariant.goes c.read_head.ensures.goes) c.serve_request.ensures.goes
+returns-in-Ended-clause-goes g c = g.met.I.Incoming.joins _ _ _ (g.met.I.Incoming.joins _ _ _ c.serving.invariant.goes c.read_head.ensures.goes) c.serve_request.ensures.goes
+
+pub returns-in-Nothing-clause-caught_up : goal.returns-in-Nothing-clause-caught_up
+returns-in-Nothing-clause-caught_up g c = beside _ _ _ _ _ (λ u v w serving past. loop_waits _ _ _ _ _ _ _ _ _ _ _ _ serving past c.in-Nothing.ensures.waits) c.serving.invariant.serving c.serving.invariant.caught_up
+
+pub returns-in-Faulty-clause-caught_up : goal.returns-in-Faulty-clause-caught_up
+returns-in-Faulty-clause-caught_up g c = beside _ _ _ _ _ (λ u v w serving past. loop_waits _ _ _ _ _ _ _ _ _ _ _ _ serving past c.in-Faulty.ensures.waits) c.serving.invariant.serving c.serving.invariant.caught_up
+
+pub returns-in-Stopped-clause-caught_up : goal.returns-in-Stopped-clause-caught_up
+returns-in-Stopped-clause-caught_up g c = beside _ _ _ _ _ (λ u v w serving past. loop_waits _ _ _ _ _ _ _ _ _ _ _ _ serving past c.in-Stopped.ensures.waits) c.serving.invariant.serving c.serving.invariant.caught_up
+
+pub returns-in-Closed-clause-caught_up : goal.returns-in-Closed-clause-caught_up
+returns-in-Closed-clause-caught_up g c = joined _ _ _ _ _ _ (λ u v w past step. past) (beside _ _ _ _ _ (λ u v w serving past. loop_waits_within _ _ _ _ _ _ _ _ _ _ _ _ _ _ _ _ serving past c.in-Head.ensures.waits c.in-Head.ensures.comes c.deref.ensures.value c.in-Closed.ensures.waits) c.serving.invariant.serving c.serving.invariant.caught_up) c.in-Closed.ensures.stepped
+
+pub returns-in-Ended-clause-caught_up : goal.returns-in-Ended-clause-caught_up
+returns-in-Ended-clause-caught_up g c = joined _ _ _ _ _ _ (λ u v w past step. past) (beside _ _ _ _ _ (λ u v w serving past. loop_waits_within _ _ _ _ _ _ _ _ _ _ _ _ _ _ _ _ serving past c.in-Head.ensures.waits c.in-Head.ensures.comes c.deref.ensures.value c.in-Ended.ensures.waits) c.serving.invariant.serving c.serving.invariant.caught_up) c.in-Ended.ensures.stepped

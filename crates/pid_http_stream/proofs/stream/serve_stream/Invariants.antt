@@ -2,6 +2,8 @@ use Rattle.std.proofs.Common.{◌≡◌, ◌+◌, ◌*◌, length}
 use Rattle.std.specs.Prelude.{IfSome}
 use Rattle.pid_http_stream.specs.Bodies.{SpendsTurns}
 use Rattle.pid_http_stream.specs.Leading.{Leads}
+use Rattle.pid_http_stream.specs.Moments.{AllSince}
+use Rattle.pid_http_stream.specs.Serving.{IsCaughtUp}
 use Rattle.pid_http_stream.proofs.Serving.{IsServing}
 use Rattle.pid_http_stream.specs.declared.intake.TheConstants.{READ_SIZE}
 use Rattle.pid_http_stream.specs.declared.judging.TheConstants.{MOST_FIELDS}
@@ -9,12 +11,14 @@ use Rattle.pid_http_stream.proofs.stream.serve_stream.Given as goal
 
 abbrev pub invariant-serving : goal.invariant-serving
 invariant-serving g l = record {
-  serving : Leads g.H.Handler.is_good g.H.Handler.stands l.fn.handler l.handler (λ v w. IfSome (g.I.Input.to_come l.fn.input) (λ s. IsServing (record { answers = g.H.Handler.answers; leaves = g.H.Handler.leaves; gives_up = g.H.Handler.gives_up; promises = g.H.Handler.promises })
-      (record { handler = v; handler_after = w; taken = g.W.Output.taken l.fn.output; taken_after = g.W.Output.taken l.output }) s (g.I.Input.to_come l.input) l.held.items l.answered));
+  serving : Leads g.H.Handler.is_good g.H.Handler.stands l.fn.handler l.handler (λ v w. IfSome (g.I.Incoming.to_come l.fn.input) (λ s. IsServing (record { answers = g.H.Handler.answers; leaves = g.H.Handler.leaves; gives_up = g.H.Handler.gives_up; promises = g.H.Handler.promises })
+      (record { handler = v; handler_after = w; taken = g.W.Output.taken l.fn.output; taken_after = g.W.Output.taken l.output }) s (g.I.Incoming.to_come l.input) l.held.items l.answered));
+  caught_up : Leads g.H.Handler.is_good g.H.Handler.stands l.fn.handler l.handler (λ v _. IfSome (g.I.Incoming.to_come l.fn.input) (λ s. AllSince (IsCaughtUp (record { answers = g.H.Handler.answers; leaves = g.H.Handler.leaves; gives_up = g.H.Handler.gives_up; promises = g.H.Handler.promises })
+      v (g.W.Output.taken l.fn.output) s) (g.I.Incoming.moments l.fn.input) (g.I.Incoming.moments l.input)));
   becomes : g.H.Handler.becomes l.fn.handler l.handler;
   room : length l.fields ≡ MOST_FIELDS;
-  turns : SpendsTurns (record { reads = g.I.Input.reads l.fn.input; left = l.turns }) (record { reads = g.I.Input.reads l.input; left = l.left });
-  goes : g.I.Input.goes l.fn.input l.input;
+  turns : SpendsTurns (record { reads = g.I.Incoming.reads l.fn.input; left = l.turns }) (record { reads = g.I.Incoming.reads l.input; left = l.left });
+  goes : g.I.Incoming.goes l.fn.input l.input;
 }
 
 abbrev pub decreases-serving : goal.decreases-serving

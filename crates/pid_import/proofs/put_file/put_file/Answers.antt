@@ -1,4 +1,4 @@
-use Rattle.std.proofs.Common.{◌≡◌, Ok, Err, rules, subst}
+use Rattle.std.proofs.Common.{◌≡◌, ℕ, Ok, Err, rules, subst}
 use Rattle.pid_moderation.specs.CheckTables.{most_file_bytes}
 use Rattle.pid_import.specs.PutFiles.{PutsFile}
 use Rattle.pid_import.specs.PutSinks.{TakesEntry, LeavesEntry}
@@ -18,9 +18,10 @@ returns-in-Ok-clause-puts g c =
     let same : end.batch.now ≡ c.batch-1.given.0 = search rules in (
       read.0,
       read.1,
-      subst (λ (b : _). PutsFile puts gives (Ok end.tally) rest read.0 c.args.batch.now b) same
-          (subst (λ (b : _). PutsFile puts gives (Ok end.tally) rest read.0 b end.batch.now) c.new-sink.ensures.now
-          (put_ok puts gives rest read.0 start end c.numbered_entries_are_entries.ensures c.new-sink.ensures.none (rw c.in-Ok.is at read.2))),
+      subst (λ (b : _). PutsFile (puts c.args.revision) gives (Ok end.tally) rest read.0 c.args.batch.now b) same
+          (subst (λ (b : _). PutsFile (puts c.args.revision) gives (Ok end.tally) rest read.0 b end.batch.now) c.new-sink.ensures.now
+          (subst (λ (n : ℕ). PutsFile (puts n) gives (Ok end.tally) rest read.0 start.batch.now end.batch.now) c.new-sink.ensures.number
+          (put_ok puts gives rest read.0 start end c.numbered_entries_are_entries.ensures c.new-sink.ensures.none (rw c.in-Ok.is at read.2)))),
     )
 
 pub returns-in-Err-clause-puts : goal.returns-in-Err-clause-puts
@@ -36,7 +37,8 @@ returns-in-Err-clause-puts g c =
     let same : end.batch.now ≡ c.in-Err.batch-in-Err-1-own.given.0 = search rules in (
       read.0,
       read.1,
-      subst (λ (b : _). PutsFile puts gives (Err c.in-Err.end) rest read.0 c.args.batch.now b) same
-          (subst (λ (b : _). PutsFile puts gives (Err c.in-Err.end) rest read.0 b end.batch.now) c.new-sink.ensures.now
-          (put_err puts gives c.in-Err.end rest read.0 start end (left_some puts gives start end c.new-sink.ensures.none went) (rw c.in-Err.is at read.2))),
+      subst (λ (b : _). PutsFile (puts c.args.revision) gives (Err c.in-Err.end) rest read.0 c.args.batch.now b) same
+          (subst (λ (b : _). PutsFile (puts c.args.revision) gives (Err c.in-Err.end) rest read.0 b end.batch.now) c.new-sink.ensures.now
+          (subst (λ (n : ℕ). PutsFile (puts n) gives (Err c.in-Err.end) rest read.0 start.batch.now end.batch.now) c.new-sink.ensures.number
+          (put_err puts gives c.in-Err.end rest read.0 start end (left_some puts gives start end c.new-sink.ensures.none went) (rw c.in-Err.is at read.2)))),
     )

@@ -10,8 +10,13 @@ kept_items : (r : Option Receipt) (v : Views) → (keeping r v).items ≡ v.item
 kept_items None v = refl
 kept_items (Some r) v = refl
 
-pub returns-then-not-writes_items : goal.returns-then-not-writes_items
-returns-then-not-writes_items c v names =
+pub returns-then-not-writes_items-clause-right : goal.returns-then-not-writes_items-clause-right
+returns-then-not-writes_items-clause-right c v names =
     let off : c.writes_items.result ≡ false = search rules in
-    let same : (changed c.args.change.now v).items ≡ v.items = kept_items c.args.change.now.receipt (affected c.args.change.now.effect v) ∙ c.writes_items.ensures v off in
+    let same : (changed c.args.change.now v).items ≡ v.items = kept_items c.args.change.now.receipt (affected c.args.change.now.revision c.args.change.now.effect v) ∙ c.writes_items.ensures c.args.change.now.revision v off in
     subst (λ (items : Items). Agrees c.args.names.now (λ path. name_at path items)) (sym same) names
+
+pub returns-then-not-writes_items-clause-forgets : goal.returns-then-not-writes_items-clause-forgets
+returns-then-not-writes_items-clause-forgets c v other =
+    let off : c.writes_items.result ≡ false = search rules in
+    absurd (other (kept_items c.args.change.now.receipt (affected c.args.change.now.revision c.args.change.now.effect v) ∙ c.writes_items.ensures c.args.change.now.revision v off))

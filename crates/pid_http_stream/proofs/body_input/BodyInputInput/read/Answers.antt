@@ -3,24 +3,26 @@ use Rattle.std.specs.Io.KnownBytes.{Consumes}
 use Rattle.std.proofs.KnownBytes.{Consumes-nil}
 use Rattle.std.proofs.lemmas.List.{length-take-le, take-append-drop, take-append-le}
 use Rattle.pid_http_stream.specs.BodyLaws.{no_body_reads, no_turns}
+use Rattle.pid_http_stream.specs.MomentLaws.{since_none}
+use Rattle.pid_http_stream.specs.Moments.{IsMoment}
 use Rattle.pid_http_stream.specs.declared.body_input.BodyFault.TheVariants.{Short, ReadFault, TurnsSpent}
 use Rattle.pid_http_stream.proofs.BodyReads.{held_given, read_given, whole_front, nothing, keeps_nil, none_of, some_told, gave_held, gave_read, broke_off, one_turn}
 use Rattle.pid_http_stream.proofs.body_input.BodyInputInput.read.Goals as goal
 use Rattle.pid_http_stream.proofs.body_input.BodyInputInput.read.Goals.{then-self-eq0-via-then-self-eq0, then-self-eq0-via-else-self-eq0+then-is_empty}
 
 pub returns-then-is_some-clause-goes : goal.returns-then-is_some-clause-goes
-returns-then-is_some-clause-goes g c = (refl, g.met.I.Input.stays c.args.self.now.input.now, no_body_reads _)
+returns-then-is_some-clause-goes g c = (refl, g.met.I.Incoming.stays c.args.self.now.input.now, no_body_reads _)
 
 pub returns-then-self-eq0-clause-goes : goal.returns-then-self-eq0-clause-goes
 returns-then-self-eq0-clause-goes g c = elim c.then-self-eq0.branch [
-  | then-self-eq0-via-then-self-eq0 w ↦ (rw w.self-is (refl, g.met.I.Input.stays c.args.self.now.input.now, no_body_reads _))
-  | then-self-eq0-via-else-self-eq0+then-is_empty w ↦ (rw w.self-is (refl, g.met.I.Input.stays c.args.self.now.input.now, no_body_reads _))
+  | then-self-eq0-via-then-self-eq0 w ↦ (rw w.self-is (refl, g.met.I.Incoming.stays c.args.self.now.input.now, no_body_reads _))
+  | then-self-eq0-via-else-self-eq0+then-is_empty w ↦ (rw w.self-is (refl, g.met.I.Incoming.stays c.args.self.now.input.now, no_body_reads _))
 ]
 
 pub returns-then-not-is_empty-clause-bytes : goal.returns-then-not-is_empty-clause-bytes
 returns-then-not-is_empty-clause-bytes g c =
     let s = c.split_at.ensures in (
-      held_given (g.I.Input.to_come c.args.self.now.input.now) c.args.self.now.wanted c.min-count.result c.args.self.now.held.now c.split_at.result.1.now c.split_at.result.0.now (take c.min-count.result (c.copy_from_slice.new.self ++ drop c.min-count.result c.args.buffer.now))
+      held_given (g.I.Incoming.to_come c.args.self.now.input.now) c.args.self.now.wanted c.min-count.result c.args.self.now.held.now c.split_at.result.1.now c.split_at.result.0.now (take c.min-count.result (c.copy_from_slice.new.self ++ drop c.min-count.result c.args.buffer.now))
           (sym (take-append-drop c.min-count.result c.args.self.now.held.now) ∙ (λ i. sym s.front i ++ sym s.back i)) s.front_len (search rules)
           (whole_front c.copy_from_slice.new.self _ c.min-count.result (ap length c.copy_from_slice.ensures.after ∙ s.front_len) ∙ c.copy_from_slice.ensures.after),
       λ z some. absurd (search rules),
@@ -30,47 +32,47 @@ pub returns-then-not-is_empty-clause-goes : goal.returns-then-not-is_empty-claus
 returns-then-not-is_empty-clause-goes g c =
     let s = c.split_at.ensures in (
       refl,
-      g.met.I.Input.stays c.args.self.now.input.now,
-      gave_held c.args.self.now.fault (g.I.Input.to_come c.args.self.now.input.now) (g.I.Input.read_fault c.args.self.now.input.now) _ c.args.self.now.wanted c.min-count.result c.args.self.now.held.now c.split_at.result.1.now c.split_at.result.0.now
+      g.met.I.Incoming.stays c.args.self.now.input.now,
+      gave_held c.args.self.now.fault (g.I.Incoming.to_come c.args.self.now.input.now) (g.I.Incoming.read_fault c.args.self.now.input.now) _ _ _ c.args.self.now.wanted c.min-count.result c.args.self.now.held.now c.split_at.result.1.now c.split_at.result.0.now
           (none_of c.args.self.now.fault (search rules)) (sym (take-append-drop c.min-count.result c.args.self.now.held.now) ∙ (λ i. sym s.front i ++ sym s.back i)) s.front_len (search rules),
     )
 
 pub returns-then-self-eq0-2-clause-goes : goal.returns-then-self-eq0-2-clause-goes
 returns-then-self-eq0-2-clause-goes g c = (
   refl,
-  g.met.I.Input.stays c.args.self.now.input.now,
-  broke_off c.args.self.now.fault (g.I.Input.to_come c.args.self.now.input.now) (g.I.Input.to_come c.args.self.now.input.now) _ _ _ _ c.args.self.now.wanted c.args.self.now.held.now TurnsSpent
-      (none_of c.args.self.now.fault (search rules)) (Consumes-nil _) (no_turns _) (search rules) (nothing c.args.self.now.held.now (search rules)) c.if-self-eq0-2.true,
+  g.met.I.Incoming.stays c.args.self.now.input.now,
+  broke_off c.args.self.now.fault (g.I.Incoming.to_come c.args.self.now.input.now) (g.I.Incoming.to_come c.args.self.now.input.now) _ _ _ _ _ _ _ c.args.self.now.wanted c.args.self.now.held.now TurnsSpent
+      (none_of c.args.self.now.fault (search rules)) (Consumes-nil _) (no_turns _) (search rules) (nothing c.args.self.now.held.now (search rules)) (since_none (IsMoment _ _) _) c.if-self-eq0-2.true,
 )
 
 pub returns-in-Err-clause-goes : goal.returns-in-Err-clause-goes
 returns-in-Err-clause-goes g c = (
   refl,
-  c.read.ensures.goes,
-  broke_off c.args.self.now.fault (g.I.Input.to_come c.args.self.now.input.now) (g.I.Input.to_come c.read.new.self) _ _ _ _ c.args.self.now.wanted c.args.self.now.held.now ReadFault
-      (none_of c.args.self.now.fault (search rules)) (keeps_nil _ _ c.in-Err.ensures.bytes) (one_turn _ c.args.self.now.left _ (search rules) c.read.ensures.count) (search rules) (nothing c.args.self.now.held.now (search rules)) (some_told _ _ c.in-Err.ensures.fault),
+  c.read_behind.ensures.goes,
+  broke_off c.args.self.now.fault (g.I.Incoming.to_come c.args.self.now.input.now) (g.I.Incoming.to_come c.read_behind.new.self) _ _ _ _ _ _ _ c.args.self.now.wanted c.args.self.now.held.now ReadFault
+      (none_of c.args.self.now.fault (search rules)) (keeps_nil _ _ c.in-Err.ensures.bytes) (one_turn _ c.args.self.now.left _ (search rules) c.read_behind.ensures.count) (search rules) (nothing c.args.self.now.held.now (search rules)) c.in-Err.ensures.noted (some_told _ _ c.in-Err.ensures.fault),
 )
 
 pub returns-else-count-eq0-clause-bytes : goal.returns-else-count-eq0-clause-bytes
 returns-else-count-eq0-clause-bytes g c = (
-  read_given (g.I.Input.to_come c.args.self.now.input.now) (g.I.Input.to_come c.read.new.self) c.args.self.now.wanted c.in-Ok.count c.args.self.now.held.now (take c.in-Ok.count c.read.new.buffer) (take c.in-Ok.count (c.read.new.buffer ++ drop c.min-room.result c.args.buffer.now))
-      (nothing _ (search rules)) c.in-Ok.ensures.bytes.0 (length-take-le c.in-Ok.count c.read.new.buffer c.in-Ok.ensures.room) (search rules) (take-append-le c.in-Ok.count c.read.new.buffer _ c.in-Ok.ensures.room),
+  read_given (g.I.Incoming.to_come c.args.self.now.input.now) (g.I.Incoming.to_come c.read_behind.new.self) c.args.self.now.wanted c.in-Ok.count c.args.self.now.held.now (take c.in-Ok.count c.read_behind.new.buffer) (take c.in-Ok.count (c.read_behind.new.buffer ++ drop c.min-room.result c.args.buffer.now))
+      (nothing _ (search rules)) c.in-Ok.ensures.bytes.0 (length-take-le c.in-Ok.count c.read_behind.new.buffer c.in-Ok.ensures.room) (search rules) (take-append-le c.in-Ok.count c.read_behind.new.buffer _ c.in-Ok.ensures.room),
   λ z some. absurd (c.if-count-eq0.false z),
 )
 
 pub returns-else-count-eq0-clause-goes : goal.returns-else-count-eq0-clause-goes
 returns-else-count-eq0-clause-goes g c = (
   refl,
-  c.read.ensures.goes,
-  gave_read c.args.self.now.fault (g.I.Input.to_come c.args.self.now.input.now) (g.I.Input.to_come c.read.new.self) _ _ _ _ c.args.self.now.wanted c.in-Ok.count c.args.self.now.held.now (take c.in-Ok.count c.read.new.buffer)
-      (none_of c.args.self.now.fault (search rules)) (nothing _ (search rules)) c.in-Ok.ensures.bytes.0 (length-take-le c.in-Ok.count c.read.new.buffer c.in-Ok.ensures.room) (search rules) (one_turn _ c.args.self.now.left _ (search rules) c.read.ensures.count),
+  c.read_behind.ensures.goes,
+  gave_read c.args.self.now.fault (g.I.Incoming.to_come c.args.self.now.input.now) (g.I.Incoming.to_come c.read_behind.new.self) _ _ _ _ _ _ _ c.args.self.now.wanted c.in-Ok.count c.args.self.now.held.now (take c.in-Ok.count c.read_behind.new.buffer)
+      (none_of c.args.self.now.fault (search rules)) (nothing _ (search rules)) c.in-Ok.ensures.bytes.0 (length-take-le c.in-Ok.count c.read_behind.new.buffer c.in-Ok.ensures.room) (search rules) (one_turn _ c.args.self.now.left _ (search rules) c.read_behind.ensures.count) (search rules) c.in-Ok.ensures.noted,
 )
 
 pub returns-then-count-eq0-clause-goes : goal.returns-then-count-eq0-clause-goes
 returns-then-count-eq0-clause-goes g c = (
   refl,
-  c.read.ensures.goes,
-  broke_off c.args.self.now.fault (g.I.Input.to_come c.args.self.now.input.now) (g.I.Input.to_come c.read.new.self) _ _ _ _ c.args.self.now.wanted c.args.self.now.held.now Short
-      (none_of c.args.self.now.fault (search rules)) (subst (Consumes _ _) (ap (λ (n : ℕ). take n c.read.new.buffer) c.if-count-eq0.true) c.in-Ok.ensures.bytes.0) (one_turn _ c.args.self.now.left _ (search rules) c.read.ensures.count) (search rules) (nothing c.args.self.now.held.now (search rules))
+  c.read_behind.ensures.goes,
+  broke_off c.args.self.now.fault (g.I.Incoming.to_come c.args.self.now.input.now) (g.I.Incoming.to_come c.read_behind.new.self) _ _ _ _ _ _ _ c.args.self.now.wanted c.args.self.now.held.now Short
+      (none_of c.args.self.now.fault (search rules)) (subst (Consumes _ _) (ap (λ (n : ℕ). take n c.read_behind.new.buffer) c.if-count-eq0.true) c.in-Ok.ensures.bytes.0) (one_turn _ c.args.self.now.left _ (search rules) c.read_behind.ensures.count) (search rules) (nothing c.args.self.now.held.now (search rules)) c.in-Ok.ensures.noted
       (c.in-Ok.ensures.bytes.1 c.if-count-eq0.true (search rules)),
 )

@@ -5,7 +5,7 @@ use Rattle.pid_import.proofs.putting.TransactionPutter.put_name.Goals as goal
 
 pub returns-clause-put : goal.returns-clause-put
 returns-clause-put g c =
-    put_means _ _ c.put.result (state g.S.Store c.args.self.now.conn.now) (state g.S.Store c.put.new.batch.conn.now) (path_text c.args.path.now) c.args.name.now c.put.ensures.same_reference c.put.ensures.survives c.put.ensures.written c.put.ensures.told
+    put_means c.args.revision _ _ c.put.result (state g.S.Store c.args.self.now.conn.now) (state g.S.Store c.put.new.batch.conn.now) (path_text c.args.path.now) c.args.name.now c.put.ensures.same_reference c.put.ensures.survives c.put.ensures.written c.put.ensures.told
 
 pub returns-clause-fault : goal.returns-clause-fault
 returns-clause-fault g c =

@@ -14,3 +14,8 @@ returns-in-Ok-clause-obeyed g c clean h shows other =
     c.settle.ensures.settled h (asks c.args.command.now) (only_read g.S.Store c.args.self.now _ h refl c.judge.ensures.rests refl shows)
     (c.commands_lead_on.ensures h (asks c.args.command.now) shows.history (well_made c.args.command.now reading other c.command_is_well_made.ensures))
     (c.in-Ok.ensures.judged (c.settle.ensures.clean clean) h reading shows.history shows.tables other)
+
+pub returns-in-Ok-clause-forgets : goal.returns-in-Ok-clause-forgets
+returns-in-Ok-clause-forgets g c clean h shows other =
+    c.settle.ensures.forgets h (asks c.args.command.now) (only_read g.S.Store c.args.self.now _ h refl c.judge.ensures.rests refl shows)
+    (c.in-Ok.ensures.judged (c.settle.ensures.clean clean) h (file_reading (file_of c.args.command.now.act)) shows.history shows.tables other)

@@ -1,0 +1,10 @@
+use Rattle.sqlite.specs.Held.{state}
+use Rattle.pid_moderation.specs.Views.{views_of}
+use Rattle.pid_rows.specs.declared.version.Version.TheVariants.{Two}
+use Rattle.pid_rows.proofs.LeaveLemmas.{rests_in_two}
+use Rattle.pid_service.proofs.opening.judge_tables.Goals as goal
+
+pub returns-in-Err-clause-good : goal.returns-in-Err-clause-good
+returns-in-Err-clause-good g c clean h reached rest =
+    let law = c.reached_histories_are_kept.ensures in
+    c.in-Err.ensures.good clean h (law.sound h reached) (law.within h reached) Two (rests_in_two (state g.S.Store c.args.tables.now.conn) (views_of h) rest)
