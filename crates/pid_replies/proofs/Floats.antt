@@ -12,6 +12,8 @@ use Rattle.pid_moderation.specs.declared.refusal.FileFault.TheVariants.{Line, To
 use Rattle.pid_moderation.specs.declared.refusal.Refusal.{Refusal}
 use Rattle.pid_moderation.specs.declared.refusal.Refusal.TheVariants.{FileFault}
 use Rattle.pid_rows.specs.TableRows.{Standing}
+use Rattle.pid_table_lists.specs.ChangePages.{ChangePage}
+use Rattle.pid_replies.specs.ChangeAnswers.{changed_data, changes_data}
 use Rattle.pid_replies.specs.Outcomes.{outcome_data}
 use Rattle.pid_replies.specs.PendingAnswers.{pending_data, proposed_data}
 use Rattle.pid_replies.specs.SubmissionAnswers.{remark_data, remarks_data, submission_data}
@@ -41,3 +43,6 @@ remarks_have_none remarks = items_have_none remark_data (λ r. refl) remarks
 
 pub submission_has_none : (n : ℕ) (s : Standing × List Remark) → has_float (submission_data n s) ≡ false
 submission_has_none n s = rw (proposed_has_none s.0.submitted.proposal, remarks_have_none s.1) refl
+
+pub changes_have_none : (page : ChangePage) → has_float (changes_data page) ≡ false
+changes_have_none page = rw (items_have_none changed_data (λ i. refl) page.items) refl

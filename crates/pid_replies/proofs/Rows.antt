@@ -13,6 +13,8 @@ use Rattle.pid_moderation.specs.declared.facts.State.TheVariants.{Approved, With
 use Rattle.pid_moderation.specs.declared.refusal.FileFault.TheVariants.{Line}
 use Rattle.pid_moderation.specs.declared.refusal.Refusal.TheVariants.{RankTooLow, FileFault}
 use Rattle.pid_rows.specs.TableRows.{Standing}
+use Rattle.pid_table_lists.specs.ChangePages.{ChangePage}
+use Rattle.pid_replies.specs.ChangeAnswers.{changes_data, changes_text}
 use Rattle.pid_replies.specs.ItemAnswers.{item_data, item_line, items_data}
 use Rattle.pid_replies.specs.Outcomes.{outcome_data, unanswered_data}
 use Rattle.pid_replies.specs.PendingAnswers.{pending_line, pendings_data}
@@ -91,3 +93,27 @@ pending_rows = refl
 pending_lines : flat_map pending_line ((1, approved) ∷ (2, withdrawn) ∷ []) ≡ codes "1 alice name PC/8086 Intel Corporation\n2 alice remove PC/8086\n"
 unfolding approved withdrawn digits
 pending_lines = refl
+
+-- two items that were named anew
+two_changes : ChangePage
+two_changes = record {
+  revision = 4;
+  items = record { path = codes "PC/10ec"; name = codes "Realtek"; since = 4 } ∷ record { path = codes "PC/8086"; name = codes "Intel Corporation"; since = 3 } ∷ [];
+}
+
+changes_row : compact_text (changes_data two_changes)
+    ≡ codes "{\"items\":[{\"name\":\"Realtek\",\"path\":\"PC/10ec\",\"since\":4},{\"name\":\"Intel Corporation\",\"path\":\"PC/8086\",\"since\":3}],\"revision\":4}"
+unfolding two_changes serde_json_on_literals digits
+changes_row = refl
+
+changes_lines : changes_text two_changes ≡ codes "revision 4\n4 PC/10ec Realtek\n3 PC/8086 Intel Corporation\n"
+unfolding two_changes digits
+changes_lines = refl
+
+-- the greatest revision, and nothing changed
+no_changes : ChangePage
+no_changes = record { revision = 9000000000000000000; items = [] }
+
+no_changes_row : compact_text (changes_data no_changes) ≡ codes "{\"items\":[],\"revision\":9000000000000000000}"
+unfolding no_changes serde_json_on_literals digits
+no_changes_row = refl

@@ -3,6 +3,7 @@ pub mod WordLines
 pub mod Outcomes
 pub mod ItemAnswers
 pub mod PendingAnswers
+pub mod ChangeAnswers
 pub mod SubmissionAnswers
 pub mod LookUpAnswers
 pub mod EarlyAnswers

@@ -4,6 +4,7 @@
 //! keys of each object in bytewise order; each line of a text ends with a line feed. Nothing here asks a registry.
 #![tactic(auto)]
 
+mod changes;
 mod early;
 mod items;
 mod look_up;
@@ -15,6 +16,7 @@ mod submission;
 mod tests;
 mod text;
 
+pub use changes::changes_reply;
 pub use early::{Early, early_reply};
 pub use items::{item_reply, items_reply};
 pub use look_up::look_up_reply;

@@ -8,7 +8,7 @@ use pid_requests::Format;
 use pid_rows::item::Item;
 use pid_rows::remark::Comment;
 use pid_rows::submission::Submission;
-use pid_table_lists::{Discussion, Pending};
+use pid_table_lists::{ChangedItem, Changes, Discussion, Pending};
 use std::alloc::Global;
 use std::process::Abort;
 use std::test::Fail;
@@ -189,6 +189,38 @@ fn pending_ones(rt: HostRuntime) -> Result<(), Fail> {
         Status::Okay,
         Content::Text,
         "1 alice remove PC/8086\n",
+    );
+    Ok(())
+}
+
+#[test]
+fn changed_ones(rt: HostRuntime) -> Result<(), Fail> {
+    let alloc = rt.alloc();
+    let path = Path::Vendor { vendor: 0x10ec };
+    let name = Name::of(alloc, "Realtek")?;
+    let items = vec![in alloc;
+        ChangedItem {
+            path,
+            name,
+            since: 4
+        },
+    ]?;
+    let changes = Changes { revision: 4, items };
+    let json = changes_reply(alloc, Format::Json, &changes)?;
+    expect(
+        &rt,
+        &json,
+        Status::Okay,
+        Content::Json,
+        r#"{"items":[{"name":"Realtek","path":"PC/10ec","since":4}],"revision":4}"#,
+    );
+    let text = changes_reply(alloc, Format::Text, &changes)?;
+    expect(
+        &rt,
+        &text,
+        Status::Okay,
+        Content::Text,
+        "revision 4\n4 PC/10ec Realtek\n",
     );
     Ok(())
 }

@@ -24,3 +24,12 @@ pub(crate) fn push_number(text: &mut String, number: u32) -> Result<(), AllocErr
     text.push_str(digits.format(number))?;
     Ok(())
 }
+
+/// Appends a number of 64 bits in decimal.
+pub(crate) fn push_long_number(text: &mut String, number: u64) -> Result<(), AllocError>
+    ensures { OnOk result (string_bytes text.new ≡ string_bytes text.old ++ decimal number) }
+{
+    let mut digits = Buffer::new();
+    text.push_str(digits.format(number))?;
+    Ok(())
+}

@@ -1,5 +1,6 @@
 pub mod Senders
 pub mod Targets
+pub mod Revisions
 pub mod Forms
 pub mod Rows
 pub mod SenderRows

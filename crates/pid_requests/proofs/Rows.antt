@@ -13,8 +13,9 @@ use Rattle.pid_requests.specs.Questions.{question, with_target, question_at}
 use Rattle.pid_requests.specs.Routes.{route_at}
 use Rattle.pid_requests.specs.declared.format.Format.TheVariants as formats
 use Rattle.pid_requests.specs.declared.query.Above.TheVariants.{Top, Below, BadPath}
+use Rattle.pid_requests.specs.declared.query.Start.TheVariants as starts
 use Rattle.pid_requests.specs.declared.question.Question.TheVariants.{AnotherMethod, BadTarget, NoRoute, WantsGet, WantsPost, BadQuery}
-use Rattle.pid_requests.specs.declared.question.Question.TheVariants.{Export, Read, Children, LookUp, Submission, Pending, Command, Import}
+use Rattle.pid_requests.specs.declared.question.Question.TheVariants.{Export, Read, Children, LookUp, Submission, Pending, Changes, Command, Import}
 
 another_method : question (codes "HEAD") (codes "/pci.ids") ≡ AnotherMethod
 unfolding question with_target question_at look_up_in route_at matchit_on_literals form_urlencoded_on_literals is_utf8 utf8_lossy utf8_valid_len chars encode
@@ -147,6 +148,46 @@ pending_after_nothing = refl
 pending_leading_zero : question (codes "GET") (codes "/pending?after=01") ≡ BadQuery
 unfolding question with_target question_at look_up_in route_at matchit_on_literals form_urlencoded_on_literals is_utf8 utf8_lossy utf8_valid_len chars encode
 pending_leading_zero = refl
+
+changes : question (codes "GET") (codes "/changes") ≡ Changes 0 starts.First formats.Json
+unfolding question with_target question_at look_up_in route_at matchit_on_literals form_urlencoded_on_literals is_utf8 utf8_lossy utf8_valid_len chars encode
+changes = refl
+
+changes_since : question (codes "GET") (codes "/changes?since=3&format=text") ≡ Changes 3 starts.First formats.Text
+unfolding question with_target question_at look_up_in route_at matchit_on_literals form_urlencoded_on_literals is_utf8 utf8_lossy utf8_valid_len chars encode
+changes_since = refl
+
+changes_behind : question (codes "GET") (codes "/changes?after=PC/10ec&since=0") ≡ Changes 0 (starts.Behind (Vendor 4332)) formats.Json
+unfolding question with_target question_at look_up_in route_at matchit_on_literals form_urlencoded_on_literals is_utf8 utf8_lossy utf8_valid_len chars encode
+changes_behind = refl
+
+changes_behind_nothing : question (codes "GET") (codes "/changes?after=") ≡ Changes 0 starts.First formats.Json
+unfolding question with_target question_at look_up_in route_at matchit_on_literals form_urlencoded_on_literals is_utf8 utf8_lossy utf8_valid_len chars encode
+changes_behind_nothing = refl
+
+changes_behind_no_path : question (codes "GET") (codes "/changes?after=PC") ≡ Changes 0 starts.BadPath formats.Json
+unfolding question with_target question_at look_up_in route_at matchit_on_literals form_urlencoded_on_literals is_utf8 utf8_lossy utf8_valid_len chars encode
+changes_behind_no_path = refl
+
+changes_greatest : question (codes "GET") (codes "/changes?since=9000000000000000000") ≡ Changes 9000000000000000000 starts.First formats.Json
+unfolding question with_target question_at look_up_in route_at matchit_on_literals form_urlencoded_on_literals is_utf8 utf8_lossy utf8_valid_len chars encode
+changes_greatest = refl
+
+changes_too_great : question (codes "GET") (codes "/changes?since=9000000000000000001") ≡ BadQuery
+unfolding question with_target question_at look_up_in route_at matchit_on_literals form_urlencoded_on_literals is_utf8 utf8_lossy utf8_valid_len chars encode
+changes_too_great = refl
+
+changes_leading_zero : question (codes "GET") (codes "/changes?since=03") ≡ BadQuery
+unfolding question with_target question_at look_up_in route_at matchit_on_literals form_urlencoded_on_literals is_utf8 utf8_lossy utf8_valid_len chars encode
+changes_leading_zero = refl
+
+changes_since_nothing : question (codes "GET") (codes "/changes?since=") ≡ BadQuery
+unfolding question with_target question_at look_up_in route_at matchit_on_literals form_urlencoded_on_literals is_utf8 utf8_lossy utf8_valid_len chars encode
+changes_since_nothing = refl
+
+changes_twice : question (codes "GET") (codes "/changes?since=1&since=1") ≡ BadQuery
+unfolding question with_target question_at look_up_in route_at matchit_on_literals form_urlencoded_on_literals is_utf8 utf8_lossy utf8_valid_len chars encode
+changes_twice = refl
 
 submit : question (codes "POST") (codes "/submit?format=text") ≡ Command verbs.Submit formats.Text
 unfolding question with_target question_at look_up_in route_at matchit_on_literals form_urlencoded_on_literals is_utf8 utf8_lossy utf8_valid_len chars encode

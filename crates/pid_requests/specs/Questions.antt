@@ -12,7 +12,7 @@ use Rattle.pid_moderation.specs.declared.verb.Verb.{Verb}
 use Rattle.pid_moderation.specs.declared.verb.Verb.TheVariants as verbs
 use Rattle.pid_requests.specs.LookUps.{look_up_asked}
 use Rattle.pid_requests.specs.Methods.{method_in}
-use Rattle.pid_requests.specs.Queries.{format_in, format_beside, after_said, above_said}
+use Rattle.pid_requests.specs.Queries.{format_in, format_beside, format_beside_two, after_said, above_said, since_said, start_said}
 use Rattle.pid_requests.specs.Routes.{route_at, method_at}
 use Rattle.pid_requests.specs.declared.method.Method.{Method}
 use Rattle.pid_requests.specs.declared.method.Method.TheVariants.{Get, Post}
@@ -20,7 +20,7 @@ use Rattle.pid_requests.specs.declared.route.Route.{Route}
 use Rattle.pid_requests.specs.declared.route.Route.TheVariants as routes
 use Rattle.pid_requests.specs.declared.question.Question.{Question}
 use Rattle.pid_requests.specs.declared.question.Question.TheVariants.{AnotherMethod, BadTarget, NoRoute, WantsGet, WantsPost, BadQuery}
-use Rattle.pid_requests.specs.declared.question.Question.TheVariants.{Export, Read, Children, LookUp, Submission, Pending, Command, Import}
+use Rattle.pid_requests.specs.declared.question.Question.TheVariants.{Export, Read, Children, LookUp, Submission, Pending, Changes, Command, Import}
 
 -- what stands behind the front of a path, where it has that front
 abbrev pub behind : List ℕ → List ℕ → List ℕ
@@ -48,6 +48,13 @@ abbrev pub pending_asked : Fields → Option Question
 pending_asked fields =
     option_and_then (λ format. option_map (λ after. Pending after format) (after_said (value (codes "after") fields))) (format_beside (codes "after") fields)
 
+-- the items whose changes have numbers above `since`, behind the path `after`
+abbrev pub changes_asked : Fields → Option Question
+changes_asked fields =
+    option_and_then
+    (λ format. option_map (λ since. Changes since (start_said (text_at (codes "after") fields)) format) (since_said (value (codes "since") fields)))
+    (format_beside_two (codes "since") (codes "after") fields)
+
 -- a command, whose own fields stand in the body
 abbrev pub command_asked : Verb → Fields → Option Question
 command_asked verb fields = option_map (λ format. Command verb format) (format_in fields)
@@ -60,6 +67,7 @@ question_at routes.Children path fields = children_asked fields
 question_at routes.LookUp path fields = option_map (λ look_up. LookUp look_up) (look_up_asked fields)
 question_at routes.Submission path fields = submission_asked path fields
 question_at routes.Pending path fields = pending_asked fields
+question_at routes.Changes path fields = changes_asked fields
 question_at routes.Account path fields = command_asked verbs.Account fields
 question_at routes.Submit path fields = command_asked verbs.Submit fields
 question_at routes.Comment path fields = command_asked verbs.Comment fields

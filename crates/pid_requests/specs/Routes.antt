@@ -6,7 +6,7 @@ use Rattle.matchit.specs.Seek.{first}
 use Rattle.pid_requests.specs.declared.method.Method.{Method}
 use Rattle.pid_requests.specs.declared.method.Method.TheVariants.{Get, Post}
 use Rattle.pid_requests.specs.declared.route.Route.{Route}
-use Rattle.pid_requests.specs.declared.route.Route.TheVariants.{Export, Read, Children, LookUp, Submission, Pending, Account, Submit, Comment, Withdraw, Approve, Reject, Import}
+use Rattle.pid_requests.specs.declared.route.Route.TheVariants.{Export, Read, Children, LookUp, Submission, Pending, Changes, Account, Submit, Comment, Withdraw, Approve, Reject, Import}
 
 -- a route with this path alone
 abbrev pub literal : List ℕ → Route → List ℕ × RouteOf Route
@@ -25,6 +25,7 @@ abbrev pub table : RowsOf (RouteOf Route)
 table =
     literal (codes "/account") Account
     ∷ literal (codes "/approve") Approve
+    ∷ literal (codes "/changes") Changes
     ∷ literal (codes "/children") Children
     ∷ literal (codes "/comment") Comment
     ∷ literal (codes "/import") Import
@@ -50,6 +51,7 @@ method_at Children = Get
 method_at LookUp = Get
 method_at Submission = Get
 method_at Pending = Get
+method_at Changes = Get
 method_at Account = Post
 method_at Submit = Post
 method_at Comment = Post

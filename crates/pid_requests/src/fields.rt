@@ -6,8 +6,9 @@ ghost use Rattle.std.specs.Option.{option_copied};
 ghost use Rattle.std.specs.Str.{bytes_eq};
 ghost use Rattle.pid_moderation.specs.Fields.{texts_of, times as times_in, value as value_in, text_at as text_in};
 ghost use Rattle.pid_moderation.specs.Forms.{number_in, is_plain_number as plain_number};
+ghost use Rattle.pid_requests.specs.Queries.{revision_in, is_long_number as long_number};
 
-use pid_moderation::SUBMISSIONS;
+use pid_moderation::{REVISIONS, SUBMISSIONS};
 
 fn times_by_name(fields: &[(String, String)], name: &str) -> usize
     ensures { result ≡ count_by (λ f. bytes_eq (string_bytes f.0) name.now) fields.now }
@@ -83,6 +84,35 @@ pub(crate) fn number_of(text: &str) -> Option<u32>
     match text.parse::<u32>() {
         Ok(number) => {
             if number <= SUBMISSIONS {
+                Some(number)
+            } else {
+                None
+            }
+        }
+        Err(_) => None,
+    }
+}
+
+fn is_long_number(text: &str) -> bool
+    ensures { result ≡ long_number text.now }
+{
+    let bytes = text.as_bytes();
+    if bytes.is_empty() || bytes.len() > 19 || begins_zero(bytes) {
+        return false;
+    }
+    are_digits(bytes)
+}
+
+// The number of a change.
+pub(crate) fn revision_of(text: &str) -> Option<u64>
+    ensures { result ≡ revision_in text.now }
+{
+    if !is_long_number(text) {
+        return None;
+    }
+    match text.parse::<u64>() {
+        Ok(number) => {
+            if number <= REVISIONS {
                 Some(number)
             } else {
                 None

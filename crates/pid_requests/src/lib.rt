@@ -18,7 +18,7 @@ mod text;
 pub use command::command_in;
 pub use format::Format;
 pub use look_up::LookUpQuery;
-pub use query::Above;
+pub use query::{Above, Start};
 pub use question::{Question, question_of};
 pub use route::{Route, build_routes};
 pub use sender::{Sender, sender_of};

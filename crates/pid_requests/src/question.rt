@@ -6,13 +6,16 @@ ghost use Rattle.pid_moderation.specs.Fields.{texts_of};
 ghost use Rattle.pid_requests.specs.Routes.{table, route_at, method_at};
 ghost use Rattle.pid_requests.specs.Queries.{format_in};
 ghost use Rattle.pid_requests.specs.Questions.{question, question_at, with_target, in_other, is_target, begins_slash, behind};
-ghost use Rattle.pid_requests.specs.Questions.{export_asked, read_asked, children_asked, submission_asked, pending_asked, command_asked};
+ghost use Rattle.pid_requests.specs.Questions.{export_asked, read_asked, children_asked, submission_asked, pending_asked, changes_asked, command_asked};
 
 use crate::fields::{number_of, text_at, value};
 use crate::format::Format;
 use crate::look_up::{LookUpQuery, look_up_of};
 use crate::method::{Method, method_named};
-use crate::query::{Above, above_named, after_named, format_beside, format_of};
+use crate::query::{
+    Above, Start, above_named, after_named, format_beside, format_beside_two, format_of,
+    since_named, start_named,
+};
 use crate::route::{Route, method_for, route_of};
 use crate::text::text_of;
 use matchit::Router;
@@ -41,19 +44,42 @@ pub enum Question {
     /// The canonical text of all items.
     Export,
     /// The item with a path; none where the text is no path.
-    Read { path: Option<Path>, format: Format },
+    Read {
+        path: Option<Path>,
+        format: Format,
+    },
     /// The items right below another one.
-    Children { above: Above, format: Format },
+    Children {
+        above: Above,
+        format: Format,
+    },
     /// A look-up.
     LookUp(LookUpQuery),
     /// The submission with a number; none where the text is no number of a submission.
-    Submission { number: Option<u32>, format: Format },
+    Submission {
+        number: Option<u32>,
+        format: Format,
+    },
     /// The pending submissions with greater numbers than this.
-    Pending { after: u32, format: Format },
+    Pending {
+        after: u32,
+        format: Format,
+    },
+    /// The items that were named anew by commands with greater numbers than this, from some path on.
+    Changes {
+        since: u64,
+        start: Start,
+        format: Format,
+    },
     /// A command, whose fields are the body.
-    Command { verb: Verb, format: Format },
+    Command {
+        verb: Verb,
+        format: Format,
+    },
     /// An import, whose file is the body.
-    Import { format: Format },
+    Import {
+        format: Format,
+    },
 }
 
 // The path and the query of a target.
@@ -143,6 +169,19 @@ fn pending_of(fields: &[(String, String)]) -> Option<Question>
     Some(Question::Pending { after, format })
 }
 
+fn changes_of(fields: &[(String, String)]) -> Option<Question>
+    ensures { result ≡ changes_asked (texts_of fields.now) }
+{
+    let format = format_beside_two(fields, "since", "after")?;
+    let since = since_named(value(fields, "since"))?;
+    let start = start_named(text_at(fields, "after"));
+    Some(Question::Changes {
+        since,
+        start,
+        format,
+    })
+}
+
 fn command_of(verb: Verb, fields: &[(String, String)]) -> Option<Question>
     ensures { result ≡ command_asked verb (texts_of fields.now) }
 {
@@ -169,6 +208,7 @@ fn ask_route(route: Route, path: &str, fields: &[(String, String)]) -> Option<Qu
         Route::LookUp => Some(Question::LookUp(look_up_of(fields)?)),
         Route::Submission => submission_of(path, fields),
         Route::Pending => pending_of(fields),
+        Route::Changes => changes_of(fields),
         Route::Account => command_of(Verb::Account, fields),
         Route::Submit => command_of(Verb::Submit, fields),
         Route::Comment => command_of(Verb::Comment, fields),

@@ -22,6 +22,8 @@ pub enum Route {
     Submission,
     /// `/pending`
     Pending,
+    /// `/changes`
+    Changes,
     /// `/account`
     Account,
     /// `/submit`
@@ -53,6 +55,7 @@ pub fn build_routes(alloc: Global) -> Result<Router<Route>, InsertError>
     routes.insert("/lookup", Route::LookUp)?;
     routes.insert("/submission/{num}", Route::Submission)?;
     routes.insert("/pending", Route::Pending)?;
+    routes.insert("/changes", Route::Changes)?;
     routes.insert("/account", Route::Account)?;
     routes.insert("/submit", Route::Submit)?;
     routes.insert("/comment", Route::Comment)?;
@@ -83,7 +86,8 @@ pub(crate) fn method_for(route: Route) -> Method
         | Route::Children
         | Route::LookUp
         | Route::Submission
-        | Route::Pending => Method::Get,
+        | Route::Pending
+        | Route::Changes => Method::Get,
         Route::Account
         | Route::Submit
         | Route::Comment

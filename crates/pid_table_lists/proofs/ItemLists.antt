@@ -26,7 +26,8 @@ use Rattle.sqlite_rules.proofs.ListLemmas.{has_filtered, has_kept}
 use Rattle.pid_ident.specs.Trees.{text_cmp}
 use Rattle.pid_moderation.specs.Items.{Items}
 use Rattle.pid_moderation.specs.Views.{Views}
-use Rattle.pid_rows.specs.Schema.{One, pid_schema}
+use Rattle.pid_rows.specs.declared.version.Version.TheVariants.{Two}
+use Rattle.pid_rows.specs.Schema.{pid_schema}
 use Rattle.pid_rows.specs.TableRows.{item_row}
 use Rattle.pid_rows.specs.Answers.{item_shown}
 use Rattle.pid_rows.specs.Shows.{Counts, ShowsCounting}
@@ -52,7 +53,7 @@ by_path = (col 1 1, ascending Binary) ∷ []
 abbrev pub mark : List ℕ × List ℕ → Output
 mark e = (Text e.0 ∷ [], item_shown e)
 
-less_is : (o : Ordering) → is_lt o ≡ true → o ≡ Less
+pub less_is : (o : Ordering) → is_lt o ≡ true → o ≡ Less
 less_is Less h = refl
 less_is Equal h = absurd (let bad : ⊥ = cc in bad)
 less_is Greater h = absurd (let bad : ⊥ = cc in bad)
@@ -120,7 +121,7 @@ module _ (tests : List Term) (limit : Term) (params : Row) where
         let pair = shows.items.complete e.0 e.1 (found_at v.items e shows.views.sorted kept.0) in
         (item_row pair.0 e.0 e.1, has_kept (hits tests params) (db.trees 4) (item_row pair.0 e.0 e.1) pair.1 (passes pair.0 e.0 e.1 ∙ kept.1), refl);
     apart =
-        let keys = item_keys_apart One db shows.sound shows.schema shows.items.ordered (λ r h. let pair = shows.items.sound r h in (pair.id, pair.key, ap rowid pair.is, ap (λ x. column x 1) pair.is)) in
+        let keys = item_keys_apart Two db shows.sound shows.schema shows.items.ordered (λ r h. let pair = shows.items.sound r h in (pair.id, pair.key, ap rowid pair.is, ap (λ x. column x 1) pair.is)) in
         finer_distinct (λ r. column r 1) (out 4 tests both_columns by_path limit params) (passing tests params (db.trees 4)) (λ x y same. ap (λ (o : Output). column o.0 0) same)
         (kept_distinct (λ r. column r 1) (hits tests params) (db.trees 4) keys);
     rises = marks_rise f v.items shows.views.sorted;

@@ -1,6 +1,8 @@
 pub mod WorkedRows
 pub mod BelowLemmas
 pub mod PendingLists
+pub mod ChangeLists
+pub mod ChangeReads
 pub mod RowLists
 pub mod RemarkLists
 pub mod WalkLemmas

@@ -91,7 +91,7 @@ page_query after = in_order pid_schema select_page (number after ∷ []) 6 waiti
 abbrev pub page_mark : ℕ × Standing → Output
 page_mark s = (number s.0 ∷ [], pending_row s)
 
-higher : (m n : ℕ) → is_true (binary (Compare Gt Binary) (number m) (number n)) ≡ nat_lt n m
+pub higher : (m n : ℕ) → is_true (binary (Compare Gt Binary) (number m) (number n)) ≡ nat_lt n m
 unfolding binary
 higher m n = said _ ∙ ap is_gt (value_cmp-Int (pos m) (pos n)) ∙ grind (arith, ints, nat_tests)
 

@@ -1,7 +1,8 @@
 -- Worked rows, by computation.
 use Rattle.std.proofs.Common.{◌≡◌, List, [], ◌∷◌, None, Some, Ok, Err, codes, refl, ℕ, cond}
-use Rattle.std.specs.Prelude.{◌==◌}
-use Rattle.pid_ident.specs.declared.path.Path.TheVariants.{Vendor}
+use Rattle.std.specs.Prelude.{◌==◌, if◌then◌else◌}
+use Rattle.std.specs.Str.{bytes_eq}
+use Rattle.pid_ident.specs.declared.path.Path.TheVariants.{Vendor, Device}
 use Rattle.pid_moderation.specs.declared.command.Proposal.TheVariants.{Removal}
 use Rattle.pid_moderation.specs.declared.facts.State.TheVariants.{Pending, Withdrawn}
 use Rattle.pid_moderation.specs.Items.{Items}
@@ -10,6 +11,7 @@ use Rattle.pid_reader.specs.LookingBack.{Item}
 use Rattle.pid_reader.specs.Numbered.{Numbered}
 use Rattle.pid_rows.specs.TableRows.{Standing}
 use Rattle.pid_table_lists.specs.declared.walk.EachEnd.TheVariants.{Fault}
+use Rattle.pid_table_lists.specs.ChangePages.{Changed, changes_in, start_text}
 use Rattle.pid_table_lists.specs.Children.{children_of}
 use Rattle.pid_table_lists.specs.Discussions.{discussion_in}
 use Rattle.pid_table_lists.specs.EachItem.{TakesEach, placed_from}
@@ -48,7 +50,7 @@ at_the_top = refl
 abbrev by_bob : ℕ → Submitted
 by_bob vendor = record { author = codes "bob"; path = Vendor vendor; proposal = Removal; note = [] }
 
--- three submissions, of which the second was withdrawn, and two remarks on the third
+-- three submissions, of which the second was withdrawn, and two remarks on the third; two items that were named anew
 abbrev views : Views
 views = record {
   rank = λ who. None;
@@ -57,6 +59,8 @@ views = record {
   remarks = λ n. cond (n == 3) (record { author = codes "bob"; text = codes "one" } ∷ record { author = codes "root"; text = codes "two" } ∷ []) [];
   items = items;
   kept = λ who key. None;
+  revision = 9;
+  since = λ path. if bytes_eq path bridge.0 then 4 else if bytes_eq path storage.0 then 9 else 0;
 }
 
 abbrev waiting : ℕ → ℕ × Standing
@@ -82,6 +86,37 @@ withdrawn_without_remarks = refl
 
 no_submission : discussion_in views 4 ≡ None
 no_submission = refl
+
+changed_bridge : Changed
+changed_bridge = record { path = bridge.0; name = bridge.1; since = 4 }
+
+changed_storage : Changed
+changed_storage = record { path = storage.0; name = storage.1; since = 9 }
+
+-- items that were there before the mark have the number 0, and are told of none
+all_changes : changes_in 100 0 (start_text None) views ≡ record { revision = 9; items = changed_bridge ∷ changed_storage ∷ [] }
+unfolding changed_bridge changed_storage
+all_changes = refl
+
+later_changes : changes_in 100 4 (start_text None) views ≡ record { revision = 9; items = changed_storage ∷ [] }
+unfolding changed_storage
+later_changes = refl
+
+one_change : changes_in 1 0 (start_text None) views ≡ record { revision = 9; items = changed_bridge ∷ [] }
+unfolding changed_bridge
+one_change = refl
+
+-- a page begins behind a path, whether an item is there or not
+changes_behind : changes_in 100 0 (start_text (Some (Device 32902 4663))) views ≡ record { revision = 9; items = changed_storage ∷ [] }
+unfolding changed_storage
+changes_behind = refl
+
+changes_behind_no_item : changes_in 100 0 (start_text (Some (Device 32902 4662))) views ≡ record { revision = 9; items = changed_bridge ∷ changed_storage ∷ [] }
+unfolding changed_bridge changed_storage
+changes_behind_no_item = refl
+
+no_changes : changes_in 100 9 (start_text None) views ≡ record { revision = 9; items = [] }
+no_changes = refl
 
 -- a sink that writes items down with their places, the last in front, and faults at a path's text
 abbrev Writes : List Numbered → Numbered → List Numbered → Type 0

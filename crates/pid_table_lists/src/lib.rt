@@ -2,11 +2,13 @@
 #![tactic(auto)]
 
 mod below;
+mod changes;
 mod pages;
 mod remarks;
 mod walk;
 
 pub use below::children;
+pub use changes::{ChangedItem, Changes, changes_page};
 pub use pages::{PAGE, Pending, pending_page};
 pub use remarks::{Discussion, discussed};
 pub use walk::{EachEnd, each_item};

@@ -19,7 +19,7 @@ use sqlite::types::ToSql;
 use sqlite::{Alter, Connection, Row};
 use std::alloc::Global;
 
-/// How many submissions a page holds.
+/// How many submissions or items a page holds.
 pub const PAGE: usize = 100;
 
 /// A pending submission and its number.

@@ -47,7 +47,7 @@ impl<F> From<SqlError> for EachEnd<F> {
 }
 
 // The text in a column, lent.
-fn lent(row: &Row, at: usize) -> Result<&str, TableFault>
+pub(crate) fn lent(row: &Row, at: usize) -> Result<&str, TableFault>
     ensures read { IfOk result (λ text. column row.now at ≡ TextValue text.now) }
     ensures unread { IfErr result (IsUnread (IsWord is_utf8 (column row.now at))) }
 {

@@ -1,5 +1,5 @@
 -- What a whole change leaves of counts and receipts.
-use Rattle.std.proofs.Common.{◌≡◌, true, [], ◌∷◌, length, None, Some, Option, Ok, Err, Result, OnOk, IfErr, MatchResult, refl, sym, ap, subst, ◌∙◌, length-append}
+use Rattle.std.proofs.Common.{◌≡◌, ℕ, true, [], ◌∷◌, length, None, Some, Option, Ok, Err, Result, OnOk, IfErr, MatchResult, refl, sym, ap, subst, ◌∙◌, length-append}
 use Rattle.std.specs.Prelude.{is_none}
 use Rattle.sqlite.specs.Effect.{Database}
 use Rattle.pid_moderation.specs.declared.change.Change.{Change}
@@ -9,33 +9,34 @@ use Rattle.pid_moderation.specs.declared.change.Receipt.{Receipt}
 use Rattle.pid_moderation.specs.Changes.{affected, keeping, changed, FitsEffect, FitsReceipt}
 use Rattle.pid_moderation.specs.Views.{Views}
 use Rattle.pid_rows.specs.Shows.{Counts, ShowsCounting, Shows, counts_of}
+use Rattle.pid_rows.specs.Writes.{with_revision}
 use Rattle.pid_tables.specs.Applies.{IsCounted, recounted}
 
 -- meta has the counts of the changed views
-pub recounted_is : (e : Effect) (c : Counts) (v : Views) → IsCounted e c v → FitsEffect e v → recounted e c ≡ counts_of (affected e v)
-recounted_is Nothing c v is fits = is
-recounted_is (Ranked who rank is_new) c v is fits = is
-recounted_is (Submitted number author path proposal note) c v is fits =
+pub recounted_is : (n : ℕ) (e : Effect) (c : Counts) (v : Views) → IsCounted e c v → FitsEffect e v → recounted e c ≡ counts_of (affected n e v)
+recounted_is n Nothing c v is fits = is
+recounted_is n (Ranked who rank is_new) c v is fits = is
+recounted_is n (Submitted number author path proposal note) c v is fits =
     ap (λ (k : Counts). record k { submissions = number }) is
     ∙ ap (λ n. record { items = length v.items; submissions = n }) (fits ∙ sym (length-append v.submits (record { author = author; path = path; proposal = proposal; note = note } ∷ [])))
-recounted_is (Remarked number place author text) c v is fits = is
-recounted_is (Decided number state None) c v is fits = is
-recounted_is (Decided number state (Some w)) c v is fits = ap (λ (k : Counts). record k { items = w.items }) is ∙ ap (λ n. record { items = n; submissions = length v.submits }) fits.1.0
-recounted_is (Imported items) c v is fits = λ i. record { items = fits i; submissions = is i }
+recounted_is n (Remarked number place author text) c v is fits = is
+recounted_is n (Decided number state None) c v is fits = is
+recounted_is n (Decided number state (Some w)) c v is fits = ap (λ (k : Counts). record k { items = w.items }) is ∙ ap (λ n. record { items = n; submissions = length v.submits }) fits.1.0
+recounted_is n (Imported items) c v is fits = λ i. record { items = fits i; submissions = is i }
 
-pub receipt_still_fits : (e : Effect) (r : Option Receipt) (v : Views) → FitsReceipt r v → FitsReceipt r (affected e v)
-receipt_still_fits Nothing None v h = tt
-receipt_still_fits (Ranked who rank is_new) None v h = tt
-receipt_still_fits (Submitted number author path proposal note) None v h = tt
-receipt_still_fits (Remarked number place author text) None v h = tt
-receipt_still_fits (Decided number state w) None v h = tt
-receipt_still_fits (Imported items) None v h = tt
-receipt_still_fits Nothing (Some r) v h = h
-receipt_still_fits (Ranked who rank is_new) (Some r) v h = h
-receipt_still_fits (Submitted number author path proposal note) (Some r) v h = h
-receipt_still_fits (Remarked number place author text) (Some r) v h = h
-receipt_still_fits (Decided number state w) (Some r) v h = h
-receipt_still_fits (Imported items) (Some r) v h = h
+pub receipt_still_fits : (n : ℕ) (e : Effect) (r : Option Receipt) (v : Views) → FitsReceipt r v → FitsReceipt r (affected n e v)
+receipt_still_fits n Nothing None v h = tt
+receipt_still_fits n (Ranked who rank is_new) None v h = tt
+receipt_still_fits n (Submitted number author path proposal note) None v h = tt
+receipt_still_fits n (Remarked number place author text) None v h = tt
+receipt_still_fits n (Decided number state w) None v h = tt
+receipt_still_fits n (Imported items) None v h = tt
+receipt_still_fits n Nothing (Some r) v h = h
+receipt_still_fits n (Ranked who rank is_new) (Some r) v h = h
+receipt_still_fits n (Submitted number author path proposal note) (Some r) v h = h
+receipt_still_fits n (Remarked number place author text) (Some r) v h = h
+receipt_still_fits n (Decided number state w) (Some r) v h = h
+receipt_still_fits n (Imported items) (Some r) v h = h
 
 kept_counts : (r : Option Receipt) (v : Views) → counts_of (keeping r v) ≡ counts_of v
 kept_counts None v = refl
@@ -43,11 +44,12 @@ kept_counts (Some r) v = refl
 
 -- so the tables show them whole
 pub shows_whole : (change : Change) (c : Counts) (v : Views) (db : Database) → IsCounted change.effect c v → FitsEffect change.effect v → ShowsCounting (recounted change.effect c) db (changed change v) → Shows db (changed change v)
-shows_whole change c v db is fits = subst (λ counts. ShowsCounting counts db (changed change v)) (recounted_is change.effect c v is fits ∙ sym (kept_counts change.receipt (affected change.effect v)))
+shows_whole change c v db is fits = subst (λ counts. ShowsCounting counts db (changed change v)) (recounted_is change.revision change.effect c v is fits ∙ sym (kept_counts change.receipt (affected change.revision change.effect v)))
 
 pub whole_with : (change : Change) (r : Option Receipt) (c : Counts) (v : Views) (db : Database) → change.receipt ≡ r → IsCounted change.effect c v → FitsEffect change.effect v
-    → ShowsCounting (recounted change.effect c) db (keeping r (affected change.effect v)) → Shows db (changed change v)
-whole_with change r c v db is counted fits h = shows_whole change c v db counted fits (subst (λ r. ShowsCounting (recounted change.effect c) db (keeping r (affected change.effect v))) (sym is) h)
+    → ShowsCounting (recounted change.effect c) db (with_revision change.revision (keeping r (affected change.revision change.effect v))) → Shows db (changed change v)
+whole_with change r c v db is counted fits h =
+    shows_whole change c v db counted fits (subst (λ r. ShowsCounting (recounted change.effect c) db (with_revision change.revision (keeping r (affected change.revision change.effect v)))) (sym is) h)
 
 pub none_there : {X : Type 0} (o : Option X) → is_none o ≡ true → o ≡ None
 none_there None h = refl

@@ -18,7 +18,8 @@ use Rattle.sqlite.specs.Edit.{next_rowid, numbered}
 use Rattle.sqlite_rules.specs.declared.error.Rowids.TheVariants.{Chosen}
 use Rattle.pid_moderation.specs.declared.facts.State.TheVariants.{Pending}
 use Rattle.pid_moderation.specs.Views.{Views}
-use Rattle.pid_rows.specs.Schema.{One, no_schema, pid_schema, meta, account, item, submission, remark, receipt}
+use Rattle.pid_rows.specs.Schema.{pid_schema, no_schema, meta, account, item, submission, remark, receipt, item_since}
+use Rattle.pid_rows.specs.declared.version.Version.TheVariants.{Two}
 use Rattle.pid_rows.specs.PairRows.{Map, RowsAre}
 use Rattle.pid_rows.specs.TableRows.{number, meta_row}
 use Rattle.sqlite.specs.Order.{Row}
@@ -97,7 +98,7 @@ made_one ts text table (Err e) old new it tables goes ran untold clean inside ma
 no_rows : {K V : Type 0} (row : ℤ → K → V → Row) (rows : List Row) → rows ≡ [] → RowsAre row (λ _. None) rows
 no_rows row rows none = subst (RowsAre row (λ _. None)) (sym none) (record { ordered = tt; sound = λ r h. absurd h; complete = λ k v e. absurd (let bad : ⊥ = cc in bad) })
 
-pub all_made : (db : Database) → AreMade (meta ∷ account ∷ item ∷ submission ∷ remark ∷ receipt ∷ []) db → HasOnlyMeta (λ _. None) db
+pub all_made : (db : Database) → AreMade (meta ∷ account ∷ item ∷ submission ∷ remark ∷ receipt ∷ item_since ∷ []) db → HasOnlyMeta (λ _. None) db
 all_made db made = record {
   schema = made.schema;
   sound = made.sound;
@@ -107,11 +108,12 @@ all_made db made = record {
   submissions = made.empty.1.1.1.0;
   remarks = made.empty.1.1.1.1.0;
   receipts = made.empty.1.1.1.1.1.0;
+  sinces = made.empty.1.1.1.1.1.1.0;
 }
 
 pub label_added : (old new : State) (m : Map (List ℕ) ℕ) (label : List ℕ) (value : ℕ) → HasOnlyMeta m old.now → m label ≡ None → Ran insert_meta (Text label ∷ number value ∷ []) old new → HasOnlyMeta (with_label label value m) new.now
 label_added old new m label value has none ran =
-    let w = map_added meta_row by_first _ meta_found m label pid_schema meta 0 refl meta_plain old new has.schema has.meta insert_meta pair_terms 3 (insert_meta_is One)
+    let w = map_added meta_row by_first _ meta_found m label pid_schema meta 0 refl meta_plain old new has.schema has.meta insert_meta pair_terms 3 (insert_meta_is Two)
     (number value ∷ []) (Null ∷ Text label ∷ number value ∷ []) refl value
     (λ rs. (next_rowid rs, ap (λ r. numbered Chosen rs (r ∷ [])) (meta_cast Null label value ∙ ap (λ x. x ∷ Text label ∷ number value ∷ []) cast_null)))
     _ (text_set m label (Some value)) ran.0 none ran.1 in
@@ -124,13 +126,14 @@ label_added old new m label value has none ran =
       submissions = w.others.1.1.1.0 (λ e. omega arith) ∙ has.submissions;
       remarks = w.others.1.1.1.1.0 (λ e. omega arith) ∙ has.remarks;
       receipts = w.others.1.1.1.1.1.0 (λ e. omega arith) ∙ has.receipts;
+      sinces = w.others.1.1.1.1.1.1.0 (λ e. omega arith) ∙ has.sinces;
     }
 
 -- no account, no item, nothing
 abbrev pub nothing_yet : Views
-nothing_yet = record { rank = λ _. None; submits = []; state = λ _. Pending; remarks = λ _. []; items = []; kept = λ _ _. None }
+nothing_yet = record { rank = λ _. None; submits = []; state = λ _. Pending; remarks = λ _. []; items = []; kept = λ _ _. None; revision = 0; since = λ _. 0 }
 
-pub shows_nothing : (db : Database) → HasOnlyMeta (meta_of (record { items = 0; submissions = 0 })) db → ShowsCounting (record { items = 0; submissions = 0 }) db nothing_yet
+pub shows_nothing : (db : Database) → HasOnlyMeta (meta_of (record { items = 0; submissions = 0 }) 0) db → ShowsCounting (record { items = 0; submissions = 0 }) db nothing_yet
 shows_nothing db has = record {
   schema = has.schema;
   sound = has.sound;
@@ -141,7 +144,7 @@ shows_nothing db has = record {
   submissions = none_there _ _ (db.trees 6) standing_none has.submissions;
   remarks = none_there _ _ (db.trees 7) remark_none has.remarks;
   receipts = no_rows _ (db.trees 9) has.receipts;
-  sinces = tt;
+  sinces = no_rows _ (db.trees 11) has.sinces;
 }
   where
     none_there : {K V : Type 0} (row : ℤ → K → V → Row) (m : Map K V) (rows : List Row) → ((k : K) → m k ≡ None) → rows ≡ [] → RowsAre row m rows

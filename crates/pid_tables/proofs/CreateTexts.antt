@@ -2,7 +2,7 @@
 use Rattle.std.proofs.Common.{◌≡◌, ℕ, List, [], ◌∷◌, codes, refl}
 use Rattle.sqlite.specs.Listing.{understood}
 use Rattle.sqlite_tied.specs.Compute.{everything}
-use Rattle.pid_rows.specs.Schema.{meta, account, item, submission, remark, receipt, pid_schema}
+use Rattle.pid_rows.specs.Schema.{meta, account, item, submission, remark, receipt, item_since, pid_schema}
 use Rattle.pid_tables.specs.Making.{making, Creates}
 
 abbrev pub create_meta : List ℕ
@@ -22,6 +22,9 @@ create_remark = codes "CREATE TABLE remark (num INTEGER NOT NULL REFERENCES subm
 
 abbrev pub create_receipt : List ℕ
 create_receipt = codes "CREATE TABLE receipt (account TEXT NOT NULL REFERENCES account(name), token TEXT NOT NULL, kind INTEGER NOT NULL, a INTEGER NOT NULL, b INTEGER NOT NULL, c INTEGER NOT NULL, PRIMARY KEY (account, token)) STRICT"
+
+abbrev pub create_item_since : List ℕ
+create_item_since = codes "CREATE TABLE item_since (path TEXT NOT NULL PRIMARY KEY REFERENCES item(path) ON DELETE CASCADE, since INTEGER NOT NULL) STRICT"
 
 pub meta_creates : Creates [] create_meta meta
 unfolding understood everything
@@ -47,5 +50,9 @@ pub receipt_creates : Creates (meta ∷ account ∷ item ∷ submission ∷ rema
 unfolding understood everything
 receipt_creates = record { known = (refl, refl, refl, refl); defined = refl; tree = refl; alone = refl }
 
-pub whole_schema : making (meta ∷ account ∷ item ∷ submission ∷ remark ∷ receipt ∷ []) ≡ pid_schema
+pub item_since_creates : Creates (meta ∷ account ∷ item ∷ submission ∷ remark ∷ receipt ∷ []) create_item_since item_since
+unfolding understood everything
+item_since_creates = record { known = (refl, refl, refl, refl); defined = refl; tree = refl; alone = refl }
+
+pub whole_schema : making (meta ∷ account ∷ item ∷ submission ∷ remark ∷ receipt ∷ item_since ∷ []) ≡ pid_schema
 whole_schema = refl

@@ -7,4 +7,8 @@ pub mod CommitLemmas
 pub mod MakerTexts
 pub mod MetLemmas
 pub mod OpenLemmas
-pub mod CheckLemmas
+pub mod ChangeLemmas
+pub mod SchemaNumbers
+pub mod MoveLemmas
+pub mod StandLemmas
+pub mod BringLemmas

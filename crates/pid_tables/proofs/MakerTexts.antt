@@ -15,9 +15,9 @@ use Rattle.sqlite_resolve.specs.Compile.{first, is_attached, compiled, planned, 
 use Rattle.sqlite_resolve.specs.Lowering.{Checked, and_then}
 use Rattle.sqlite_syntax.specs.declared.statement.Parsed.{Parsed}
 use Rattle.sqlite_tied.specs.Compute.{everything}
-use Rattle.pid_rows.specs.Schema.{meta, account, item, submission, remark, receipt, pid_schema}
+use Rattle.pid_rows.specs.Schema.{meta, account, item, submission, remark, receipt, item_since, pid_schema}
 use Rattle.pid_tables.specs.Making.{IsMaker, IsMakerOf, IsRefused}
-use Rattle.pid_tables.proofs.CreateTexts.{create_meta, create_account, create_item, create_submission, create_remark, create_receipt, meta_creates, account_creates, item_creates, submission_creates, remark_creates, receipt_creates}
+use Rattle.pid_tables.proofs.CreateTexts.{create_meta, create_account, create_item, create_submission, create_remark, create_receipt, create_item_since, meta_creates, account_creates, item_creates, submission_creates, remark_creates, receipt_creates, item_since_creates}
 
 abbrev MakesIfGiven : Checked Command → Type 0
 MakesIfGiven (Ok k) = k ≡ CreateTable
@@ -120,6 +120,13 @@ only_receipt = (refl, λ schema. (λ base. refl, refl, λ base. made_at schema (
 
 pub receipt_maker : IsMakerOf create_receipt (codes "receipt")
 receipt_maker = record { table = record receipt { tree = 0 }; defined = receipt_creates.defined; named = refl; makes = maker create_receipt only_receipt }
+
+only_item_since : OnlyMakes create_item_since (first create_item_since)
+unfolding everything
+only_item_since = (refl, λ schema. (λ base. refl, refl, λ base. made_at schema (codes "item_since")))
+
+pub item_since_maker : IsMakerOf create_item_since (codes "item_since")
+item_since_maker = record { table = record item_since { tree = 0 }; defined = item_since_creates.defined; named = refl; makes = maker create_item_since only_item_since }
 
 -- a registry has a table of this name already
 pub meta_met : IsRefused (understood pid_schema create_meta)

@@ -122,10 +122,9 @@ free_at s [] free name h used = h
 free_at s (n ∷ names) free name (inl same) used = let off = subst (λ x. is_used s x ≡ false) (sym same) free.0 in let both = sym used ∙ off in let bad : ⊥ = cc in bad
 free_at s (n ∷ names) free name (inr h) used = free_at s names free.1 name h used
 
--- all six were made, so none of their names was taken
-pub none_met : (a b c : Schema) → TookNames (codes "meta" ∷ codes "account" ∷ codes "item" ∷ []) a b → TookNames (codes "submission" ∷ codes "remark" ∷ codes "receipt" ∷ []) b c
-    → (name : List ℕ) × Has table_names name × (is_used a name ≡ true) → ⊥
-none_met a b c one two met = free_at a table_names (took_both _ _ a b c one two).free met.0 met.1 met.2
+-- all of them were made, so none of their names was taken
+pub none_met : (a b : Schema) → TookNames table_names a b → (name : List ℕ) × Has table_names name × (is_used a name ≡ true) → ⊥
+none_met a b took met = free_at a table_names took.free met.0 met.1 met.2
 
 -- ---- why a text is refused that the schema has a table for already
 

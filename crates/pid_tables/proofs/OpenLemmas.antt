@@ -7,9 +7,11 @@ use Rattle.sqlite.specs.Tree.{Trees}
 use Rattle.sqlite_catalog.proofs.ReadLemmas.{lists_once}
 use Rattle.pid_moderation.specs.History.{History}
 use Rattle.pid_moderation.specs.Views.{Views}
-use Rattle.pid_rows.specs.Leaves.{as_found, AtRest, OnlyReads}
-use Rattle.pid_rows.specs.Schema.{no_schema, pid_schema}
-use Rattle.pid_rows.specs.Shows.{Shows}
+use Rattle.pid_rows.specs.declared.version.Version.{Version}
+use Rattle.pid_rows.specs.Leaves.{as_found, found_in, AtRest, RestsIn, OnlyReads}
+use Rattle.pid_rows.specs.Schema.{no_schema, pid_schema, schema_of}
+use Rattle.pid_rows.specs.Shows.{Shows, ShowsIn}
+use Rattle.pid_rows.proofs.OnlyReading.{rests_in_still}
 use Rattle.pid_tables.specs.Creation.{AreMade, IsBare, IsBlank}
 use Rattle.pid_tables.specs.ShowsOrBlank.{ShowsOrBlank}
 
@@ -32,6 +34,14 @@ opened_shown s v law opens live shows = record {
   leaves = record { each = λ clean db may. subst (λ t. Shows (as_found t) v) (sym (left_now s opens law db may)) shows };
 }
 
+pub opened_rests : (version : Version) (s : State) (v : Views) → LeavesCommitted s → Opens s → IsLive s → ShowsIn version (found_in (schema_of version) s.now.trees) v → RestsIn version s v
+opened_rests version s v law opens live shows = record {
+  settled = opens.autocommit;
+  same = λ opened. opens.clean;
+  shows = λ opened. subst (λ d. ShowsIn version d v) (sym (found_now s (schema_of version) opens live shows.sound)) shows;
+  leaves = record { each = λ clean db may. (version, subst (λ t. ShowsIn version (found_in (schema_of version) t) v) (sym (left_now s opens law db may)) shows) };
+}
+
 pub opened_bare : (s : State) → LeavesCommitted s → Opens s → IsLive s → IsBare s.now.trees → IsBlank s
 opened_bare s law opens live bare = record {
   settled = opens.autocommit;
@@ -40,7 +50,7 @@ opened_bare s law opens live bare = record {
   leaves = λ clean db may. subst IsBare (sym (left_now s opens law db may)) bare;
 }
 
-still_blank : (old new : State) → OnlyReads old new → IsBlank old → IsBlank new
+pub still_blank : (old new : State) → OnlyReads old new → IsBlank old → IsBlank new
 still_blank old new reads blank =
     let now = reads.same old.now (record { sees = λ opened. refl; committed = λ opened. sym (blank.same opened) }) in
     record {
@@ -52,4 +62,5 @@ still_blank old new reads blank =
 
 pub still_shown : (old new : State) (h : History) → OnlyReads old new → ShowsOrBlank old h → ShowsOrBlank new h
 still_shown old new h reads (inl rest) = inl (reads.kept _ rest)
-still_shown old new h reads (inr blank) = inr (still_blank old new reads blank.0, blank.1)
+still_shown old new h reads (inr (inl rest)) = inr (inl (rests_in_still old new _ reads rest))
+still_shown old new h reads (inr (inr blank)) = inr (inr (still_blank old new reads blank.0, blank.1))

@@ -1,5 +1,5 @@
 -- A name that is put at a path.
-use Rattle.std.proofs.Common.{◌≡◌, ℕ, Bool, T, true, false, cond, List, [], ◌∷◌, None, Some, Option, Ok, Err, Result, OnOk, IfOk, IfErr, MatchResult, IsSome, refl, sym, ap, subst, ◌∙◌}
+use Rattle.std.proofs.Common.{◌≡◌, inl, inr, ℕ, Bool, T, true, false, cond, List, [], ◌∷◌, None, Some, Option, Ok, Err, Result, OnOk, IfOk, IfErr, MatchResult, IsSome, refl, sym, ap, subst, ◌∙◌}
 use Rattle.std.specs.Prelude.{option_map, bytes_eq}
 use Rattle.std.specs.Ordering.{eq_by_cmp}
 use Rattle.std.specs.Cmp.Lexicographic.{nat_list_cmp_total}
@@ -12,7 +12,8 @@ use Rattle.sqlite.specs.Listing.{understood}
 use Rattle.sqlite.specs.State.{State, Shown}
 use Rattle.sqlite.proofs.Callers.{IsPlain}
 use Rattle.pid_ident.specs.Trees.{text_cmp}
-use Rattle.pid_moderation.specs.Items.{Items, name_at}
+use Rattle.pid_moderation.specs.Changes.{with_items}
+use Rattle.pid_moderation.specs.Items.{Items, name_at, has_name}
 use Rattle.pid_moderation.specs.Views.{Views}
 use Rattle.pid_tables.specs.declared.putting.Put.TheVariants.{Added, Renamed, Same}
 use Rattle.pid_rows.specs.Answers.{name_row}
@@ -20,7 +21,9 @@ use Rattle.pid_tables.specs.Puts.{put_over}
 use Rattle.pid_rows.specs.Schema.{pid_schema}
 use Rattle.pid_rows.specs.Shows.{Counts, ShowsCounting}
 use Rattle.pid_rows.specs.Writes.{with_name}
+use Rattle.std.proofs.lemmas.Bool.{cases_Bool}
 use Rattle.pid_rows.proofs.SetLemmas.{tied}
+use Rattle.pid_tables.proofs.ChangeLemmas.{same_items}
 use Rattle.pid_rows.proofs.ReadLemmas.{shows_still}
 
 pub on_read : {X E : Type 0} (sql : List ℕ) (params : Row) (old new : State) (r : Result X E) (rows : X → List Row) (c : Counts) (v : Views) → IsPlain (understood pid_schema sql) → ShowsCounting c old.now v
@@ -69,9 +72,19 @@ pub none_there : (name : List ℕ) (o : Option (List ℕ)) → Added ≡ put_ove
 none_there name None h = refl
 none_there name (Some old) h = absurd (either_over (bytes_eq old name) h)
 
-pub other_there : (name : List ℕ) (o : Option (List ℕ)) → Renamed ≡ put_over name o → IsSome o
+is_renamed : (b : Bool) → Renamed ≡ cond b Same Renamed → b ≡ false
+is_renamed true h = absurd (let bad : ⊥ = cc in bad)
+is_renamed false h = refl
+
+differs : (name old : List ℕ) → bytes_eq old name ≡ false → bytes_eq name old ≡ false
+differs name old off = elim (cases_Bool (bytes_eq name old)) [
+  | inl on ↦ absurd (let both = sym ((bytes_eq-Decides old name).1 (sym ((bytes_eq-Decides name old).0 on))) ∙ off in let bad : ⊥ = cc in bad)
+  | inr apart ↦ apart
+]
+
+pub other_there : (name : List ℕ) (o : Option (List ℕ)) → Renamed ≡ put_over name o → IsSome o × (has_name name o ≡ false)
 other_there name None h = absurd (let bad : ⊥ = cc in bad)
-other_there name (Some old) h = refl
+other_there name (Some old) h = (refl, differs name old (is_renamed (bytes_eq old name) h))
 
 is_same : (b : Bool) → Same ≡ cond b Same Renamed → b ≡ true
 is_same true h = refl
@@ -96,5 +109,6 @@ put_same path name items sorted there =
     at q true e = sym (ap (λ p. name_at p items) (tied q path e) ∙ there)
     at q false e = refl
 
-pub still_with : (path name : List ℕ) (c : Counts) (v : Views) (s : State) → name_at path v.items ≡ Some name → ShowsCounting c s.now v → ShowsCounting c s.now (with_name path name v)
-still_with path name c v s there shows = subst (λ items. ShowsCounting c s.now (record v { items = items })) (sym (put_same path name v.items shows.views.sorted there)) shows
+pub still_with : (n : ℕ) (path name : List ℕ) (c : Counts) (v : Views) (s : State) → name_at path v.items ≡ Some name → ShowsCounting c s.now v → ShowsCounting c s.now (with_name n path name v)
+still_with n path name c v s there shows =
+    subst (λ w. ShowsCounting c s.now w) (sym (ap (λ (items : Items). with_items n items v) (put_same path name v.items shows.views.sorted there) ∙ same_items n v)) shows

@@ -30,6 +30,9 @@ module _ {S : Type 0} (store : Ghosts S) where
   abbrev pub IsMetFault : Held S → Held S → TableFault → Type 0
   IsMetFault old new fault = creation.IsMetFault (state store old) (state store new) fault
 
+  abbrev pub IsUndone : Held S → Held S → Type 0
+  IsUndone old new = creation.IsUndone (state store old) (state store new)
+
   abbrev pub LeavesBareOrNew : Held S → Type 0
   LeavesBareOrNew conn = creation.LeavesBareOrNew (state store conn)
 

@@ -37,14 +37,20 @@ pub record IsBlank (s : State) : Type 0 where
   pub empty : IsTrue s.is_open → AreMade [] s.now
   pub leaves : HasCleanDisk s → (db : Trees) → s.may_leave db → IsBare db
 
+-- a transaction failed to commit: what was committed before is seen again
+pub record IsUndone (old new : State) : Type 0 where
+  pub was_open : IsTrue new.is_open → IsTrue old.is_open
+  pub sees : IsTrue new.is_open → new.now ≡ old.committed
+  pub committed : IsTrue new.is_open → new.committed ≡ old.committed
+
 -- everything that a crash may leave has no table, or shows the history of a new registry
 pub record LeavesBareOrNew (s : State) : Type 0 where
   pub each : HasCleanDisk s → (db : Trees) → s.may_leave db → IsBare db ⊎ Shows (as_found db) (views_of new_history)
 
 abbrev pub table_names : List (List ℕ)
-table_names = codes "meta" ∷ codes "account" ∷ codes "item" ∷ codes "submission" ∷ codes "remark" ∷ codes "receipt" ∷ []
+table_names = codes "meta" ∷ codes "account" ∷ codes "item" ∷ codes "submission" ∷ codes "remark" ∷ codes "receipt" ∷ codes "item_since" ∷ []
 
--- some table, index or view has the name of one of the six, or the connection is shut
+-- some table, index or view has the name of one of the seven, or the connection is shut
 abbrev pub IsMet : State → Type 0
 IsMet s = IsTrue s.is_open → (name : List ℕ) × Has table_names name × (is_used s.now.schema name ≡ true)
 

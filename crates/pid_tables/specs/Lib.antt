@@ -3,4 +3,5 @@ pub mod Making
 pub mod Puts
 pub mod Applies
 pub mod ShowsOrBlank
+pub mod Steps
 pub mod Clauses

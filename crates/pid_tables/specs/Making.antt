@@ -1,4 +1,4 @@
--- Tables on their way: the first of the six are made, and have no rows. Serves private functions alone; no promise rests on it.
+-- Tables on their way: the first of the seven are made, and have no rows. Serves private functions alone; no promise rests on it.
 use Rattle.std.specs.Prelude.{◌≡◌, ℕ, true, false, List, [], None, Some, if◌then◌else◌, IsTrue, Result, Ok, Err, MatchResult}
 use Rattle.std.specs.Str.{bytes_eq}
 use Rattle.std.specs.List.{AllByRecursion}
@@ -70,7 +70,7 @@ IsRefused (Err e) = Unit {0}
 abbrev pub FindsTables : {X : Type 0} → State → State → Result X TableFault → Type 0
 FindsTables old new result = HasCleanDisk new → IsTrue old.in_transaction → (IsTrue old.is_open → old.now.schema ≡ pid_schema) → MatchResult result (λ _. ⊥) (IsMetFault old new)
 
--- all six, where meta has some rows and the others have none
+-- all seven, where meta has some rows and the others have none
 pub record HasOnlyMeta (m : Map (List ℕ) ℕ) (db : Database) : Type 0 where
   pub schema : db.schema ≡ pid_schema
   pub sound : IsDatabase db
@@ -80,6 +80,7 @@ pub record HasOnlyMeta (m : Map (List ℕ) ℕ) (db : Database) : Type 0 where
   pub submissions : db.trees 6 ≡ []
   pub remarks : db.trees 7 ≡ []
   pub receipts : db.trees 9 ≡ []
+  pub sinces : db.trees 11 ≡ []
 
 -- one label more
 abbrev pub with_label : List ℕ → ℕ → Map (List ℕ) ℕ → Map (List ℕ) ℕ

@@ -3,12 +3,13 @@ ghost use Rattle.std.specs.Prelude.{◌≡◌, ◌+◌, true, false, length, is_
 ghost use Rattle.pid_ident.specs.PathTexts.{path_text};
 ghost use Rattle.pid_moderation.specs.Items.{name_at};
 ghost use Rattle.pid_moderation.specs.Views.{Views, submission_at};
-ghost use Rattle.pid_moderation.specs.Changes.{edited, affected, changed, write as written, FitsEdit, FitsEffect, FitsWrite, Fits};
+ghost use Rattle.pid_moderation.specs.Changes.{edited, with_items, affected, changed, FitsEdit, FitsEffect, FitsWrite, Fits};
 ghost use Rattle.pid_rows.specs.Faults.{IsUntold};
 ghost use Rattle.pid_rows.specs.Shows.{Counts, ShowsCounting, Shows, counts_of};
-ghost use Rattle.pid_rows.specs.Writes.{with_rank, with_name, with_submission};
+ghost use Rattle.pid_rows.specs.Writes.{with_rank, with_name, with_revision, with_submission};
 ghost use Rattle.pid_tables.specs.Puts.{put_over};
 ghost use Rattle.pid_tables.specs.Applies.{IsCounted, recounted};
+ghost use Rattle.pid_tables.specs.Clauses.{IsUndone};
 ghost use Rattle.pid_rows.specs.Clauses.{AtRest, ChangesTo, GoesOn, HasCleanDisk, Holds, IsCaused, LeadsTo, LeavesEither, Survives, Within, Written, is_open, seen};
 
 use crate::putting::{Put, put_text};
@@ -17,7 +18,7 @@ use pid_moderation::{Change, Edit, Effect, Proposal, Rank, Receipt, State, Write
 use pid_rows::TableFault;
 use pid_rows::account::{add_account, change_rank};
 use pid_rows::item::{add_item, remove_item, rename_item};
-use pid_rows::meta::{count_items, count_submissions, touch};
+use pid_rows::meta::{count_items, count_submissions, set_revision, touch};
 use pid_rows::receipt::keep_reply;
 use pid_rows::remark::add_remark;
 use pid_rows::submission::{add_submission, decide};
@@ -62,15 +63,20 @@ fn submit<S: Alter>(
     count_submissions(batch, number)
 }
 
-fn edit_item<S: Alter>(batch: &mut Batch<'_, S>, path: &str, edit: &Edit) -> Result<(), TableFault>
+fn edit_item<S: Alter>(
+    batch: &mut Batch<'_, S>,
+    path: &str,
+    edit: &Edit,
+    revision: u64,
+) -> Result<(), TableFault>
     ensures same_reference { batch.new.conn.ghost_name ≡ batch.old.conn.ghost_name }
     ensures goes { GoesOn S.Store batch.old.conn.now batch.new.conn.now result }
     ensures shows { ChangesTo S.Store batch.old.conn.now batch.new.conn.now result (λ v. FitsEdit edit.now (name_at path.now v.items))
-        (λ v. record v { items = edited path.now edit.now v.items }) }
+        (λ v. with_items revision (edited path.now edit.now v.items) v) }
 {
     match edit {
-        Edit::Add(name) => add_item(batch, path, name.as_str()),
-        Edit::Rename(name) => rename_item(batch, path, name.as_str()),
+        Edit::Add(name) => add_item(batch, path, name.as_str(), revision),
+        Edit::Rename(name) => rename_item(batch, path, name.as_str(), revision),
         Edit::Remove => remove_item(batch, path),
     }
 }
@@ -79,14 +85,15 @@ fn write_item<S: Alter>(
     batch: &mut Batch<'_, S>,
     alloc: Global,
     write: &Write,
+    revision: u64,
 ) -> Result<(), TableFault>
     ensures same_reference { batch.new.conn.ghost_name ≡ batch.old.conn.ghost_name }
     ensures goes { GoesOn S.Store batch.old.conn.now batch.new.conn.now result }
     ensures shows { LeadsTo S.Store batch.old.conn.now batch.new.conn.now result (λ v. FitsEdit write.now.edit (name_at (path_text write.now.path) v.items)) (λ c. record c { items = write.now.items })
-        (λ v. record v { items = edited (path_text write.now.path) write.now.edit v.items }) }
+        (λ v. with_items revision (edited (path_text write.now.path) write.now.edit v.items) v) }
 {
     let path = write.path.path_text(alloc)?;
-    edit_item(batch, path.as_str(), &write.edit)?;
+    edit_item(batch, path.as_str(), &write.edit, revision)?;
     count_items(batch, write.items)
 }
 
@@ -96,17 +103,18 @@ fn decision<S: Alter>(
     number: u32,
     state: &State,
     write: &Option<Write>,
+    revision: u64,
 ) -> Result<(), TableFault>
     ensures same_reference { batch.new.conn.ghost_name ≡ batch.old.conn.ghost_name }
     ensures goes { GoesOn S.Store batch.old.conn.now batch.new.conn.now result }
     ensures shows { LeadsTo S.Store batch.old.conn.now batch.new.conn.now result
         (λ v. IsSome (submission_at number v.submits) × FitsWrite write.now v.items) (recounted (Effect.Decided number state.now write.now))
-        (affected (Effect.Decided number state.now write.now)) }
+        (affected revision (Effect.Decided number state.now write.now)) }
 {
     decide(batch, number, state)?;
     match write {
         None => Ok(()),
-        Some(write) => write_item(batch, alloc, write),
+        Some(write) => write_item(batch, alloc, write, revision),
     }
 }
 
@@ -114,10 +122,11 @@ fn write_effect<S: Alter>(
     batch: &mut Batch<'_, S>,
     alloc: Global,
     effect: &Effect,
+    revision: u64,
 ) -> Result<(), TableFault>
     ensures same_reference { batch.new.conn.ghost_name ≡ batch.old.conn.ghost_name }
     ensures goes { GoesOn S.Store batch.old.conn.now batch.new.conn.now result }
-    ensures shows { LeadsTo S.Store batch.old.conn.now batch.new.conn.now result (λ v. FitsEffect effect.now v) (recounted effect.now) (affected effect.now) }
+    ensures shows { LeadsTo S.Store batch.old.conn.now batch.new.conn.now result (λ v. FitsEffect effect.now v) (recounted effect.now) (affected revision effect.now) }
 {
     match effect {
         Effect::Nothing => touch(batch),
@@ -139,9 +148,24 @@ fn write_effect<S: Alter>(
             number,
             state,
             write,
-        } => { decision(batch, alloc, *number, state, write) }
+        } => { decision(batch, alloc, *number, state, write, revision) }
         Effect::Imported { items } => count_items(batch, *items),
     }
+}
+
+fn write_counted<S: Alter>(
+    batch: &mut Batch<'_, S>,
+    alloc: Global,
+    effect: &Effect,
+    revision: u64,
+) -> Result<(), TableFault>
+    ensures same_reference { batch.new.conn.ghost_name ≡ batch.old.conn.ghost_name }
+    ensures goes { GoesOn S.Store batch.old.conn.now batch.new.conn.now result }
+    ensures shows { LeadsTo S.Store batch.old.conn.now batch.new.conn.now result (λ v. FitsEffect effect.now v) (recounted effect.now)
+        (λ v. with_revision revision (affected revision effect.now v)) }
+{
+    write_effect(batch, alloc, effect, revision)?;
+    set_revision(batch, revision)
 }
 
 fn write_change<S: Alter>(
@@ -154,7 +178,7 @@ fn write_change<S: Alter>(
     ensures shows { HasCleanDisk S.Store batch.new.conn.now → IsTrue batch.old.conn.now.in_transaction → (counts : Counts) (v : Views) → ShowsCounting counts (seen S.Store batch.old.conn.now) v
         → IsCounted change.now.effect counts v → Fits change.now v → MatchResult result (λ _. Shows (seen S.Store batch.new.conn.now) (changed change.now v)) IsUntold }
 {
-    write_effect(batch, alloc, &change.effect)?;
+    write_counted(batch, alloc, &change.effect, change.revision)?;
     match &change.receipt {
         None => Ok(()),
         Some(receipt) => keep_reply(batch, &receipt.account, &receipt.key, receipt.reply),
@@ -171,27 +195,29 @@ pub fn begin<S: Alter>(conn: &mut Connection<S>) -> Batch<'_, S>
     conn.transaction()
 }
 
-/// Gives a path a name within the transaction, and answers what it was to it. The count of items follows with the change.
+/// Gives a path a name within the transaction, and answers what it was to it. Where the name is not the one that is there, the path gets
+/// the number of the change, `revision`. The count of items and the revision follow with the change.
 pub fn put<S: Alter>(
     batch: &mut Batch<'_, S>,
     alloc: Global,
     path: &Path,
     name: &str,
+    revision: u64,
 ) -> Result<Put, TableFault>
     ensures same_reference { batch.new.conn.ghost_name ≡ batch.old.conn.ghost_name }
     ensures survives { Survives S.Store batch.old.conn.now batch.new.conn.now (λ _. ⊥) }
     ensures holds { (c : Counts) (v w : Views) → Within S.Store batch.old.conn.now c v w → Holds S.Store batch.new.conn.now v }
-    ensures written { (c : Counts) (v w : Views) → Within S.Store batch.old.conn.now c v w → OnOk result (Written S.Store batch.new.conn.now c v (with_name (path_text path.now) name.now w)) }
+    ensures written { (c : Counts) (v w : Views) → Within S.Store batch.old.conn.now c v w → OnOk result (Written S.Store batch.new.conn.now c v (with_name revision (path_text path.now) name.now w)) }
     ensures told { HasCleanDisk S.Store batch.new.conn.now → (c : Counts) (v w : Views) → Within S.Store batch.old.conn.now c v w
         → IfOk result (λ put. put ≡ put_over name.now (name_at (path_text path.now) w.items)) }
     ensures untold { HasCleanDisk S.Store batch.new.conn.now → IsTrue (is_open S.Store batch.old.conn.now) → (c : Counts) (v w : Views)
         → Within S.Store batch.old.conn.now c v w → IfErr result IsUntold }
 {
     let path = path.path_text(alloc)?;
-    put_text(batch, path.as_str(), name)
+    put_text(batch, path.as_str(), name, revision)
 }
 
-/// Writes a whole change, its receipt included.
+/// Writes a whole change, with its receipt and its revision.
 ///
 /// On tables that show views to which the numbers of the change fit, it leaves tables that show the changed views. The
 /// items of a file are put one by one before. After a fault the transaction is given up: roll it back.
@@ -220,6 +246,7 @@ pub fn commit<S: Alter>(batch: Batch<'_, S>) -> Result<(), TableFault>
     ensures either { (v w : Views) → Written S.Store batch.entry.conn.now (counts_of w) v w → LeavesEither S.Store batch.exit.0.now v w }
     ensures caused { HasCleanDisk S.Store batch.exit.0.now → IsTrue batch.entry.conn.now.in_transaction → IfErr result (IsCaused S.Store batch.entry.conn.now batch.exit.0.now) }
     ensures given_back { (v w : Views) → Written S.Store batch.entry.conn.now (counts_of w) v w → OnErr result (IsTrue (is_open S.Store batch.exit.0.now) → Shows (seen S.Store batch.exit.0.now) v) }
+    ensures undone { HasCleanDisk S.Store batch.exit.0.now → IsTrue batch.entry.conn.now.in_transaction → OnErr result (IsUndone S.Store batch.entry.conn.now batch.exit.0.now) }
 {
     batch.commit()?;
     Ok(())

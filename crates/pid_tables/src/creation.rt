@@ -9,7 +9,7 @@ ghost use Rattle.pid_rows.specs.Schema.{pid_schema};
 ghost use Rattle.pid_rows.specs.Faults.{IsUntold};
 ghost use Rattle.pid_rows.specs.PairRows.{Map};
 ghost use Rattle.pid_rows.specs.Shows.{Shows, meta_of};
-ghost use Rattle.pid_tables.specs.Creation.{AreMade, IsOfMaking};
+ghost use Rattle.pid_tables.specs.Creation.{AreMade, IsOfMaking, table_names};
 ghost use Rattle.pid_tables.specs.Making.{making, Creates, IsMakerOf, IsRefused, HasOnlyMeta, with_label};
 ghost use Rattle.pid_rows.specs.Clauses.{AtRest, GoesOn, HasCleanDisk, OnlyReads, is_open, seen};
 ghost use Rattle.pid_tables.specs.Clauses.{FindsTables, IsBlank, IsMet, IsMetFault, LeavesBareOrNew, Makes, Takes};
@@ -42,6 +42,9 @@ const REMARK: &str =
 const RECEIPT: &str =
     "CREATE TABLE receipt (account TEXT NOT NULL REFERENCES account(name), token TEXT NOT NULL, kind INTEGER NOT NULL, \
         a INTEGER NOT NULL, b INTEGER NOT NULL, c INTEGER NOT NULL, PRIMARY KEY (account, token)) STRICT";
+
+const ITEM_SINCE: &str =
+    "CREATE TABLE item_since (path TEXT NOT NULL PRIMARY KEY REFERENCES item(path) ON DELETE CASCADE, since INTEGER NOT NULL) STRICT";
 
 fn make_table<S: Alter>(tx: &mut Transaction<'_, S>, sql: &str) -> Result<(), TableFault>
     ensures same_reference { tx.new.conn.ghost_name ≡ tx.old.conn.ghost_name }
@@ -78,6 +81,19 @@ fn make_rest<S: Alter>(tx: &mut Transaction<'_, S>) -> Result<(), TableFault>
     make_table(tx, RECEIPT)
 }
 
+fn make_tables<S: Alter>(tx: &mut Transaction<'_, S>) -> Result<(), TableFault>
+    ensures same_reference { tx.new.conn.ghost_name ≡ tx.old.conn.ghost_name }
+    ensures goes { GoesOn S.Store tx.old.conn.now tx.new.conn.now result }
+    ensures made { Makes S.Store tx.old.conn.now tx.new.conn.now result []
+        (tables.meta ∷ tables.account ∷ tables.item ∷ tables.submission ∷ tables.remark ∷ tables.receipt ∷ tables.item_since ∷ []) }
+    ensures takes { Takes S.Store tx.old.conn.now tx.new.conn.now result table_names }
+    ensures met { FindsTables S.Store tx.old.conn.now tx.new.conn.now result }
+{
+    make_first(tx)?;
+    make_rest(tx)?;
+    make_table(tx, ITEM_SINCE)
+}
+
 fn add_label<S: Alter>(
     tx: &mut Transaction<'_, S>,
     label: &str,
@@ -101,11 +117,12 @@ fn add_labels<S: Alter>(tx: &mut Transaction<'_, S>) -> Result<(), TableFault>
     ensures same_reference { tx.new.conn.ghost_name ≡ tx.old.conn.ghost_name }
     ensures goes { GoesOn S.Store tx.old.conn.now tx.new.conn.now result }
     ensures added { HasCleanDisk S.Store tx.new.conn.now → IsTrue tx.old.conn.now.in_transaction → HasOnlyMeta (λ _. None) (seen S.Store tx.old.conn.now)
-        → MatchResult result (λ _. HasOnlyMeta (meta_of (record { items = 0; submissions = 0 })) (seen S.Store tx.new.conn.now)) IsUntold }
+        → MatchResult result (λ _. HasOnlyMeta (meta_of (record { items = 0; submissions = 0 }) 0) (seen S.Store tx.new.conn.now)) IsUntold }
 {
+    add_label(tx, "revision", 0)?;
     add_label(tx, "submissions", 0)?;
     add_label(tx, "items", 0)?;
-    add_label(tx, "schema", 1)
+    add_label(tx, "schema", 2)
 }
 
 fn fill<S: Alter>(tx: &mut Transaction<'_, S>) -> Result<(), TableFault>
@@ -116,8 +133,7 @@ fn fill<S: Alter>(tx: &mut Transaction<'_, S>) -> Result<(), TableFault>
     ensures refused { HasCleanDisk S.Store tx.new.conn.now → IsTrue tx.old.conn.now.in_transaction → IsMet S.Store tx.old.conn.now → MatchResult result (λ _. ⊥) IsOfMaking }
     ensures met { FindsTables S.Store tx.old.conn.now tx.new.conn.now result }
 {
-    make_first(tx)?;
-    make_rest(tx)?;
+    make_tables(tx)?;
     add_labels(tx)?;
     add_account(tx, "root", Rank::Administrator)
 }
@@ -140,6 +156,7 @@ pub fn create<S: Alter>(conn: &mut Connection<S>) -> Result<(), TableFault>
     ensures refused { HasCleanDisk S.Store conn.new → IsMet S.Store conn.old → MatchResult result (λ _. ⊥) IsOfMaking }
     ensures kept { (v : Views) → AtRest S.Store conn.old v → AtRest S.Store conn.new v }
     ensures met { HasCleanDisk S.Store conn.new → (v : Views) → AtRest S.Store conn.old v → MatchResult result (λ _. ⊥) (IsMetFault S.Store conn.old conn.new) }
+    ensures unchanged { HasCleanDisk S.Store conn.new → IfErr result (λ fault. ¬ (IsUntold fault) → OnlyReads S.Store conn.old conn.new) }
 {
     let mut batch = conn.transaction();
     fill(&mut batch)?;

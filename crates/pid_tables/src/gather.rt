@@ -14,7 +14,7 @@ use pid_moderation::{Facts, Named, Rank, Reply, Rows};
 use pid_rows::TableFault;
 use pid_rows::account::rank;
 use pid_rows::item::{has_children, item_name};
-use pid_rows::meta::{items, submissions};
+use pid_rows::meta::{items, revision, submissions};
 use pid_rows::receipt::kept_reply;
 use pid_rows::remark::remark_count;
 use pid_rows::submission::{Submission, standing};
@@ -45,9 +45,11 @@ fn known<S: Alter>(
 {
     let rank = rank(conn, account.as_str())?;
     let kept = kept(conn, account, key)?;
+    let revision = revision(conn)?;
     Ok(Facts {
         rank,
         kept,
+        revision,
         who: None,
         submissions: 0,
         items: 0,

@@ -4,10 +4,12 @@ ghost use Rattle.pid_moderation.specs.Sound.{IsSound};
 ghost use Rattle.pid_moderation.specs.Views.{Views, views_of, items_of};
 ghost use Rattle.pid_moderation.specs.WellMade.{AllItems, HoldsParents};
 ghost use Rattle.pid_rows.specs.Causes.{IsReadable};
-ghost use Rattle.pid_rows.specs.Leaves.{as_found};
-ghost use Rattle.pid_rows.specs.Shows.{AreViews, Shows};
+ghost use Rattle.pid_rows.specs.Leaves.{as_found, found_in};
+ghost use Rattle.pid_rows.specs.Schema.{schema_of};
+ghost use Rattle.pid_rows.specs.declared.version.Version.{Version};
+ghost use Rattle.pid_rows.specs.Shows.{AreViews, Shows, ShowsIn};
 ghost use Rattle.pid_tables.specs.Creation.{IsBare};
-ghost use Rattle.pid_rows.specs.Clauses.{AtRest, OnlyReads, seen};
+ghost use Rattle.pid_rows.specs.Clauses.{AtRest, OnlyReads, RestsIn, seen};
 ghost use Rattle.pid_tables.specs.Clauses.{IsBlank, IsOpened, ShowsOrBlank};
 
 use pid_moderation::{trees_are_files, trees_are_last_writes};
@@ -25,9 +27,11 @@ pub fn views_of_sound_histories()
     trees_are_last_writes();
 }
 
-/// A connection that has just found trees which show views is at rest on them; where it found no table, it is blank.
+/// A connection that has just found trees which show views is at rest on them, in the schema in which they do; where it found no
+/// table, it is blank.
 pub fn opened_tables_rest<S: Alter>(conn: &Connection<S>)
     ensures shown { (v : Views) → IsOpened S.Store conn.now → Shows (as_found (seen S.Store conn.now).trees) v → AtRest S.Store conn.now v }
+    ensures rests { (version : Version) (v : Views) → IsOpened S.Store conn.now → ShowsIn version (found_in (schema_of version) (seen S.Store conn.now).trees) v → RestsIn S.Store version conn.now v }
     ensures bare { IsOpened S.Store conn.now → IsBare (seen S.Store conn.now).trees → IsBlank S.Store conn.now }
 {}
 

@@ -68,20 +68,21 @@ pub(crate) fn put_text<S: Alter>(
     batch: &mut Transaction<'_, S>,
     path: &str,
     name: &str,
+    revision: u64,
 ) -> Result<Put, TableFault>
     ensures same_reference { batch.new.conn.ghost_name ≡ batch.old.conn.ghost_name }
     ensures goes { GoesOn S.Store batch.old.conn.now batch.new.conn.now result }
-    ensures shows { ChangesTo S.Store batch.old.conn.now batch.new.conn.now result (λ v. Unit {0}) (with_name path.now name.now) }
+    ensures shows { ChangesTo S.Store batch.old.conn.now batch.new.conn.now result (λ v. Unit {0}) (with_name revision path.now name.now) }
     ensures told { HasCleanDisk S.Store batch.new.conn.now → (c : Counts) (v : Views) → ShowsCounting c (seen S.Store batch.old.conn.now) v
         → IfOk result (λ put. put ≡ put_over name.now (name_at path.now v.items)) }
 {
     match compare(batch, path, name)? {
         Put::Added => {
-            add_item(batch, path, name)?;
+            add_item(batch, path, name, revision)?;
             Ok(Put::Added)
         }
         Put::Renamed => {
-            rename_item(batch, path, name)?;
+            rename_item(batch, path, name, revision)?;
             Ok(Put::Renamed)
         }
         Put::Same => Ok(Put::Same),

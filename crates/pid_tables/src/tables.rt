@@ -1,38 +1,43 @@
 //! The tables of a registry, over a connection.
-ghost use Rattle.std.specs.Prelude.{◌≡◌, codes, false, None, length, map, IfOk, IsTrue, option_map, IfErr, MatchResult, OnOk};
+ghost use Rattle.std.specs.Prelude.{◌≡◌, ◌≤◌, ◌↔◌, codes, false, Some, length, map, IfOk, IsTrue, option_map, IfErr, MatchResult, OnOk};
+ghost use Rattle.std.specs.Option.{option_copied};
 ghost use Rattle.pid_moderation.specs.History.{History};
 ghost use Rattle.pid_moderation.specs.Sound.{IsSound};
-ghost use Rattle.pid_moderation.specs.Views.{Views, views_of};
+ghost use Rattle.pid_moderation.specs.CheckTables.{most_revision};
+ghost use Rattle.pid_moderation.specs.Views.{Views, revision_of, views_of};
 ghost use Rattle.pid_ident.specs.PathTexts.{path_text};
 ghost use Rattle.pid_moderation.specs.FactsOfViews.{facts_at};
 ghost use Rattle.pid_moderation.specs.Items.{name_at};
 ghost use Rattle.pid_moderation.specs.Wants.{wanted_by};
 ghost use Rattle.pid_moderation.specs.WellMade.{AllItems, HoldsParents};
-ghost use Rattle.pid_table_check.specs.Checking.{Explains};
-ghost use Rattle.pid_table_check.specs.Conditions.{IsRegistry, rows_in};
-ghost use Rattle.pid_table_check.specs.Shapes.{ExplainsLater, HasEachTable, HasNoTable, LacksATable, ShowsLater};
+ghost use Rattle.pid_table_check.specs.Checking.{Explains, Finds, IsRegistry};
+ghost use Rattle.pid_table_check.specs.Shapes.{HasNoTable, IsMadeFirst};
 ghost use Rattle.pid_rows.specs.Causes.{IsReadable};
 ghost use Rattle.pid_rows.specs.Faults.{IsUntold, IsNotLater};
 ghost use Rattle.pid_rows.specs.LabelRows.{ExplainsNumber, HasLabel};
-ghost use Rattle.pid_rows.specs.Schema.{pid_schema};
+ghost use Rattle.pid_rows.specs.Schema.{schema_of};
+ghost use Rattle.pid_rows.specs.declared.version.Version.TheVariants.{One};
+ghost use Rattle.pid_rows.specs.declared.version.Version.{Version as Schema};
 ghost use Rattle.pid_rows.specs.ItemPairs.{pair_of};
+ghost use Rattle.pid_table_lists.specs.ChangePages.{AreHeld, changes_in, page_of, start_text};
 ghost use Rattle.pid_table_lists.specs.Children.{children_of};
 ghost use Rattle.pid_table_lists.specs.Discussions.{discussion_in, shown_of};
 ghost use Rattle.pid_table_lists.specs.EachItem.{TakesEach, TakesSome, placed_from};
 ghost use Rattle.pid_table_lists.specs.PendingPages.{pending_in, told_of};
-ghost use Rattle.pid_rows.specs.Clauses.{AtRest, HasCleanDisk, OnlyReads, Reads, Tells, is_open, seen};
+ghost use Rattle.pid_rows.specs.Clauses.{AtRest, HasCleanDisk, OnlyReads, Reads, RestsIn, Tells, is_open, seen};
 ghost use Rattle.pid_table_lists.specs.Clauses.{IsCausedEnd};
 
 use crate::gather::gather_facts;
 use pid_ident::{Account, Key, Name, Path};
 use pid_moderation::{Facts, Rows};
 use pid_reader::Sink;
-use pid_rows::TableFault;
 use pid_rows::item::{Item, item_name};
 use pid_rows::meta::{items, schema_number};
+use pid_rows::{TableFault, Version};
 use pid_table_check::{check, has_some_table, sound_histories_are_registries};
 use pid_table_lists::{
-    Discussion, EachEnd, PAGE, Pending, children, discussed, each_item, pending_page,
+    Changes, Discussion, EachEnd, PAGE, Pending, changes_page, children, discussed, each_item,
+    pending_page,
 };
 use sqlite::{Alter, Connection};
 use std::alloc::Global;
@@ -119,6 +124,23 @@ impl<S: Alter + Drop> Tables<S> {
         pending_page(&mut self.conn, alloc, after)
     }
 
+    /// The first items whose names were changed by a command behind this number, and whose paths come behind that path, `PAGE` at most;
+    /// with the revision. From no path on, and then from the last path that was told, pages go through all of them.
+    ///
+    /// It holds of views whose numbers SQLite holds, as those of every history do whose revision is within its limit.
+    pub fn changes_page(
+        &mut self,
+        alloc: Global,
+        since: u64,
+        after: Option<&Path>,
+    ) -> Result<Changes, TableFault>
+        requires { self.old.conn.in_transaction ≡ false }
+        ensures { Reads S.Store self.old.conn self.new.conn result
+            (λ v changes. AreHeld v → page_of changes ≡ changes_in PAGE since (start_text (option_copied after.entry)) v) }
+    {
+        changes_page(&mut self.conn, alloc, since, after)
+    }
+
     /// How many items there are.
     pub fn items(&mut self) -> Result<u32, TableFault>
         requires { self.old.conn.in_transaction ≡ false }
@@ -145,23 +167,24 @@ impl<S: Alter + Drop> Tables<S> {
         gather_facts(&mut self.conn, alloc, account, key, rows)
     }
 
-    /// Whether the tables are those of some registry, or there is none: every row is read and judged.
+    /// The schema of the tables, where they are those of some registry, and `None` where there is no table: every row is read and
+    /// judged.
     ///
-    /// `Damaged` where a table or a column lacks, or a row breaks a condition of a registry; `NewerSchema` where the labels
-    /// have a later schema, which is judged before. `docs/STORAGE.md` has the conditions. Of tables with other keys, types or
-    /// rules no more is said than whether they are of a later schema.
-    pub fn check(&mut self, alloc: Global) -> Result<(), TableFault>
+    /// `Damaged` where a table or a column lacks, or a row breaks a condition of a registry in the schema of its tables; `NewerSchema`
+    /// where the labels have a later schema, which is judged before. `docs/STORAGE.md` has the conditions.
+    pub fn check(&mut self, alloc: Global) -> Result<Option<Version>, TableFault>
         requires { self.old.conn.in_transaction ≡ false }
         ensures rests { OnlyReads S.Store self.old.conn self.new.conn }
         ensures shut { HasCleanDisk S.Store self.new.conn → is_open S.Store self.old.conn ≡ false → MatchResult result (λ x. ⊥) IsUntold }
-        ensures bare { HasCleanDisk S.Store self.new.conn → HasNoTable (seen S.Store self.old.conn).schema → IfErr result IsUntold }
-        ensures lacking { HasCleanDisk S.Store self.new.conn → LacksATable (seen S.Store self.old.conn).schema → MatchResult result (λ x. ⊥) (ExplainsLater (seen S.Store self.old.conn)) }
-        ensures told { HasCleanDisk S.Store self.new.conn → (seen S.Store self.old.conn).schema ≡ pid_schema
-            → MatchResult result (λ x. IsRegistry (seen S.Store self.old.conn).trees) (Explains (rows_in (seen S.Store self.old.conn).trees)) }
-        ensures later { HasCleanDisk S.Store self.new.conn → HasEachTable (seen S.Store self.old.conn).schema
-            → MatchResult result (λ x. ShowsLater (seen S.Store self.old.conn) None) (ExplainsLater (seen S.Store self.old.conn)) }
-        // Tables that show a sound history are neither damaged nor of a later schema.
-        ensures good { HasCleanDisk S.Store self.new.conn → (h : History) → IsSound h → AtRest S.Store self.old.conn (views_of h) → IfErr result IsUntold }
+        // Whatever the schema: what it tells is so of the rows that the queries of the tables answer.
+        ensures told { HasCleanDisk S.Store self.new.conn → MatchResult result (Finds (seen S.Store self.old.conn)) (Explains (seen S.Store self.old.conn)) }
+        // Where the tables of a schema were made first, whatever else stands behind them: it finds the schema exactly where storage has
+        // a registry in it.
+        ensures stored { HasCleanDisk S.Store self.new.conn → (schema : Schema) → IsMadeFirst schema (seen S.Store self.old.conn).schema
+            → MatchResult result (λ found. (found ≡ Some schema) ↔ IsRegistry schema (seen S.Store self.old.conn)) (λ fault. IsRegistry schema (seen S.Store self.old.conn) → IsUntold fault) }
+        // Tables that show a sound history, whose revision is within its limit, are neither damaged nor of a later schema.
+        ensures good { HasCleanDisk S.Store self.new.conn → (h : History) → IsSound h → revision_of h ≤ most_revision → (schema : Schema) → RestsIn S.Store schema self.old.conn (views_of h)
+            → MatchResult result (λ found. found ≡ Some schema) IsUntold }
     {
         sound_histories_are_registries();
         check(&mut self.conn, alloc)
@@ -173,11 +196,12 @@ impl<S: Alter + Drop> Tables<S> {
     pub fn version(&mut self) -> Result<u32, TableFault>
         requires { self.old.conn.in_transaction ≡ false }
         ensures rests { OnlyReads S.Store self.old.conn self.new.conn }
-        ensures told { Tells S.Store self.old.conn self.new.conn result (λ v n. n ≡ 1) }
+        ensures told { Tells S.Store self.old.conn self.new.conn result (λ v n. n ≡ 2) }
+        ensures earlier { HasCleanDisk S.Store self.new.conn → (v : Views) → RestsIn S.Store One self.old.conn v → MatchResult result (λ n. n ≡ 1) IsUntold }
         ensures was_open { HasCleanDisk S.Store self.new.conn → OnOk result (IsTrue (is_open S.Store self.old.conn)) }
         ensures none { HasCleanDisk S.Store self.new.conn → HasNoTable (seen S.Store self.old.conn).schema → MatchResult result (λ n. n ≡ 0) IsUntold }
-        ensures labelled { HasCleanDisk S.Store self.new.conn → (seen S.Store self.old.conn).schema ≡ pid_schema → IfOk result (HasLabel (seen S.Store self.old.conn).trees (codes "schema")) }
-        ensures refused { HasCleanDisk S.Store self.new.conn → (seen S.Store self.old.conn).schema ≡ pid_schema → IfErr result (ExplainsNumber (seen S.Store self.old.conn).trees (codes "schema")) }
+        ensures labelled { HasCleanDisk S.Store self.new.conn → (schema : Schema) → (seen S.Store self.old.conn).schema ≡ schema_of schema → IfOk result (HasLabel (seen S.Store self.old.conn).trees (codes "schema")) }
+        ensures refused { HasCleanDisk S.Store self.new.conn → (schema : Schema) → (seen S.Store self.old.conn).schema ≡ schema_of schema → IfErr result (ExplainsNumber (seen S.Store self.old.conn).trees (codes "schema")) }
         ensures never { IfErr result IsNotLater }
     {
         if has_some_table(&mut self.conn)? {

@@ -18,4 +18,5 @@ returns c =
     let e11 = c.in_ok-insert-11.ensures in
     let e12 = c.in_ok-insert-12.ensures in
     let e13 = c.in_ok-insert-13.ensures in
-    rw (e13.1, e12.1, e11.1, e10.1, e9.1, e8.1, e7.1, e6.1, e5.1, e4.1, e3.1, e2.1, e1.1, c.new-routes.ensures) refl
+    let e14 = c.in_ok-insert-14.ensures in
+    rw (e14.1, e13.1, e12.1, e11.1, e10.1, e9.1, e8.1, e7.1, e6.1, e5.1, e4.1, e3.1, e2.1, e1.1, c.new-routes.ensures) refl

@@ -6,6 +6,7 @@ use Rattle.pid_rows.specs.Shows.{counts_of}
 use Rattle.pid_rows.specs.Causes.{IsCaused}
 use Rattle.pid_rows.proofs.CauseLemmas.{passed_from}
 use Rattle.pid_tables.proofs.CommitLemmas.{commit_caused}
+use Rattle.pid_tables.proofs.MoveLemmas.{undone}
 use Rattle.pid_tables.proofs.batch.commit.Goals as goal
 
 pub returns-clause-stands : goal.returns-clause-stands
@@ -26,3 +27,7 @@ returns-in_err-commit-clause-caused g c clean inside =
     let old = state g.S.Store c.args.batch.conn.now in
     let new = state g.S.Store c.commit.new.self.0 in
     passed_from c.from_residual.result _ (IsCaused old new) c.from_residual.ensures.1 (commit_caused old new c.in_err-commit.field-0.0 inside (c.in_err-commit.ensures.err clean))
+
+pub returns-in_err-commit-clause-undone : goal.returns-in_err-commit-clause-undone
+returns-in_err-commit-clause-undone g c clean inside =
+    on_err c.from_residual.result (undone (state g.S.Store c.args.batch.conn.now) (state g.S.Store c.commit.new.self.0) c.in_err-commit.field-0.0 inside (c.in_err-commit.ensures.err clean))

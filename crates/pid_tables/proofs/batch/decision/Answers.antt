@@ -1,12 +1,15 @@
-use Rattle.std.proofs.Common.{arith}
+use Rattle.std.proofs.Common.{sym, subst, arith}
 use Rattle.sqlite.specs.Held.{state}
 use Rattle.sqlite.specs.State.{HasCleanDisk}
 use Rattle.pid_rows.specs.Faults.{IsUntold}
+use Rattle.pid_rows.specs.Shows.{ShowsCounting}
 use Rattle.pid_rows.proofs.CauseLemmas.{passed_on}
+use Rattle.pid_tables.proofs.ChangeLemmas.{undecided}
 use Rattle.pid_tables.proofs.batch.decision.Goals as goal
 
 pub returns-in-None-clause-shows : goal.returns-in-None-clause-shows
-returns-in-None-clause-shows g c = rw c.in-None.is (λ clean inside counts v shows fits. c.in_ok-decide.ensures.shows clean inside counts v shows fits.0)
+returns-in-None-clause-shows g c = rw c.in-None.is (λ clean inside counts v shows fits.
+    subst (λ w. ShowsCounting counts (state g.S.Store c.decide.new.tx.conn.now).now w) (sym (undecided c.args.revision c.args.number c.args.state.now v)) (c.in_ok-decide.ensures.shows clean inside counts v shows fits.0))
 
 pub returns-in-Some-clause-shows : goal.returns-in-Some-clause-shows
 returns-in-Some-clause-shows g c = rw c.in-Some.is (λ clean inside counts v shows fits.

@@ -14,7 +14,7 @@ returns-clause-holds g c counts v w within =
 pub returns-clause-written : goal.returns-clause-written
 returns-clause-written g c counts v w within =
     let new = c.put_text.new.batch.conn.now in
-    let after = with_name (path_text c.args.path.now) c.args.name.now w in
+    let after = with_name c.args.revision (path_text c.args.path.now) c.args.name.now w in
     within_on (state g.S.Store c.args.batch.now.conn.now) (state g.S.Store new) c.put_text.result counts counts v w after (clean_if_open (g.S.Store.view new.store) (g.met.S.Store.shut_if_dirty new.store)) c.put_text.ensures.goes within
     (λ clean inside shows. succeeds _ _ c.put_text.result ((rw (c.as_str.ensures.value, c.in_ok-path.ensures) at c.put_text.ensures.shows) clean inside counts w shows tt))
 

@@ -11,3 +11,6 @@ returns-in-Submitted-clause-shows g c = rw c.in-Submitted.is (λ clean inside co
 
 pub returns-in-Imported-clause-shows : goal.returns-in-Imported-clause-shows
 returns-in-Imported-clause-shows g c = rw c.in-Imported.is (λ clean inside counts v shows fits. c.count_items.ensures.shows clean inside counts v shows tt)
+
+pub returns-in-Decided-clause-shows : goal.returns-in-Decided-clause-shows
+returns-in-Decided-clause-shows g c = rw c.in-Decided.is (λ clean inside counts v shows fits. c.decision.ensures.shows clean inside counts v shows fits)

@@ -1,6 +1,7 @@
 use Rattle.sqlite.specs.Held.{state}
 use Rattle.pid_tables.proofs.CreateLemmas.{label_added}
-use Rattle.pid_rows.specs.Schema.{One, pid_schema}
+use Rattle.pid_rows.specs.declared.version.Version.TheVariants.{Two}
+use Rattle.pid_rows.specs.Schema.{pid_schema}
 use Rattle.pid_rows.proofs.KeyTexts.{insert_meta_is}
 use Rattle.pid_rows.proofs.WriteFaults.{led, insert_writes}
 use Rattle.pid_tables.proofs.creation.add_label.Goals as goal
@@ -9,4 +10,4 @@ pub returns-clause-added : goal.returns-clause-added
 returns-clause-added g c clean inside m has none =
     led c.write_one.result (label_added (state g.S.Store c.args.tx.now.conn.now) (state g.S.Store c.write_one.new.tx.conn.now) m c.args.label.now c.args.value has none)
     (rw (c.to_sql-label.ensures, c.to_sql-value.ensures) at (c.write_one.ensures.ran clean inside))
-    (c.write_one.ensures.untold clean pid_schema (λ opened. has.schema) (insert_writes (insert_meta_is One)))
+    (c.write_one.ensures.untold clean pid_schema (λ opened. has.schema) (insert_writes (insert_meta_is Two)))

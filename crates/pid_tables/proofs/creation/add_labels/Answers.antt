@@ -8,13 +8,18 @@ use Rattle.pid_tables.proofs.creation.add_labels.Goals as goal
 
 pub returns-clause-added : goal.returns-clause-added
 returns-clause-added g c clean inside has =
-    let second = earlier (state g.S.Store c.add_label-2.new.tx.conn.now) (state g.S.Store c.add_label-3.new.tx.conn.now) c.add_label-3.ensures.goes.survives clean in
+    let third = earlier (state g.S.Store c.add_label-3.new.tx.conn.now) (state g.S.Store c.add_label-4.new.tx.conn.now) c.add_label-4.ensures.goes.survives clean in
+    let second = earlier (state g.S.Store c.add_label-2.new.tx.conn.now) (state g.S.Store c.add_label-3.new.tx.conn.now) c.add_label-3.ensures.goes.survives third in
     let first = earlier (state g.S.Store c.add_label.new.tx.conn.now) (state g.S.Store c.add_label-2.new.tx.conn.now) c.add_label-2.ensures.goes.survives second in
     let one = c.in_ok-add_label.ensures in
     let two = c.in_ok-add_label-2.ensures in
-    let within = (one.goes.going first inside).1 in
-    let m = with_label (codes "submissions") 0 (λ _. None) in
-    c.add_label-3.ensures.added clean (two.goes.going second within).1 (with_label (codes "items") 0 m) (two.added second within m (one.added first inside (λ _. None) has refl) refl) refl
+    let three = c.in_ok-add_label-3.ensures in
+    let in_one = (one.goes.going first inside).1 in
+    let in_two = (two.goes.going second in_one).1 in
+    let m = with_label (codes "revision") 0 (λ _. None) in
+    let n = with_label (codes "submissions") 0 m in
+    c.add_label-4.ensures.added clean (three.goes.going third in_two).1 (with_label (codes "items") 0 n)
+    (three.added third in_two n (two.added second in_one m (one.added first inside (λ _. None) has refl) refl) refl) refl
 
 pub returns-in_err-add_label-clause-added : goal.returns-in_err-add_label-clause-added
 returns-in_err-add_label-clause-added g c clean inside has = passed_on c.from_residual.result _ _ IsUntold c.from_residual.ensures.1 (c.in_err-add_label.ensures.added clean inside (λ _. None) has refl)
@@ -23,6 +28,18 @@ pub returns-in_err-add_label-2-clause-added : goal.returns-in_err-add_label-2-cl
 returns-in_err-add_label-2-clause-added g c clean inside has =
     let first = earlier (state g.S.Store c.add_label.new.tx.conn.now) (state g.S.Store c.add_label-2.new.tx.conn.now) c.add_label-2.ensures.goes.survives clean in
     let one = c.in_ok-add_label.ensures in
-    let m = with_label (codes "submissions") 0 (λ _. None) in
+    let m = with_label (codes "revision") 0 (λ _. None) in
     passed_on c.from_residual-in_err-add_label-2.result _ _ IsUntold c.from_residual-in_err-add_label-2.ensures.1
     (c.in_err-add_label-2.ensures.added clean (one.goes.going first inside).1 m (one.added first inside (λ _. None) has refl) refl)
+
+pub returns-in_err-add_label-3-clause-added : goal.returns-in_err-add_label-3-clause-added
+returns-in_err-add_label-3-clause-added g c clean inside has =
+    let second = earlier (state g.S.Store c.add_label-2.new.tx.conn.now) (state g.S.Store c.add_label-3.new.tx.conn.now) c.add_label-3.ensures.goes.survives clean in
+    let first = earlier (state g.S.Store c.add_label.new.tx.conn.now) (state g.S.Store c.add_label-2.new.tx.conn.now) c.add_label-2.ensures.goes.survives second in
+    let one = c.in_ok-add_label.ensures in
+    let two = c.in_ok-add_label-2.ensures in
+    let in_one = (one.goes.going first inside).1 in
+    let m = with_label (codes "revision") 0 (λ _. None) in
+    let n = with_label (codes "submissions") 0 m in
+    passed_on c.from_residual-in_err-add_label-3.result _ _ IsUntold c.from_residual-in_err-add_label-3.ensures.1
+    (c.in_err-add_label-3.ensures.added clean (two.goes.going second in_one).1 n (two.added second in_one m (one.added first inside (λ _. None) has refl) refl) refl)

@@ -11,6 +11,7 @@ use Rattle.pid_rows.proofs.CauseLemmas.{passed_on}
 use Rattle.pid_rows.proofs.GoingLemmas.{earlier}
 use Rattle.pid_rows.proofs.OnlyReading.{reads_begun}
 use Rattle.pid_tables.proofs.MetLemmas.{reads_if_never, met_at_rest}
+use Rattle.pid_tables.proofs.MoveLemmas.{all_err, all_untold, never_told}
 use Rattle.pid_tables.proofs.creation.create.Goals as goal
 
 pub returns-clause-made : goal.returns-clause-made
@@ -79,3 +80,25 @@ returns-clause-shut g c clean closed =
     let mid = earlier (state g.S.Store c.fill.new.tx.conn.now) (state g.S.Store end) c.commit.ensures.survives late in
     let goes = rw c.transaction-batch.ensures.begun at c.in_ok-fill.ensures.goes in
     absurd (never_open _ closed (goes.was_open mid (goes.going mid refl).0))
+
+-- ---- a fault that tells of the tables
+
+pub returns-in_err-fill-clause-unchanged : goal.returns-in_err-fill-clause-unchanged
+returns-in_err-fill-clause-unchanged g c clean =
+    let end = c.drop-batch.new.self.0 in
+    let same : end ≡ c.conn-1.given.0 = search rules in
+    let first = c.fill.new.tx.conn.now in
+    let goes = rw c.transaction-batch.ensures.begun at c.fill.ensures.goes in
+    all_err c.from_residual.result (λ _ _. subst (λ h. OnlyReads (state g.S.Store c.args.conn.now) (state g.S.Store h)) same
+    (reads_begun g.S.Store c.args.conn.now first end c.fill.result (clean_if_open (g.S.Store.view first.store) (g.met.S.Store.shut_if_dirty first.store))
+    (clean_if_open (g.S.Store.view end.store) (g.met.S.Store.shut_if_dirty end.store)) goes c.drop-batch.ensures.ended c.drop-batch.ensures.undone c.drop-batch.ensures.survives))
+
+pub returns-clause-unchanged : goal.returns-clause-unchanged
+returns-clause-unchanged g c clean =
+    let first = c.fill.new.tx.conn.now in
+    let end = c.commit.new.batch.0 in
+    let same : end ≡ c.conn-2-1.given.0 = search rules in
+    let late : HasCleanDisk (state g.S.Store end) = search rules in
+    let goes = rw c.transaction-batch.ensures.begun at c.in_ok-fill.ensures.goes in
+    never_told _ c.commit.result (all_untold (state g.S.Store first) (state g.S.Store end) c.commit.result
+    (c.commit.ensures.caused late (goes.going (earlier (state g.S.Store first) (state g.S.Store end) c.commit.ensures.survives late) refl).1))

@@ -1,5 +1,6 @@
 use Rattle.sqlite.specs.Held.{state}
-use Rattle.pid_rows.specs.Schema.{One, pid_schema}
+use Rattle.pid_rows.specs.declared.version.Version.TheVariants.{Two}
+use Rattle.pid_rows.specs.Schema.{pid_schema}
 use Rattle.pid_rows.proofs.KeyTexts.{select_item_is}
 use Rattle.pid_rows.proofs.StatementTexts.{select_item}
 use Rattle.pid_rows.proofs.FindLemmas.{name_found}
@@ -8,8 +9,8 @@ use Rattle.pid_tables.proofs.putting.names_inside.Goals as goal
 
 pub returns-clause-shows : goal.returns-clause-shows
 returns-clause-shows g c clean inside counts v shows _ =
-    both_sides _ _ c.read_inside.result (c.read_inside.ensures.untold clean pid_schema shows.schema (select_item_is One).plain)
-    (on_read select_item _ (state g.S.Store c.args.batch.now.conn.now) (state g.S.Store c.read_inside.new.tx.conn.now) c.read_inside.result (λ rows. rows.items) counts v (select_item_is One).plain shows (c.read_inside.ensures.shown clean))
+    both_sides _ _ c.read_inside.result (c.read_inside.ensures.untold clean pid_schema shows.schema (select_item_is Two).plain)
+    (on_read select_item _ (state g.S.Store c.args.batch.now.conn.now) (state g.S.Store c.read_inside.new.tx.conn.now) c.read_inside.result (λ rows. rows.items) counts v (select_item_is Two).plain shows (c.read_inside.ensures.shown clean))
 
 pub returns-clause-found : goal.returns-clause-found
 returns-clause-found g c clean counts v shows =

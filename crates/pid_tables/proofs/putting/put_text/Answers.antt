@@ -34,7 +34,7 @@ returns-in_ok-rename_item-in-Renamed-clause-told g c clean counts v shows =
 pub returns-in-Same-clause-shows : goal.returns-in-Same-clause-shows
 returns-in-Same-clause-shows g c clean inside counts v shows _ =
     let first = c.in_ok-compare.ensures in
-    still_with c.args.path.now c.args.name.now counts v (state g.S.Store c.compare.new.batch.conn.now)
+    still_with c.args.revision c.args.path.now c.args.name.now counts v (state g.S.Store c.compare.new.batch.conn.now)
     (same_there c.args.name.now (name_at c.args.path.now v.items) (sym c.in-Same.is ∙ first.found clean counts v shows)) (first.shows clean inside counts v shows tt)
 
 pub returns-in-Same-clause-told : goal.returns-in-Same-clause-told

@@ -1,9 +1,9 @@
 use Rattle.sqlite.specs.Held.{state}
 use Rattle.pid_moderation.specs.Views.{views_of}
-use Rattle.pid_tables.proofs.CheckLemmas.{check_untold}
+use Rattle.pid_tables.proofs.StandLemmas.{good_found}
 use Rattle.pid_tables.proofs.tables.Tables.check.Goals as goal
 
 pub returns-clause-good : goal.returns-clause-good
-returns-clause-good g c clean h sound rest =
+returns-clause-good g c clean h sound within schema rest =
     let s = state g.S.Store c.args.self.now.conn in
-    check_untold s (views_of h) c.check.result rest (c.sound_histories_are_registries.ensures h sound s.now) (c.check.ensures.shut clean) (c.check.ensures.told clean)
+    good_found schema s (views_of h) c.check.result rest (c.sound_histories_are_registries.ensures h sound within schema s.now) (c.check.ensures.shut clean) (c.check.ensures.stored clean)

@@ -1,0 +1,73 @@
+-- What is brought to schema 2, by what stood there.
+use Rattle.std.proofs.Common.{◌≡◌, ◌⊎◌, inl, inr, ℕ, List, true, false, None, Some, Option, Ok, Err, Result, IfOk, MatchResult, IsTrue, refl, sym, subst}
+use Rattle.std.proofs.lemmas.Bool.{cases_Bool}
+use Rattle.sqlite.specs.Change.{is_used}
+use Rattle.sqlite.specs.Effect.{Database}
+use Rattle.sqlite.specs.Held.{Held, state}
+use Rattle.sqlite.specs.State.{State}
+use Rattle.sqlite_rules.specs.Lists.{Has}
+use Rattle.sqlite_trees.specs.declared.store.Store.{Ghosts}
+use Rattle.pid_rows.specs.declared.fault.TableFault.{TableFault}
+use Rattle.pid_rows.specs.declared.fault.TableFault.TheVariants.{Memory, Store, NewerSchema, Damaged}
+use Rattle.pid_rows.specs.declared.version.Version.{Version}
+use Rattle.pid_rows.specs.declared.version.Version.TheVariants.{One, Two}
+use Rattle.pid_rows.specs.Faults.{IsUntold}
+use Rattle.pid_rows.specs.Leaves.{OnlyReads}
+use Rattle.pid_rows.specs.Schema.{no_schema}
+use Rattle.pid_rows.proofs.OnlyReading.{reads_then}
+use Rattle.pid_table_check.specs.Checking.{Explains, Finds}
+use Rattle.pid_table_check.specs.Shapes.{HasNoTable, HasSomeTable}
+use Rattle.pid_tables.specs.Creation.{table_names, IsBlank, IsMet, IsOfMaking, LeavesBareOrNew}
+use Rattle.pid_tables.specs.Steps.{IsStanding}
+use Rattle.pid_tables.specs.declared.migration.Step.{Step}
+use Rattle.pid_tables.specs.declared.migration.Step.TheVariants.{Moved, Already}
+
+-- ---- no table
+
+pub blank_leaves : (s : State) → IsBlank s → LeavesBareOrNew s
+blank_leaves s blank = record { each = λ clean db may. inl (blank.leaves clean db may) }
+
+pub none_there : {P : Type 0} (s : State) → HasNoTable no_schema → IsBlank s → (s.is_open ≡ false → P) → (HasNoTable s.now.schema → P) → P
+none_there s none blank shut there = elim (cases_Bool s.is_open) [ inl opened ↦ there (subst HasNoTable (sym (blank.empty opened).schema) none) | inr closed ↦ shut closed ]
+
+pub untold_making : (e : TableFault) → IsUntold e → IsOfMaking e
+untold_making Memory h = tt
+untold_making Store h = tt
+untold_making (NewerSchema n) h = absurd h
+untold_making Damaged h = absurd h
+
+-- something has a name of the tables
+abbrev MetIn : Database → Type 0
+MetIn db = (name : List ℕ) × Has table_names name × (is_used db.schema name ≡ true)
+
+pub still_met : (old new : State) → OnlyReads old new → (IsTrue new.is_open → new.now ≡ old.now) → IsMet old → IsMet new
+still_met old new reads same met opened = subst MetIn (sym (same opened)) (met (reads.was_open opened))
+
+-- none was made
+pub met_reads : (old mid new : State) (r : Result Step TableFault) → OnlyReads old mid → MatchResult r (λ _. ⊥) (λ e. IsOfMaking e × OnlyReads mid new) → MatchResult r (λ _. ⊥) (λ e. IsOfMaking e × OnlyReads old new)
+met_reads old mid new (Ok x) reads h = h
+met_reads old mid new (Err e) reads h = (h.0, reads_then old mid new reads h.1)
+
+-- ---- tables of schema 2
+
+pub left_alone : {S : Type 0} (g : Ghosts S) (old : State) (mid end : Held S) (r : Result Step TableFault) → OnlyReads old (state g mid) → MatchResult r (λ step. (step ≡ Already) × (end ≡ mid)) (λ _. ⊥)
+    → MatchResult r (λ step. (step ≡ Already) × OnlyReads old (state g end)) (λ _. ⊥)
+left_alone g old mid end (Ok x) reads h = (h.0, subst (λ c. OnlyReads old (state g c)) (sym h.1) reads)
+left_alone g old mid end (Err e) reads h = h
+
+pub or_untold : (P : Step → Type 0) (Q : TableFault → Type 0) (r : Result Step TableFault) → MatchResult r P (λ _. ⊥) → MatchResult r P Q
+or_untold P Q (Ok x) h = h
+or_untold P Q (Err e) h = absurd h
+
+-- ---- any tables
+
+pub brought : (old new : State) (found : Option Version) (r : Result Step TableFault) → IsStanding old.now found → HasSomeTable old.now.schema
+    → (found ≡ Some One → IfOk r (λ step. step ≡ Moved)) → (found ≡ Some Two → MatchResult r (λ step. (step ≡ Already) × OnlyReads old new) (λ _. ⊥))
+    → MatchResult r (λ step. ((step ≡ Already) × OnlyReads old new) ⊎ ((step ≡ Moved) × Finds old.now (Some One))) (λ e. (Explains old.now e × OnlyReads old new) ⊎ Finds old.now (Some One))
+brought old new None r (inl bad) some moved already = absurd (let no : ⊥ = cc in no)
+brought old new None r (inr none) some moved already = absurd (none some)
+brought old new (Some One) r (inl bad) some moved already = absurd (let no : ⊥ = cc in no)
+brought old new (Some One) (Ok x) (inr finds) some moved already = inr (moved refl, finds)
+brought old new (Some One) (Err e) (inr finds) some moved already = inr finds
+brought old new (Some Two) (Ok x) stands some moved already = inl (already refl)
+brought old new (Some Two) (Err e) stands some moved already = absurd (already refl)

@@ -1,0 +1,82 @@
+-- What the move of the tables leaves.
+use Rattle.std.proofs.Common.{◌≡◌, inl, inr, true, false, Ok, Err, Result, IfErr, OnErr, IsTrue, refl, sym, subst, ◌∙◌}
+use Rattle.sqlite.proofs.Callers.{survives_begin}
+use Rattle.sqlite.proofs.StateLemmas.{survives_then}
+use Rattle.sqlite.specs.Effect.{Database}
+use Rattle.sqlite.specs.Held.{Held, state}
+use Rattle.sqlite.specs.State.{State, HasCleanDisk, Survives}
+use Rattle.sqlite.specs.Steps.{FailsToCommit}
+use Rattle.sqlite.specs.declared.error.Error.{Error}
+use Rattle.sqlite_trees.specs.declared.store.Store.{Ghosts}
+use Rattle.pid_moderation.specs.Views.{Views}
+use Rattle.pid_rows.specs.declared.fault.TableFault.{TableFault}
+use Rattle.pid_rows.specs.declared.fault.TableFault.TheVariants.{Memory, Store, NewerSchema, Damaged}
+use Rattle.pid_rows.specs.declared.version.Version.{Version}
+use Rattle.pid_rows.specs.declared.version.Version.TheVariants.{Two}
+use Rattle.pid_rows.specs.Causes.{IsCaused}
+use Rattle.pid_rows.specs.Faults.{IsUntold}
+use Rattle.pid_rows.specs.Leaves.{GoesOn, RestsIn}
+use Rattle.pid_rows.specs.Shows.{Shows, ShowsIn}
+use Rattle.pid_rows.proofs.GoingLemmas.{earlier}
+use Rattle.pid_rows.proofs.LeaveLemmas.{shows_found}
+use Rattle.pid_tables.specs.Creation.{IsUndone}
+
+-- a commit that failed gives back what was committed
+pub undone : (old new : State) (e : Error) → IsTrue old.in_transaction → FailsToCommit old new e → IsUndone old new
+undone old new e inside (inl failed) = let back = failed.3 in record { was_open = back.was_open; sees = λ opened. (back.undone opened).0; committed = λ opened. (back.undone opened).1 }
+undone old new e inside (inr odd) = absurd (let both = sym inside ∙ odd.1 in let bad : ⊥ = cc in bad)
+
+-- so it leaves tables of the schema that was before, and a crash those of the one or the other
+pub failed_rests : {S X E : Type 0} {Y F : Type 0} (g : Ghosts S) (version : Version) (old mid end : Held S) (r : Result X E) (ends : Result Y F) (v : Views) → (IsTrue (state g end).is_open → HasCleanDisk (state g end))
+    → RestsIn version (state g old) v → GoesOn (state g (record old { in_transaction = true })) (state g mid) r → (HasCleanDisk (state g mid) → Shows (state g mid).now v)
+    → (state g end).in_transaction ≡ false → Survives (state g mid) (state g end) (λ db. db ≡ (state g mid).now.trees) → (HasCleanDisk (state g end) → OnErr ends (IsUndone (state g mid) (state g end))) → OnErr ends (RestsIn version (state g end) v)
+failed_rests g version old mid end r (Ok x) v law rest goes shows ended survives back = tt
+failed_rests g version old mid end r (Err e) v law rest goes shows ended survives back = record {
+  settled = ended;
+  same = λ opened. let u = back (law opened) in u.sees opened ∙ sym (u.committed opened);
+  shows = λ opened.
+      let clean = law opened in
+      let u = back clean in
+      let mid_clean = earlier (state g mid) (state g end) survives clean in
+      let was = u.was_open opened in
+      let first = goes.was_open mid_clean was in
+      subst (λ (d : Database). ShowsIn version d v) (sym (u.sees opened ∙ goes.committed mid_clean refl was ∙ sym (rest.same first))) (rest.shows first);
+  leaves = record {
+    each = λ clean db may. elim (whole.crash clean db may) [
+      | inl before ↦ rest.leaves.each (earlier (state g old) (state g end) whole clean) db before
+      | inr made ↦ (Two, shows_found (state g mid).now v (shows (earlier (state g mid) (state g end) survives clean)) db made)
+    ];
+  };
+}
+  where
+    begun : State
+    begun = state g (record old { in_transaction = true })
+
+    whole : Survives (state g old) (state g end) (λ db. db ≡ (state g mid).now.trees)
+    whole = survives_begin g old (state g end) (λ db. db ≡ (state g mid).now.trees)
+        (survives_then begun (state g mid) (state g end) (λ _. ⊥) (λ db. db ≡ (state g mid).now.trees) (λ db. db ≡ (state g mid).now.trees) (λ clean db none. absurd none) (λ clean db is. is) goes.survives survives)
+
+-- ---- faults
+
+pub caused_untold : (old new : State) (e : TableFault) → IsCaused old new e → IsUntold e
+caused_untold old new Memory h = tt
+caused_untold old new Store h = tt
+caused_untold old new (NewerSchema n) h = h
+caused_untold old new Damaged h = h
+
+-- a fault that has a cause says nothing of the tables
+pub all_untold : {X : Type 0} (old new : State) (r : Result X TableFault) → IfErr r (IsCaused old new) → IfErr r IsUntold
+all_untold old new (Ok x) h = tt
+all_untold old new (Err e) h = caused_untold old new e h
+
+pub all_err : {X : Type 0} {P : TableFault → Type 0} (r : Result X TableFault) → ((e : TableFault) → P e) → IfErr r P
+all_err (Ok x) f = tt
+all_err (Err e) f = f e
+
+pub never_told : {X : Type 0} (P : Type 0) (r : Result X TableFault) → IfErr r IsUntold → IfErr r (λ e. ¬ (IsUntold e) → P)
+never_told P (Ok x) h = tt
+never_told P (Err e) h = λ told. absurd (told h)
+
+pub or_never : {X P Q : Type 0} (r : Result X TableFault) → (P → Q) → IfErr r (λ e. ¬ (IsUntold e) → P) → IfErr r (λ e. ¬ (IsUntold e) → Q)
+or_never (Ok x) f h = tt
+or_never (Err e) f h = λ told. f (h told)

@@ -1,0 +1,58 @@
+-- What the label of the schema tells.
+use Rattle.std.proofs.Common.{◌≡◌, inl, inr, ℕ, Some, Ok, Err, Result, IfOk, IfErr, MatchResult, ◌<◌, ◌^◌, arith, codes, refl, sym, ap, subst, ◌∙◌}
+use Rattle.std.specs.Prelude.{◌==◌}
+use Rattle.sqlite.specs.Effect.{Database}
+use Rattle.sqlite.specs.Order.{Row, column}
+use Rattle.sqlite.specs.declared.types.Value.TheVariants.{Text}
+use Rattle.pid_moderation.specs.Views.{Views}
+use Rattle.pid_rows.specs.declared.version.Version.{Version}
+use Rattle.pid_rows.specs.declared.version.Version.TheVariants.{One, Two}
+use Rattle.pid_rows.specs.declared.fault.TableFault.{TableFault}
+use Rattle.pid_rows.specs.declared.fault.TableFault.TheVariants.{Memory, Store, NewerSchema, Damaged}
+use Rattle.pid_rows.specs.Faults.{IsUntold}
+use Rattle.pid_rows.specs.LabelRows.{HasLabel, LacksNumber, ExplainsNumber}
+use Rattle.pid_rows.specs.PairRows.{IsPairRow}
+use Rattle.pid_rows.specs.Schema.{number_of}
+use Rattle.pid_rows.specs.Shows.{Counts, Numbers, ShowsKeeping, labels_of}
+use Rattle.pid_rows.specs.TableRows.{number, meta_row}
+use Rattle.pid_rows.proofs.Keys.{pos_same}
+use Rattle.pid_tables.specs.Steps.{is_latest}
+
+small : (version : Version) → number_of version < 2 ^ 32
+small One = omega arith
+small Two = omega arith
+
+module _ {version : Version} {c : Counts} {numbers : Numbers} (db : Database) (v : Views) (shows : ShowsKeeping version c numbers db v) where
+  labelled : (r : Row) (pair : IsPairRow meta_row (labels_of version c numbers.revision) r) → column r 1 ≡ Text (codes "schema") → pair.value ≡ number_of version
+  labelled r pair label =
+      let text : Text pair.key ≡ Text (codes "schema") = ap (λ x. column x 1) (sym pair.is) ∙ label in
+      let same : pair.key ≡ codes "schema" = cc in
+      let found : Some (number_of version) ≡ Some pair.value = subst (λ k. labels_of version c numbers.revision k ≡ Some pair.value) same pair.maps in
+      cc
+
+  -- the number that meta has is that of the schema
+  pub schema_told : (n : ℕ) → HasLabel db.trees (codes "schema") n → n ≡ number_of version
+  schema_told n it =
+      let pair = shows.meta.sound it.0 it.1 in
+      let values : number pair.value ≡ number n = ap (λ x. column x 2) (sym pair.is) ∙ it.3 in
+      let both = labelled it.0 pair it.2 in
+      pos_same n (number_of version) (let same : number n ≡ number (number_of version) = sym values ∙ ap number both in cc)
+
+  -- and it is there
+  pub schema_there : LacksNumber db.trees (codes "schema") → ⊥
+  schema_there (inl none) = let row = shows.meta.complete (codes "schema") (number_of version) refl in none (meta_row row.0 (codes "schema") (number_of version)) row.1 refl
+  schema_there (inr it) =
+      let pair = shows.meta.sound it.0 it.1 in
+      it.3 (number_of version, small version, ap (λ x. column x 2) pair.is ∙ ap number (labelled it.0 pair it.2))
+
+  -- so it is told, where no fault hinders
+  pub number_told : (r : Result ℕ TableFault) → IfOk r (HasLabel db.trees (codes "schema")) → IfErr r (ExplainsNumber db.trees (codes "schema")) → MatchResult r (λ n. n ≡ number_of version) IsUntold
+  number_told (Ok n) label bad = schema_told n label
+  number_told (Err Memory) label bad = tt
+  number_told (Err Store) label bad = tt
+  number_told (Err (NewerSchema n)) label bad = bad
+  number_told (Err Damaged) label bad = schema_there bad
+
+pub second_is_latest : (version : Version) (n : ℕ) → n ≡ number_of version → (n == 2) ≡ is_latest version
+second_is_latest One n is = ap (λ m. m == 2) is
+second_is_latest Two n is = ap (λ m. m == 2) is

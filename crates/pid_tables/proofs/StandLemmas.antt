@@ -1,0 +1,74 @@
+-- What stands in a database, as reads tell it.
+use Rattle.std.proofs.Common.{◌≡◌, ◌↔◌, ◌≤◌, ℕ, arith, inl, inr, false, None, Some, Option, Ok, Err, Result, MatchResult, IsTrue, refl, sym, subst}
+use Rattle.std.proofs.lemmas.Bool.{cases_Bool}
+use Rattle.sqlite.specs.Effect.{Database}
+use Rattle.sqlite.specs.Schema.{Schema}
+use Rattle.sqlite.specs.State.{State}
+use Rattle.pid_moderation.specs.CheckTables.{most_revision}
+use Rattle.pid_moderation.specs.Views.{Views}
+use Rattle.pid_rows.specs.declared.fault.TableFault.{TableFault}
+use Rattle.pid_rows.specs.declared.fault.TableFault.TheVariants.{Memory, Store, NewerSchema, Damaged}
+use Rattle.pid_rows.specs.declared.version.Version.{Version}
+use Rattle.pid_rows.specs.declared.version.Version.TheVariants.{One, Two}
+use Rattle.pid_rows.specs.Faults.{IsUntold}
+use Rattle.pid_rows.specs.Leaves.{OnlyReads, RestsIn}
+use Rattle.pid_rows.specs.Shows.{ShowsIn}
+use Rattle.pid_table_check.specs.Checking.{Explains, Finds, IsRegistry}
+use Rattle.pid_table_check.specs.Shapes.{HasNoTable, HasSomeTable, HasTables, IsMadeFirst}
+use Rattle.pid_table_check.proofs.Complete.{made_first}
+use Rattle.pid_tables.specs.Steps.{IsStanding}
+
+-- where nothing was uncommitted, reads see the same
+pub seen_still : (old new : State) → (IsTrue old.is_open → old.now ≡ old.committed) → OnlyReads old new → IsTrue new.is_open → new.now ≡ old.now
+seen_still old new settled reads = (reads.same old.now (record { sees = λ opened. refl; committed = λ opened. sym (settled opened) })).sees
+
+-- ---- what the check tells
+
+pub untold_explains : (db : Database) (e : TableFault) → IsUntold e → Explains db e
+untold_explains db Memory h = tt
+untold_explains db Store h = tt
+untold_explains db (NewerSchema n) h = absurd h
+untold_explains db Damaged h = absurd h
+
+-- what it tells behind reads is so of what was before them
+pub told_before : (old mid : State) (r : Result (Option Version) TableFault) → (IsTrue mid.is_open → mid.now ≡ old.now) → (mid.is_open ≡ false → MatchResult r (λ _. ⊥) IsUntold)
+    → MatchResult r (Finds mid.now) (Explains mid.now) → MatchResult r (Finds old.now) (Explains old.now)
+told_before old mid (Ok x) same shut told = elim (cases_Bool mid.is_open) [ inl opened ↦ subst (λ (d : Database). Finds d x) (same opened) told | inr closed ↦ absurd (shut closed) ]
+told_before old mid (Err e) same shut told = elim (cases_Bool mid.is_open) [ inl opened ↦ subst (λ (d : Database). Explains d e) (same opened) told | inr closed ↦ untold_explains old.now e (shut closed) ]
+
+pub as_standing : (db : Database) (r : Result (Option Version) TableFault) → MatchResult r (Finds db) (Explains db) → MatchResult r (IsStanding db) (Explains db)
+as_standing db (Ok x) told = inr told
+as_standing db (Err e) told = told
+
+-- each schema has a table
+pub tables_some : (version : Version) (schema : Schema) → HasTables version schema → HasSomeTable schema
+tables_some One schema has = (_, inl refl, has.0 _ (inl refl))
+tables_some Two schema has = (_, inl refl, has.0 _ (inl refl))
+
+-- where there is no table, it finds none
+pub none_found : (db : Database) (r : Result (Option Version) TableFault) → HasNoTable db.schema → MatchResult r (Finds db) (Explains db) → MatchResult r (λ found. found ≡ None) IsUntold
+none_found db (Ok None) none told = refl
+none_found db (Ok (Some version)) none told = absurd (none (tables_some version db.schema told.0))
+none_found db (Err Memory) none told = tt
+none_found db (Err Store) none told = tt
+none_found db (Err (NewerSchema n)) none told = absurd (none (_, inl refl, (told.1.query, told.1.is)))
+none_found db (Err Damaged) none told = absurd (none told.0)
+
+-- ---- tables that show a sound history
+
+-- tables of schema 1 show no revision
+pub none_within : (n : ℕ) → n ≡ 0 → n ≤ most_revision
+none_within n is = omega (arith, is)
+
+pub good_found : (version : Version) (s : State) (v : Views) (r : Result (Option Version) TableFault) → RestsIn version s v → (ShowsIn version s.now v → IsRegistry version s.now)
+    → (s.is_open ≡ false → MatchResult r (λ _. ⊥) IsUntold)
+    → ((schema : Version) → IsMadeFirst schema s.now.schema → MatchResult r (λ found. (found ≡ Some schema) ↔ IsRegistry schema s.now) (λ fault. IsRegistry schema s.now → IsUntold fault))
+    → MatchResult r (λ found. found ≡ Some version) IsUntold
+good_found version s v (Ok x) rest good shut stored = elim (cases_Bool s.is_open) [
+  | inl opened ↦ let shows = rest.shows opened in (stored version (subst (IsMadeFirst version) (sym shows.schema) (made_first version))).1 (good shows)
+  | inr closed ↦ absurd (shut closed)
+]
+good_found version s v (Err e) rest good shut stored = elim (cases_Bool s.is_open) [
+  | inl opened ↦ let shows = rest.shows opened in stored version (subst (IsMadeFirst version) (sym shows.schema) (made_first version)) (good shows)
+  | inr closed ↦ shut closed
+]

@@ -1,0 +1,69 @@
+use Rattle.std.proofs.Common.{[], ◌∷◌, refl, codes}
+use Rattle.sqlite.specs.Held.{state}
+use Rattle.pid_rows.specs.Faults.{IsUntold}
+use Rattle.pid_rows.specs.Schema.{meta, account, item, submission, remark, receipt, item_since}
+use Rattle.pid_rows.proofs.CauseLemmas.{passed_on}
+use Rattle.pid_rows.proofs.GoingLemmas.{earlier}
+use Rattle.pid_tables.specs.Creation.{IsOfMaking, IsMetFault}
+use Rattle.pid_tables.proofs.CreateTexts.{item_since_creates}
+use Rattle.pid_tables.proofs.MakerTexts.{item_since_maker}
+use Rattle.pid_tables.proofs.MetLemmas.{took_then, took_both}
+use Rattle.pid_tables.proofs.creation.make_tables.Goals as goal
+
+pub returns-in_err-make_first-clause-made : goal.returns-in_err-make_first-clause-made
+returns-in_err-make_first-clause-made g c clean inside made = passed_on c.from_residual.result _ _ IsUntold c.from_residual.ensures.1 (c.in_err-make_first.ensures.made clean inside made)
+
+pub returns-in_err-make_rest-clause-made : goal.returns-in_err-make_rest-clause-made
+returns-in_err-make_rest-clause-made g c clean inside made =
+    let first = earlier (state g.S.Store c.make_first.new.tx.conn.now) (state g.S.Store c.make_rest.new.tx.conn.now) c.make_rest.ensures.goes.survives clean in
+    let one = c.in_ok-make_first.ensures in
+    passed_on c.from_residual-in_err-make_rest.result _ _ IsUntold c.from_residual-in_err-make_rest.ensures.1
+    (c.in_err-make_rest.ensures.made clean (one.goes.going first inside).1 (λ opened. one.made first inside made))
+
+pub returns-clause-made : goal.returns-clause-made
+returns-clause-made g c clean inside made =
+    let second = earlier (state g.S.Store c.make_rest.new.tx.conn.now) (state g.S.Store c.make_table.new.tx.conn.now) c.make_table.ensures.goes.survives clean in
+    let first = earlier (state g.S.Store c.make_first.new.tx.conn.now) (state g.S.Store c.make_rest.new.tx.conn.now) c.make_rest.ensures.goes.survives second in
+    let one = c.in_ok-make_first.ensures in
+    let two = c.in_ok-make_rest.ensures in
+    let within = (one.goes.going first inside).1 in
+    c.make_table.ensures.made (meta ∷ account ∷ item ∷ submission ∷ remark ∷ receipt ∷ []) item_since item_since_creates refl clean (two.goes.going second within).1
+    (λ opened. two.made second within (λ opened. one.made first inside made))
+
+pub returns-in_err-make_first-clause-takes : goal.returns-in_err-make_first-clause-takes
+returns-in_err-make_first-clause-takes g c clean inside = passed_on c.from_residual.result _ _ IsOfMaking c.from_residual.ensures.1 (c.in_err-make_first.ensures.takes clean inside)
+
+pub returns-in_err-make_rest-clause-takes : goal.returns-in_err-make_rest-clause-takes
+returns-in_err-make_rest-clause-takes g c clean inside =
+    let first = earlier (state g.S.Store c.make_first.new.tx.conn.now) (state g.S.Store c.make_rest.new.tx.conn.now) c.make_rest.ensures.goes.survives clean in
+    passed_on c.from_residual-in_err-make_rest.result _ _ IsOfMaking c.from_residual-in_err-make_rest.ensures.1 (c.in_err-make_rest.ensures.takes clean (c.in_ok-make_first.ensures.goes.going first inside).1)
+
+pub returns-clause-takes : goal.returns-clause-takes
+returns-clause-takes g c clean inside =
+    let a = state g.S.Store c.args.tx.now.conn.now in
+    let b = state g.S.Store c.make_first.new.tx.conn.now in
+    let d = state g.S.Store c.make_rest.new.tx.conn.now in
+    let e = state g.S.Store c.make_table.new.tx.conn.now in
+    let second = earlier d e c.make_table.ensures.goes.survives clean in
+    let first = earlier b d c.make_rest.ensures.goes.survives second in
+    let one = c.in_ok-make_first.ensures in
+    let two = c.in_ok-make_rest.ensures in
+    let within = (one.goes.going first inside).1 in
+    took_then (codes "meta" ∷ codes "account" ∷ codes "item" ∷ codes "submission" ∷ codes "remark" ∷ codes "receipt" ∷ []) (codes "item_since" ∷ []) a.now.schema d.now.schema e.now.schema
+    (took_both (codes "meta" ∷ codes "account" ∷ codes "item" ∷ []) (codes "submission" ∷ codes "remark" ∷ codes "receipt" ∷ []) a.now.schema b.now.schema d.now.schema (one.takes first inside) (two.takes second within))
+    c.make_table.result (c.make_table.ensures.takes (codes "item_since") item_since_maker clean (two.goes.going second within).1)
+
+pub returns-in_err-make_first-clause-met : goal.returns-in_err-make_first-clause-met
+returns-in_err-make_first-clause-met g c clean inside has =
+    passed_on c.from_residual.result _ _ (IsMetFault (state g.S.Store c.args.tx.now.conn.now) (state g.S.Store c.make_first.new.tx.conn.now)) c.from_residual.ensures.1 (c.in_err-make_first.ensures.met clean inside has)
+
+pub returns-in_err-make_rest-clause-met : goal.returns-in_err-make_rest-clause-met
+returns-in_err-make_rest-clause-met g c clean inside has =
+    absurd (c.in_ok-make_first.ensures.met (earlier (state g.S.Store c.make_first.new.tx.conn.now) (state g.S.Store c.make_rest.new.tx.conn.now) c.make_rest.ensures.goes.survives clean) inside has)
+
+pub returns-clause-met : goal.returns-clause-met
+returns-clause-met g c clean inside has =
+    let b = state g.S.Store c.make_first.new.tx.conn.now in
+    let d = state g.S.Store c.make_rest.new.tx.conn.now in
+    let second = earlier d (state g.S.Store c.make_table.new.tx.conn.now) c.make_table.ensures.goes.survives clean in
+    absurd (c.in_ok-make_first.ensures.met (earlier b d c.make_rest.ensures.goes.survives second) inside has)

@@ -1,0 +1,78 @@
+use Rattle.sqlite.specs.Held.{state}
+use Rattle.pid_moderation.specs.Views.{views_of}
+use Rattle.pid_rows.specs.declared.version.Version.TheVariants.{One}
+use Rattle.pid_rows.specs.Faults.{IsUntold}
+use Rattle.pid_rows.specs.Leaves.{RestsIn}
+use Rattle.pid_rows.proofs.CauseLemmas.{passed_on}
+use Rattle.pid_rows.proofs.OnlyReading.{reads_then, rests_in_still}
+use Rattle.pid_tables.specs.Creation.{LeavesBareOrNew}
+use Rattle.pid_tables.proofs.BringLemmas.{blank_leaves, none_there, still_met, met_reads, left_alone, or_untold, brought}
+use Rattle.pid_tables.proofs.MoveLemmas.{or_never}
+use Rattle.pid_tables.proofs.OpenLemmas.{still_blank}
+use Rattle.pid_tables.proofs.migration.migrate.Goals as goal
+
+-- ---- no table
+
+pub returns-in_err-found-clause-created : goal.returns-in_err-found-clause-created
+returns-in_err-found-clause-created g c clean blank =
+    let old = state g.S.Store c.args.conn.now in
+    let mid = state g.S.Store c.standing.new.conn in
+    let bad = c.in_err-found.ensures in
+    passed_on c.from_residual.result _ _ (λ fault. IsUntold fault × LeavesBareOrNew mid) c.from_residual.ensures.1
+    (none_there old c.schemas_have_tables.ensures.none blank (λ closed. bad.shut clean closed) (λ none. bad.bare clean none), blank_leaves mid (still_blank old mid c.standing.ensures.rests blank))
+
+pub returns-clause-created : goal.returns-clause-created
+returns-clause-created g c clean blank =
+    let old = state g.S.Store c.args.conn.now in
+    let mid = state g.S.Store c.standing.new.conn in
+    let first = c.bring.ensures.clean clean in
+    let good = c.in_ok-found.ensures in
+    c.bring.ensures.created clean (none_there old c.schemas_have_tables.ensures.none blank (λ closed. absurd (good.shut first closed)) (λ none. good.bare first none)) (still_blank old mid c.standing.ensures.rests blank)
+
+-- ---- tables of schema 1
+
+pub returns-in_err-found-clause-moved : goal.returns-in_err-found-clause-moved
+returns-in_err-found-clause-moved g c clean h sound rest =
+    let old = state g.S.Store c.args.conn.now in
+    let mid = state g.S.Store c.standing.new.conn in
+    passed_on c.from_residual.result _ _ (λ fault. IsUntold fault × RestsIn One mid (views_of h)) c.from_residual.ensures.1
+    (c.in_err-found.ensures.earlier clean h sound rest, rests_in_still old mid (views_of h) c.standing.ensures.rests rest)
+
+pub returns-clause-moved : goal.returns-clause-moved
+returns-clause-moved g c clean h sound rest =
+    let old = state g.S.Store c.args.conn.now in
+    let mid = state g.S.Store c.standing.new.conn in
+    c.bring.ensures.moved clean (c.in_ok-found.ensures.earlier (c.bring.ensures.clean clean) h sound rest) (views_of h) (rests_in_still old mid (views_of h) c.standing.ensures.rests rest)
+
+-- ---- tables of schema 2
+
+pub returns-clause-already : goal.returns-clause-already
+returns-clause-already g c clean v rest =
+    let old = state g.S.Store c.args.conn.now in
+    or_untold _ _ c.bring.result (left_alone g.S.Store old c.standing.new.conn c.bring.new.conn c.bring.result c.standing.ensures.rests (c.bring.ensures.already (c.in_ok-found.ensures.latest (c.bring.ensures.clean clean) v rest)))
+
+-- ---- any tables
+
+pub returns-clause-found : goal.returns-clause-found
+returns-clause-found g c clean some =
+    let old = state g.S.Store c.args.conn.now in
+    brought old (state g.S.Store c.bring.new.conn) c.in_ok-found.found c.bring.result (c.in_ok-found.ensures.told (c.bring.ensures.clean clean)) some c.bring.ensures.step
+    (λ is. left_alone g.S.Store old c.standing.new.conn c.bring.new.conn c.bring.result c.standing.ensures.rests (c.bring.ensures.already is))
+
+pub returns-clause-unchanged : goal.returns-clause-unchanged
+returns-clause-unchanged g c clean =
+    let old = state g.S.Store c.args.conn.now in
+    let mid = state g.S.Store c.standing.new.conn in
+    or_never c.bring.result (λ reads. reads_then old mid (state g.S.Store c.bring.new.conn) c.standing.ensures.rests reads) (c.bring.ensures.unchanged clean)
+
+-- ---- something else
+
+pub returns-clause-met : goal.returns-clause-met
+returns-clause-met g c clean none met =
+    let old = state g.S.Store c.args.conn.now in
+    let mid = state g.S.Store c.standing.new.conn in
+    met_reads old mid (state g.S.Store c.bring.new.conn) c.bring.result c.standing.ensures.rests
+    (c.bring.ensures.met clean (c.in_ok-found.ensures.bare (c.bring.ensures.clean clean) none) (still_met old mid c.standing.ensures.rests c.standing.ensures.same met))
+
+pub returns-clause-shut : goal.returns-clause-shut
+returns-clause-shut g c clean closed = absurd (c.in_ok-found.ensures.shut (c.bring.ensures.clean clean) closed)

@@ -1,0 +1,85 @@
+use Rattle.std.proofs.Common.{◌≡◌, Ok, OnOk, OnErr, refl, rules, arith, subst}
+use Rattle.sqlite.specs.Held.{state}
+use Rattle.sqlite.specs.State.{HasCleanDisk}
+use Rattle.sqlite.proofs.StateLemmas.{clean_if_open}
+use Rattle.pid_rows.specs.declared.version.Version.TheVariants.{One}
+use Rattle.pid_rows.specs.Faults.{IsUntold}
+use Rattle.pid_rows.specs.Leaves.{AtRest, OnlyReads, RestsIn}
+use Rattle.pid_rows.specs.Shows.{counts_of}
+use Rattle.pid_rows.proofs.CauseLemmas.{passed_from}
+use Rattle.pid_rows.proofs.GoingLemmas.{earlier}
+use Rattle.pid_rows.proofs.LeaveLemmas.{on_err}
+use Rattle.pid_rows.proofs.OnlyReading.{reads_begun, rests_in_still}
+use Rattle.pid_tables.proofs.MoveLemmas.{failed_rests, all_untold, never_told, all_err}
+use Rattle.pid_tables.proofs.migration.move_up.Goals as goal
+
+pub returns-clause-moved : goal.returns-clause-moved
+returns-clause-moved g c v rest =
+    let goes = rw c.transaction-batch.ensures.begun at c.in_ok-move_tables.ensures.goes in
+    let shows = rw c.transaction-batch.ensures.begun at c.in_ok-move_tables.ensures.shows in
+    let end = c.commit.new.batch.0 in
+    let same : end ≡ c.conn-2-1.given.0 = search rules in
+    subst (λ h. OnOk c.commit.result (AtRest (state g.S.Store h) v)) same
+    (c.commit.ensures.stands v (λ clean. ((goes.going clean refl).0, shows clean refl (counts_of v) v rest.shows)))
+
+pub returns-in_err-move_tables-clause-kept : goal.returns-in_err-move_tables-clause-kept
+returns-in_err-move_tables-clause-kept g c v rest =
+    let end = c.drop-batch.new.self.0 in
+    let same : end ≡ c.conn-1.given.0 = search rules in
+    let first = c.move_tables.new.tx.conn.now in
+    let goes = rw c.transaction-batch.ensures.begun at c.move_tables.ensures.goes in
+    on_err c.from_residual.result (subst (λ h. RestsIn One (state g.S.Store h) v) same
+    (rests_in_still (state g.S.Store c.args.conn.now) (state g.S.Store end) v
+    (reads_begun g.S.Store c.args.conn.now first end c.move_tables.result (clean_if_open (g.S.Store.view first.store) (g.met.S.Store.shut_if_dirty first.store))
+    (clean_if_open (g.S.Store.view end.store) (g.met.S.Store.shut_if_dirty end.store)) goes c.drop-batch.ensures.ended c.drop-batch.ensures.undone c.drop-batch.ensures.survives) rest))
+
+pub returns-clause-kept : goal.returns-clause-kept
+returns-clause-kept g c v rest =
+    let end = c.commit.new.batch.0 in
+    let same : end ≡ c.conn-2-1.given.0 = search rules in
+    let first = c.move_tables.new.tx.conn.now in
+    let goes = rw c.transaction-batch.ensures.begun at c.in_ok-move_tables.ensures.goes in
+    let shows = rw c.transaction-batch.ensures.begun at c.in_ok-move_tables.ensures.shows in
+    subst (λ h. OnErr c.commit.result (RestsIn One (state g.S.Store h) v)) same
+    (failed_rests g.S.Store One c.args.conn.now first end (Ok c.in_ok-move_tables.field-0) c.commit.result v (clean_if_open (g.S.Store.view end.store) (g.met.S.Store.shut_if_dirty end.store))
+    rest goes (λ clean. shows clean refl (counts_of v) v rest.shows) c.commit.ensures.ended c.commit.ensures.survives
+    (λ clean. c.commit.ensures.undone clean (goes.going (earlier (state g.S.Store first) (state g.S.Store end) c.commit.ensures.survives clean) refl).1))
+
+pub returns-in_err-move_tables-clause-untold : goal.returns-in_err-move_tables-clause-untold
+returns-in_err-move_tables-clause-untold g c clean v rest =
+    let end = c.drop-batch.new.self.0 in
+    let same : end ≡ c.conn-1.given.0 = search rules in
+    let late : HasCleanDisk (state g.S.Store end) = search rules in
+    let mid : HasCleanDisk (state g.S.Store c.move_tables.new.tx.conn.now) = omega (arith, c.drop-batch.ensures.survives.clean) in
+    let shows = rw c.transaction-batch.ensures.begun at c.in_err-move_tables.ensures.shows in
+    passed_from c.from_residual.result _ IsUntold c.from_residual.ensures.1 (shows mid refl (counts_of v) v rest.shows)
+
+pub returns-clause-untold : goal.returns-clause-untold
+returns-clause-untold g c clean v rest =
+    let first = c.move_tables.new.tx.conn.now in
+    let end = c.commit.new.batch.0 in
+    let same : end ≡ c.conn-2-1.given.0 = search rules in
+    let late : HasCleanDisk (state g.S.Store end) = search rules in
+    let goes = rw c.transaction-batch.ensures.begun at c.in_ok-move_tables.ensures.goes in
+    all_untold (state g.S.Store first) (state g.S.Store end) c.commit.result
+    (c.commit.ensures.caused late (goes.going (earlier (state g.S.Store first) (state g.S.Store end) c.commit.ensures.survives late) refl).1)
+
+pub returns-in_err-move_tables-clause-unchanged : goal.returns-in_err-move_tables-clause-unchanged
+returns-in_err-move_tables-clause-unchanged g c clean =
+    let end = c.drop-batch.new.self.0 in
+    let same : end ≡ c.conn-1.given.0 = search rules in
+    let first = c.move_tables.new.tx.conn.now in
+    let goes = rw c.transaction-batch.ensures.begun at c.move_tables.ensures.goes in
+    all_err c.from_residual.result (λ _ _. subst (λ h. OnlyReads (state g.S.Store c.args.conn.now) (state g.S.Store h)) same
+    (reads_begun g.S.Store c.args.conn.now first end c.move_tables.result (clean_if_open (g.S.Store.view first.store) (g.met.S.Store.shut_if_dirty first.store))
+    (clean_if_open (g.S.Store.view end.store) (g.met.S.Store.shut_if_dirty end.store)) goes c.drop-batch.ensures.ended c.drop-batch.ensures.undone c.drop-batch.ensures.survives))
+
+pub returns-clause-unchanged : goal.returns-clause-unchanged
+returns-clause-unchanged g c clean =
+    let first = c.move_tables.new.tx.conn.now in
+    let end = c.commit.new.batch.0 in
+    let same : end ≡ c.conn-2-1.given.0 = search rules in
+    let late : HasCleanDisk (state g.S.Store end) = search rules in
+    let goes = rw c.transaction-batch.ensures.begun at c.in_ok-move_tables.ensures.goes in
+    never_told _ c.commit.result (all_untold (state g.S.Store first) (state g.S.Store end) c.commit.result
+    (c.commit.ensures.caused late (goes.going (earlier (state g.S.Store first) (state g.S.Store end) c.commit.ensures.survives late) refl).1))

@@ -1,0 +1,15 @@
+use Rattle.std.proofs.Common.{codes, subst}
+use Rattle.sqlite.specs.Held.{state}
+use Rattle.pid_rows.specs.LabelRows.{ExplainsNumber}
+use Rattle.pid_tables.proofs.SchemaNumbers.{schema_told, schema_there, second_is_latest}
+use Rattle.pid_tables.proofs.migration.names_latest.Goals as goal
+
+pub returns-in-Ok-clause-shown : goal.returns-in-Ok-clause-shown
+returns-in-Ok-clause-shown g c clean version counts numbers v shows =
+    let db = (state g.S.Store c.args.conn.now).now in
+    second_is_latest version c.in-Ok.number (schema_told db v shows c.in-Ok.number (c.in-Ok.ensures.labelled clean version shows.schema))
+
+pub returns-in-Err-Damaged-clause-shown : goal.returns-in-Err-Damaged-clause-shown
+returns-in-Err-Damaged-clause-shown g c clean version counts numbers v shows =
+    let db = (state g.S.Store c.args.conn.now).now in
+    absurd (schema_there db v shows (subst (ExplainsNumber db.trees (codes "schema")) c.in-Err-Damaged.field-0-is (c.in-Err-Damaged.ensures.refused clean version shows.schema)))

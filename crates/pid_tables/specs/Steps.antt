@@ -1,0 +1,15 @@
+-- What stands in a database that is to be brought to schema 2.
+use Rattle.std.specs.Prelude.{◌≡◌, ◌⊎◌, Bool, true, false, Option, Some}
+use Rattle.sqlite.specs.Effect.{Database}
+use Rattle.pid_rows.specs.declared.version.Version.{Version}
+use Rattle.pid_rows.specs.declared.version.Version.TheVariants.{One, Two}
+use Rattle.pid_table_check.specs.Checking.{Finds}
+
+-- the schema that the tables are brought to
+abbrev pub is_latest : Version → Bool
+is_latest One = false
+is_latest Two = true
+
+-- what the check finds; labels that name schema 2 are believed
+abbrev pub IsStanding : Database → Option Version → Type 0
+IsStanding db found = (found ≡ Some Two) ⊎ Finds db found

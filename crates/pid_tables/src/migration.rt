@@ -1,0 +1,168 @@
+//! Brings the tables of a database to schema 2.
+ghost use Rattle.std.specs.Prelude.{◌≡◌, ◌⊎◌, None, Some, false, IfErr, IfOk, IsTrue, MatchResult, OnErr, OnOk};
+ghost use Rattle.pid_moderation.specs.History.{History, new_history};
+ghost use Rattle.pid_moderation.specs.Sound.{IsSound};
+ghost use Rattle.pid_moderation.specs.Views.{Views, views_of};
+ghost use Rattle.pid_rows.specs.Clauses.{AtRest, HasCleanDisk, OnlyReads, RestsIn, is_open, seen};
+ghost use Rattle.pid_rows.specs.Faults.{IsUntold};
+ghost use Rattle.pid_rows.specs.Shows.{Counts, Numbers, ShowsKeeping};
+ghost use Rattle.pid_rows.specs.declared.version.Version.TheVariants.{One, Two};
+ghost use Rattle.pid_rows.specs.declared.version.Version.{Version as Schema};
+ghost use Rattle.pid_table_check.specs.Checking.{Explains, Finds};
+ghost use Rattle.pid_table_check.specs.Shapes.{HasNoTable, HasSomeTable};
+ghost use Rattle.pid_tables.specs.Clauses.{IsBlank, IsMet, LeavesBareOrNew};
+ghost use Rattle.pid_tables.specs.Creation.{IsOfMaking};
+ghost use Rattle.pid_tables.specs.Steps.{IsStanding, is_latest};
+
+use crate::batch::commit;
+use crate::creation::create;
+use pid_rows::meta::schema_number;
+use pid_rows::moving::move_tables;
+use pid_rows::{TableFault, Version};
+use pid_table_check::{check, has_some_table, schemas_have_tables, sound_histories_are_registries};
+use sqlite::{Alter, Connection};
+use std::alloc::Global;
+
+/// What stood in a database that was brought to schema 2.
+#[derive(Clone, Copy, Debug, PartialEq, Eq)]
+pub enum Step {
+    /// No table: those of a new registry were made.
+    Created,
+    /// The tables of schema 1: they were moved.
+    Moved,
+    /// The tables of schema 2: they were left as they are.
+    Already,
+}
+
+// Whether the labels name schema 2. Labels that cannot be read name none.
+fn names_latest<S: Alter>(conn: &mut Connection<S>) -> Result<bool, TableFault>
+    requires { conn.old.in_transaction ≡ false }
+    ensures rests { OnlyReads S.Store conn.old conn.new }
+    ensures shown { HasCleanDisk S.Store conn.new → (version : Schema) (counts : Counts) (numbers : Numbers) (v : Views)
+        → ShowsKeeping version counts numbers (seen S.Store conn.old) v → IfOk result (λ is. is ≡ is_latest version) }
+    ensures untold { IfErr result IsUntold }
+{
+    match schema_number(conn) {
+        Ok(number) => Ok(number == 2),
+        Err(TableFault::Damaged) => Ok(false),
+        Err(fault) => Err(fault),
+    }
+}
+
+// Whether there are tables, and their labels name schema 2.
+fn is_current<S: Alter>(conn: &mut Connection<S>) -> Result<bool, TableFault>
+    requires { conn.old.in_transaction ≡ false }
+    ensures rests { OnlyReads S.Store conn.old conn.new }
+    ensures bare { HasCleanDisk S.Store conn.new → HasNoTable (seen S.Store conn.old).schema → IfOk result (λ is. is ≡ false) }
+    ensures shown { HasCleanDisk S.Store conn.new → (version : Schema) (counts : Counts) (numbers : Numbers) (v : Views)
+        → (IsTrue (is_open S.Store conn.old) → ShowsKeeping version counts numbers (seen S.Store conn.old) v) → IfOk result (λ is. is ≡ is_latest version) }
+    ensures was_open { HasCleanDisk S.Store conn.new → OnOk result (IsTrue (is_open S.Store conn.old)) }
+    ensures untold { IfErr result IsUntold }
+{
+    schemas_have_tables();
+    if has_some_table(conn)? {
+        names_latest(conn)
+    } else {
+        Ok(false)
+    }
+}
+
+// The schema of the tables; none where there is no table. Those of schema 1 are judged, those of schema 2 are not.
+fn standing<S: Alter>(
+    conn: &mut Connection<S>,
+    alloc: Global,
+) -> Result<Option<Version>, TableFault>
+    requires { conn.old.in_transaction ≡ false }
+    ensures rests { OnlyReads S.Store conn.old conn.new }
+    ensures same { IsTrue (is_open S.Store conn.new) → (seen S.Store conn.new) ≡ (seen S.Store conn.old) }
+    ensures shut { HasCleanDisk S.Store conn.new → is_open S.Store conn.old ≡ false → MatchResult result (λ _. ⊥) IsUntold }
+    ensures latest { HasCleanDisk S.Store conn.new → (v : Views) → AtRest S.Store conn.old v → MatchResult result (λ found. found ≡ Some Two) IsUntold }
+    ensures earlier { HasCleanDisk S.Store conn.new → (h : History) → IsSound h → RestsIn S.Store One conn.old (views_of h) → MatchResult result (λ found. found ≡ Some One) IsUntold }
+    ensures bare { HasCleanDisk S.Store conn.new → HasNoTable (seen S.Store conn.old).schema → MatchResult result (λ found. found ≡ None) IsUntold }
+    ensures told { HasCleanDisk S.Store conn.new → MatchResult result (IsStanding (seen S.Store conn.old)) (Explains (seen S.Store conn.old)) }
+{
+    sound_histories_are_registries();
+    // Outside a transaction nothing is uncommitted, so that all reads see the same.
+    let _settled = conn.is_autocommit();
+    if is_current(conn)? {
+        return Ok(Some(Version::Two));
+    }
+    check(conn, alloc)
+}
+
+// Moves tables of schema 1 in one transaction.
+fn move_up<S: Alter>(conn: &mut Connection<S>) -> Result<(), TableFault>
+    requires { conn.old.in_transaction ≡ false }
+    ensures settled { conn.new.in_transaction ≡ false }
+    ensures clean { HasCleanDisk S.Store conn.new → HasCleanDisk S.Store conn.old }
+    ensures moved { (v : Views) → RestsIn S.Store One conn.old v → OnOk result (AtRest S.Store conn.new v) }
+    ensures kept { (v : Views) → RestsIn S.Store One conn.old v → OnErr result (RestsIn S.Store One conn.new v) }
+    ensures untold { HasCleanDisk S.Store conn.new → (v : Views) → RestsIn S.Store One conn.old v → IfErr result IsUntold }
+    ensures unchanged { HasCleanDisk S.Store conn.new → IfErr result (λ fault. ¬ (IsUntold fault) → OnlyReads S.Store conn.old conn.new) }
+{
+    let mut batch = conn.transaction();
+    move_tables(&mut batch)?;
+    commit(batch)
+}
+
+// Brings what stands to schema 2.
+fn bring<S: Alter>(conn: &mut Connection<S>, found: Option<Version>) -> Result<Step, TableFault>
+    requires { conn.old.in_transaction ≡ false }
+    ensures settled { conn.new.in_transaction ≡ false }
+    ensures clean { HasCleanDisk S.Store conn.new → HasCleanDisk S.Store conn.old }
+    ensures created { HasCleanDisk S.Store conn.new → found ≡ None → IsBlank S.Store conn.old
+        → MatchResult result (λ step. (step ≡ Step.Created) × AtRest S.Store conn.new (views_of new_history)) (λ fault. IsUntold fault × LeavesBareOrNew S.Store conn.new) }
+    ensures met { HasCleanDisk S.Store conn.new → found ≡ None → IsMet S.Store conn.old
+        → MatchResult result (λ _. ⊥) (λ fault. IsOfMaking fault × OnlyReads S.Store conn.old conn.new) }
+    ensures moved { HasCleanDisk S.Store conn.new → found ≡ Some One → (v : Views) → RestsIn S.Store One conn.old v
+        → MatchResult result (λ step. (step ≡ Step.Moved) × AtRest S.Store conn.new v) (λ fault. IsUntold fault × RestsIn S.Store One conn.new v) }
+    ensures already { found ≡ Some Two → MatchResult result (λ step. (step ≡ Step.Already) × (conn.new ≡ conn.old)) (λ _. ⊥) }
+    ensures step { found ≡ Some One → IfOk result (λ step. step ≡ Step.Moved) }
+    ensures unchanged { HasCleanDisk S.Store conn.new → IfErr result (λ fault. ¬ (IsUntold fault) → OnlyReads S.Store conn.old conn.new) }
+{
+    match found {
+        None => {
+            create(conn)?;
+            Ok(Step::Created)
+        }
+        Some(Version::One) => {
+            move_up(conn)?;
+            Ok(Step::Moved)
+        }
+        Some(Version::Two) => Ok(Step::Already),
+    }
+}
+
+/// Brings the database to schema 2: makes the tables of a new registry where there is none, moves those of schema 1, and leaves
+/// those of schema 2 as they are.
+///
+/// Tables of schema 1 are judged before, as `check` does it, and moved in one transaction. Whatever a crash leaves of that shows
+/// the same history, in schema 1 or in schema 2. Tables whose labels name schema 2 are not judged. A fault other than `Memory`
+/// and `Store` changes nothing.
+pub fn migrate<S: Alter>(conn: &mut Connection<S>, alloc: Global) -> Result<Step, TableFault>
+    requires { conn.old.in_transaction ≡ false }
+    ensures settled { conn.new.in_transaction ≡ false }
+    ensures clean { HasCleanDisk S.Store conn.new → HasCleanDisk S.Store conn.old }
+    // Where there is no table, a new registry is made; a crash leaves no table, or the new registry.
+    ensures created { HasCleanDisk S.Store conn.new → IsBlank S.Store conn.old
+        → MatchResult result (λ step. (step ≡ Step.Created) × AtRest S.Store conn.new (views_of new_history)) (λ fault. IsUntold fault × LeavesBareOrNew S.Store conn.new) }
+    // Tables of schema 1 show the same history afterwards, in schema 2, or after a fault in schema 1; and so does whatever a crash leaves.
+    ensures moved { HasCleanDisk S.Store conn.new → (h : History) → IsSound h → RestsIn S.Store One conn.old (views_of h)
+        → MatchResult result (λ step. (step ≡ Step.Moved) × AtRest S.Store conn.new (views_of h)) (λ fault. IsUntold fault × RestsIn S.Store One conn.new (views_of h)) }
+    // Tables of schema 2 are only read.
+    ensures already { HasCleanDisk S.Store conn.new → (v : Views) → AtRest S.Store conn.old v
+        → MatchResult result (λ step. (step ≡ Step.Already) × OnlyReads S.Store conn.old conn.new) (λ fault. IsUntold fault × OnlyReads S.Store conn.old conn.new) }
+    // Whatever the tables are: those of schema 1 are moved only where they keep all conditions, and a judgement changes nothing.
+    ensures found { HasCleanDisk S.Store conn.new → HasSomeTable (seen S.Store conn.old).schema
+        → MatchResult result (λ step. ((step ≡ Step.Already) × OnlyReads S.Store conn.old conn.new) ⊎ ((step ≡ Step.Moved) × Finds (seen S.Store conn.old) (Some One)))
+        (λ fault. (Explains (seen S.Store conn.old) fault × OnlyReads S.Store conn.old conn.new) ⊎ Finds (seen S.Store conn.old) (Some One)) }
+    ensures unchanged { HasCleanDisk S.Store conn.new → IfErr result (λ fault. ¬ (IsUntold fault) → OnlyReads S.Store conn.old conn.new) }
+    // Something else under the name of a table is refused, and left as it is.
+    ensures met { HasCleanDisk S.Store conn.new → HasNoTable (seen S.Store conn.old).schema → IsMet S.Store conn.old
+        → MatchResult result (λ _. ⊥) (λ fault. IsOfMaking fault × OnlyReads S.Store conn.old conn.new) }
+    ensures shut { HasCleanDisk S.Store conn.new → is_open S.Store conn.old ≡ false → MatchResult result (λ _. ⊥) IsUntold }
+{
+    schemas_have_tables();
+    let found = standing(conn, alloc)?;
+    bring(conn, found)
+}
