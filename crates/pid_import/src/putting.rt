@@ -128,7 +128,9 @@ impl<K: Putter> Sink for PutSink<'_, K, Global> {
     ghost faults = { LeavesEntry K.puts K.gives_up };
 
     fn entry(&mut self, entry: &Entry<'_>) -> Result<(), TableFault> {
-        let put = self.batch.put_name(self.alloc, &entry.path, entry.name, self.revision)?;
+        let put = self
+            .batch
+            .put_name(self.alloc, &entry.path, entry.name, self.revision)?;
         self.tally = tally_with(put, self.tally)?;
         Ok(())
     }

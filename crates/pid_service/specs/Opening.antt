@@ -56,3 +56,7 @@ module _ {S : Type 0} (store : Ghosts S) where
   Rejects left conn result Why = MatchResult result
       (λ r. ¬ (clauses.HasCleanDisk store (left r)))
       (λ e. clauses.HasCleanDisk store e.1 → Why e.0 × clauses.OnlyReads store conn e.1)
+
+  -- nothing is opened, for want of memory or since the store failed
+  abbrev pub Fails : {X : Type 0} → (X → Held S) → Result X (TableFault × Held S) → Type 0
+  Fails left result = MatchResult result (λ r. ¬ (clauses.HasCleanDisk store (left r))) (λ e. clauses.HasCleanDisk store e.1 → IsUntold e.0)

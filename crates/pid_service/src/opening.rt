@@ -10,7 +10,7 @@ ghost use Rattle.pid_table_check.specs.Shapes.{HasNoTable, HasSomeTable};
 ghost use Rattle.pid_tables.specs.Clauses.{IsBlank, IsMet, ShowsOrBlank};
 ghost use Rattle.pid_tables.specs.Creation.{IsOfMaking};
 ghost use Rattle.pid_service.specs.Histories.{IsReached};
-ghost use Rattle.pid_service.specs.Opening.{IsFound, LeavesHistory, Moves, Opens, Refuses, Rejects};
+ghost use Rattle.pid_service.specs.Opening.{Fails, IsFound, LeavesHistory, Moves, Opens, Refuses, Rejects};
 ghost use Rattle.pid_service.specs.Registries as registries;
 
 use crate::laws::reached_histories_are_kept;
@@ -62,7 +62,7 @@ fn make_ready<S: Alter + Drop>(tables: &mut Tables<S>, alloc: Global) -> Result<
         → MatchResult result (λ _. IsFound (seen S.Store tables.old.conn)) (λ e. Refuses S.Store tables.old.conn e tables.new.conn) }
     ensures met { HasCleanDisk S.Store tables.new.conn → HasNoTable (seen S.Store tables.old.conn).schema → IsMet S.Store tables.old.conn
         → MatchResult result (λ _. ⊥) (λ e. IsOfMaking e × OnlyReads S.Store tables.old.conn tables.new.conn) }
-    ensures shut { HasCleanDisk S.Store tables.new.conn → is_open S.Store tables.old.conn ≡ false → MatchResult result (λ _. ⊥) (λ e. IsUntold e × OnlyReads S.Store tables.old.conn tables.new.conn) }
+    ensures shut { HasCleanDisk S.Store tables.new.conn → is_open S.Store tables.old.conn ≡ false → MatchResult result (λ _. ⊥) IsUntold }
 {
     reached_histories_are_kept();
     // Outside a transaction nothing is uncommitted, so that both see the same.
@@ -96,7 +96,7 @@ pub fn open<S: Alter + Drop>(
         (λ e. HasCleanDisk S.Store e.1 → Refuses S.Store conn e.0 e.1) }
     // Where there is none, something else under one of their names is refused.
     ensures met { HasNoTable (seen S.Store conn).schema → IsMet S.Store conn → Rejects S.Store registries.connection conn result IsOfMaking }
-    ensures shut { is_open S.Store conn ≡ false → Rejects S.Store registries.connection conn result IsUntold }
+    ensures shut { is_open S.Store conn ≡ false → Fails S.Store registries.connection result }
 {
     let Ok(names) = NameCache::new(alloc) else {
         return Err((TableFault::Memory, conn));
@@ -131,7 +131,7 @@ pub fn migrate<S: Alter + Drop>(
     // Where a condition fails of schema 1, the fault tells which one, and everything is as it was.
     ensures told { HasSomeTable (seen S.Store conn).schema → IfErr result (λ e. HasCleanDisk S.Store e.1 → Refuses S.Store conn e.0 e.1) }
     ensures met { HasNoTable (seen S.Store conn).schema → IsMet S.Store conn → Rejects S.Store (λ r. r.0) conn result IsOfMaking }
-    ensures shut { is_open S.Store conn ≡ false → Rejects S.Store (λ r. r.0) conn result IsUntold }
+    ensures shut { is_open S.Store conn ≡ false → Fails S.Store (λ r. r.0) result }
 {
     reached_histories_are_kept();
     match pid_tables::migrate(&mut conn, alloc) {

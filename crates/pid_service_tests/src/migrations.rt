@@ -80,7 +80,12 @@ fn older_tables_are_moved_once(rt: HostRuntime) -> Result<(), Fail> {
     let (step, conn) = moved(alloc, registry.close())?;
     assert!(rt; step == Ok(Step::Already));
     let mut again = opened(alloc, conn)?;
-    expect_told(&rt, alloc, &mut again, "changes 2 | revision 3;3 PC/8086 X;\n")
+    expect_told(
+        &rt,
+        alloc,
+        &mut again,
+        "changes 2 | revision 3;3 PC/8086 X;\n",
+    )
 }
 
 #[test]

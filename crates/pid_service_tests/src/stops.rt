@@ -395,10 +395,7 @@ fn migrated<S: Alter + Drop>(
 }
 
 // Whether the tables were moved, and the files behind it.
-fn migrated_files(
-    alloc: Global,
-    files: Files<Stopping>,
-) -> Result<(bool, Files<Stopping>), Fail> {
+fn migrated_files(alloc: Global, files: Files<Stopping>) -> Result<(bool, Files<Stopping>), Fail> {
     match connected(alloc, files) {
         Ok(conn) => {
             let (is_moved, conn) = migrated(alloc, conn)?;

@@ -160,7 +160,7 @@ pub fn migrate<S: Alter>(conn: &mut Connection<S>, alloc: Global) -> Result<Step
     // Something else under the name of a table is refused, and left as it is.
     ensures met { HasCleanDisk S.Store conn.new → HasNoTable (seen S.Store conn.old).schema → IsMet S.Store conn.old
         → MatchResult result (λ _. ⊥) (λ fault. IsOfMaking fault × OnlyReads S.Store conn.old conn.new) }
-    ensures shut { HasCleanDisk S.Store conn.new → is_open S.Store conn.old ≡ false → MatchResult result (λ _. ⊥) IsUntold }
+    ensures shut { HasCleanDisk S.Store conn.new → is_open S.Store conn.old ≡ false → MatchResult result (λ _. ⊥) (λ fault. IsUntold fault × OnlyReads S.Store conn.old conn.new) }
 {
     schemas_have_tables();
     let found = standing(conn, alloc)?;

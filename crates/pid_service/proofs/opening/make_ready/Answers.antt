@@ -8,17 +8,15 @@ use Rattle.pid_service.proofs.opening.make_ready.Goals as goal
 pub returns-in-Err-clause-ready : goal.returns-in-Err-clause-ready
 returns-in-Err-clause-ready g c clean h reached shown =
     let sound = c.reached_histories_are_kept.ensures.sound h reached in
-    let within = c.reached_histories_are_kept.ensures.within h reached in
     step_leaves (state g.S.Store c.args.tables.now.conn) (state g.S.Store c.migrate.new.conn) h c.in-Err.fault shown
-    (record { created = λ blank. c.in-Err.ensures.created clean blank; moved = λ older. c.in-Err.ensures.moved clean h sound within older; already = λ rest. let so = c.in-Err.ensures.already clean (views_of h) rest in (so.0, so.1.kept (views_of h) rest) })
+    (record { created = λ blank. c.in-Err.ensures.created clean blank; moved = λ older. c.in-Err.ensures.moved clean h sound older; already = λ rest. let so = c.in-Err.ensures.already clean (views_of h) rest in (so.0, so.1.kept (views_of h) rest) })
 
 pub returns-in-Ok-clause-ready : goal.returns-in-Ok-clause-ready
 returns-in-Ok-clause-ready g c clean h reached shown =
     let sound = c.reached_histories_are_kept.ensures.sound h reached in
-    let within = c.reached_histories_are_kept.ensures.within h reached in
     let mid = c.judge_tables.ensures.rests.clean clean in
     let rest = step_rests (state g.S.Store c.args.tables.now.conn) (state g.S.Store c.migrate.new.conn) h c.in-Ok.field-0 shown
-    (record { created = λ blank. c.in-Ok.ensures.created mid blank; moved = λ older. c.in-Ok.ensures.moved mid h sound within older; already = λ rest. let so = c.in-Ok.ensures.already mid (views_of h) rest in (so.0, so.1.kept (views_of h) rest) }) in
+    (record { created = λ blank. c.in-Ok.ensures.created mid blank; moved = λ older. c.in-Ok.ensures.moved mid h sound older; already = λ rest. let so = c.in-Ok.ensures.already mid (views_of h) rest in (so.0, so.1.kept (views_of h) rest) }) in
     judged_ready (state g.S.Store c.migrate.new.conn) (state g.S.Store c.judge_tables.new.tables.conn) h c.judge_tables.result c.judge_tables.ensures.rests rest (c.judge_tables.ensures.good clean h reached rest)
 
 pub returns-in-Ok-clause-told : goal.returns-in-Ok-clause-told

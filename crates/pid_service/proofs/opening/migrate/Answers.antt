@@ -6,7 +6,7 @@ use Rattle.pid_service.proofs.Opened.{older_leaves, made_leaves, rest_leaves}
 use Rattle.pid_service.proofs.opening.migrate.Goals as goal
 
 pub returns-in-Ok-clause-moved : goal.returns-in-Ok-clause-moved
-returns-in-Ok-clause-moved g c h reached older clean = c.in-Ok.ensures.moved clean h (c.reached_histories_are_kept.ensures.sound h reached) (c.reached_histories_are_kept.ensures.within h reached) older
+returns-in-Ok-clause-moved g c h reached older clean = c.in-Ok.ensures.moved clean h (c.reached_histories_are_kept.ensures.sound h reached) older
 
 pub returns-in-Ok-clause-already : goal.returns-in-Ok-clause-already
 returns-in-Ok-clause-already g c h reached rest clean =
@@ -20,7 +20,7 @@ returns-in-Err-clause-created g c blank clean =
 
 pub returns-in-Err-clause-moved : goal.returns-in-Err-clause-moved
 returns-in-Err-clause-moved g c h reached older clean =
-    let so = c.in-Err.ensures.moved clean h (c.reached_histories_are_kept.ensures.sound h reached) (c.reached_histories_are_kept.ensures.within h reached) older in
+    let so = c.in-Err.ensures.moved clean h (c.reached_histories_are_kept.ensures.sound h reached) older in
     (so.0, older_leaves (state g.S.Store c.migrate.new.conn) h so.1)
 
 pub returns-in-Err-clause-already : goal.returns-in-Err-clause-already

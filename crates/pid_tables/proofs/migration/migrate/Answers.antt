@@ -2,7 +2,7 @@ use Rattle.sqlite.specs.Held.{state}
 use Rattle.pid_moderation.specs.Views.{views_of}
 use Rattle.pid_rows.specs.declared.version.Version.TheVariants.{One}
 use Rattle.pid_rows.specs.Faults.{IsUntold}
-use Rattle.pid_rows.specs.Leaves.{RestsIn}
+use Rattle.pid_rows.specs.Leaves.{OnlyReads, RestsIn}
 use Rattle.pid_rows.proofs.CauseLemmas.{passed_on}
 use Rattle.pid_rows.proofs.OnlyReading.{reads_then, rests_in_still}
 use Rattle.pid_tables.specs.Creation.{LeavesBareOrNew}
@@ -76,3 +76,9 @@ returns-clause-met g c clean none met =
 
 pub returns-clause-shut : goal.returns-clause-shut
 returns-clause-shut g c clean closed = absurd (c.in_ok-found.ensures.shut (c.bring.ensures.clean clean) closed)
+
+pub returns-in_err-found-clause-shut : goal.returns-in_err-found-clause-shut
+returns-in_err-found-clause-shut g c clean closed =
+    let old = state g.S.Store c.args.conn.now in
+    let mid = state g.S.Store c.standing.new.conn in
+    passed_on c.from_residual.result _ _ (λ fault. IsUntold fault × OnlyReads old mid) c.from_residual.ensures.1 (c.in_err-found.ensures.shut clean closed, c.standing.ensures.rests)

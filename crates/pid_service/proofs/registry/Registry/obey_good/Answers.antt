@@ -12,3 +12,8 @@ pub returns-in_default-clause-forgets : goal.returns-in_default-clause-forgets
 returns-in_default-clause-forgets g c clean h shows =
     let other : is_import c.args.command.now.act ≡ false = search rules in
     c.obey_act.ensures.forgets clean h shows other
+
+pub returns-in_default-clause-obeyed : goal.returns-in_default-clause-obeyed
+returns-in_default-clause-obeyed g c clean h shows sound =
+    let other : is_import c.args.command.now.act ≡ false = search rules in
+    c.obey_act.ensures.obeyed clean h shows other
