@@ -55,9 +55,9 @@ const DAMAGES: [(&str, TableFault, &str); 9] = [
         "UPDATE account SET rank = 3 WHERE name = 'root'",
     ),
     (
-        "UPDATE item SET path = 'PC/8086/1237'",
+        "UPDATE item SET name = ''",
         TableFault::Damaged,
-        "UPDATE item SET path = 'PC/8086'",
+        "UPDATE item SET name = 'Intel'",
     ),
     (
         "UPDATE submission SET decider = 'bob'",
