@@ -1,6 +1,6 @@
 -- What forms and the judgement refuse is no stop.
 use Rattle.std.proofs.Common.{◌≡◌, Bool, true, false, List, [], ◌∷◌, Option, Some, None, Err, refl, sym, ap, ◌∙◌, cond}
-use Rattle.std.specs.Prelude.{ℕ, find}
+use Rattle.std.specs.Prelude.{ℕ, ◌++◌, find}
 use Rattle.std.specs.Option.{option_map}
 use Rattle.pid_moderation.specs.declared.refusal.Refusal.{Refusal}
 use Rattle.pid_moderation.specs.declared.refusal.Refusal.TheVariants.{BadText}
@@ -11,7 +11,7 @@ use Rattle.pid_moderation.specs.declared.facts.Facts.{Facts}
 use Rattle.pid_moderation.specs.declared.facts.Named.{Named}
 use Rattle.pid_moderation.specs.declared.facts.Verdict.{Verdict}
 use Rattle.pid_moderation.specs.declared.facts.Verdict.TheVariants as verdicts
-use Rattle.pid_moderation.specs.CheckTables.{Checks, checks, first_failing, later_checks, if_named, comment_checks, withdraw_checks, decision_checks, approval_checks, file_checks, is_ill_formed, reply_to}
+use Rattle.pid_moderation.specs.CheckTables.{Checks, checks, command_checks, revision_checks, first_failing, later_checks, if_named, comment_checks, withdraw_checks, decision_checks, approval_checks, file_checks, is_ill_formed, reply_to}
 use Rattle.pid_moderation.specs.FactsOfViews.{facts_of}
 use Rattle.pid_moderation.specs.Fields.{Fields}
 use Rattle.pid_moderation.specs.Forms.{form_checks}
@@ -60,6 +60,10 @@ later_stops account f (Approves n) = named_stops f.named (approval_checks accoun
 later_stops account f (Rejects n reason) = named_stops f.named (decision_checks account f.rank) (λ s. (refl, (refl, (refl, tt))))
 later_stops account f (Imports reading) = (refl, file_stops f.file)
 
+both_stop : (first second : Checks) → AreNoStops first → AreNoStops second → AreNoStops (first ++ second)
+both_stop [] second none more = more
+both_stop (c ∷ cs) second none more = (none.0, both_stop cs second none.1 more)
+
 outcome_stops : (ill : Bool) (f : Facts) (c : Asked) (kept : Option Reply) (failing : Option Refusal) → ((g : Refusal) → failing ≡ Some g → is_stop g ≡ false) → (e : Refusal) → answer (cond ill (Refused BadText) (unless_kept kept (unless failing (reply_to f c.deed)))) ≡ Err e → is_stop e ≡ false
 outcome_stops true f c kept failing none e is = let same : BadText ≡ e = cc in sym (ap is_stop same)
 outcome_stops false f c (Some reply) failing none e is = absurd cc
@@ -68,4 +72,5 @@ outcome_stops false f c None (Some g) none e is = let same : g ≡ e = cc in sym
 
 -- a judgement refuses with no stop
 pub judged_no_stop : (v : Views) (c : Asked) (e : Refusal) → answer (judge v c) ≡ Err e → is_stop e ≡ false
-judged_no_stop v c e is = outcome_stops (is_ill_formed (facts_of v c) c.deed) (facts_of v c) c (facts_of v c).kept (first_failing (checks (facts_of v c) c)) (none_stops (checks (facts_of v c) c) (refl, later_stops c.account (facts_of v c) c.deed)) e is
+judged_no_stop v c e is = outcome_stops (is_ill_formed (facts_of v c) c.deed) (facts_of v c) c (facts_of v c).kept (first_failing (checks (facts_of v c) c)) (none_stops (checks (facts_of v c) c)
+    (both_stop (command_checks (facts_of v c) c) (revision_checks (facts_of v c)) (refl, later_stops c.account (facts_of v c) c.deed) (refl, tt))) e is
