@@ -1,5 +1,5 @@
 -- A front of what was to be written.
-use Rattle.std.proofs.Common.{◌≡◌, ℕ, ◌≤◌, List, Option, length, take, sym, subst, arith}
+use Rattle.std.proofs.Common.{ℕ, List, Option, length, sym, subst, arith}
 use Rattle.std.specs.Io.KnownBytes.{Appends}
 use Rattle.std.proofs.lemmas.List.{take_all}
 use Rattle.pid_ident.specs.Sending.{SendsFront}

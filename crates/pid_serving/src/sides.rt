@@ -1,4 +1,8 @@
 //! The two sides of a connection: a reader that first sends what the writer holds back.
+ghost use Rattle.std.specs.Io.{ReadsAtMost};
+ghost use Rattle.std.specs.Io.Buffered.{reader_remaining};
+ghost use Rattle.std.specs.Io.KnownBytes.{ReadConsumes};
+
 use std::cell::RefCell;
 use std::io;
 use std::io::{BufReader, BufWriter, ErrorKind, Read, Write};
@@ -20,7 +24,12 @@ pub(crate) struct Requests<'w, R: Drop, W: Write + Drop> {
 }
 
 impl<R: Read + Drop, W: Write + Drop> Read for Requests<'_, R, W> {
-    fn read(&mut self, buffer: &mut [u8]) -> io::Result<usize> {
+    ghost remaining = { λ r. reader_remaining R.remaining r.reader };
+
+    fn read(&mut self, buffer: &mut [u8]) -> io::Result<usize>
+        ensures bound { ReadsAtMost result buffer.new }
+        ensures bytes { ReadConsumes (reader_remaining R.remaining self.old.reader) (reader_remaining R.remaining self.new.reader) result buffer.new }
+    {
         if self.reader.buffer().is_empty() {
             send_held(self.writer)?;
         }

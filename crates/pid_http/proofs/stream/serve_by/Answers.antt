@@ -1,4 +1,4 @@
-use Rattle.std.proofs.Common.{rules}
+use Rattle.std.proofs.Common.{rules, ◌≡◌, subst}
 use Rattle.std.specs.Prelude.{IfSome}
 use Rattle.pid_http_stream.specs.Leading.{Leads}
 use Rattle.pid_http_stream.specs.Serving.{IsServed}
@@ -16,7 +16,10 @@ returns-clause-served g c =
     (record { handler = k; handler_after = now; taken = g.W.Output.taken c.args.writer.now; taken_after = g.W.Output.taken c.serve_stream.new.output })
     stream (g.I.Input.to_come c.serve_stream.new.input) c.serve_stream.result.end c.serve_stream.result.answered)) =
     record { good = l.good; leads = λ good k known. l.leads good k known } in
-    search rules
+    let same : c.serve_stream.new.handler.registry.now ≡ c.registry-1.given.0 = search rules in
+    subst (λ registry. Leads (HasCleanDisk g.S.Store) (IsKnown g.S.Store) c.args.registry.now registry (λ k now. IfSome (g.I.Input.to_come c.args.reader.now) (λ stream. IsServed serving
+    (record { handler = k; handler_after = now; taken = g.W.Output.taken c.args.writer.now; taken_after = g.W.Output.taken c.serve_stream.new.output })
+    stream (g.I.Input.to_come c.serve_stream.new.input) c.serve_stream.result.end c.serve_stream.result.answered))) same told
 
 pub returns-clause-lives : goal.returns-clause-lives
 returns-clause-lives g c =
