@@ -30,3 +30,6 @@ returns-in-Err-clause-already g c h reached rest clean =
 
 pub returns-in-Err-clause-told : goal.returns-in-Err-clause-told
 returns-in-Err-clause-told g c some clean = c.in-Err.ensures.found clean some
+
+pub returns-in-Ok-clause-told : goal.returns-in-Ok-clause-told
+returns-in-Ok-clause-told g c some clean = c.in-Ok.ensures.found clean some
