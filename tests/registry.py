@@ -47,6 +47,11 @@ def texts_of_schema():
     return sorted(re.sub(r"\s+", " ", text).strip() for text in block.split(";") if text.strip())
 
 
+def moved(old, new):
+    """An item with another path, and its number with it."""
+    return "; ".join(f"UPDATE {table} SET path = '{new}' WHERE path = '{old}'" for table in ("item", "item_since"))
+
+
 # What another program did to a good file, and what the tool says of it: one broken condition each, or none.
 CHANGED = {
     "nothing is changed": ("", None),
@@ -56,7 +61,7 @@ CHANGED = {
     "no schema": ("DELETE FROM meta WHERE label = 'schema'", "damaged"),
     "schema 0": ("UPDATE meta SET value = 0 WHERE label = 'schema'", "damaged"),
     "a later schema": ("UPDATE meta SET value = 3 WHERE label = 'schema'", "newer"),
-    "a later schema before all else": ("UPDATE meta SET value = 3 WHERE label = 'schema'; DELETE FROM item", "newer"),
+    "a later schema before all else": ("UPDATE meta SET value = 3 WHERE label = 'schema'; DELETE FROM item_since; DELETE FROM item", "newer"),
     "a later schema before a missing table": ("UPDATE meta SET value = 3 WHERE label = 'schema'; DROP TABLE receipt", "newer"),
     "schema 1": ("UPDATE meta SET value = 1 WHERE label = 'schema'", "damaged"),
     "no revision": ("DELETE FROM meta WHERE label = 'revision'", "damaged"),
@@ -70,16 +75,17 @@ CHANGED = {
     "a number below 0": ("UPDATE item_since SET since = -1 WHERE path = 'PC/8086'", "damaged"),
     "no numbers": ("DROP TABLE item_since", "damaged"),
     "a missing table": ("DROP TABLE receipt", "damaged"),
-    "a missing column": ("DROP TABLE item; CREATE TABLE item (path TEXT NOT NULL PRIMARY KEY) STRICT", "damaged"),
+    "a missing column": ("DELETE FROM item_since; DROP TABLE item; CREATE TABLE item (path TEXT NOT NULL PRIMARY KEY) STRICT", "damaged"),
     "missing labels": ("DROP TABLE meta", "damaged"),
     "one more account": ("INSERT INTO account VALUES ('carol', 0)", None),
     "no administrator": ("UPDATE account SET rank = 2 WHERE name = 'root'", "damaged"),
     "no account's name": ("INSERT INTO account VALUES ('Carol', 0)", "damaged"),
     "another name": ("UPDATE item SET name = 'AMD' WHERE path = 'PC/8086'", None),
     "no name": ("UPDATE item SET name = ' AMD' WHERE path = 'PC/8086'", "damaged"),
-    "no path": ("UPDATE item SET path = 'PC/80A6' WHERE path = 'PC/0001'", "damaged"),
-    "an item without its parent": ("UPDATE item SET path = 'PC/9999/1237' WHERE path = 'PC/8086/1237'", "damaged"),
-    "a generic subsystem without its vendor": ("UPDATE item SET path = 'PS/9999/1100' WHERE path = 'PS/1af4/1100'", "damaged"),
+    "no path": (moved("PC/0001", "PC/80A6"), "damaged"),
+    "a path without its number": ("UPDATE item SET path = 'PC/0007' WHERE path = 'PC/0001'", "store"),
+    "an item without its parent": (moved("PC/8086/1237", "PC/9999/1237"), "damaged"),
+    "a generic subsystem without its vendor": (moved("PS/1af4/1100", "PS/9999/1100"), "damaged"),
     "a gap in the submissions": ("UPDATE submission SET num = 3 WHERE num = 2", "damaged"),
     "an own decision": ("UPDATE submission SET decider = 'bob' WHERE num = 1", "damaged"),
     "a decider who is none": ("UPDATE submission SET decider = 'carol' WHERE num = 1", "damaged"),
