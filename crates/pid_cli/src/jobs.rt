@@ -1,4 +1,6 @@
 //! The jobs of a registry, over any store. Each hands the connection back, where the registry is live.
+ghost use Rattle.std.specs.Prelude.{◌≡◌, false};
+
 use crate::job_end::JobEnd;
 use crate::replies::{print_step, tell_unopened};
 use crate::serving::{Port, serve_registry};
@@ -57,7 +59,9 @@ fn take_over<S: Alter + Drop, O: Output, F: Output>(
     conn: Connection<S>,
     output: &mut O,
     faults: &mut F,
-) -> (JobEnd, Option<Connection<S>>) {
+) -> (JobEnd, Option<Connection<S>>)
+    requires { conn.in_transaction ≡ false }
+{
     match migrate(alloc, conn) {
         Ok((conn, step)) => (print_step(step, output), Some(conn)),
         Err((fault, _)) => (JobEnd::Told(tell_unopened(fault, faults)), None),

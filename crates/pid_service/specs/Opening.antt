@@ -16,6 +16,7 @@ use Rattle.pid_rows.specs.Faults.{IsUntold}
 use Rattle.pid_rows.specs.Leaves.{IsShown}
 use Rattle.pid_table_check.specs.Checking.{Explains, Finds}
 use Rattle.pid_tables.specs.declared.migration.Step.{Step}
+use Rattle.pid_tables.specs.declared.migration.Step.TheVariants.{Already, Moved}
 use Rattle.pid_tables.specs.Creation.{IsBare}
 use Rattle.pid_service.specs.declared.registry.Registry.{Registry}
 use Rattle.pid_service.specs.Histories.{Shows}
@@ -46,6 +47,10 @@ module _ {S : Type 0} (store : Ghosts S) where
   Moves step result h = MatchResult result
       (λ r. clauses.HasCleanDisk store r.0 → (r.1 ≡ step) × clauses.AtRest store r.0 (views_of h))
       (λ e. clauses.HasCleanDisk store e.1 → IsUntold e.0 × LeavesHistory e.1 h)
+
+  -- Tables of schema 2 are left as they are, and those of schema 1 moved only where they keep all conditions of a registry.
+  abbrev pub Takes : Held S → Step → Held S → Type 0
+  Takes conn step back = ((step ≡ Already) × clauses.OnlyReads store conn back) ⊎ ((step ≡ Moved) × Finds (seen store conn) (Some One))
 
   -- The fault tells which condition of a registry fails, and everything is as it was; or none did, and tables of schema 1 could not be moved.
   abbrev pub Refuses : Held S → TableFault → Held S → Type 0

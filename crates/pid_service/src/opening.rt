@@ -11,7 +11,7 @@ ghost use Rattle.pid_tables.specs.Clauses.{IsBlank, IsMet, ShowsOrBlank};
 ghost use Rattle.pid_tables.specs.Creation.{IsOfMaking};
 ghost use Rattle.pid_tables.specs.Steps.{NamesLatest};
 ghost use Rattle.pid_service.specs.Histories.{IsReached};
-ghost use Rattle.pid_service.specs.Opening.{Fails, IsFound, LeavesHistory, Moves, Opens, Refuses, Rejects};
+ghost use Rattle.pid_service.specs.Opening.{Fails, IsFound, LeavesHistory, Moves, Opens, Refuses, Rejects, Takes};
 ghost use Rattle.pid_service.specs.Registries as registries;
 
 use crate::laws::reached_histories_are_kept;
@@ -129,8 +129,9 @@ pub fn migrate<S: Alter + Drop>(
     ensures created { IsBlank S.Store conn → Moves S.Store Step.Created result new_history }
     ensures moved { (h : History) → IsReached h → RestsIn S.Store One conn (views_of h) → Moves S.Store Step.Moved result h }
     ensures already { (h : History) → IsReached h → AtRest S.Store conn (views_of h) → Moves S.Store Step.Already result h }
-    // Where a condition fails of schema 1, the fault tells which one, and everything is as it was.
-    ensures told { HasSomeTable (seen S.Store conn).schema → IfErr result (λ e. HasCleanDisk S.Store e.1 → Refuses S.Store conn e.0 e.1) }
+    // Whatever the tables are: those of schema 1 are judged before they are moved, and where a condition fails, the fault tells which one,
+    // and everything is as it was.
+    ensures told { HasSomeTable (seen S.Store conn).schema → MatchResult result (λ r. HasCleanDisk S.Store r.0 → Takes S.Store conn r.1 r.0) (λ e. HasCleanDisk S.Store e.1 → Refuses S.Store conn e.0 e.1) }
     // `Already` is answered only where the labels name schema 2.
     ensures named { IfOk result (λ r. HasCleanDisk S.Store r.0 → r.1 ≡ Step.Already → NamesLatest (seen S.Store conn)) }
     // Where there is no table, whatever else there is: it answers no other step than that they were made.
