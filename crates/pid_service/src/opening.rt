@@ -9,6 +9,7 @@ ghost use Rattle.pid_table_check.specs.Checking.{Explains, Finds};
 ghost use Rattle.pid_table_check.specs.Shapes.{HasNoTable, HasSomeTable};
 ghost use Rattle.pid_tables.specs.Clauses.{IsBlank, IsMet, ShowsOrBlank};
 ghost use Rattle.pid_tables.specs.Creation.{IsOfMaking};
+ghost use Rattle.pid_tables.specs.Steps.{NamesLatest};
 ghost use Rattle.pid_service.specs.Histories.{IsReached};
 ghost use Rattle.pid_service.specs.Opening.{Fails, IsFound, LeavesHistory, Moves, Opens, Refuses, Rejects, Takes};
 ghost use Rattle.pid_service.specs.Registries as registries;
@@ -131,6 +132,10 @@ pub fn migrate<S: Alter + Drop>(
     // Whatever the tables are: those of schema 1 are judged before they are moved, and where a condition fails, the fault tells which one,
     // and everything is as it was.
     ensures told { HasSomeTable (seen S.Store conn).schema → MatchResult result (λ r. HasCleanDisk S.Store r.0 → Takes S.Store conn r.1 r.0) (λ e. HasCleanDisk S.Store e.1 → Refuses S.Store conn e.0 e.1) }
+    // `Already` is answered only where the labels name schema 2.
+    ensures named { IfOk result (λ r. HasCleanDisk S.Store r.0 → r.1 ≡ Step.Already → NamesLatest (seen S.Store conn)) }
+    // Where there is no table, whatever else there is: it answers no other step than that they were made.
+    ensures bare { HasNoTable (seen S.Store conn).schema → IfOk result (λ r. HasCleanDisk S.Store r.0 → r.1 ≡ Step.Created) }
     ensures met { HasNoTable (seen S.Store conn).schema → IsMet S.Store conn → Rejects S.Store (λ r. r.0) conn result IsOfMaking }
     ensures shut { is_open S.Store conn ≡ false → Fails S.Store (λ r. r.0) result }
 {

@@ -71,3 +71,8 @@ brought old new (Some One) (Ok x) (inr finds) some moved already = inr (moved re
 brought old new (Some One) (Err e) (inr finds) some moved already = inr finds
 brought old new (Some Two) (Ok x) stands some moved already = inl (already refl)
 brought old new (Some Two) (Err e) stands some moved already = absurd (already refl)
+
+-- it is left alone only where the labels named schema 2
+pub named_brought : {P : Type 0} (found : Option Version) (r : Result Step TableFault) → IfOk r (λ step. step ≡ Already → found ≡ Some Two) → (found ≡ Some Two → P) → IfOk r (λ step. step ≡ Already → P)
+named_brought found (Ok x) already named = λ is. named (already is)
+named_brought found (Err e) already named = already

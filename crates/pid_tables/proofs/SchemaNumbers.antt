@@ -1,5 +1,6 @@
 -- What the label of the schema tells.
-use Rattle.std.proofs.Common.{◌≡◌, inl, inr, ℕ, Some, Ok, Err, Result, IfOk, IfErr, MatchResult, ◌<◌, ◌^◌, arith, codes, refl, sym, ap, subst, ◌∙◌}
+use Rattle.std.proofs.Common.{◌≡◌, inl, inr, ℕ, Some, Ok, Err, Result, IfOk, IfErr, MatchResult, ◌<◌, ◌^◌, arith, true, codes, refl, sym, ap, subst, ◌∙◌}
+use Rattle.std.proofs.lemmas.Bool.{eqb-true}
 use Rattle.std.specs.Prelude.{◌==◌}
 use Rattle.sqlite.specs.Effect.{Database}
 use Rattle.sqlite.specs.Order.{Row, column}
@@ -56,3 +57,7 @@ module _ {version : Version} {c : Counts} {numbers : Numbers} (db : Database) (v
 pub second_is_latest : (version : Version) (n : ℕ) → n ≡ number_of version → (n == 2) ≡ is_latest version
 second_is_latest One n is = ap (λ m. m == 2) is
 second_is_latest Two n is = ap (λ m. m == 2) is
+
+-- a number that is compared with 2
+pub named_second : (db : Database) (n : ℕ) → (n == 2) ≡ true → HasLabel db.trees (codes "schema") n → HasLabel db.trees (codes "schema") 2
+named_second db n is label = subst (HasLabel db.trees (codes "schema")) (eqb-true n 2 is) label

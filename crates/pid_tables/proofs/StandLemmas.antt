@@ -1,9 +1,12 @@
 -- What stands in a database, as reads tell it.
-use Rattle.std.proofs.Common.{◌≡◌, ◌↔◌, ◌≤◌, ℕ, arith, inl, inr, false, None, Some, Option, Ok, Err, Result, MatchResult, IsTrue, refl, sym, subst}
+use Rattle.std.proofs.Common.{◌≡◌, ◌↔◌, ◌≤◌, ℕ, arith, inl, inr, true, false, Bool, List, [], ◌∷◌, None, Some, Option, Ok, Err, Result, IfOk, MatchResult, IsTrue, codes, refl, sym, ap, subst}
 use Rattle.std.proofs.lemmas.Bool.{cases_Bool}
 use Rattle.sqlite.specs.Effect.{Database}
+use Rattle.sqlite.specs.Order.{Row, column}
 use Rattle.sqlite.specs.Schema.{Schema}
 use Rattle.sqlite.specs.State.{State}
+use Rattle.sqlite.specs.Tree.{Trees}
+use Rattle.sqlite_rules.specs.Lists.{Has}
 use Rattle.pid_moderation.specs.CheckTables.{most_revision}
 use Rattle.pid_moderation.specs.Views.{Views}
 use Rattle.pid_rows.specs.declared.fault.TableFault.{TableFault}
@@ -11,12 +14,16 @@ use Rattle.pid_rows.specs.declared.fault.TableFault.TheVariants.{Memory, Store, 
 use Rattle.pid_rows.specs.declared.version.Version.{Version}
 use Rattle.pid_rows.specs.declared.version.Version.TheVariants.{One, Two}
 use Rattle.pid_rows.specs.Faults.{IsUntold}
+use Rattle.pid_rows.specs.LabelRows.{HasLabel}
 use Rattle.pid_rows.specs.Leaves.{OnlyReads, RestsIn}
+use Rattle.pid_rows.specs.Schema.{schema_of}
 use Rattle.pid_rows.specs.Shows.{ShowsIn}
+use Rattle.pid_rows.proofs.TurnLemmas.{has_mapped}
 use Rattle.pid_table_check.specs.Checking.{Explains, Finds, IsRegistry}
-use Rattle.pid_table_check.specs.Shapes.{HasNoTable, HasSomeTable, HasTables, IsMadeFirst}
+use Rattle.pid_table_check.specs.Conditions.{columns, label_row, rows_in}
+use Rattle.pid_table_check.specs.Shapes.{HasNoTable, HasSinceTable, HasSomeTable, HasTables, IsMadeFirst}
 use Rattle.pid_table_check.proofs.Complete.{made_first}
-use Rattle.pid_tables.specs.Steps.{IsStanding}
+use Rattle.pid_tables.specs.Steps.{IsStanding, NamesLatest}
 
 -- where nothing was uncommitted, reads see the same
 pub seen_still : (old new : State) → (IsTrue old.is_open → old.now ≡ old.committed) → OnlyReads old new → IsTrue new.is_open → new.now ≡ old.now
@@ -72,3 +79,41 @@ good_found version s v (Err e) rest good shut stored = elim (cases_Bool s.is_ope
   | inl opened ↦ let shows = rest.shows opened in stored version (subst (IsMadeFirst version) (sym shows.schema) (made_first version)) (good shows)
   | inr closed ↦ shut closed
 ]
+
+-- ---- what the labels name
+
+-- what they name behind reads they named before
+pub named_before : (mid old : Database) (r : Result Bool TableFault) → mid ≡ old → IfOk r (λ is. is ≡ true → NamesLatest mid) → IfOk r (λ is. is ≡ true → NamesLatest old)
+named_before mid old (Ok is) same named = λ latest. subst NamesLatest same (named latest)
+named_before mid old (Err e) same named = named
+
+-- a row of meta that is shown as a label is one
+label_shown : (trees : Trees) (n : ℕ) → Has (rows_in trees).meta (label_row (codes "schema", n)) → HasLabel trees (codes "schema") n
+label_shown trees n there =
+    let it = has_mapped (columns (1 ∷ 2 ∷ [])) (trees 0) (label_row (codes "schema", n)) there in
+    (it.0, it.1, ap (λ (x : Row). column x 0) (sym it.2), ap (λ (x : Row). column x 1) (sym it.2))
+
+-- a registry in schema 2 has the label of schema 2
+label_kept : (db : Database) → IsRegistry Two db → HasLabel db.trees (codes "schema") 2
+label_kept db good = label_shown db.trees 2 (good.rows.counts.labels.there (codes "schema", 2) (inl refl))
+
+-- schema 1 has no table item_since
+no_since : (db : Database) → HasTables One (schema_of One) → db.schema ≡ schema_of One → HasTables Two db.schema → ⊥
+no_since db tables has second = tables.1 (subst HasSinceTable has second.1)
+
+named_in : (db : Database) (found : Option Version) (version : Version) → HasTables One (schema_of One) → HasTables Two db.schema
+    → ((schema : Version) → IsMadeFirst schema db.schema → (found ≡ Some schema) ↔ IsRegistry schema db) → found ≡ Some Two → db.schema ≡ schema_of version → HasLabel db.trees (codes "schema") 2
+named_in db found One tables second stored is has = absurd (no_since db tables has second)
+named_in db found Two tables second stored is has = label_kept db ((stored Two (subst (IsMadeFirst Two) (sym has) (made_first Two))).0 is)
+
+-- so the labels name schema 2 where the check finds it
+pub named_found : (s : State) (r : Result (Option Version) TableFault) → HasTables One (schema_of One) → MatchResult r (Finds s.now) (Explains s.now)
+    → ((schema : Version) → IsMadeFirst schema s.now.schema → MatchResult r (λ found. (found ≡ Some schema) ↔ IsRegistry schema s.now) (λ fault. IsRegistry schema s.now → IsUntold fault))
+    → IfOk r (λ found. found ≡ Some Two → NamesLatest s.now)
+named_found s (Ok x) tables told stored = λ is version has. named_in s.now x version tables (subst (Finds s.now) is told).0 stored is has
+named_found s (Err e) tables told stored = tt
+
+pub named_still : (old mid : State) (r : Result (Option Version) TableFault) → (IsTrue mid.is_open → mid.now ≡ old.now) → (mid.is_open ≡ false → MatchResult r (λ _. ⊥) IsUntold)
+    → IfOk r (λ found. found ≡ Some Two → NamesLatest mid.now) → IfOk r (λ found. found ≡ Some Two → NamesLatest old.now)
+named_still old mid (Ok x) same shut named = λ is. elim (cases_Bool mid.is_open) [ inl opened ↦ subst NamesLatest (same opened) (named is) | inr closed ↦ absurd (shut closed) ]
+named_still old mid (Err e) same shut named = named

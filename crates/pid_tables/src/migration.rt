@@ -1,5 +1,5 @@
 //! Brings the tables of a database to schema 2.
-ghost use Rattle.std.specs.Prelude.{◌≡◌, ◌⊎◌, None, Some, false, IfErr, IfOk, IsTrue, MatchResult, OnErr, OnOk};
+ghost use Rattle.std.specs.Prelude.{◌≡◌, ◌⊎◌, None, Some, true, false, IfErr, IfOk, IsTrue, MatchResult, OnErr, OnOk};
 ghost use Rattle.pid_moderation.specs.History.{History, new_history};
 ghost use Rattle.pid_moderation.specs.Sound.{IsSound};
 ghost use Rattle.pid_moderation.specs.Views.{Views, views_of};
@@ -12,7 +12,7 @@ ghost use Rattle.pid_table_check.specs.Checking.{Explains, Finds};
 ghost use Rattle.pid_table_check.specs.Shapes.{HasNoTable, HasSomeTable};
 ghost use Rattle.pid_tables.specs.Clauses.{IsBlank, IsMet, LeavesBareOrNew};
 ghost use Rattle.pid_tables.specs.Creation.{IsOfMaking};
-ghost use Rattle.pid_tables.specs.Steps.{IsStanding, is_latest};
+ghost use Rattle.pid_tables.specs.Steps.{IsStanding, NamesLatest, is_latest};
 
 use crate::batch::commit;
 use crate::creation::create;
@@ -40,6 +40,7 @@ fn names_latest<S: Alter>(conn: &mut Connection<S>) -> Result<bool, TableFault>
     ensures rests { OnlyReads S.Store conn.old conn.new }
     ensures shown { HasCleanDisk S.Store conn.new → (version : Schema) (counts : Counts) (numbers : Numbers) (v : Views)
         → ShowsKeeping version counts numbers (seen S.Store conn.old) v → IfOk result (λ is. is ≡ is_latest version) }
+    ensures named { HasCleanDisk S.Store conn.new → IfOk result (λ is. is ≡ true → NamesLatest (seen S.Store conn.old)) }
     ensures untold { IfErr result IsUntold }
 {
     match schema_number(conn) {
@@ -56,6 +57,7 @@ fn is_current<S: Alter>(conn: &mut Connection<S>) -> Result<bool, TableFault>
     ensures bare { HasCleanDisk S.Store conn.new → HasNoTable (seen S.Store conn.old).schema → IfOk result (λ is. is ≡ false) }
     ensures shown { HasCleanDisk S.Store conn.new → (version : Schema) (counts : Counts) (numbers : Numbers) (v : Views)
         → (IsTrue (is_open S.Store conn.old) → ShowsKeeping version counts numbers (seen S.Store conn.old) v) → IfOk result (λ is. is ≡ is_latest version) }
+    ensures named { HasCleanDisk S.Store conn.new → IfOk result (λ is. is ≡ true → NamesLatest (seen S.Store conn.old)) }
     ensures was_open { HasCleanDisk S.Store conn.new → OnOk result (IsTrue (is_open S.Store conn.old)) }
     ensures untold { IfErr result IsUntold }
 {
@@ -80,6 +82,7 @@ fn standing<S: Alter>(
     ensures earlier { HasCleanDisk S.Store conn.new → (h : History) → IsSound h → RestsIn S.Store One conn.old (views_of h) → MatchResult result (λ found. found ≡ Some One) IsUntold }
     ensures bare { HasCleanDisk S.Store conn.new → HasNoTable (seen S.Store conn.old).schema → MatchResult result (λ found. found ≡ None) IsUntold }
     ensures told { HasCleanDisk S.Store conn.new → MatchResult result (IsStanding (seen S.Store conn.old)) (Explains (seen S.Store conn.old)) }
+    ensures named { HasCleanDisk S.Store conn.new → IfOk result (λ found. found ≡ Some Two → NamesLatest (seen S.Store conn.old)) }
 {
     sound_histories_are_registries();
     // Outside a transaction nothing is uncommitted, so that all reads see the same.
@@ -118,6 +121,8 @@ fn bring<S: Alter>(conn: &mut Connection<S>, found: Option<Version>) -> Result<S
         → MatchResult result (λ step. (step ≡ Step.Moved) × AtRest S.Store conn.new v) (λ fault. IsUntold fault × RestsIn S.Store One conn.new v) }
     ensures already { found ≡ Some Two → MatchResult result (λ step. (step ≡ Step.Already) × (conn.new ≡ conn.old)) (λ _. ⊥) }
     ensures step { found ≡ Some One → IfOk result (λ step. step ≡ Step.Moved) }
+    ensures bare { found ≡ None → IfOk result (λ step. step ≡ Step.Created) }
+    ensures named { IfOk result (λ step. step ≡ Step.Already → found ≡ Some Two) }
     ensures unchanged { HasCleanDisk S.Store conn.new → IfErr result (λ fault. ¬ (IsUntold fault) → OnlyReads S.Store conn.old conn.new) }
 {
     match found {
@@ -156,7 +161,11 @@ pub fn migrate<S: Alter>(conn: &mut Connection<S>, alloc: Global) -> Result<Step
     ensures found { HasCleanDisk S.Store conn.new → HasSomeTable (seen S.Store conn.old).schema
         → MatchResult result (λ step. ((step ≡ Step.Already) × OnlyReads S.Store conn.old conn.new) ⊎ ((step ≡ Step.Moved) × Finds (seen S.Store conn.old) (Some One)))
         (λ fault. (Explains (seen S.Store conn.old) fault × OnlyReads S.Store conn.old conn.new) ⊎ Finds (seen S.Store conn.old) (Some One)) }
+    // `Already` is answered only where the labels name schema 2.
+    ensures named { HasCleanDisk S.Store conn.new → IfOk result (λ step. step ≡ Step.Already → NamesLatest (seen S.Store conn.old)) }
     ensures unchanged { HasCleanDisk S.Store conn.new → IfErr result (λ fault. ¬ (IsUntold fault) → OnlyReads S.Store conn.old conn.new) }
+    // Where there is no table, whatever else there is: it answers no other step than that they were made.
+    ensures bare { HasCleanDisk S.Store conn.new → HasNoTable (seen S.Store conn.old).schema → IfOk result (λ step. step ≡ Step.Created) }
     // Something else under the name of a table is refused, and left as it is.
     ensures met { HasCleanDisk S.Store conn.new → HasNoTable (seen S.Store conn.old).schema → IsMet S.Store conn.old
         → MatchResult result (λ _. ⊥) (λ fault. IsOfMaking fault × OnlyReads S.Store conn.old conn.new) }

@@ -2,7 +2,7 @@ use Rattle.std.proofs.Common.{sym, subst, ◌∙◌}
 use Rattle.sqlite.specs.Effect.{Database}
 use Rattle.pid_rows.specs.Shows.{ShowsKeeping}
 use Rattle.pid_table_check.specs.Shapes.{HasSomeTable}
-use Rattle.pid_tables.proofs.StandLemmas.{tables_some}
+use Rattle.pid_tables.proofs.StandLemmas.{tables_some, named_before}
 use Rattle.pid_tables.proofs.migration.is_current.Goals as goal
 
 pub returns-then-branch-clause-shown : goal.returns-then-branch-clause-shown
@@ -22,3 +22,8 @@ pub returns-then-branch-clause-bare : goal.returns-then-branch-clause-bare
 returns-then-branch-clause-bare g c clean none =
     let early = c.names_latest.ensures.rests.clean clean in
     absurd (none ((c.in_ok-has_some_table.ensures.asked early).0 c.if-branch.true))
+
+pub returns-then-branch-clause-named : goal.returns-then-branch-clause-named
+returns-then-branch-clause-named g c clean =
+    let early = c.names_latest.ensures.rests.clean clean in
+    named_before _ _ c.names_latest.result (c.in_ok-has_some_table.ensures.same early) (c.names_latest.ensures.named clean)

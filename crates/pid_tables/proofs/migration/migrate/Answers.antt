@@ -6,7 +6,7 @@ use Rattle.pid_rows.specs.Leaves.{OnlyReads, RestsIn}
 use Rattle.pid_rows.proofs.CauseLemmas.{passed_on}
 use Rattle.pid_rows.proofs.OnlyReading.{reads_then, rests_in_still}
 use Rattle.pid_tables.specs.Creation.{LeavesBareOrNew}
-use Rattle.pid_tables.proofs.BringLemmas.{blank_leaves, none_there, still_met, met_reads, left_alone, or_untold, brought}
+use Rattle.pid_tables.proofs.BringLemmas.{blank_leaves, none_there, still_met, met_reads, left_alone, or_untold, brought, named_brought}
 use Rattle.pid_tables.proofs.MoveLemmas.{or_never}
 use Rattle.pid_tables.proofs.OpenLemmas.{still_blank}
 use Rattle.pid_tables.proofs.migration.migrate.Goals as goal
@@ -82,3 +82,12 @@ returns-in_err-found-clause-shut g c clean closed =
     let old = state g.S.Store c.args.conn.now in
     let mid = state g.S.Store c.standing.new.conn in
     passed_on c.from_residual.result _ _ (λ fault. IsUntold fault × OnlyReads old mid) c.from_residual.ensures.1 (c.in_err-found.ensures.shut clean closed, c.standing.ensures.rests)
+
+-- ---- what it tells by the labels, and where there is no table
+
+pub returns-clause-named : goal.returns-clause-named
+returns-clause-named g c clean =
+    named_brought c.in_ok-found.found c.bring.result c.bring.ensures.named (c.in_ok-found.ensures.named (c.bring.ensures.clean clean))
+
+pub returns-clause-bare : goal.returns-clause-bare
+returns-clause-bare g c clean none = c.bring.ensures.bare (c.in_ok-found.ensures.bare (c.bring.ensures.clean clean) none)
