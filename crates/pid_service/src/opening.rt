@@ -132,7 +132,7 @@ pub fn migrate<S: Alter + Drop>(
     // Whatever the tables are: those of schema 1 are judged before they are moved, and where a condition fails, the fault tells which one,
     // and everything is as it was.
     ensures told { HasSomeTable (seen S.Store conn).schema → MatchResult result (λ r. HasCleanDisk S.Store r.0 → Takes S.Store conn r.1 r.0) (λ e. HasCleanDisk S.Store e.1 → Refuses S.Store conn e.0 e.1) }
-    // `Already` is answered only where the labels name schema 2.
+    // Of the tables of a schema, with nothing beside them: `Already` is answered only where the labels name schema 2.
     ensures named { IfOk result (λ r. HasCleanDisk S.Store r.0 → r.1 ≡ Step.Already → NamesLatest (seen S.Store conn)) }
     // Where there is no table, whatever else there is: it answers no other step than that they were made.
     ensures bare { HasNoTable (seen S.Store conn).schema → IfOk result (λ r. HasCleanDisk S.Store r.0 → r.1 ≡ Step.Created) }

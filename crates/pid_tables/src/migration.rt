@@ -161,7 +161,7 @@ pub fn migrate<S: Alter>(conn: &mut Connection<S>, alloc: Global) -> Result<Step
     ensures found { HasCleanDisk S.Store conn.new → HasSomeTable (seen S.Store conn.old).schema
         → MatchResult result (λ step. ((step ≡ Step.Already) × OnlyReads S.Store conn.old conn.new) ⊎ ((step ≡ Step.Moved) × Finds (seen S.Store conn.old) (Some One)))
         (λ fault. (Explains (seen S.Store conn.old) fault × OnlyReads S.Store conn.old conn.new) ⊎ Finds (seen S.Store conn.old) (Some One)) }
-    // `Already` is answered only where the labels name schema 2.
+    // Of the tables of a schema, with nothing beside them: `Already` is answered only where the labels name schema 2.
     ensures named { HasCleanDisk S.Store conn.new → IfOk result (λ step. step ≡ Step.Already → NamesLatest (seen S.Store conn.old)) }
     ensures unchanged { HasCleanDisk S.Store conn.new → IfErr result (λ fault. ¬ (IsUntold fault) → OnlyReads S.Store conn.old conn.new) }
     // Where there is no table, whatever else there is: it answers no other step than that they were made.
