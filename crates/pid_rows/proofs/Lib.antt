@@ -29,6 +29,7 @@ pub mod WriteFaults
 pub mod UnreadLemmas
 pub mod ReadBack
 pub mod SoundReads
+pub mod LabelTexts
 pub mod LabelLemmas
 pub mod SinceTexts
 pub mod SinceFilled

@@ -1,13 +1,11 @@
 //! The table of counts and of the revision.
-ghost use Rattle.std.specs.Prelude.{◌≡◌, false, Some, IsSome, IfOk, IfErr, codes, length, option_map, slice_get};
-ghost use Rattle.sqlite.specs.Order.{Row as Values};
-ghost use Rattle.sqlite_rules.specs.Lists.{Has};
+ghost use Rattle.std.specs.Prelude.{◌≡◌, false, Some, IsSome, IfOk, IfErr, Ok, codes, length, option_map, slice_get};
+ghost use Rattle.sqlite.specs.Listing.{understood};
+ghost use Rattle.sqlite_resolve.specs.declared.compiled.Compiled.{Compiled};
 ghost use Rattle.pid_rows.specs.Answers.{value_row};
 ghost use Rattle.pid_rows.specs.Faults.{IsUntold, IsNotLater};
-ghost use Rattle.pid_rows.specs.LabelRows.{AnswersEach, ExplainsNumber, HasLabel, IsValueOf};
-ghost use Rattle.pid_rows.specs.declared.version.Version.{Version};
+ghost use Rattle.pid_rows.specs.LabelRows.{ExplainsNumber, HasLabel, IsDamageOf, IsMetaFirst, ShowsNoNumber, ShowsNumber, ShowsValues, value_text};
 ghost use Rattle.pid_rows.specs.declared.version.Version.TheVariants.{One};
-ghost use Rattle.pid_rows.specs.Schema.{schema_of};
 ghost use Rattle.pid_rows.specs.Shows.{Counts, labels_of, meta_of, counts_of};
 ghost use Rattle.pid_rows.specs.Writes.{with_revision};
 ghost use Rattle.pid_rows.specs.Clauses.{ChangesTo, GoesOn, HasCleanDisk, LeadsTo, OnlyReads, Reads, Tells, seen};
@@ -81,11 +79,8 @@ fn value_rows<S: Alter>(conn: &mut Connection<S>, label: &str) -> Result<Vec<Row
     requires { conn.old.in_transaction ≡ false }
     ensures reads { Reads S.Store conn.old conn.new result
         (λ v rows. slice_get rows.items 0 ≡ option_map value_row (meta_of (counts_of v) v.revision label.now)) }
-    ensures valued { HasCleanDisk S.Store conn.new → (version : Version) → (seen S.Store conn.old).schema ≡ schema_of version
-        → IfOk result (λ rows. (x : Values) → Has rows.items x → IsValueOf (seen S.Store conn.old).trees label.now x) }
-    ensures each { HasCleanDisk S.Store conn.new → (version : Version) → (seen S.Store conn.old).schema ≡ schema_of version
-        → IfOk result (λ rows. AnswersEach (seen S.Store conn.old).trees label.now rows.items) }
-    ensures untold { HasCleanDisk S.Store conn.new → (version : Version) → (seen S.Store conn.old).schema ≡ schema_of version → IfErr result IsUntold }
+    ensures shows { HasCleanDisk S.Store conn.new → IfOk result (λ rows. ShowsValues (seen S.Store conn.old) label.now rows.items) }
+    ensures untold { HasCleanDisk S.Store conn.new → (query : Compiled) → understood (seen S.Store conn.old).schema value_text ≡ Ok query → IfErr result IsUntold }
     ensures never { IfErr result IsNotLater }
 {
     let label = label.to_sql();
@@ -97,8 +92,8 @@ fn count<S: Alter>(conn: &mut Connection<S>, label: &str) -> Result<u32, TableFa
     requires { conn.old.in_transaction ≡ false }
     ensures rests { OnlyReads S.Store conn.old conn.new }
     ensures found { ((c : Counts) → IsSome (labels_of One c 0 label.now)) → Tells S.Store conn.old conn.new result (λ v n. Some n ≡ meta_of (counts_of v) v.revision label.now) }
-    ensures labelled { HasCleanDisk S.Store conn.new → (version : Version) → (seen S.Store conn.old).schema ≡ schema_of version → IfOk result (HasLabel (seen S.Store conn.old).trees label.now) }
-    ensures refused { HasCleanDisk S.Store conn.new → (version : Version) → (seen S.Store conn.old).schema ≡ schema_of version → IfErr result (ExplainsNumber (seen S.Store conn.old).trees label.now) }
+    ensures shown { HasCleanDisk S.Store conn.new → IfOk result (ShowsNumber (seen S.Store conn.old) label.now) }
+    ensures refused { HasCleanDisk S.Store conn.new → IfErr result (IsDamageOf (ShowsNoNumber (seen S.Store conn.old) label.now)) }
     ensures never { IfErr result IsNotLater }
 {
     let rows = value_rows(conn, label)?;
@@ -141,8 +136,12 @@ pub fn revision<S: Alter>(conn: &mut Connection<S>) -> Result<u64, TableFault>
 pub fn schema_number<S: Alter>(conn: &mut Connection<S>) -> Result<u32, TableFault>
     requires { conn.old.in_transaction ≡ false }
     ensures reads { Reads S.Store conn.old conn.new result (λ v n. n ≡ 2) }
-    ensures labelled { HasCleanDisk S.Store conn.new → (version : Version) → (seen S.Store conn.old).schema ≡ schema_of version → IfOk result (HasLabel (seen S.Store conn.old).trees (codes "schema")) }
-    ensures refused { HasCleanDisk S.Store conn.new → (version : Version) → (seen S.Store conn.old).schema ≡ schema_of version → IfErr result (ExplainsNumber (seen S.Store conn.old).trees (codes "schema")) }
+    // Whatever the schema: it is what the query of the label answers first, and `Damaged` where that is no number.
+    ensures shown { HasCleanDisk S.Store conn.new → IfOk result (ShowsNumber (seen S.Store conn.old) (codes "schema")) }
+    ensures refused { HasCleanDisk S.Store conn.new → IfErr result (IsDamageOf (ShowsNoNumber (seen S.Store conn.old) (codes "schema"))) }
+    // The same by what storage has, where the table was made first, whatever stands behind it.
+    ensures labelled { HasCleanDisk S.Store conn.new → IsMetaFirst (seen S.Store conn.old).schema → IfOk result (HasLabel (seen S.Store conn.old).trees (codes "schema")) }
+    ensures lacking { HasCleanDisk S.Store conn.new → IsMetaFirst (seen S.Store conn.old).schema → IfErr result (ExplainsNumber (seen S.Store conn.old).trees (codes "schema")) }
     ensures never { IfErr result IsNotLater }
 {
     count(conn, "schema")

@@ -1,8 +1,8 @@
 //! The tables of schema 1 become those of schema 2, inside a transaction.
-ghost use Rattle.std.specs.Prelude.{◌≡◌, MatchResult, IsTrue};
+ghost use Rattle.std.specs.Prelude.{◌≡◌, IfErr, MatchResult, IsTrue};
 ghost use Rattle.pid_moderation.specs.Views.{Views};
 ghost use Rattle.pid_rows.specs.declared.version.Version.TheVariants.{One};
-ghost use Rattle.pid_rows.specs.Faults.{IsUntold};
+ghost use Rattle.pid_rows.specs.Faults.{IsUntold, IsNotLater};
 ghost use Rattle.pid_rows.specs.Moving.{IsBetween};
 ghost use Rattle.pid_rows.specs.Shows.{Counts, ShowsKeeping, ShowsCounting, numbers_of};
 ghost use Rattle.pid_rows.specs.Clauses.{GoesOn, HasCleanDisk, Moves, is_open, seen};
@@ -16,6 +16,7 @@ use sqlite::{Alter, Transaction};
 fn add_table<S: Alter>(tx: &mut Transaction<'_, S>) -> Result<(), TableFault>
     ensures same_reference { tx.new.conn.ghost_name ≡ tx.old.conn.ghost_name }
     ensures goes { GoesOn S.Store tx.old.conn.now tx.new.conn.now result }
+    ensures never { IfErr result IsNotLater }
     ensures added { HasCleanDisk S.Store tx.new.conn.now → IsTrue tx.old.conn.now.in_transaction
         → (c : Counts) (v : Views) → (IsTrue (is_open S.Store tx.old.conn.now) → ShowsKeeping One c (numbers_of v) (seen S.Store tx.old.conn.now) v)
         → MatchResult result (λ _. IsBetween c (seen S.Store tx.new.conn.now) v) IsUntold }
@@ -36,6 +37,7 @@ fn add_table<S: Alter>(tx: &mut Transaction<'_, S>) -> Result<(), TableFault>
 fn raise_labels<S: Alter>(tx: &mut Transaction<'_, S>) -> Result<(), TableFault>
     ensures same_reference { tx.new.conn.ghost_name ≡ tx.old.conn.ghost_name }
     ensures goes { GoesOn S.Store tx.old.conn.now tx.new.conn.now result }
+    ensures never { IfErr result IsNotLater }
     ensures raised { HasCleanDisk S.Store tx.new.conn.now → IsTrue tx.old.conn.now.in_transaction
         → (c : Counts) (v : Views) → IsBetween c (seen S.Store tx.old.conn.now) v
         → MatchResult result (λ _. ShowsCounting c (seen S.Store tx.new.conn.now) v) IsUntold }
@@ -62,6 +64,7 @@ fn raise_labels<S: Alter>(tx: &mut Transaction<'_, S>) -> Result<(), TableFault>
 pub fn move_tables<S: Alter>(tx: &mut Transaction<'_, S>) -> Result<(), TableFault>
     ensures same_reference { tx.new.conn.ghost_name ≡ tx.old.conn.ghost_name }
     ensures goes { GoesOn S.Store tx.old.conn.now tx.new.conn.now result }
+    ensures never { IfErr result IsNotLater }
     ensures shows { Moves S.Store tx.old.conn.now tx.new.conn.now result }
 {
     add_table(tx)?;

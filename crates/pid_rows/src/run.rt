@@ -29,6 +29,7 @@ pub fn write_one<S: Alter>(
         → OnOk result ((count : ℕ) × Executes S.Store sql.now (bound params.now) tx.old.conn.now tx.new.conn.now (Ok count)) }
     ensures untold { HasCleanDisk S.Store tx.new.conn.now → (schema : Schema)
         → (IsTrue (is_open S.Store tx.old.conn.now) → (seen S.Store tx.old.conn.now).schema ≡ schema) → IsWriteAs sql.now (understood schema sql.now) → IfErr result IsUntold }
+    ensures never { IfErr result IsNotLater }
     ensures refused { HasCleanDisk S.Store tx.new.conn.now → IsTrue tx.old.conn.now.in_transaction
         → IfErr result (λ fault. (e : Error) × (fault ≡ fault_of e) × ExecutesInside S.Store 0 sql.now (bound params.now) tx.old.conn.now tx.new.conn.now (Err e)) }
 {

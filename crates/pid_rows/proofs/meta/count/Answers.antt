@@ -5,9 +5,9 @@ use Rattle.pid_rows.specs.Answers.{value_row}
 use Rattle.pid_rows.specs.Shows.{meta_of, counts_of}
 use Rattle.pid_rows.proofs.DecodeLemmas.{no_row}
 use Rattle.pid_rows.proofs.ReadBack.{value_read, meta_fits, meta_there}
-use Rattle.pid_rows.proofs.LabelLemmas.{label_read, label_refused, none_lacks, untold_explains, unread_never}
+use Rattle.pid_rows.proofs.LabelLemmas.{number_shown, number_refused, none_shown, query_refused, unread_never}
 use Rattle.pid_rows.proofs.CauseLemmas.{passed_from}
-use Rattle.pid_rows.specs.LabelRows.{ExplainsNumber}
+use Rattle.pid_rows.specs.LabelRows.{IsDamageOf, ShowsNoNumber}
 use Rattle.pid_rows.proofs.meta.count.Goals as goal
 
 pub returns-in-Some-clause-found : goal.returns-in-Some-clause-found
@@ -24,22 +24,22 @@ returns-clause-found g c known clean v rest readable =
     let bad : ⊥ = cc in
     bad
 
-pub returns-in-Some-clause-labelled : goal.returns-in-Some-clause-labelled
-returns-in-Some-clause-labelled g c clean version has =
-    label_read (state g.S.Store c.args.conn.now).now.trees c.args.label.now _ c.in-Some.row.now (c.in_ok-rows.ensures.valued clean version has) (c.in-Some.ensures.value ∙ ap (λ l. slice_get l 0) c.deref.ensures.value) c.number_at.result c.number_at.ensures.read
+pub returns-in-Some-clause-shown : goal.returns-in-Some-clause-shown
+returns-in-Some-clause-shown g c clean =
+    number_shown (state g.S.Store c.args.conn.now).now c.args.label.now _ c.in-Some.row.now (c.in_ok-rows.ensures.shows clean) (c.in-Some.ensures.value ∙ ap (λ l. slice_get l 0) c.deref.ensures.value) c.number_at.result c.number_at.ensures.read
 
 pub returns-in-Some-clause-refused : goal.returns-in-Some-clause-refused
-returns-in-Some-clause-refused g c clean version has =
-    label_refused (state g.S.Store c.args.conn.now).now.trees c.args.label.now _ c.in-Some.row.now (c.in_ok-rows.ensures.valued clean version has) (c.in-Some.ensures.value ∙ ap (λ l. slice_get l 0) c.deref.ensures.value) c.number_at.result c.number_at.ensures.unread
+returns-in-Some-clause-refused g c clean =
+    number_refused (state g.S.Store c.args.conn.now).now c.args.label.now _ c.in-Some.row.now (c.in_ok-rows.ensures.shows clean) (c.in-Some.ensures.value ∙ ap (λ l. slice_get l 0) c.deref.ensures.value) c.number_at.result c.number_at.ensures.unread
 
 pub returns-clause-refused : goal.returns-clause-refused
-returns-clause-refused g c clean version has =
-    none_lacks (state g.S.Store c.args.conn.now).now.trees c.args.label.now _ (c.in_ok-rows.ensures.each clean version has) (c.in-None.ensures.value ∙ ap (λ l. slice_get l 0) c.deref.ensures.value)
+returns-clause-refused g c clean = none_shown (state g.S.Store c.args.conn.now).now c.args.label.now _ (c.in_ok-rows.ensures.shows clean) (c.in-None.ensures.value ∙ ap (λ l. slice_get l 0) c.deref.ensures.value)
 
 pub returns-in_err-rows-clause-refused : goal.returns-in_err-rows-clause-refused
-returns-in_err-rows-clause-refused g c clean version has =
-    let db = (state g.S.Store c.args.conn.now).now.trees in
-    passed_from c.from_residual.result _ (ExplainsNumber db c.args.label.now) c.from_residual.ensures.1 (untold_explains db c.args.label.now _ (c.in_err-rows.ensures.untold clean version has))
+returns-in_err-rows-clause-refused g c clean =
+    let db = (state g.S.Store c.args.conn.now).now in
+    passed_from c.from_residual.result _ (IsDamageOf (ShowsNoNumber db c.args.label.now)) c.from_residual.ensures.1
+    (query_refused db c.args.label.now _ (c.in_err-rows.ensures.untold clean) c.in_err-rows.ensures.never)
 
 pub returns-in-Some-clause-never : goal.returns-in-Some-clause-never
 returns-in-Some-clause-never g c = unread_never _ c.number_at.result c.number_at.ensures.unread

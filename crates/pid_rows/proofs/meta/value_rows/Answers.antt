@@ -1,13 +1,12 @@
-use Rattle.std.proofs.Common.{true}
+use Rattle.std.proofs.Common.{true, refl}
 use Rattle.pid_rows.specs.declared.version.Version.TheVariants.{Two}
-use Rattle.pid_rows.specs.Schema.{schema_of}
 use Rattle.pid_rows.specs.Shows.{counts_of}
 use Rattle.pid_rows.proofs.StatementTexts.{select_meta}
 use Rattle.sqlite.specs.Held.{state}
 use Rattle.pid_rows.proofs.QueryTexts.{meta_query}
 use Rattle.pid_rows.proofs.FindLemmas.{at_rest, value_found}
-use Rattle.pid_rows.proofs.LabelLemmas.{values_read, each_read}
-use Rattle.pid_rows.proofs.KeyTexts.{select_meta_is}
+use Rattle.pid_rows.proofs.LabelLemmas.{values_shown}
+use Rattle.pid_rows.proofs.LabelTexts.{asked_plain}
 use Rattle.pid_rows.proofs.meta.value_rows.Goals as goal
 
 pub returns-clause-reads : goal.returns-clause-reads
@@ -18,13 +17,9 @@ returns-clause-reads g c = record {
       (rw (c.to_sql-label.ensures) at (c.read_rows.ensures.shown clean)) ((rw c.to_sql-label.ensures at (c.read_rows.ensures.caused clean v rest)) (meta_query Two c.args.label.now));
 }
 
-pub returns-clause-valued : goal.returns-clause-valued
-returns-clause-valued g c clean version has =
-    values_read g.S.Store version c.args.label.now (state g.S.Store (record c.args.conn.now { in_transaction = true })) c.read_rows.result has (rw (c.to_sql-label.ensures) at (c.read_rows.ensures.shown clean))
-
-pub returns-clause-each : goal.returns-clause-each
-returns-clause-each g c clean version has =
-    each_read g.S.Store version c.args.label.now (state g.S.Store (record c.args.conn.now { in_transaction = true })) c.read_rows.result has (rw (c.to_sql-label.ensures) at (c.read_rows.ensures.shown clean))
+pub returns-clause-shows : goal.returns-clause-shows
+returns-clause-shows g c clean =
+    values_shown g.S.Store c.args.label.now (state g.S.Store (record c.args.conn.now { in_transaction = true })) c.read_rows.result (rw (c.to_sql-label.ensures) at (c.read_rows.ensures.shown clean))
 
 pub returns-clause-untold : goal.returns-clause-untold
-returns-clause-untold g c clean version has = c.read_rows.ensures.untold clean (schema_of version) has (select_meta_is version).plain
+returns-clause-untold g c clean query is = c.read_rows.ensures.untold clean _ refl (asked_plain _ query is)

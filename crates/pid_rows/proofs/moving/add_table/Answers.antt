@@ -1,5 +1,5 @@
 use Rattle.sqlite.specs.Held.{state}
-use Rattle.pid_rows.specs.Faults.{IsUntold}
+use Rattle.pid_rows.specs.Faults.{IsUntold, IsNotLater}
 use Rattle.pid_rows.specs.Schema.{schema_of}
 use Rattle.pid_rows.specs.declared.version.Version.TheVariants.{One, Two}
 use Rattle.pid_rows.proofs.CauseLemmas.{passed_on}
@@ -26,3 +26,6 @@ pub returns-in_err-write_one-clause-added : goal.returns-in_err-write_one-clause
 returns-in_err-write_one-clause-added g c clean inside counts v shows =
     passed_on c.from_residual.result _ _ IsUntold c.from_residual.ensures.1
     (c.in_err-write_one.ensures.untold clean (schema_of One) (λ opened. (shows opened).schema) (create_writes (schema_of One) create_since _ create_is create_plain create_whole create_defined))
+
+pub returns-in_err-write_one-clause-never : goal.returns-in_err-write_one-clause-never
+returns-in_err-write_one-clause-never g c = passed_on c.from_residual.result _ _ IsNotLater c.from_residual.ensures.1 c.in_err-write_one.ensures.never

@@ -1,5 +1,5 @@
 use Rattle.sqlite.specs.Held.{state}
-use Rattle.pid_rows.specs.Faults.{IsUntold}
+use Rattle.pid_rows.specs.Faults.{IsUntold, IsNotLater}
 use Rattle.pid_rows.proofs.CauseLemmas.{passed_on}
 use Rattle.pid_rows.proofs.GoingLemmas.{earlier}
 use Rattle.pid_rows.proofs.moving.move_tables.Goals as goal
@@ -14,3 +14,6 @@ returns-clause-shows g c clean inside counts v shows =
 
 pub returns-in_err-add_table-clause-shows : goal.returns-in_err-add_table-clause-shows
 returns-in_err-add_table-clause-shows g c clean inside counts v shows = passed_on c.from_residual.result _ _ IsUntold c.from_residual.ensures.1 (c.in_err-add_table.ensures.added clean inside counts v shows)
+
+pub returns-in_err-add_table-clause-never : goal.returns-in_err-add_table-clause-never
+returns-in_err-add_table-clause-never g c = passed_on c.from_residual.result _ _ IsNotLater c.from_residual.ensures.1 c.in_err-add_table.ensures.never

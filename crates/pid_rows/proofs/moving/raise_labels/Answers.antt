@@ -1,5 +1,5 @@
 use Rattle.sqlite.specs.Held.{state}
-use Rattle.pid_rows.specs.Faults.{IsUntold}
+use Rattle.pid_rows.specs.Faults.{IsUntold, IsNotLater}
 use Rattle.pid_rows.specs.Schema.{schema_of}
 use Rattle.pid_rows.specs.declared.version.Version.TheVariants.{Two}
 use Rattle.pid_rows.proofs.CauseLemmas.{passed_on}
@@ -24,3 +24,6 @@ returns-clause-raised g c clean inside counts v shows =
 pub returns-in_err-write_one-clause-raised : goal.returns-in_err-write_one-clause-raised
 returns-in_err-write_one-clause-raised g c clean inside counts v shows =
     passed_on c.from_residual.result _ _ IsUntold c.from_residual.ensures.1 (c.in_err-write_one.ensures.untold clean (schema_of Two) (λ opened. shows.schema) (insert_writes (insert_meta_is Two)))
+
+pub returns-in_err-write_one-clause-never : goal.returns-in_err-write_one-clause-never
+returns-in_err-write_one-clause-never g c = passed_on c.from_residual.result _ _ IsNotLater c.from_residual.ensures.1 c.in_err-write_one.ensures.never

@@ -7,8 +7,8 @@ use Rattle.sqlite.specs.State.{ExecutesInside}
 use Rattle.sqlite.specs.declared.error.Error.{Error}
 use Rattle.sqlite.specs.declared.error.ErrorCode.TheVariants as code
 use Rattle.sqlite.specs.declared.error.Error.TheVariants.{SqliteFailure}
-use Rattle.pid_rows.specs.Faults.{IsUntold, fault_of}
-use Rattle.pid_rows.proofs.FaultLemmas.{failed, moved}
+use Rattle.pid_rows.specs.Faults.{IsUntold, IsNotLater, fault_of}
+use Rattle.pid_rows.proofs.FaultLemmas.{failed, moved, not_later}
 use Rattle.pid_rows.proofs.WriteFaults.{write_untold}
 use Rattle.pid_rows.proofs.run.write_one.Goals as goal
 
@@ -29,3 +29,8 @@ returns-in_err-execute-clause-refused g c clean inside =
     let new = state g.S.Store c.execute.new.self.conn.now in
     subst (λ r. IfErr r (λ fault. (e : Error) × (fault ≡ fault_of e) × ExecutesInside 0 c.args.sql.now (bound c.args.params.now) old new (Err e))) (sym p.1)
     (c.in_err-execute.field-0.0, p.2, c.in_err-execute.ensures.runs clean inside)
+
+pub returns-in_err-execute-clause-never : goal.returns-in_err-execute-clause-never
+returns-in_err-execute-clause-never g c =
+    let p = err_from_is_err_and c.from_residual.result c.from_residual.ensures.1 in
+    subst (λ r. IfErr r IsNotLater) (sym p.1) (subst IsNotLater (sym p.2) (not_later _))
