@@ -1,6 +1,7 @@
 //! The table of accounts and their ranks.
-ghost use Rattle.std.specs.Prelude.{◌≡◌, false, None, IsSome, option_map, slice_get};
+ghost use Rattle.std.specs.Prelude.{◌≡◌, false, None, IfErr, IsSome, option_map, slice_get};
 ghost use Rattle.pid_rows.specs.Answers.{rank_row};
+ghost use Rattle.pid_rows.specs.Faults.{IsNotLater};
 ghost use Rattle.pid_rows.specs.Writes.{with_rank};
 ghost use Rattle.pid_rows.specs.Clauses.{ChangesTo, GoesOn, Reads};
 
@@ -20,6 +21,7 @@ pub fn add_account<S: Alter>(
 ) -> Result<(), TableFault>
     ensures same_reference { tx.new.conn.ghost_name ≡ tx.old.conn.ghost_name }
     ensures goes { GoesOn S.Store tx.old.conn.now tx.new.conn.now result }
+    ensures never { IfErr result IsNotLater }
     ensures shows { ChangesTo S.Store tx.old.conn.now tx.new.conn.now result (λ v. v.rank name.now ≡ None) (with_rank name.now rank) }
 {
     let name = name.to_sql();

@@ -1,5 +1,5 @@
 -- What is brought to schema 2, by what stood there.
-use Rattle.std.proofs.Common.{◌≡◌, ◌⊎◌, inl, inr, ℕ, List, true, false, None, Some, Option, Ok, Err, Result, IfOk, MatchResult, IsTrue, refl, sym, subst}
+use Rattle.std.proofs.Common.{◌≡◌, ◌⊎◌, inl, inr, ℕ, List, true, false, None, Some, Option, Ok, Err, Result, IfErr, IfOk, MatchResult, IsTrue, refl, sym, subst}
 use Rattle.std.proofs.lemmas.Bool.{cases_Bool}
 use Rattle.sqlite.specs.Change.{is_used}
 use Rattle.sqlite.specs.Effect.{Database}
@@ -11,30 +11,32 @@ use Rattle.pid_rows.specs.declared.fault.TableFault.{TableFault}
 use Rattle.pid_rows.specs.declared.fault.TableFault.TheVariants.{Memory, Store, NewerSchema, Damaged}
 use Rattle.pid_rows.specs.declared.version.Version.{Version}
 use Rattle.pid_rows.specs.declared.version.Version.TheVariants.{One, Two}
-use Rattle.pid_rows.specs.Faults.{IsUntold}
+use Rattle.pid_rows.specs.Faults.{IsUntold, IsNotLater}
 use Rattle.pid_rows.specs.Leaves.{OnlyReads}
 use Rattle.pid_rows.specs.Schema.{no_schema}
 use Rattle.pid_rows.proofs.OnlyReading.{reads_then}
 use Rattle.pid_table_check.specs.Checking.{Explains, Finds}
 use Rattle.pid_table_check.specs.Shapes.{HasNoTable, HasSomeTable}
-use Rattle.pid_tables.specs.Creation.{table_names, IsBlank, IsMet, IsOfMaking, LeavesBareOrNew}
-use Rattle.pid_tables.specs.Steps.{IsStanding}
+use Rattle.pid_tables.specs.Creation.{table_names, IsMet, RestsBare}
+use Rattle.pid_tables.specs.Steps.{Brings, IsStanding, Refuses}
 use Rattle.pid_tables.specs.declared.migration.Step.{Step}
-use Rattle.pid_tables.specs.declared.migration.Step.TheVariants.{Moved, Already}
+use Rattle.pid_tables.specs.declared.migration.Step.TheVariants.{Created, Moved, Already}
 
 -- ---- no table
 
-pub blank_leaves : (s : State) → IsBlank s → LeavesBareOrNew s
-blank_leaves s blank = record { each = λ clean db may. inl (blank.leaves clean db may) }
+pub none_there : {P : Type 0} (s : State) → HasNoTable no_schema → RestsBare s → (s.is_open ≡ false → P) → (HasNoTable s.now.schema → P) → P
+none_there s none bare shut there = elim (cases_Bool s.is_open) [ inl opened ↦ there (subst HasNoTable (sym (bare.empty opened).schema) none) | inr closed ↦ shut closed ]
 
-pub none_there : {P : Type 0} (s : State) → HasNoTable no_schema → IsBlank s → (s.is_open ≡ false → P) → (HasNoTable s.now.schema → P) → P
-none_there s none blank shut there = elim (cases_Bool s.is_open) [ inl opened ↦ there (subst HasNoTable (sym (blank.empty opened).schema) none) | inr closed ↦ shut closed ]
-
-pub untold_making : (e : TableFault) → IsUntold e → IsOfMaking e
+pub untold_making : (e : TableFault) → IsUntold e → IsNotLater e
 untold_making Memory h = tt
 untold_making Store h = tt
 untold_making (NewerSchema n) h = absurd h
 untold_making Damaged h = absurd h
+
+-- where there is none, the step is that they are made
+pub made_alone : (found : Option Version) (r : Result Step TableFault) → found ≡ None → (found ≡ None → IfOk r (λ step. step ≡ Created)) → IfErr r IsNotLater → MatchResult r (λ step. step ≡ Created) IsNotLater
+made_alone found (Ok x) is made never = made is
+made_alone found (Err e) is made never = never
 
 -- something has a name of the tables
 abbrev MetIn : Database → Type 0
@@ -44,7 +46,7 @@ pub still_met : (old new : State) → OnlyReads old new → (IsTrue new.is_open 
 still_met old new reads same met opened = subst MetIn (sym (same opened)) (met (reads.was_open opened))
 
 -- none was made
-pub met_reads : (old mid new : State) (r : Result Step TableFault) → OnlyReads old mid → MatchResult r (λ _. ⊥) (λ e. IsOfMaking e × OnlyReads mid new) → MatchResult r (λ _. ⊥) (λ e. IsOfMaking e × OnlyReads old new)
+pub met_reads : (old mid new : State) (r : Result Step TableFault) → OnlyReads old mid → MatchResult r (λ _. ⊥) (λ e. IsNotLater e × OnlyReads mid new) → MatchResult r (λ _. ⊥) (λ e. IsNotLater e × OnlyReads old new)
 met_reads old mid new (Ok x) reads h = h
 met_reads old mid new (Err e) reads h = (h.0, reads_then old mid new reads h.1)
 
@@ -62,15 +64,15 @@ or_untold P Q (Err e) h = absurd h
 -- ---- any tables
 
 pub brought : (old new : State) (found : Option Version) (r : Result Step TableFault) → IsStanding old.now found → HasSomeTable old.now.schema
-    → (found ≡ Some One → IfOk r (λ step. step ≡ Moved)) → (found ≡ Some Two → MatchResult r (λ step. (step ≡ Already) × OnlyReads old new) (λ _. ⊥))
-    → MatchResult r (λ step. ((step ≡ Already) × OnlyReads old new) ⊎ ((step ≡ Moved) × Finds old.now (Some One))) (λ e. (Explains old.now e × OnlyReads old new) ⊎ Finds old.now (Some One))
-brought old new None r (inl bad) some moved already = absurd (let no : ⊥ = cc in no)
-brought old new None r (inr none) some moved already = absurd (none some)
-brought old new (Some One) r (inl bad) some moved already = absurd (let no : ⊥ = cc in no)
-brought old new (Some One) (Ok x) (inr finds) some moved already = inr (moved refl, finds)
-brought old new (Some One) (Err e) (inr finds) some moved already = inr finds
-brought old new (Some Two) (Ok x) stands some moved already = inl (already refl)
-brought old new (Some Two) (Err e) stands some moved already = absurd (already refl)
+    → (found ≡ Some One → IfOk r (λ step. step ≡ Moved)) → (found ≡ Some Two → MatchResult r (λ step. (step ≡ Already) × OnlyReads old new) (λ _. ⊥)) → IfErr r IsNotLater
+    → MatchResult r (λ step. Brings old step new) (λ e. Refuses old e new)
+brought old new None r (inl bad) some moved already never = absurd (let no : ⊥ = cc in no)
+brought old new None r (inr none) some moved already never = absurd (none some)
+brought old new (Some One) r (inl bad) some moved already never = absurd (let no : ⊥ = cc in no)
+brought old new (Some One) (Ok x) (inr finds) some moved already never = inr (moved refl, finds)
+brought old new (Some One) (Err e) (inr finds) some moved already never = inr (finds, never)
+brought old new (Some Two) (Ok x) stands some moved already never = inl (already refl)
+brought old new (Some Two) (Err e) stands some moved already never = absurd (already refl)
 
 -- it is left alone only where the labels named schema 2
 pub named_brought : {P : Type 0} (found : Option Version) (r : Result Step TableFault) → IfOk r (λ step. step ≡ Already → found ≡ Some Two) → (found ≡ Some Two → P) → IfOk r (λ step. step ≡ Already → P)

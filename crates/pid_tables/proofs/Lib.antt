@@ -6,6 +6,7 @@ pub mod SoundLemmas
 pub mod CommitLemmas
 pub mod MakerTexts
 pub mod MetLemmas
+pub mod AtOnceLemmas
 pub mod OpenLemmas
 pub mod ChangeLemmas
 pub mod SchemaNumbers

@@ -14,11 +14,12 @@ use Rattle.pid_rows.specs.declared.fault.TableFault.TheVariants.{Memory, Store, 
 use Rattle.pid_rows.specs.declared.version.Version.{Version}
 use Rattle.pid_rows.specs.declared.version.Version.TheVariants.{Two}
 use Rattle.pid_rows.specs.Causes.{IsCaused}
-use Rattle.pid_rows.specs.Faults.{IsUntold}
+use Rattle.pid_rows.specs.Faults.{IsUntold, IsNotLater}
 use Rattle.pid_rows.specs.Leaves.{GoesOn, RestsIn}
 use Rattle.pid_rows.specs.Shows.{Shows, ShowsIn}
 use Rattle.pid_rows.proofs.GoingLemmas.{earlier}
 use Rattle.pid_rows.proofs.LeaveLemmas.{shows_found}
+use Rattle.pid_table_check.proofs.Later.{untold_never}
 use Rattle.pid_tables.specs.Creation.{IsUndone}
 
 -- a commit that failed gives back what was committed
@@ -68,6 +69,10 @@ caused_untold old new Damaged h = h
 pub all_untold : {X : Type 0} (old new : State) (r : Result X TableFault) → IfErr r (IsCaused old new) → IfErr r IsUntold
 all_untold old new (Ok x) h = tt
 all_untold old new (Err e) h = caused_untold old new e h
+
+pub all_never : {X : Type 0} (r : Result X TableFault) → IfErr r IsUntold → IfErr r IsNotLater
+all_never (Ok x) h = tt
+all_never (Err e) h = untold_never e h
 
 pub all_err : {X : Type 0} {P : TableFault → Type 0} (r : Result X TableFault) → ((e : TableFault) → P e) → IfErr r P
 all_err (Ok x) f = tt

@@ -1,4 +1,4 @@
--- Connections that were just opened, and what reads leave of a database without tables.
+-- Connections that were just opened, and what reads leave of what is shown.
 use Rattle.std.proofs.Common.{◌≡◌, inl, inr, [], IsTrue, refl, sym, ap, subst, ◌∙◌}
 use Rattle.sqlite.specs.Effect.{Database, IsDatabase}
 use Rattle.sqlite.specs.Schema.{Schema}
@@ -12,8 +12,9 @@ use Rattle.pid_rows.specs.Leaves.{as_found, found_in, AtRest, RestsIn, OnlyReads
 use Rattle.pid_rows.specs.Schema.{no_schema, pid_schema, schema_of}
 use Rattle.pid_rows.specs.Shows.{Shows, ShowsIn}
 use Rattle.pid_rows.proofs.OnlyReading.{rests_in_still}
-use Rattle.pid_tables.specs.Creation.{AreMade, IsBare, IsBlank}
+use Rattle.pid_tables.specs.Creation.{AreMade, IsBare, IsBlank, RestsBare}
 use Rattle.pid_tables.specs.ShowsOrBlank.{ShowsOrBlank}
+use Rattle.pid_tables.proofs.AtOnceLemmas.{still_bare}
 
 -- the trees list one schema, so the database that was found is the one that the connection has
 found_now : (s : State) (schema : Schema) → Opens s → IsLive s → IsDatabase (record { schema = schema; trees = s.now.trees }) → s.now ≡ record { schema = schema; trees = s.now.trees }
@@ -50,17 +51,11 @@ opened_bare s law opens live bare = record {
   leaves = λ clean db may. subst IsBare (sym (left_now s opens law db may)) bare;
 }
 
-pub still_blank : (old new : State) → OnlyReads old new → IsBlank old → IsBlank new
-still_blank old new reads blank =
-    let now = reads.same old.now (record { sees = λ opened. refl; committed = λ opened. sym (blank.same opened) }) in
-    record {
-      settled = reads.settled;
-      same = λ opened. now.sees opened ∙ sym (now.committed opened);
-      empty = λ opened. subst (AreMade []) (sym (now.sees opened)) (blank.empty (reads.was_open opened));
-      leaves = λ clean db may. elim (reads.survives.crash clean db may) [ inl before ↦ blank.leaves (reads.clean clean) db before | inr none ↦ absurd none ];
-    }
-
 pub still_shown : (old new : State) (h : History) → OnlyReads old new → ShowsOrBlank old h → ShowsOrBlank new h
 still_shown old new h reads (inl rest) = inl (reads.kept _ rest)
 still_shown old new h reads (inr (inl rest)) = inr (inl (rests_in_still old new _ reads rest))
-still_shown old new h reads (inr (inr blank)) = inr (inr (still_blank old new reads blank.0, blank.1))
+still_shown old new h reads (inr (inr bare)) = inr (inr (still_bare old new reads bare.0, bare.1))
+
+-- what is blank rests bare
+pub blank_rests : (s : State) → IsBlank s → RestsBare s
+blank_rests s blank = record { settled = blank.settled; same = blank.same; empty = blank.empty; leaves = record { each = λ clean db may. inl (blank.leaves clean db may) } }

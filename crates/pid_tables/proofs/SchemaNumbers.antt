@@ -11,7 +11,7 @@ use Rattle.pid_rows.specs.declared.version.Version.TheVariants.{One, Two}
 use Rattle.pid_rows.specs.declared.fault.TableFault.{TableFault}
 use Rattle.pid_rows.specs.declared.fault.TableFault.TheVariants.{Memory, Store, NewerSchema, Damaged}
 use Rattle.pid_rows.specs.Faults.{IsUntold}
-use Rattle.pid_rows.specs.LabelRows.{HasLabel, LacksNumber, ExplainsNumber}
+use Rattle.pid_rows.specs.LabelRows.{HasLabel, LacksNumber, ExplainsNumber, ShowsNumber}
 use Rattle.pid_rows.specs.PairRows.{IsPairRow}
 use Rattle.pid_rows.specs.Schema.{number_of}
 use Rattle.pid_rows.specs.Shows.{Counts, Numbers, ShowsKeeping, labels_of}
@@ -59,5 +59,5 @@ second_is_latest One n is = ap (λ m. m == 2) is
 second_is_latest Two n is = ap (λ m. m == 2) is
 
 -- a number that is compared with 2
-pub named_second : (db : Database) (n : ℕ) → (n == 2) ≡ true → HasLabel db.trees (codes "schema") n → HasLabel db.trees (codes "schema") 2
-named_second db n is label = subst (HasLabel db.trees (codes "schema")) (eqb-true n 2 is) label
+pub shown_second : (db : Database) (n : ℕ) → (n == 2) ≡ true → ShowsNumber db (codes "schema") n → ShowsNumber db (codes "schema") 2
+shown_second db n is shows = subst (ShowsNumber db (codes "schema")) (eqb-true n 2 is) shows

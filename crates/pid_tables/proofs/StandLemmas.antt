@@ -1,6 +1,7 @@
 -- What stands in a database, as reads tell it.
-use Rattle.std.proofs.Common.{◌≡◌, ◌↔◌, ◌≤◌, ℕ, arith, inl, inr, true, false, Bool, List, [], ◌∷◌, None, Some, Option, Ok, Err, Result, IfOk, MatchResult, IsTrue, codes, refl, sym, ap, subst}
+use Rattle.std.proofs.Common.{◌≡◌, ◌↔◌, ◌≤◌, ℕ, arith, inl, inr, true, false, Bool, List, [], ◌∷◌, ◌++◌, None, Some, Option, Ok, Err, Result, IfOk, MatchResult, IsTrue, codes, refl, sym, ap, subst}
 use Rattle.std.proofs.lemmas.Bool.{cases_Bool}
+use Rattle.std.proofs.lemmas.List.Sorted.{IsPermutation-sym}
 use Rattle.sqlite.specs.Effect.{Database}
 use Rattle.sqlite.specs.Order.{Row, column}
 use Rattle.sqlite.specs.Schema.{Schema}
@@ -14,16 +15,19 @@ use Rattle.pid_rows.specs.declared.fault.TableFault.TheVariants.{Memory, Store, 
 use Rattle.pid_rows.specs.declared.version.Version.{Version}
 use Rattle.pid_rows.specs.declared.version.Version.TheVariants.{One, Two}
 use Rattle.pid_rows.specs.Faults.{IsUntold}
-use Rattle.pid_rows.specs.LabelRows.{HasLabel}
+use Rattle.pid_rows.specs.LabelRows.{HasLabel, IsMetaFirst}
 use Rattle.pid_rows.specs.Leaves.{OnlyReads, RestsIn}
-use Rattle.pid_rows.specs.Schema.{schema_of}
+use Rattle.pid_rows.specs.Schema.{more_tables, schema_of}
 use Rattle.pid_rows.specs.Shows.{ShowsIn}
-use Rattle.pid_rows.proofs.TurnLemmas.{has_mapped}
+use Rattle.pid_rows.proofs.LabelLemmas.{label_stored}
+use Rattle.pid_rows.proofs.TurnLemmas.{has_mapped, permuted}
 use Rattle.pid_table_check.specs.Checking.{Explains, Finds, IsRegistry}
 use Rattle.pid_table_check.specs.Conditions.{columns, label_row, rows_in}
-use Rattle.pid_table_check.specs.Shapes.{HasNoTable, HasSinceTable, HasSomeTable, HasTables, IsMadeFirst}
-use Rattle.pid_table_check.proofs.Complete.{made_first}
-use Rattle.pid_tables.specs.Steps.{IsStanding, NamesLatest}
+use Rattle.pid_table_check.specs.Shapes.{HasNoTable, HasSomeTable, HasTables, IsMadeFirst}
+use Rattle.pid_table_check.proofs.Complete.{as_six, made_first}
+use Rattle.pid_table_check.proofs.Stored.{stored}
+use Rattle.pid_table_check.proofs.WholeTexts.{meta_is}
+use Rattle.pid_tables.specs.Steps.{IsStanding, NamesLatest, ShowsLatest}
 
 -- where nothing was uncommitted, reads see the same
 pub seen_still : (old new : State) → (IsTrue old.is_open → old.now ≡ old.committed) → OnlyReads old new → IsTrue new.is_open → new.now ≡ old.now
@@ -93,25 +97,30 @@ label_shown trees n there =
     let it = has_mapped (columns (1 ∷ 2 ∷ [])) (trees 0) (label_row (codes "schema", n)) there in
     (it.0, it.1, ap (λ (x : Row). column x 0) (sym it.2), ap (λ (x : Row). column x 1) (sym it.2))
 
--- a registry in schema 2 has the label of schema 2
-label_kept : (db : Database) → IsRegistry Two db → HasLabel db.trees (codes "schema") 2
-label_kept db good = label_shown db.trees 2 (good.rows.counts.labels.there (codes "schema", 2) (inl refl))
+-- tables of a schema have meta first
+pub meta_first : (version : Version) (schema : Schema) → IsMadeFirst version schema → IsMetaFirst schema
+meta_first version schema first = (_, first.1)
 
--- schema 1 has no table item_since
-no_since : (db : Database) → HasTables One (schema_of One) → db.schema ≡ schema_of One → HasTables Two db.schema → ⊥
-no_since db tables has second = tables.1 (subst HasSinceTable has second.1)
+pub exactly_first : (version : Version) (schema : Schema) → schema ≡ schema_of version → IsMetaFirst schema
+exactly_first version schema is = meta_first version schema (subst (IsMadeFirst version) (sym is) (made_first version))
 
-named_in : (db : Database) (found : Option Version) (version : Version) → HasTables One (schema_of One) → HasTables Two db.schema
-    → ((schema : Version) → IsMadeFirst schema db.schema → (found ≡ Some schema) ↔ IsRegistry schema db) → found ≡ Some Two → db.schema ≡ schema_of version → HasLabel db.trees (codes "schema") 2
-named_in db found One tables second stored is has = absurd (no_since db tables has second)
-named_in db found Two tables second stored is has = label_kept db ((stored Two (subst (IsMadeFirst Two) (sym has) (made_first Two))).0 is)
+-- so storage has the label that the queries answer
+latest_stored : (db : Database) → ShowsLatest db → (version : Version) → IsMadeFirst version db.schema → HasLabel db.trees (codes "schema") 2
+latest_stored db (inl shows) version first = label_stored db (meta_first version db.schema first) (codes "schema") 2 shows
+latest_stored db (inr (rows, shows, there)) version first =
+    let p = stored 0 _ _ _ _ (meta_is (more_tables version ++ first.0) db.schema.indexes db.schema.views) db (as_six version db.schema first) rows shows in
+    label_shown db.trees 2 (permuted rows _ _ (IsPermutation-sym _ _ p) there)
 
--- so the labels name schema 2 where the check finds it
-pub named_found : (s : State) (r : Result (Option Version) TableFault) → HasTables One (schema_of One) → MatchResult r (Finds s.now) (Explains s.now)
-    → ((schema : Version) → IsMadeFirst schema s.now.schema → MatchResult r (λ found. (found ≡ Some schema) ↔ IsRegistry schema s.now) (λ fault. IsRegistry schema s.now → IsUntold fault))
-    → IfOk r (λ found. found ≡ Some Two → NamesLatest s.now)
-named_found s (Ok x) tables told stored = λ is version has. named_in s.now x version tables (subst (Finds s.now) is told).0 stored is has
-named_found s (Err e) tables told stored = tt
+pub names_latest : (db : Database) → ShowsLatest db → NamesLatest db
+names_latest db shown = record { shown = shown; stored = latest_stored db shown }
+
+-- the labels show schema 2 where the check finds it
+found_latest : (db : Database) → Finds db (Some Two) → ShowsLatest db
+found_latest db finds = let it = finds.1 in inr (it.0.meta, it.1.meta, it.2.counts.labels.there (codes "schema", 2) (inl refl))
+
+pub named_found : (s : State) (r : Result (Option Version) TableFault) → MatchResult r (Finds s.now) (Explains s.now) → IfOk r (λ found. found ≡ Some Two → NamesLatest s.now)
+named_found s (Ok x) told = λ is. names_latest s.now (found_latest s.now (subst (Finds s.now) is told))
+named_found s (Err e) told = tt
 
 pub named_still : (old mid : State) (r : Result (Option Version) TableFault) → (IsTrue mid.is_open → mid.now ≡ old.now) → (mid.is_open ≡ false → MatchResult r (λ _. ⊥) IsUntold)
     → IfOk r (λ found. found ≡ Some Two → NamesLatest mid.now) → IfOk r (λ found. found ≡ Some Two → NamesLatest old.now)

@@ -47,19 +47,19 @@ pub record IsUndone (old new : State) : Type 0 where
 pub record LeavesBareOrNew (s : State) : Type 0 where
   pub each : HasCleanDisk s → (db : Trees) → s.may_leave db → IsBare db ⊎ Shows (as_found db) (views_of new_history)
 
+-- the same, but a crash may leave the new registry: one could not be made, and the next call may try again
+pub record RestsBare (s : State) : Type 0 where
+  pub settled : s.in_transaction ≡ false
+  pub same : IsTrue s.is_open → s.now ≡ s.committed
+  pub empty : IsTrue s.is_open → AreMade [] s.now
+  pub leaves : LeavesBareOrNew s
+
 abbrev pub table_names : List (List ℕ)
 table_names = codes "meta" ∷ codes "account" ∷ codes "item" ∷ codes "submission" ∷ codes "remark" ∷ codes "receipt" ∷ codes "item_since" ∷ []
 
 -- some table, index or view has the name of one of the seven, or the connection is shut
 abbrev pub IsMet : State → Type 0
 IsMet s = IsTrue s.is_open → (name : List ℕ) × Has table_names name × (is_used s.now.schema name ≡ true)
-
--- what it is told as that tables can't be made; they are of no later schema
-abbrev pub IsOfMaking : TableFault → Type 0
-IsOfMaking Memory = Unit {0}
-IsOfMaking Store = Unit {0}
-IsOfMaking (NewerSchema n) = ⊥
-IsOfMaking Damaged = Unit {0}
 
 -- tables of a registry are there already, which is told as damage; else a fault has its cause
 abbrev pub IsMetFault : State → State → TableFault → Type 0

@@ -1,4 +1,5 @@
 pub mod Creation
+pub mod AtOnce
 pub mod Making
 pub mod Puts
 pub mod Applies

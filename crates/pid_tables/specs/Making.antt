@@ -14,12 +14,12 @@ use Rattle.sqlite.specs.Table.{Table}
 use Rattle.sqlite_resolve.specs.declared.compiled.Compiled.{Compiled}
 use Rattle.sqlite_resolve.specs.declared.error.CompileError.{CompileError}
 use Rattle.pid_rows.specs.declared.fault.TableFault.{TableFault}
-use Rattle.pid_rows.specs.Faults.{IsUntold}
+use Rattle.pid_rows.specs.Faults.{IsUntold, IsNotLater}
 use Rattle.pid_rows.specs.PairRows.{Map, RowsAre}
 use Rattle.pid_rows.specs.Schema.{pid_schema}
 use Rattle.pid_rows.specs.TableRows.{meta_row}
 pub use Rattle.pid_tables.specs.Creation.{making}
-use Rattle.pid_tables.specs.Creation.{AreMade, IsOfMaking, IsMetFault}
+use Rattle.pid_tables.specs.Creation.{AreMade, IsMetFault}
 
 -- one statement that defines a table
 abbrev pub IsDefinition : List ℕ → Compiled → Type 0
@@ -60,7 +60,7 @@ pub record TookNames (names : List (List ℕ)) (old new : Schema) : Type 0 where
 
 -- A step of the making in any database: it answers a value only where each of the names was free.
 abbrev pub Takes : {X : Type 0} → State → State → Result X TableFault → List (List ℕ) → Type 0
-Takes old new result names = HasCleanDisk new → IsTrue old.in_transaction → MatchResult result (λ _. TookNames names old.now.schema new.now.schema) IsOfMaking
+Takes old new result names = HasCleanDisk new → IsTrue old.in_transaction → MatchResult result (λ _. TookNames names old.now.schema new.now.schema) IsNotLater
 
 abbrev pub IsRefused : Result Compiled CompileError → Type 0
 IsRefused (Ok c) = ⊥

@@ -1,18 +1,18 @@
 //! Makes the tables in a database that has none.
-ghost use Rattle.std.specs.Prelude.{◌≡◌, ℕ, [], ◌∷◌, ◌++◌, false, None, List, IfErr, MatchResult, OnOk, IsTrue, codes};
+ghost use Rattle.std.specs.Prelude.{◌≡◌, ℕ, [], ◌∷◌, ◌++◌, false, None, List, IfErr, MatchResult, OnErr, OnOk, IsTrue, codes};
 ghost use Rattle.sqlite.specs.Listing.{understood};
 ghost use Rattle.sqlite.specs.Table.{Table};
 ghost use Rattle.pid_moderation.specs.History.{new_history};
 ghost use Rattle.pid_moderation.specs.Views.{Views, views_of};
 ghost use Rattle.pid_rows.specs.Schema as tables;
 ghost use Rattle.pid_rows.specs.Schema.{pid_schema};
-ghost use Rattle.pid_rows.specs.Faults.{IsUntold};
+ghost use Rattle.pid_rows.specs.Faults.{IsUntold, IsNotLater};
 ghost use Rattle.pid_rows.specs.PairRows.{Map};
 ghost use Rattle.pid_rows.specs.Shows.{Shows, meta_of};
-ghost use Rattle.pid_tables.specs.Creation.{AreMade, IsOfMaking, table_names};
+ghost use Rattle.pid_tables.specs.Creation.{AreMade, table_names};
 ghost use Rattle.pid_tables.specs.Making.{making, Creates, IsMakerOf, IsRefused, HasOnlyMeta, with_label};
 ghost use Rattle.pid_rows.specs.Clauses.{AtRest, GoesOn, HasCleanDisk, OnlyReads, is_open, seen};
-ghost use Rattle.pid_tables.specs.Clauses.{FindsTables, IsBlank, IsMet, IsMetFault, LeavesBareOrNew, Makes, Takes};
+ghost use Rattle.pid_tables.specs.Clauses.{FindsTables, IsMet, IsMetFault, IsOneStep, IsTakenBack, Makes, RestsBare, Takes};
 
 use crate::batch::commit;
 use pid_moderation::Rank;
@@ -101,6 +101,7 @@ fn add_label<S: Alter>(
 ) -> Result<(), TableFault>
     ensures same_reference { tx.new.conn.ghost_name ≡ tx.old.conn.ghost_name }
     ensures goes { GoesOn S.Store tx.old.conn.now tx.new.conn.now result }
+    ensures never { IfErr result IsNotLater }
     ensures added { HasCleanDisk S.Store tx.new.conn.now → IsTrue tx.old.conn.now.in_transaction → (m : Map (List ℕ) ℕ) → HasOnlyMeta m (seen S.Store tx.old.conn.now) → m label.now ≡ None
         → MatchResult result (λ _. HasOnlyMeta (with_label label.now value m) (seen S.Store tx.new.conn.now)) IsUntold }
 {
@@ -116,6 +117,7 @@ fn add_label<S: Alter>(
 fn add_labels<S: Alter>(tx: &mut Transaction<'_, S>) -> Result<(), TableFault>
     ensures same_reference { tx.new.conn.ghost_name ≡ tx.old.conn.ghost_name }
     ensures goes { GoesOn S.Store tx.old.conn.now tx.new.conn.now result }
+    ensures never { IfErr result IsNotLater }
     ensures added { HasCleanDisk S.Store tx.new.conn.now → IsTrue tx.old.conn.now.in_transaction → HasOnlyMeta (λ _. None) (seen S.Store tx.old.conn.now)
         → MatchResult result (λ _. HasOnlyMeta (meta_of (record { items = 0; submissions = 0 }) 0) (seen S.Store tx.new.conn.now)) IsUntold }
 {
@@ -130,7 +132,8 @@ fn fill<S: Alter>(tx: &mut Transaction<'_, S>) -> Result<(), TableFault>
     ensures goes { GoesOn S.Store tx.old.conn.now tx.new.conn.now result }
     ensures filled { HasCleanDisk S.Store tx.new.conn.now → IsTrue tx.old.conn.now.in_transaction
         → (IsTrue (is_open S.Store tx.old.conn.now) → AreMade [] (seen S.Store tx.old.conn.now)) → MatchResult result (λ _. Shows (seen S.Store tx.new.conn.now) (views_of new_history)) IsUntold }
-    ensures refused { HasCleanDisk S.Store tx.new.conn.now → IsTrue tx.old.conn.now.in_transaction → IsMet S.Store tx.old.conn.now → MatchResult result (λ _. ⊥) IsOfMaking }
+    ensures never { HasCleanDisk S.Store tx.new.conn.now → IsTrue tx.old.conn.now.in_transaction → IfErr result IsNotLater }
+    ensures refused { HasCleanDisk S.Store tx.new.conn.now → IsTrue tx.old.conn.now.in_transaction → IsMet S.Store tx.old.conn.now → MatchResult result (λ _. ⊥) IsNotLater }
     ensures met { FindsTables S.Store tx.old.conn.now tx.new.conn.now result }
 {
     make_tables(tx)?;
@@ -141,19 +144,24 @@ fn fill<S: Alter>(tx: &mut Transaction<'_, S>) -> Result<(), TableFault>
 /// Makes the tables of a new registry in a database that has none, in one transaction: `root` is an administrator, and
 /// there is nothing else.
 ///
-/// In a database with no table at all, whatever it answers, a crash leaves that, or the new registry whole. Where a name is
-/// taken that one of the tables wants, it answers `Damaged`, or else `Memory` or `Store`, and changes nothing. Beside tables of
-/// other names the new ones are made; what they then are together, and what a crash leaves of them, no clause says.
+/// In a database with no table at all, whatever it answers, a crash leaves that, or the new registry whole; after a fault the
+/// connection has no table, and a further call may make them. Where a name is taken that one of the tables wants, it answers
+/// `Damaged`, or else `Memory` or `Store`, and changes nothing. Beside tables of other names the new ones are made, all in one
+/// step, or after a fault none of them; what they then are together, no clause says.
 pub fn create<S: Alter>(conn: &mut Connection<S>) -> Result<(), TableFault>
     requires { conn.old.in_transaction ≡ false }
     ensures settled { conn.new.in_transaction ≡ false }
     ensures clean { HasCleanDisk S.Store conn.new → HasCleanDisk S.Store conn.old }
-    ensures made { IsBlank S.Store conn.old → OnOk result (AtRest S.Store conn.new (views_of new_history)) }
-    ensures untold { HasCleanDisk S.Store conn.new → IsBlank S.Store conn.old → IfErr result IsUntold }
-    ensures crash { IsBlank S.Store conn.old → LeavesBareOrNew S.Store conn.new }
+    ensures made { RestsBare S.Store conn.old → OnOk result (AtRest S.Store conn.new (views_of new_history)) }
+    ensures untold { HasCleanDisk S.Store conn.new → RestsBare S.Store conn.old → IfErr result IsUntold }
+    ensures bare { RestsBare S.Store conn.old → OnErr result (RestsBare S.Store conn.new) }
+    // Whatever the database.
+    ensures once { IsOneStep S.Store conn.old conn.new }
+    ensures back { OnErr result (IsTakenBack S.Store conn.old conn.new) }
+    ensures never { HasCleanDisk S.Store conn.new → IfErr result IsNotLater }
     ensures shut { HasCleanDisk S.Store conn.new → is_open S.Store conn.old ≡ false → MatchResult result (λ _. ⊥) IsUntold }
     ensures rests { IsMet S.Store conn.old → OnlyReads S.Store conn.old conn.new }
-    ensures refused { HasCleanDisk S.Store conn.new → IsMet S.Store conn.old → MatchResult result (λ _. ⊥) IsOfMaking }
+    ensures refused { HasCleanDisk S.Store conn.new → IsMet S.Store conn.old → MatchResult result (λ _. ⊥) IsNotLater }
     ensures kept { (v : Views) → AtRest S.Store conn.old v → AtRest S.Store conn.new v }
     ensures met { HasCleanDisk S.Store conn.new → (v : Views) → AtRest S.Store conn.old v → MatchResult result (λ _. ⊥) (IsMetFault S.Store conn.old conn.new) }
     ensures unchanged { HasCleanDisk S.Store conn.new → IfErr result (λ fault. ¬ (IsUntold fault) → OnlyReads S.Store conn.old conn.new) }

@@ -1,8 +1,8 @@
 use Rattle.std.proofs.Common.{None, refl, codes}
 use Rattle.sqlite.specs.Held.{state}
 use Rattle.pid_tables.specs.Making.{with_label}
-use Rattle.pid_rows.specs.Faults.{IsUntold}
-use Rattle.pid_rows.proofs.CauseLemmas.{passed_on}
+use Rattle.pid_rows.specs.Faults.{IsUntold, IsNotLater}
+use Rattle.pid_rows.proofs.CauseLemmas.{passed_on, passed_from}
 use Rattle.pid_rows.proofs.GoingLemmas.{earlier}
 use Rattle.pid_tables.proofs.creation.add_labels.Goals as goal
 
@@ -43,3 +43,12 @@ returns-in_err-add_label-3-clause-added g c clean inside has =
     let n = with_label (codes "submissions") 0 m in
     passed_on c.from_residual-in_err-add_label-3.result _ _ IsUntold c.from_residual-in_err-add_label-3.ensures.1
     (c.in_err-add_label-3.ensures.added clean (two.goes.going second in_one).1 n (two.added second in_one m (one.added first inside (λ _. None) has refl) refl) refl)
+
+pub returns-in_err-add_label-clause-never : goal.returns-in_err-add_label-clause-never
+returns-in_err-add_label-clause-never g c = passed_from c.from_residual.result _ IsNotLater c.from_residual.ensures.1 c.in_err-add_label.ensures.never
+
+pub returns-in_err-add_label-2-clause-never : goal.returns-in_err-add_label-2-clause-never
+returns-in_err-add_label-2-clause-never g c = passed_from c.from_residual-in_err-add_label-2.result _ IsNotLater c.from_residual-in_err-add_label-2.ensures.1 c.in_err-add_label-2.ensures.never
+
+pub returns-in_err-add_label-3-clause-never : goal.returns-in_err-add_label-3-clause-never
+returns-in_err-add_label-3-clause-never g c = passed_from c.from_residual-in_err-add_label-3.result _ IsNotLater c.from_residual-in_err-add_label-3.ensures.1 c.in_err-add_label-3.ensures.never

@@ -1,4 +1,4 @@
-use Rattle.std.proofs.Common.{◌≡◌, Bool, true, false, OnOk, IsTrue, refl, sym, rules, arith, subst, ◌∙◌}
+use Rattle.std.proofs.Common.{◌≡◌, Bool, true, false, Ok, OnErr, OnOk, IsTrue, refl, sym, rules, arith, subst, ◌∙◌}
 use Rattle.sqlite.specs.Held.{state}
 use Rattle.sqlite.specs.State.{HasCleanDisk}
 use Rattle.sqlite.proofs.StateLemmas.{clean_if_open, survives_then}
@@ -6,22 +6,111 @@ use Rattle.sqlite.proofs.Callers.{survives_begin}
 use Rattle.pid_moderation.specs.History.{new_history}
 use Rattle.pid_moderation.specs.Views.{views_of}
 use Rattle.pid_rows.specs.Leaves.{AtRest, OnlyReads}
-use Rattle.pid_rows.specs.Faults.{IsUntold}
-use Rattle.pid_rows.proofs.CauseLemmas.{passed_on}
+use Rattle.pid_rows.specs.Faults.{IsUntold, IsNotLater}
+use Rattle.pid_rows.proofs.CauseLemmas.{passed_on, passed_from}
+use Rattle.pid_rows.proofs.LeaveLemmas.{on_err}
 use Rattle.pid_rows.proofs.GoingLemmas.{earlier}
 use Rattle.pid_rows.proofs.OnlyReading.{reads_begun}
 use Rattle.pid_tables.proofs.MetLemmas.{reads_if_never, met_at_rest}
-use Rattle.pid_tables.proofs.MoveLemmas.{all_err, all_untold, never_told}
+use Rattle.pid_tables.proofs.MoveLemmas.{all_err, all_never, all_untold, never_told}
+use Rattle.pid_tables.proofs.AtOnceLemmas.{reads_once, reads_back, committed_once, commit_back, commit_bare, still_bare}
+use Rattle.pid_tables.specs.AtOnce.{IsOneStep, IsTakenBack}
+use Rattle.pid_tables.specs.Creation.{RestsBare}
 use Rattle.pid_tables.proofs.creation.create.Goals as goal
 
 pub returns-clause-made : goal.returns-clause-made
-returns-clause-made g c blank =
+returns-clause-made g c bare =
     let goes = rw c.transaction-batch.ensures.begun at c.in_ok-fill.ensures.goes in
     let shows = rw c.transaction-batch.ensures.begun at c.in_ok-fill.ensures.filled in
     let end = c.commit.new.batch.0 in
     let same : end ≡ c.conn-2-1.given.0 = search rules in
     subst (λ h. OnOk c.commit.result (AtRest (state g.S.Store h) (views_of new_history))) same
-    (c.commit.ensures.stands (views_of new_history) (λ clean. ((goes.going clean refl).0, shows clean refl blank.empty)))
+    (c.commit.ensures.stands (views_of new_history) (λ clean. ((goes.going clean refl).0, shows clean refl bare.empty)))
+
+-- ---- whatever the database
+
+pub returns-in_err-fill-clause-once : goal.returns-in_err-fill-clause-once
+returns-in_err-fill-clause-once g c =
+    let end = c.drop-batch.new.self.0 in
+    let same : end ≡ c.conn-1.given.0 = search rules in
+    let first = c.fill.new.tx.conn.now in
+    let goes = rw c.transaction-batch.ensures.begun at c.fill.ensures.goes in
+    subst (λ h. IsOneStep (state g.S.Store c.args.conn.now) (state g.S.Store h)) same
+    (reads_once (state g.S.Store c.args.conn.now) (state g.S.Store end) (reads_begun g.S.Store c.args.conn.now first end c.fill.result
+    (clean_if_open (g.S.Store.view first.store) (g.met.S.Store.shut_if_dirty first.store)) (clean_if_open (g.S.Store.view end.store) (g.met.S.Store.shut_if_dirty end.store))
+    goes c.drop-batch.ensures.ended c.drop-batch.ensures.undone c.drop-batch.ensures.survives))
+
+pub returns-clause-once : goal.returns-clause-once
+returns-clause-once g c =
+    let end = c.commit.new.batch.0 in
+    let same : end ≡ c.conn-2-1.given.0 = search rules in
+    let goes = rw c.transaction-batch.ensures.begun at c.in_ok-fill.ensures.goes in
+    subst (λ h. IsOneStep (state g.S.Store c.args.conn.now) (state g.S.Store h)) same
+    (committed_once g.S.Store c.args.conn.now c.fill.new.tx.conn.now end (Ok c.in_ok-fill.field-0) goes c.commit.ensures.survives)
+
+pub returns-in_err-fill-clause-back : goal.returns-in_err-fill-clause-back
+returns-in_err-fill-clause-back g c =
+    let end = c.drop-batch.new.self.0 in
+    let same : end ≡ c.conn-1.given.0 = search rules in
+    let first = c.fill.new.tx.conn.now in
+    let goes = rw c.transaction-batch.ensures.begun at c.fill.ensures.goes in
+    on_err c.from_residual.result (subst (λ h. IsTakenBack (state g.S.Store c.args.conn.now) (state g.S.Store h)) same
+    (reads_back (state g.S.Store c.args.conn.now) (state g.S.Store end) (reads_begun g.S.Store c.args.conn.now first end c.fill.result
+    (clean_if_open (g.S.Store.view first.store) (g.met.S.Store.shut_if_dirty first.store)) (clean_if_open (g.S.Store.view end.store) (g.met.S.Store.shut_if_dirty end.store))
+    goes c.drop-batch.ensures.ended c.drop-batch.ensures.undone c.drop-batch.ensures.survives)))
+
+pub returns-clause-back : goal.returns-clause-back
+returns-clause-back g c =
+    let first = c.fill.new.tx.conn.now in
+    let end = c.commit.new.batch.0 in
+    let same : end ≡ c.conn-2-1.given.0 = search rules in
+    let goes = rw c.transaction-batch.ensures.begun at c.in_ok-fill.ensures.goes in
+    subst (λ h. OnErr c.commit.result (IsTakenBack (state g.S.Store c.args.conn.now) (state g.S.Store h))) same
+    (commit_back g.S.Store c.args.conn.now first end (Ok c.in_ok-fill.field-0) goes c.commit.ensures.survives (clean_if_open (g.S.Store.view end.store) (g.met.S.Store.shut_if_dirty end.store)) c.commit.result
+    (λ clean. c.commit.ensures.undone clean (goes.going (earlier (state g.S.Store first) (state g.S.Store end) c.commit.ensures.survives clean) refl).1))
+
+pub returns-in_err-fill-clause-never : goal.returns-in_err-fill-clause-never
+returns-in_err-fill-clause-never g c clean =
+    let end = c.drop-batch.new.self.0 in
+    let same : end ≡ c.conn-1.given.0 = search rules in
+    let late : HasCleanDisk (state g.S.Store end) = search rules in
+    let mid : HasCleanDisk (state g.S.Store c.fill.new.tx.conn.now) = omega (arith, c.drop-batch.ensures.survives.clean) in
+    let never = rw c.transaction-batch.ensures.begun at c.in_err-fill.ensures.never in
+    passed_from c.from_residual.result _ IsNotLater c.from_residual.ensures.1 (never mid refl)
+
+pub returns-clause-never : goal.returns-clause-never
+returns-clause-never g c clean =
+    let first = c.fill.new.tx.conn.now in
+    let end = c.commit.new.batch.0 in
+    let same : end ≡ c.conn-2-1.given.0 = search rules in
+    let late : HasCleanDisk (state g.S.Store end) = search rules in
+    let goes = rw c.transaction-batch.ensures.begun at c.in_ok-fill.ensures.goes in
+    all_never c.commit.result (all_untold (state g.S.Store first) (state g.S.Store end) c.commit.result
+    (c.commit.ensures.caused late (goes.going (earlier (state g.S.Store first) (state g.S.Store end) c.commit.ensures.survives late) refl).1))
+
+-- ---- no table
+
+pub returns-in_err-fill-clause-bare : goal.returns-in_err-fill-clause-bare
+returns-in_err-fill-clause-bare g c rest =
+    let end = c.drop-batch.new.self.0 in
+    let same : end ≡ c.conn-1.given.0 = search rules in
+    let first = c.fill.new.tx.conn.now in
+    let goes = rw c.transaction-batch.ensures.begun at c.fill.ensures.goes in
+    on_err c.from_residual.result (subst (λ h. RestsBare (state g.S.Store h)) same
+    (still_bare (state g.S.Store c.args.conn.now) (state g.S.Store end) (reads_begun g.S.Store c.args.conn.now first end c.fill.result
+    (clean_if_open (g.S.Store.view first.store) (g.met.S.Store.shut_if_dirty first.store)) (clean_if_open (g.S.Store.view end.store) (g.met.S.Store.shut_if_dirty end.store))
+    goes c.drop-batch.ensures.ended c.drop-batch.ensures.undone c.drop-batch.ensures.survives) rest))
+
+pub returns-clause-bare : goal.returns-clause-bare
+returns-clause-bare g c rest =
+    let first = c.fill.new.tx.conn.now in
+    let end = c.commit.new.batch.0 in
+    let same : end ≡ c.conn-2-1.given.0 = search rules in
+    let goes = rw c.transaction-batch.ensures.begun at c.in_ok-fill.ensures.goes in
+    let shows = rw c.transaction-batch.ensures.begun at c.in_ok-fill.ensures.filled in
+    subst (λ h. OnErr c.commit.result (RestsBare (state g.S.Store h))) same
+    (commit_bare g.S.Store c.args.conn.now first end (Ok c.in_ok-fill.field-0) goes c.commit.ensures.survives (clean_if_open (g.S.Store.view end.store) (g.met.S.Store.shut_if_dirty end.store)) c.commit.result
+    c.commit.ensures.ended (λ clean. c.commit.ensures.undone clean (goes.going (earlier (state g.S.Store first) (state g.S.Store end) c.commit.ensures.survives clean) refl).1) (λ clean. shows clean refl rest.empty) rest)
 
 -- ---- where a name is taken
 

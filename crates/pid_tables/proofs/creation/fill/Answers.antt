@@ -1,8 +1,9 @@
 use Rattle.std.proofs.Common.{refl}
 use Rattle.sqlite.specs.Held.{state}
-use Rattle.pid_rows.proofs.CauseLemmas.{passed_on}
+use Rattle.pid_rows.specs.Faults.{IsNotLater}
+use Rattle.pid_rows.proofs.CauseLemmas.{passed_on, passed_from}
 use Rattle.pid_rows.proofs.GoingLemmas.{earlier}
-use Rattle.pid_tables.specs.Creation.{IsOfMaking, IsMetFault}
+use Rattle.pid_tables.specs.Creation.{IsMetFault}
 use Rattle.pid_tables.proofs.CreateLemmas.{all_made, shows_nothing, nothing_yet}
 use Rattle.pid_tables.proofs.MetLemmas.{none_met}
 use Rattle.pid_tables.proofs.creation.fill.Goals as goal
@@ -22,7 +23,7 @@ returns-clause-filled g c clean inside made =
 -- ---- where a name is taken
 
 pub returns-in_err-make_tables-clause-refused : goal.returns-in_err-make_tables-clause-refused
-returns-in_err-make_tables-clause-refused g c clean inside met = passed_on c.from_residual.result _ _ IsOfMaking c.from_residual.ensures.1 (c.in_err-make_tables.ensures.takes clean inside)
+returns-in_err-make_tables-clause-refused g c clean inside met = passed_on c.from_residual.result _ _ IsNotLater c.from_residual.ensures.1 (c.in_err-make_tables.ensures.takes clean inside)
 
 pub returns-in_err-add_labels-clause-refused : goal.returns-in_err-add_labels-clause-refused
 returns-in_err-add_labels-clause-refused g c clean inside met =
@@ -55,3 +56,11 @@ returns-clause-met g c clean inside has =
     let d = state g.S.Store c.add_labels.new.tx.conn.now in
     let second = earlier d (state g.S.Store c.add_account.new.tx.conn.now) c.add_account.ensures.goes.survives clean in
     absurd (c.in_ok-make_tables.ensures.met (earlier (state g.S.Store c.make_tables.new.tx.conn.now) d c.add_labels.ensures.goes.survives second) inside has)
+
+-- ---- no fault tells a later schema
+
+pub returns-in_err-make_tables-clause-never : goal.returns-in_err-make_tables-clause-never
+returns-in_err-make_tables-clause-never g c clean inside = passed_from c.from_residual.result _ IsNotLater c.from_residual.ensures.1 (c.in_err-make_tables.ensures.takes clean inside)
+
+pub returns-in_err-add_labels-clause-never : goal.returns-in_err-add_labels-clause-never
+returns-in_err-add_labels-clause-never g c clean inside = passed_from c.from_residual-in_err-add_labels.result _ IsNotLater c.from_residual-in_err-add_labels.ensures.1 c.in_err-add_labels.ensures.never

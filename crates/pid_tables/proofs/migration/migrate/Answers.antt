@@ -1,33 +1,35 @@
 use Rattle.sqlite.specs.Held.{state}
 use Rattle.pid_moderation.specs.Views.{views_of}
 use Rattle.pid_rows.specs.declared.version.Version.TheVariants.{One}
-use Rattle.pid_rows.specs.Faults.{IsUntold}
+use Rattle.pid_rows.specs.Faults.{IsUntold, IsNotLater}
 use Rattle.pid_rows.specs.Leaves.{OnlyReads, RestsIn}
 use Rattle.pid_rows.proofs.CauseLemmas.{passed_on}
 use Rattle.pid_rows.proofs.OnlyReading.{reads_then, rests_in_still}
-use Rattle.pid_tables.specs.Creation.{LeavesBareOrNew}
-use Rattle.pid_tables.proofs.BringLemmas.{blank_leaves, none_there, still_met, met_reads, left_alone, or_untold, brought, named_brought}
+use Rattle.pid_rows.proofs.LeaveLemmas.{on_err}
+use Rattle.pid_table_check.proofs.Later.{untold_never}
+use Rattle.pid_tables.specs.Creation.{RestsBare}
+use Rattle.pid_tables.proofs.AtOnceLemmas.{reads_once, reads_back, reads_then_once, reads_then_back, still_bare}
+use Rattle.pid_tables.proofs.BringLemmas.{made_alone, none_there, still_met, met_reads, left_alone, or_untold, brought, named_brought}
 use Rattle.pid_tables.proofs.MoveLemmas.{or_never}
-use Rattle.pid_tables.proofs.OpenLemmas.{still_blank}
 use Rattle.pid_tables.proofs.migration.migrate.Goals as goal
 
 -- ---- no table
 
 pub returns-in_err-found-clause-created : goal.returns-in_err-found-clause-created
-returns-in_err-found-clause-created g c clean blank =
+returns-in_err-found-clause-created g c clean bare =
     let old = state g.S.Store c.args.conn.now in
     let mid = state g.S.Store c.standing.new.conn in
     let bad = c.in_err-found.ensures in
-    passed_on c.from_residual.result _ _ (λ fault. IsUntold fault × LeavesBareOrNew mid) c.from_residual.ensures.1
-    (none_there old c.schemas_have_tables.ensures.none blank (λ closed. bad.shut clean closed) (λ none. bad.bare clean none), blank_leaves mid (still_blank old mid c.standing.ensures.rests blank))
+    passed_on c.from_residual.result _ _ (λ fault. IsUntold fault × RestsBare mid) c.from_residual.ensures.1
+    (none_there old c.schemas_have_tables.ensures.none bare (λ closed. bad.shut clean closed) (λ none. bad.bare clean none), still_bare old mid c.standing.ensures.rests bare)
 
 pub returns-clause-created : goal.returns-clause-created
-returns-clause-created g c clean blank =
+returns-clause-created g c clean bare =
     let old = state g.S.Store c.args.conn.now in
     let mid = state g.S.Store c.standing.new.conn in
     let first = c.bring.ensures.clean clean in
     let good = c.in_ok-found.ensures in
-    c.bring.ensures.created clean (none_there old c.schemas_have_tables.ensures.none blank (λ closed. absurd (good.shut first closed)) (λ none. good.bare first none)) (still_blank old mid c.standing.ensures.rests blank)
+    c.bring.ensures.created clean (none_there old c.schemas_have_tables.ensures.none bare (λ closed. absurd (good.shut first closed)) (λ none. good.bare first none)) (still_bare old mid c.standing.ensures.rests bare)
 
 -- ---- tables of schema 1
 
@@ -57,7 +59,7 @@ pub returns-clause-found : goal.returns-clause-found
 returns-clause-found g c clean some =
     let old = state g.S.Store c.args.conn.now in
     brought old (state g.S.Store c.bring.new.conn) c.in_ok-found.found c.bring.result (c.in_ok-found.ensures.told (c.bring.ensures.clean clean)) some c.bring.ensures.step
-    (λ is. left_alone g.S.Store old c.standing.new.conn c.bring.new.conn c.bring.result c.standing.ensures.rests (c.bring.ensures.already is))
+    (λ is. left_alone g.S.Store old c.standing.new.conn c.bring.new.conn c.bring.result c.standing.ensures.rests (c.bring.ensures.already is)) (c.bring.ensures.never clean)
 
 pub returns-clause-unchanged : goal.returns-clause-unchanged
 returns-clause-unchanged g c clean =
@@ -89,5 +91,22 @@ pub returns-clause-named : goal.returns-clause-named
 returns-clause-named g c clean =
     named_brought c.in_ok-found.found c.bring.result c.bring.ensures.named (c.in_ok-found.ensures.named (c.bring.ensures.clean clean))
 
+pub returns-in_err-found-clause-bare : goal.returns-in_err-found-clause-bare
+returns-in_err-found-clause-bare g c clean none = passed_on c.from_residual.result _ _ IsNotLater c.from_residual.ensures.1 (untold_never _ (c.in_err-found.ensures.bare clean none))
+
 pub returns-clause-bare : goal.returns-clause-bare
-returns-clause-bare g c clean none = c.bring.ensures.bare (c.in_ok-found.ensures.bare (c.bring.ensures.clean clean) none)
+returns-clause-bare g c clean none = made_alone c.in_ok-found.found c.bring.result (c.in_ok-found.ensures.bare (c.bring.ensures.clean clean) none) c.bring.ensures.bare (c.bring.ensures.never clean)
+
+-- ---- whatever there is
+
+pub returns-in_err-found-clause-once : goal.returns-in_err-found-clause-once
+returns-in_err-found-clause-once g c = reads_once (state g.S.Store c.args.conn.now) (state g.S.Store c.standing.new.conn) c.standing.ensures.rests
+
+pub returns-clause-once : goal.returns-clause-once
+returns-clause-once g c = reads_then_once (state g.S.Store c.args.conn.now) (state g.S.Store c.standing.new.conn) (state g.S.Store c.bring.new.conn) c.standing.ensures.rests c.bring.ensures.once
+
+pub returns-in_err-found-clause-back : goal.returns-in_err-found-clause-back
+returns-in_err-found-clause-back g c = on_err c.from_residual.result (reads_back (state g.S.Store c.args.conn.now) (state g.S.Store c.standing.new.conn) c.standing.ensures.rests)
+
+pub returns-clause-back : goal.returns-clause-back
+returns-clause-back g c = reads_then_back (state g.S.Store c.args.conn.now) (state g.S.Store c.standing.new.conn) (state g.S.Store c.bring.new.conn) c.bring.result c.standing.ensures.rests c.bring.ensures.back

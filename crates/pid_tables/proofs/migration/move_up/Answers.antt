@@ -3,14 +3,16 @@ use Rattle.sqlite.specs.Held.{state}
 use Rattle.sqlite.specs.State.{HasCleanDisk}
 use Rattle.sqlite.proofs.StateLemmas.{clean_if_open}
 use Rattle.pid_rows.specs.declared.version.Version.TheVariants.{One}
-use Rattle.pid_rows.specs.Faults.{IsUntold}
+use Rattle.pid_rows.specs.Faults.{IsUntold, IsNotLater}
 use Rattle.pid_rows.specs.Leaves.{AtRest, OnlyReads, RestsIn}
 use Rattle.pid_rows.specs.Shows.{counts_of}
 use Rattle.pid_rows.proofs.CauseLemmas.{passed_from}
 use Rattle.pid_rows.proofs.GoingLemmas.{earlier}
 use Rattle.pid_rows.proofs.LeaveLemmas.{on_err}
 use Rattle.pid_rows.proofs.OnlyReading.{reads_begun, rests_in_still}
-use Rattle.pid_tables.proofs.MoveLemmas.{failed_rests, all_untold, never_told, all_err}
+use Rattle.pid_tables.proofs.AtOnceLemmas.{reads_once, reads_back, committed_once, commit_back}
+use Rattle.pid_tables.proofs.MoveLemmas.{failed_rests, all_never, all_untold, never_told, all_err}
+use Rattle.pid_tables.specs.AtOnce.{IsOneStep, IsTakenBack}
 use Rattle.pid_tables.proofs.migration.move_up.Goals as goal
 
 pub returns-clause-moved : goal.returns-clause-moved
@@ -82,4 +84,59 @@ returns-clause-unchanged g c clean =
     let late : HasCleanDisk (state g.S.Store end) = search rules in
     let goes = rw c.transaction-batch.ensures.begun at c.in_ok-move_tables.ensures.goes in
     never_told _ c.commit.result (all_untold (state g.S.Store first) (state g.S.Store end) c.commit.result
+    (c.commit.ensures.caused late (goes.going (earlier (state g.S.Store first) (state g.S.Store end) c.commit.ensures.survives late) refl).1))
+
+-- ---- whatever the database
+
+pub returns-in_err-move_tables-clause-once : goal.returns-in_err-move_tables-clause-once
+returns-in_err-move_tables-clause-once g c =
+    let end = c.drop-batch.new.self.0 in
+    let same : end ≡ c.conn-1.given.0 = search rules in
+    let first = c.move_tables.new.tx.conn.now in
+    let goes = rw c.transaction-batch.ensures.begun at c.move_tables.ensures.goes in
+    subst (λ h. IsOneStep (state g.S.Store c.args.conn.now) (state g.S.Store h)) same
+    (reads_once (state g.S.Store c.args.conn.now) (state g.S.Store end) (reads_begun g.S.Store c.args.conn.now first end c.move_tables.result
+    (clean_if_open (g.S.Store.view first.store) (g.met.S.Store.shut_if_dirty first.store)) (clean_if_open (g.S.Store.view end.store) (g.met.S.Store.shut_if_dirty end.store))
+    goes c.drop-batch.ensures.ended c.drop-batch.ensures.undone c.drop-batch.ensures.survives))
+
+pub returns-clause-once : goal.returns-clause-once
+returns-clause-once g c =
+    let end = c.commit.new.batch.0 in
+    let same : end ≡ c.conn-2-1.given.0 = search rules in
+    let goes = rw c.transaction-batch.ensures.begun at c.in_ok-move_tables.ensures.goes in
+    subst (λ h. IsOneStep (state g.S.Store c.args.conn.now) (state g.S.Store h)) same
+    (committed_once g.S.Store c.args.conn.now c.move_tables.new.tx.conn.now end (Ok c.in_ok-move_tables.field-0) goes c.commit.ensures.survives)
+
+pub returns-in_err-move_tables-clause-back : goal.returns-in_err-move_tables-clause-back
+returns-in_err-move_tables-clause-back g c =
+    let end = c.drop-batch.new.self.0 in
+    let same : end ≡ c.conn-1.given.0 = search rules in
+    let first = c.move_tables.new.tx.conn.now in
+    let goes = rw c.transaction-batch.ensures.begun at c.move_tables.ensures.goes in
+    on_err c.from_residual.result (subst (λ h. IsTakenBack (state g.S.Store c.args.conn.now) (state g.S.Store h)) same
+    (reads_back (state g.S.Store c.args.conn.now) (state g.S.Store end) (reads_begun g.S.Store c.args.conn.now first end c.move_tables.result
+    (clean_if_open (g.S.Store.view first.store) (g.met.S.Store.shut_if_dirty first.store)) (clean_if_open (g.S.Store.view end.store) (g.met.S.Store.shut_if_dirty end.store))
+    goes c.drop-batch.ensures.ended c.drop-batch.ensures.undone c.drop-batch.ensures.survives)))
+
+pub returns-clause-back : goal.returns-clause-back
+returns-clause-back g c =
+    let first = c.move_tables.new.tx.conn.now in
+    let end = c.commit.new.batch.0 in
+    let same : end ≡ c.conn-2-1.given.0 = search rules in
+    let goes = rw c.transaction-batch.ensures.begun at c.in_ok-move_tables.ensures.goes in
+    subst (λ h. OnErr c.commit.result (IsTakenBack (state g.S.Store c.args.conn.now) (state g.S.Store h))) same
+    (commit_back g.S.Store c.args.conn.now first end (Ok c.in_ok-move_tables.field-0) goes c.commit.ensures.survives (clean_if_open (g.S.Store.view end.store) (g.met.S.Store.shut_if_dirty end.store)) c.commit.result
+    (λ clean. c.commit.ensures.undone clean (goes.going (earlier (state g.S.Store first) (state g.S.Store end) c.commit.ensures.survives clean) refl).1))
+
+pub returns-in_err-move_tables-clause-never : goal.returns-in_err-move_tables-clause-never
+returns-in_err-move_tables-clause-never g c clean = passed_from c.from_residual.result _ IsNotLater c.from_residual.ensures.1 c.in_err-move_tables.ensures.never
+
+pub returns-clause-never : goal.returns-clause-never
+returns-clause-never g c clean =
+    let first = c.move_tables.new.tx.conn.now in
+    let end = c.commit.new.batch.0 in
+    let same : end ≡ c.conn-2-1.given.0 = search rules in
+    let late : HasCleanDisk (state g.S.Store end) = search rules in
+    let goes = rw c.transaction-batch.ensures.begun at c.in_ok-move_tables.ensures.goes in
+    all_never c.commit.result (all_untold (state g.S.Store first) (state g.S.Store end) c.commit.result
     (c.commit.ensures.caused late (goes.going (earlier (state g.S.Store first) (state g.S.Store end) c.commit.ensures.survives late) refl).1))

@@ -8,7 +8,6 @@ use Rattle.pid_rows.specs.Shows.{counts_of, numbers_of}
 use Rattle.pid_rows.proofs.CauseLemmas.{passed_on}
 use Rattle.pid_rows.proofs.OnlyReading.{reads_then, rests_in_still}
 use Rattle.pid_table_check.specs.Checking.{Explains}
-use Rattle.pid_table_check.proofs.Complete.{has_tables}
 use Rattle.pid_tables.proofs.StandLemmas.{seen_still, untold_explains, told_before, as_standing, none_found, none_within, good_found, named_found, named_still}
 use Rattle.pid_tables.proofs.migration.standing.Goals as goal
 
@@ -109,5 +108,4 @@ returns-clause-named g c clean =
     let old = state g.S.Store c.args.conn.now in
     let mid = state g.S.Store c.is_current.new.conn in
     let still = seen_still old mid (c.is_autocommit-settled.ensures.settled (c.is_autocommit-settled.ensures.value ∙ ap not c.requires)) c.is_current.ensures.rests in
-    named_still old mid c.check.result still (c.check.ensures.shut clean)
-    (named_found mid c.check.result (has_tables One) (c.check.ensures.told clean) (c.check.ensures.stored clean))
+    named_still old mid c.check.result still (c.check.ensures.shut clean) (named_found mid c.check.result (c.check.ensures.told clean))
