@@ -4,19 +4,23 @@ use Rattle.std.proofs.lemmas.Bool.{eqb-true}
 use Rattle.std.specs.Prelude.{◌==◌}
 use Rattle.sqlite.specs.Effect.{Database}
 use Rattle.sqlite.specs.Order.{Row, column}
+use Rattle.sqlite.specs.State.{State, HasCleanDisk}
 use Rattle.sqlite.specs.declared.types.Value.TheVariants.{Text}
 use Rattle.pid_moderation.specs.Views.{Views}
 use Rattle.pid_rows.specs.declared.version.Version.{Version}
 use Rattle.pid_rows.specs.declared.version.Version.TheVariants.{One, Two}
 use Rattle.pid_rows.specs.declared.fault.TableFault.{TableFault}
 use Rattle.pid_rows.specs.declared.fault.TableFault.TheVariants.{Memory, Store, NewerSchema, Damaged}
+use Rattle.pid_rows.specs.Causes.{IsCaused}
 use Rattle.pid_rows.specs.Faults.{IsUntold}
-use Rattle.pid_rows.specs.LabelRows.{HasLabel, LacksNumber, ExplainsNumber, ShowsNumber}
+use Rattle.pid_rows.specs.Leaves.{OnlyReads}
+use Rattle.pid_rows.specs.LabelRows.{HasLabel, IsDamageOf, LacksNumber, ExplainsNumber, ShowsNumber}
 use Rattle.pid_rows.specs.PairRows.{IsPairRow}
 use Rattle.pid_rows.specs.Schema.{number_of}
 use Rattle.pid_rows.specs.Shows.{Counts, Numbers, ShowsKeeping, labels_of}
 use Rattle.pid_rows.specs.TableRows.{number, meta_row}
 use Rattle.pid_rows.proofs.Keys.{pos_same}
+use Rattle.pid_table_check.proofs.Asking.{IsSame, caused_then}
 use Rattle.pid_tables.specs.Steps.{is_latest}
 
 small : (version : Version) → number_of version < 2 ^ 32
@@ -61,3 +65,20 @@ second_is_latest Two n is = ap (λ m. m == 2) is
 -- a number that is compared with 2
 pub shown_second : (db : Database) (n : ℕ) → (n == 2) ≡ true → ShowsNumber db (codes "schema") n → ShowsNumber db (codes "schema") 2
 shown_second db n is shows = subst (ShowsNumber db (codes "schema")) (eqb-true n 2 is) shows
+
+-- ---- what is told of the label, whatever the schema
+
+pub untold_damage : (This : Type 0) (e : TableFault) → IsUntold e → IsDamageOf This e
+untold_damage This Memory h = tt
+untold_damage This Store h = tt
+untold_damage This (NewerSchema n) h = h
+untold_damage This Damaged h = absurd h
+
+pub both_told : (P : ℕ → Type 0) (Q : TableFault → Type 0) (r : Result ℕ TableFault) → IfOk r P → IfErr r Q → MatchResult r P Q
+both_told P Q (Ok n) good bad = good
+both_told P Q (Err e) good bad = bad
+
+-- a cause of what came later is one of the whole
+pub caused_all : (a b c : State) (Readable : Type 0) (P : ℕ → Type 0) (r : Result ℕ TableFault) → IsSame a b → OnlyReads b c → HasCleanDisk c → MatchResult r P (λ e. Readable → IsCaused b c e) → MatchResult r P (λ e. Readable → IsCaused a c e)
+caused_all a b c Readable P (Ok n) one rests clean h = h
+caused_all a b c Readable P (Err e) one rests clean h = λ readable. caused_then a b c e one rests clean (h readable)

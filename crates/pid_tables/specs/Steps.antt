@@ -1,5 +1,5 @@
 -- What stands in a database that is to be brought to schema 2, and what becomes of it.
-use Rattle.std.specs.Prelude.{◌≡◌, ◌⊎◌, Bool, true, false, List, Option, Some, codes}
+use Rattle.std.specs.Prelude.{◌≡◌, ◌⊎◌, ℕ, Bool, true, false, List, Option, Some, codes}
 use Rattle.sqlite.specs.Effect.{Database}
 use Rattle.sqlite.specs.Order.{Row}
 use Rattle.sqlite.specs.State.{State}
@@ -10,10 +10,8 @@ use Rattle.pid_rows.specs.declared.version.Version.TheVariants.{One, Two}
 use Rattle.pid_rows.specs.Faults.{IsNotLater}
 use Rattle.pid_rows.specs.LabelRows.{HasLabel, ShowsNumber}
 use Rattle.pid_rows.specs.Leaves.{OnlyReads}
-use Rattle.pid_table_check.specs.declared.shape.Table.TheVariants.{Meta}
 use Rattle.pid_table_check.specs.Checking.{Explains, Finds}
 use Rattle.pid_table_check.specs.Conditions.{label_row}
-use Rattle.pid_table_check.specs.Queries.{query_of}
 use Rattle.pid_table_check.specs.Shapes.{IsMadeFirst, ShowsRows}
 use Rattle.pid_tables.specs.declared.migration.Step.{Step}
 use Rattle.pid_tables.specs.declared.migration.Step.TheVariants.{Already, Moved}
@@ -27,9 +25,13 @@ is_latest Two = true
 abbrev pub IsStanding : Database → Option Version → Type 0
 IsStanding db found = (found ≡ Some Two) ⊎ Finds db found
 
+-- the query of all labels
+abbrev pub labels_text : List ℕ
+labels_text = codes "SELECT label, value FROM meta"
+
 -- the labels show schema 2, whatever else the schema has: the query of its label answers 2 first, or that of all labels answers it in some row
 abbrev pub ShowsLatest : Database → Type 0
-ShowsLatest db = ShowsNumber db (codes "schema") 2 ⊎ ((rows : List Row) × ShowsRows db (query_of Meta) rows × Has rows (label_row (codes "schema", 2)))
+ShowsLatest db = ShowsNumber db (codes "schema") 2 ⊎ ((rows : List Row) × ShowsRows db labels_text rows × Has rows (label_row (codes "schema", 2)))
 
 -- and where the tables of a schema were made first, whatever stands behind them, storage has that label
 pub record NamesLatest (db : Database) : Type 0 where

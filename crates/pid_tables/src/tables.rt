@@ -11,11 +11,10 @@ ghost use Rattle.pid_moderation.specs.Items.{name_at};
 ghost use Rattle.pid_moderation.specs.Wants.{wanted_by};
 ghost use Rattle.pid_moderation.specs.WellMade.{AllItems, HoldsParents};
 ghost use Rattle.pid_table_check.specs.Checking.{Explains, Finds, IsRegistry};
-ghost use Rattle.pid_table_check.specs.Shapes.{HasNoTable, IsMadeFirst};
+ghost use Rattle.pid_table_check.specs.Shapes.{HasNoTable, HasSomeTable, IsMadeFirst};
 ghost use Rattle.pid_rows.specs.Causes.{IsReadable};
 ghost use Rattle.pid_rows.specs.Faults.{IsUntold, IsNotLater};
-ghost use Rattle.pid_rows.specs.LabelRows.{ExplainsNumber, HasLabel};
-ghost use Rattle.pid_rows.specs.Schema.{schema_of};
+ghost use Rattle.pid_rows.specs.LabelRows.{ExplainsNumber, HasLabel, IsDamageOf, ShowsNoNumber, ShowsNumber};
 ghost use Rattle.pid_rows.specs.declared.version.Version.TheVariants.{One};
 ghost use Rattle.pid_rows.specs.declared.version.Version.{Version as Schema};
 ghost use Rattle.pid_rows.specs.ItemPairs.{pair_of};
@@ -192,7 +191,8 @@ impl<S: Alter + Drop> Tables<S> {
 
     /// The number of the schema, as the labels have it, and 0 where none of its tables is there, whatever others are.
     ///
-    /// Where something stands beside its tables, or they have other columns, no clause says which number it is.
+    /// What the labels have is what the query of the label answers first, whatever stands beside its tables; where that is no number of
+    /// 32 bits, the tables are `Damaged`.
     pub fn version(&mut self) -> Result<u32, TableFault>
         requires { self.old.conn.in_transaction ≡ false }
         ensures rests { OnlyReads S.Store self.old.conn self.new.conn }
@@ -200,8 +200,12 @@ impl<S: Alter + Drop> Tables<S> {
         ensures earlier { HasCleanDisk S.Store self.new.conn → (v : Views) → RestsIn S.Store One self.old.conn v → MatchResult result (λ n. n ≡ 1) IsUntold }
         ensures was_open { HasCleanDisk S.Store self.new.conn → OnOk result (IsTrue (is_open S.Store self.old.conn)) }
         ensures none { HasCleanDisk S.Store self.new.conn → HasNoTable (seen S.Store self.old.conn).schema → MatchResult result (λ n. n ≡ 0) IsUntold }
-        ensures labelled { HasCleanDisk S.Store self.new.conn → (schema : Schema) → (seen S.Store self.old.conn).schema ≡ schema_of schema → IfOk result (HasLabel (seen S.Store self.old.conn).trees (codes "schema")) }
-        ensures refused { HasCleanDisk S.Store self.new.conn → (schema : Schema) → (seen S.Store self.old.conn).schema ≡ schema_of schema → IfErr result (ExplainsNumber (seen S.Store self.old.conn).trees (codes "schema")) }
+        // Where some table is there, whatever else is.
+        ensures shown { HasCleanDisk S.Store self.new.conn → HasSomeTable (seen S.Store self.old.conn).schema
+            → MatchResult result (ShowsNumber (seen S.Store self.old.conn) (codes "schema")) (IsDamageOf (ShowsNoNumber (seen S.Store self.old.conn) (codes "schema"))) }
+        // The same by what storage has, where the tables of a schema were made first.
+        ensures labelled { HasCleanDisk S.Store self.new.conn → (schema : Schema) → IsMadeFirst schema (seen S.Store self.old.conn).schema → IfOk result (HasLabel (seen S.Store self.old.conn).trees (codes "schema")) }
+        ensures refused { HasCleanDisk S.Store self.new.conn → (schema : Schema) → IsMadeFirst schema (seen S.Store self.old.conn).schema → IfErr result (ExplainsNumber (seen S.Store self.old.conn).trees (codes "schema")) }
         ensures never { IfErr result IsNotLater }
     {
         if has_some_table(&mut self.conn)? {
