@@ -17,8 +17,8 @@ use Rattle.pid_ident.specs.Words.{is_name}
 use Rattle.pid_moderation.specs.CheckTables.{most_items}
 use Rattle.pid_rows.proofs.SetLemmas.{tied}
 use Rattle.pid_tree.proofs.Kin.{same_path, parent_in_range}
-use Rattle.pid_table_check.specs.Conditions.{HasValue, AreItems}
-use Rattle.pid_table_check.specs.PathSets.{ArePathsOf, IsItemAmong}
+use Rattle.pid_table_check.specs.Conditions.{HasValue, HasItem, AreItems}
+use Rattle.pid_table_check.specs.PathSets.{ArePathsOf, HasPathText, IsItemAmong}
 use Rattle.pid_table_check.proofs.Each.{each_member, each_place}
 
 -- ---- a list with one more element
@@ -47,14 +47,17 @@ texts_same p q e = cc
 -- ---- the set
 
 pub no_paths : (paths : BTreeSet Path) → paths.keys ≡ [] → ArePathsOf paths []
-no_paths paths none path range = (λ there. absurd (let bad : false ≡ true = sym (ap (λ (ks : List Path). list_any (λ k. is_eq (path_cmp path k)) ks) none) ∙ there in cc), λ it. absurd it.1)
+no_paths paths none path = (λ there. absurd (let bad : false ≡ true = sym (ap (λ (ks : List Path). list_any (λ k. is_eq (path_cmp path k)) ks) none) ∙ there in cc), λ it. absurd it.3.1)
+
+text_before : (rows : List Row) (r : Row) (text : List ℕ) → HasPathText rows text → HasPathText (rows ++ r ∷ []) text
+text_before rows r text it = (it.0, it.1, it.2, value_before rows r 0 _ it.3)
 
 pub path_skipped : (paths : BTreeSet Path) (rows : List Row) (r : Row) → ((p : Path) → IsPath p → column r 0 ≡ Text (path_text p) → ⊥) → ArePathsOf paths rows → ArePathsOf paths (rows ++ r ∷ [])
-path_skipped paths rows r none are path range = (
-  λ there. value_before rows r 0 _ ((are path range).0 there),
-  λ it. elim (split rows r it.0 it.1) [
-    | inl early ↦ (are path range).1 (it.0, early, it.2)
-    | inr same ↦ absurd (none path range (ap (λ (x : Row). column x 0) (sym same) ∙ it.2))
+path_skipped paths rows r none are path = (
+  λ there. text_before rows r _ ((are path).0 there),
+  λ it. elim (split rows r it.3.0 it.3.1) [
+    | inl early ↦ (are path).1 (it.0, it.1, it.2, (it.3.0, early, it.3.2))
+    | inr same ↦ absurd (none it.0 it.1 (ap (λ (x : Row). column x 0) (sym same) ∙ it.3.2))
   ],
 )
 
@@ -69,15 +72,15 @@ either false c (inr h) = h
 
 pub path_added : (paths next : BTreeSet Path) (rows : List Row) (r : Row) (p : Path) → IsPath p → column r 0 ≡ Text (path_text p)
     → ((q : Path) → contains path_cmp next q ≡ cond (is_eq (path_cmp p q)) true (contains path_cmp paths q)) → ArePathsOf paths rows → ArePathsOf next (rows ++ r ∷ [])
-path_added paths next rows r p in_range is added are path range = (
+path_added paths next rows r p in_range is added are path = (
   λ there. elim (chosen _ _ (sym (added path) ∙ there)) [
-    | inl same ↦ (r, last rows r, is ∙ ap Text (tied (path_text p) (path_text path) same))
-    | inr was ↦ value_before rows r 0 _ ((are path range).0 was)
+    | inl same ↦ (p, in_range, tied (path_text p) (path_text path) same, (r, last rows r, is))
+    | inr was ↦ text_before rows r _ ((are path).0 was)
   ],
-  λ it. added path ∙ either _ _ (elim (split rows r it.0 it.1) [
-    | inl early ↦ inr ((are path range).1 (it.0, early, it.2))
+  λ it. added path ∙ either _ _ (elim (split rows r it.3.0 it.3.1) [
+    | inl early ↦ inr ((are path).1 (it.0, it.1, it.2, (it.3.0, early, it.3.2)))
     | inr same ↦ inl (
-        let e : path_text p ≡ path_text path = texts_same _ _ (sym is ∙ ap (λ (x : Row). column x 0) (sym same) ∙ it.2) in
+        let e : path_text p ≡ path_text path = texts_same _ _ (sym is ∙ ap (λ (x : Row). column x 0) (sym same) ∙ it.3.2) ∙ it.2 in
         ap (λ t. is_eq (text_cmp t (path_text path))) e ∙ ap is_eq (tied_itself nat_list_cmp_total (path_text path)))
   ]),
 )
@@ -87,6 +90,13 @@ paths_whole paths rows i all are = subst (ArePathsOf paths) (take_all i rows all
 
 pub paths_step : (paths : BTreeSet Path) (rows : List Row) (i : ℕ) (r : Row) → i < length rows → get_or rows i r ≡ r → ArePathsOf paths (take i rows ++ r ∷ []) → ArePathsOf paths (take (i + 1) rows)
 paths_step paths rows i r less is are = subst (ArePathsOf paths) (sym (take_more rows i r less ∙ ap (λ x. take i rows ++ x ∷ []) is)) are
+
+module _ (paths : BTreeSet Path) (rows : List Row) (are : ArePathsOf paths rows) (p : Path) where
+  pub path_known : contains path_cmp paths p ≡ true → HasItem rows p
+  path_known there = let it = (are p).0 there in subst (λ t. HasValue rows 0 (Text t)) it.2 it.3
+
+  pub path_listed : IsPath p → HasItem rows p → contains path_cmp paths p ≡ true
+  path_listed range has = (are p).1 (p, range, refl, has)
 
 -- ---- rows by the set
 
@@ -118,11 +128,11 @@ pub items_made : (paths : BTreeSet Path) (rows : List Row) → ArePathsOf paths 
 items_made paths rows are few all = record {
   each = λ r h.
       let it = each_member (IsItemAmong paths) rows all r h in
-      record { path = it.path; name = it.name; is = it.is; in_range = it.in_range; good = it.good; parent = λ above e. (are above (parent_in_range it.path above e it.in_range)).0 (it.parent above e) };
+      record { path = it.path; name = it.name; is = it.is; in_range = it.in_range; good = it.good; parent = λ above e. path_known paths rows are above (it.parent above e) };
   limit = few;
 }
 
 pub items_among : (paths : BTreeSet Path) (rows : List Row) → ArePathsOf paths rows → AreItems rows → All (IsItemAmong paths) rows
 items_among paths rows are good = each_place (IsItemAmong paths) rows (λ r h.
     let it = good.each r h in
-    record { path = it.path; name = it.name; is = it.is; in_range = it.in_range; good = it.good; parent = λ above e. (are above (parent_in_range it.path above e it.in_range)).1 (it.parent above e) })
+    record { path = it.path; name = it.name; is = it.is; in_range = it.in_range; good = it.good; parent = λ above e. path_listed paths rows are above (parent_in_range it.path above e it.in_range) (it.parent above e) })

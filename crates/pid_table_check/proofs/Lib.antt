@@ -25,6 +25,7 @@ pub mod RemarkFacts
 pub mod AuthorFacts
 pub mod ReceiptFacts
 pub mod Judged
+pub mod KeepingFacts
 pub mod Stored
 pub mod Later
 pub mod Telling

@@ -1,17 +1,16 @@
 -- What makes rows of item_since go with the items and the revision.
 use Rattle.std.proofs.Common.{◌≡◌, ℕ, ◌≤◌, List, [], ◌∷◌, length, true, sym, ap, subst, ◌∙◌}
 use Rattle.std.specs.List.{All}
-use Rattle.std.specs.BTreeSet.{BTreeSet, contains}
+use Rattle.std.specs.BTreeSet.{BTreeSet, IsSubset}
 use Rattle.sqlite.specs.declared.types.Value.TheVariants.{Text}
 use Rattle.sqlite.specs.Order.{Row, column}
 use Rattle.pid_ident.specs.declared.path.Path.{Path}
 use Rattle.pid_ident.specs.PathTexts.{IsPath, path_text, path_cmp}
 use Rattle.pid_rows.specs.TableRows.{number}
-use Rattle.pid_tree.proofs.Kin.{same_path}
 use Rattle.pid_table_check.specs.Conditions.{IsSinceRow, AreSinces}
-use Rattle.pid_table_check.specs.PathSets.{ArePathsOf, HasPathIn}
+use Rattle.pid_table_check.specs.PathSets.{ArePathsOf}
 use Rattle.pid_table_check.proofs.Each.{each_member, each_place}
-use Rattle.pid_table_check.proofs.ItemFacts.{two, texts_same}
+use Rattle.pid_table_check.proofs.ItemFacts.{two, path_known, path_listed}
 
 module _ (revision : ℕ) (r : Row) where
   pub since_made : length r ≡ 2 → ((p : Path) × IsPath p × (column r 0 ≡ Text (path_text p))) → ((since : ℕ) × (column r 1 ≡ number since) × (since ≤ revision)) → IsSinceRow revision r
@@ -26,18 +25,17 @@ module _ (revision : ℕ) (r : Row) where
   pub since_number : IsSinceRow revision r → (since : ℕ) × (column r 1 ≡ number since) × (since ≤ revision)
   since_number it = (it.since, ap (λ (x : Row). column x 1) it.is, it.within)
 
-pub path_in : (paths : BTreeSet Path) (r : Row) (p : Path) → IsPath p → column r 0 ≡ Text (path_text p) → contains path_cmp paths p ≡ true → HasPathIn paths r
-path_in paths r p range is there q other has = subst (λ x. contains path_cmp paths x ≡ true) (same_path p q range other (texts_same _ _ (sym is ∙ has))) there
-
-module _ (revision : ℕ) (items sinces : List Row) (paths : BTreeSet Path) (are : ArePathsOf paths sinces) where
-  pub sinces_made : All (IsSinceRow revision) sinces → All (HasPathIn paths) items → AreSinces revision items sinces
-  sinces_made all among = record {
-    each = each_member (IsSinceRow revision) sinces all;
-    there = λ path range has. (are path range).0 (each_member (HasPathIn paths) items among has.0 has.1 path range has.2);
+module _ (revision : ℕ) (items sinces : List Row) (all paths : BTreeSet Path) (have : ArePathsOf all items) (are : ArePathsOf paths sinces) where
+  pub sinces_made : All (IsSinceRow revision) sinces → IsSubset path_cmp all paths → AreSinces revision items sinces
+  sinces_made each among = record {
+    each = each_member (IsSinceRow revision) sinces each;
+    there = λ path range has. path_known paths sinces are path (among path (path_listed all items have path range has));
   }
 
-  pub among_of : AreSinces revision items sinces → All (HasPathIn paths) items
-  among_of good = each_place (HasPathIn paths) items (λ r has path range is. (are path range).1 (good.there path range (r, has, is)))
+  pub subset_of : AreSinces revision items sinces → IsSubset path_cmp all paths
+  subset_of good path there =
+      let it = (have path).0 there in
+      (are path).1 (it.0, it.1, it.2, good.there it.0 it.1 it.3)
 
 pub sinces_of : (revision : ℕ) (items sinces : List Row) → AreSinces revision items sinces → All (IsSinceRow revision) sinces
 sinces_of revision items sinces good = each_place (IsSinceRow revision) sinces good.each

@@ -6,6 +6,7 @@ use Rattle.sqlite.specs.Held.{Held, state}
 use Rattle.sqlite.specs.Order.{Row}
 use Rattle.sqlite_trees.specs.declared.store.Store.{Ghosts}
 use Rattle.pid_rows.specs.declared.fault.TableFault.{TableFault}
+use Rattle.pid_table_check.specs.declared.shape.Table.{Table}
 use Rattle.pid_table_check.specs.Reading as reading
 
 module _ {S : Type 0} (store : Ghosts S) where
@@ -14,3 +15,6 @@ module _ {S : Type 0} (store : Ghosts S) where
 
   abbrev pub Answers : Held S → Held S → Result (Vec Row Global) TableFault → List ℕ → Type 0
   Answers old new result text = reading.Answers (state store old) (state store new) result text
+
+  abbrev pub Keeps : {X : Type 0} → Held S → Held S → Result X TableFault → Table → (List Row → X → Type 0) → Type 0
+  Keeps old new result table Says = reading.Keeps (state store old) (state store new) result table Says

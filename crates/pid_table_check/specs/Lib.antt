@@ -9,5 +9,6 @@ pub mod Checking
 pub mod Shapes
 pub mod Queries
 pub mod Clauses
+pub mod Keeping
 pub mod NumberSets
 pub mod Lacking

@@ -2,15 +2,19 @@
 use Rattle.std.specs.Prelude.{◌≡◌, ◌↔◌, ℕ, true, List, [], ◌∷◌, Some}
 use Rattle.std.specs.BTreeSet.{BTreeSet, contains}
 use Rattle.sqlite.specs.declared.types.Value.TheVariants.{Text}
-use Rattle.sqlite.specs.Order.{Row, column}
+use Rattle.sqlite.specs.Order.{Row}
 use Rattle.pid_ident.specs.declared.path.Path.{Path}
 use Rattle.pid_ident.specs.PathTexts.{IsPath, path_text, path_cmp, parent_of}
 use Rattle.pid_ident.specs.Words.{is_name}
 use Rattle.pid_table_check.specs.Conditions.{HasItem}
 
+-- the text is that of a path in the first column of a row
+abbrev pub HasPathText : List Row → List ℕ → Type 0
+HasPathText rows text = (path : Path) × IsPath path × (path_text path ≡ text) × HasItem rows path
+
 -- the set has exactly the paths of the rows
 abbrev pub ArePathsOf : BTreeSet Path → List Row → Type 0
-ArePathsOf paths rows = (path : Path) → IsPath path → (contains path_cmp paths path ≡ true) ↔ HasItem rows path
+ArePathsOf paths rows = (path : Path) → (contains path_cmp paths path ≡ true) ↔ HasPathText rows (path_text path)
 
 -- an item whose parent is in the set
 pub record IsItemAmong (paths : BTreeSet Path) (r : Row) : Type 0 where
@@ -20,7 +24,3 @@ pub record IsItemAmong (paths : BTreeSet Path) (r : Row) : Type 0 where
   pub in_range : IsPath path
   pub good : is_name name ≡ true
   pub parent : (above : Path) → parent_of path ≡ Some above → contains path_cmp paths above ≡ true
-
--- the path in the row, if there is one, is in the set
-abbrev pub HasPathIn : BTreeSet Path → Row → Type 0
-HasPathIn paths r = (path : Path) → IsPath path → column r 0 ≡ Text (path_text path) → contains path_cmp paths path ≡ true

@@ -8,26 +8,10 @@ use Rattle.pid_rows.specs.declared.version.Version.{Version}
 use Rattle.pid_rows.specs.declared.fault.TableFault.{TableFault}
 use Rattle.pid_rows.specs.declared.fault.TableFault.TheVariants.{Memory, Store, NewerSchema, Damaged}
 use Rattle.pid_rows.specs.Faults.{IsUntold}
-use Rattle.pid_table_check.specs.declared.tables.Tables.{Tables}
-use Rattle.pid_table_check.specs.Conditions.{Rows, AreSubmissions, AreRemarks, AreReceipts}
+use Rattle.pid_table_check.specs.declared.shape.Table.{Table}
+use Rattle.pid_table_check.specs.Queries.{query_of}
 use Rattle.pid_table_check.specs.Shapes.{IsAsked, ShowsRows, ShowsLater}
 use Rattle.pid_table_check.specs.Checking.{ShowsRegistry, ShowsDamage}
-
--- the rows that were read
-abbrev pub rows_of : Tables → Rows
-rows_of t = record {
-  meta = t.meta.items;
-  accounts = t.accounts.items;
-  items = t.items.items;
-  submissions = t.submissions.items;
-  remarks = t.remarks.items;
-  receipts = t.receipts.items;
-  sinces = t.sinces.items;
-}
-
--- submissions are good, and what hangs on them
-abbrev pub IsSubmitted : Rows → Type 0
-IsSubmitted t = AreSubmissions t.accounts t.submissions × AreRemarks t.remarks × AreReceipts t.submissions t.receipts
 
 -- Where the transaction sees a database of which `Has` holds: a value says `Says` of it, and the transaction still sees it; a fault says `Fails`.
 abbrev pub Judges : {X : Type 0} → State → State → Result X TableFault → (Database → Type 0) → (Database → X → Type 0) → (Database → TableFault → Type 0) → Type 0
@@ -36,6 +20,10 @@ Judges old new result Has Says Fails = HasCleanDisk new → (d : Database) → o
 -- the rows that a query answers, where it can be asked
 abbrev pub Answers : State → State → Result (Vec Row Global) TableFault → List ℕ → Type 0
 Answers old new result text = Judges old new result (λ d. IsAsked d.schema text) (λ d rows. ShowsRows d text rows.items) (λ d. IsUntold)
+
+-- the same, with what is kept of the rows of a table
+abbrev pub Keeps : {X : Type 0} → State → State → Result X TableFault → Table → (List Row → X → Type 0) → Type 0
+Keeps old new result table Says = Judges old new result (λ d. IsAsked d.schema (query_of table)) (λ d x. (rows : List Row) × ShowsRows d (query_of table) rows × Says rows x) (λ d. IsUntold)
 
 -- the tables of the schema are not a registry's, or nothing is told of them
 abbrev pub TellsDamage : Version → Database → TableFault → Type 0

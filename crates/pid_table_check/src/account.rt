@@ -1,14 +1,25 @@
 //! Accounts: each has a name and a rank, `root` is one, and some account is an administrator.
-ghost use Rattle.std.specs.Prelude.{◌≡◌, ◌≤◌, ◌↔◌, ℕ, IsTrue, codes};
+ghost use Rattle.std.specs.Prelude.{◌≡◌, ◌≤◌, ◌↔◌, ℕ, IsTrue, IfOk, IfErr, codes};
 ghost use Rattle.std.specs.List.{All, Any};
 ghost use Rattle.sqlite.specs.declared.types.Value.TheVariants.{Text as TextValue};
 ghost use Rattle.sqlite.specs.Order.{column};
 ghost use Rattle.pid_rows.specs.TableRows.{number};
+ghost use Rattle.pid_rows.specs.Clauses.{GoesOn};
+ghost use Rattle.pid_rows.specs.Faults.{IsUntold};
 ghost use Rattle.pid_table_check.specs.Conditions.{IsAccountRow, AreAccounts};
+ghost use Rattle.pid_table_check.specs.Clauses.{Keeps};
+ghost use Rattle.pid_table_check.specs.Keeping.{KeepsAccounts};
+ghost use Rattle.pid_table_check.specs.declared.shape.Table.TheVariants as table;
 
+use crate::names::names_of;
+use crate::read::table_rows;
+use crate::shape::Table;
 use crate::value::{number_at, text_at};
 use pid_ident::is_account;
-use sqlite::Row;
+use pid_rows::TableFault;
+use sqlite::{Alter, Row, Transaction};
+use std::alloc::Global;
+use std::collections::BTreeSet;
 
 fn has_rank(row: &Row) -> bool
     ensures { IsTrue result ↔ ((rank : ℕ) × (column row.now 1 ≡ number rank) × (rank ≤ 3)) }
@@ -68,8 +79,7 @@ fn have_administrator(rows: &[Row]) -> bool
 }
 
 #[tactic(auto, using(crate::proofs::AccountFacts::accounts_made, crate::proofs::AccountFacts::rows_of, crate::proofs::AccountFacts::root_of, crate::proofs::AccountFacts::administrator_of))]
-/// Whether the rows of accounts are those of a registry.
-pub(crate) fn are_accounts(rows: &[Row]) -> bool
+fn are_accounts(rows: &[Row]) -> bool
     ensures { IsTrue result ↔ AreAccounts rows.now }
 {
     if !are_account_rows(rows) {
@@ -79,4 +89,35 @@ pub(crate) fn are_accounts(rows: &[Row]) -> bool
         return false;
     }
     have_administrator(rows)
+}
+
+/// What is kept of the accounts.
+#[derive(Drop)]
+pub(crate) struct Accounts {
+    pub(crate) good: bool,
+    pub(crate) names: BTreeSet<String>,
+}
+
+fn keep_accounts(rows: &[Row], alloc: Global) -> Result<Accounts, TableFault>
+    ensures keeps { IfOk result (KeepsAccounts rows.now) }
+    ensures untold { IfErr result IsUntold }
+{
+    let names = names_of(rows, alloc)?;
+    Ok(Accounts {
+        good: are_accounts(rows),
+        names,
+    })
+}
+
+/// Reads the accounts, and judges whether they are those of a registry.
+pub(crate) fn read_accounts<S: Alter>(
+    tx: &mut Transaction<'_, S>,
+    alloc: Global,
+) -> Result<Accounts, TableFault>
+    ensures same_reference { tx.new.conn.ghost_name ≡ tx.old.conn.ghost_name }
+    ensures goes { GoesOn S.Store tx.old.conn.now tx.new.conn.now result }
+    ensures keeps { Keeps S.Store tx.old.conn.now tx.new.conn.now result table.Account KeepsAccounts }
+{
+    let rows = table_rows(tx, Table::Account)?;
+    keep_accounts(rows.as_slice(), alloc)
 }

@@ -10,9 +10,8 @@ ghost use Rattle.pid_table_check.specs.Queries.{query_of};
 ghost use Rattle.pid_table_check.specs.Reading.{ShowsFound, TellsDamage, TellsLater};
 ghost use Rattle.pid_table_check.specs.Shapes.{HasEachTable, HasTables, HasTablesOf, IsMadeFirst, ShowsLater, ShowsRows};
 
-use crate::judging::are_of_registry;
 use crate::lacking::check_lacking;
-use crate::meta::newer;
+use crate::meta::{are_labels, newer, revision_told};
 use crate::read::table_rows;
 use crate::shape::{Table, has_each_table, has_some_table, tables_of};
 use crate::tables::read_tables;
@@ -32,13 +31,16 @@ fn check_rows<S: Alter>(
         (λ d. HasTables version d.schema × ShowsRows d (query_of Meta) meta.items)
         (λ d x. ShowsRegistry version d) (TellsDamage version) }
 {
-    let tables = read_tables(tx, alloc, version, meta)?;
-    let good = are_of_registry(&tables, version, alloc)?;
-    if good {
-        Ok(())
-    } else {
-        Err(TableFault::Damaged)
+    let labels = meta.as_slice();
+    let revision = revision_told(labels);
+    let judged = read_tables(tx, alloc, version, revision)?;
+    if !judged.good {
+        return Err(TableFault::Damaged);
     }
+    if !are_labels(labels, version, judged.items, judged.submissions, revision) {
+        return Err(TableFault::Damaged);
+    }
+    Ok(())
 }
 
 fn check_tables<S: Alter>(

@@ -1,18 +1,24 @@
 //! Items: each is a name at a path whose parent is there too, and there are at most 100,000.
 ghost use Rattle.std.specs.Prelude.{◌≡◌, ◌↔◌, ◌++◌, ◌∷◌, List, [], true, Some, IsTrue, IfOk, IfErr, OnOk};
+ghost use Rattle.pid_rows.specs.Clauses.{GoesOn};
 ghost use Rattle.std.specs.List.{All};
 ghost use Rattle.std.specs.BTreeSet.{contains};
 ghost use Rattle.sqlite.specs.Order.{Row as Values};
 ghost use Rattle.pid_ident.specs.PathTexts.{path_cmp, parent_of};
 ghost use Rattle.pid_table_check.specs.Conditions.{AreItems};
 ghost use Rattle.pid_table_check.specs.PathSets.{ArePathsOf, IsItemAmong};
+ghost use Rattle.pid_table_check.specs.Clauses.{Keeps};
+ghost use Rattle.pid_table_check.specs.Keeping.{KeepsItems};
+ghost use Rattle.pid_table_check.specs.declared.shape.Table.TheVariants as table;
 ghost use Rattle.pid_rows.specs.Faults.{IsUntold};
 
+use crate::read::table_rows;
+use crate::shape::Table;
 use crate::words::{has_name, path_at};
 use pid_ident::Path;
 use pid_moderation::ITEMS;
 use pid_rows::TableFault;
-use sqlite::Row;
+use sqlite::{Alter, Row, Transaction};
 use std::alloc::Global;
 use std::collections::BTreeSet;
 
@@ -72,14 +78,44 @@ fn are_item_rows(rows: &[Row], paths: &BTreeSet<Path>) -> bool
     rows.iter().all(|row| is_item_row(row, paths))
 }
 
-/// Whether the rows of items are those of a registry.
-pub(crate) fn are_items(rows: &[Row], alloc: Global) -> Result<bool, TableFault>
-    ensures judged { IfOk result (λ good. IsTrue good ↔ AreItems rows.now) }
-    ensures untold { IfErr result IsUntold }
+fn are_items(rows: &[Row], paths: &BTreeSet<Path>) -> bool
+    ensures { ArePathsOf paths.now rows.now → IsTrue result ↔ AreItems rows.now }
 {
     if rows.len() > ITEMS as usize {
-        return Ok(false);
+        return false;
     }
+    are_item_rows(rows, paths)
+}
+
+/// What is kept of the items.
+#[derive(Drop)]
+pub(crate) struct Items {
+    pub(crate) good: bool,
+    pub(crate) count: u64,
+    pub(crate) paths: BTreeSet<Path>,
+}
+
+fn keep_items(rows: &[Row], alloc: Global) -> Result<Items, TableFault>
+    ensures keeps { IfOk result (KeepsItems rows.now) }
+    ensures untold { IfErr result IsUntold }
+{
     let paths = paths_of(rows, alloc)?;
-    Ok(are_item_rows(rows, &paths))
+    Ok(Items {
+        good: are_items(rows, &paths),
+        count: rows.len() as u64,
+        paths,
+    })
+}
+
+/// Reads the items, and judges whether they are those of a registry.
+pub(crate) fn read_items<S: Alter>(
+    tx: &mut Transaction<'_, S>,
+    alloc: Global,
+) -> Result<Items, TableFault>
+    ensures same_reference { tx.new.conn.ghost_name ≡ tx.old.conn.ghost_name }
+    ensures goes { GoesOn S.Store tx.old.conn.now tx.new.conn.now result }
+    ensures keeps { Keeps S.Store tx.old.conn.now tx.new.conn.now result table.Item KeepsItems }
+{
+    let rows = table_rows(tx, Table::Item)?;
+    keep_items(rows.as_slice(), alloc)
 }

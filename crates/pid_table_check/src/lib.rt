@@ -5,7 +5,6 @@ mod account;
 mod authors;
 mod checking;
 mod item;
-mod judging;
 mod lacking;
 mod laws;
 mod meta;

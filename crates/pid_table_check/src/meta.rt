@@ -85,8 +85,8 @@ fn revision(row: &Row) -> Option<u64>
     }
 }
 
-/// The revision, within its limit.
-pub(crate) fn revision_in(rows: &[Row]) -> Option<u64>
+// The revision, within its limit.
+fn revision_in(rows: &[Row]) -> Option<u64>
     ensures found { IfSome result (λ n. (n ≤ most_revision) × Has rows.now (label_row (codes "revision", n))) }
     ensures none { IfNone result ((n : ℕ) → n ≤ most_revision → Has rows.now (label_row (codes "revision", n)) → ⊥) }
 {
@@ -96,6 +96,17 @@ pub(crate) fn revision_in(rows: &[Row]) -> Option<u64>
         }
     }
     None
+}
+
+/// The revision that the labels tell, or else 0.
+pub(crate) fn revision_told(rows: &[Row]) -> u64
+    ensures limit { result ≤ most_revision }
+    ensures told { (n : ℕ) → n ≤ most_revision → Has rows.now (label_row (codes "revision", n)) → Has rows.now (label_row (codes "revision", result)) }
+{
+    match revision_in(rows) {
+        Some(number) => number,
+        None => 0,
+    }
 }
 
 fn is_count(row: &Row, schema: u64, items: u64, submissions: u64) -> bool

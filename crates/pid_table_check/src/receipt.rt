@@ -5,16 +5,22 @@ ghost use Rattle.sqlite.specs.Order.{column, Row as Values};
 ghost use Rattle.pid_ident.specs.Words.{is_key as key_test};
 ghost use Rattle.std.specs.List.{All};
 ghost use Rattle.pid_rows.specs.TableRows.{number};
-ghost use Rattle.pid_table_check.specs.Conditions.{IsReceiptRow, AreReceipts};
+ghost use Rattle.pid_rows.specs.Clauses.{GoesOn};
+ghost use Rattle.pid_table_check.specs.Conditions.{IsReceiptRow};
+ghost use Rattle.pid_table_check.specs.Clauses.{Keeps};
+ghost use Rattle.pid_table_check.specs.Keeping.{AreOfAuthors};
+ghost use Rattle.pid_table_check.specs.declared.shape.Table.TheVariants as table;
 ghost use Rattle.pid_table_check.specs.AuthorSets.{AreAuthorsOf, HasReply, HasCounts, IsNumbered};
 ghost use Rattle.pid_rows.specs.Faults.{IsUntold};
 
-use crate::authors::{authors_of, is_by};
+use crate::authors::is_by;
+use crate::read::table_rows;
+use crate::shape::Table;
 use crate::value::{number_at, text_at};
 use pid_ident::{is_account, is_key};
 use pid_moderation::ITEMS;
 use pid_rows::TableFault;
-use sqlite::Row;
+use sqlite::{Alter, Row, Transaction};
 use std::alloc::Global;
 use std::collections::BTreeSet;
 
@@ -145,15 +151,16 @@ fn are_receipt_rows(
     Ok(true)
 }
 
-/// Whether the rows of receipts are those of a registry with these submissions.
-pub(crate) fn are_receipts(
-    rows: &[Row],
-    submissions: &[Row],
+/// Reads the receipts, and judges whether they are those of a registry whose submissions have these authors.
+pub(crate) fn read_receipts<S: Alter>(
+    tx: &mut Transaction<'_, S>,
+    authors: &BTreeSet<(u64, String)>,
     alloc: Global,
 ) -> Result<bool, TableFault>
-    ensures judged { IfOk result (λ good. IsTrue good ↔ AreReceipts submissions.now rows.now) }
-    ensures untold { IfErr result IsUntold }
+    ensures same_reference { tx.new.conn.ghost_name ≡ tx.old.conn.ghost_name }
+    ensures goes { GoesOn S.Store tx.old.conn.now tx.new.conn.now result }
+    ensures keeps { Keeps S.Store tx.old.conn.now tx.new.conn.now result table.Receipt (AreOfAuthors authors.now) }
 {
-    let authors = authors_of(submissions, alloc)?;
-    are_receipt_rows(rows, &authors, alloc)
+    let rows = table_rows(tx, Table::Receipt)?;
+    are_receipt_rows(rows.as_slice(), authors, alloc)
 }

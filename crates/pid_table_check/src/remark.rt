@@ -3,15 +3,21 @@ ghost use Rattle.std.specs.Prelude.{◌≡◌, ◌↔◌, ◌++◌, ◌∷◌, L
 ghost use Rattle.std.specs.List.{All};
 ghost use Rattle.sqlite.specs.Order.{column, Row as Values};
 ghost use Rattle.pid_rows.specs.TableRows.{number};
+ghost use Rattle.pid_rows.specs.Clauses.{GoesOn};
 ghost use Rattle.pid_table_check.specs.Conditions.{AreRemarks};
+ghost use Rattle.pid_table_check.specs.Clauses.{Keeps};
+ghost use Rattle.pid_table_check.specs.Keeping.{IsJudged};
+ghost use Rattle.pid_table_check.specs.declared.shape.Table.TheVariants as table;
 ghost use Rattle.pid_table_check.specs.PlaceSets.{ArePlacesOf, Follows, HasPlace, IsRemarkAmong};
 ghost use Rattle.pid_rows.specs.Faults.{IsUntold};
 
+use crate::read::table_rows;
+use crate::shape::Table;
 use crate::value::{has_words, number_at};
 use crate::words::has_filled_text;
 use pid_moderation::REMARKS;
 use pid_rows::TableFault;
-use sqlite::Row;
+use sqlite::{Alter, Row, Transaction};
 use std::alloc::Global;
 use std::collections::BTreeSet;
 
@@ -101,11 +107,23 @@ fn are_remark_rows(rows: &[Row], places: &BTreeSet<(u64, u64)>) -> bool
     rows.iter().all(|row| is_remark_row(row, places))
 }
 
-/// Whether the rows of remarks are those of a registry.
-pub(crate) fn are_remarks(rows: &[Row], alloc: Global) -> Result<bool, TableFault>
-    ensures judged { IfOk result (λ good. IsTrue good ↔ AreRemarks rows.now) }
+fn are_remarks(rows: &[Row], alloc: Global) -> Result<bool, TableFault>
+    ensures judged { IfOk result (IsJudged AreRemarks rows.now) }
     ensures untold { IfErr result IsUntold }
 {
     let places = places_of(rows, alloc)?;
     Ok(are_remark_rows(rows, &places))
+}
+
+/// Reads the remarks, and judges whether they are those of a registry.
+pub(crate) fn read_remarks<S: Alter>(
+    tx: &mut Transaction<'_, S>,
+    alloc: Global,
+) -> Result<bool, TableFault>
+    ensures same_reference { tx.new.conn.ghost_name ≡ tx.old.conn.ghost_name }
+    ensures goes { GoesOn S.Store tx.old.conn.now tx.new.conn.now result }
+    ensures keeps { Keeps S.Store tx.old.conn.now tx.new.conn.now result table.Remark (IsJudged AreRemarks) }
+{
+    let rows = table_rows(tx, Table::Remark)?;
+    are_remarks(rows.as_slice(), alloc)
 }

@@ -1,21 +1,25 @@
 //! The numbers of changes: each item has one, which is at most the revision.
-ghost use Rattle.std.specs.Prelude.{◌≡◌, ◌↔◌, ◌≤◌, ℕ, true, IsTrue, IfOk, IfErr};
+ghost use Rattle.std.specs.Prelude.{◌≡◌, ◌↔◌, ◌≤◌, ℕ, IsTrue, IfOk, IfErr};
 ghost use Rattle.std.specs.List.{All};
-ghost use Rattle.std.specs.BTreeSet.{contains};
 ghost use Rattle.sqlite.specs.declared.types.Value.TheVariants.{Text as TextValue};
 ghost use Rattle.sqlite.specs.Order.{column};
-ghost use Rattle.pid_ident.specs.PathTexts.{IsPath, path_cmp, path_text};
+ghost use Rattle.pid_ident.specs.PathTexts.{IsPath, path_text};
+ghost use Rattle.pid_rows.specs.Clauses.{GoesOn};
 ghost use Rattle.pid_rows.specs.Faults.{IsUntold};
 ghost use Rattle.pid_rows.specs.TableRows.{number};
-ghost use Rattle.pid_table_check.specs.Conditions.{AreSinces, IsSinceRow};
-ghost use Rattle.pid_table_check.specs.PathSets.{HasPathIn};
+ghost use Rattle.pid_table_check.specs.Conditions.{IsSinceRow};
+ghost use Rattle.pid_table_check.specs.Clauses.{Keeps};
+ghost use Rattle.pid_table_check.specs.Keeping.{GoWith};
+ghost use Rattle.pid_table_check.specs.declared.shape.Table.TheVariants as table;
 
 use crate::item::paths_of;
+use crate::read::table_rows;
+use crate::shape::Table;
 use crate::value::number_at;
-use crate::words::{has_path, path_at};
+use crate::words::has_path;
 use pid_ident::Path;
 use pid_rows::TableFault;
-use sqlite::Row;
+use sqlite::{Alter, Row, Transaction};
 use std::alloc::Global;
 use std::collections::BTreeSet;
 
@@ -40,41 +44,39 @@ fn is_since_row(row: &Row, revision: u64) -> bool
     is_within(row, revision)
 }
 
-// Whether the path of an item is among these.
-fn is_among(row: &Row, paths: &BTreeSet<Path>) -> bool
-    ensures { IsTrue result ↔ HasPathIn paths.now row.now }
-{
-    match path_at(row, 0) {
-        Some(path) => paths.contains(&path),
-        None => true,
-    }
-}
-
 fn are_since_rows(rows: &[Row], revision: u64) -> bool
     ensures { IsTrue result ↔ All (IsSinceRow revision) rows.now }
 {
     rows.iter().all(|row| is_since_row(row, revision))
 }
 
-fn are_among(rows: &[Row], paths: &BTreeSet<Path>) -> bool
-    ensures { IsTrue result ↔ All (HasPathIn paths.now) rows.now }
-{
-    rows.iter().all(|row| is_among(row, paths))
-}
-
-/// Whether the rows of item_since go with the items and the revision.
-pub(crate) fn are_sinces(
+fn are_sinces(
     rows: &[Row],
-    items: &[Row],
+    items: &BTreeSet<Path>,
     revision: u64,
     alloc: Global,
 ) -> Result<bool, TableFault>
-    ensures judged { IfOk result (λ good. IsTrue good ↔ AreSinces revision items.now rows.now) }
+    ensures judged { IfOk result (λ good. GoWith items.now revision rows.now good) }
     ensures untold { IfErr result IsUntold }
 {
     if !are_since_rows(rows, revision) {
         return Ok(false);
     }
     let paths = paths_of(rows, alloc)?;
-    Ok(are_among(items, &paths))
+    Ok(items.is_subset(&paths))
+}
+
+/// Reads the numbers of changes, and judges whether they go with the paths of the items and the revision.
+pub(crate) fn read_sinces<S: Alter>(
+    tx: &mut Transaction<'_, S>,
+    items: &BTreeSet<Path>,
+    revision: u64,
+    alloc: Global,
+) -> Result<bool, TableFault>
+    ensures same_reference { tx.new.conn.ghost_name ≡ tx.old.conn.ghost_name }
+    ensures goes { GoesOn S.Store tx.old.conn.now tx.new.conn.now result }
+    ensures keeps { Keeps S.Store tx.old.conn.now tx.new.conn.now result table.Since (GoWith items.now revision) }
+{
+    let rows = table_rows(tx, Table::Since)?;
+    are_sinces(rows.as_slice(), items, revision, alloc)
 }

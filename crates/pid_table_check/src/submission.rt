@@ -7,15 +7,20 @@ ghost use Rattle.pid_rows.specs.TableRows.{number, form_of, name_of, state_numbe
 ghost use Rattle.pid_rows.specs.Faults.{IsUntold};
 ghost use Rattle.pid_table_check.specs.NameSets.{IsAmong, IsDecidedAmong, IsSubmissionAmong, Stands};
 ghost use Rattle.std.specs.List.{All};
-ghost use Rattle.pid_table_check.specs.Conditions.{AreAccounts, AreSubmissions};
+ghost use Rattle.pid_rows.specs.Clauses.{GoesOn};
+ghost use Rattle.pid_table_check.specs.Clauses.{Keeps};
+ghost use Rattle.pid_table_check.specs.Keeping.{AreOfAccounts, KeepsSubmissions};
+ghost use Rattle.pid_table_check.specs.declared.shape.Table.TheVariants as table;
 
+use crate::authors::authors_of;
 use crate::names;
-use crate::names::names_of;
 use crate::numbers::count_from_one;
+use crate::read::table_rows;
+use crate::shape::Table;
 use crate::value::{number_at, text_at};
 use crate::words::{has_filled_text, has_name, has_path, has_text, is_blank};
 use pid_rows::TableFault;
-use sqlite::Row;
+use sqlite::{Alter, Row, Transaction};
 use std::alloc::Global;
 use std::collections::BTreeSet;
 
@@ -110,18 +115,55 @@ fn are_submission_rows(rows: &[Row], names: &BTreeSet<String>) -> bool
     rows.iter().all(|row| is_submission_row(row, names, count))
 }
 
-/// Whether the rows are submissions of a registry with these accounts, which are good.
-pub(crate) fn are_submissions(
+fn are_submissions(
     rows: &[Row],
-    accounts: &[Row],
+    names: &BTreeSet<String>,
     alloc: Global,
 ) -> Result<bool, TableFault>
-    ensures judged { AreAccounts accounts.now → IfOk result (λ good. IsTrue good ↔ AreSubmissions accounts.now rows.now) }
+    ensures judged { IfOk result (λ good. AreOfAccounts names.now rows.now good) }
     ensures untold { IfErr result IsUntold }
 {
-    let names = names_of(accounts, alloc)?;
-    if !are_submission_rows(rows, &names) {
+    if !are_submission_rows(rows, names) {
         return Ok(false);
     }
     count_from_one(rows, alloc)
+}
+
+/// What is kept of the submissions.
+#[derive(Drop)]
+pub(crate) struct Submissions {
+    pub(crate) good: bool,
+    pub(crate) count: u64,
+    pub(crate) authors: BTreeSet<(u64, String)>,
+}
+
+fn keep_submissions(
+    rows: &[Row],
+    names: &BTreeSet<String>,
+    alloc: Global,
+) -> Result<Submissions, TableFault>
+    ensures keeps { IfOk result (KeepsSubmissions names.now rows.now) }
+    ensures untold { IfErr result IsUntold }
+{
+    let good = are_submissions(rows, names, alloc)?;
+    let authors = authors_of(rows, alloc)?;
+    Ok(Submissions {
+        good,
+        count: rows.len() as u64,
+        authors,
+    })
+}
+
+/// Reads the submissions, and judges whether they are those of a registry with accounts of these names.
+pub(crate) fn read_submissions<S: Alter>(
+    tx: &mut Transaction<'_, S>,
+    names: &BTreeSet<String>,
+    alloc: Global,
+) -> Result<Submissions, TableFault>
+    ensures same_reference { tx.new.conn.ghost_name ≡ tx.old.conn.ghost_name }
+    ensures goes { GoesOn S.Store tx.old.conn.now tx.new.conn.now result }
+    ensures keeps { Keeps S.Store tx.old.conn.now tx.new.conn.now result table.Submission (KeepsSubmissions names.now) }
+{
+    let rows = table_rows(tx, Table::Submission)?;
+    keep_submissions(rows.as_slice(), names, alloc)
 }

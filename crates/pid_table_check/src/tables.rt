@@ -1,98 +1,104 @@
-//! The rows of all tables.
-ghost use Rattle.std.specs.Prelude.{◌≡◌, List};
-ghost use Rattle.sqlite.specs.Effect.{Database};
+//! The tables of a schema, one after the other: of each is kept whether its rows are good, and what judging the others takes. Whatever
+//! was found, each is read.
+ghost use Rattle.std.specs.Prelude.{◌≡◌, ◌↔◌, IsTrue};
 ghost use Rattle.pid_rows.specs.Faults.{IsUntold};
 ghost use Rattle.pid_rows.specs.Clauses.{GoesOn};
-ghost use Rattle.pid_table_check.specs.declared.shape.Table.TheVariants.{Meta, Account, Item, Submission, Remark, Receipt};
-ghost use Rattle.pid_table_check.specs.Queries.{query_of};
-ghost use Rattle.pid_table_check.specs.Shapes.{HasTables, HasEachTable, ShowsRows, ShowsSinces, ShowsTables};
-ghost use Rattle.pid_table_check.specs.Reading.{rows_of};
+ghost use Rattle.pid_table_check.specs.Shapes.{HasTables, HasEachTable};
+ghost use Rattle.pid_table_check.specs.Keeping.{ShowsNamed, ShowsSubmitted, ShowsJudged};
 ghost use Rattle.pid_table_check.specs.Clauses.{Judges};
 
-use crate::read::table_rows;
-use crate::shape::Table;
+use crate::account::read_accounts;
+use crate::item::read_items;
+use crate::receipt::read_receipts;
+use crate::remark::read_remarks;
+use crate::since::read_sinces;
+use crate::submission::read_submissions;
 use pid_rows::{TableFault, Version};
-use sqlite::{Alter, Row, Transaction};
+use sqlite::{Alter, Transaction};
 use std::alloc::Global;
 
-/// The rows of the tables of a schema, as their queries answer them. Schema 1 has none in `sinces`.
-#[derive(Drop)]
-pub(crate) struct Tables {
-    pub(crate) meta: Vec<Row>,
-    pub(crate) accounts: Vec<Row>,
-    pub(crate) items: Vec<Row>,
-    pub(crate) submissions: Vec<Row>,
-    pub(crate) remarks: Vec<Row>,
-    pub(crate) receipts: Vec<Row>,
-    pub(crate) sinces: Vec<Row>,
+/// What is kept of some tables: whether all their rows are good, and how many the first of them has.
+#[derive(Clone, Copy)]
+pub(crate) struct Part {
+    pub(crate) good: bool,
+    pub(crate) count: u64,
+}
+
+/// What is kept of all tables.
+#[derive(Clone, Copy)]
+pub(crate) struct Judged {
+    pub(crate) good: bool,
+    pub(crate) items: u64,
+    pub(crate) submissions: u64,
+}
+
+fn are_both(one: bool, other: bool) -> bool
+    ensures { IsTrue result ↔ (IsTrue one × IsTrue other) }
+{
+    one && other
 }
 
 // The items, and in schema 2 their numbers.
-fn read_items<S: Alter>(
+fn read_named<S: Alter>(
     tx: &mut Transaction<'_, S>,
     alloc: Global,
     version: Version,
-) -> Result<(Vec<Row>, Vec<Row>), TableFault>
+    revision: u64,
+) -> Result<Part, TableFault>
     ensures same_reference { tx.new.conn.ghost_name ≡ tx.old.conn.ghost_name }
     ensures goes { GoesOn S.Store tx.old.conn.now tx.new.conn.now result }
-    ensures told { Judges S.Store tx.old.conn.now tx.new.conn.now result (λ d. HasTables version d.schema)
-        (λ d rows. ShowsRows d (query_of Item) rows.0.items × ShowsSinces version d rows.1.items) (λ d. IsUntold) }
+    ensures told { Judges S.Store tx.old.conn.now tx.new.conn.now result (λ d. HasTables version d.schema) (ShowsNamed version revision) (λ d. IsUntold) }
 {
-    let items = table_rows(tx, Table::Item)?;
+    let items = read_items(tx, alloc)?;
+    let count = items.count;
     match version {
-        Version::One => Ok((items, Vec::new(alloc))),
+        Version::One => Ok(Part {
+            good: items.good,
+            count,
+        }),
         Version::Two => {
-            let sinces = table_rows(tx, Table::Since)?;
-            Ok((items, sinces))
+            let dated = read_sinces(tx, &items.paths, revision, alloc)?;
+            Ok(Part {
+                good: are_both(items.good, dated),
+                count,
+            })
         }
     }
 }
 
-fn read_submitted<S: Alter>(tx: &mut Transaction<'_, S>) -> Result<(Vec<Row>, Vec<Row>), TableFault>
+// The submissions, with the accounts and the receipts.
+fn read_submitted<S: Alter>(tx: &mut Transaction<'_, S>, alloc: Global) -> Result<Part, TableFault>
     ensures same_reference { tx.new.conn.ghost_name ≡ tx.old.conn.ghost_name }
     ensures goes { GoesOn S.Store tx.old.conn.now tx.new.conn.now result }
-    ensures told { Judges S.Store tx.old.conn.now tx.new.conn.now result (λ d. HasEachTable d.schema)
-        (λ d rows. ShowsRows d (query_of Submission) rows.0.items × ShowsRows d (query_of Remark) rows.1.items) (λ d. IsUntold) }
+    ensures told { Judges S.Store tx.old.conn.now tx.new.conn.now result (λ d. HasEachTable d.schema) ShowsSubmitted (λ d. IsUntold) }
 {
-    let submissions = table_rows(tx, Table::Submission)?;
-    let remarks = table_rows(tx, Table::Remark)?;
-    Ok((submissions, remarks))
+    let accounts = read_accounts(tx, alloc)?;
+    let submissions = read_submissions(tx, &accounts.names, alloc)?;
+    let receipts = read_receipts(tx, &submissions.authors, alloc)?;
+    let good = are_both(accounts.good, are_both(submissions.good, receipts));
+    Ok(Part {
+        good,
+        count: submissions.count,
+    })
 }
 
-fn read_accounts<S: Alter>(tx: &mut Transaction<'_, S>) -> Result<(Vec<Row>, Vec<Row>), TableFault>
-    ensures same_reference { tx.new.conn.ghost_name ≡ tx.old.conn.ghost_name }
-    ensures goes { GoesOn S.Store tx.old.conn.now tx.new.conn.now result }
-    ensures told { Judges S.Store tx.old.conn.now tx.new.conn.now result (λ d. HasEachTable d.schema)
-        (λ d rows. ShowsRows d (query_of Account) rows.0.items × ShowsRows d (query_of Receipt) rows.1.items) (λ d. IsUntold) }
-{
-    let accounts = table_rows(tx, Table::Account)?;
-    let receipts = table_rows(tx, Table::Receipt)?;
-    Ok((accounts, receipts))
-}
-
-/// Reads the other tables of a schema, where `meta` was read.
+/// Reads and judges the tables of a schema other than `meta`, which tells this revision.
 pub(crate) fn read_tables<S: Alter>(
     tx: &mut Transaction<'_, S>,
     alloc: Global,
     version: Version,
-    meta: Vec<Row>,
-) -> Result<Tables, TableFault>
+    revision: u64,
+) -> Result<Judged, TableFault>
     ensures same_reference { tx.new.conn.ghost_name ≡ tx.old.conn.ghost_name }
     ensures goes { GoesOn S.Store tx.old.conn.now tx.new.conn.now result }
-    ensures told { Judges S.Store tx.old.conn.now tx.new.conn.now result
-        (λ d. HasTables version d.schema × ShowsRows d (query_of Meta) meta.items)
-        (λ d tables. ShowsTables version d (rows_of tables)) (λ d. IsUntold) }
+    ensures told { Judges S.Store tx.old.conn.now tx.new.conn.now result (λ d. HasTables version d.schema) (ShowsJudged version revision) (λ d. IsUntold) }
 {
-    let (accounts, receipts) = read_accounts(tx)?;
-    let (items, sinces) = read_items(tx, alloc, version)?;
-    let (submissions, remarks) = read_submitted(tx)?;
-    Ok(Tables {
-        meta,
-        accounts,
-        items,
-        submissions,
-        remarks,
-        receipts,
-        sinces,
+    let submitted = read_submitted(tx, alloc)?;
+    let named = read_named(tx, alloc, version, revision)?;
+    let remarks = read_remarks(tx, alloc)?;
+    Ok(Judged {
+        good: are_both(submitted.good, are_both(named.good, remarks)),
+        items: named.count,
+        submissions: submitted.count,
     })
 }
