@@ -18,11 +18,10 @@ use Rattle.pid_rows.specs.Shows.{ShowsIn}
 use Rattle.pid_tables.specs.declared.migration.Step.{Step}
 use Rattle.pid_tables.specs.Clauses.{ShowsOrBlank}
 use Rattle.pid_tables.specs.Creation.{IsBare}
-use Rattle.pid_tables.proofs.OpenLemmas.{LeavesCommitted, opened_bare, opened_rests, opened_shown}
+use Rattle.pid_tables.proofs.OpenLemmas.{LeavesCommitted, blank_rests, opened_bare, opened_rests, opened_shown}
 use Rattle.pid_service.specs.declared.registry.Registry.{Registry}
 use Rattle.pid_service.specs.Histories.{FailsBetween, IsReached, Shows}
 use Rattle.pid_service.specs.Lives.{LeavesTablesTo, IsAfterStop, MovesTo, OpensTo, showing}
-use Rattle.pid_service.specs.Opening.{LeavesHistory}
 use Rattle.pid_service.specs.Registries.{HasCleanDisk, connection, is_live}
 
 pub none_reached : IsReached new_history
@@ -40,10 +39,12 @@ module _ {S : Type 0} (store : Ghosts S) where
   opened_in law conn h opens Two shows = inl (opened_shown (state store conn) (views_of h) (law conn) opens.0 opens.1 shows)
   opened_in law conn h opens One shows = inr (inl (opened_rests One (state store conn) (views_of h) (law conn) opens.0 opens.1 shows))
 
-  left_found : IsSettled → (earlier conn : Held S) (h : History) → IsAfterStop store earlier conn → LeavesHistory store earlier h → ShowsOrBlank store conn h
-  left_found law earlier conn h stop left = elim (left.each stop.clean _ stop.found) [
-    | inl shown ↦ opened_in law conn h stop.opened shown.0 shown.1
-    | inr bare ↦ inr (inr (opened_bare (state store conn) (law conn) stop.opened.0 stop.opened.1 bare.0, bare.1))
+  left_found : IsSettled → (earlier conn : Held S) (h : History) → IsAfterStop store earlier conn → ShowsOrBlank store earlier h → ShowsOrBlank store conn h
+  left_found law earlier conn h stop (inl rest) = opened_in law conn h stop.opened Two (rest.leaves.each stop.clean _ stop.found)
+  left_found law earlier conn h stop (inr (inl older)) = let shown = older.leaves.each stop.clean _ stop.found in opened_in law conn h stop.opened shown.0 shown.1
+  left_found law earlier conn h stop (inr (inr bare)) = elim (bare.0.leaves.each stop.clean _ stop.found) [
+    | inl none ↦ inr (inr (blank_rests (state store conn) (opened_bare (state store conn) (law conn) stop.opened.0 stop.opened.1 none), bare.1))
+    | inr made ↦ opened_in law conn h stop.opened Two (subst (λ (g : History). ShowsIn Two (found_in (schema_of Two) (clauses.seen store conn).trees) (views_of g)) (sym bare.1) made)
   ]
 
   pub stop_finds : IsSettled → (ended : Registry S store) (conn : Held S) → IsAfterStop store (connection ended) conn → LeavesTablesTo store ended conn
@@ -91,9 +92,19 @@ module _ {S : Type 0} (store : Ghosts S) where
     ];
   }
 
+  pub again_finds : (ended : Registry S store) (conn back : Held S) (fault : TableFault) → LeavesTablesTo store ended conn → OpensTo store conn (Err (fault, back)) → clauses.HasCleanDisk store back → LeavesTablesTo store ended back
+  again_finds ended conn back fault finds opens clean = record {
+    clean = λ clean. finds.clean (opens.clean clean);
+    shown = λ h shows. (opens.opened h shows.history (finds.shown h shows) clean).1;
+    either = λ h next between. elim (finds.either h next between) [
+      | inl shows ↦ inl (opens.opened h between.before shows clean).1
+      | inr shows ↦ inr (opens.opened next between.next shows clean).1
+    ];
+  }
+
   -- the first opening
   pub bare_shows_none : IsSettled → (conn : Held S) → IsOpened store conn → IsBare (clauses.seen store conn).trees → ShowsOrBlank store conn new_history
-  bare_shows_none law conn opens bare = inr (inr (opened_bare (state store conn) (law conn) opens.0 opens.1 bare, refl))
+  bare_shows_none law conn opens bare = inr (inr (blank_rests (state store conn) (opened_bare (state store conn) (law conn) opens.0 opens.1 bare), refl))
 
   pub shown_rests : IsSettled → (conn : Held S) (h : History) → IsOpened store conn → IsShown (clauses.seen store conn).trees (views_of h) → ShowsOrBlank store conn h
   shown_rests law conn h opens shown = opened_in law conn h opens shown.0 shown.1
@@ -104,19 +115,25 @@ module _ {S : Type 0} (store : Ghosts S) where
   pub first_failure_shows : IsSettled → (conn back next : Held S) (fault : TableFault) (h : History) → IsReached h → ShowsOrBlank store conn h → OpensTo store conn (Err (fault, back)) → IsAfterStop store back next → ShowsOrBlank store next h
   first_failure_shows law conn back next fault h reached shows opens stop = left_found law back next h stop (opens.opened h reached shows stop.clean).1
 
+  pub first_again : (conn back : Held S) (fault : TableFault) (h : History) → IsReached h → ShowsOrBlank store conn h → OpensTo store conn (Err (fault, back)) → clauses.HasCleanDisk store back → ShowsOrBlank store back h
+  first_again conn back fault h reached shows opens clean = (opens.opened h reached shows clean).1
+
   -- a migration before it
   pub move_shows : (conn moved : Held S) (step : Step) (h : History) → IsReached h → ShowsOrBlank store conn h → MovesTo store conn (Ok (moved, step)) → clauses.HasCleanDisk store moved → AtRest store moved (views_of h)
   move_shows conn moved step h reached (inl rest) moves clean = (moves.already h reached rest clean).1
   move_shows conn moved step h reached (inr (inl older)) moves clean = (moves.moved h reached older clean).1
-  move_shows conn moved step h reached (inr (inr blank)) moves clean = subst (λ (g : History). AtRest store moved (views_of g)) (sym blank.1) (moves.created blank.0 clean).1
+  move_shows conn moved step h reached (inr (inr bare)) moves clean = subst (λ (g : History). AtRest store moved (views_of g)) (sym bare.1) (moves.created bare.0 clean).1
 
-  move_leaves : (conn back : Held S) (fault : TableFault) (h : History) → IsReached h → ShowsOrBlank store conn h → MovesTo store conn (Err (fault, back)) → clauses.HasCleanDisk store back → IsUntold fault × LeavesHistory store back h
+  move_leaves : (conn back : Held S) (fault : TableFault) (h : History) → IsReached h → ShowsOrBlank store conn h → MovesTo store conn (Err (fault, back)) → clauses.HasCleanDisk store back → IsUntold fault × ShowsOrBlank store back h
   move_leaves conn back fault h reached (inl rest) moves clean = moves.already h reached rest clean
   move_leaves conn back fault h reached (inr (inl older)) moves clean = moves.moved h reached older clean
-  move_leaves conn back fault h reached (inr (inr blank)) moves clean = subst (λ (g : History). IsUntold fault × LeavesHistory store back g) (sym blank.1) (moves.created blank.0 clean)
+  move_leaves conn back fault h reached (inr (inr bare)) moves clean = subst (λ (g : History). IsUntold fault × ShowsOrBlank store back g) (sym bare.1) (moves.created bare.0 clean)
 
   pub move_untold : (conn back : Held S) (fault : TableFault) (h : History) → IsReached h → ShowsOrBlank store conn h → MovesTo store conn (Err (fault, back)) → clauses.HasCleanDisk store back → IsUntold fault
   move_untold conn back fault h reached shows moves clean = (move_leaves conn back fault h reached shows moves clean).0
+
+  pub move_again : (conn back : Held S) (fault : TableFault) (h : History) → IsReached h → ShowsOrBlank store conn h → MovesTo store conn (Err (fault, back)) → clauses.HasCleanDisk store back → ShowsOrBlank store back h
+  move_again conn back fault h reached shows moves clean = (move_leaves conn back fault h reached shows moves clean).1
 
   pub move_failure_shows : IsSettled → (conn back next : Held S) (fault : TableFault) (h : History) → IsReached h → ShowsOrBlank store conn h → MovesTo store conn (Err (fault, back)) → IsAfterStop store back next → ShowsOrBlank store next h
   move_failure_shows law conn back next fault h reached shows moves stop = left_found law back next h stop (move_leaves conn back fault h reached shows moves stop.clean).1

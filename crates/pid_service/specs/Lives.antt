@@ -18,13 +18,13 @@ use Rattle.pid_rows.specs.declared.version.Version.TheVariants.{One}
 use Rattle.pid_rows.specs.Clauses as clauses
 use Rattle.pid_tables.specs.declared.migration.Step.{Step}
 use Rattle.pid_tables.specs.declared.migration.Step.TheVariants.{Created, Moved, Already}
-use Rattle.pid_tables.specs.Clauses.{IsBlank, IsOpened, ShowsOrBlank}
+use Rattle.pid_tables.specs.Clauses.{IsOpened, RestsBare, ShowsOrBlank}
 use Rattle.pid_service.specs.declared.importing.ImportEnd.{ImportEnd}
 use Rattle.pid_service.specs.declared.importing.ImportEnd.TheVariants.{Refused, Body}
 use Rattle.pid_service.specs.declared.registry.Registry.{Registry}
 use Rattle.pid_service.specs.Histories.{IsReached, Shows, FailsBetween}
 pub use Rattle.pid_service.specs.Histories.{showing}
-use Rattle.pid_service.specs.Opening.{Moves, Opens}
+use Rattle.pid_service.specs.Opening.{Opens, StepsTo}
 use Rattle.pid_service.specs.Registries.{HasCleanDisk}
 
 -- an import whose file comes as an input sends its command, unless the input failed
@@ -60,9 +60,9 @@ module _ {S : Type 0} (store : Ghosts S) where
 
   -- `migrate` was called on a connection and answered this: its clauses `created`, `moved` and `already`
   pub record MovesTo (conn : Held S) (result : Result (Held S × Step) (TableFault × Held S)) : Type 0 where
-    pub created : IsBlank store conn → Moves store Created result new_history
-    pub moved : (h : History) → IsReached h → clauses.RestsIn store One conn (views_of h) → Moves store Moved result h
-    pub already : (h : History) → IsReached h → clauses.AtRest store conn (views_of h) → Moves store Already result h
+    pub created : RestsBare store conn → StepsTo store Created result new_history
+    pub moved : (h : History) → IsReached h → clauses.RestsIn store One conn (views_of h) → StepsTo store Moved result h
+    pub already : (h : History) → IsReached h → clauses.AtRest store conn (views_of h) → StepsTo store Already result h
 
   -- a registry shows the history after the one at the start and a prefix of the commands of each life, told by its calls
   pub record ShowsPrefixes (r : Registry S store) (start : History) (calls : List (List Call)) : Type 0 where

@@ -73,8 +73,8 @@ pub fn clauses_meet_lives<S: Alter + Drop>()
 }
 
 /// The first opening. A database without tables has what the history of a new registry shows, and one that was just opened on tables has the
-/// history that they show, in whichever schema. The registry that is opened there shows that history. Where the opening failed, what it leaves to
-/// a stop still shows it.
+/// history that they show, in whichever schema. The registry that is opened there shows that history. Where the opening failed, the connection that
+/// comes back still shows it, so that it may be opened again, and so does what it leaves to a stop.
 pub fn first_openings_show_what_is_there<S: Alter + Drop>()
     ensures bare { (conn : Held S) → IsOpened S.Store conn → IsBare (clauses.seen S.Store conn).trees → ShowsOrBlank S.Store conn new_history }
     ensures new { IsReached new_history }
@@ -83,10 +83,12 @@ pub fn first_openings_show_what_is_there<S: Alter + Drop>()
         → OpensTo S.Store conn (Ok first) → HasCleanDisk S.Store first → Shows S.Store first h }
     ensures failed { (conn back next : Held S) (fault : TableFault) (h : History) → IsReached h → ShowsOrBlank S.Store conn h
         → OpensTo S.Store conn (Err (fault, back)) → IsAfterStop S.Store back next → ShowsOrBlank S.Store next h }
+    ensures again { (conn back : Held S) (fault : TableFault) (h : History) → IsReached h → ShowsOrBlank S.Store conn h
+        → OpensTo S.Store conn (Err (fault, back)) → clauses.HasCleanDisk S.Store back → ShowsOrBlank S.Store back h }
 {}
 
 /// A migration before an opening. The tables that it leaves show the history in the schema of today. Where it failed it told of no damage and no
-/// later schema, and what it leaves to a stop shows the same history, in the one schema or the other.
+/// later schema, and the connection that comes back shows the same history, as does what it leaves to a stop, in the one schema or the other.
 pub fn migrations_keep_histories<S: Alter + Drop>()
     ensures moved { (conn moved : Held S) (step : Step) (h : History) → IsReached h → ShowsOrBlank S.Store conn h
         → MovesTo S.Store conn (Ok (moved, step)) → clauses.HasCleanDisk S.Store moved → clauses.AtRest S.Store moved (views_of h) }
@@ -94,14 +96,16 @@ pub fn migrations_keep_histories<S: Alter + Drop>()
         → MovesTo S.Store conn (Err (fault, back)) → clauses.HasCleanDisk S.Store back → IsUntold fault }
     ensures failed { (conn back next : Held S) (fault : TableFault) (h : History) → IsReached h → ShowsOrBlank S.Store conn h
         → MovesTo S.Store conn (Err (fault, back)) → IsAfterStop S.Store back next → ShowsOrBlank S.Store next h }
+    ensures again { (conn back : Held S) (fault : TableFault) (h : History) → IsReached h → ShowsOrBlank S.Store conn h
+        → MovesTo S.Store conn (Err (fault, back)) → clauses.HasCleanDisk S.Store back → ShowsOrBlank S.Store back h }
 {}
 
 /// From the end of a life to the next opening.
 ///
 /// After a stop a new connection finds what a crash may leave; a live registry that was closed gives its own connection back. Either has
 /// the tables that the registry showed, or those of one of the two histories between which it had failed, and a registry that is opened
-/// there shows them. An opening that fails tells of no damage and no later schema. It is no life: what it leaves to a further stop
-/// shows the same history.
+/// there shows them. An opening that fails tells of no damage and no later schema. It is no life: the connection that comes back
+/// may be opened again, and shows the same history, as does what it leaves to a further stop.
 pub fn openings_find_histories<S: Alter + Drop>()
     ensures stopped { (ended : registry.Registry S S.Store) (conn : Held S) → IsAfterStop S.Store (connection ended) conn → LeavesTablesTo S.Store ended conn }
     ensures closed { (ended : registry.Registry S S.Store) (conn : Held S) → lives ended ≡ true → conn ≡ connection ended → LeavesTablesTo S.Store ended conn }
@@ -112,6 +116,8 @@ pub fn openings_find_histories<S: Alter + Drop>()
         → Shows S.Store ended h ⊎ ((next : History) × FailsBetween S.Store ended h next) → IsUntold fault }
     ensures failed { (ended : registry.Registry S S.Store) (conn back next : Held S) (fault : TableFault) → LeavesTablesTo S.Store ended conn
         → OpensTo S.Store conn (Err (fault, back)) → IsAfterStop S.Store back next → LeavesTablesTo S.Store ended next }
+    ensures again { (ended : registry.Registry S S.Store) (conn back : Held S) (fault : TableFault) → LeavesTablesTo S.Store ended conn
+        → OpensTo S.Store conn (Err (fault, back)) → clauses.HasCleanDisk S.Store back → LeavesTablesTo S.Store ended back }
 {}
 
 /// The crash prefix. Let the first registry show a history, that without commands where it is new, and let each further one be opened on

@@ -1,17 +1,16 @@
 //! Opens a registry, and moves a database to the schema of today.
-ghost use Rattle.std.specs.Prelude.{◌≡◌, ◌⊎◌, ◌↔◌, true, false, Some, IfOk, IfErr, MatchResult};
+ghost use Rattle.std.specs.Prelude.{◌≡◌, ◌⊎◌, ◌↔◌, true, false, Some, IfOk, IfErr, IsTrue, MatchResult};
 ghost use Rattle.pid_moderation.specs.History.{History, new_history};
-ghost use Rattle.pid_moderation.specs.Views.{views_of};
+ghost use Rattle.pid_moderation.specs.Views.{Views, views_of};
 ghost use Rattle.pid_rows.specs.declared.version.Version.TheVariants.{One, Two};
 ghost use Rattle.pid_rows.specs.Clauses.{AtRest, HasCleanDisk, OnlyReads, RestsIn, is_open, seen};
-ghost use Rattle.pid_rows.specs.Faults.{IsUntold};
+ghost use Rattle.pid_rows.specs.Faults.{IsNotLater, IsUntold};
 ghost use Rattle.pid_table_check.specs.Checking.{Explains, Finds};
 ghost use Rattle.pid_table_check.specs.Shapes.{HasNoTable, HasSomeTable};
-ghost use Rattle.pid_tables.specs.Clauses.{IsBlank, IsMet, ShowsOrBlank};
-ghost use Rattle.pid_tables.specs.Creation.{IsOfMaking};
+ghost use Rattle.pid_tables.specs.Clauses.{Brings, IsMet, IsOneStep, IsTakenBack, Refuses, RestsBare, ShowsOrBlank};
 ghost use Rattle.pid_tables.specs.Steps.{NamesLatest};
 ghost use Rattle.pid_service.specs.Histories.{IsReached};
-ghost use Rattle.pid_service.specs.Opening.{Fails, IsFound, LeavesHistory, Moves, Opens, Refuses, Rejects, Takes};
+ghost use Rattle.pid_service.specs.Opening.{IsFound, IsJudged, Opens, RefusesToOpen, Rejects, StepsTo, ExplainsNow};
 ghost use Rattle.pid_service.specs.Registries as registries;
 
 use crate::laws::reached_histories_are_kept;
@@ -34,12 +33,14 @@ fn is_today(found: Option<Version>) -> bool
 fn judge_tables<S: Alter + Drop>(tables: &mut Tables<S>, alloc: Global) -> Result<(), TableFault>
     requires { tables.old.conn.in_transaction ≡ false }
     ensures rests { OnlyReads S.Store tables.old.conn tables.new.conn }
+    ensures same { IsTrue (is_open S.Store tables.new.conn) → (seen S.Store tables.new.conn) ≡ (seen S.Store tables.old.conn) }
     ensures good { HasCleanDisk S.Store tables.new.conn → (h : History) → IsReached h → AtRest S.Store tables.old.conn (views_of h) → IfErr result IsUntold }
     ensures shut { HasCleanDisk S.Store tables.new.conn → is_open S.Store tables.old.conn ≡ false → MatchResult result (λ _. ⊥) IsUntold }
-    ensures told { HasCleanDisk S.Store tables.new.conn → HasSomeTable (seen S.Store tables.old.conn).schema
-        → MatchResult result (λ _. Finds (seen S.Store tables.old.conn) (Some Two)) (λ e. Explains (seen S.Store tables.old.conn) e ⊎ Finds (seen S.Store tables.old.conn) (Some One)) }
+    ensures told { HasCleanDisk S.Store tables.new.conn → MatchResult result (λ _. Finds (seen S.Store tables.old.conn) (Some Two)) (Explains (seen S.Store tables.old.conn)) }
 {
     reached_histories_are_kept();
+    // Outside a transaction nothing is uncommitted, so that the check sees what was there before.
+    let _settled = tables.conn.is_autocommit();
     match tables.check(alloc) {
         Err(fault) => Err(fault),
         Ok(found) => {
@@ -58,12 +59,14 @@ fn make_ready<S: Alter + Drop>(tables: &mut Tables<S>, alloc: Global) -> Result<
     ensures settled { tables.new.conn.in_transaction ≡ false }
     ensures clean { HasCleanDisk S.Store tables.new.conn → HasCleanDisk S.Store tables.old.conn }
     ensures ready { HasCleanDisk S.Store tables.new.conn → (h : History) → IsReached h → ShowsOrBlank S.Store tables.old.conn h
-        → MatchResult result (λ _. AtRest S.Store tables.new.conn (views_of h)) (λ e. IsUntold e × LeavesHistory S.Store tables.new.conn h) }
+        → MatchResult result (λ _. AtRest S.Store tables.new.conn (views_of h)) (λ e. IsUntold e × ShowsOrBlank S.Store tables.new.conn h) }
     ensures told { HasCleanDisk S.Store tables.new.conn → HasSomeTable (seen S.Store tables.old.conn).schema
-        → MatchResult result (λ _. IsFound (seen S.Store tables.old.conn)) (λ e. Refuses S.Store tables.old.conn e tables.new.conn) }
+        → MatchResult result (λ _. IsFound (seen S.Store tables.old.conn)) (λ e. RefusesToOpen S.Store tables.old.conn e tables.new.conn) }
+    ensures judged { HasCleanDisk S.Store tables.new.conn → IfOk result (λ _. IsJudged S.Store tables.new.conn) }
+    ensures bare { HasCleanDisk S.Store tables.new.conn → HasNoTable (seen S.Store tables.old.conn).schema → IfErr result (λ e. IsNotLater e ⊎ ExplainsNow S.Store tables.new.conn e) }
     ensures met { HasCleanDisk S.Store tables.new.conn → HasNoTable (seen S.Store tables.old.conn).schema → IsMet S.Store tables.old.conn
-        → MatchResult result (λ _. ⊥) (λ e. IsOfMaking e × OnlyReads S.Store tables.old.conn tables.new.conn) }
-    ensures shut { HasCleanDisk S.Store tables.new.conn → is_open S.Store tables.old.conn ≡ false → MatchResult result (λ _. ⊥) IsUntold }
+        → MatchResult result (λ _. ⊥) (λ e. IsNotLater e × OnlyReads S.Store tables.old.conn tables.new.conn) }
+    ensures shut { HasCleanDisk S.Store tables.new.conn → is_open S.Store tables.old.conn ≡ false → MatchResult result (λ _. ⊥) (λ e. IsUntold e × OnlyReads S.Store tables.old.conn tables.new.conn) }
 {
     reached_histories_are_kept();
     // Outside a transaction nothing is uncommitted, so that both see the same.
@@ -79,8 +82,8 @@ fn make_ready<S: Alter + Drop>(tables: &mut Tables<S>, alloc: Global) -> Result<
 ///
 /// Where it fails it hands the connection back: `NewerSchema` of a schema that is later than this one, which is judged first;
 /// `Damaged` of tables that break a condition (docs/STORAGE.md), or where something else has the name of one; else `Memory` or `Store`.
-/// Other tables, indexes and views are borne: that is tested, not promised. After a refusal where there was no table, open the files anew
-/// rather than the connection that came back.
+/// Other tables, indexes and views are borne: that is tested, not promised. After `Memory` and `Store` the connection that comes back shows
+/// what it showed, and the call may be made again.
 pub fn open<S: Alter + Drop>(
     alloc: Global,
     conn: Connection<S>,
@@ -94,10 +97,14 @@ pub fn open<S: Alter + Drop>(
     // Where there is some table, they are opened only where they keep all conditions of a registry in the schema that they name. Of others
     // the fault tells which one fails, and everything is as it was.
     ensures told { HasSomeTable (seen S.Store conn).schema → MatchResult result (λ r. registries.HasCleanDisk S.Store r → IsFound (seen S.Store conn))
-        (λ e. HasCleanDisk S.Store e.1 → Refuses S.Store conn e.0 e.1) }
+        (λ e. HasCleanDisk S.Store e.1 → RefusesToOpen S.Store conn e.0 e.1) }
+    // Whatever there was: what is opened keeps all conditions of a registry in the schema of today.
+    ensures judged { IfOk result (λ r. registries.HasCleanDisk S.Store r → IsJudged S.Store (registries.connection r)) }
+    // Where there is no table, whatever else there is: a later schema is told only of what was made there.
+    ensures bare { HasNoTable (seen S.Store conn).schema → IfErr result (λ e. HasCleanDisk S.Store e.1 → IsNotLater e.0 ⊎ ExplainsNow S.Store e.1 e.0) }
     // Where there is none, something else under one of their names is refused.
-    ensures met { HasNoTable (seen S.Store conn).schema → IsMet S.Store conn → Rejects S.Store registries.connection conn result IsOfMaking }
-    ensures shut { is_open S.Store conn ≡ false → Fails S.Store registries.connection result }
+    ensures met { HasNoTable (seen S.Store conn).schema → IsMet S.Store conn → Rejects S.Store registries.connection conn result IsNotLater }
+    ensures shut { is_open S.Store conn ≡ false → Rejects S.Store registries.connection conn result IsUntold }
 {
     let Ok(names) = NameCache::new(alloc) else {
         return Err((TableFault::Memory, conn));
@@ -126,18 +133,23 @@ pub fn migrate<S: Alter + Drop>(
     requires { conn.in_transaction ≡ false }
     ensures clean { MatchResult result (λ r. HasCleanDisk S.Store r.0 → HasCleanDisk S.Store conn) (λ e. HasCleanDisk S.Store e.1 → HasCleanDisk S.Store conn) }
     ensures settled { MatchResult result (λ r. r.0.in_transaction ≡ false) (λ e. e.1.in_transaction ≡ false) }
-    ensures created { IsBlank S.Store conn → Moves S.Store Step.Created result new_history }
-    ensures moved { (h : History) → IsReached h → RestsIn S.Store One conn (views_of h) → Moves S.Store Step.Moved result h }
-    ensures already { (h : History) → IsReached h → AtRest S.Store conn (views_of h) → Moves S.Store Step.Already result h }
+    ensures created { RestsBare S.Store conn → StepsTo S.Store Step.Created result new_history }
+    ensures moved { (h : History) → IsReached h → RestsIn S.Store One conn (views_of h) → StepsTo S.Store Step.Moved result h }
+    ensures already { (h : History) → IsReached h → AtRest S.Store conn (views_of h) → StepsTo S.Store Step.Already result h }
+    // Tables of schema 2 are only read, whatever a crash would leave in their place.
+    ensures left { (v : Views) → RestsIn S.Store Two conn v → MatchResult result (λ r. HasCleanDisk S.Store r.0 → (r.1 ≡ Step.Already) × OnlyReads S.Store conn r.0)
+        (λ e. HasCleanDisk S.Store e.1 → IsUntold e.0 × OnlyReads S.Store conn e.1) }
     // Whatever the tables are: those of schema 1 are judged before they are moved, and where a condition fails, the fault tells which one,
     // and everything is as it was.
-    ensures told { HasSomeTable (seen S.Store conn).schema → MatchResult result (λ r. HasCleanDisk S.Store r.0 → Takes S.Store conn r.1 r.0) (λ e. HasCleanDisk S.Store e.1 → Refuses S.Store conn e.0 e.1) }
-    // Of the tables of a schema, with nothing beside them: `Already` is answered only where the labels name schema 2.
+    ensures told { HasSomeTable (seen S.Store conn).schema → MatchResult result (λ r. HasCleanDisk S.Store r.0 → Brings S.Store conn r.1 r.0) (λ e. HasCleanDisk S.Store e.1 → Refuses S.Store conn e.0 e.1) }
+    // Whatever else there is: `Already` is answered only where the labels show schema 2.
     ensures named { IfOk result (λ r. HasCleanDisk S.Store r.0 → r.1 ≡ Step.Already → NamesLatest (seen S.Store conn)) }
-    // Where there is no table, whatever else there is: it answers no other step than that they were made.
-    ensures bare { HasNoTable (seen S.Store conn).schema → IfOk result (λ r. HasCleanDisk S.Store r.0 → r.1 ≡ Step.Created) }
-    ensures met { HasNoTable (seen S.Store conn).schema → IsMet S.Store conn → Rejects S.Store (λ r. r.0) conn result IsOfMaking }
-    ensures shut { is_open S.Store conn ≡ false → Fails S.Store (λ r. r.0) result }
+    // Where there is no table, whatever else there is: it answers no other step than that they were made, and tells of no later schema.
+    ensures bare { HasNoTable (seen S.Store conn).schema → MatchResult result (λ r. HasCleanDisk S.Store r.0 → r.1 ≡ Step.Created) (λ e. HasCleanDisk S.Store e.1 → IsNotLater e.0) }
+    // Whatever there is: a crash leaves what it left before, or all of the one step; and after a fault nothing of the step is seen.
+    ensures once { MatchResult result (λ r. IsOneStep S.Store conn r.0) (λ e. IsOneStep S.Store conn e.1 × IsTakenBack S.Store conn e.1) }
+    ensures met { HasNoTable (seen S.Store conn).schema → IsMet S.Store conn → Rejects S.Store (λ r. r.0) conn result IsNotLater }
+    ensures shut { is_open S.Store conn ≡ false → Rejects S.Store (λ r. r.0) conn result IsUntold }
 {
     reached_histories_are_kept();
     match pid_tables::migrate(&mut conn, alloc) {

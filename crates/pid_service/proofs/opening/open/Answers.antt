@@ -1,17 +1,17 @@
-use Rattle.std.proofs.Common.{refl, sym, subst}
+use Rattle.std.proofs.Common.{◌≡◌, ◌⊎◌, inl, false, refl, sym, subst}
 use Rattle.sqlite.specs.Held.{state}
 use Rattle.pid_moderation.specs.Views.{views_of}
-use Rattle.pid_rows.specs.Clauses.{HasCleanDisk, OnlyReads, seen}
-use Rattle.pid_rows.specs.Faults.{IsUntold}
+use Rattle.pid_rows.specs.Clauses.{HasCleanDisk, OnlyReads, is_open, seen}
+use Rattle.pid_rows.specs.Faults.{IsNotLater, IsUntold}
 use Rattle.pid_table_check.specs.Shapes.{HasNoTable, HasSomeTable}
 use Rattle.pid_tables.specs.Clauses.{IsMet, ShowsOrBlank}
-use Rattle.pid_tables.specs.Creation.{IsOfMaking}
-use Rattle.pid_service.specs.Opening.{IsFound, LeavesHistory, Refuses}
-use Rattle.pid_service.proofs.Opened.{moved, no_names, shown_leaves}
+use Rattle.pid_service.specs.Opening.{ExplainsNow, IsFound, RefusesToOpen}
+use Rattle.pid_table_check.proofs.Asking.{nothing_read}
+use Rattle.pid_service.proofs.Opened.{moved, no_names}
 use Rattle.pid_service.proofs.opening.open.Goals as goal
 
 pub returns-in_default-clause-opened : goal.returns-in_default-clause-opened
-returns-in_default-clause-opened g c h reached shown clean = (tt, shown_leaves (state g.S.Store c.args.conn) h shown)
+returns-in_default-clause-opened g c h reached shown clean = (tt, shown)
 
 pub returns-in-Ok-make_ready-clause-opened : goal.returns-in-Ok-make_ready-clause-opened
 returns-in-Ok-make_ready-clause-opened g c h reached shown clean = record {
@@ -31,15 +31,39 @@ returns-in-Ok-make_ready-clause-met g c none met clean =
 
 pub returns-in-Err-clause-opened : goal.returns-in-Err-clause-opened
 returns-in-Err-clause-opened g c h reached =
-    moved (λ x y. ShowsOrBlank g.S.Store x h → HasCleanDisk g.S.Store y → IsUntold c.in-Err.fault × LeavesHistory g.S.Store y h) c.new-tables.ensures c.into_conn.ensures
+    moved (λ x y. ShowsOrBlank g.S.Store x h → HasCleanDisk g.S.Store y → IsUntold c.in-Err.fault × ShowsOrBlank g.S.Store y h) c.new-tables.ensures c.into_conn.ensures
     (λ shown clean. c.in-Err.ensures.ready clean h reached shown)
 
 pub returns-in-Err-clause-told : goal.returns-in-Err-clause-told
 returns-in-Err-clause-told g c =
-    moved (λ x y. HasSomeTable (seen g.S.Store x).schema → HasCleanDisk g.S.Store y → Refuses g.S.Store x c.in-Err.fault y) c.new-tables.ensures c.into_conn.ensures
+    moved (λ x y. HasSomeTable (seen g.S.Store x).schema → HasCleanDisk g.S.Store y → RefusesToOpen g.S.Store x c.in-Err.fault y) c.new-tables.ensures c.into_conn.ensures
     (λ some clean. c.in-Err.ensures.told clean some)
 
 pub returns-in-Err-clause-met : goal.returns-in-Err-clause-met
 returns-in-Err-clause-met g c =
-    moved (λ x y. HasNoTable (seen g.S.Store x).schema → IsMet g.S.Store x → HasCleanDisk g.S.Store y → IsOfMaking c.in-Err.fault × OnlyReads g.S.Store x y) c.new-tables.ensures c.into_conn.ensures
+    moved (λ x y. HasNoTable (seen g.S.Store x).schema → IsMet g.S.Store x → HasCleanDisk g.S.Store y → IsNotLater c.in-Err.fault × OnlyReads g.S.Store x y) c.new-tables.ensures c.into_conn.ensures
     (λ none met clean. c.in-Err.ensures.met clean none met)
+
+pub returns-in-Ok-make_ready-clause-judged : goal.returns-in-Ok-make_ready-clause-judged
+returns-in-Ok-make_ready-clause-judged g c clean = c.in-Ok-make_ready.ensures.judged clean
+
+pub returns-in-Err-clause-bare : goal.returns-in-Err-clause-bare
+returns-in-Err-clause-bare g c =
+    moved (λ x y. HasNoTable (seen g.S.Store x).schema → HasCleanDisk g.S.Store y → IsNotLater c.in-Err.fault ⊎ ExplainsNow g.S.Store y c.in-Err.fault) c.new-tables.ensures c.into_conn.ensures
+    (λ none clean. c.in-Err.ensures.bare clean none)
+
+-- ---- where a fault has shut the connection
+
+pub returns-in_default-clause-bare : goal.returns-in_default-clause-bare
+returns-in_default-clause-bare g c none clean = inl tt
+
+pub returns-in_default-clause-shut : goal.returns-in_default-clause-shut
+returns-in_default-clause-shut g c closed clean = (tt, nothing_read (state g.S.Store c.args.conn) c.requires)
+
+pub returns-in-Ok-make_ready-clause-shut : goal.returns-in-Ok-make_ready-clause-shut
+returns-in-Ok-make_ready-clause-shut g c closed clean = c.in-Ok-make_ready.ensures.shut clean (subst (λ k. is_open g.S.Store k ≡ false) (sym c.new-tables.ensures) closed)
+
+pub returns-in-Err-clause-shut : goal.returns-in-Err-clause-shut
+returns-in-Err-clause-shut g c =
+    moved (λ x y. is_open g.S.Store x ≡ false → HasCleanDisk g.S.Store y → IsUntold c.in-Err.fault × OnlyReads g.S.Store x y) c.new-tables.ensures c.into_conn.ensures
+    (λ closed clean. c.in-Err.ensures.shut clean closed)
