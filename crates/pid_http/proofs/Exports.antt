@@ -8,6 +8,7 @@ use Rattle.pid_export.proofs.ItemLines.{last_path, text_behind, text_joined}
 use Rattle.pid_export.specs.ItemTexts.{text_of_items}
 use Rattle.pid_ident.specs.Sending.{SendsFront}
 use Rattle.pid_ident.specs.declared.io.WriteFault.{WriteFault}
+use Rattle.pid_lives.specs.Calls.{AreNothing}
 use Rattle.pid_moderation.specs.History.{History}
 use Rattle.pid_moderation.specs.Items.{Items}
 use Rattle.pid_moderation.specs.Views.{items_of}
@@ -17,6 +18,7 @@ use Rattle.pid_moderation.specs.declared.refusal.Refusal.TheVariants as refusals
 use Rattle.pid_service.specs.Asking.{Answers}
 use Rattle.pid_service.specs.Exporting.{ExportsTree}
 use Rattle.pid_service.specs.Histories.{Shows, FailsBetween}
+use Rattle.pid_service.specs.Lives.{showing}
 use Rattle.pid_service.specs.Registries.{HasCleanDisk, is_live}
 use Rattle.pid_service.specs.declared.exporting.ExportFault.{ExportFault}
 use Rattle.pid_service.specs.declared.exporting.ExportFault.TheVariants.{Refused, Write}
@@ -27,17 +29,17 @@ use Rattle.pid_http_stream.specs.declared.reply.Content.TheVariants.{Text}
 use Rattle.pid_http_stream.specs.declared.reply.Status.TheVariants.{Okay}
 use Rattle.pid_http_stream.specs.Leading.{Leads}
 use Rattle.pid_http.specs.Errands.{Exports}
-use Rattle.pid_http.specs.Handling.{Writes}
-use Rattle.pid_http.specs.Known.{Known, Live, Between, Down, IsKnown, LivesOn, Goes}
+use Rattle.pid_http.specs.Handling.{Writes, WritesOver}
+use Rattle.pid_http.specs.Known.{Known, Live, Between, Down, IsKnown, LivesOn, Goes, Told, IsTold, calls_join}
 use Rattle.pid_http.specs.Serving.{IsPromised}
 
 -- the length of the text was told
-pub length_told : {S : Type 0} (store : Ghosts S) (old new : Registry S store) (n : ℕ) → LivesOn store old new → Answers store old new (Ok n) (λ h n. n ≡ length (print (tree_of h)))
-    → Goes store old new (λ k now. IsPromised k Exports (record { status = Okay; content = Text }) n now)
-length_told store old new n lives a = record { lives = lives; served = record { good = a.rests.clean; leads = leads } }
+pub length_told : {S : Type 0} (store : Ghosts S) (old new : Registry S store) (n : ℕ) (lives : LivesOn store old new) → Answers store old new (Ok n) (λ h n. n ≡ length (print (tree_of h)))
+    → AreNothing lives.calls → Goes store old new (λ k calls now. IsPromised k Exports (record { status = Okay; content = Text }) n calls now)
+length_told store old new n lives a nothing = record { lives = lives; served = record { good = a.rests.clean; leads = leads } }
   where
-    leads : HasCleanDisk store new → (k : Known) → IsKnown store old k → (now : Known) × IsKnown store new now × IsPromised k Exports (record { status = Okay; content = Text }) n now
-    leads good (Live h) shows = let t = a.told good h shows in (Live h, t.1, (refl, record { status = refl; content = refl; length_is = t.0 }, refl))
+    leads : HasCleanDisk store new → (k : Known) → IsKnown store old k → (now : Known) × IsKnown store new now × IsPromised k Exports (record { status = Okay; content = Text }) n lives.calls now
+    leads good (Live h) shows = let t = a.told good h shows in (Live h, t.1, (refl, record { status = refl; content = refl; length_is = t.0 }, nothing, refl))
     leads good (Between before behind) fails = let e = (a.failed fails.has_failed).0 in absurd cc
     leads good Down off = let e = (a.failed off).0 in absurd cc
 
@@ -75,12 +77,20 @@ pub not_all : {X : Type 0} (P : Type 0) (x : X) → ◌≡◌ {A = Result X Expo
 not_all P x is = absurd cc
 
 -- the text was written, so far
-pub written : {S : Type 0} (store : Ghosts S) (old new : Registry S store) (Took : List ℕ → Type 0) → (HasCleanDisk store new → HasCleanDisk store old) → (is_live old ≡ false → new ≡ old)
+pub written : {S : Type 0} (store : Ghosts S) (old new : Registry S store) (Took : List ℕ → Type 0) (lives : LivesOn store old new) → AreNothing lives.calls → (HasCleanDisk store new → HasCleanDisk store old)
     → ((h : History) → Shows store old h → Shows store new h) → (HasCleanDisk store new → (h : History) → Shows store old h → Took (print (tree_of h))) → (is_live old ≡ false → Took [])
-    → Leads (HasCleanDisk store) (IsKnown store) old new (λ k now. (body : List ℕ) × Writes k body now × Took body)
-written store old new Took clean rests shown body off_body = record { good = clean; leads = leads }
+    → Leads (HasCleanDisk store) (IsTold store) old new (λ t u. (body : List ℕ) × Writes store t body u × Took body)
+written store old new Took lives nothing clean shown body off_body = record { good = clean; leads = leads }
   where
-    leads : HasCleanDisk store new → (k : Known) → IsKnown store old k → (now : Known) × IsKnown store new now × ((b : List ℕ) × Writes k b now × Took b)
-    leads good (Live h) shows = (Live h, shown h shows, (print (tree_of h), (refl, refl), body good h shows))
-    leads good (Between before behind) fails = (Between before behind, subst (λ x. FailsBetween store x before behind) (sym (rests fails.has_failed)) fails, ([], refl, off_body fails.has_failed))
-    leads good Down off = (Down, subst (λ x. is_live x ≡ false) (sym (rests off)) off, ([], refl, off_body off))
+    over : HasCleanDisk store new → (k : Known) → IsKnown store old k → (now : Known) × IsKnown store new now × ((b : List ℕ) × WritesOver k b now × Took b)
+    over good (Live h) shows = (Live h, shown h shows, (print (tree_of h), (refl, refl), body good h shows))
+    over good (Between before behind) fails = (Between before behind, subst (λ x. FailsBetween store x before behind) (sym (lives.rests fails.has_failed)) fails, ([], refl, off_body fails.has_failed))
+    over good Down off = (Down, subst (λ x. is_live x ≡ false) (sym (lives.rests off)) off, ([], refl, off_body off))
+
+    leads : HasCleanDisk store new → (t : Told store) → IsTold store old t → (u : Told store) × IsTold store new u × ((b : List ℕ) × Writes store t b u × Took b)
+    leads good t is =
+        let x = over good t.known is.is_known in (
+          record { start = t.start; calls = t.calls ++ lives.calls; known = x.0 },
+          record { is_known = x.1; lead = calls_join (showing store) t.start old new t.calls lives.calls is.lead lives.lead },
+          (x.2.0, record { same_life = refl; more = lives.calls; joined = refl; holds = (nothing, x.2.1) }, x.2.2),
+        )

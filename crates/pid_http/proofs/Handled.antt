@@ -2,6 +2,8 @@
 use Rattle.std.proofs.Common.{◌≡◌, ℕ, List, [], Option, Some, None, Result, Ok, Err, refl, sym, subst, ◌∙◌, inl, inr}
 use Rattle.std.specs.Prelude.{◌⊎◌, MatchOption, option_copied}
 use Rattle.std.specs.Io.KnownBytes.{IsAtEnd}
+use Rattle.sqlite_trees.specs.declared.store.Store.{Ghosts}
+use Rattle.pid_lives.specs.Calls.{AreNothing, Call}
 use Rattle.pid_http_stream.specs.Conducts.{StandsStill}
 use Rattle.pid_http_stream.specs.Handling.{IsAsked, IsBodyFor, MayReply}
 use Rattle.pid_http_stream.specs.Replies.{Answer}
@@ -15,7 +17,7 @@ use Rattle.pid_requests.specs.Senders.{Sending, sender}
 use Rattle.pid_requests.specs.declared.question.Question.{Question}
 use Rattle.pid_requests.specs.declared.sender.Sender.{Sender}
 use Rattle.pid_http.specs.Errands.{Errand, errand_for, errand_of}
-use Rattle.pid_http.specs.Known.{Known}
+use Rattle.pid_http.specs.Known.{Told, ByCalls}
 use Rattle.pid_http.specs.Replying.{IsBodyMet, IsMetBehind, sending_in}
 use Rattle.pid_http.specs.Serving.{IsMet, serving}
 
@@ -29,19 +31,30 @@ pub errand_is : (request : Request) (q : Question) (method target body : List �
 unfolding errand_of
 errand_is request q method target body s asked m t sends b = λ i. errand_for ((asked ∙ (λ j. question (m j) (t j))) i) (sends i) (b i)
 
-body_for : (k now : Known) (request : Request) (head : ReplyHead) (body : ReplyBody) → IsBodyMet k (errand_of request) head body now → IsBodyFor serving k request head body now
-body_for k now request head (Bytes body) m = m
-body_for k now request head (Written told) m = m
+module _ {S : Type 0} (store : Ghosts S) where
+  body_for : (t u : Told store) (request : Request) (head : ReplyHead) (body : ReplyBody) → ByCalls store t u (λ calls. IsBodyMet t.known (errand_of request) head body calls u.known) → IsBodyFor (serving store) t request head body u
+  body_for t u request head (Bytes body) m = m
+  body_for t u request head (Written told) m = m
 
--- a reply was made
-pub asked_ok : (k now : Known) (request : Request) (errand : Errand) (reply : Reply) → errand ≡ errand_of request → IsBodyMet k errand reply.head reply.body now → MayReply serving k request reply now
-asked_ok k now request errand reply same m = body_for k now request reply.head reply.body (subst (λ c. IsBodyMet k c reply.head reply.body now) same m)
+  -- what holds of the calls, said otherwise
+  pub by_calls : (t u : Told store) (P Q : List Call → Type 0) → ((calls : List Call) → P calls → Q calls) → ByCalls store t u P → ByCalls store t u Q
+  by_calls t u P Q f b = record { same_life = b.same_life; more = b.more; joined = b.joined; holds = f b.more b.holds }
 
--- and where memory lacked for it
-pub asked_err : (k now : Known) (request : Request) (errand : Errand) → errand ≡ errand_of request → (given : Answer) × IsMet k errand given now → StandsStill serving k now ⊎ (IsAtEnd (Some []) × serving.leaves k request now)
-asked_err k now request errand same (given, m) = inr (refl, (given, subst (λ c. IsMet k c given now) same m))
+  -- a reply was made
+  pub asked_ok : (t u : Told store) (request : Request) (errand : Errand) (reply : Reply) → errand ≡ errand_of request → ByCalls store t u (λ calls. IsBodyMet t.known errand reply.head reply.body calls u.known) → MayReply (serving store) t request reply u
+  asked_ok t u request errand reply same m =
+      body_for t u request reply.head reply.body (by_calls t u _ _ (λ calls h. subst (λ c. IsBodyMet t.known c reply.head reply.body calls u.known) same h) m)
 
-pub asked_behind : {E : Type 0} (k now : Known) (request : Request) (errand : Errand) (result : Result Reply E) (left : Option (List ℕ)) → errand ≡ errand_of request → IsMetBehind k errand result left now → IsAsked serving k request result left now
-asked_behind k now request errand (Ok reply) left same m = body_for k now request reply.head reply.body (subst (λ c. IsBodyMet k c reply.head reply.body now) same m)
-asked_behind k now request errand (Err e) left same (inl still) = inl (inr still)
-asked_behind k now request errand (Err e) left same (inr (end, (given, m))) = inr (end, (given, subst (λ c. IsMet k c given now) same m))
+  -- and where memory lacked for it
+  pub asked_err : (t u : Told store) (request : Request) (errand : Errand) → errand ≡ errand_of request → ByCalls store t u (λ calls. (given : Answer) × IsMet t.known errand given calls u.known)
+      → StandsStill (serving store) t u ⊎ (IsAtEnd (Some []) × (serving store).leaves t request u)
+  asked_err t u request errand same m = inr (refl, by_calls t u _ _ (λ calls h. (h.0, subst (λ c. IsMet t.known c h.0 calls u.known) same h.1)) m)
+
+  pub asked_behind : {E : Type 0} (t u : Told store) (request : Request) (errand : Errand) (result : Result Reply E) (left : Option (List ℕ)) → errand ≡ errand_of request
+      → ByCalls store t u (λ calls. IsMetBehind t.known errand result left calls u.known) → IsAsked (serving store) t request result left u
+  asked_behind {E} t u request errand (Ok reply) left same m = asked_ok t u request errand reply same m
+  asked_behind {E} t u request errand (Err e) left same m = by_case m.holds
+    where
+      by_case : (AreNothing m.more × (t.known ≡ u.known)) ⊎ (IsAtEnd left × ((given : Answer) × IsMet t.known errand given m.more u.known)) → IsAsked {E = E} (serving store) t request (Err e) left u
+      by_case (inl still) = inl (inr (record { same_life = m.same_life; more = m.more; joined = m.joined; holds = still }))
+      by_case (inr (end, (given, met))) = inr (end, record { same_life = m.same_life; more = m.more; joined = m.joined; holds = (given, subst (λ c. IsMet t.known c given m.more u.known) same met) })

@@ -25,6 +25,7 @@ use Rattle.pid_http_stream.specs.declared.handler.Reply.{Reply}
 use Rattle.pid_requests.specs.declared.format.Format.{Format}
 use Rattle.pid_replies.specs.Outcomes.{outcome_answer}
 use Rattle.pid_replies.specs.Replying.{IsReplyOf}
+use Rattle.pid_lives.specs.Calls.{AreNothing, Call, obeyed}
 use Rattle.pid_lives.specs.Registries.{Does}
 use Rattle.pid_service.specs.Lives.{import_sent, showing}
 use Rattle.pid_http.specs.Errands.{Errand, Obeys}
@@ -48,15 +49,15 @@ refused_whole file text left fits consumed (inl read) = whole file text left con
 refused_whole file text left fits consumed (inr long) = let most = no_longer file text left consumed in absurd (omega arith)
 
 -- the reply to an import of this text is one to an import of the file
-behind : {E : Type 0} (account : List ℕ) (key : Option (List ℕ)) (format : Format) (file text : List ℕ) (outcome : Result Outcome Refusal) (r : Result Reply E) (left : Option (List ℕ)) (k now : Known)
-    → text ≡ file → IsAtEnd left → IfOk r (λ reply. IsReplyOf reply (outcome_answer format outcome)) → IsObeyed (import_of account key (file_reading text)) k outcome now
-    → IsMetBehind k (Obeys (import_of account key (file_reading file)) format) r left now
-behind {E} account key format file text outcome r left k now same end is obeys =
-    by_reply r is (subst (λ (x : List ℕ). IsMet k (Obeys (import_of account key (file_reading x)) format) (outcome_answer format outcome) now) same (obeyed_met (import_of account key (file_reading text)) format k now outcome obeys))
+behind : {E : Type 0} (account : List ℕ) (key : Option (List ℕ)) (format : Format) (file text : List ℕ) (outcome : Result Outcome Refusal) (r : Result Reply E) (left : Option (List ℕ)) (k : Known) (calls : List Call) (now : Known)
+    → text ≡ file → IsAtEnd left → IfOk r (λ reply. IsReplyOf reply (outcome_answer format outcome)) → IsObeyed (import_of account key (file_reading text)) k outcome calls now
+    → IsMetBehind k (Obeys (import_of account key (file_reading file)) format) r left calls now
+behind {E} account key format file text outcome r left k calls now same end is obeys =
+    by_reply r is (subst (λ (x : List ℕ). IsMet k (Obeys (import_of account key (file_reading x)) format) (outcome_answer format outcome) calls now) same (obeyed_met (import_of account key (file_reading text)) format k now outcome calls obeys))
   where
-    by_reply : (r : Result Reply E) → IfOk r (λ reply. IsReplyOf reply (outcome_answer format outcome)) → IsMet k (Obeys (import_of account key (file_reading file)) format) (outcome_answer format outcome) now
-        → IsMetBehind k (Obeys (import_of account key (file_reading file)) format) r left now
-    by_reply (Ok reply) is met = body_met k now (Obeys (import_of account key (file_reading file)) format) reply.head reply.body (outcome_answer format outcome) is met
+    by_reply : (r : Result Reply E) → IfOk r (λ reply. IsReplyOf reply (outcome_answer format outcome)) → IsMet k (Obeys (import_of account key (file_reading file)) format) (outcome_answer format outcome) calls now
+        → IsMetBehind k (Obeys (import_of account key (file_reading file)) format) r left calls now
+    by_reply (Ok reply) is met = body_met k now (Obeys (import_of account key (file_reading file)) format) reply.head reply.body (outcome_answer format outcome) calls is met
     by_reply (Err e) is met = inr (end, (outcome_answer format outcome, met))
 
 -- the import ended so
@@ -81,7 +82,7 @@ module _ {S : Type 0} (store : Ghosts S) where
       → (is_live old ≡ false → ((result ≡ Err (Refused refusals.Failed)) ⊎ (result ≡ Err Body)) × (new ≡ old))
       → (HasCleanDisk store new → (h : History) → Shows store old h → ObeysImport store result new h c) → Does (showing store) old (import_sent c result (is_live new)) new
 
-  imports_on : CallsImport → (old new : Registry S store) (result : Result Outcome ImportEnd) (account : List ℕ) (key : Option (List ℕ)) (to_come left : Option (List ℕ)) → (HasCleanDisk store new → HasCleanDisk store old)
+  abbrev imports_on : CallsImport → (old new : Registry S store) (result : Result Outcome ImportEnd) (account : List ℕ) (key : Option (List ℕ)) (to_come left : Option (List ℕ)) → (HasCleanDisk store new → HasCleanDisk store old)
       → (is_live old ≡ false → ((result ≡ Err (Refused refusals.Failed)) ⊎ (result ≡ Err Body)) × (new ≡ old)) → HasRead result to_come left (Holds old new result account key) → LivesOn store old new
   imports_on law old new result account key to_come left clean failed read =
       let c = import_of account key (file_reading read.text) in
@@ -91,62 +92,69 @@ module _ {S : Type 0} (store : Ghosts S) where
   pub accepted : {E : Type 0} (old new : Registry S store) (reply : Outcome) (account : List ℕ) (key : Option (List ℕ)) (format : Format) (to_come left : Option (List ℕ)) (r : Result Reply E) → CallsImport
       → (HasCleanDisk store new → HasCleanDisk store old) → (is_live old ≡ false → ((Ok reply ≡ Err (Refused refusals.Failed)) ⊎ (Ok reply ≡ Err Body)) × (new ≡ old))
       → HasRead (Ok reply) to_come left (Holds old new (Ok reply) account key) → IfOk r (λ x. IsReplyOf x (outcome_answer format (Ok reply)))
-      → Goes store old new (λ k now. (file : List ℕ) → to_come ≡ Some file → length file ≤ longest_body → IsMetBehind k (Obeys (import_of account key (file_reading file)) format) r left now)
+      → Goes store old new (λ k calls now. (file : List ℕ) → to_come ≡ Some file → length file ≤ longest_body → IsMetBehind k (Obeys (import_of account key (file_reading file)) format) r left calls now)
   accepted old new reply account key format to_come left r law clean failed read is =
       let lives = imports_on law old new (Ok reply) account key to_come left clean failed read in
       turned store old new
-      (λ k now obeys file e fits. let w = whole file read.text left (subst (λ x. Consumes x left read.text) e read.consumed) read.read.at_end in behind account key format file read.text (Ok reply) r left k now w.0 read.read.at_end is obeys)
-      (obeys_so store old new (Ok reply) (import_of account key (file_reading read.text)) lives clean (λ off. let f = failed off in (never f.0, f.1)) read.holds)
+      (λ k calls now obeys file e fits. let w = whole file read.text left (subst (λ x. Consumes x left read.text) e read.consumed) read.read.at_end in behind account key format file read.text (Ok reply) r left k calls now w.0 read.read.at_end is obeys)
+      (obeys_so store old new (Ok reply) (import_of account key (file_reading read.text)) lives refl clean (λ off. let f = failed off in (never f.0, f.1)) read.holds)
     where
       never : (Ok reply ≡ Err (Refused refusals.Failed)) ⊎ (Ok reply ≡ Err Body) → Ok reply ≡ Err refusals.Failed
       never (inl e) = absurd cc
       never (inr e) = absurd cc
 
   -- it was refused, and nothing was left of a body that is short enough
-  refused_so : {E : Type 0} (old new : Registry S store) (refusal : Refusal) (account : List ℕ) (key : Option (List ℕ)) (format : Format) (to_come left last : Option (List ℕ)) (r : Result Reply E) → LivesOn store old new
+  refused_so : {E : Type 0} (old new : Registry S store) (refusal : Refusal) (account : List ℕ) (key : Option (List ℕ)) (format : Format) (to_come left last : Option (List ℕ)) (r : Result Reply E) (lives : LivesOn store old new)
       → (HasCleanDisk store new → HasCleanDisk store old) → (is_live old ≡ false → (◌≡◌ {A = Result Outcome Refusal} (Err refusal) (Err refusals.Failed)) × (new ≡ old))
-      → HasRead (Err (Refused refusal)) to_come left (Holds old new (Err (Refused refusal)) account key) → (left ≡ Some [] → last ≡ Some []) → IfOk r (λ x. IsReplyOf x (outcome_answer format (Err refusal)))
-      → Goes store old new (λ k now. (file : List ℕ) → to_come ≡ Some file → length file ≤ longest_body → IsMetBehind k (Obeys (import_of account key (file_reading file)) format) r last now)
-  refused_so old new refusal account key format to_come left last r lives clean failed read ended is =
+      → (read : HasRead (Err (Refused refusal)) to_come left (Holds old new (Err (Refused refusal)) account key)) → lives.calls ≡ obeyed (import_of account key (file_reading read.text)) (Err refusal) (is_live new) ∷ [] → (left ≡ Some [] → last ≡ Some []) → IfOk r (λ x. IsReplyOf x (outcome_answer format (Err refusal)))
+      → Goes store old new (λ k calls now. (file : List ℕ) → to_come ≡ Some file → length file ≤ longest_body → IsMetBehind k (Obeys (import_of account key (file_reading file)) format) r last calls now)
+  refused_so old new refusal account key format to_come left last r lives clean failed read by ended is =
       turned store old new
-      (λ k now obeys file e fits.
+      (λ k calls now obeys file e fits.
       let w = refused_whole file read.text left fits (subst (λ x. Consumes x left read.text) e read.consumed) read.read in
-      behind account key format file read.text (Err refusal) r last k now w.0 (subst IsAtEnd (sym (ended w.1)) refl) is obeys)
-      (obeys_so store old new (Err refusal) (import_of account key (file_reading read.text)) lives clean failed read.holds)
+      behind account key format file read.text (Err refusal) r last k calls now w.0 (subst IsAtEnd (sym (ended w.1)) refl) is obeys)
+      (obeys_so store old new (Err refusal) (import_of account key (file_reading read.text)) lives by clean failed read.holds)
 
   pub refused : {E : Type 0} (old new : Registry S store) (end : ImportEnd) (refusal : Refusal) (account : List ℕ) (key : Option (List ℕ)) (format : Format) (to_come left last : Option (List ℕ)) (r : Result Reply E)
       → end ≡ Refused refusal → CallsImport → (HasCleanDisk store new → HasCleanDisk store old) → (is_live old ≡ false → (IsEnd end (Refused refusals.Failed) ⊎ IsEnd end Body) × (new ≡ old))
       → HasRead (Err end) to_come left (Holds old new (Err end) account key) → (left ≡ Some [] → last ≡ Some []) → IfOk r (λ x. IsReplyOf x (outcome_answer format (Err refusal)))
-      → Goes store old new (λ k now. (file : List ℕ) → to_come ≡ Some file → length file ≤ longest_body → IsMetBehind k (Obeys (import_of account key (file_reading file)) format) r last now)
-  refused old new end refusal account key format to_come left last r is_end law clean failed read ended is =
-      refused_so old new refusal account key format to_come left last r (imports_on law old new (Err end) account key to_come left clean failed read) clean (λ off. let f = failed off in (by_cause end refusal is_end f.0, f.1))
-      (subst (λ x. HasRead (Err x) to_come left (Holds old new (Err x) account key)) is_end read) ended is
+      → Goes store old new (λ k calls now. (file : List ℕ) → to_come ≡ Some file → length file ≤ longest_body → IsMetBehind k (Obeys (import_of account key (file_reading file)) format) r last calls now)
+  refused {E} old new end refusal account key format to_come left last r is_end law clean failed read ended is =
+      subst By (sym is_end)
+      (λ failed read.
+      refused_so old new refusal account key format to_come left last r (imports_on law old new (Err (Refused refusal)) account key to_come left clean failed read) clean
+      (λ off. let f = failed off in (by_cause (Refused refusal) refusal refl f.0, f.1)) read refl ended is)
+      failed read
+    where
+      By : ImportEnd → Type 0
+      By x = (is_live old ≡ false → (IsEnd x (Refused refusals.Failed) ⊎ IsEnd x Body) × (new ≡ old)) → HasRead (Err x) to_come left (Holds old new (Err x) account key)
+          → Goes store old new (λ k calls now. (file : List ℕ) → to_come ≡ Some file → length file ≤ longest_body → IsMetBehind k (Obeys (import_of account key (file_reading file)) format) r last calls now)
 
   -- it was not asked for, and the body was read to its end, or given up
   pub denied_behind : {E : Type 0} (r : Registry S store) (errand : List ℕ → Errand) (given : Answer) (result : Result Reply E) (to_come left : Option (List ℕ)) → IfOk result (λ _. IsAtEnd left) → IfOk result (λ reply. IsReplyOf reply given)
-      → ((file : List ℕ) (k : Known) → IsMet k (errand file) given k) → Goes store r r (λ k now. (file : List ℕ) → to_come ≡ Some file → length file ≤ longest_body → IsMetBehind k (errand file) result left now)
+      → ((file : List ℕ) (k : Known) → IsMet k (errand file) given [] k) → Goes store r r (λ k calls now. (file : List ℕ) → to_come ≡ Some file → length file ≤ longest_body → IsMetBehind k (errand file) result left calls now)
   denied_behind {E} r errand given result to_come left end is met = no_call store r _ (λ k file known fits. by_reply result is k file)
     where
-      by_reply : (result : Result Reply E) → IfOk result (λ reply. IsReplyOf reply given) → (k : Known) (file : List ℕ) → IsMetBehind k (errand file) result left k
-      by_reply (Ok reply) is k file = body_met k k (errand file) reply.head reply.body given is (met file k)
-      by_reply (Err e) is k file = inl refl
+      by_reply : (result : Result Reply E) → IfOk result (λ reply. IsReplyOf reply given) → (k : Known) (file : List ℕ) → IsMetBehind k (errand file) result left [] k
+      by_reply (Ok reply) is k file = body_met k k (errand file) reply.head reply.body given [] is (met file k)
+      by_reply (Err e) is k file = inl (tt, refl)
 
   -- by the words of the sender
   pub of_owner : {E : Type 0} (old new : Registry S store) (account said : List ℕ) (key told : Option (List ℕ)) (format : Format) (result : Result Reply E) (to_come left : Option (List ℕ)) → account ≡ said → key ≡ told
-      → Goes store old new (λ k now. (file : List ℕ) → to_come ≡ Some file → length file ≤ longest_body → IsMetBehind k (Obeys (import_of account key (file_reading file)) format) result left now)
-      → Goes store old new (λ k now. (file : List ℕ) → to_come ≡ Some file → length file ≤ longest_body → IsMetBehind k (Obeys (import_of said told (file_reading file)) format) result left now)
+      → Goes store old new (λ k calls now. (file : List ℕ) → to_come ≡ Some file → length file ≤ longest_body → IsMetBehind k (Obeys (import_of account key (file_reading file)) format) result left calls now)
+      → Goes store old new (λ k calls now. (file : List ℕ) → to_come ≡ Some file → length file ≤ longest_body → IsMetBehind k (Obeys (import_of said told (file_reading file)) format) result left calls now)
   of_owner old new account said key told format result to_come left e f goes =
-      turned store old new (λ k now behind file known fits. subst (λ (c : Asked). IsMetBehind k (Obeys c format) result left now) (λ i. import_of (e i) (f i) (file_reading file)) (behind file known fits)) goes
+      turned store old new (λ k calls now behind file known fits. subst (λ (c : Asked). IsMetBehind k (Obeys c format) result left calls now) (λ i. import_of (e i) (f i) (file_reading file)) (behind file known fits)) goes
 
   -- the input failed
   pub gave_up : (old new : Registry S store) (end : ImportEnd) (account : List ℕ) (key : Option (List ℕ)) (to_come left : Option (List ℕ)) (errand : List ℕ → Errand)
       → end ≡ Body → CallsImport → (HasCleanDisk store new → HasCleanDisk store old) → (is_live old ≡ false → (IsEnd end (Refused refusals.Failed) ⊎ IsEnd end Body) × (new ≡ old)) → HasRead (Err end) to_come left (Holds old new (Err end) account key)
-      → Goes store old new (λ k now. (file : List ℕ) → to_come ≡ Some file → length file ≤ longest_body → (k ≡ now) ⊎ (IsAtEnd left × ((given : Answer) × IsMet k (errand file) given now)))
+      → Goes store old new (λ k calls now. (file : List ℕ) → to_come ≡ Some file → length file ≤ longest_body → (AreNothing calls × (k ≡ now)) ⊎ (IsAtEnd left × ((given : Answer) × IsMet k (errand file) given calls now)))
   gave_up old new end account key to_come left errand is law clean failed read = record {
     lives = imports_on law old new (Err end) account key to_come left clean failed read;
     served = record {
       good = clean;
-      leads = λ good k known. (k, still (subst (λ x. HasRead (Err x) to_come left (Holds old new (Err x) account key)) is read) good k known, λ file comes fits. inl refl);
+      leads = λ good k known. (k, still (subst (λ x. HasRead (Err x) to_come left (Holds old new (Err x) account key)) is read) good k known, λ file comes fits. inl ((ap (λ (x : ImportEnd). import_sent (import_of account key (file_reading read.text)) (Err x) (is_live new)) is, tt), refl));
     };
   }
     where

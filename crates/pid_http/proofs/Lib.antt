@@ -3,3 +3,5 @@ pub mod Imports
 pub mod Exports
 pub mod Handled
 pub mod Served
+pub mod Sendings
+pub mod Streams

@@ -1,8 +1,8 @@
 -- How a call of the registry meets what a request comes to.
-use Rattle.std.proofs.Common.{◌≡◌, ℕ, false, List, [], ◌∷◌, Option, Some, None, Result, Ok, Err, IfOk, refl, sym, ap, subst, ◌∙◌, inl, inr}
+use Rattle.std.proofs.Common.{◌≡◌, ℕ, Bool, true, false, List, [], ◌∷◌, ◌++◌, Option, Some, None, Result, Ok, Err, IfOk, refl, sym, ap, subst, ◌∙◌, inl, inr}
 use Rattle.std.specs.Prelude.{◌⊎◌, MatchResult}
 use Rattle.sqlite_trees.specs.declared.store.Store.{Ghosts}
-use Rattle.pid_lives.specs.Calls.{Call, nothing_sent, obeyed as sends}
+use Rattle.pid_lives.specs.Calls.{AreNothing, Call, nothing_sent, obeyed as sends}
 use Rattle.pid_lives.specs.Registries.{Does}
 use Rattle.pid_moderation.specs.History.{Asked, History}
 use Rattle.pid_moderation.specs.Judgement.{after}
@@ -16,6 +16,7 @@ use Rattle.pid_service.specs.Lives.{showing}
 use Rattle.pid_service.specs.Obeying as service_obeys
 use Rattle.pid_service.specs.Registries.{HasCleanDisk, is_live}
 use Rattle.pid_service.specs.declared.registry.Registry.{Registry}
+use Rattle.pid_http_stream.specs.Leading.{Leads}
 use Rattle.pid_http_stream.specs.Replies.{Answer}
 use Rattle.pid_http_stream.specs.declared.handler.Reply.{Reply}
 use Rattle.pid_http_stream.specs.declared.handler.ReplyBody.{ReplyBody}
@@ -27,9 +28,9 @@ use Rattle.pid_replies.specs.Outcomes.{outcome_answer}
 use Rattle.pid_replies.specs.Replying.{IsReplyOf, IsBodyOf}
 use Rattle.pid_http.specs.Answering.{answer_over, history_behind, IsRefused, LacksForm}
 use Rattle.pid_http.specs.Errands.{Errand, Answered, Denied, Obeys, command_in, commanded, imported}
-use Rattle.pid_http.specs.Known.{Known, Live, Between, Down, IsKnown, LivesOn, Goes, lives_still}
+use Rattle.pid_http.specs.Known.{Known, Live, Between, Down, IsKnown, LivesOn, Goes, IsTold, ByCalls, calls_join}
 use Rattle.pid_http.specs.Replying.{IsObeyed, IsBodyMet, IsMetBy, answer_or}
-use Rattle.pid_http.specs.Serving.{IsMet, IsMetOver, FaultLeaves}
+use Rattle.pid_http.specs.Serving.{IsMet, IsMetOver, AreCallsOver, FaultLeaves}
 
 -- what only asks: its answer by what is found
 pub record IsQuestion {X : Type 0} (format : Format) (found : X → Answer) (Says : History → X → Type 0) (errand : Errand) : Type 0 where
@@ -41,72 +42,75 @@ pub record IsQuestion {X : Type 0} (format : Format) (found : X → Answer) (Say
 same_history : (h : History) (errand : Errand) → command_in errand ≡ None → Live h ≡ Live (history_behind h (command_in errand))
 same_history h errand none = ap (λ (c : Option Asked). Live (history_behind h c)) (sym none)
 
-fault_leaves : (h : History) (errand : Errand) → command_in errand ≡ None → FaultLeaves h (command_in errand) (Live h)
-fault_leaves h errand none = subst (λ (c : Option Asked). FaultLeaves h c (Live h)) (sym none) refl
+calls_over : (h : History) (errand : Errand) (calls : List Call) → command_in errand ≡ None → AreNothing calls → AreCallsOver h (command_in errand) calls
+calls_over h errand calls none nothing = subst (λ (c : Option Asked). AreCallsOver h c calls) (sym none) nothing
+
+fault_leaves : (h : History) (errand : Errand) (refusal : Refusal) (calls : List Call) → command_in errand ≡ None → AreNothing calls → FaultLeaves h (command_in errand) refusal calls (Live h)
+fault_leaves h errand refusal calls none nothing = subst (λ (c : Option Asked). FaultLeaves h c refusal calls (Live h)) (sym none) (nothing, refl)
 
 -- the reply is the answer
-pub body_met : (k now : Known) (errand : Errand) (head : ReplyHead) (body : ReplyBody) (given : Answer) → IsBodyOf head body given → IsMet k errand given now → IsBodyMet k errand head body now
-body_met k now errand head (Bytes body) given e m = subst (λ g. IsMet k errand g now) (sym e) m
-body_met k now errand head (Written told) given e m = absurd e
+pub body_met : (k now : Known) (errand : Errand) (head : ReplyHead) (body : ReplyBody) (given : Answer) (calls : List Call) → IsBodyOf head body given → IsMet k errand given calls now → IsBodyMet k errand head body calls now
+body_met k now errand head (Bytes body) given calls e m = subst (λ g. IsMet k errand g calls now) (sym e) m
+body_met k now errand head (Written told) given calls e m = absurd e
 
-is_met_by : {E : Type 0} (k now : Known) (errand : Errand) (result : Result Reply E) (given : Answer) → IfOk result (λ reply. IsReplyOf reply given) → IsMet k errand given now → IsMetBy k errand result now
-is_met_by k now errand (Ok reply) given is m = body_met k now errand reply.head reply.body given is m
-is_met_by k now errand (Err e) given is m = (given, m)
+is_met_by : {E : Type 0} (k now : Known) (errand : Errand) (result : Result Reply E) (given : Answer) (calls : List Call) → IfOk result (λ reply. IsReplyOf reply given) → IsMet k errand given calls now → IsMetBy k errand result calls now
+is_met_by k now errand (Ok reply) given calls is m = body_met k now errand reply.head reply.body given calls is m
+is_met_by k now errand (Err e) given calls is m = (given, m)
 
 -- an answer for which the registry is not asked
-pub answered : (given : Answer) (k : Known) → IsMet k (Answered given) given k
+pub answered : (given : Answer) (k : Known) → IsMet k (Answered given) given [] k
 unfolding answer_over
-answered given (Live h) = inl (refl, refl)
-answered given (Between before behind) = (inr (inl refl), refl)
-answered given Down = (inr (inl refl), refl)
+answered given (Live h) = inl (refl, tt, refl)
+answered given (Between before behind) = (inr (inl refl), tt, refl)
+answered given Down = (inr (inl refl), tt, refl)
 
 -- the sender or the form is refused
-pub denied : (refusal : Refusal) (format : Format) (k : Known) → IsMet k (Denied refusal format) (outcome_answer format (Err refusal)) k
+pub denied : (refusal : Refusal) (format : Format) (k : Known) → IsMet k (Denied refusal format) (outcome_answer format (Err refusal)) [] k
 unfolding answer_over
-denied refusal format (Live h) = inl (refl, refl)
-denied refusal format (Between before behind) = (inr (inl refl), refl)
-denied refusal format Down = (inr (inl refl), refl)
+denied refusal format (Live h) = inl (refl, tt, refl)
+denied refusal format (Between before behind) = (inr (inl refl), tt, refl)
+denied refusal format Down = (inr (inl refl), tt, refl)
 
 -- memory is short before the registry is asked
-lacks : (errand : Errand) (given : Answer) (k : Known) → LacksForm errand given → IsMet k errand given k
-lacks errand given (Live h) short = inr (inl (short, refl))
-lacks errand given (Between before behind) short = (inr (inr short), refl)
-lacks errand given Down short = (inr (inr short), refl)
+lacks : (errand : Errand) (given : Answer) (k : Known) → LacksForm errand given → IsMet k errand given [] k
+lacks errand given (Live h) short = inr (inl (short, tt, refl))
+lacks errand given (Between before behind) short = (inr (inr short), tt, refl)
+lacks errand given Down short = (inr (inr short), tt, refl)
 
 -- for the form of a command, or for its sender
-pub short : (made : Result Command Refusal) (format : Format) (k : Known) → IsMet k (commanded format made) (outcome_answer format (Err refusals.Memory)) k
+pub short : (made : Result Command Refusal) (format : Format) (k : Known) → IsMet k (commanded format made) (outcome_answer format (Err refusals.Memory)) [] k
 short (Ok command) format k = lacks (commanded format (Ok command)) (outcome_answer format (Err refusals.Memory)) k refl
 short (Err e) format k = lacks (commanded format (Err e)) (outcome_answer format (Err refusals.Memory)) k refl
 
 -- for an import, whoever sends it
-pub short_sender : (format : Format) (s : Option Sending) (file : List ℕ) (k : Known) → IsMet k (imported format s file) (outcome_answer format (Err refusals.Memory)) k
+pub short_sender : (format : Format) (s : Option Sending) (file : List ℕ) (k : Known) → IsMet k (imported format s file) (outcome_answer format (Err refusals.Memory)) [] k
 short_sender format None file k = lacks (imported format None file) (outcome_answer format (Err refusals.Memory)) k refl
 short_sender format (Some s) file k = lacks (imported format (Some s) file) (outcome_answer format (Err refusals.Memory)) k refl
 
 -- a command that was obeyed
-pub obeyed_met : (c : Asked) (format : Format) (k now : Known) (result : Result Outcome Refusal) → IsObeyed c k result now → IsMet k (Obeys c format) (outcome_answer format result) now
+pub obeyed_met : (c : Asked) (format : Format) (k now : Known) (result : Result Outcome Refusal) (calls : List Call) → IsObeyed c k result calls now → IsMet k (Obeys c format) (outcome_answer format result) calls now
 unfolding answer_over
-obeyed_met c format (Live h) now result (inl (e, same)) = inl (ap (outcome_answer format) e, same)
-obeyed_met c format (Live h) now (Ok reply) (inr (fault, where_now)) = absurd fault
-obeyed_met c format (Live h) now (Err e) (inr (fault, where_now)) = inr (inr (e, fault, (refl, refl), where_now))
-obeyed_met c format (Between before behind) now result (e, same) = (inl (refl, ap (outcome_answer format) e), same)
-obeyed_met c format Down now result (e, same) = (inl (refl, ap (outcome_answer format) e), same)
+obeyed_met c format (Live h) now result calls (inl (e, by, same)) = inl (ap (outcome_answer format) e, by ∙ ap (λ (r : Result Outcome Refusal). sends c r true ∷ []) e, same)
+obeyed_met c format (Live h) now (Ok reply) calls (inr (fault, where_now)) = absurd fault
+obeyed_met c format (Live h) now (Err e) calls (inr (fault, where_now)) = inr (inr (e, fault, (refl, refl), where_now))
+obeyed_met c format (Between before behind) now result calls (e, nothing, same) = (inl (refl, ap (outcome_answer format) e), nothing, same)
+obeyed_met c format Down now result calls (e, nothing, same) = (inl (refl, ap (outcome_answer format) e), nothing, same)
 
 memory_or : (refusal : Refusal) (made : Result Command Refusal) → ((refusal ≡ refusals.Memory → ⊥) → made ≡ Err refusal) → (refusal ≡ refusals.Memory) ⊎ (made ≡ Err refusal)
 memory_or refusals.Memory made f = inl refl
 memory_or refusal made f = inr (f (λ e. cc))
 
 -- the form of a command is refused, or memory is short for it
-pub form_refused : (refusal : Refusal) (made : Result Command Refusal) (format : Format) → ((refusal ≡ refusals.Memory → ⊥) → made ≡ Err refusal) → (k : Known) → IsMet k (commanded format made) (outcome_answer format (Err refusal)) k
+pub form_refused : (refusal : Refusal) (made : Result Command Refusal) (format : Format) → ((refusal ≡ refusals.Memory → ⊥) → made ≡ Err refusal) → (k : Known) → IsMet k (commanded format made) (outcome_answer format (Err refusal)) [] k
 form_refused refusal made format f k = by_cause (memory_or refusal made f)
   where
-    by_cause : (refusal ≡ refusals.Memory) ⊎ (made ≡ Err refusal) → IsMet k (commanded format made) (outcome_answer format (Err refusal)) k
-    by_cause (inl e) = subst (λ (r : Refusal). IsMet k (commanded format made) (outcome_answer format (Err r)) k) (sym e) (short made format k)
-    by_cause (inr e) = subst (λ (m : Result Command Refusal). IsMet k (commanded format m) (outcome_answer format (Err refusal)) k) (sym e) (denied refusal format k)
+    by_cause : (refusal ≡ refusals.Memory) ⊎ (made ≡ Err refusal) → IsMet k (commanded format made) (outcome_answer format (Err refusal)) [] k
+    by_cause (inl e) = subst (λ (r : Refusal). IsMet k (commanded format made) (outcome_answer format (Err r)) [] k) (sym e) (short made format k)
+    by_cause (inr e) = subst (λ (m : Result Command Refusal). IsMet k (commanded format m) (outcome_answer format (Err refusal)) [] k) (sym e) (denied refusal format k)
 
 module _ {S : Type 0} (store : Ghosts S) where
   -- one call, which did what lives ask of it
-  pub one_call : (old new : Registry S store) (call : Call) → Does (showing store) old call new → (is_live old ≡ false → new ≡ old) → LivesOn store old new
+  abbrev pub one_call : (old new : Registry S store) (call : Call) → Does (showing store) old call new → (is_live old ≡ false → new ≡ old) → LivesOn store old new
   one_call old new call does rests = record { rests = rests; calls = call ∷ []; lead = (new, does, refl) }
 
   -- what is told of calls that send nothing
@@ -115,7 +119,7 @@ module _ {S : Type 0} (store : Ghosts S) where
       (old new : Registry S store) → (HasCleanDisk store new → HasCleanDisk store old) → (is_live old ≡ false → new ≡ old)
       → (HasCleanDisk store new → (h : History) → Shows store old h → Shows store new h) → Does (showing store) old nothing_sent new
 
-  pub looked : CallsLook → (old new : Registry S store) → (HasCleanDisk store new → HasCleanDisk store old) → (is_live old ≡ false → new ≡ old)
+  abbrev pub looked : CallsLook → (old new : Registry S store) → (HasCleanDisk store new → HasCleanDisk store old) → (is_live old ≡ false → new ≡ old)
       → (HasCleanDisk store new → (h : History) → Shows store old h → Shows store new h) → LivesOn store old new
   looked look old new clean rests shown = one_call old new nothing_sent (look old new clean rests shown) rests
 
@@ -126,96 +130,121 @@ module _ {S : Type 0} (store : Ghosts S) where
       → (HasCleanDisk store new → (h : History) → Shows store old h → service_obeys.Obeys store result new h c) → Does (showing store) old (sends c result (is_live new)) new
 
   -- a question
-  pub asked_on : CallsLook → {X : Type 0} (old new : Registry S store) (result : Result X Refusal) (Says : History → X → Type 0) → Answers store old new result Says → LivesOn store old new
+  abbrev pub asked_on : CallsLook → {X : Type 0} (old new : Registry S store) (result : Result X Refusal) (Says : History → X → Type 0) → Answers store old new result Says → LivesOn store old new
   asked_on look old new result Says a = looked look old new a.rests.clean (λ off. (a.failed off).1) (λ good h shows. (a.told good h shows).1)
 
-  over_command : (new : Registry S store) (result : Result Outcome Refusal) (h : History) (c : Asked) → service_obeys.Obeys store result new h c → (now : Known) × IsKnown store new now × IsObeyed c (Live h) result now
-  over_command new result h c (inl (e, shows)) = (Live (after h c), shows, inl (e, refl))
-  over_command new result h c (inr (fault, inl shows)) = (Live h, shows, inr (fault, inl refl))
-  over_command new result h c (inr (fault, inr fails)) = (Between h (after h c), fails, inr (fault, inr refl))
+  over_command : (new : Registry S store) (result : Result Outcome Refusal) (h : History) (c : Asked) (calls : List Call) → calls ≡ sends c result (is_live new) ∷ [] → service_obeys.Obeys store result new h c
+      → (now : Known) × IsKnown store new now × IsObeyed c (Live h) result calls now
+  over_command new result h c calls by obeys = by_case obeys
+    where
+      at : (live : Bool) → is_live new ≡ live → calls ≡ sends c result live ∷ []
+      at live is = by ∙ ap (λ (b : Bool). sends c result b ∷ []) is
+
+      by_case : service_obeys.Obeys store result new h c → (now : Known) × IsKnown store new now × IsObeyed c (Live h) result calls now
+      by_case (inl (e, shows)) = (Live (after h c), shows, inl (e, at true shows.lives, refl))
+      by_case (inr (fault, inl shows)) = (Live h, shows, inr (fault, inl (at true shows.lives, refl)))
+      by_case (inr (fault, inr fails)) = (Between h (after h c), fails, inr (fault, inr (at false fails.has_failed, refl)))
+
+  -- one that had failed before sends nothing
+  nothing_by : (new : Registry S store) (result : Result Outcome Refusal) (c : Asked) (calls : List Call) → calls ≡ sends c result (is_live new) ∷ [] → result ≡ Err refusals.Failed → AreNothing calls
+  nothing_by new result c calls by e = subst AreNothing (sym (by ∙ ap (λ (r : Result Outcome Refusal). sends c r (is_live new) ∷ []) e)) (refl, tt)
 
   -- a command, by what is told of `obey`
-  pub obeys_so : (old new : Registry S store) (result : Result Outcome Refusal) (c : Asked) → LivesOn store old new
+  pub obeys_so : (old new : Registry S store) (result : Result Outcome Refusal) (c : Asked) (lives : LivesOn store old new) → lives.calls ≡ sends c result (is_live new) ∷ []
       → (HasCleanDisk store new → HasCleanDisk store old) → (is_live old ≡ false → (result ≡ Err refusals.Failed) × (new ≡ old))
-      → (HasCleanDisk store new → (h : History) → Shows store old h → service_obeys.Obeys store result new h c) → Goes store old new (λ k now. IsObeyed c k result now)
-  obeys_so old new result c lives clean failed obeys = record { lives = lives; served = record { good = clean; leads = leads } }
+      → (HasCleanDisk store new → (h : History) → Shows store old h → service_obeys.Obeys store result new h c) → Goes store old new (λ k calls now. IsObeyed c k result calls now)
+  obeys_so old new result c lives by clean failed obeys = record { lives = lives; served = record { good = clean; leads = leads } }
     where
-      leads : HasCleanDisk store new → (k : Known) → IsKnown store old k → (now : Known) × IsKnown store new now × IsObeyed c k result now
-      leads good (Live h) shows = over_command new result h c (obeys good h shows)
+      leads : HasCleanDisk store new → (k : Known) → IsKnown store old k → (now : Known) × IsKnown store new now × IsObeyed c k result lives.calls now
+      leads good (Live h) shows = over_command new result h c lives.calls by (obeys good h shows)
       leads good (Between before behind) fails =
-          let f = failed fails.has_failed in (Between before behind, subst (λ r. FailsBetween store r before behind) (sym f.1) fails, (f.0, refl))
-      leads good Down off = let f = failed off in (Down, subst (λ r. is_live r ≡ false) (sym f.1) off, (f.0, refl))
+          let f = failed fails.has_failed in
+          (Between before behind, subst (λ r. FailsBetween store r before behind) (sym f.1) fails, (f.0, nothing_by new result c lives.calls by f.0, refl))
+      leads good Down off = let f = failed off in (Down, subst (λ r. is_live r ≡ false) (sym f.1) off, (f.0, nothing_by new result c lives.calls by f.0, refl))
 
   pub obeyed : CallsObey → (old new : Registry S store) (result : Result Outcome Refusal) (c : Asked)
       → (HasCleanDisk store new → HasCleanDisk store old) → (is_live old ≡ false → (result ≡ Err refusals.Failed) × (new ≡ old))
-      → (HasCleanDisk store new → (h : History) → Shows store old h → service_obeys.Obeys store result new h c) → Goes store old new (λ k now. IsObeyed c k result now)
+      → (HasCleanDisk store new → (h : History) → Shows store old h → service_obeys.Obeys store result new h c) → Goes store old new (λ k calls now. IsObeyed c k result calls now)
   obeyed law old new result c clean failed obeys =
-      obeys_so old new result c (one_call old new (sends c result (is_live new)) (law old new c result clean failed obeys) (λ off. (failed off).1)) clean failed obeys
+      obeys_so old new result c (one_call old new (sends c result (is_live new)) (law old new c result clean failed obeys) (λ off. (failed off).1)) refl clean failed obeys
 
   -- one that has failed answers that it has, and stays
   down : {X : Type 0} (old new : Registry S store) (result : Result X Refusal) (Says : History → X → Type 0) → Answers store old new result Says → (k : Known) → is_live old ≡ false → IsKnown store old k
       → (result ≡ Err refusals.Failed) × IsKnown store new k
   down old new result Says a k off known = let f = a.failed off in (f.0, subst (λ r. IsKnown store r k) (sym f.1) known)
 
-  over_history : {X : Type 0} (result : Result X Refusal) (Says : History → X → Type 0) (format : Format) (found : X → Answer) (errand : Errand) → IsQuestion format found Says errand
-      → (h : History) → MatchResult result (Says h) IsFault → IsMetOver h errand (answer_or format found result) (Live h)
-  over_history (Ok x) Says format found errand q h told = inl (q.over h x told, same_history h errand q.no_command)
-  over_history (Err e) Says format found errand q h fault = inr (inr (e, fault, q.refused e, fault_leaves h errand q.no_command))
+  over_history : {X : Type 0} (result : Result X Refusal) (Says : History → X → Type 0) (format : Format) (found : X → Answer) (errand : Errand) (calls : List Call) → AreNothing calls → IsQuestion format found Says errand
+      → (h : History) → MatchResult result (Says h) IsFault → IsMetOver h errand (answer_or format found result) calls (Live h)
+  over_history (Ok x) Says format found errand calls nothing q h told = inl (q.over h x told, calls_over h errand calls q.no_command nothing, same_history h errand q.no_command)
+  over_history (Err e) Says format found errand calls nothing q h fault = inr (inr (e, fault, q.refused e, fault_leaves h errand e calls q.no_command nothing))
 
   -- the answer of one that has failed
   failed_so : {X : Type 0} (result : Result X Refusal) (format : Format) (found : X → Answer) (errand : Errand) → ((e : Refusal) → IsRefused errand e (outcome_answer format (Err e)))
       → result ≡ Err refusals.Failed → IsRefused errand refusals.Failed (answer_or format found result)
   failed_so result format found errand refused e = let r = refused refusals.Failed in (r.0, ap (answer_or format found) e ∙ r.1)
 
-  met : {X : Type 0} (old new : Registry S store) (result : Result X Refusal) (Says : History → X → Type 0) (format : Format) (found : X → Answer) (errand : Errand) → IsQuestion format found Says errand
-      → Answers store old new result Says → HasCleanDisk store new → (k : Known) → IsKnown store old k → (now : Known) × IsKnown store new now × IsMet k errand (answer_or format found result) now
-  met old new result Says format found errand q a good (Live h) shows =
-      let t = a.told good h shows in (Live h, t.1, over_history result Says format found errand q h t.0)
-  met old new result Says format found errand q a good (Between before behind) fails =
+  met : {X : Type 0} (old new : Registry S store) (result : Result X Refusal) (Says : History → X → Type 0) (format : Format) (found : X → Answer) (errand : Errand) (calls : List Call) → AreNothing calls
+      → IsQuestion format found Says errand → Answers store old new result Says → HasCleanDisk store new → (k : Known) → IsKnown store old k
+      → (now : Known) × IsKnown store new now × IsMet k errand (answer_or format found result) calls now
+  met old new result Says format found errand calls nothing q a good (Live h) shows =
+      let t = a.told good h shows in (Live h, t.1, over_history result Says format found errand calls nothing q h t.0)
+  met old new result Says format found errand calls nothing q a good (Between before behind) fails =
       let d = down old new result Says a (Between before behind) fails.has_failed fails in
-      (Between before behind, d.1, (inl (failed_so result format found errand q.refused d.0), refl))
-  met old new result Says format found errand q a good Down off =
+      (Between before behind, d.1, (inl (failed_so result format found errand q.refused d.0), nothing, refl))
+  met old new result Says format found errand calls nothing q a good Down off =
       let d = down old new result Says a Down off off in
-      (Down, d.1, (inl (failed_so result format found errand q.refused d.0), refl))
+      (Down, d.1, (inl (failed_so result format found errand q.refused d.0), nothing, refl))
 
   pub question_met : CallsLook → {X : Type 0} (old new : Registry S store) (result : Result X Refusal) (Says : History → X → Type 0) (format : Format) (found : X → Answer) (errand : Errand)
-      → IsQuestion format found Says errand → Answers store old new result Says → Goes store old new (λ k now. IsMet k errand (answer_or format found result) now)
+      → IsQuestion format found Says errand → Answers store old new result Says → Goes store old new (λ k calls now. IsMet k errand (answer_or format found result) calls now)
   question_met look old new result Says format found errand q a = record {
     lives = asked_on look old new result Says a;
-    served = record { good = a.rests.clean; leads = λ good k known. met old new result Says format found errand q a good k known };
+    served = record { good = a.rests.clean; leads = λ good k known. met old new result Says format found errand (nothing_sent ∷ []) (refl, tt) q a good k known };
   }
 
-  -- a call of its own kind: what it comes to over a history, and where the registry had failed
-  pub from_call : (old new : Registry S store) (errand : Errand) (given : Answer) → LivesOn store old new → (HasCleanDisk store new → HasCleanDisk store old)
-      → (HasCleanDisk store new → (h : History) → Shows store old h → (now : Known) × IsKnown store new now × IsMetOver h errand given now)
-      → (is_live old ≡ false → IsRefused errand refusals.Failed given) → Goes store old new (λ k now. IsMet k errand given now)
-  from_call old new errand given lives clean over failed = record { lives = lives; served = record { good = clean; leads = leads } }
+  -- a call of its own kind, which sends nothing: what it comes to over a history, and where the registry had failed
+  pub from_call : (old new : Registry S store) (errand : Errand) (given : Answer) (lives : LivesOn store old new) → AreNothing lives.calls → (HasCleanDisk store new → HasCleanDisk store old)
+      → (HasCleanDisk store new → (h : History) → Shows store old h → (now : Known) × IsKnown store new now × IsMetOver h errand given lives.calls now)
+      → (is_live old ≡ false → IsRefused errand refusals.Failed given) → Goes store old new (λ k calls now. IsMet k errand given calls now)
+  from_call old new errand given lives nothing clean over failed = record { lives = lives; served = record { good = clean; leads = leads } }
     where
-      leads : HasCleanDisk store new → (k : Known) → IsKnown store old k → (now : Known) × IsKnown store new now × IsMet k errand given now
+      leads : HasCleanDisk store new → (k : Known) → IsKnown store old k → (now : Known) × IsKnown store new now × IsMet k errand given lives.calls now
       leads good (Live h) shows = over good h shows
       leads good (Between before behind) fails =
-          (Between before behind, subst (λ r. FailsBetween store r before behind) (sym (lives.rests fails.has_failed)) fails, (inl (failed fails.has_failed), refl))
-      leads good Down off = (Down, subst (λ r. is_live r ≡ false) (sym (lives.rests off)) off, (inl (failed off), refl))
+          (Between before behind, subst (λ r. FailsBetween store r before behind) (sym (lives.rests fails.has_failed)) fails, (inl (failed fails.has_failed), nothing, refl))
+      leads good Down off = (Down, subst (λ r. is_live r ≡ false) (sym (lives.rests off)) off, (inl (failed off), nothing, refl))
 
-  pub turned : (old new : Registry S store) {P Q : Known → Known → Type 0} → ((k now : Known) → P k now → Q k now) → Goes store old new P → Goes store old new Q
+  pub turned : (old new : Registry S store) {P Q : Known → List Call → Known → Type 0} → ((k : Known) (calls : List Call) (now : Known) → P k calls now → Q k calls now) → Goes store old new P → Goes store old new Q
   turned old new f g = record {
     lives = g.lives;
-    served = record { good = g.served.good; leads = λ good k known. let x = g.served.leads good k known in (x.0, x.1, f k x.0 x.2) };
+    served = record { good = g.served.good; leads = λ good k known. let x = g.served.leads good k known in (x.0, x.1, f k g.lives.calls x.0 x.2) };
   }
 
   -- no call was made
-  pub no_call : (r : Registry S store) (P : Known → Known → Type 0) → ((k : Known) → P k k) → Goes store r r P
-  no_call r P p = record { lives = lives_still r; served = record { good = λ c. c; leads = λ good k known. (k, known, p k) } }
+  pub no_call : (r : Registry S store) (P : Known → List Call → Known → Type 0) → ((k : Known) → P k [] k) → Goes store r r P
+  no_call r P p = record { lives = record { rests = λ off. refl; calls = []; lead = refl }; served = record { good = λ c. c; leads = λ good k known. (k, known, p k) } }
 
-  pub replied : {E : Type 0} (old new : Registry S store) (errand : Errand) (result : Result Reply E) (given : Answer) → IfOk result (λ reply. IsReplyOf reply given) → Goes store old new (λ k now. IsMet k errand given now)
-      → Goes store old new (λ k now. IsMetBy k errand result now)
-  replied old new errand result given is goes = turned old new (λ k now m. is_met_by k now errand result given is m) goes
+  pub replied : {E : Type 0} (old new : Registry S store) (errand : Errand) (result : Result Reply E) (given : Answer) → IfOk result (λ reply. IsReplyOf reply given) → Goes store old new (λ k calls now. IsMet k errand given calls now)
+      → Goes store old new (λ k calls now. IsMetBy k errand result calls now)
+  replied old new errand result given is goes = turned old new (λ k calls now m. is_met_by k now errand result given calls is m) goes
 
   -- a question of its own kind that is refused
   pub refused_call : CallsLook → {X : Type 0} (old new : Registry S store) (e : Refusal) (Says : History → X → Type 0) (format : Format) (errand : Errand)
       → ((x : Refusal) → IsRefused errand x (outcome_answer format (Err x))) → command_in errand ≡ None → Answers store old new (Err e) Says
-      → Goes store old new (λ k now. IsMet k errand (outcome_answer format (Err e)) now)
+      → Goes store old new (λ k calls now. IsMet k errand (outcome_answer format (Err e)) calls now)
   refused_call look {X} old new e Says format errand refused none a =
-      from_call old new errand (outcome_answer format (Err e)) (asked_on look old new (Err e) Says a) a.rests.clean
-      (λ good h shows. let t = a.told good h shows in (Live h, t.1, inr (inr (e, t.0, refused e, fault_leaves h errand none))))
+      from_call old new errand (outcome_answer format (Err e)) (asked_on look old new (Err e) Says a) (refl, tt) a.rests.clean
+      (λ good h shows. let t = a.told good h shows in (Live h, t.1, inr (inr (e, t.0, refused e, fault_leaves h errand e (nothing_sent ∷ []) none (refl, tt)))))
       (λ off. failed_so (Err e) format (λ (x : X). outcome_answer format (Err e)) errand refused (a.failed off).0)
+
+  -- what is told of the registry within its life
+  pub told_of : (old new : Registry S store) (P : Known → List Call → Known → Type 0) → Goes store old new P → Leads (HasCleanDisk store) (IsTold store) old new (λ t u. ByCalls store t u (λ calls. P t.known calls u.known))
+  told_of old new P g = record {
+    good = g.served.good;
+    leads = λ good t is.
+        let x = g.served.leads good t.known is.is_known in (
+          record { start = t.start; calls = t.calls ++ g.lives.calls; known = x.0 },
+          record { is_known = x.1; lead = calls_join (showing store) t.start old new t.calls g.lives.calls is.lead g.lives.lead },
+          record { same_life = refl; more = g.lives.calls; joined = refl; holds = x.2 },
+        );
+  }

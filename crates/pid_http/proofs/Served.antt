@@ -6,21 +6,33 @@ use Rattle.sqlite_trees.specs.declared.store.Store.{Ghosts}
 use Rattle.pid_service.specs.Registries.{HasCleanDisk}
 use Rattle.pid_service.specs.declared.registry.Registry.{Registry}
 use Rattle.pid_http_stream.specs.Leading.{Leads}
-use Rattle.pid_http_stream.specs.Serving.{IsServed}
+use Rattle.pid_http_stream.specs.MomentLaws.{since_none}
+use Rattle.pid_http_stream.specs.Moments.{AllSince, Moment}
+use Rattle.pid_http_stream.specs.Serving.{IsCaughtUp, IsServed}
 use Rattle.pid_http_stream.specs.declared.stream.StreamEnd.TheVariants.{Memory}
 use Rattle.pid_http.specs.Serving.{serving}
-use Rattle.pid_http.specs.Known.{Known, IsKnown}
+use Rattle.pid_http.specs.Known.{Told, IsTold}
 
-none : (k : Known) (taken to_come left : Option (List ℕ)) → IfSome to_come (λ stream. IsServed serving (record { handler = k; handler_after = k; taken = taken; taken_after = taken }) stream left Memory 0)
-none k taken None left = tt
-none k taken (Some stream) left = record {
-  rest = stream;
-  mid = k;
-  before = record { requests = []; replies = []; fronts = refl; answered = (refl, refl); written = Appends-nil taken; counts = refl };
-  after = inl (inl refl);
-}
+module _ {S : Type 0} (store : Ghosts S) where
+  none : (t : Told store) (taken to_come left : Option (List ℕ)) → IfSome to_come (λ stream. IsServed (serving store) (record { handler = t; handler_after = t; taken = taken; taken_after = taken }) stream left Memory 0)
+  none t taken None left = tt
+  none t taken (Some stream) left = record {
+    rest = stream;
+    mid = t;
+    before = record { requests = []; replies = []; fronts = refl; answered = (refl, refl); written = Appends-nil taken; counts = refl };
+    after = inl (inl refl);
+  }
 
--- there was no memory to begin
-pub none_served : {S : Type 0} (store : Ghosts S) (r : Registry S store) (taken to_come left : Option (List ℕ))
-    → Leads (HasCleanDisk store) (IsKnown store) r r (λ k now. IfSome to_come (λ stream. IsServed serving (record { handler = k; handler_after = now; taken = taken; taken_after = taken }) stream left Memory 0))
-none_served store r taken to_come left = record { good = λ g. g; leads = λ good k known. (k, known, none k taken to_come left) }
+  unread : (t : Told store) (taken to_come : Option (List ℕ)) (moments : Option (List Moment)) → IfSome to_come (λ stream. AllSince (IsCaughtUp (serving store) t taken stream) moments moments)
+  unread t taken None moments = tt
+  unread t taken (Some stream) moments = since_none (IsCaughtUp (serving store) t taken stream) moments
+
+  -- there was no memory to begin
+  pub none_served : (r : Registry S store) (taken to_come left : Option (List ℕ))
+      → Leads (HasCleanDisk store) (IsTold store) r r (λ t u. IfSome to_come (λ stream. IsServed (serving store) (record { handler = t; handler_after = u; taken = taken; taken_after = taken }) stream left Memory 0))
+  none_served r taken to_come left = record { good = λ g. g; leads = λ good t is. (t, is, none t taken to_come left) }
+
+  -- nor was anything read
+  pub none_read : (r : Registry S store) (taken to_come : Option (List ℕ)) (moments : Option (List Moment))
+      → Leads (HasCleanDisk store) (IsTold store) r r (λ t _. IfSome to_come (λ stream. AllSince (IsCaughtUp (serving store) t taken stream) moments moments))
+  none_read r taken to_come moments = record { good = λ g. g; leads = λ good t is. (t, is, unread t taken to_come moments) }

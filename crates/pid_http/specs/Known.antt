@@ -33,12 +33,30 @@ module _ {S : Type 0} (store : Ghosts S) where
     pub calls : List Call
     pub lead : CallsLead (showing store) old calls new
 
-  -- And while the disk returns what was written, what was known leads on to what is known then.
-  pub record Goes (old new : Registry S store) (Next : Known → Known → Type 0) : Type 0 where
+  -- And while the disk returns what was written, what was known leads by these calls on to what is known then.
+  pub record Goes (old new : Registry S store) (Next : Known → List Call → Known → Type 0) : Type 0 where
     pub lives : LivesOn old new
-    pub served : Leads (HasCleanDisk store) IsKnown old new Next
+    pub served : Leads (HasCleanDisk store) IsKnown old new (λ k now. Next k lives.calls now)
 
-calls_join : {R : Type 0} (w : Showing R) (a b c : R) (first more : List Call) → CallsLead w a first b → CallsLead w b more c → CallsLead w a (first ++ more) c
+  -- What is told of a registry within a life: how it was as that began, the calls since then, and what is known of it.
+  pub record Told : Type 0 where
+    pub start : Registry S store
+    pub calls : List Call
+    pub known : Known
+
+  -- this is told of the registry, and it is so
+  pub record IsTold (r : Registry S store) (t : Told) : Type 0 where
+    pub is_known : IsKnown r t.known
+    pub lead : CallsLead (showing store) t.start t.calls r
+
+  -- more calls of the same life led from the one to the other, of which this holds
+  pub record ByCalls (t u : Told) (Holds : List Call → Type 0) : Type 0 where
+    pub same_life : u.start ≡ t.start
+    pub more : List Call
+    pub joined : u.calls ≡ t.calls ++ more
+    pub holds : Holds more
+
+pub calls_join : {R : Type 0} (w : Showing R) (a b c : R) (first more : List Call) → CallsLead w a first b → CallsLead w b more c → CallsLead w a (first ++ more) c
 calls_join w a b c [] more same leads = subst (λ r. CallsLead w r more c) same leads
 calls_join w a b c (call ∷ calls) more (between, does, leads) further = (between, does, calls_join w between b c calls more leads further)
 

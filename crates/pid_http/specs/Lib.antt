@@ -2,5 +2,6 @@ pub mod Errands
 pub mod Known
 pub mod Answering
 pub mod Serving
+pub mod Sending
 pub mod Replying
 pub mod Handling

@@ -1,8 +1,9 @@
 -- Serves private functions alone; no promise rests on it.
 -- What the functions that answer one request tell of their reply.
-use Rattle.std.specs.Prelude.{◌≡◌, ◌⊎◌, ℕ, List, Option, Some, None, Result, Ok, Err, IsErrAnd, MatchResult, option_copied}
+use Rattle.std.specs.Prelude.{◌≡◌, ◌⊎◌, ℕ, true, false, List, [], ◌∷◌, Option, Some, None, Result, Ok, Err, IsErrAnd, MatchResult, option_copied}
 use Rattle.std.specs.Io.KnownBytes.{IsAtEnd}
 use Rattle.sqlite_trees.specs.declared.store.Store.{Ghosts}
+use Rattle.pid_lives.specs.Calls.{AreNothing, Call, obeyed}
 use Rattle.pid_moderation.specs.History.{Asked}
 use Rattle.pid_moderation.specs.Judgement.{answer, judge, after}
 use Rattle.pid_moderation.specs.Views.{views_of}
@@ -37,28 +38,30 @@ abbrev pub answer_or : {X : Type 0} → Format → (X → Answer) → Result X R
 answer_or format found (Ok x) = found x
 answer_or format found (Err refusal) = outcome_answer format (Err refusal)
 
--- what a command is answered, and what is known of the registry then
-abbrev pub IsObeyed : Asked → Known → Result Outcome Refusal → Known → Type 0
-IsObeyed c (Live h) result k =
-    ((result ≡ answer (judge (views_of h) c)) × (k ≡ Live (after h c)))
-    ⊎ (IsErrAnd result IsFault × ((k ≡ Live h) ⊎ (k ≡ Between h (after h c))))
-IsObeyed c (Between before behind) result k = (result ≡ Err refusals.Failed) × (k ≡ Between before behind)
-IsObeyed c Down result k = (result ≡ Err refusals.Failed) × (k ≡ Down)
+-- what a command is answered, by which call, and what is known of the registry then
+abbrev pub IsObeyed : Asked → Known → Result Outcome Refusal → List Call → Known → Type 0
+IsObeyed c (Live h) result calls k =
+    ((result ≡ answer (judge (views_of h) c)) × (calls ≡ obeyed c result true ∷ []) × (k ≡ Live (after h c)))
+    ⊎ (IsErrAnd result IsFault × (((calls ≡ obeyed c result true ∷ []) × (k ≡ Live h)) ⊎ ((calls ≡ obeyed c result false ∷ []) × (k ≡ Between h (after h c)))))
+IsObeyed c (Between before behind) result calls k = (result ≡ Err refusals.Failed) × AreNothing calls × (k ≡ Between before behind)
+IsObeyed c Down result calls k = (result ≡ Err refusals.Failed) × AreNothing calls × (k ≡ Down)
 
 -- the body is that of an answer, or is promised
-abbrev pub IsBodyMet : Known → Errand → ReplyHead → ReplyBody → Known → Type 0
-IsBodyMet k errand head (Bytes body) now = IsMet k errand (answer_with head.status head.content body.items) now
-IsBodyMet k errand head (Written told) now = IsPromised k errand head told now
+abbrev pub IsBodyMet : Known → Errand → ReplyHead → ReplyBody → List Call → Known → Type 0
+IsBodyMet k errand head (Bytes body) calls now = IsMet k errand (answer_with head.status head.content body.items) calls now
+IsBodyMet k errand head (Written told) calls now = IsPromised k errand head told calls now
 
 -- the reply is an answer; or memory lacked for it, and what it is a reply to was done
-abbrev pub IsMetBy : {E : Type 0} → Known → Errand → Result Reply E → Known → Type 0
-IsMetBy k errand result now = MatchResult result (λ reply. IsBodyMet k errand reply.head reply.body now) (λ _. (given : Answer) × IsMet k errand given now)
+abbrev pub IsMetBy : {E : Type 0} → Known → Errand → Result Reply E → List Call → Known → Type 0
+IsMetBy k errand result calls now = MatchResult result (λ reply. IsBodyMet k errand reply.head reply.body calls now) (λ _. (given : Answer) × IsMet k errand given calls now)
 
 -- The same where the body is read as it comes: it may have been given up, and memory lacked only with the body at its end.
-abbrev pub IsMetBehind : {E : Type 0} → Known → Errand → Result Reply E → Option (List ℕ) → Known → Type 0
-IsMetBehind k errand result left now =
-    MatchResult result (λ reply. IsBodyMet k errand reply.head reply.body now) (λ _. (k ≡ now) ⊎ (IsAtEnd left × ((given : Answer) × IsMet k errand given now)))
+abbrev pub IsMetBehind : {E : Type 0} → Known → Errand → Result Reply E → Option (List ℕ) → List Call → Known → Type 0
+IsMetBehind k errand result left calls now =
+    MatchResult result
+    (λ reply. IsBodyMet k errand reply.head reply.body calls now)
+    (λ _. (AreNothing calls × (k ≡ now)) ⊎ (IsAtEnd left × ((given : Answer) × IsMet k errand given calls now)))
 
 -- what comes of it
 abbrev pub Replies : {S E : Type 0} → (store : Ghosts S) → Registry S store → Registry S store → Errand → Result Reply E → Type 0
-Replies store old new errand result = Goes store old new (λ k now. IsMetBy k errand result now)
+Replies store old new errand result = Goes store old new (λ k calls now. IsMetBy k errand result calls now)

@@ -14,27 +14,27 @@ use sqlite::Alter;
 impl<S: Alter + Drop> Handler for Service<'_, '_, S> {
     ghost use Rattle.std.specs.Prelude.{◌≡◌, refl};
     ghost use Rattle.pid_http.specs.Handling.{Writes, exports_text, same_on};
-    ghost use Rattle.pid_http.specs.Known.{IsKnown, Known, LivesOn, lives_further, lives_still};
+    ghost use Rattle.pid_http.specs.Known.{IsTold, LivesOn, Told, lives_further, lives_still};
     ghost use Rattle.pid_http.specs.Serving.{serving};
     ghost use Rattle.pid_service.specs.Registries.{HasCleanDisk};
 
-    ghost View = { Known };
+    ghost View = { Told S.Store };
 
-    ghost stands = { λ a k. IsKnown S.Store a.registry.now k };
+    ghost stands = { λ a t. IsTold S.Store a.registry.now t };
 
     ghost is_good = { λ a. HasCleanDisk S.Store a.registry.now };
 
     ghost becomes = { λ a b. (b.registry.ghost_name ≡ a.registry.ghost_name) × LivesOn S.Store a.registry.now b.registry.now };
 
-    ghost answers = { serving.answers };
+    ghost answers = { (serving S.Store).answers };
 
-    ghost leaves = { serving.leaves };
+    ghost leaves = { (serving S.Store).leaves };
 
-    ghost gives_up = { serving.gives_up };
+    ghost gives_up = { (serving S.Store).gives_up };
 
-    ghost promises = { serving.promises };
+    ghost promises = { (serving S.Store).promises };
 
-    ghost writes = { Writes };
+    ghost writes = { Writes S.Store };
 
     ghost kept = { exports_text };
 

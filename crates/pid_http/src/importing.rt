@@ -80,8 +80,8 @@ fn take_in<S: Alter + Drop, B: Input>(
 ) -> Result<Reply, NoReply>
     ensures goes { B.goes body.old body.new }
     ensures whole { IfOk result (λ _. IsAtEnd (B.to_come body.new)) }
-    ensures replied { Goes S.Store registry.old registry.new (λ k now. (file : List ℕ) → B.to_come body.old ≡ Some file → length file ≤ longest_body
-        → IsMetBehind k (errands.Obeys (import_of account key (file_reading file)) format) result (B.to_come body.new) now) }
+    ensures replied { Goes S.Store registry.old registry.new (λ k calls now. (file : List ℕ) → B.to_come body.old ≡ Some file → length file ≤ longest_body
+        → IsMetBehind k (errands.Obeys (import_of account key (file_reading file)) format) result (B.to_come body.new) calls now) }
 {
     clauses_meet_lives::<S>();
     match registry.import_from(account, key, body) {
@@ -127,8 +127,8 @@ fn import_of_sender<S: Alter + Drop, B: Input>(
 ) -> Result<Reply, NoReply>
     ensures goes { B.goes body.old body.new }
     ensures whole { IfOk result (λ _. IsAtEnd (B.to_come body.new)) }
-    ensures replied { Goes S.Store registry.old registry.new (λ k now. (file : List ℕ) → B.to_come body.old ≡ Some file → length file ≤ longest_body
-        → IsMetBehind k (imported format (Some (sending_of sender.entry)) file) result (B.to_come body.new) now) }
+    ensures replied { Goes S.Store registry.old registry.new (λ k calls now. (file : List ℕ) → B.to_come body.old ≡ Some file → length file ≤ longest_body
+        → IsMetBehind k (imported format (Some (sending_of sender.entry)) file) result (B.to_come body.new) calls now) }
 {
     match owner_of(alloc, sender) {
         None => deny(alloc, format, Refusal::Memory, body),
@@ -146,8 +146,8 @@ pub(crate) fn import<S: Alter + Drop, B: Input>(
 ) -> Result<Reply, NoReply>
     ensures goes { B.goes body.old body.new }
     ensures whole { IfOk result (λ _. IsAtEnd (B.to_come body.new)) }
-    ensures replied { Goes S.Store registry.old registry.new (λ k now. (file : List ℕ) → B.to_come body.old ≡ Some file → length file ≤ longest_body
-        → IsMetBehind k (imported format (sending_in sender.entry) file) result (B.to_come body.new) now) }
+    ensures replied { Goes S.Store registry.old registry.new (λ k calls now. (file : List ℕ) → B.to_come body.old ≡ Some file → length file ≤ longest_body
+        → IsMetBehind k (imported format (sending_in sender.entry) file) result (B.to_come body.new) calls now) }
 {
     match sender {
         None => deny(alloc, format, Refusal::BadText, body),

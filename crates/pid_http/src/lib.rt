@@ -7,7 +7,9 @@ mod commanding;
 mod exporting;
 mod handling;
 mod importing;
+mod laws;
 mod service;
 mod stream;
 
+pub use laws::streams_send_their_commands;
 pub use stream::serve_stream;

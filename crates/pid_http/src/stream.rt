@@ -1,23 +1,24 @@
 //! A stream of requests over a registry.
 ghost use Rattle.std.specs.Prelude.{◌≡◌, None, ℕ, ◌+◌, ◌-◌, ◌^◌, ◌≤◌, IfSome, IsSome};
 ghost use Rattle.pid_http_stream.specs.Leading.{Leads};
-ghost use Rattle.pid_http_stream.specs.Serving.{IsServed};
+ghost use Rattle.pid_http_stream.specs.Moments.{AllSince};
+ghost use Rattle.pid_http_stream.specs.Serving.{IsCaughtUp, IsServed};
 ghost use Rattle.pid_requests.specs.Routes.{table};
-ghost use Rattle.pid_http.specs.Known.{IsKnown, LivesOn};
+ghost use Rattle.pid_http.specs.Known.{IsTold, LivesOn};
 ghost use Rattle.pid_http.specs.Serving.{serving};
 ghost use Rattle.pid_service.specs.Registries.{HasCleanDisk};
 
 use crate::service::Service;
 use matchit::Router;
-use pid_http_stream::{Served, StreamEnd, serve_stream as serve_requests};
-use pid_ident::{Input, Output};
+use pid_http_stream::{Incoming, Served, StreamEnd, serve_stream as serve_requests};
+use pid_ident::Output;
 use pid_requests::{Route, build_routes};
 use pid_service::Registry;
 use sqlite::Alter;
 use std::alloc::Global;
 
 // Answers the requests of a stream by these routes.
-fn serve_by<S: Alter + Drop, I: Input, W: Output>(
+fn serve_by<S: Alter + Drop, I: Incoming<W>, W: Output>(
     alloc: Global,
     registry: &mut Registry<S>,
     routes: &Router<Route>,
@@ -26,8 +27,10 @@ fn serve_by<S: Alter + Drop, I: Input, W: Output>(
     turns: u64,
 ) -> Served
     requires { routes.now ≡ table }
-    ensures served { Leads (HasCleanDisk S.Store) (IsKnown S.Store) registry.old registry.new (λ k now. IfSome (I.to_come reader.old) (λ stream. IsServed serving
-        (record { handler = k; handler_after = now; taken = W.taken writer.old; taken_after = W.taken writer.new }) stream (I.to_come reader.new) result.end result.answered)) }
+    ensures served { Leads (HasCleanDisk S.Store) (IsTold S.Store) registry.old registry.new (λ t u. IfSome (I.to_come reader.old) (λ stream. IsServed (serving S.Store)
+        (record { handler = t; handler_after = u; taken = W.taken writer.old; taken_after = W.taken writer.new }) stream (I.to_come reader.new) result.end result.answered)) }
+    ensures caught_up { Leads (HasCleanDisk S.Store) (IsTold S.Store) registry.old registry.new (λ t _. IfSome (I.to_come reader.old) (λ stream.
+        AllSince (IsCaughtUp (serving S.Store) t (W.taken writer.old) stream) (I.moments reader.old) (I.moments reader.new))) }
     ensures lives { LivesOn S.Store registry.old registry.new }
     ensures reads { I.reads reader.new ≤ I.reads reader.old + turns }
     ensures turns { result.end ≡ StreamEnd.TurnsSpent → I.reads reader.old + turns ≤ 2 ^ 64 - 1 → I.reads reader.new ≡ I.reads reader.old + turns }
@@ -46,8 +49,8 @@ fn serve_by<S: Alter + Drop, I: Input, W: Output>(
 
 /// Answers the requests of a stream over a registry, one after another, in at most so many reads.
 ///
-/// Each reply is that to the request over the history that the registry shows then, and it is written before another read (as tests
-/// show). Where memory is short or the store fails the reply is that refusal; where the registry failed so at a command, each later
+/// Each reply is that to the request over the history that the registry shows then, and the writer has taken it before another read is
+/// made. What the calls of the registry's life send it are the commands of these requests, in their order. Where memory is short or the store fails the reply is that refusal; where the registry failed so at a command, each later
 /// request that asks something of it is told so, and it has to be opened anew. A body is held in memory but that of an import, of
 /// which only what the registry needs is (as tests show).
 ///
@@ -58,7 +61,7 @@ fn serve_by<S: Alter + Drop, I: Input, W: Output>(
 /// - `Memory`: the requests before were answered; the next may have been obeyed.
 /// - `WriteFault`: the requests before were answered, and a front of the next reply was written; the next may have been obeyed.
 /// - `StoreFault`: the same within the text of all items, which the store failed or memory cut short, over a writer that is good.
-pub fn serve_stream<S: Alter + Drop, I: Input, W: Output>(
+pub fn serve_stream<S: Alter + Drop, I: Incoming<W>, W: Output>(
     alloc: Global,
     registry: &mut Registry<S>,
     reader: &mut I,
@@ -66,8 +69,12 @@ pub fn serve_stream<S: Alter + Drop, I: Input, W: Output>(
     turns: u64,
 ) -> Served
     // The bytes are the replies to the stream's requests over the histories that the registry shows, and it shows the one behind them.
-    ensures served { Leads (HasCleanDisk S.Store) (IsKnown S.Store) registry.old registry.new (λ k now. IfSome (I.to_come reader.old) (λ stream. IsServed serving
-        (record { handler = k; handler_after = now; taken = W.taken writer.old; taken_after = W.taken writer.new }) stream (I.to_come reader.new) result.end result.answered)) }
+    // The commands of the requests are what the calls of its life sent it.
+    ensures served { Leads (HasCleanDisk S.Store) (IsTold S.Store) registry.old registry.new (λ t u. IfSome (I.to_come reader.old) (λ stream. IsServed (serving S.Store)
+        (record { handler = t; handler_after = u; taken = W.taken writer.old; taken_after = W.taken writer.new }) stream (I.to_come reader.new) result.end result.answered)) }
+    // Whenever the reader was read, the requests that had come were answered, and the writer had taken the replies.
+    ensures caught_up { Leads (HasCleanDisk S.Store) (IsTold S.Store) registry.old registry.new (λ t _. IfSome (I.to_come reader.old) (λ stream.
+        AllSince (IsCaughtUp (serving S.Store) t (W.taken writer.old) stream) (I.moments reader.old) (I.moments reader.new))) }
     // Whatever the bytes are and wherever it ends, it is a part of the registry's life; and one that has failed stays as it is.
     ensures lives { LivesOn S.Store registry.old registry.new }
     ensures reads { I.reads reader.new ≤ I.reads reader.old + turns }

@@ -1,10 +1,11 @@
-use Rattle.std.proofs.Common.{◌≡◌, Bool, true, false, Result, Ok, Err, IfOk, refl, sym, ap, subst, ◌∙◌, inl, inr}
+use Rattle.std.proofs.Common.{◌≡◌, Bool, true, false, [], ◌∷◌, Result, Ok, Err, IfOk, refl, sym, ap, subst, ◌∙◌, inl, inr}
 use Rattle.std.specs.Prelude.{◌↔◌, IsErrOf, if◌then◌else◌}
 use Rattle.pid_lookup.specs.Answers.{answer_of}
 use Rattle.pid_lookup.specs.Flags.{is_bad}
 use Rattle.pid_lookup.specs.declared.answer.Answer.{Answer as Found}
 use Rattle.pid_lookup.specs.declared.answering.LookupRefusal.{LookupRefusal}
 use Rattle.pid_lookup.specs.declared.answering.LookupRefusal.TheVariants as look_ups
+use Rattle.pid_lives.specs.Calls.{nothing_sent}
 use Rattle.pid_moderation.specs.History.{History}
 use Rattle.pid_moderation.specs.Writes.{tree_of}
 use Rattle.pid_moderation.specs.declared.refusal.Refusal.{Refusal}
@@ -28,12 +29,12 @@ found_over l h true found e good is = absurd (good refl)
 found_over l h false found e good is = ap Ok is ∙ by_flags l h false e
 
 over : (l : LookUpQuery) (h : History) (result : Result Found (LookupRefusal Refusal)) → IfOk result (λ found. found ≡ answer_of (tree_of h) l.flags l.args l.size)
-    → (IsErrOf result look_ups.BadFlags ↔ (is_bad l.flags ≡ true)) → ((f : Refusal) → IsErrOf result (look_ups.Names f) → MayGive true f) → IsMetOver h (LooksUp l) (look_up_answer result) (Live h)
+    → (IsErrOf result look_ups.BadFlags ↔ (is_bad l.flags ≡ true)) → ((f : Refusal) → IsErrOf result (look_ups.Names f) → MayGive true f) → IsMetOver h (LooksUp l) (look_up_answer result) (nothing_sent ∷ []) (Live h)
 unfolding answer_over
-over l h (Ok found) is bad fault = inl (ap look_up_answer (found_over l h (is_bad l.flags) found refl (λ e. let other = bad.1 e in absurd cc) is), refl)
-over l h (Err look_ups.BadFlags) is bad fault = inl (ap look_up_answer (by_flags l h true (bad.0 refl)), refl)
-over l h (Err (look_ups.Names f)) is bad fault = inr (inr (f, (fault f refl).alive refl, (refl, refl), refl))
-over l h (Err look_ups.Memory) is bad fault = inr (inr (Memory, inl refl, (refl, refl), refl))
+over l h (Ok found) is bad fault = inl (ap look_up_answer (found_over l h (is_bad l.flags) found refl (λ e. let other = bad.1 e in absurd cc) is), (refl, tt), refl)
+over l h (Err look_ups.BadFlags) is bad fault = inl (ap look_up_answer (by_flags l h true (bad.0 refl)), (refl, tt), refl)
+over l h (Err (look_ups.Names f)) is bad fault = inr (inr (f, (fault f refl).alive refl, (refl, refl), ((refl, tt), refl)))
+over l h (Err look_ups.Memory) is bad fault = inr (inr (Memory, inl refl, (refl, refl), ((refl, tt), refl)))
 
 failed : (l : LookUpQuery) (result : Result Found (LookupRefusal Refusal)) → result ≡ Err (look_ups.Names HasFailed) → IsRefused (LooksUp l) HasFailed (look_up_answer result)
 failed l result e = (refl, ap look_up_answer e)
@@ -43,6 +44,6 @@ returns g c =
     let l = c.args.query in
     let e = c.lookup-found.ensures in
     replied _ _ _ _ _ _ c.look_up_reply.ensures (from_call _ _ _ _ (look_up_answer c.lookup-found.result)
-    (looked _ c.clauses_meet_lives.ensures.looks _ _ e.clean (λ off. (e.failed off).1) (λ good h shows. e.shown h shows)) e.clean
+    (looked _ c.clauses_meet_lives.ensures.looks _ _ e.clean (λ off. (e.failed off).1) (λ good h shows. e.shown h shows)) (refl, tt) e.clean
     (λ clean h shows. (Live h, e.shown h shows, over l h c.lookup-found.result (e.answer clean h shows) (e.bad_flags shows.lives) (λ f is. subst (λ b. MayGive b f) shows.lives (e.fault f is))))
     (λ off. failed l c.lookup-found.result (e.failed off).0))

@@ -1,5 +1,6 @@
-use Rattle.std.proofs.Common.{◌≡◌, ℕ, Some, Result, Ok, Err, refl, sym, ap, ◌∙◌, inl, inr}
+use Rattle.std.proofs.Common.{◌≡◌, ℕ, [], ◌∷◌, Some, Result, Ok, Err, refl, sym, ap, ◌∙◌, inl, inr}
 use Rattle.std.specs.Prelude.{MatchResult}
+use Rattle.pid_lives.specs.Calls.{nothing_sent}
 use Rattle.pid_moderation.specs.History.{History}
 use Rattle.pid_moderation.specs.Views.{views_of}
 use Rattle.pid_moderation.specs.declared.refusal.Refusal.{Refusal}
@@ -19,11 +20,11 @@ use Rattle.pid_http.proofs.Meeting.{from_call, looked, replied}
 use Rattle.pid_http.proofs.asking.show.Goals as goal
 
 over : (number : ℕ) (format : Format) (h : History) (found : Result Discussion Refusal) → MatchResult found (λ d. discussion_in (views_of h) number ≡ Some (shown_of d)) (IsMissing (discussion_in (views_of h) number))
-    → IsMetOver h (Shows number format) (answer_or format (λ d. submission_answer format number (shown_of d)) found) (Live h)
+    → IsMetOver h (Shows number format) (answer_or format (λ d. submission_answer format number (shown_of d)) found) (nothing_sent ∷ []) (Live h)
 unfolding answer_over
-over number format h (Ok d) told = inl (sym (ap (shown_answer number format) told), refl)
-over number format h (Err e) (inl (missing, none)) = inl (ap (λ (x : Refusal). outcome_answer format (Err x)) missing ∙ sym (ap (shown_answer number format) none), refl)
-over number format h (Err e) (inr fault) = inr (inr (e, fault, (refl, refl), refl))
+over number format h (Ok d) told = inl (sym (ap (shown_answer number format) told), (refl, tt), refl)
+over number format h (Err e) (inl (missing, none)) = inl (ap (λ (x : Refusal). outcome_answer format (Err x)) missing ∙ sym (ap (shown_answer number format) none), (refl, tt), refl)
+over number format h (Err e) (inr fault) = inr (inr (e, fault, (refl, refl), ((refl, tt), refl)))
 
 failed : (number : ℕ) (format : Format) (found : Result Discussion Refusal) → found ≡ Err HasFailed → IsRefused (Shows number format) HasFailed (answer_or format (λ d. submission_answer format number (shown_of d)) found)
 failed number format found e = (refl, ap (answer_or format (λ d. submission_answer format number (shown_of d))) e)
@@ -34,6 +35,6 @@ returns g c =
     let f = c.args.format in
     let e = c.submission-found.ensures in
     replied _ _ _ _ _ _ c.shown_reply.ensures (from_call _ _ _ _ (answer_or f (λ d. submission_answer f n (shown_of d)) c.submission-found.result)
-    (looked _ c.clauses_meet_lives.ensures.looks _ _ e.rests.clean (λ off. (e.failed off).1) (λ good h shows. (e.told good h shows).1)) e.rests.clean
+    (looked _ c.clauses_meet_lives.ensures.looks _ _ e.rests.clean (λ off. (e.failed off).1) (λ good h shows. (e.told good h shows).1)) (refl, tt) e.rests.clean
     (λ clean h shows. let t = e.told clean h shows in (Live h, t.1, over n f h c.submission-found.result t.0))
     (λ off. failed n f c.submission-found.result (e.failed off).0))

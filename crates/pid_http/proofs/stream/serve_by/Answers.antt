@@ -1,9 +1,10 @@
 use Rattle.std.proofs.Common.{rules, ◌≡◌, subst}
 use Rattle.std.specs.Prelude.{IfSome}
 use Rattle.pid_http_stream.specs.Leading.{Leads}
-use Rattle.pid_http_stream.specs.Serving.{IsServed}
+use Rattle.pid_http_stream.specs.Moments.{AllSince}
+use Rattle.pid_http_stream.specs.Serving.{IsCaughtUp, IsServed}
 use Rattle.pid_service.specs.Registries.{HasCleanDisk}
-use Rattle.pid_http.specs.Known.{IsKnown, LivesOn}
+use Rattle.pid_http.specs.Known.{IsTold, LivesOn}
 use Rattle.pid_http.specs.Serving.{serving}
 use Rattle.pid_http.proofs.stream.serve_by.Goals as goal
 
@@ -12,14 +13,26 @@ returns-clause-served g c =
     let l = c.serve_stream.ensures.served in
     let end = c.serve_stream.new.handler in
     let name = c.serve_stream.ensures.becomes.0 in
-    let told : Leads (HasCleanDisk g.S.Store) (IsKnown g.S.Store) c.args.registry.now end.registry.now (λ k now. IfSome (g.I.Input.to_come c.args.reader.now) (λ stream. IsServed serving
-    (record { handler = k; handler_after = now; taken = g.W.Output.taken c.args.writer.now; taken_after = g.W.Output.taken c.serve_stream.new.output })
-    stream (g.I.Input.to_come c.serve_stream.new.input) c.serve_stream.result.end c.serve_stream.result.answered)) =
-    record { good = l.good; leads = λ good k known. l.leads good k known } in
+    let told : Leads (HasCleanDisk g.S.Store) (IsTold g.S.Store) c.args.registry.now end.registry.now (λ t u. IfSome (g.I.Incoming.to_come c.args.reader.now) (λ stream. IsServed (serving g.S.Store)
+    (record { handler = t; handler_after = u; taken = g.W.Output.taken c.args.writer.now; taken_after = g.W.Output.taken c.serve_stream.new.output })
+    stream (g.I.Incoming.to_come c.serve_stream.new.input) c.serve_stream.result.end c.serve_stream.result.answered)) =
+    record { good = l.good; leads = λ good t is. l.leads good t is } in
     let same : c.serve_stream.new.handler.registry.now ≡ c.registry-1.given.0 = search rules in
-    subst (λ registry. Leads (HasCleanDisk g.S.Store) (IsKnown g.S.Store) c.args.registry.now registry (λ k now. IfSome (g.I.Input.to_come c.args.reader.now) (λ stream. IsServed serving
-    (record { handler = k; handler_after = now; taken = g.W.Output.taken c.args.writer.now; taken_after = g.W.Output.taken c.serve_stream.new.output })
-    stream (g.I.Input.to_come c.serve_stream.new.input) c.serve_stream.result.end c.serve_stream.result.answered))) same told
+    subst (λ registry. Leads (HasCleanDisk g.S.Store) (IsTold g.S.Store) c.args.registry.now registry (λ t u. IfSome (g.I.Incoming.to_come c.args.reader.now) (λ stream. IsServed (serving g.S.Store)
+    (record { handler = t; handler_after = u; taken = g.W.Output.taken c.args.writer.now; taken_after = g.W.Output.taken c.serve_stream.new.output })
+    stream (g.I.Incoming.to_come c.serve_stream.new.input) c.serve_stream.result.end c.serve_stream.result.answered))) same told
+
+pub returns-clause-caught_up : goal.returns-clause-caught_up
+returns-clause-caught_up g c =
+    let l = c.serve_stream.ensures.caught_up in
+    let end = c.serve_stream.new.handler in
+    let name = c.serve_stream.ensures.becomes.0 in
+    let told : Leads (HasCleanDisk g.S.Store) (IsTold g.S.Store) c.args.registry.now end.registry.now (λ t _. IfSome (g.I.Incoming.to_come c.args.reader.now) (λ stream.
+    AllSince (IsCaughtUp (serving g.S.Store) t (g.W.Output.taken c.args.writer.now) stream) (g.I.Incoming.moments c.args.reader.now) (g.I.Incoming.moments c.serve_stream.new.input))) =
+    record { good = l.good; leads = λ good t is. l.leads good t is } in
+    let same : c.serve_stream.new.handler.registry.now ≡ c.registry-1.given.0 = search rules in
+    subst (λ registry. Leads (HasCleanDisk g.S.Store) (IsTold g.S.Store) c.args.registry.now registry (λ t _. IfSome (g.I.Incoming.to_come c.args.reader.now) (λ stream.
+    AllSince (IsCaughtUp (serving g.S.Store) t (g.W.Output.taken c.args.writer.now) stream) (g.I.Incoming.moments c.args.reader.now) (g.I.Incoming.moments c.serve_stream.new.input)))) same told
 
 pub returns-clause-lives : goal.returns-clause-lives
 returns-clause-lives g c =

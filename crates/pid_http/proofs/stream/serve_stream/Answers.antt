@@ -1,9 +1,12 @@
 use Rattle.pid_http.specs.Known.{lives_still}
-use Rattle.pid_http.proofs.Served.{none_served}
+use Rattle.pid_http.proofs.Served.{none_read, none_served}
 use Rattle.pid_http.proofs.stream.serve_stream.Goals as goal
 
 pub returns-in_default-clause-served : goal.returns-in_default-clause-served
-returns-in_default-clause-served g c = none_served _ _ _ _ (g.I.Input.to_come c.args.reader.now)
+returns-in_default-clause-served g c = none_served _ _ _ (g.I.Incoming.to_come c.args.reader.now) (g.I.Incoming.to_come c.args.reader.now)
+
+pub returns-in_default-clause-caught_up : goal.returns-in_default-clause-caught_up
+returns-in_default-clause-caught_up g c = none_read _ _ _ (g.I.Incoming.to_come c.args.reader.now) _
 
 pub returns-in_default-clause-lives : goal.returns-in_default-clause-lives
 returns-in_default-clause-lives g c = lives_still _

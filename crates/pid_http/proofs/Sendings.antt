@@ -1,0 +1,197 @@
+-- What the requests of a stream send a registry, from one request to all.
+use Rattle.std.proofs.Common.{◌≡◌, ℕ, true, false, Bool, cond, List, [], ◌∷◌, ◌++◌, Option, Some, None, Result, Err, refl, sym, ap, subst, ◌∙◌, inl, inr, append_assoc}
+use Rattle.std.proofs.lemmas.List.{append-nil}
+use Rattle.sqlite_trees.specs.declared.store.Store.{Ghosts}
+use Rattle.pid_lives.specs.Calls.{AreNothing, Call, StopsAt, obeyed, sent_in}
+use Rattle.pid_lives.specs.Lives.{Sent, after_sent, commands_in}
+use Rattle.pid_lives.specs.Outcomes.{is_outcome}
+use Rattle.pid_moderation.specs.History.{Asked, History}
+use Rattle.pid_moderation.specs.Judgement.{after, after_all, answer, judge}
+use Rattle.pid_moderation.specs.Views.{Views, views_of}
+use Rattle.pid_moderation.specs.declared.command.Reply.{Reply as Outcome}
+use Rattle.pid_moderation.specs.declared.refusal.Refusal.{Refusal}
+use Rattle.pid_service.specs.Histories.{IsFault}
+use Rattle.pid_http_stream.specs.Conducts.{AreReplies}
+use Rattle.pid_http_stream.specs.Replies.{Answer}
+use Rattle.pid_http_stream.specs.Requests.{Request}
+use Rattle.pid_http.specs.Answering.{history_behind}
+use Rattle.pid_http.specs.Errands.{Errand, command_in, errand_of}
+use Rattle.pid_http.specs.Handling.{nothing_then}
+use Rattle.pid_http.specs.Known.{Known, Live, Between, Told, ByCalls}
+use Rattle.pid_http.specs.Sending.{AreSomeOf, SendsSome, commands_of, listed}
+use Rattle.pid_http.specs.Serving.{AreCallsOver, FaultLeaves, IsMet, IsMetOver, serving}
+
+-- ---- calls one behind the other
+
+nothing_in : (calls : List Call) → AreNothing calls → sent_in calls ≡ []
+nothing_in [] n = refl
+nothing_in (call ∷ calls) n = let rest = nothing_in calls n.1 in λ i. (n.0 i).sent ++ rest i
+
+sent_on : (xs ys : List Call) → sent_in (xs ++ ys) ≡ sent_in xs ++ sent_in ys
+sent_on [] ys = refl
+sent_on (x ∷ xs) ys = ap (λ (l : List Sent). x.sent ++ l) (sent_on xs ys) ∙ sym (append_assoc x.sent (sent_in xs) (sent_in ys))
+
+commands_on : (xs ys : List Sent) → commands_in (xs ++ ys) ≡ commands_in xs ++ commands_in ys
+commands_on [] ys = refl
+commands_on (x ∷ xs) ys = ap (λ (l : List Asked). x.command ∷ l) (commands_on xs ys)
+
+both_sent : (xs ys : List Call) → commands_in (sent_in (xs ++ ys)) ≡ commands_in (sent_in xs) ++ commands_in (sent_in ys)
+both_sent xs ys = ap commands_in (sent_on xs ys) ∙ commands_on (sent_in xs) (sent_in ys)
+
+pub first_sent : (xs ys : List Call) → AreNothing ys → commands_in (sent_in (xs ++ ys)) ≡ commands_in (sent_in xs)
+first_sent xs ys n = both_sent xs ys ∙ ap (λ (l : List Sent). commands_in (sent_in xs) ++ commands_in l) (nothing_in ys n) ∙ append-nil (commands_in (sent_in xs))
+
+after_on : (h : History) (cs ds : List Asked) → after_all h (cs ++ ds) ≡ after_all (after_all h cs) ds
+after_on h [] ds = refl
+after_on h (c ∷ cs) ds = after_on (after h c) cs ds
+
+pub stops_then : (c : Asked) (xs ys : List Call) → StopsAt c xs → AreNothing ys → StopsAt c (xs ++ ys)
+stops_then c [] ys s n = absurd s
+stops_then c (x ∷ xs) ys (inl (is, none)) n = inl (is, nothing_then xs ys none n)
+stops_then c (x ∷ xs) ys (inr s) n = inr (stops_then c xs ys s n)
+
+stops_behind : (c : Asked) (xs ys : List Call) → StopsAt c ys → StopsAt c (xs ++ ys)
+stops_behind c [] ys s = s
+stops_behind c (x ∷ xs) ys s = inr (stops_behind c xs ys s)
+
+-- ---- some of the commands
+
+none_of : (all : List Asked) → AreSomeOf [] all
+none_of [] = refl
+none_of (c ∷ all) = inl (none_of all)
+
+some_join : (xs ys cs ds : List Asked) → AreSomeOf xs cs → AreSomeOf ys ds → AreSomeOf (xs ++ ys) (cs ++ ds)
+some_join xs ys [] ds p q = subst (λ (l : List Asked). AreSomeOf (l ++ ys) ds) (sym p) q
+some_join xs ys (c ∷ cs) ds (inl p) q = inl (some_join xs ys cs ds p q)
+some_join xs ys (c ∷ cs) ds (inr (others, e, p)) q = inr (others ++ ys, ap (λ (l : List Asked). l ++ ys) e, some_join others ys cs ds p q)
+
+some_more : (xs cs ds : List Asked) → AreSomeOf xs cs → AreSomeOf xs (cs ++ ds)
+some_more xs cs ds p = subst (λ (l : List Asked). AreSomeOf l (cs ++ ds)) (append-nil xs) (some_join xs [] cs ds p (none_of ds))
+
+-- ---- one request
+
+pub live_so : (h : History) (commands sent : List Asked) (calls : List Call) (k : Known) → commands_in (sent_in calls) ≡ sent → AreSomeOf sent commands → k ≡ Live (after_all h sent) → SendsSome h commands calls k
+live_so h commands sent calls k e some is = inl (subst (λ (l : List Asked). AreSomeOf l commands) (sym e) some, is ∙ ap (λ (l : List Asked). Live (after_all h l)) (sym e))
+
+pub stopped_so : (h : History) (commands sent : List Asked) (c : Asked) (calls : List Call) (k : Known) → commands_in (sent_in calls) ≡ sent → StopsAt c calls → AreSomeOf (sent ++ c ∷ []) commands
+    → k ≡ Between (after_all h sent) (after (after_all h sent) c) → SendsSome h commands calls k
+stopped_so h commands sent c calls k e stops some is =
+    inr (c, stops, subst (λ (l : List Asked). AreSomeOf (l ++ c ∷ []) commands) (sym e) some, is ∙ ap (λ (l : List Asked). Between (after_all h l) (after (after_all h l) c)) (sym e))
+
+quiet : (h : History) (commands : List Asked) (calls : List Call) (k : Known) → AreNothing calls → k ≡ Live h → SendsSome h commands calls k
+quiet h commands calls k nothing is = live_so h commands [] calls k (ap commands_in (nothing_in calls nothing)) (none_of commands) is
+
+-- every judgement is an outcome
+abbrev pub AreOutcomes : Type 0
+AreOutcomes = (v : Views) (c : Asked) → is_outcome (answer (judge v c)) ≡ true
+
+one_sent : (c : Asked) (r : Result Outcome Refusal) (live : Bool) → is_outcome r ≡ true → commands_in (sent_in (obeyed c r live ∷ [])) ≡ c ∷ []
+one_sent c r live e = ap (λ (b : Bool). commands_in (cond b (record { command = c; outcome = r } ∷ []) [] ++ [])) e
+
+over : AreOutcomes → (h : History) (o : Option Asked) (calls : List Call) (k : Known) → AreCallsOver h o calls → k ≡ Live (history_behind h o) → SendsSome h (listed o) calls k
+over outcomes h None calls k nothing is = quiet h [] calls k nothing is
+over outcomes h (Some c) calls k by is =
+    live_so h (c ∷ []) (c ∷ []) calls k (ap (λ (l : List Call). commands_in (sent_in l)) by ∙ one_sent c (answer (judge (views_of h) c)) true (outcomes (views_of h) c)) (inr ([], refl, refl)) is
+
+fault_sends : (c : Asked) (refusal : Refusal) (live : Bool) → IsFault refusal → commands_in (sent_in (obeyed c (Err refusal) live ∷ [])) ≡ []
+fault_sends c refusal live (inl e) = ap (λ (r : Refusal). commands_in (sent_in (obeyed c (Err r) live ∷ []))) e
+fault_sends c refusal live (inr e) = ap (λ (r : Refusal). commands_in (sent_in (obeyed c (Err r) live ∷ []))) e
+
+fault_stops : (c : Asked) (refusal : Refusal) → IsFault refusal → StopsAt c (obeyed c (Err refusal) false ∷ [])
+fault_stops c refusal (inl e) = subst (λ (r : Refusal). StopsAt c (obeyed c (Err r) false ∷ [])) (sym e) (inl (refl, tt))
+fault_stops c refusal (inr e) = subst (λ (r : Refusal). StopsAt c (obeyed c (Err r) false ∷ [])) (sym e) (inl (refl, tt))
+
+at_fault : (h : History) (o : Option Asked) (refusal : Refusal) (calls : List Call) (k : Known) → IsFault refusal → FaultLeaves h o refusal calls k → SendsSome h (listed o) calls k
+at_fault h None refusal calls k fault (nothing, is) = quiet h [] calls k nothing is
+at_fault h (Some c) refusal calls k fault (inl (by, is)) =
+    live_so h (c ∷ []) [] calls k (ap (λ (l : List Call). commands_in (sent_in l)) by ∙ fault_sends c refusal true fault) (none_of (c ∷ [])) is
+at_fault h (Some c) refusal calls k fault (inr (by, is)) =
+    stopped_so h (c ∷ []) [] c calls k (ap (λ (l : List Call). commands_in (sent_in l)) by ∙ fault_sends c refusal false fault) (subst (StopsAt c) (sym by) (fault_stops c refusal fault)) (inr ([], refl, refl)) is
+
+met_sends : AreOutcomes → (h : History) (errand : Errand) (given : Answer) (calls : List Call) (k : Known) → IsMetOver h errand given calls k → SendsSome h (listed (command_in errand)) calls k
+met_sends outcomes h errand given calls k (inl (e, by, is)) = over outcomes h (command_in errand) calls k by is
+met_sends outcomes h errand given calls k (inr (inl (short, nothing, is))) = quiet h (listed (command_in errand)) calls k nothing is
+met_sends outcomes h errand given calls k (inr (inr (refusal, fault, refused, leaves))) = at_fault h (command_in errand) refusal calls k fault leaves
+
+-- ---- requests in turn
+
+module _ {S : Type 0} (store : Ghosts S) where
+  pub by_join : (t mid u : Told store) (P Q R : List Call → Type 0) → ((xs ys : List Call) → P xs → Q ys → R (xs ++ ys)) → ByCalls store t mid P → ByCalls store mid u Q → ByCalls store t u R
+  by_join t mid u P Q R f p q = record {
+    same_life = q.same_life ∙ p.same_life;
+    more = p.more ++ q.more;
+    joined = q.joined ∙ ap (λ (l : List Call). l ++ q.more) p.joined ∙ append_assoc t.calls p.more q.more;
+    holds = f p.more q.more p.holds q.holds;
+  }
+
+  pub by_none : (t u : Told store) (P : Told store → List Call → Type 0) → t ≡ u → P t [] → ByCalls store t u (P u)
+  by_none t u P same holds = subst (λ v. ByCalls store t v (P v)) same (record { same_life = refl; more = []; joined = sym (append-nil t.calls); holds = holds })
+
+  send_on : (h h' : History) (cs ds : List Asked) (xs ys : List Call) (k : Known) → AreSomeOf (commands_in (sent_in xs)) cs → h' ≡ after_sent h (sent_in xs) → SendsSome h' ds ys k → SendsSome h (cs ++ ds) (xs ++ ys) k
+  send_on h h' cs ds xs ys k some at (inl (more, is)) =
+      live_so h (cs ++ ds) (commands_in (sent_in xs) ++ commands_in (sent_in ys)) (xs ++ ys) k (both_sent xs ys) (some_join (commands_in (sent_in xs)) (commands_in (sent_in ys)) cs ds some more)
+      (is ∙ ap (λ (x : History). Live (after_sent x (sent_in ys))) at ∙ ap Live (sym (after_on h (commands_in (sent_in xs)) (commands_in (sent_in ys)))))
+  send_on h h' cs ds xs ys k some at (inr (c, stops, more, is)) =
+      stopped_so h (cs ++ ds) (commands_in (sent_in xs) ++ commands_in (sent_in ys)) c (xs ++ ys) k (both_sent xs ys) (stops_behind c xs ys stops)
+      (subst (λ (l : List Asked). AreSomeOf l (cs ++ ds)) (sym (append_assoc (commands_in (sent_in xs)) (commands_in (sent_in ys)) (c ∷ []))) (some_join (commands_in (sent_in xs)) (commands_in (sent_in ys) ++ c ∷ []) cs ds some more))
+      (is ∙ ap (λ (x : History). Between (after_sent x (sent_in ys)) (after (after_sent x (sent_in ys)) c)) at
+      ∙ ap (λ (x : History). Between x (after x c)) (sym (after_on h (commands_in (sent_in xs)) (commands_in (sent_in ys)))))
+
+  stop_on : (h : History) (cs ds : List Asked) (xs ys : List Call) (c : Asked) (k : Known) → StopsAt c xs → AreSomeOf (commands_in (sent_in xs) ++ c ∷ []) cs → AreNothing ys
+      → k ≡ Between (after_sent h (sent_in xs)) (after (after_sent h (sent_in xs)) c) → SendsSome h (cs ++ ds) (xs ++ ys) k
+  stop_on h cs ds xs ys c k stops some nothing is =
+      stopped_so h (cs ++ ds) (commands_in (sent_in xs)) c (xs ++ ys) k (first_sent xs ys nothing) (stops_then c xs ys stops nothing) (some_more (commands_in (sent_in xs) ++ c ∷ []) cs ds some) is
+
+  -- some calls, and then others: over the history that is shown then, or where it has failed
+  pub then_send : (t mid u : Told store) (h : History) (cs ds : List Asked) → ByCalls store t mid (λ calls. SendsSome h cs calls mid.known)
+      → ((next : History) → mid.known ≡ Live next → ByCalls store mid u (λ calls. SendsSome next ds calls u.known))
+      → ((x y : History) → mid.known ≡ Between x y → ByCalls store mid u (λ calls. AreNothing calls × (u.known ≡ Between x y)))
+      → ByCalls store t u (λ calls. SendsSome h (cs ++ ds) calls u.known)
+  then_send t mid u h cs ds first live failed = by_case first.holds
+    where
+      at : (P : List Call → Type 0) → P first.more → ByCalls store t mid P
+      at P p = record { same_life = first.same_life; more = first.more; joined = first.joined; holds = p }
+
+      by_case : SendsSome h cs first.more mid.known → ByCalls store t u (λ calls. SendsSome h (cs ++ ds) calls u.known)
+      by_case (inl (some, is)) =
+          by_join t mid u (λ xs. AreSomeOf (commands_in (sent_in xs)) cs × (after_sent h (sent_in first.more) ≡ after_sent h (sent_in xs))) (λ ys. SendsSome (after_sent h (sent_in first.more)) ds ys u.known)
+          (λ calls. SendsSome h (cs ++ ds) calls u.known) (λ xs ys p q. send_on h (after_sent h (sent_in first.more)) cs ds xs ys u.known p.0 p.1 q) (at _ (some, refl)) (live _ is)
+      by_case (inr (c, stops, some, is)) =
+          let x = after_sent h (sent_in first.more) in
+          by_join t mid u (λ xs. StopsAt c xs × AreSomeOf (commands_in (sent_in xs) ++ c ∷ []) cs × (x ≡ after_sent h (sent_in xs))) (λ ys. AreNothing ys × (u.known ≡ Between x (after x c)))
+          (λ calls. SendsSome h (cs ++ ds) calls u.known)
+          (λ xs ys p q. stop_on h cs ds xs ys c u.known p.0 p.1 q.0 (q.1 ∙ ap (λ (a : History). Between a (after a c)) p.2)) (at _ (stops, some, refl)) (failed x (after x c) is)
+
+  pub met_by : AreOutcomes → (t u : Told store) (h : History) (errand : Errand) (given : Answer) → t.known ≡ Live h → ByCalls store t u (λ calls. IsMet t.known errand given calls u.known)
+      → ByCalls store t u (λ calls. SendsSome h (listed (command_in errand)) calls u.known)
+  met_by outcomes t u h errand given live b = record {
+    same_life = b.same_life;
+    more = b.more;
+    joined = b.joined;
+    holds = met_sends outcomes h errand given b.more u.known (subst (λ k. IsMet k errand given b.more u.known) live b.holds);
+  }
+
+  pub failed_by : (t u : Told store) (x y : History) (errand : Errand) (given : Answer) → t.known ≡ Between x y → ByCalls store t u (λ calls. IsMet t.known errand given calls u.known)
+      → ByCalls store t u (λ calls. AreNothing calls × (u.known ≡ Between x y))
+  failed_by t u x y errand given is b = record {
+    same_life = b.same_life;
+    more = b.more;
+    joined = b.joined;
+    holds = let m : IsMet (Between x y) errand given b.more u.known = subst (λ k. IsMet k errand given b.more u.known) is b.holds in (m.1, m.2);
+  }
+
+  -- one that has failed is sent nothing more
+  failed_replies : (t u : Told store) (x y : History) (requests : List Request) (bytes : List ℕ) → t.known ≡ Between x y → AreReplies (serving store) t requests bytes u
+      → ByCalls store t u (λ calls. AreNothing calls × (u.known ≡ Between x y))
+  failed_replies t u x y [] bytes is (e, same) = by_none t u (λ v calls. AreNothing calls × (v.known ≡ Between x y)) same (tt, is)
+  failed_replies t u x y (request ∷ requests) bytes is (mid, given, later, step, e, rest) =
+      let b = failed_by t mid x y (errand_of request) given is step in
+      by_join t mid u _ _ _ (λ xs ys p q. (nothing_then xs ys p.0 q.0, q.1)) b (failed_replies mid u x y requests later b.holds.1 rest)
+
+  -- requests that were answered
+  pub replies_send : AreOutcomes → (t u : Told store) (h : History) (requests : List Request) (bytes : List ℕ) → t.known ≡ Live h → AreReplies (serving store) t requests bytes u
+      → ByCalls store t u (λ calls. SendsSome h (commands_of requests) calls u.known)
+  replies_send outcomes t u h [] bytes live (e, same) = by_none t u (λ v calls. SendsSome h [] calls v.known) same (inl (refl, live))
+  replies_send outcomes t u h (request ∷ requests) bytes live (mid, given, later, step, e, rest) =
+      then_send t mid u h (listed (command_in (errand_of request))) (commands_of requests) (met_by outcomes t mid h (errand_of request) given live step)
+      (λ next is. replies_send outcomes mid u next requests later is rest) (λ x y is. failed_replies mid u x y requests later is rest)

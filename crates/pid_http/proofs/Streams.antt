@@ -1,0 +1,157 @@
+-- What a whole stream sends a registry, by each way in which it may end.
+use Rattle.std.proofs.Common.{◌≡◌, ◌⊎◌, ℕ, List, [], ◌∷◌, ◌++◌, Option, Some, None, refl, sym, ap, subst, ◌∙◌, inl, inr, append_assoc}
+use Rattle.std.proofs.lemmas.List.{append-nil}
+use Rattle.std.specs.Io.KnownBytes.{Consumes}
+use Rattle.sqlite_trees.specs.declared.store.Store.{Ghosts}
+use Rattle.pid_lives.specs.Calls.{AreNothing, Call, sent_in}
+use Rattle.pid_lives.specs.Lives.{commands_in}
+use Rattle.pid_moderation.specs.History.{Asked, History}
+use Rattle.pid_http_stream.specs.Conducts.{StandsStill}
+use Rattle.pid_http_stream.specs.Laws.{RequestsStay}
+use Rattle.pid_http_stream.specs.Replies.{Answer, answer_behind}
+use Rattle.pid_http_stream.specs.Requests.{Request, IsRequest}
+use Rattle.pid_http_stream.specs.Serving.{AnswersAll, AnswersFront, BreaksOff, IsServed, IsWrittenNext, LacksMemory, Outside, RestsBehind, StopsReading}
+use Rattle.pid_http_stream.specs.Streams.{Ending, clean, closed, faulty, Fronts, Splits}
+use Rattle.pid_http_stream.specs.declared.judging.StreamFault.TheVariants.{BadHead, Encoding, BodyTooLong, BodyShort}
+use Rattle.pid_http_stream.specs.declared.reply.ReplyHead.{ReplyHead}
+use Rattle.pid_http_stream.specs.declared.stream.StreamEnd.{StreamEnd}
+use Rattle.pid_http_stream.specs.declared.stream.StreamEnd.TheVariants.{Clean, Closed, HeadFault, BodyFault, ReadFault, WriteFault, StoreFault, Memory, TurnsSpent}
+use Rattle.pid_http.specs.Errands.{Errand, command_in, errand_of}
+use Rattle.pid_http.specs.Known.{Known, Live, Between, Down, Told, ByCalls}
+use Rattle.pid_http.specs.Sending.{SendsOf, SendsSome, StandInFront, commands_of, listed}
+use Rattle.pid_http.specs.Serving.{IsMet, IsPromised, serving}
+use Rattle.pid_http.proofs.Sendings.{AreOutcomes, by_join, by_none, failed_by, first_sent, live_so, met_by, replies_send, stopped_so, stops_then, then_send}
+
+-- ---- requests at the front
+
+in_front : (stream : List ℕ) (rs : List Request) (rest : List ℕ) → Fronts stream rs rest → StandInFront stream rs
+in_front stream [] rest e = tt
+in_front stream (r ∷ rs) rest (behind, is, stays, later) = (behind, is, in_front behind rs rest later)
+
+next_in_front : (stream : List ℕ) (rs : List Request) (rest : List ℕ) (r : Request) (behind : List ℕ) → Fronts stream rs rest → IsRequest rest r behind → StandInFront stream (rs ++ r ∷ [])
+next_in_front stream [] rest r behind e is = (behind, subst (λ (l : List ℕ). IsRequest l r behind) (sym e) is, tt)
+next_in_front stream (q ∷ rs) rest r behind (middle, was, stays, later) is = (middle, was, next_in_front middle rs rest r behind later is)
+
+split_in_front : (stream : List ℕ) (rs : List Request) (ending : Ending) → Splits stream rs ending → StandInFront stream rs
+split_in_front stream [] ending s = tt
+split_in_front stream (r ∷ rs) ending (behind, is, inl (shut, none, ends)) = (behind, is, subst (StandInFront behind) (sym none) tt)
+split_in_front stream (r ∷ rs) ending (behind, is, inr (stays, later)) = (behind, is, split_in_front behind rs ending later)
+
+still_in_front : RequestsStay → (front more : List ℕ) (rs : List Request) → StandInFront front rs → StandInFront (front ++ more) rs
+still_in_front stay front more [] s = tt
+still_in_front stay front more (r ∷ rs) (behind, is, later) = (behind ++ more, stay front more r behind is, still_in_front stay behind more rs later)
+
+read_in_front : RequestsStay → (stream read : List ℕ) (left : Option (List ℕ)) (rs : List Request) → Consumes (Some stream) left read → StandInFront read rs → StandInFront stream rs
+read_in_front stay stream read None rs consumed s = absurd consumed
+read_in_front stay stream read (Some more) rs consumed s = subst (λ (l : List ℕ). StandInFront l rs) (sym consumed) (still_in_front stay read more rs s)
+
+commands_snoc : (rs : List Request) (r : Request) → commands_of rs ++ listed (command_in (errand_of r)) ≡ commands_of (rs ++ r ∷ [])
+commands_snoc [] r = sym (append-nil (listed (command_in (errand_of r))))
+commands_snoc (q ∷ rs) r =
+    append_assoc (listed (command_in (errand_of q))) (commands_of rs) (listed (command_in (errand_of r))) ∙ ap (λ (l : List Asked). listed (command_in (errand_of q)) ++ l) (commands_snoc rs r)
+
+-- ---- what comes behind the requests that were answered
+
+quiet_on : (h : History) (cs : List Asked) (xs ys : List Call) (k next : Known) → SendsSome h cs xs k → AreNothing ys → k ≡ next → SendsSome h cs (xs ++ ys) next
+quiet_on h cs xs ys k next (inl (some, is)) nothing same = live_so h cs (commands_in (sent_in xs)) (xs ++ ys) next (first_sent xs ys nothing) some (sym same ∙ is)
+quiet_on h cs xs ys k next (inr (c, stops, some, is)) nothing same = stopped_so h cs (commands_in (sent_in xs)) c (xs ++ ys) next (first_sent xs ys nothing) (stops_then c xs ys stops nothing) some (sym same ∙ is)
+
+promised_so : (k : Known) (errand : Errand) (head : ReplyHead) (told : ℕ) (calls : List Call) (next : Known) → IsPromised k errand head told calls next → AreNothing calls × (k ≡ next)
+promised_so (Live h) errand head told calls next (asked, text, nothing, same) = (nothing, sym same)
+promised_so (Between x y) errand head told calls next promised = absurd promised
+promised_so Down errand head told calls next promised = absurd promised
+
+module _ {S : Type 0} (store : Ghosts S) where
+  still : (t u : Told store) → StandsStill (serving store) t u → ByCalls store t u (λ calls. AreNothing calls × (t.known ≡ u.known))
+  still t u (inl same) = by_none store t u (λ v calls. AreNothing calls × (t.known ≡ v.known)) same (tt, refl)
+  still t u (inr b) = b
+
+  rests_still : (ending : Ending) (t u : Told store) → RestsBehind (serving store) ending t u → StandsStill (serving store) t u
+  rests_still clean t u r = inl r
+  rests_still closed t u r = inl r
+  rests_still (faulty BadHead) t u r = inl r
+  rests_still (faulty Encoding) t u r = inl r
+  rests_still (faulty BodyTooLong) t u r = inl r
+  rests_still (faulty BodyShort) t u r = r
+
+  then_quiet : (t mid u : Told store) (h : History) (cs : List Asked) → ByCalls store t mid (λ calls. SendsSome h cs calls mid.known) → ByCalls store mid u (λ calls. AreNothing calls × (mid.known ≡ u.known))
+      → ByCalls store t u (λ calls. SendsSome h cs calls u.known)
+  then_quiet t mid u h cs first next =
+      by_join store t mid u (λ xs. SendsSome h cs xs mid.known) (λ ys. AreNothing ys × (mid.known ≡ u.known)) (λ calls. SendsSome h cs calls u.known) (λ xs ys p q. quiet_on h cs xs ys mid.known u.known p q.0 q.1) first next
+
+  then_request : AreOutcomes → (t mid u : Told store) (h : History) (rs : List Request) (r : Request) (given : Answer) → ByCalls store t mid (λ calls. SendsSome h (commands_of rs) calls mid.known)
+      → ByCalls store mid u (λ calls. IsMet mid.known (errand_of r) given calls u.known) → ByCalls store t u (λ calls. SendsSome h (commands_of (rs ++ r ∷ [])) calls u.known)
+  then_request outcomes t mid u h rs r given first step =
+      subst (λ (l : List Asked). ByCalls store t u (λ calls. SendsSome h l calls u.known)) (commands_snoc rs r)
+      (then_send store t mid u h (commands_of rs) (listed (command_in (errand_of r))) first (λ next is. met_by store outcomes mid u next (errand_of r) given is step) (λ x y is. failed_by store mid u x y (errand_of r) given is step))
+
+  -- the whole stream was answered
+  all_send : AreOutcomes → (h : History) (o : Outside (Told store)) (stream : List ℕ) (ending : Ending) (tail : List ℕ) (count : ℕ) → o.handler.known ≡ Live h → AnswersAll (serving store) o stream ending tail count
+      → SendsOf store h o.handler o.handler_after stream
+  all_send outcomes h o stream ending tail count live a = record {
+    requests = a.requests;
+    stand = split_in_front stream a.requests ending a.splits;
+    sends = then_quiet o.handler a.last o.handler_after h (commands_of a.requests) (replies_send store outcomes o.handler a.last h a.requests a.replies live a.answered)
+        (still a.last o.handler_after (rests_still ending a.last o.handler_after a.rests));
+  }
+
+  -- a front of it was, and nothing more was sent
+  front_quiet : AreOutcomes → (h : History) (t mid u : Told store) (stream rest : List ℕ) (taken taken_after : Option (List ℕ)) (count : ℕ) → t.known ≡ Live h
+      → AnswersFront (serving store) (record { handler = t; handler_after = mid; taken = taken; taken_after = taken_after }) stream rest count → ByCalls store mid u (λ calls. AreNothing calls × (mid.known ≡ u.known))
+      → SendsOf store h t u stream
+  front_quiet outcomes h t mid u stream rest taken taken_after count live f next = record {
+    requests = f.requests;
+    stand = in_front stream f.requests rest f.fronts;
+    sends = then_quiet t mid u h (commands_of f.requests) (replies_send store outcomes t mid h f.requests f.replies live f.answered) next;
+  }
+
+  -- and then one request more
+  front_then : AreOutcomes → (h : History) (t mid u : Told store) (stream rest : List ℕ) (taken taken_after : Option (List ℕ)) (count : ℕ) (r : Request) (behind : List ℕ) (given : Answer) → t.known ≡ Live h
+      → AnswersFront (serving store) (record { handler = t; handler_after = mid; taken = taken; taken_after = taken_after }) stream rest count → IsRequest rest r behind
+      → ByCalls store mid u (λ calls. IsMet mid.known (errand_of r) given calls u.known) → SendsOf store h t u stream
+  front_then outcomes h t mid u stream rest taken taken_after count r behind given live f is step = record {
+    requests = f.requests ++ r ∷ [];
+    stand = next_in_front stream f.requests rest r behind f.fronts is;
+    sends = then_request outcomes t mid u h f.requests r given (replies_send store outcomes t mid h f.requests f.replies live f.answered) step;
+  }
+
+  stopped_sends : AreOutcomes → RequestsStay → (h : History) (o : Outside (Told store)) (stream : List ℕ) (left : Option (List ℕ)) (count : ℕ) → o.handler.known ≡ Live h → StopsReading (serving store) o stream left count
+      → SendsOf store h o.handler o.handler_after stream
+  stopped_sends outcomes stay h o stream left count live s =
+      let f = front_quiet outcomes h o.handler s.last o.handler_after s.read s.rest o.taken o.taken_after count live s.before (still s.last o.handler_after s.stands) in
+      record { requests = f.requests; stand = read_in_front stay stream s.read left f.requests s.consumed f.stand; sends = f.sends }
+
+  lacking_sends : AreOutcomes → (h : History) (o : Outside (Told store)) (stream : List ℕ) (count : ℕ) → o.handler.known ≡ Live h → LacksMemory (serving store) o stream count → SendsOf store h o.handler o.handler_after stream
+  lacking_sends outcomes h o stream count live s = by_case s.after
+    where
+      by_case : StandsStill (serving store) s.mid o.handler_after ⊎ ((request : Request) × (behind : List ℕ) × IsRequest s.rest request behind × (serving store).leaves s.mid request o.handler_after)
+          → SendsOf store h o.handler o.handler_after stream
+      by_case (inl stands) = front_quiet outcomes h o.handler s.mid o.handler_after stream s.rest o.taken o.taken_after count live s.before (still s.mid o.handler_after stands)
+      by_case (inr (request, behind, is, b)) =
+          front_then outcomes h o.handler s.mid o.handler_after stream s.rest o.taken o.taken_after count request behind b.holds.0 live s.before is
+          (record { same_life = b.same_life; more = b.more; joined = b.joined; holds = b.holds.1 })
+
+  broken_sends : AreOutcomes → (h : History) (o : Outside (Told store)) (stream : List ℕ) (count : ℕ) → o.handler.known ≡ Live h → BreaksOff (serving store) o stream count → SendsOf store h o.handler o.handler_after stream
+  broken_sends outcomes h o stream count live s = by_case s.next_is
+    where
+      by_case : IsWrittenNext (serving store) s.mid s.rest s.bytes o.handler_after → SendsOf store h o.handler o.handler_after stream
+      by_case (inl (request, behind, given, is, step, e)) = front_then outcomes h o.handler s.mid o.handler_after stream s.rest o.taken s.taken count request behind given live s.before is step
+      by_case (inr (inl (request, behind, head, told, is, b, e))) =
+          front_quiet outcomes h o.handler s.mid o.handler_after stream s.rest o.taken s.taken count live s.before
+          (record { same_life = b.same_life; more = b.more; joined = b.joined; holds = promised_so s.mid.known (errand_of request) head told b.more o.handler_after.known b.holds })
+      by_case (inr (inr (fault, has, e, rests))) =
+          front_quiet outcomes h o.handler s.mid o.handler_after stream s.rest o.taken s.taken count live s.before (still s.mid o.handler_after (rests_still (faulty fault) s.mid o.handler_after rests))
+
+  -- whichever way it ended
+  pub served_sends : AreOutcomes → RequestsStay → (o : Outside (Told store)) (h : History) (stream : List ℕ) (left : Option (List ℕ)) (end : StreamEnd) (count : ℕ) → o.handler.known ≡ Live h
+      → IsServed (serving store) o stream left end count → SendsOf store h o.handler o.handler_after stream
+  served_sends outcomes stay o h stream left Clean count live s = all_send outcomes h o stream clean [] count live s
+  served_sends outcomes stay o h stream left Closed count live s = all_send outcomes h o stream closed [] count live s
+  served_sends outcomes stay o h stream left HeadFault count live (fault, of_head, answered, s, e) = all_send outcomes h o stream (faulty fault) _ answered live s
+  served_sends outcomes stay o h stream left BodyFault count live (fault, of_head, answered, s, e) = all_send outcomes h o stream (faulty fault) _ answered live s
+  served_sends outcomes stay o h stream left ReadFault count live s = stopped_sends outcomes stay h o stream left count live s
+  served_sends outcomes stay o h stream left TurnsSpent count live s = stopped_sends outcomes stay h o stream left count live s
+  served_sends outcomes stay o h stream left Memory count live s = lacking_sends outcomes h o stream count live s
+  served_sends outcomes stay o h stream left WriteFault count live s = broken_sends outcomes h o stream count live s
+  served_sends outcomes stay o h stream left StoreFault count live s =
+      front_then outcomes h o.handler s.mid o.handler_after stream s.rest o.taken s.taken count s.request s.behind (answer_behind s.cut.head s.cut.told s.cut.body) live s.before s.is s.cut.answered
