@@ -5,6 +5,7 @@
  *   registry FILE rows COUNT       a new registry with COUNT rows in each table
  *   registry FILE submissions N    a new registry with N submissions, all decided
  *   registry FILE old N            a registry of schema 1 with N items
+ *   registry FILE changes SINCE TIMES    the first page of what changed above that number
  *   registry FILE JOB TIMES        JOB: nothing, export, open, unknown, keyed, migrate
  */
 #include <sqlite3.h>
@@ -326,6 +327,25 @@ static void commands(int times)
     }
 }
 
+/* The revision, and the first 100 items above the number, each with its name. */
+static void changes(int number, int times)
+{
+    sqlite3_stmt *label = prepared("SELECT value FROM meta WHERE label = ?1");
+    sqlite3_stmt *page = prepared("SELECT path, since FROM item_since WHERE path > '' AND since > ?1 ORDER BY path LIMIT 100");
+    sqlite3_stmt *name = prepared("SELECT name FROM item WHERE path = ?1");
+    for (int at = 0; at < times; at++) {
+        run("BEGIN");
+        number_of(label, "revision");
+        sqlite3_bind_int(page, 1, number);
+        while (sqlite3_step(page) == SQLITE_ROW) {
+            text(name, 1, (const char *)sqlite3_column_text(page, 0));
+            rows(name);
+        }
+        sqlite3_reset(page);
+        run("COMMIT");
+    }
+}
+
 static int job(const char *name, int times)
 {
     char path[32];
@@ -380,6 +400,8 @@ int main(int count, char **words)
         fill_submissions(atoi(words[3]));
     else if (count == 4 && strcmp(words[2], "old") == 0)
         fill_old(atoi(words[3]));
+    else if (count == 5 && strcmp(words[2], "changes") == 0)
+        changes(atoi(words[3]), atoi(words[4]));
     else if (count != 4 || job(words[2], atoi(words[3])) != 0)
         return 2;
     return 0;
