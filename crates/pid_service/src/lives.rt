@@ -45,7 +45,7 @@ impl<S: Alter + Drop> ShowsHistories for Registry<S> {
 /// The clauses of a call say what lives ask of it.
 ///
 /// `obeys` is of `obey` and `import`, `imports` of `import_from`, `runs` of `run`; the premises are their clauses `clean`, `failed`, and `obeyed` or
-/// `ran`. Every other call `looks`: `read`, `children`, `submission`, `pending`, `lookup`, `name_of`, `export` and
+/// `ran`. Every other call `looks`: `read`, `children`, `submission`, `pending`, `changes`, `lookup`, `name_of`, `export` and
 /// `export_length`. A command is in doubt where its fault left the registry failed; one that stayed live has sent nothing.
 pub fn clauses_meet_lives<S: Alter + Drop>()
     ensures obeys { (old new : registry.Registry S S.Store) (c : Asked) (result : Result Reply Refusal)

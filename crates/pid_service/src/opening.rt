@@ -124,7 +124,7 @@ pub fn open<S: Alter + Drop>(
 /// Moves a database to the schema of today, in one transaction: it makes the tables where there is none (`Created`), moves those of schema 1,
 /// once all its conditions were judged (`Moved`), and leaves those of schema 2 unjudged (`Already`).
 ///
-/// The history stays the same, and all of it stands before the mark: each name has the number 0, and so has the revision. Where it fails it
+/// The history stays the same. That of schema 1 stands before the mark: each name has the number 0, and so has the revision. Where it fails it
 /// hands the connection back, as `open` does, with the same faults.
 pub fn migrate<S: Alter + Drop>(
     alloc: Global,
