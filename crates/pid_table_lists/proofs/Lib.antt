@@ -1,5 +1,6 @@
 pub mod WorkedRows
 pub mod BelowLemmas
+pub mod PageLemmas
 pub mod PendingLists
 pub mod ChangeLists
 pub mod ChangeReads

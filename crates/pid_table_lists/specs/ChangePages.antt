@@ -27,7 +27,11 @@ is_later since after v item = is_lt (text_cmp after item.0) && nat_lt since (v.s
 abbrev pub numbered_in : Views → List ℕ × List ℕ → Changed
 numbered_in v item = record { path = item.0; name = item.1; since = v.since item.0 }
 
--- the first items that are later, at most so many, in the order of their paths
+-- all items that are later, in the order of their paths
+abbrev pub changed_behind : ℕ → List ℕ → Views → List Changed
+changed_behind since after v = map (numbered_in v) (filter (is_later since after v) v.items)
+
+-- the first of them, at most so many
 abbrev pub changes_in : ℕ → ℕ → List ℕ → Views → ChangePage
 changes_in most since after v = record { revision = v.revision; items = map (numbered_in v) (take most (filter (is_later since after v) v.items)) }
 

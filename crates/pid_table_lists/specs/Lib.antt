@@ -1,3 +1,4 @@
+pub mod Pages
 pub mod PendingRows
 pub mod Discussions
 pub mod PendingPages
@@ -6,3 +7,4 @@ pub mod ChangeRows
 pub mod Children
 pub mod EachItem
 pub mod Clauses
+pub mod Laws

@@ -16,9 +16,13 @@ standings_from n (s ∷ submits) state = (n, record { submitted = s; state = sta
 abbrev pub waits_above : ℕ → ℕ × Standing → Bool
 waits_above after s = nat_lt after s.0 && is_pending (Some s.1)
 
--- the first of them, at most so many: numbers count from 1
+-- all of them, in the order of their numbers, which count from 1
+abbrev pub waiting_above : ℕ → Views → List (ℕ × Standing)
+waiting_above after v = filter (waits_above after) (standings_from 1 v.submits v.state)
+
+-- the first of them, at most so many
 abbrev pub pending_in : ℕ → ℕ → Views → List (ℕ × Standing)
-pending_in most after v = take most (filter (waits_above after) (standings_from 1 v.submits v.state))
+pending_in most after v = take most (waiting_above after v)
 
 -- a pending submission as it is told
 abbrev pub told_of : Pending → ℕ × Standing

@@ -1,5 +1,5 @@
 //! Pages of the items that were named anew.
-ghost use Rattle.std.specs.Prelude.{◌≡◌, ◌∷◌, ◌++◌, [], List, false, map, Some, MatchResult, IfOk, IfErr, string_bytes};
+ghost use Rattle.std.specs.Prelude.{◌≡◌, ◌∷◌, ◌++◌, [], List, false, length, map, Some, MatchResult, IfOk, IfErr, string_bytes};
 ghost use Rattle.std.specs.Option.{option_copied};
 ghost use Rattle.sqlite.specs.Order.{column};
 ghost use Rattle.sqlite_value.specs.Value.{owned};
@@ -11,7 +11,8 @@ ghost use Rattle.pid_rows.specs.Causes.{IsReadable};
 ghost use Rattle.pid_rows.specs.Clauses.{AtRest, HasCleanDisk, IsCaused, OnlyReads, Reads};
 ghost use Rattle.pid_rows.specs.TableRows.{number};
 ghost use Rattle.pid_rows.specs.Unread.{IsUnread, IsPathText};
-ghost use Rattle.pid_table_lists.specs.ChangePages.{AreHeld, Changed, changed_of, changes_in, page_of as told_page, start_text};
+ghost use Rattle.pid_table_lists.specs.ChangePages.{AreHeld, Changed, changed_behind, changed_of, changes_in, page_of as told_page, start_text};
+ghost use Rattle.pid_table_lists.specs.Pages.{most_listed};
 ghost use Rattle.pid_table_lists.specs.ChangeRows.{since_shown, AreNamed, held as held_number};
 
 use crate::pages::PAGE;
@@ -175,8 +176,11 @@ pub fn changes_page<S: Alter>(
     after: Option<&Path>,
 ) -> Result<Changes, TableFault>
     requires { conn.old.in_transaction ≡ false }
-    ensures { Reads S.Store conn.old conn.new result
+    ensures page { Reads S.Store conn.old conn.new result
         (λ v changes. AreHeld v → told_page changes ≡ changes_in PAGE since (start_text (option_copied after.entry)) v) }
+    // As many as there are, while a page holds them: one that is not full is the last.
+    ensures most_listed { Reads S.Store conn.old conn.new result
+        (λ v changes. AreHeld v → length changes.items.items ≡ most_listed (length (changed_behind since (start_text (option_copied after.entry)) v))) }
 {
     let start = start_of(alloc, after)?;
     let revision = revision(conn)?;

@@ -3,12 +3,14 @@
 
 mod below;
 mod changes;
+mod laws;
 mod pages;
 mod remarks;
 mod walk;
 
 pub use below::children;
 pub use changes::{ChangedItem, Changes, changes_page};
+pub use laws::{changes_go_on, pages_hold_most_listed, pending_go_on};
 pub use pages::{PAGE, Pending, pending_page};
 pub use remarks::{Discussion, discussed};
 pub use walk::{EachEnd, each_item};

@@ -1,12 +1,13 @@
 //! Pages of pending submissions.
-ghost use Rattle.std.specs.Prelude.{◌≡◌, ◌∷◌, ◌++◌, [], ℕ, List, false, map, MatchResult};
+ghost use Rattle.std.specs.Prelude.{◌≡◌, ◌∷◌, ◌++◌, [], ℕ, List, false, length, map, MatchResult};
 ghost use Rattle.std.specs.List.{AllByRecursion};
 ghost use Rattle.sqlite.specs.Held.{state};
 ghost use Rattle.pid_moderation.specs.Views.{Views};
 ghost use Rattle.pid_rows.specs.Unread.{IsUnread};
 ghost use Rattle.pid_rows.specs.Shows.{AreViews};
 ghost use Rattle.pid_rows.specs.TableRows.{Standing};
-ghost use Rattle.pid_table_lists.specs.PendingPages.{pending_in, told_of};
+ghost use Rattle.pid_table_lists.specs.PendingPages.{pending_in, told_of, waiting_above};
+ghost use Rattle.pid_table_lists.specs.Pages.{most_listed};
 ghost use Rattle.pid_table_lists.specs.PendingRows.{pending_row, IsReadablePending, AreIn};
 ghost use Rattle.pid_rows.specs.Clauses.{Reads};
 
@@ -81,7 +82,9 @@ pub fn pending_page<S: Alter>(
     after: u32,
 ) -> Result<Vec<Pending>, TableFault>
     requires { conn.old.in_transaction ≡ false }
-    ensures { Reads S.Store conn.old conn.new result (λ v page. map told_of page.items ≡ pending_in PAGE after v) }
+    ensures page { Reads S.Store conn.old conn.new result (λ v page. map told_of page.items ≡ pending_in PAGE after v) }
+    // As many as there are, while a page holds them: one that is not full is the last.
+    ensures most_listed { Reads S.Store conn.old conn.new result (λ v page. length page.items ≡ most_listed (length (waiting_above after v))) }
 {
     let rows = page_rows(conn, after)?;
     page_of(rows.as_slice(), alloc)

@@ -4,11 +4,10 @@ use Rattle.sqlite.proofs.Callers.{survives_begin}
 use Rattle.sqlite.proofs.StateLemmas.{survives_then}
 use Rattle.sqlite.specs.Held.{Held, state}
 use Rattle.sqlite.specs.State.{State, HasCleanDisk, Survives}
-use Rattle.sqlite.specs.Tree.{Trees}
 use Rattle.sqlite_trees.specs.declared.store.Store.{Ghosts}
 use Rattle.pid_moderation.specs.History.{new_history}
 use Rattle.pid_moderation.specs.Views.{views_of}
-use Rattle.pid_rows.specs.Leaves.{GoesOn, OnlyReads, as_found}
+use Rattle.pid_rows.specs.Leaves.{GoesOn, OnlyReads}
 use Rattle.pid_rows.specs.Shows.{Shows}
 use Rattle.pid_rows.proofs.GoingLemmas.{earlier}
 use Rattle.pid_rows.proofs.LeaveLemmas.{shows_found}

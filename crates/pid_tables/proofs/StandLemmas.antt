@@ -1,5 +1,5 @@
 -- What stands in a database, as reads tell it.
-use Rattle.std.proofs.Common.{◌≡◌, ◌↔◌, ◌≤◌, ℕ, arith, inl, inr, true, false, Bool, List, [], ◌∷◌, ◌++◌, None, Some, Option, Ok, Err, Result, IfOk, MatchResult, IsTrue, codes, refl, sym, ap, subst}
+use Rattle.std.proofs.Common.{◌≡◌, ◌↔◌, ◌≤◌, ℕ, arith, inl, inr, true, false, Bool, [], ◌∷◌, ◌++◌, None, Some, Option, Ok, Err, Result, IfOk, MatchResult, IsTrue, codes, refl, sym, ap, subst}
 use Rattle.std.proofs.lemmas.Bool.{cases_Bool}
 use Rattle.std.proofs.lemmas.List.Sorted.{IsPermutation-sym}
 use Rattle.sqlite.specs.Effect.{Database}

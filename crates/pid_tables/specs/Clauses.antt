@@ -48,6 +48,9 @@ module _ {S : Type 0} (store : Ghosts S) where
   abbrev pub Brings : Held S → Step → Held S → Type 0
   Brings old step new = steps.Brings (state store old) step (state store new)
 
+  abbrev pub HandsLatest : Held S → Step → Held S → Type 0
+  HandsLatest old step new = steps.HandsLatest (state store old) step (state store new)
+
   abbrev pub Refuses : Held S → TableFault → Held S → Type 0
   Refuses old fault new = steps.Refuses (state store old) fault (state store new)
 

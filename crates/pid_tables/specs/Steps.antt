@@ -9,12 +9,14 @@ use Rattle.pid_rows.specs.declared.version.Version.{Version}
 use Rattle.pid_rows.specs.declared.version.Version.TheVariants.{One, Two}
 use Rattle.pid_rows.specs.Faults.{IsNotLater}
 use Rattle.pid_rows.specs.LabelRows.{HasLabel, ShowsNumber}
-use Rattle.pid_rows.specs.Leaves.{OnlyReads}
+use Rattle.pid_moderation.specs.Views.{Views}
+use Rattle.pid_rows.specs.Leaves.{OnlyReads, RestsIn}
 use Rattle.pid_table_check.specs.Checking.{Explains, Finds}
 use Rattle.pid_table_check.specs.Conditions.{label_row}
 use Rattle.pid_table_check.specs.Shapes.{IsMadeFirst, ShowsRows}
+use Rattle.pid_tables.specs.Creation.{RestsBare}
 use Rattle.pid_tables.specs.declared.migration.Step.{Step}
-use Rattle.pid_tables.specs.declared.migration.Step.TheVariants.{Already, Moved}
+use Rattle.pid_tables.specs.declared.migration.Step.TheVariants.{Created, Moved, Already}
 
 -- the schema that the tables are brought to
 abbrev pub is_latest : Version → Bool
@@ -46,3 +48,10 @@ Brings old step new = ((step ≡ Already) × OnlyReads old new) ⊎ ((step ≡ M
 -- which is told as anything but a later schema.
 abbrev pub Refuses : State → TableFault → State → Type 0
 Refuses old fault new = (Explains old.now fault × OnlyReads old new) ⊎ (Finds old.now (Some One) × IsNotLater fault)
+
+-- What was brought has the labels of schema 2: tables that were left alone, whatever they are, show them; and those that were made where there was
+-- nothing, or moved where views were shown in schema 1, have that label in storage.
+abbrev pub HandsLatest : State → Step → State → Type 0
+HandsLatest old Created new = RestsBare old → HasLabel new.now.trees (codes "schema") 2
+HandsLatest old Moved new = (v : Views) → RestsIn One old v → HasLabel new.now.trees (codes "schema") 2
+HandsLatest old Already new = NamesLatest new.now

@@ -10,7 +10,7 @@ ghost use Rattle.pid_rows.specs.declared.version.Version.TheVariants.{One, Two};
 ghost use Rattle.pid_rows.specs.declared.version.Version.{Version as Schema};
 ghost use Rattle.pid_table_check.specs.Checking.{Explains};
 ghost use Rattle.pid_table_check.specs.Shapes.{HasNoTable, HasSomeTable};
-ghost use Rattle.pid_tables.specs.Clauses.{Brings, IsMet, IsOneStep, IsTakenBack, Refuses, RestsBare};
+ghost use Rattle.pid_tables.specs.Clauses.{Brings, HandsLatest, IsMet, IsOneStep, IsTakenBack, Refuses, RestsBare};
 ghost use Rattle.pid_tables.specs.Steps.{IsStanding, NamesLatest, is_latest};
 
 use crate::batch::commit;
@@ -168,6 +168,12 @@ pub fn migrate<S: Alter>(conn: &mut Connection<S>, alloc: Global) -> Result<Step
         → MatchResult result (λ step. Brings S.Store conn.old step conn.new) (λ fault. Refuses S.Store conn.old fault conn.new) }
     // Whatever else there is: `Already` is answered only where the labels show schema 2.
     ensures named { HasCleanDisk S.Store conn.new → IfOk result (λ step. step ≡ Step.Already → NamesLatest (seen S.Store conn.old)) }
+    // Labels of schema 2 are handed on, as far as it is known what stood there.
+    ensures latest { HasCleanDisk S.Store conn.new → IfOk result (λ step. IsTrue (is_open S.Store conn.new) → HandsLatest S.Store conn.old step conn.new) }
+    // Whatever views tables of the one schema or the other show, tables of schema 2 show them afterwards.
+    ensures kept { HasCleanDisk S.Store conn.new → (version : Schema) (v : Views) → RestsIn S.Store version conn.old v → OnOk result (RestsIn S.Store Two conn.new v) }
+    // Whatever stands there, also beside the tables: where nothing had to be done, nothing is.
+    ensures only_read { IfOk result (λ step. step ≡ Step.Already → OnlyReads S.Store conn.old conn.new) }
     // Whatever there is: a crash leaves what it left before, or all of the one step; and after a fault nothing of the step is seen.
     ensures once { IsOneStep S.Store conn.old conn.new }
     ensures back { OnErr result (IsTakenBack S.Store conn.old conn.new) }

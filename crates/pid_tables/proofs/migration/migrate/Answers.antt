@@ -1,6 +1,7 @@
 use Rattle.sqlite.specs.Held.{state}
+use Rattle.pid_moderation.specs.History.{new_history}
 use Rattle.pid_moderation.specs.Views.{views_of}
-use Rattle.pid_rows.specs.declared.version.Version.TheVariants.{One}
+use Rattle.pid_rows.specs.declared.version.Version.TheVariants.{One, Two}
 use Rattle.pid_rows.specs.Faults.{IsUntold, IsNotLater}
 use Rattle.pid_rows.specs.Leaves.{OnlyReads, RestsIn}
 use Rattle.pid_rows.proofs.CauseLemmas.{passed_on}
@@ -9,8 +10,10 @@ use Rattle.pid_rows.proofs.LeaveLemmas.{on_err}
 use Rattle.pid_table_check.proofs.Later.{untold_never}
 use Rattle.pid_tables.specs.Creation.{RestsBare}
 use Rattle.pid_tables.proofs.AtOnceLemmas.{reads_once, reads_back, reads_then_once, reads_then_back, still_bare}
-use Rattle.pid_tables.proofs.BringLemmas.{made_alone, none_there, still_met, met_reads, left_alone, or_untold, brought, named_brought}
+use Rattle.pid_tables.proofs.BringLemmas.{made_alone, none_there, still_met, met_reads, left_alone, or_untold, brought, named_brought, read_alone, one_found, ok_rests, moved_rests, left_rests, hands_latest}
+use Rattle.pid_tables.proofs.StandLemmas.{tables_some}
 use Rattle.pid_tables.proofs.MoveLemmas.{or_never}
+use Rattle.pid_tables.specs.declared.migration.Step.TheVariants.{Created, Moved}
 use Rattle.pid_tables.proofs.migration.migrate.Goals as goal
 
 -- ---- no table
@@ -110,3 +113,37 @@ returns-in_err-found-clause-back g c = on_err c.from_residual.result (reads_back
 
 pub returns-clause-back : goal.returns-clause-back
 returns-clause-back g c = reads_then_back (state g.S.Store c.args.conn.now) (state g.S.Store c.standing.new.conn) (state g.S.Store c.bring.new.conn) c.bring.result c.standing.ensures.rests c.bring.ensures.back
+
+-- ---- what stays, and what is handed on
+
+pub returns-clause-only_read : goal.returns-clause-only_read
+returns-clause-only_read g c =
+    read_alone g.S.Store (state g.S.Store c.args.conn.now) c.standing.new.conn c.bring.new.conn c.in_ok-found.found c.bring.result c.standing.ensures.rests c.bring.ensures.named c.bring.ensures.already
+
+pub returns-clause-kept : goal.returns-clause-kept
+returns-clause-kept g c clean One v rest =
+    let old = state g.S.Store c.args.conn.now in
+    let mid = state g.S.Store c.standing.new.conn in
+    let new = state g.S.Store c.bring.new.conn in
+    let first = c.bring.ensures.clean clean in
+    let good = c.in_ok-found.ensures in
+    let found = one_found old c.in_ok-found.found v (tables_some One _ (c.schemas_have_tables.ensures.tables One)) rest (good.shut first) (good.told first) (good.named first) in
+    moved_rests new v c.bring.result (ok_rests new v Moved (λ fault. IsUntold fault × RestsIn One new v) c.bring.result (c.bring.ensures.moved clean found v (rests_in_still old mid v c.standing.ensures.rests rest)))
+returns-clause-kept g c clean Two v rest =
+    let old = state g.S.Store c.args.conn.now in
+    left_rests old (state g.S.Store c.bring.new.conn) v c.bring.result rest
+    (left_alone g.S.Store old c.standing.new.conn c.bring.new.conn c.bring.result c.standing.ensures.rests (c.bring.ensures.already (c.in_ok-found.ensures.latest (c.bring.ensures.clean clean) v rest)))
+
+pub returns-clause-latest : goal.returns-clause-latest
+returns-clause-latest g c clean =
+    let old = state g.S.Store c.args.conn.now in
+    let mid = state g.S.Store c.standing.new.conn in
+    let new = state g.S.Store c.bring.new.conn in
+    let first = c.bring.ensures.clean clean in
+    let good = c.in_ok-found.ensures in
+    hands_latest g.S.Store old c.standing.new.conn c.bring.new.conn c.in_ok-found.found c.bring.result c.standing.ensures.same (good.named first) c.bring.ensures.named c.bring.ensures.already
+    (λ v rest.
+    let found = one_found old c.in_ok-found.found v (tables_some One _ (c.schemas_have_tables.ensures.tables One)) rest (good.shut first) (good.told first) (good.named first) in
+    ok_rests new v Moved (λ fault. IsUntold fault × RestsIn One new v) c.bring.result (c.bring.ensures.moved clean found v (rests_in_still old mid v c.standing.ensures.rests rest)))
+    (λ bare. ok_rests new (views_of new_history) Created (λ fault. IsUntold fault × RestsBare new) c.bring.result
+    (c.bring.ensures.created clean (none_there old c.schemas_have_tables.ensures.none bare (λ closed. absurd (good.shut first closed)) (λ none. good.bare first none)) (still_bare old mid c.standing.ensures.rests bare)))

@@ -1,4 +1,4 @@
-use Rattle.std.proofs.Common.{◌≡◌, codes, IfOk, IfErr, MatchResult, sym, ap, subst, ◌∙◌}
+use Rattle.std.proofs.Common.{◌≡◌, codes, IfOk, IfErr, MatchResult, sym, subst, ◌∙◌}
 use Rattle.sqlite.specs.Effect.{Database}
 use Rattle.sqlite.specs.Held.{state}
 use Rattle.pid_rows.specs.declared.version.Version.TheVariants.{One}
