@@ -1,5 +1,5 @@
 -- Lines that were answered, and one more behind them.
-use Rattle.std.proofs.Common.{◌≡◌, ℕ, ◌+◌, List, [], ◌∷◌, ◌++◌, Option, Ok, Err, refl, sym, ap, ◌∙◌, subst, inl, inr, append_assoc}
+use Rattle.std.proofs.Common.{◌≡◌, ℕ, List, [], ◌∷◌, ◌++◌, Option, Ok, Err, refl, sym, ap, ◌∙◌, subst, inl, inr, append_assoc}
 use Rattle.std.proofs.lemmas.List.{append-nil}
 use Rattle.std.specs.Io.KnownBytes.{Appends}
 use Rattle.std.specs.Prelude.{◌⊎◌}
@@ -14,13 +14,14 @@ use Rattle.pid_script.specs.Calling.{CallsSend, CallsSendEither}
 use Rattle.pid_script.specs.Replies.{reply_to, command_of, commands_in, history_after, replies}
 use Rattle.pid_script.specs.Saying.{Out, out, Says, LineEnds}
 use Rattle.pid_script.specs.ScriptLines.{Ask, ask_of}
-use Rattle.pid_script.specs.Standing.{Stands, Becomes, BecomesEither}
-use Rattle.pid_script.specs.StopLines.{IsBegun, IsCause, IsStopText}
+use Rattle.pid_script.specs.Standing.{Stands, Becomes, BecomesEither, IsUndone}
+use Rattle.pid_script.specs.StopLines.{IsBegun, StoppedBy, IsStopText}
 use Rattle.pid_script.specs.Progress.{Answered, Ended}
-use Rattle.pid_script.specs.Scripts.{NoneTooLong, NoneCalls, passage, Answers, IsToldFor, BreaksOff}
+use Rattle.pid_script.specs.Scripts.{NoneTooLong, NoneCalls, AllButLast, Fits, CallsNot, passage, Answers, IsToldFor, BreaksOff}
 use Rattle.pid_script.proofs.SayLemmas.{Appends-nil, Appends-then, front-then}
 use Rattle.pid_script.proofs.Calling.{send_then, send_either}
-use Rattle.pid_script.proofs.LineReplies.{commands_more, commands_one, commands_then, history_on, history_more, replies_on, replies_one, fits_more, calls_more, quiet_lines, quiet_before, history_waits, reply_more}
+use Rattle.pid_script.proofs.NoStopLines.{unstopped}
+use Rattle.pid_script.proofs.LineReplies.{commands_more, commands_one, commands_then, history_on, history_more, replies_on, replies_one, fits_more, calls_more, quiet_lines, quiet_before, all_but_last, but_one, history_waits, reply_more}
 
 becomes_then : {R : Type 0} (m : Ghosts R) (a b c : R) (h k l : History) → Becomes m a h b k → Becomes m b k c l → Becomes m a h c l
 becomes_then m a b c h k l p q = record { shows = λ s. q.shows (p.shows s); failed = λ f. q.failed (subst m.has_failed (sym (p.failed f)) f) ∙ p.failed f }
@@ -28,14 +29,17 @@ becomes_then m a b c h k l p q = record { shows = λ s. q.shows (p.shows s); fai
 either_then : {R : Type 0} (m : Ghosts R) (a b c : R) (h k l n : History) → Becomes m a h b k → BecomesEither m b k c l n → BecomesEither m a h c l n
 either_then m a b c h k l n p q = record { shows = λ s. q.shows (p.shows s); failed = λ f. q.failed (subst m.has_failed (sym (p.failed f)) f) ∙ p.failed f }
 
+undone_then : {R : Type 0} (m : Ghosts R) (a b c : R) (h k : History) (commands : List Asked) → Becomes m a h b k → IsUndone m b k c k commands → IsUndone m a h c k commands
+undone_then m a b c h k commands p q = record { shows = λ s. q.shows (p.shows s); failed = λ f. q.failed (subst m.has_failed (sym (p.failed f)) f) ∙ p.failed f }
+
 pub stands_then : {R : Type 0} (m : Ghosts R) (a b : R) (h k : History) → Becomes m a h b k → Stands m a h → Stands m b k
 stands_then m a b h k p (inl s) = inl (p.shows s)
 stands_then m a b h k p (inr f) = inr (subst m.has_failed (sym (p.failed f)) f)
 
-cause_then : {R : Type 0} (m : Ghosts R) (a b : R) (h k : History) → Becomes m a h b k → (ask : Ask) (e : Refusal) → IsCause m b k ask e → IsCause m a h ask e
-cause_then m a b h k p ask e c = record { live = λ s. c.live (p.shows s); failed = λ f. c.failed (subst m.has_failed (sym (p.failed f)) f); unasked = c.unasked }
+cause_then : {R : Type 0} (m : Ghosts R) (a b : R) (h k : History) → Becomes m a h b k → (ask : Ask) (e : Refusal) → StoppedBy m b k ask e → StoppedBy m a h ask e
+cause_then m a b h k p ask e c = record { stops = c.stops; live = λ s. c.live (p.shows s); failed = λ f. c.failed (subst m.has_failed (sym (p.failed f)) f); unasked = c.unasked }
 
-stop_then : {R : Type 0} (m : Ghosts R) (a b : R) (h k : History) (ask : Ask) (Begun : List ℕ → Type 0) (text : List ℕ) → Becomes m a h b k → IsStopText (IsCause m b k ask) Begun text → IsStopText (IsCause m a h ask) Begun text
+stop_then : {R : Type 0} (m : Ghosts R) (a b : R) (h k : History) (ask : Ask) (Begun : List ℕ → Type 0) (text : List ℕ) → Becomes m a h b k → IsStopText (StoppedBy m b k ask) Begun text → IsStopText (StoppedBy m a h ask) Begun text
 stop_then m a b h k ask Begun text p s = record { begun = s.begun; front = s.front; refusal = s.refusal; cause = cause_then m a b h k p ask s.refusal s.cause; is = s.is }
 
 -- what has gone out of the replies, and more behind
@@ -97,6 +101,8 @@ broken m h start first r old new all lines behind parts a front = record {
   behind = behind;
   parts = parts ∙ ap (λ (l : List (List ℕ)). l ++ behind) a.parts ∙ append_assoc a.before a.waiting behind;
   quiet = quiet_lines a.waiting a.asked;
+  fits = subst (AllButLast Fits) a.parts (all_but_last Fits lines a.fits);
+  lives = λ f. subst (AllButLast CallsNot) a.parts (all_but_last CallsNot lines (a.lives f));
   between = a.between;
   told = a.told;
   text = replies (history_after h a.before) a.waiting;
@@ -169,14 +175,18 @@ more_answered m x h start first r new old left lines line a e = by e.leaves.flus
 
 -- the text of the lines that wait, and of one more
 told_for : {R : Type 0} (m : Ghosts R) (first r : R) (h at k : History) (waiting : List (List ℕ)) (line text : List ℕ) → k ≡ history_after at waiting → Becomes m first h r k
-    → (text ≡ reply_to (ask_of line) k) ⊎ IsStopText (IsCause m r k (ask_of line)) (IsBegun (ask_of line) k) text
+    → (text ≡ reply_to (ask_of line) k) ⊎ IsStopText (StoppedBy m r k (ask_of line)) (IsBegun (ask_of line) k) text
     → IsToldFor m first h at (waiting ++ line ∷ []) (replies at waiting ++ text)
 told_for m first r h at k waiting line text same becomes (inl is) =
     inl (ap (λ (l : List ℕ). replies at waiting ++ l) (is ∙ ap (reply_to (ask_of line)) same ∙ sym (replies_one line (history_after at waiting))) ∙ sym (replies_on waiting (line ∷ []) at))
 told_for m first r h at k waiting line text same becomes (inr stop) =
-    inr (waiting, line, text, refl, subst (λ g. IsStopText (IsCause m first h (ask_of line)) (IsBegun (ask_of line) g) text) same (stop_then m first r h k (ask_of line) (IsBegun (ask_of line) k) text becomes stop), refl)
+    inr (waiting, line, text, refl, subst (λ g. IsStopText (StoppedBy m first h (ask_of line)) (IsBegun (ask_of line) g) text) same (stop_then m first r h k (ask_of line) (IsBegun (ask_of line) k) text becomes stop), refl)
 
--- what calls sent for the lines before one, and maybe for that one
+-- what calls sent for the lines before one, and none for that one
+none_sent : {R : Type 0} (m : Ghosts R) (first r new : R) (lines : List (List ℕ)) → CallsSend m.showing first (commands_in lines) r → CallsSend m.showing r [] new → CallsSend m.showing first (commands_in lines) new
+none_sent m first r new lines p q = subst (λ cs. CallsSend m.showing first cs new) (append-nil (commands_in lines)) (send_then m.showing first r new (commands_in lines) [] p q)
+
+-- or maybe for that one
 either_sent : {R : Type 0} (m : Ghosts R) (first r new : R) (lines : List (List ℕ)) (line : List ℕ) → CallsSend m.showing first (commands_in lines) r → CallsSendEither m.showing r [] (command_of (ask_of line)) new
     → CallsSendEither m.showing first (commands_in lines) (commands_in (lines ++ line ∷ [])) new
 either_sent m first r new lines line p q =
@@ -194,11 +204,12 @@ ends_at m Stopped h start first r new old left all lines line behind parts a e =
   parts = parts;
   fits = a.fits;
   lives = a.lives;
+  unstopped = unstopped h lines;
   text = e.tells.text;
   stop = stop_then m first r h (history_after h lines) (ask_of line) (IsBegun (ask_of line) (history_after h lines)) e.tells.text a.leaves e.tells.stop;
   told = all_told m h start first r old left.taken lines e.tells.text a e.tells.told;
-  leaves = subst (BecomesEither m first h new (history_after h lines)) (sym (history_more h lines line)) (either_then m first r new h (history_after h lines) (history_after h lines) (after_all (history_after h lines) (command_of (ask_of line))) a.leaves e.leaves);
-  calls = either_sent m first r new lines line a.calls e.sends;
+  leaves = undone_then m first r new h (history_after h lines) (command_of (ask_of line)) a.leaves e.leaves;
+  calls = none_sent m first r new lines a.calls e.sends;
 }
 ends_at m TooLong h start first r new old left all lines line behind parts a e = record {
   before = lines;
@@ -210,20 +221,22 @@ ends_at m TooLong h start first r new old left all lines line behind parts a e =
   lives = a.lives;
   told = subst (Appends start left.taken) (sym (reply_more h lines line)) (all_told m h start first r old left.taken lines (reply_to (ask_of line) (history_after h lines)) a e.tells);
   leaves = becomes_then m first r new h (history_after h lines) (history_after h lines) a.leaves e.leaves.becomes;
-  calls = subst (λ cs. CallsSend m.showing first cs new) (append-nil (commands_in lines)) (send_then m.showing first r new (commands_in lines) [] a.calls e.sends);
+  calls = none_sent m first r new lines a.calls e.sends;
 }
 ends_at m WriteFault h start first r new old left all lines line behind parts a e =
     let at = history_after h a.before in
     let same : history_after h lines ≡ history_after at a.waiting = ap (history_after h) a.parts ∙ history_on h a.before a.waiting in
     let stays : history_after h lines ≡ at = ap (history_after h) a.parts ∙ history_waits h a.before a.waiting a.asked in
-    let next : after_all (history_after h lines) (command_of (ask_of line)) ≡ history_after h (a.before ++ (a.waiting ++ line ∷ [])) =
-    sym (history_more h lines line) ∙ ap (history_after h) (ap (λ (l : List (List ℕ)). l ++ line ∷ []) a.parts ∙ append_assoc a.before a.waiting (line ∷ [])) in
+    let whole : lines ++ line ∷ [] ≡ a.before ++ (a.waiting ++ line ∷ []) = ap (λ (l : List (List ℕ)). l ++ line ∷ []) a.parts ∙ append_assoc a.before a.waiting (line ∷ []) in
+    let next : after_all (history_after h lines) (command_of (ask_of line)) ≡ history_after h (a.before ++ (a.waiting ++ line ∷ [])) = sym (history_more h lines line) ∙ ap (history_after h) whole in
     record {
       before = a.before;
       waiting = a.waiting ++ line ∷ [];
       behind = behind;
       parts = parts ∙ ap (λ (l : List (List ℕ)). l ++ line ∷ behind) a.parts ∙ append_assoc a.before a.waiting (line ∷ behind) ∙ ap (λ (l : List (List ℕ)). a.before ++ l) (sym (append_assoc a.waiting (line ∷ []) behind));
       quiet = quiet_before a.waiting line a.asked;
+      fits = subst (AllButLast Fits) whole (but_one Fits lines line a.fits);
+      lives = λ f. subst (AllButLast CallsNot) whole (but_one CallsNot lines line (a.lives f));
       between = a.between;
       told = a.told;
       text = replies at a.waiting ++ e.tells.text;
@@ -232,5 +245,5 @@ ends_at m WriteFault h start first r new old left all lines line behind parts a 
       leaves = subst (λ g. BecomesEither m first h new at g) next (subst (λ g. BecomesEither m first h new g (after_all (history_after h lines) (command_of (ask_of line)))) stays (either_then m first r new h (history_after h lines) (history_after h lines) (after_all (history_after h lines) (command_of (ask_of line))) a.leaves e.leaves));
       calls = subst (λ cs. CallsSendEither m.showing first cs (commands_in (a.before ++ (a.waiting ++ line ∷ []))) new)
           (ap commands_in a.parts ∙ commands_more a.before a.waiting ∙ ap (λ (l : List Asked). commands_in a.before ++ l) a.asked ∙ append-nil (commands_in a.before))
-          (subst (λ ls. CallsSendEither m.showing first (commands_in lines) (commands_in ls) new) (ap (λ (l : List (List ℕ)). l ++ line ∷ []) a.parts ∙ append_assoc a.before a.waiting (line ∷ [])) (either_sent m first r new lines line a.calls e.sends));
+          (subst (λ ls. CallsSendEither m.showing first (commands_in lines) (commands_in ls) new) whole (either_sent m first r new lines line a.calls e.sends));
     }

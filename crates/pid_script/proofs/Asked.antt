@@ -33,9 +33,9 @@ use Rattle.pid_script.specs.Saying.{Out, IsGiven, IsNothing, Tells, IsAnswer, re
 use Rattle.pid_script.specs.ScriptLines as lines
 use Rattle.pid_script.specs.ScriptLines.{Ask}
 use Rattle.pid_script.specs.Standing.{Stands, Becomes}
-use Rattle.pid_script.specs.StopLines.{is_stop, IsBegun, IsCause}
+use Rattle.pid_script.specs.StopLines.{is_stop, IsBegun, StoppedBy}
 use Rattle.pid_script.proofs.Calling.{send_still, send_none}
-use Rattle.pid_script.proofs.Causes.{recast, none_begun, faults_stop, no_memory, failed_goes, own_cause, is_memory, form_cause, fault_cause, names_cause}
+use Rattle.pid_script.proofs.Causes.{recast, none_begun, faults_stop, no_memory, failed_goes, no_cause, own_cause, is_memory, form_cause, fault_cause, names_cause}
 
 -- the registry is as before
 pub same : {R : Type 0} (m : Ghosts R) (r : R) (h : History) → Becomes m r h r h
@@ -60,17 +60,17 @@ question_leaves m (Err TooLong) ask h r new left given none short becomes called
 
 question_sends : {R : Type 0} (m : Ghosts R) (result : Result (Unit {0}) LineEnd) (ask : Ask) (r new : R) → command_of ask ≡ [] → CallsSend m.showing r [] new → Sends m result r new ask
 question_sends m (Ok x) ask r new none sends = subst (λ cs. CallsSend m.showing r cs new) (sym none) sends
-question_sends m (Err Stopped) ask r new none sends = inl sends
+question_sends m (Err Stopped) ask r new none sends = sends
 question_sends m (Err WriteFault) ask r new none sends = inl sends
 question_sends m (Err TooLong) ask r new none sends = sends
 
 -- a line was answered that holds no command
 pub asked : {R : Type 0} (m : Ghosts R) (result : Result (Unit {0}) LineEnd) (ask : Ask) (h : History) (r new : R) (old left : Out) (given : Option Refusal)
-    → command_of ask ≡ [] → (ask ≡ lines.TooLong → ⊥) → Becomes m r h new h → ((e : Refusal) → IsGiven given e → IsCause m r h ask e) → OnOk result (m.has_failed r → (is_call ask ≡ false) ⊎ (given ≡ Some Failed))
+    → command_of ask ≡ [] → (ask ≡ lines.TooLong → ⊥) → Becomes m r h new h → ((e : Refusal) → IsGiven given e → StoppedBy m r h ask e) → OnOk result (m.has_failed r → (is_call ask ≡ false) ⊎ (given ≡ Some Failed))
     → GoesOn result given → (result ≡ Err TooLong → ⊥) → CallsSend m.showing r [] new → Tells (IsGiven given) IsNothing result (reply_to ask h) old left
     → LineEnds m result ask h r old new left
 asked m result ask h r new old left given none short becomes cause called goes fits sends told = record {
-  tells = recast (IsGiven given) (IsCause m r h ask) IsNothing (IsBegun ask h) result (reply_to ask h) old left cause (none_begun ask h) told;
+  tells = recast (IsGiven given) (StoppedBy m r h ask) IsNothing (IsBegun ask h) result (reply_to ask h) old left cause (none_begun ask h) told;
   leaves = question_leaves m result ask h r new left given none short becomes called goes fits;
   sends = question_sends m result ask r new none sends;
 }
@@ -82,7 +82,7 @@ pub form_refused : {R X : Type 0} (m : Ghosts R) (result : Result (Unit {0}) Lin
     → ((reply : List ℕ) → IsAnswer reply (Err e) → Tells (IsGiven (Some e)) IsNothing result reply old left) → GoesOn result (Some e) → (result ≡ Err TooLong → ⊥)
     → LineEnds m result ask h r old r left
 form_refused m result ask said h r old left e told none reply command call short sends goes fits = record {
-  tells = recast (IsGiven (Some e)) (IsCause m r h ask) IsNothing (IsBegun ask h) result (reply_to ask h) old left (form_cause m said r h ask e told none) (none_begun ask h) (sends (reply_to ask h) (by (is_memory e)));
+  tells = recast (IsGiven (Some e)) (StoppedBy m r h ask) IsNothing (IsBegun ask h) result (reply_to ask h) old left (form_cause m said r h ask e told none) (none_begun ask h) (sends (reply_to ask h) (by (is_memory e)));
   leaves = leaves result goes fits;
   sends = sent result goes;
 }
@@ -101,7 +101,7 @@ form_refused m result ask said h r old left e told none reply command call short
 
     sent : (r' : Result (Unit {0}) LineEnd) → GoesOn r' (Some e) → Sends m r' r r ask
     sent (Ok x) g = subst (λ cs. CallsSend m.showing r cs r) (sym (command (told (no_memory e g)))) (send_still m.showing r)
-    sent (Err Stopped) g = inl (send_still m.showing r)
+    sent (Err Stopped) g = send_still m.showing r
     sent (Err WriteFault) g = inl (send_still m.showing r)
     sent (Err TooLong) g = send_still m.showing r
 
@@ -165,13 +165,13 @@ looked_for m result found form l h r new old left is told kept failed sends goes
 -- a look-up whose fields are bad
 pub bad_look_up : {R : Type 0} (m : Ghosts R) (result : Result (Unit {0}) LineEnd) (form : List ℕ) (h : History) (r : R) (old left : Out) → look_up_asked form ≡ None → ((given : Option Refusal) → Tells (IsGiven given) IsNothing result (refused_line BadText) old left) → IfErr result (λ e. e ≡ WriteFault) → LineEnds m result (lines.LooksUp form) h r old r left
 bad_look_up m result form h r old left is told end =
-    asked m result (lines.LooksUp form) h r r old left None refl (λ e. cc) (same m r h) (own_cause m r h (lines.LooksUp form)) (always result (m.has_failed r → (is_call (lines.LooksUp form) ≡ false) ⊎ (None ≡ Some Failed)) (λ _. inl (ap is_some is))) (none_goes result) (only_fault result end) (send_still m.showing r)
+    asked m result (lines.LooksUp form) h r r old left None refl (λ e. cc) (same m r h) (no_cause m r h (lines.LooksUp form)) (always result (m.has_failed r → (is_call (lines.LooksUp form) ≡ false) ⊎ (None ≡ Some Failed)) (λ _. inl (ap is_some is))) (none_goes result) (only_fault result end) (send_still m.showing r)
     (subst (λ o. Tells (IsGiven None) IsNothing result (looked_up o h) old left) (sym is) (told None))
 
 -- memory is short for a look-up
-pub no_look_up : {R : Type 0} (m : Ghosts R) (e : LineEnd) (form : List ℕ) (h : History) (r : R) (old left : Out) → ((given : Option Refusal) (reply : List ℕ) → Tells (IsGiven given) IsNothing (Err e) reply old left) → (e ≡ TooLong → ⊥) → LineEnds m (Err e) (lines.LooksUp form) h r old r left
+pub no_look_up : {R : Type 0} (m : Ghosts R) (e : LineEnd) (form : List ℕ) (h : History) (r : R) (old left : Out) → ((reply : List ℕ) → Tells (IsGiven (Some Memory)) IsNothing (Err e) reply old left) → (e ≡ TooLong → ⊥) → LineEnds m (Err e) (lines.LooksUp form) h r old r left
 no_look_up m e form h r old left told fits =
-    asked m (Err e) (lines.LooksUp form) h r r old left None refl (λ e. cc) (same m r h) (own_cause m r h (lines.LooksUp form)) tt (none_goes (Err e)) (λ is. fits (cc is)) (send_still m.showing r) (told None (reply_to (lines.LooksUp form) h))
+    asked m (Err e) (lines.LooksUp form) h r r old left (Some Memory) refl (λ e. cc) (same m r h) (own_cause m r h (lines.LooksUp form)) tt tt (λ is. fits (cc is)) (send_still m.showing r) (told (reply_to (lines.LooksUp form) h))
 
 -- the name of a path was asked
 name_facts : {R X : Type 0} (m : Ghosts R) (answer : Result X Refusal) (h : History) (r : R) (P : X → Type 0) → (m.showing.shows r h → MatchResult answer P IsFault) → (m.has_failed r → answer ≡ Err Failed) → Stands m r h → IfOk answer P × IfErr answer (λ e. is_stop e ≡ true)

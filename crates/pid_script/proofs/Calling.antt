@@ -1,7 +1,6 @@
 -- Calls in turn, and the commands that they send.
-use Rattle.std.proofs.Common.{◌≡◌, Bool, true, false, cond, List, [], ◌∷◌, ◌++◌, Result, Ok, Err, refl, sym, ap, subst, ◌∙◌, append_assoc, inl, inr}
+use Rattle.std.proofs.Common.{◌≡◌, Bool, true, false, cond, List, [], ◌∷◌, ◌++◌, Result, refl, sym, ap, subst, ◌∙◌, append_assoc, inl, inr}
 use Rattle.std.proofs.lemmas.List.{append-nil}
-use Rattle.std.specs.Prelude.{◌⊎◌}
 use Rattle.pid_moderation.specs.declared.command.Reply.{Reply}
 use Rattle.pid_moderation.specs.declared.refusal.Refusal.{Refusal}
 use Rattle.pid_moderation.specs.History.{Asked}
@@ -67,6 +66,10 @@ send_obeyed w a b c answer live outcome does = send_one w a b (obeyed c answer l
 send_by : {R : Type 0} (w : Showing R) (a b : R) (s : Sent) (outcome : Bool) (call : Call) → call.sent ≡ cond outcome (s ∷ []) [] → Does w a call b → CallsSendEither w a [] (s.command ∷ []) b
 send_by w a b s true call is does = inr (send_one w a b call (s.command ∷ []) does (ap commands_in (sym is)))
 send_by w a b s false call is does = inl (send_one w a b call [] does (ap commands_in (sym is)))
+
+-- a command that was answered by none
+pub send_refused : {R : Type 0} (w : Showing R) (a b : R) (c : Asked) (answer : Result Reply Refusal) (live : Bool) → is_outcome answer ≡ false → Does w a (obeyed c answer live) b → CallsSend w a [] b
+send_refused w a b c answer live none does = send_one w a b (obeyed c answer live) [] does (ap (λ o. commands_in (cond o (record { command = c; outcome = answer } ∷ []) [])) (sym none))
 
 -- or in any way
 pub send_asked : {R : Type 0} (w : Showing R) (a b : R) (c : Asked) (answer : Result Reply Refusal) (live : Bool) → Does w a (obeyed c answer live) b → CallsSendEither w a [] (c ∷ []) b

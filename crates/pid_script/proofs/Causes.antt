@@ -1,6 +1,6 @@
 -- Why an answer to a line stops a script.
 use mathlib.Core.Bool.{true≢false}
-use Rattle.std.proofs.Common.{◌≡◌, ◌≢◌, ℕ, ◌+◌, true, false, List, ◌++◌, Option, Some, None, Result, Ok, Err, refl, sym, ap, ◌∙◌, subst, inl, inr}
+use Rattle.std.proofs.Common.{◌≡◌, ◌≢◌, ℕ, true, false, List, ◌++◌, Option, Some, None, Result, Ok, Err, refl, sym, ap, ◌∙◌, subst, inl, inr}
 use Rattle.std.specs.Prelude.{◌⊎◌, IsErrAnd, codes}
 use Rattle.pid_lookup.specs.declared.answer.Answer.{Answer}
 use Rattle.pid_lookup.specs.declared.answering.LookupRefusal.{LookupRefusal}
@@ -22,13 +22,11 @@ use Rattle.pid_script.specs.declared.line_end.LineEnd.{LineEnd}
 use Rattle.pid_script.specs.declared.line_end.LineEnd.TheVariants.{Stopped, WriteFault, TooLong}
 use Rattle.pid_script.specs.declared.moderated.Moderated.{Ghosts}
 use Rattle.pid_script.specs.Asking.{command_asked, path_asked, other_fields, refused_or, path_checks}
-use Rattle.pid_script.specs.Exporting.{Exports}
-use Rattle.pid_script.specs.LookingUp.{LooksUp}
 use Rattle.pid_script.specs.Replies.{is_call}
 use Rattle.pid_script.specs.Saying.{Out, IsGiven, IsNothing, Tells, refusal_in, refusal_of_names, GoesOn}
 use Rattle.pid_script.specs.ScriptLines as lines
 use Rattle.pid_script.specs.ScriptLines.{Ask}
-use Rattle.pid_script.specs.StopLines.{is_stop, IsBegun, IsCause, IsStopText}
+use Rattle.pid_script.specs.StopLines.{is_stop, IsBegun, StoppedBy, IsStopText}
 use Rattle.pid_script.proofs.NoStops.{none_stops, no_form_stops}
 
 -- a text of a stop by weaker words
@@ -73,17 +71,20 @@ err_in (Ok x) e is = absurd cc
 err_in (Err f) e is = let same : f ≡ e = cc in ap Err same
 
 -- memory is short, whatever is asked
-pub short_cause : {R : Type 0} (m : Ghosts R) (r : R) (h : History) (ask : Ask) (e : Refusal) → e ≡ Memory → IsCause m r h ask e
-short_cause m r h ask e memory = record { live = λ s. inl memory; failed = λ f. inr memory; unasked = λ off. memory }
+pub short_cause : {R : Type 0} (m : Ghosts R) (r : R) (h : History) (ask : Ask) (e : Refusal) → e ≡ Memory → StoppedBy m r h ask e
+short_cause m r h ask e memory = record { stops = ap is_stop memory; live = λ s. inl memory; failed = λ f. inr memory; unasked = λ off. memory }
 
 pub failed_goes : (x : Unit {0}) (given : Option Refusal) → given ≡ Some Failed → GoesOn (Ok x) given → ⊥
 failed_goes x None is goes = absurd cc
 failed_goes x (Some e) is goes = let same : e ≡ Failed = cc in true≢false (sym (ap is_stop same) ∙ goes)
 
+-- nothing is refused
+pub no_cause : {R : Type 0} (m : Ghosts R) (r : R) (h : History) (ask : Ask) (e : Refusal) → IsGiven None e → StoppedBy m r h ask e
+no_cause m r h ask e given = let none : None ≡ Some e = given.0 in absurd cc
+
 -- want of memory alone
-pub own_cause : {R : Type 0} (m : Ghosts R) (r : R) (h : History) (ask : Ask) (e : Refusal) → IsGiven None e → IsCause m r h ask e
-own_cause m r h ask e (inl memory) = short_cause m r h ask e memory
-own_cause m r h ask e (inr given) = let none : None ≡ Some e = given.0 in absurd cc
+pub own_cause : {R : Type 0} (m : Ghosts R) (r : R) (h : History) (ask : Ask) (e : Refusal) → IsGiven (Some Memory) e → StoppedBy m r h ask e
+own_cause m r h ask e given = short_cause m r h ask e (let same : Memory ≡ e = cc given.0 in sym same)
 
 pub is_memory : (e : Refusal) → (e ≡ Memory) ⊎ (e ≢ Memory)
 is_memory BadPath = inr (λ e. cc)
@@ -105,14 +106,13 @@ is_memory Store = inr (λ e. cc)
 is_memory Failed = inr (λ e. cc)
 
 -- the refusal of a form, or want of memory for it
-pub form_cause : {R X : Type 0} (m : Ghosts R) (said : Result X Refusal) (r : R) (h : History) (ask : Ask) (e : Refusal) → (e ≢ Memory → said ≡ Err e) → ((g : Refusal) → said ≡ Err g → is_stop g ≡ false) → (f : Refusal) → IsGiven (Some e) f → IsCause m r h ask f
-form_cause m said r h ask e told none f (inl memory) = short_cause m r h ask f memory
-form_cause m said r h ask e told none f (inr given) = by (is_memory e)
+pub form_cause : {R X : Type 0} (m : Ghosts R) (said : Result X Refusal) (r : R) (h : History) (ask : Ask) (e : Refusal) → (e ≢ Memory → said ≡ Err e) → ((g : Refusal) → said ≡ Err g → is_stop g ≡ false) → (f : Refusal) → IsGiven (Some e) f → StoppedBy m r h ask f
+form_cause m said r h ask e told none f given = by (is_memory e)
   where
     equal : e ≡ f
     equal = cc given.0
 
-    by : (e ≡ Memory) ⊎ (e ≢ Memory) → IsCause m r h ask f
+    by : (e ≡ Memory) ⊎ (e ≢ Memory) → StoppedBy m r h ask f
     by (inl memory) = short_cause m r h ask f (sym equal ∙ memory)
     by (inr other) = absurd (true≢false (sym given.1 ∙ (ap is_stop (sym equal) ∙ none e (told other))))
 
@@ -133,9 +133,8 @@ unfolding path_asked
 path_no_stop form g is = refused_no_stop (first_failing (path_checks (fields_in form))) (path_of (text_at (codes "path") (fields_in form))) (none_stops (path_checks (fields_in form)) (refl, (refl, tt))) g is
 
 -- the causes of what a question is answered
-pub fault_cause : {R X : Type 0} (m : Ghosts R) (answer : Result X Refusal) (r : R) (h : History) (ask : Ask) → is_call ask ≡ true → (m.showing.shows r h → (e : Refusal) → answer ≡ Err e → IsFault e) → (m.has_failed r → answer ≡ Err Failed) → (e : Refusal) → IsGiven (refusal_in answer) e → IsCause m r h ask e
-fault_cause m answer r h ask called live failed e (inl memory) = short_cause m r h ask e memory
-fault_cause m answer r h ask called live failed e (inr given) = record { live = λ s. live s e (err_in answer e given.0); failed = λ f. inl (let same : Err e ≡ Err Failed = sym (err_in answer e given.0) ∙ failed f in cc); unasked = λ off. absurd (true≢false (sym called ∙ off)) }
+pub fault_cause : {R X : Type 0} (m : Ghosts R) (answer : Result X Refusal) (r : R) (h : History) (ask : Ask) → is_call ask ≡ true → (m.showing.shows r h → (e : Refusal) → answer ≡ Err e → IsFault e) → (m.has_failed r → answer ≡ Err Failed) → (e : Refusal) → IsGiven (refusal_in answer) e → StoppedBy m r h ask e
+fault_cause m answer r h ask called live failed e given = record { stops = given.1; live = λ s. live s e (err_in answer e given.0); failed = λ f. inl (let same : Err e ≡ Err Failed = sym (err_in answer e given.0) ∙ failed f in cc); unasked = λ off. absurd (true≢false (sym called ∙ off)) }
 
 names_in : (found : Result Answer (LookupRefusal Refusal)) (e : Refusal) → refusal_of_names found ≡ Some e → (e ≡ Memory) ⊎ (found ≡ Err (look_ups.Names e))
 names_in (Ok text) e is = absurd cc
@@ -143,10 +142,9 @@ names_in (Err look_ups.BadFlags) e is = absurd cc
 names_in (Err (look_ups.Names f)) e is = inr (let same : f ≡ e = cc in ap (λ g. Err (look_ups.Names g)) same)
 names_in (Err look_ups.Memory) e is = inl (let same : Memory ≡ e = cc in sym same)
 
-pub names_cause : {R : Type 0} (m : Ghosts R) (found : Result Answer (LookupRefusal Refusal)) (r : R) (h : History) (ask : Ask) → is_call ask ≡ true → (m.showing.shows r h → (e : Refusal) → found ≡ Err (look_ups.Names e) → IsFault e) → (m.has_failed r → found ≡ Err (look_ups.Names Failed)) → (e : Refusal) → IsGiven (refusal_of_names found) e → IsCause m r h ask e
-names_cause m found r h ask called live failed e (inl memory) = short_cause m r h ask e memory
-names_cause m found r h ask called live failed e (inr given) = by (names_in found e given.0)
+pub names_cause : {R : Type 0} (m : Ghosts R) (found : Result Answer (LookupRefusal Refusal)) (r : R) (h : History) (ask : Ask) → is_call ask ≡ true → (m.showing.shows r h → (e : Refusal) → found ≡ Err (look_ups.Names e) → IsFault e) → (m.has_failed r → found ≡ Err (look_ups.Names Failed)) → (e : Refusal) → IsGiven (refusal_of_names found) e → StoppedBy m r h ask e
+names_cause m found r h ask called live failed e given = by (names_in found e given.0)
   where
-    by : (e ≡ Memory) ⊎ (found ≡ Err (look_ups.Names e)) → IsCause m r h ask e
+    by : (e ≡ Memory) ⊎ (found ≡ Err (look_ups.Names e)) → StoppedBy m r h ask e
     by (inl memory) = short_cause m r h ask e memory
-    by (inr is) = record { live = λ s. live s e is; failed = λ f. inl (let same : Err (look_ups.Names e) ≡ Err (look_ups.Names Failed) = sym is ∙ failed f in cc); unasked = λ off. absurd (true≢false (sym called ∙ off)) }
+    by (inr is) = record { stops = given.1; live = λ s. live s e is; failed = λ f. inl (let same : Err (look_ups.Names e) ≡ Err (look_ups.Names Failed) = sym is ∙ failed f in cc); unasked = λ off. absurd (true≢false (sym called ∙ off)) }

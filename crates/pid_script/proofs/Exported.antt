@@ -1,6 +1,6 @@
 -- The answer to an export.
 use mathlib.Core.Bool.{true≢false}
-use Rattle.std.proofs.Common.{◌≡◌, ◌≢◌, ℕ, ◌+◌, true, false, List, [], ◌++◌, Option, Some, Result, Ok, Err, refl, sym, ap, ◌∙◌, subst, inl, inr}
+use Rattle.std.proofs.Common.{◌≡◌, ℕ, true, List, [], ◌++◌, Option, Some, Result, Ok, Err, refl, sym, ap, ◌∙◌, subst, inl, inr}
 use Rattle.std.specs.Io.KnownBytes.{Appends}
 use Rattle.std.specs.Prelude.{◌⊎◌, IsErrOf}
 use Rattle.pid_ident.specs.Sending.{SendsFront}
@@ -23,11 +23,11 @@ use Rattle.pid_script.specs.Exporting.{Exports, TakesWholeFront}
 use Rattle.pid_script.specs.Saying.{out, IsGiven, IsNothing, Tells, IsAnswer, GoesOn, LineEnds}
 use Rattle.pid_script.specs.ScriptLines as lines
 use Rattle.pid_script.specs.Standing.{Stands}
-use Rattle.pid_script.specs.StopLines.{is_stop, IsCause, IsStopText}
+use Rattle.pid_script.specs.StopLines.{is_stop, StoppedBy, IsStopText}
 use Rattle.pid_script.specs.WholeFronts.{IsWholeFront}
 use Rattle.pid_script.proofs.Calling.{send_still, send_none}
 use Rattle.pid_script.proofs.SayLemmas.{Appends-nil, Appends-then, front-then, front-before, out_then}
-use Rattle.pid_script.proofs.Causes.{faults_stop, short_cause}
+use Rattle.pid_script.proofs.Causes.{faults_stop}
 
 -- what was held did not go out before an export
 pub export_unheld : {R : Type 0} (m : Ghosts R) (e : LineEnd) (h : History) (r : R) (a b : Option (List ℕ)) (was left : List ℕ) → e ≡ WriteFault → SendsFront a b was → LineEnds m (Err e) lines.Exports h r (out a was) r (out b left)
@@ -91,7 +91,7 @@ record BegunExport (a b : Option (List ℕ)) (text : List ℕ) : Type 0 where
   pub told : Appends a b front
 
 behind_begun : {R : Type 0} (m : Ghosts R) (result : Result (Unit {0}) LineEnd) (e : Refusal) (h : History) (r new : R) (a b c d : Option (List ℕ)) (was now left : List ℕ)
-    → Appends a b was → now ≡ [] → BegunExport b c (print (tree_of h)) → ((f : Refusal) → IsGiven (Some e) f → IsCause m r h lines.Exports f) → is_stop e ≡ true → (m.showing.shows r h → m.showing.shows new h) → (m.has_failed r → new ≡ r)
+    → Appends a b was → now ≡ [] → BegunExport b c (print (tree_of h)) → ((f : Refusal) → IsGiven (Some e) f → StoppedBy m r h lines.Exports f) → is_stop e ≡ true → (m.showing.shows r h → m.showing.shows new h) → (m.has_failed r → new ≡ r)
     → Tells (IsGiven (Some e)) IsNothing result (refused_line e) (out c now) (out d left) → GoesOn result (Some e) → (result ≡ Err TooLong → ⊥) → Does m.showing r nothing_sent new
     → LineEnds m result lines.Exports h r (out a was) new (out d left)
 behind_begun m (Ok x) e h r new a b c d was now left went none begun cause stop kept failed t goes fits does = absurd (true≢false (sym stop ∙ goes))
@@ -108,7 +108,7 @@ behind_begun m (Err Stopped) e h r new a b c d was now left went none begun caus
     told = Appends-then a b d was (begun.front ++ t.text) went (Appends-then b c d begun.front t.text begun.told (subst (λ (l : List ℕ). Appends c d (l ++ t.text)) none t.told));
   };
   leaves = record { shows = λ s. inl (kept s); failed = failed };
-  sends = inl (send_none m.showing r new does);
+  sends = send_none m.showing r new does;
 }
 behind_begun m (Err WriteFault) e h r new a b c d was now left went none begun cause stop kept failed t goes fits does = record {
   tells = record {
@@ -120,8 +120,8 @@ behind_begun m (Err WriteFault) e h r new a b c d was now left went none begun c
   sends = inl (send_none m.showing r new does);
 }
   where
-    by : (t.text ≡ refused_line e) ⊎ IsStopText (IsGiven (Some e)) IsNothing t.text → IsStopText (IsCause m r h lines.Exports) (λ b. IsWholeFront (print (tree_of h)) b) (begun.front ++ t.text)
-    by (inl is) = record { begun = begun.front; front = begun.whole; refusal = e; cause = cause e (inr (refl, stop)); is = ap (λ (l : List ℕ). begun.front ++ l) is }
+    by : (t.text ≡ refused_line e) ⊎ IsStopText (IsGiven (Some e)) IsNothing t.text → IsStopText (StoppedBy m r h lines.Exports) (λ b. IsWholeFront (print (tree_of h)) b) (begun.front ++ t.text)
+    by (inl is) = record { begun = begun.front; front = begun.whole; refusal = e; cause = cause e (refl, stop); is = ap (λ (l : List ℕ). begun.front ++ l) is }
     by (inr s) = record {
       begun = begun.front;
       front = begun.whole;
@@ -146,6 +146,5 @@ export_refused m result e h r new a b c d was now left went none told failed kep
     stops (inl s) = faults_stop e (told s).0
     stops (inr f) = ap is_stop (failed f).0
 
-    cause : (f : Refusal) → IsGiven (Some e) f → IsCause m r h lines.Exports f
-    cause f (inl memory) = short_cause m r h lines.Exports f memory
-    cause f (inr given) = record { live = λ s. (let same : e ≡ f = cc given.0 in subst IsFault same (told s).0); failed = λ g. inl (let same : e ≡ f = cc given.0 in sym same ∙ (failed g).0); unasked = λ off. absurd (true≢false off) }
+    cause : (f : Refusal) → IsGiven (Some e) f → StoppedBy m r h lines.Exports f
+    cause f given = record { stops = given.1; live = λ s. (let same : e ≡ f = cc given.0 in subst IsFault same (told s).0); failed = λ g. inl (let same : e ≡ f = cc given.0 in sym same ∙ (failed g).0); unasked = λ off. absurd (true≢false off) }

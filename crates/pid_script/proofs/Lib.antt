@@ -1,3 +1,4 @@
+mod AnswerLines
 mod Answered
 mod Asked
 mod Calling
@@ -7,6 +8,7 @@ mod Exported
 mod KeyFields
 mod LineFronts
 mod LineReplies
+mod NoStopLines
 mod NoStops
 mod Obeyed
 mod OtherLines

@@ -1,5 +1,5 @@
 -- Where a line begins and ends in a text.
-use Rattle.std.proofs.Common.{◌≡◌, ℕ, ◌+◌, true, false, cond, eqb, List, [], ◌∷◌, ◌++◌, refl, sym, ap, ◌∙◌, append_assoc, map}
+use Rattle.std.proofs.Common.{◌≡◌, ℕ, true, false, cond, eqb, List, [], ◌∷◌, ◌++◌, refl, sym, ap, ◌∙◌, append_assoc, map}
 use Rattle.std.proofs.lemmas.List.{append-nil}
 use Rattle.pid_reader.specs.Lines.{drop_cr, pieces_of, onto_first, lines_of}
 use Rattle.pid_reader.specs.WholeLines.{ended_pieces, open_part, whole_lines, onto_ended}

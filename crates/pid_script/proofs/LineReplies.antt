@@ -1,14 +1,13 @@
 -- The commands of lines, their replies and the history behind them.
-use Rattle.std.proofs.Common.{◌≡◌, ℕ, ◌+◌, false, List, [], ◌∷◌, ◌++◌, refl, sym, ap, ◌∙◌, append_assoc}
+use Rattle.std.proofs.Common.{◌≡◌, ℕ, false, List, [], ◌∷◌, ◌++◌, refl, sym, ap, ◌∙◌, append_assoc}
 use Rattle.std.proofs.lemmas.List.{append-nil}
+use Rattle.std.specs.List.{AllByRecursion}
 use Rattle.pid_moderation.specs.History.{History, Asked}
 use Rattle.pid_moderation.specs.Judgement.{after, after_all}
-use Rattle.pid_import.specs.Files.{asks}
-use Rattle.pid_script.specs.declared.line_end.LineEnd.TheVariants.{TooLong}
 use Rattle.pid_script.specs.Replies.{reply_to, command_of, is_call, commands_in, history_after, replies}
 use Rattle.pid_script.specs.ScriptLines.{ask_of}
 use Rattle.pid_script.specs.ScriptLines as asks
-use Rattle.pid_script.specs.Scripts.{NoneTooLong, NoneCalls, QuietButLast}
+use Rattle.pid_script.specs.Scripts.{NoneTooLong, NoneCalls, AllButLast, CommandsNot}
 
 after_more : (xs : List Asked) (h : History) (ys : List Asked) → after_all h (xs ++ ys) ≡ after_all (after_all h xs) ys
 after_more [] h ys = refl
@@ -56,14 +55,26 @@ none_behind : (xs ys : List Asked) → xs ++ ys ≡ [] → ys ≡ []
 none_behind [] ys is = is
 none_behind (x ∷ xs) ys is = absurd cc
 
+-- what holds of all lines holds of all but the last
+pub all_but_last : (P : List ℕ → Type 0) (lines : List (List ℕ)) → AllByRecursion P lines → AllButLast P lines
+all_but_last P [] all = tt
+all_but_last P (x ∷ []) all = tt
+all_but_last P (x ∷ y ∷ lines) all = (all.0, all_but_last P (y ∷ lines) all.1)
+
+-- and so it does behind them
+pub but_one : (P : List ℕ → Type 0) (lines : List (List ℕ)) (line : List ℕ) → AllByRecursion P lines → AllButLast P (lines ++ line ∷ [])
+but_one P [] line all = tt
+but_one P (x ∷ []) line all = (all.0, tt)
+but_one P (x ∷ y ∷ lines) line all = (all.0, but_one P (y ∷ lines) line all.1)
+
 -- lines without a command
-pub quiet_lines : (lines : List (List ℕ)) → commands_in lines ≡ [] → QuietButLast lines
+pub quiet_lines : (lines : List (List ℕ)) → commands_in lines ≡ [] → AllButLast CommandsNot lines
 quiet_lines [] none = tt
 quiet_lines (x ∷ []) none = tt
 quiet_lines (x ∷ y ∷ lines) none = (none_first (command_of (ask_of x)) (commands_in (y ∷ lines)) none, quiet_lines (y ∷ lines) (none_behind (command_of (ask_of x)) (commands_in (y ∷ lines)) none))
 
 -- and one line more
-pub quiet_before : (lines : List (List ℕ)) (line : List ℕ) → commands_in lines ≡ [] → QuietButLast (lines ++ line ∷ [])
+pub quiet_before : (lines : List (List ℕ)) (line : List ℕ) → commands_in lines ≡ [] → AllButLast CommandsNot (lines ++ line ∷ [])
 quiet_before [] line none = tt
 quiet_before (x ∷ []) line none = (none_first (command_of (ask_of x)) [] none, tt)
 quiet_before (x ∷ y ∷ lines) line none = (none_first (command_of (ask_of x)) (commands_in (y ∷ lines)) none, quiet_before (y ∷ lines) line (none_behind (command_of (ask_of x)) (commands_in (y ∷ lines)) none))

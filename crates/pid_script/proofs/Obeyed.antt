@@ -1,6 +1,6 @@
 -- The answer to a command.
 use mathlib.Core.Bool.{true≢false}
-use Rattle.std.proofs.Common.{◌≡◌, ◌≢◌, Bool, ℕ, true, false, List, [], Result, Ok, Err, refl, sym, ap, ◌∙◌, subst, inl, inr}
+use Rattle.std.proofs.Common.{◌≡◌, Bool, ℕ, true, false, List, [], Result, Ok, Err, refl, sym, ap, ◌∙◌, subst, inl, inr}
 use Rattle.std.specs.Prelude.{◌⊎◌, is_ok, OnOk}
 use Rattle.pid_moderation.specs.declared.command.Command.{Command}
 use Rattle.pid_moderation.specs.declared.command.Reply.{Reply}
@@ -26,18 +26,17 @@ use Rattle.pid_script.specs.Replies.{those_sent, outcome_of, is_call}
 use Rattle.pid_script.specs.Saying.{Out, IsGiven, IsNothing, Tells, IsAnswer, refusal_in, GoesOn, Leaves, Sends, LineEnds}
 use Rattle.pid_script.specs.ScriptLines as lines
 use Rattle.pid_script.specs.ScriptLines.{Ask}
-use Rattle.pid_script.specs.Standing.{Stands}
-use Rattle.pid_script.specs.StopLines.{is_stop, IsBegun, IsCause}
-use Rattle.pid_script.proofs.Calling.{send_obeyed, send_asked}
+use Rattle.pid_script.specs.Standing.{Stands, FailsAt}
+use Rattle.pid_script.specs.StopLines.{is_stop, IsBegun, StoppedBy}
+use Rattle.pid_script.proofs.Calling.{send_obeyed, send_asked, send_refused}
 use Rattle.pid_script.proofs.NoStops.{judged_no_stop}
-use Rattle.pid_script.proofs.Causes.{recast, faults_stop, fault_in, err_in, short_cause, failed_goes}
+use Rattle.pid_script.proofs.Causes.{recast, faults_stop, fault_in, err_in, failed_goes}
 
 -- why an answer stops
 obey_cause : {R : Type 0} (m : Ghosts R) (answer : Result Reply Refusal) (c : Command) (ask : Ask) (h : History) (r new : R) → is_call ask ≡ true
     → (m.showing.shows r h → CommandLeaves m.showing answer new h (asks c)) → (m.has_failed r → answer ≡ Err Failed)
-    → (e : Refusal) → IsGiven (refusal_in answer) e → IsCause m r h ask e
-obey_cause m answer c ask h r new called obeys failed e (inl memory) = short_cause m r h ask e memory
-obey_cause m answer c ask h r new called obeys failed e (inr given) = record { live = λ s. by (obeys s); failed = λ f. inl (let same : Err e ≡ Err Failed = sym (err_in answer e given.0) ∙ failed f in cc); unasked = λ off. absurd (true≢false (sym called ∙ off)) }
+    → (e : Refusal) → IsGiven (refusal_in answer) e → StoppedBy m r h ask e
+obey_cause m answer c ask h r new called obeys failed e given = record { stops = given.1; live = λ s. by (obeys s); failed = λ f. inl (let same : Err e ≡ Err Failed = sym (err_in answer e given.0) ∙ failed f in cc); unasked = λ off. absurd (true≢false (sym called ∙ off)) }
   where
     by : CommandLeaves m.showing answer new h (asks c) → IsFault e
     by (inl judged) = absurd (true≢false (sym given.1 ∙ judged_no_stop (views_of h) (asks c) e (sym judged.0 ∙ err_in answer e given.0)))
@@ -63,6 +62,43 @@ obey_either : {R : Type 0} (m : Ghosts R) (answer : Result Reply Refusal) (c : C
 obey_either m answer c h new (inl judged) = inr (inl judged.1)
 obey_either m answer c h new (inr (f, inl same)) = inl same
 obey_either m answer c h new (inr (f, inr between)) = inr (inr between)
+
+-- a stop leaves the command undone
+obey_undone : {R : Type 0} (m : Ghosts R) (answer : Result Reply Refusal) (c : Command) (h : History) (new : R) (e : Refusal) → answer ≡ Err e → is_stop e ≡ true → CommandLeaves m.showing answer new h (asks c) → m.showing.shows new h ⊎ m.showing.fails_between new h (after h (asks c))
+obey_undone m answer c h new e is stop (inl judged) = absurd (true≢false (sym stop ∙ judged_no_stop (views_of h) (asks c) e (sym judged.0 ∙ is)))
+obey_undone m answer c h new e is stop (inr (f, inl same)) = inl same
+obey_undone m answer c h new e is stop (inr (f, inr between)) = inr between
+
+-- what was told of a stop
+StopsBy : Result Reply Refusal → Type 0
+StopsBy answer = (e : Refusal) × (answer ≡ Err e) × (is_stop e ≡ true)
+
+stops_by : (result : Result (Unit {0}) LineEnd) (answer : Result Reply Refusal) (reply : List ℕ) (old left : Out) → Tells (IsGiven (refusal_in answer)) IsNothing result reply old left → result ≡ Err Stopped → StopsBy answer
+unfolding StopsBy
+stops_by (Ok x) answer reply old left t is = absurd cc
+stops_by (Err Stopped) answer reply old left t is = (t.stop.refusal, err_in answer t.stop.refusal t.stop.cause.0, t.stop.cause.1)
+stops_by (Err WriteFault) answer reply old left t is = absurd cc
+stops_by (Err TooLong) answer reply old left t is = absurd cc
+
+-- a stop judges nothing
+stop_unjudged : (e : Refusal) → is_stop e ≡ true → is_outcome (Err e) ≡ false
+stop_unjudged BadPath stop = absurd cc
+stop_unjudged BadName stop = absurd cc
+stop_unjudged BadText stop = absurd cc
+stop_unjudged NoAccount stop = absurd cc
+stop_unjudged RankTooLow stop = absurd cc
+stop_unjudged NoSubmission stop = absurd cc
+stop_unjudged NotPending stop = absurd cc
+stop_unjudged NotAuthor stop = absurd cc
+stop_unjudged OwnDecision stop = absurd cc
+stop_unjudged ParentMissing stop = absurd cc
+stop_unjudged HasChildren stop = absurd cc
+stop_unjudged NothingToDo stop = absurd cc
+stop_unjudged (FileFault fault) stop = absurd cc
+stop_unjudged Full stop = absurd cc
+stop_unjudged Memory stop = refl
+stop_unjudged Store stop = refl
+stop_unjudged Failed stop = refl
 
 -- what goes on was judged
 goes_judged : (e : Refusal) → is_stop e ≡ false → is_outcome (Err e) ≡ true
@@ -90,32 +126,34 @@ goes_outcome x (Err e) goes = goes_judged e goes
 
 obey_sends : {R : Type 0} (m : Ghosts R) (result : Result (Unit {0}) LineEnd) (answer : Result Reply Refusal) (c : Command) (verb : Verb) (account form : List ℕ) (r new : R)
     → command_asked verb account form ≡ Ok c → (live : Bool) × Does m.showing r (lives.obeyed (asks c) answer live) new
-    → GoesOn result (refusal_in answer) → (result ≡ Err TooLong → ⊥) → Sends m result r new (lines.Commands verb account form)
-obey_sends m (Ok x) answer c verb account form r new is call goes fits = subst (λ a. CallsSend m.showing r (those_sent a) new) (sym is) (send_obeyed m.showing r new (asks c) answer call.0 (goes_outcome x answer goes) call.1)
-obey_sends m (Err Stopped) answer c verb account form r new is call goes fits = subst (λ a. CallsSendEither m.showing r [] (those_sent a) new) (sym is) (send_asked m.showing r new (asks c) answer call.0 call.1)
-obey_sends m (Err WriteFault) answer c verb account form r new is call goes fits = subst (λ a. CallsSendEither m.showing r [] (those_sent a) new) (sym is) (send_asked m.showing r new (asks c) answer call.0 call.1)
-obey_sends m (Err TooLong) answer c verb account form r new is call goes fits = absurd (fits refl)
+    → GoesOn result (refusal_in answer) → (result ≡ Err Stopped → StopsBy answer) → (result ≡ Err TooLong → ⊥) → Sends m result r new (lines.Commands verb account form)
+unfolding StopsBy
+obey_sends m (Ok x) answer c verb account form r new is call goes stop fits = subst (λ a. CallsSend m.showing r (those_sent a) new) (sym is) (send_obeyed m.showing r new (asks c) answer call.0 (goes_outcome x answer goes) call.1)
+obey_sends m (Err Stopped) answer c verb account form r new is call goes stop fits = let s = stop refl in send_refused m.showing r new (asks c) answer call.0 (ap is_outcome s.1 ∙ stop_unjudged s.0 s.2) call.1
+obey_sends m (Err WriteFault) answer c verb account form r new is call goes stop fits = subst (λ a. CallsSendEither m.showing r [] (those_sent a) new) (sym is) (send_asked m.showing r new (asks c) answer call.0 call.1)
+obey_sends m (Err TooLong) answer c verb account form r new is call goes stop fits = absurd (fits refl)
 
 obey_leaves : {R : Type 0} (m : Ghosts R) (result : Result (Unit {0}) LineEnd) (answer : Result Reply Refusal) (c : Command) (asked : Result Command Refusal) (verb : Verb) (account form : List ℕ) (h : History) (r new : R) (left : Out)
     → command_asked verb account form ≡ Ok c
     → (m.showing.shows r h → CommandLeaves m.showing answer new h (asks c)) → (m.has_failed r → (answer ≡ Err Failed) × (new ≡ r))
-    → GoesOn result (refusal_in answer) → OnOk result (left.held ≡ []) → (result ≡ Err TooLong → ⊥)
+    → GoesOn result (refusal_in answer) → OnOk result (left.held ≡ []) → (result ≡ Err Stopped → StopsBy answer) → (result ≡ Err TooLong → ⊥)
     → Leaves m result r h new (lines.Commands verb account form) left
-obey_leaves m (Ok x) answer c asked verb account form h r new left is obeys failed goes empty fits = record {
+unfolding StopsBy
+obey_leaves m (Ok x) answer c asked verb account form h r new left is obeys failed goes empty stop fits = record {
   becomes = record { shows = λ s. subst (λ a. m.showing.shows new (after_all h (those_sent a))) (sym is) (obey_shows m x answer c h new goes (obeys s)); failed = λ f. (failed f).1 };
   lives = λ f. absurd (failed_goes x (refusal_in answer) (ap refusal_in (failed f).0) goes);
   flushed = inr empty;
   fits = λ e. cc;
 }
-obey_leaves m (Err Stopped) answer c asked verb account form h r new left is obeys failed goes empty fits = record {
+obey_leaves m (Err Stopped) answer c asked verb account form h r new left is obeys failed goes empty stop fits = record {
+  shows = λ s. let by = stop refl in subst (λ a. m.showing.shows new h ⊎ FailsAt m new h (those_sent a)) (sym is) (obey_undone m answer c h new by.0 by.1 by.2 (obeys s));
+  failed = λ f. (failed f).1;
+}
+obey_leaves m (Err WriteFault) answer c asked verb account form h r new left is obeys failed goes empty stop fits = record {
   shows = λ s. subst (λ a. m.showing.shows new h ⊎ (m.showing.shows new (after_all h (those_sent a)) ⊎ m.showing.fails_between new h (after_all h (those_sent a)))) (sym is) (obey_either m answer c h new (obeys s));
   failed = λ f. (failed f).1;
 }
-obey_leaves m (Err WriteFault) answer c asked verb account form h r new left is obeys failed goes empty fits = record {
-  shows = λ s. subst (λ a. m.showing.shows new h ⊎ (m.showing.shows new (after_all h (those_sent a)) ⊎ m.showing.fails_between new h (after_all h (those_sent a)))) (sym is) (obey_either m answer c h new (obeys s));
-  failed = λ f. (failed f).1;
-}
-obey_leaves m (Err TooLong) answer c asked verb account form h r new left is obeys failed goes empty fits = absurd (fits refl)
+obey_leaves m (Err TooLong) answer c asked verb account form h r new left is obeys failed goes empty stop fits = absurd (fits refl)
 
 -- a command was obeyed
 pub obeyed : {R : Type 0} (m : Ghosts R) (result : Result (Unit {0}) LineEnd) (answer : Result Reply Refusal) (c : Command) (verb : Verb) (account form : List ℕ) (h : History) (r new : R) (old left : Out)
@@ -126,9 +164,15 @@ pub obeyed : {R : Type 0} (m : Ghosts R) (result : Result (Unit {0}) LineEnd) (a
     → (live : Bool) × Does m.showing r (lives.obeyed (asks c) answer live) new
     → Stands m r h → LineEnds m result (lines.Commands verb account form) h r old new left
 obeyed m result answer c verb account form h r new old left is obeys failed told goes empty fits call stands = record {
-  tells = recast (IsGiven (refusal_in answer)) (IsCause m r h (lines.Commands verb account form)) IsNothing (IsBegun (lines.Commands verb account form) h) result (outcome_of (command_asked verb account form) h) old left
+  tells = recast (IsGiven (refusal_in answer)) (StoppedBy m r h (lines.Commands verb account form)) IsNothing (IsBegun (lines.Commands verb account form) h) result (outcome_of (command_asked verb account form) h) old left
       (obey_cause m answer c (lines.Commands verb account form) h r new (ap is_ok is) obeys (λ f. (failed f).0)) (λ b none. none)
-      (subst (λ a. Tells (IsGiven (refusal_in answer)) IsNothing result (outcome_of a h) old left) (sym is) (told _ (obey_answer m answer c h r new obeys (λ f. (failed f).0) stands)));
-  leaves = obey_leaves m result answer c (command_asked verb account form) verb account form h r new left is obeys failed goes empty fits;
-  sends = obey_sends m result answer c verb account form r new is call goes fits;
+      (subst (λ a. Tells (IsGiven (refusal_in answer)) IsNothing result (outcome_of a h) old left) (sym is) tells);
+  leaves = obey_leaves m result answer c (command_asked verb account form) verb account form h r new left is obeys failed goes empty stop fits;
+  sends = obey_sends m result answer c verb account form r new is call goes stop fits;
 }
+  where
+    tells : Tells (IsGiven (refusal_in answer)) IsNothing result (reply_text (judgement.answer (judge (views_of h) (asks c)))) old left
+    tells = told _ (obey_answer m answer c h r new obeys (λ f. (failed f).0) stands)
+
+    stop : result ≡ Err Stopped → StopsBy answer
+    stop = stops_by result answer (reply_text (judgement.answer (judge (views_of h) (asks c)))) old left tells

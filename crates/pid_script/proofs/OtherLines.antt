@@ -15,11 +15,11 @@ use Rattle.pid_script.specs.Replies.{reply_to}
 use Rattle.pid_script.specs.Saying.{Out, out, IsGiven, IsNothing, Tells, IsUnfit, Unfit, LineEnds}
 use Rattle.pid_script.specs.ScriptLines as lines
 use Rattle.pid_script.specs.ScriptLines.{Ask, LONGEST, ask_of}
-use Rattle.pid_script.specs.StopLines.{IsBegun, IsCause, IsStopText}
+use Rattle.pid_script.specs.StopLines.{IsBegun, StoppedBy, IsStopText}
 use Rattle.pid_script.proofs.Calling.{send_still}
 use Rattle.pid_script.proofs.SayLemmas.{Appends-nil}
 use Rattle.pid_script.proofs.ScriptAsks.{too_long}
-use Rattle.pid_script.proofs.Causes.{recast, none_begun, own_cause}
+use Rattle.pid_script.proofs.Causes.{recast, none_begun, no_cause, own_cause}
 use Rattle.pid_script.proofs.Asked.{same, asked, always, none_goes, only_fault}
 
 -- a line that holds no question
@@ -32,13 +32,13 @@ idle m h r taken held = record {
 
 -- a line that is no line of a script
 pub unclear : {R : Type 0} (m : Ghosts R) (result : Result (Unit {0}) LineEnd) (h : History) (r : R) (old left : Out) → ((given : Option Refusal) → Tells (IsGiven given) IsNothing result (refused_line BadText) old left) → IfErr result (λ e. e ≡ WriteFault) → LineEnds m result lines.Unclear h r old r left
-unclear m result h r old left told end = asked m result lines.Unclear h r r old left None refl (λ e. cc) (same m r h) (own_cause m r h lines.Unclear) (always result (m.has_failed r → (false ≡ false) ⊎ (None ≡ Some Failed)) (λ _. inl refl)) (none_goes result) (only_fault result end) (send_still m.showing r) (told None)
+unclear m result h r old left told end = asked m result lines.Unclear h r r old left None refl (λ e. cc) (same m r h) (no_cause m r h lines.Unclear) (always result (m.has_failed r → (false ≡ false) ⊎ (None ≡ Some Failed)) (λ _. inl refl)) (none_goes result) (only_fault result end) (send_still m.showing r) (told None)
 
 -- a line that is too long
 pub long : {R : Type 0} (m : Ghosts R) (e : LineEnd) (h : History) (r : R) (old left : Out) → ((given : Option Refusal) → Tells (IsGiven given) IsNothing (Err e) (refused_line BadText) old left) → (e ≡ Stopped → ⊥) → LineEnds m (Err e) lines.TooLong h r old r left
 long m Stopped h r old left told goes = absurd (goes refl)
 long m WriteFault h r old left told goes = record {
-  tells = recast (IsGiven None) (IsCause m r h lines.TooLong) IsNothing (IsBegun lines.TooLong h) (Err WriteFault) (refused_line BadText) old left (own_cause m r h lines.TooLong) (none_begun lines.TooLong h) (told None);
+  tells = recast (IsGiven None) (StoppedBy m r h lines.TooLong) IsNothing (IsBegun lines.TooLong h) (Err WriteFault) (refused_line BadText) old left (no_cause m r h lines.TooLong) (none_begun lines.TooLong h) (told None);
   leaves = record { shows = λ s. inl s; failed = λ _. refl };
   sends = inl (send_still m.showing r);
 }
@@ -53,10 +53,10 @@ dropped (b ∷ c ∷ bs) = let rest = dropped (c ∷ bs) in omega arith
 long_line : (bytes tail : List ℕ) → LONGEST + 1 < length bytes → ask_of (drop_cr (bytes ++ tail)) ≡ lines.TooLong
 long_line bytes tail h = sym (too_long (drop_cr (bytes ++ tail)) (let all : length (bytes ++ tail) ≡ length bytes + length tail = length-append bytes tail in let d = dropped (bytes ++ tail) in omega arith))
 
-own_stop : {R : Type 0} (m : Ghosts R) (r : R) (ask : Ask) (h : History) (text : List ℕ) → text ≡ refused_line Memory → IsStopText (IsCause m r h ask) (IsBegun ask h) text
-own_stop m r ask h text is = record { begun = []; front = none_begun ask h [] refl; refusal = Memory; cause = own_cause m r h ask Memory (inl refl); is = is }
+own_stop : {R : Type 0} (m : Ghosts R) (r : R) (ask : Ask) (h : History) (text : List ℕ) → text ≡ refused_line Memory → IsStopText (StoppedBy m r h ask) (IsBegun ask h) text
+own_stop m r ask h text is = record { begun = []; front = none_begun ask h [] refl; refusal = Memory; cause = own_cause m r h ask Memory (refl, refl); is = is }
 
-unfit_reply : {R : Type 0} (m : Ghosts R) (r : R) (bytes tail : List ℕ) (h : History) (text : List ℕ) → IsUnfit bytes text → (text ≡ reply_to (ask_of (drop_cr (bytes ++ tail))) h) ⊎ IsStopText (IsCause m r h (ask_of (drop_cr (bytes ++ tail)))) (IsBegun (ask_of (drop_cr (bytes ++ tail))) h) text
+unfit_reply : {R : Type 0} (m : Ghosts R) (r : R) (bytes tail : List ℕ) (h : History) (text : List ℕ) → IsUnfit bytes text → (text ≡ reply_to (ask_of (drop_cr (bytes ++ tail))) h) ⊎ IsStopText (StoppedBy m r h (ask_of (drop_cr (bytes ++ tail)))) (IsBegun (ask_of (drop_cr (bytes ++ tail))) h) text
 unfit_reply m r bytes tail h text (inl memory) = inr (own_stop m r (ask_of (drop_cr (bytes ++ tail))) h text memory)
 unfit_reply m r bytes tail h text (inr long) = inl (long.0 ∙ ap (λ a. reply_to a h) (sym (long_line bytes tail long.1)))
 
@@ -65,7 +65,7 @@ pub unfit_ends : {R : Type 0} (m : Ghosts R) (e : LineEnd) (bytes tail : List �
 unfit_ends m Stopped bytes tail h r old left u = record {
   tells = record { text = refused_line Memory; stop = own_stop m r (ask_of (drop_cr (bytes ++ tail))) h (refused_line Memory) refl; told = u };
   leaves = record { shows = λ s. inl s; failed = λ f. refl };
-  sends = inl (send_still m.showing r);
+  sends = send_still m.showing r;
 }
 unfit_ends m WriteFault bytes tail h r old left u = record {
   tells = record { text = u.text; is = unfit_reply m r bytes tail h u.text u.is; front = u.front };
@@ -83,19 +83,15 @@ pub unfit_here : {R : Type 0} (m : Ghosts R) (e : LineEnd) (bytes : List ℕ) (h
 unfit_here m e bytes h r old left u = subst (λ l. LineEnds m (Err e) (ask_of (drop_cr l)) h r old r left) (append-nil bytes) (unfit_ends m e bytes [] h r old left u)
 
 -- the only stop that is given without a cause is want of memory
-memory_line : (text : List ℕ) → IsStopText (IsGiven None) IsNothing text → text ≡ refused_line Memory
-memory_line text s = s.is ∙ ap (λ (l : List ℕ). l ++ refused_line s.refusal) s.front ∙ ap refused_line (by s.cause)
-  where
-    by : IsGiven None s.refusal → s.refusal ≡ Memory
-    by (inl memory) = memory
-    by (inr given) = let none : None ≡ Some s.refusal = given.0 in absurd cc
+memory_line : (text : List ℕ) → IsStopText (IsGiven (Some Memory)) IsNothing text → text ≡ refused_line Memory
+memory_line text s = s.is ∙ ap (λ (l : List ℕ). l ++ refused_line s.refusal) s.front ∙ ap refused_line (let same : Memory ≡ s.refusal = cc s.cause.0 in sym same)
 
 -- memory is short for bytes of a line
-pub unfit_memory : (e : LineEnd) (bytes : List ℕ) (old left : Out) → ((given : Option Refusal) (reply : List ℕ) → Tells (IsGiven given) IsNothing (Err e) reply old left) → (e ≡ TooLong → ⊥) → Unfit e bytes old left
-unfit_memory Stopped bytes old left told fits = let t = told None [] in subst (λ l. Appends old.taken left.taken (old.held ++ l)) (memory_line t.text t.stop) t.told
-unfit_memory WriteFault bytes old left told fits = let t = told None (refused_line Memory) in record { text = t.text; is = inl (by t.text t.is); front = t.front }
+pub unfit_memory : (e : LineEnd) (bytes : List ℕ) (old left : Out) → ((reply : List ℕ) → Tells (IsGiven (Some Memory)) IsNothing (Err e) reply old left) → (e ≡ TooLong → ⊥) → Unfit e bytes old left
+unfit_memory Stopped bytes old left told fits = let t = told [] in subst (λ l. Appends old.taken left.taken (old.held ++ l)) (memory_line t.text t.stop) t.told
+unfit_memory WriteFault bytes old left told fits = let t = told (refused_line Memory) in record { text = t.text; is = inl (by t.text t.is); front = t.front }
   where
-    by : (text : List ℕ) → (text ≡ refused_line Memory) ⊎ IsStopText (IsGiven None) IsNothing text → text ≡ refused_line Memory
+    by : (text : List ℕ) → (text ≡ refused_line Memory) ⊎ IsStopText (IsGiven (Some Memory)) IsNothing text → text ≡ refused_line Memory
     by text (inl is) = is
     by text (inr stop) = memory_line text stop
 unfit_memory TooLong bytes old left told fits = absurd (fits refl)
@@ -107,5 +103,5 @@ unfit_long WriteFault bytes old left told goes long = let t = told None in recor
   where
     by : (text : List ℕ) → (text ≡ refused_line BadText) ⊎ IsStopText (IsGiven None) IsNothing text → IsUnfit bytes text
     by text (inl is) = inr (is, long)
-    by text (inr stop) = inl (memory_line text stop)
+    by text (inr stop) = let none : None ≡ Some stop.refusal = stop.cause.0 in absurd cc
 unfit_long TooLong bytes old left told goes long = (told None, long)

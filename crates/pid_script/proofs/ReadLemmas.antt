@@ -1,6 +1,6 @@
 -- The reads of a script.
-use Rattle.std.proofs.Common.{◌≡◌, ℕ, ◌+◌, ◌-◌, ◌^◌, ◌<◌, min, List, [], ◌∷◌, ◌++◌, take, Option, Some, None, Result, Ok, Err, refl, sym, ap, subst, ◌∙◌, append_assoc, arith}
-use Rattle.std.proofs.lemmas.List.{append-nil}
+use Rattle.std.proofs.Common.{◌≡◌, ℕ, ◌+◌, ◌*◌, ◌-◌, ◌^◌, ◌<◌, ◌≤◌, min, length, List, [], ◌∷◌, ◌++◌, take, Option, Some, None, Result, Ok, Err, refl, sym, ap, subst, ◌∙◌, append_assoc, arith}
+use Rattle.std.proofs.lemmas.List.{append-nil, length-append, length-take}
 use Rattle.std.specs.Prelude.{IfSome}
 use Rattle.std.specs.Io.KnownBytes.{Consumes, Keeps, IsAtEnd}
 use Rattle.pid_reader.specs.Lines.{lines_of}
@@ -11,7 +11,7 @@ use Rattle.pid_script.specs.declared.moderated.Moderated.{Ghosts}
 use Rattle.pid_script.specs.declared.script_end.ScriptEnd.TheVariants.{TurnsSpent}
 use Rattle.pid_script.specs.Progress.{HasAnswered, Ended, Ends, script_end}
 use Rattle.pid_script.specs.Saying.{Out, out}
-use Rattle.pid_script.specs.Scripts.{passage, IsCutOff, IsScript}
+use Rattle.pid_script.specs.Scripts.{passage, IsCutOff, IsScript, BUFFER_ROOM, TakesAtMost}
 use Rattle.pid_script.specs.Standing.{Stands}
 use Rattle.pid_script.proofs.Answered.{answers_out}
 use Rattle.pid_script.proofs.Calling.{send_still, go_still, go_then}
@@ -40,6 +40,7 @@ pub record HasRead {R : Type 0} (m : Ghosts R) (old now : R) (taken : Option (Li
   pub calls : CallsGo m.showing old now
   pub front : List ℕ
   pub consumed : Consumes come come_now front
+  pub bounded : length front ≤ turn * BUFFER_ROOM
   pub answered : m.showing.is_clean now → (h : History) → Stands m old h → HasAnswered m h taken old now left kept front
   pub empty : left.held ≡ []
   pub counted : reads < 2 ^ 64 → reads_now ≡ min (reads + turn) (2 ^ 64 - 1)
@@ -76,6 +77,7 @@ none_read m old taken come reads held kept nothing none = record {
   calls = go_still m.showing old;
   front = [];
   consumed = Consumes-nil come;
+  bounded = omega arith;
   answered = λ _ h stands. record {
     open_line = none;
     answered = record {
@@ -98,16 +100,32 @@ none_read m old taken come reads held kept nothing none = record {
   counted = λ small. omega arith;
 }
 
+more_bounded : (front piece : List ℕ) (turn : ℕ) → length front ≤ turn * BUFFER_ROOM → length piece ≤ BUFFER_ROOM → length (front ++ piece) ≤ (turn + 1) * BUFFER_ROOM
+more_bounded front piece turn p q = omega (arith, length-append front piece)
+
+-- what a read takes fits its room
+pub piece_fits : (count : ℕ) (buffer : List ℕ) → length buffer ≡ BUFFER_ROOM → length (take count buffer) ≤ BUFFER_ROOM
+piece_fits count buffer whole = omega (arith, length-take count buffer)
+
+-- one more read took so much at most
+pub took_more : (front piece : List ℕ) (turn : ℕ) (come now next : Option (List ℕ)) → Consumes come now front → length front ≤ turn * BUFFER_ROOM → Consumes now next piece → length piece ≤ BUFFER_ROOM → TakesAtMost come next ((turn + 1) * BUFFER_ROOM)
+took_more front piece turn come now next p less q fits = record { front = front ++ piece; taken = Consumes-then come now next front piece p q; bounded = more_bounded front piece turn less fits }
+
+-- or nothing
+pub took_none : (front : List ℕ) (turn : ℕ) (come now next : Option (List ℕ)) → Consumes come now front → length front ≤ turn * BUFFER_ROOM → Keeps now next → TakesAtMost come next ((turn + 1) * BUFFER_ROOM)
+took_none front turn come now next p less kept = record { front = front; taken = Consumes-kept come now next front p kept; bounded = omega arith }
+
 -- one more piece was read and answered
 pub read_more : {R : Type 0} (m : Ghosts R) (old now next : R) (taken : Option (List ℕ)) (left left_next : Out) (come come_now come_next : Option (List ℕ)) (kept kept_next piece : List ℕ) (reads reads_now reads_next turn : ℕ)
-    → HasRead m old now taken left come come_now kept reads reads_now turn → Consumes come_now come_next piece → reads_next ≡ min (reads_now + 1) (2 ^ 64 - 1) → (m.showing.is_clean next → m.showing.is_clean now) → CallsGo m.showing now next → left_next.held ≡ []
+    → HasRead m old now taken left come come_now kept reads reads_now turn → Consumes come_now come_next piece → length piece ≤ BUFFER_ROOM → reads_next ≡ min (reads_now + 1) (2 ^ 64 - 1) → (m.showing.is_clean next → m.showing.is_clean now) → CallsGo m.showing now next → left_next.held ≡ []
     → (m.showing.is_clean next → (h : History) (start : Option (List ℕ)) (first : R) (text : List ℕ) → Stands m first h → HasAnswered m h start first now left kept text → HasAnswered m h start first next left_next kept_next (text ++ piece))
     → HasRead m old next taken left_next come come_next kept_next reads reads_next (turn + 1)
-read_more m old now next taken left left_next come come_now come_next kept kept_next piece reads reads_now reads_next turn r consumed counted was calls none answered = record {
+read_more m old now next taken left left_next come come_now come_next kept kept_next piece reads reads_now reads_next turn r consumed fits counted was calls none answered = record {
   was_honest = λ t. r.was_honest (was t);
   calls = go_then m.showing old now next r.calls calls;
   front = r.front ++ piece;
   consumed = Consumes-then come come_now come_next r.front piece r.consumed consumed;
+  bounded = more_bounded r.front piece turn r.bounded fits;
   answered = λ t h stands. answered t h taken old r.front stands (r.answered (was t) h stands);
   empty = none;
   counted = λ small. one_more reads turn reads_now reads_next (r.counted small) counted;

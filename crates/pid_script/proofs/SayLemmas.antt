@@ -1,6 +1,8 @@
 -- One text said behind another.
-use Rattle.std.proofs.Common.{◌≡◌, ℕ, ◌+◌, List, [], ◌++◌, length, take, Option, Some, None, Result, Ok, Err, refl, inl, sym, ap, subst, ◌∙◌, append_assoc, arith}
-use Rattle.std.proofs.lemmas.List.{append-nil, length-append, take-append-le}
+use Rattle.std.proofs.Common.{◌≡◌, ℕ, suc, ◌+◌, ◌<◌, get_or, List, [], ◌++◌, length, take, drop, Option, Some, None, Result, Ok, Err, refl, inl, sym, ap, subst, ◌∙◌, append_assoc, arith}
+use Rattle.std.proofs.lemmas.List.{append-nil, length-append, take-append-le, take_more, flat_map_more}
+use Rattle.std.specs.List.{flat_map}
+use Rattle.pid_ident.proofs.SendingLemmas.{flat_map-split}
 use Rattle.std.proofs.Math.Seq.{take-append-add}
 use Rattle.std.specs.Io.KnownBytes.{Appends}
 use Rattle.std.specs.Prelude.{OnOk, OnErr, IfErr, MatchResult}
@@ -55,6 +57,23 @@ front_behind a b c x y p q = subst (SendsFront a.taken c.taken) (sym (append_ass
 -- a front of the first
 pub front_within : (a c : Out) (x y : List ℕ) → SaysFront a c x → SaysFront a c (x ++ y)
 front_within a c x y q = subst (SendsFront a.taken c.taken) (append_assoc a.held x y) (front-before a.taken c.taken (a.held ++ x) y q)
+
+-- nothing was said
+pub says_nothing : (a : Out) → Says a a []
+says_nothing a = record { sent = []; told = Appends-nil a.taken; rest = append-nil a.held }
+
+-- a front of a text between two others
+pub front_between : (a b c : Out) (x y z all : List ℕ) → Says a b x → SaysFront b c y → all ≡ x ++ (y ++ z) → SaysFront a c all
+front_between a b c x y z all p q is = subst (SaysFront a c) (sym is) (front_behind a b c x (y ++ z) p (front_within b c y z q))
+
+-- one part more was said
+pub says_part : {X : Type 0} (f : X → List ℕ) (parts : List X) (i : ℕ) (d : X) (a b c : Out) → i < length parts → Says a b (flat_map f (take i parts)) → Says b c (f (get_or parts i d)) → Says a c (flat_map f (take (i + 1) parts))
+says_part f parts i d a b c less p q =
+    subst (Says a c) (flat_map_more f [] (take i parts) (get_or parts i d) ∙ ap (flat_map f) (sym (take_more parts i d less))) (says_then a b c (flat_map f (take i parts)) (f (get_or parts i d)) p q)
+
+-- or a front of it
+pub part_front : {X : Type 0} (f : X → List ℕ) (parts : List X) (i : ℕ) (d : X) (a b c : Out) → i < length parts → Says a b (flat_map f (take i parts)) → SaysFront b c (f (get_or parts i d)) → SaysFront a c (flat_map f parts)
+part_front f parts i d a b c less p q = front_between a b c (flat_map f (take i parts)) (f (get_or parts i d)) (flat_map f (drop (suc i) parts)) (flat_map f parts) p q (flat_map-split f parts i d less)
 
 -- a text was said, and what is held goes out
 pub said_out : (a b : Out) (new : Option (List ℕ)) (x : List ℕ) → Says a b x → Appends b.taken new b.held → Appends a.taken new (a.held ++ x)

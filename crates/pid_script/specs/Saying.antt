@@ -1,6 +1,6 @@
 -- Serves private functions alone; no promise rests on it.
 -- What the functions that answer one line leave of the writer, of what is held for it, and of the registry.
-use Rattle.std.specs.Prelude.{◌≡◌, ◌⊎◌, ℕ, ◌+◌, ◌<◌, true, false, List, [], ◌++◌, length, Option, Some, None, Result, Ok, Err}
+use Rattle.std.specs.Prelude.{◌≡◌, ◌⊎◌, ℕ, ◌+◌, ◌<◌, true, false, List, [], ◌++◌, length, Option, Some, None, Result, Ok, Err, MatchResult}
 use Rattle.std.specs.Io.KnownBytes.{Appends}
 use Rattle.pid_ident.specs.Sending.{SendsFront}
 use Rattle.pid_lookup.specs.declared.answer.Answer.{Answer}
@@ -19,8 +19,8 @@ use Rattle.pid_script.specs.Calling.{CallsSend, CallsSendEither}
 use Rattle.pid_script.specs.ScriptLines as lines
 use Rattle.pid_script.specs.ScriptLines.{Ask}
 use Rattle.pid_script.specs.Replies.{reply_to, command_of, is_call}
-use Rattle.pid_script.specs.Standing.{Becomes, BecomesEither}
-use Rattle.pid_script.specs.StopLines.{is_stop, IsBegun, IsCause, IsStopText}
+use Rattle.pid_script.specs.Standing.{Becomes, BecomesEither, IsUndone}
+use Rattle.pid_script.specs.StopLines.{is_stop, IsBegun, StoppedBy, IsStopText}
 
 -- what a writer took, and what is held for it
 pub record Out : Type 0 where
@@ -41,9 +41,13 @@ pub record Says (old new : Out) (text : List ℕ) : Type 0 where
 abbrev pub SaysFront : Out → Out → List ℕ → Type 0
 SaysFront old new text = SendsFront old.taken new.taken (old.held ++ text)
 
--- a refusal is the one that was given, and stops; or memory was short
+-- a text was said, or the writer failed within it
+abbrev pub SaysText : Result (Unit {0}) LineEnd → Out → Out → List ℕ → Type 0
+SaysText result old new text = MatchResult result (λ _. Says old new text) (λ _. SaysFront old new text)
+
+-- a refusal is the one that was given, and stops
 abbrev pub IsGiven : Option Refusal → Refusal → Type 0
-IsGiven given refusal = (refusal ≡ Memory) ⊎ ((given ≡ Some refusal) × (is_stop refusal ≡ true))
+IsGiven given refusal = (given ≡ Some refusal) × (is_stop refusal ≡ true)
 
 -- nothing is begun of the reply
 abbrev pub IsNothing : List ℕ → Type 0
@@ -123,18 +127,19 @@ module _ {R : Type 0} (registry : Ghosts R) where
   abbrev pub Leaves : Result (Unit {0}) LineEnd → R → History → R → Ask → Out → Type 0
   Leaves (Ok x) r h new ask left = GoesBehind r h new ask left
   Leaves (Err TooLong) r h new ask left = EndsBehind r h new ask
-  Leaves (Err Stopped) r h new ask left = BecomesEither registry r h new h (after_all h (command_of ask))
+  Leaves (Err Stopped) r h new ask left = IsUndone registry r h new h (command_of ask)
   Leaves (Err WriteFault) r h new ask left = BecomesEither registry r h new h (after_all h (command_of ask))
 
-  -- what calls sent for the line: its command where it was answered, else that or nothing
+  -- What calls sent for the line: its command where it was answered, none that has an outcome where it was stopped, and one or the
+  -- other where the writer failed.
   abbrev pub Sends : Result (Unit {0}) LineEnd → R → R → Ask → Type 0
   Sends (Ok x) r new ask = CallsSend registry.showing r (command_of ask) new
   Sends (Err TooLong) r new ask = CallsSend registry.showing r [] new
-  Sends (Err Stopped) r new ask = CallsSendEither registry.showing r [] (command_of ask) new
+  Sends (Err Stopped) r new ask = CallsSend registry.showing r [] new
   Sends (Err WriteFault) r new ask = CallsSendEither registry.showing r [] (command_of ask) new
 
   -- the answer to a line
   pub record LineEnds (result : Result (Unit {0}) LineEnd) (ask : Ask) (h : History) (r : R) (old : Out) (new : R) (left : Out) : Type 0 where
-    pub tells : Tells (IsCause registry r h ask) (IsBegun ask h) result (reply_to ask h) old left
+    pub tells : Tells (StoppedBy registry r h ask) (IsBegun ask h) result (reply_to ask h) old left
     pub leaves : Leaves result r h new ask left
     pub sends : Sends result r new ask

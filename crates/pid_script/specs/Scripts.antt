@@ -1,6 +1,7 @@
 -- What a script comes to: the replies to its lines, and how it ends. All are choices of this project.
-use Rattle.std.specs.Prelude.{◌≡◌, ◌⊎◌, ℕ, false, List, [], ◌∷◌, ◌++◌, Some, Option}
+use Rattle.std.specs.Prelude.{◌≡◌, ◌⊎◌, ◌≤◌, length, ℕ, false, List, [], ◌∷◌, ◌++◌, Some, Option}
 use Rattle.std.specs.Io.KnownBytes.{Appends, Consumes}
+use Rattle.std.specs.List.{AllByRecursion}
 use Rattle.pid_ident.specs.Sending.{SendsFront}
 use Rattle.pid_reader.specs.Lines.{lines_of}
 use Rattle.pid_reader.specs.WholeLines.{whole_lines}
@@ -12,24 +13,44 @@ use Rattle.pid_script.specs.ScriptLines as asks
 use Rattle.pid_script.specs.ScriptLines.{ask_of}
 use Rattle.pid_script.specs.Calling.{CallsSend, CallsSendEither}
 use Rattle.pid_script.specs.Replies.{replies, command_of, commands_in, history_after, is_call}
-use Rattle.pid_script.specs.Standing.{Becomes, BecomesEither}
-use Rattle.pid_script.specs.StopLines.{IsBegun, IsCause, IsStopText}
+use Rattle.pid_script.specs.Standing.{Becomes, BecomesEither, IsUndone}
+use Rattle.pid_script.specs.StopLines.{IsBegun, StoppedBy, IsStopText, Unstopped}
+
+-- the room of one read, in bytes
+abbrev pub BUFFER_ROOM : ℕ
+BUFFER_ROOM = 65536
+
+-- at most so many bytes were taken off what is to come
+pub record TakesAtMost (come come_now : Option (List ℕ)) (most : ℕ) : Type 0 where
+  pub front : List ℕ
+  pub taken : Consumes come come_now front
+  pub bounded : length front ≤ most
+
+-- a line is not too long
+abbrev pub Fits : List ℕ → Type 0
+Fits line = ask_of line ≡ asks.TooLong → ⊥
+
+-- a line asks nothing of the registry
+abbrev pub CallsNot : List ℕ → Type 0
+CallsNot line = is_call (ask_of line) ≡ false
+
+-- a line is no command
+abbrev pub CommandsNot : List ℕ → Type 0
+CommandsNot line = command_of (ask_of line) ≡ []
 
 -- none of the lines is too long
 abbrev pub NoneTooLong : List (List ℕ) → Type 0
-NoneTooLong [] = Unit {0}
-NoneTooLong (line ∷ lines) = (ask_of line ≡ asks.TooLong → ⊥) × NoneTooLong lines
+NoneTooLong lines = AllByRecursion Fits lines
 
 -- none of the lines asks something of the registry
 abbrev pub NoneCalls : List (List ℕ) → Type 0
-NoneCalls [] = Unit {0}
-NoneCalls (line ∷ lines) = (is_call (ask_of line) ≡ false) × NoneCalls lines
+NoneCalls lines = AllByRecursion CallsNot lines
 
--- of the lines only the last may be a command
-abbrev pub QuietButLast : List (List ℕ) → Type 0
-QuietButLast [] = Unit {0}
-QuietButLast (line ∷ []) = Unit {0}
-QuietButLast (line ∷ next ∷ lines) = (command_of (ask_of line) ≡ []) × QuietButLast (next ∷ lines)
+-- it holds of all lines but the last, of which nothing is said
+abbrev pub AllButLast : (List ℕ → Type 0) → List (List ℕ) → Type 0
+AllButLast P [] = Unit {0}
+AllButLast P (line ∷ []) = Unit {0}
+AllButLast P (line ∷ next ∷ lines) = P line × AllButLast P (next ∷ lines)
 
 -- the registry before the script and behind it, and what the writer had taken before and has taken now
 pub record Passage (R : Type 0) : Type 0 where
@@ -54,9 +75,10 @@ module _ {R : Type 0} (registry : Ghosts R) where
 
   -- what stops a script at a line, whose history is the one behind the lines before
   abbrev pub IsStop : R → History → History → List ℕ → List ℕ → Type 0
-  IsStop r h at line text = IsStopText (IsCause registry r h (ask_of line)) (IsBegun (ask_of line) at) text
+  IsStop r h at line text = IsStopText (StoppedBy registry r h (ask_of line)) (IsBegun (ask_of line) at) text
 
-  -- the lines before one got their replies, and in place of its reply, or behind what was begun of it, a refusal stopped the script
+  -- The lines before one got their replies, of which none stops a script. In place of its reply, or behind what was begun of it, the
+  -- line of a refusal stands last; and the line itself came to nothing. The commands that calls sent are those of the lines before.
   pub record StopsAtLine (h : History) (p : Passage R) (lines : List (List ℕ)) : Type 0 where
     pub before : List (List ℕ)
     pub line : List ℕ
@@ -64,11 +86,12 @@ module _ {R : Type 0} (registry : Ghosts R) where
     pub parts : lines ≡ before ++ line ∷ behind
     pub fits : NoneTooLong before
     pub lives : registry.has_failed p.old → NoneCalls before
+    pub unstopped : Unstopped h before
     pub text : List ℕ
     pub stop : IsStop p.old h (history_after h before) line text
     pub told : Appends p.taken p.taken_now (replies h before ++ text)
-    pub leaves : BecomesEither registry p.old h p.new (history_after h before) (history_after h (before ++ line ∷ []))
-    pub calls : CallsSendEither registry.showing p.old (commands_in before) (commands_in (before ++ line ∷ [])) p.new
+    pub leaves : IsUndone registry p.old h p.new (history_after h before) (command_of (ask_of line))
+    pub calls : CallsSend registry.showing p.old (commands_in before) p.new
 
   -- the lines before one got their replies, and that one is too long, and was told so
   pub record EndsTooLong (h : History) (p : Passage R) (lines : List (List ℕ)) : Type 0 where
@@ -96,7 +119,10 @@ module _ {R : Type 0} (registry : Ghosts R) where
     pub waiting : List (List ℕ)
     pub behind : List (List ℕ)
     pub parts : lines ≡ before ++ (waiting ++ behind)
-    pub quiet : QuietButLast waiting
+    pub quiet : AllButLast CommandsNot waiting
+    -- so all lines but the last were answered: none of them is too long, and one that had failed was asked nothing by them
+    pub fits : AllButLast Fits (before ++ waiting)
+    pub lives : registry.has_failed p.old → AllButLast CallsNot (before ++ waiting)
     -- what the writer had taken with the replies to the lines before
     pub between : Option (List ℕ)
     pub told : Appends p.taken between (replies h before)

@@ -1,6 +1,7 @@
 -- What calls make of a registry: `registry` is `R.Moderated`, which says what it shows.
-use Rattle.std.specs.Prelude.{◌≡◌, ◌⊎◌}
-use Rattle.pid_moderation.specs.History.{History}
+use Rattle.std.specs.Prelude.{◌≡◌, ◌⊎◌, List, [], ◌∷◌}
+use Rattle.pid_moderation.specs.History.{Asked, History}
+use Rattle.pid_moderation.specs.Judgement.{after}
 use Rattle.pid_script.specs.declared.moderated.Moderated.{Ghosts}
 
 module _ {R : Type 0} (registry : Ghosts R) where
@@ -20,4 +21,15 @@ module _ {R : Type 0} (registry : Ghosts R) where
   -- the same, where it may not be known which of the two histories it is
   pub record BecomesEither (old : R) (h : History) (new : R) (first second : History) : Type 0 where
     pub shows : registry.showing.shows old h → ShowsEither new first second
+    pub failed : registry.has_failed old → new ≡ old
+
+  -- it has failed at the command of a line, which has one at most: a crash leaves the history before it or the one behind it
+  abbrev pub FailsAt : R → History → List Asked → Type 0
+  FailsAt r h [] = ⊥
+  FailsAt r h (c ∷ cs) = registry.showing.fails_between r h (after h c)
+
+  -- A line with these commands came to nothing: if the registry showed the one history, it now shows the other, which is the one
+  -- before the line, or it has failed at the line's command. If it had failed earlier, it is as before.
+  pub record IsUndone (old : R) (h : History) (new : R) (before : History) (commands : List Asked) : Type 0 where
+    pub shows : registry.showing.shows old h → registry.showing.shows new before ⊎ FailsAt new before commands
     pub failed : registry.has_failed old → new ≡ old

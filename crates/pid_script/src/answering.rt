@@ -40,9 +40,9 @@ fn obey<R: Moderated, O: Output>(
     match read_command(alloc, verb, account, form) {
         Ok(command) => {
             let answer = registry.obey(command);
-            send_answer(alloc, output, held, answer)
+            send_answer(output, held, answer)
         }
-        Err(refusal) => send_answer(alloc, output, held, Err(refusal)),
+        Err(refusal) => send_answer(output, held, Err(refusal)),
     }
 }
 
@@ -63,9 +63,9 @@ fn read<R: Moderated, O: Output>(
     match read_path(alloc, form) {
         Ok(path) => {
             let name = registry.read(&path);
-            send_name(alloc, output, held, name)
+            send_name(output, held, name)
         }
-        Err(refusal) => send_answer(alloc, output, held, Err(refusal)),
+        Err(refusal) => send_answer(output, held, Err(refusal)),
     }
 }
 
@@ -86,7 +86,7 @@ fn look_up<R: Moderated, O: Output>(
     match read_look_up(alloc, form) {
         Ok(Some((flags, args, size))) => {
             let found = registry.look_up(flags, &args, size);
-            send_found(alloc, output, held, found)
+            send_found(output, held, found)
         }
         Ok(None) => send_bad_text(output, held),
         Err(_) => Err(stop_for_memory(output, held)),
@@ -95,7 +95,6 @@ fn look_up<R: Moderated, O: Output>(
 
 // Writes the canonical text, behind what is held.
 fn export<R: Moderated, O: Output>(
-    alloc: Global,
     registry: &mut R,
     output: &mut O,
     held: &mut Vec<u8>,
@@ -112,7 +111,7 @@ fn export<R: Moderated, O: Output>(
     match registry.export(output) {
         Ok(()) => Ok(()),
         Err(ExportFault::Write(_)) => Err(LineEnd::WriteFault),
-        Err(ExportFault::Refused(refusal)) => send_answer(alloc, output, held, Err(refusal)),
+        Err(ExportFault::Refused(refusal)) => send_answer(output, held, Err(refusal)),
     }
 }
 
@@ -137,7 +136,7 @@ pub fn answer_line<R: Moderated, O: Output>(
             account,
             form,
         } => obey(alloc, registry, output, held, verb, account, form),
-        LineAsk::Export => export(alloc, registry, output, held),
+        LineAsk::Export => export(registry, output, held),
         LineAsk::Read(form) => read(alloc, registry, output, held, form),
         LineAsk::LookUp(form) => look_up(alloc, registry, output, held, form),
         LineAsk::Unclear => send_bad_text(output, held),

@@ -1,19 +1,19 @@
 //! The replies to lines.
 ghost use Rattle.std.specs.Prelude.{◌≡◌, ◌++◌, ◌∷◌, ℕ, List, [], Option, true, false, if◌then◌else◌, Ok, Err, IfOk, IfErr, OnOk, IsSome, IsErrOf, MatchResult};
 ghost use Rattle.pid_lookup.specs.declared.answering.LookupRefusal.TheVariants as look_ups;
-ghost use Rattle.pid_moderation.specs.ReplyLines.{refused_line};
+ghost use Rattle.pid_moderation.specs.ReplyLines.{accepted_line, refused_line, details, reply_text};
 ghost use Rattle.pid_moderation.specs.declared.refusal.Refusal.TheVariants as refusals;
 ghost use Rattle.pid_lookup.specs.Flags.{is_bad};
 ghost use Rattle.pid_script.specs.StopLines.{is_stop as is_stopping};
-ghost use Rattle.pid_script.specs.Saying.{out, Tells, Says, SaysFront, IsGiven, IsNothing, IsAnswer, GoesOn, refusal_in, refusal_of_names};
+ghost use Rattle.pid_script.specs.Saying.{out, Tells, SaysText, IsGiven, IsNothing, IsAnswer, GoesOn, refusal_in, refusal_of_names};
 ghost use Rattle.pid_script.specs.Replies.{name_line, answer_line, BAD_FLAGS};
 
 use crate::line_end::LineEnd;
-use crate::saying::{say, say_all};
+use crate::saying::{flush, say, say_all, say_parts};
+use itoa::Buffer;
 use pid_ident::{Name, Output};
 use pid_lookup::{Answer, LookupRefusal, Unanswered};
-use pid_moderation::{Refusal, Reply, reply_line};
-use std::alloc::Global;
+use pid_moderation::{FileFault, Refusal, Reply};
 
 // Whether a refusal stops a script.
 fn is_stop(refusal: Refusal) -> bool
@@ -24,7 +24,7 @@ fn is_stop(refusal: Refusal) -> bool
 
 /// Says that memory is short, which takes none.
 pub fn stop_for_memory<O: Output>(output: &mut O, held: &mut Vec<u8>) -> LineEnd
-    ensures told { (given : Option Refusal) (reply : List ℕ) → Tells (IsGiven given) IsNothing (Err result) reply (out (O.taken output.old) held.old.items) (out (O.taken output.new) held.new.items) }
+    ensures told { (reply : List ℕ) → Tells (IsGiven (Some Refusal.Memory)) IsNothing (Err result) reply (out (O.taken output.old) held.old.items) (out (O.taken output.new) held.new.items) }
     ensures fault { result ≡ LineEnd.WriteFault → IsSome (O.write_fault output.new) }
     ensures fits { result ≡ LineEnd.TooLong → ⊥ }
 {
@@ -56,35 +56,8 @@ fn stops(answer: Result<Reply, Refusal>) -> bool
     }
 }
 
-/// Says the line of an answer, with all that is held.
-pub fn send_answer<O: Output>(
-    alloc: Global,
-    output: &mut O,
-    held: &mut Vec<u8>,
-    answer: Result<Reply, Refusal>,
-) -> Result<(), LineEnd>
-    ensures told { (reply : List ℕ) → IsAnswer reply answer → Tells (IsGiven (refusal_in answer)) IsNothing result reply (out (O.taken output.old) held.old.items) (out (O.taken output.new) held.new.items) }
-    ensures goes_on { GoesOn result (refusal_in answer) }
-    ensures empty { OnOk result (held.new.items ≡ []) }
-    ensures fault { result ≡ Err LineEnd.WriteFault → IsSome (O.write_fault output.new) }
-    ensures fits { result ≡ Err LineEnd.TooLong → ⊥ }
-{
-    let Ok(text) = reply_line(alloc, answer) else {
-        return Err(stop_for_memory(output, held));
-    };
-    if let Err(end) = say_all(output, held, text.as_bytes()) {
-        return Err(end);
-    }
-    if stops(answer) {
-        return Err(LineEnd::Stopped);
-    }
-    Ok(())
-}
-
 fn say_lf<O: Output>(output: &mut O, held: &mut Vec<u8>) -> Result<(), LineEnd>
-    ensures told { MatchResult result
-        (λ _. Says (out (O.taken output.old) held.old.items) (out (O.taken output.new) held.new.items) (10 ∷ []))
-        (λ _. SaysFront (out (O.taken output.old) held.old.items) (out (O.taken output.new) held.new.items) (10 ∷ [])) }
+    ensures told { SaysText result (out (O.taken output.old) held.old.items) (out (O.taken output.new) held.new.items) (10 ∷ []) }
     ensures end { IfErr result (λ e. e ≡ LineEnd.WriteFault) }
     ensures fault { result ≡ Err LineEnd.WriteFault → IsSome (O.write_fault output.new) }
 {
@@ -93,9 +66,7 @@ fn say_lf<O: Output>(output: &mut O, held: &mut Vec<u8>) -> Result<(), LineEnd>
 
 // Says a text and an LF.
 fn say_ended<O: Output>(output: &mut O, held: &mut Vec<u8>, text: &[u8]) -> Result<(), LineEnd>
-    ensures told { MatchResult result
-        (λ _. Says (out (O.taken output.old) held.old.items) (out (O.taken output.new) held.new.items) (text.now ++ 10 ∷ []))
-        (λ _. SaysFront (out (O.taken output.old) held.old.items) (out (O.taken output.new) held.new.items) (text.now ++ 10 ∷ [])) }
+    ensures told { SaysText result (out (O.taken output.old) held.old.items) (out (O.taken output.new) held.new.items) (text.now ++ 10 ∷ []) }
     ensures end { IfErr result (λ e. e ≡ LineEnd.WriteFault) }
     ensures fault { result ≡ Err LineEnd.WriteFault → IsSome (O.write_fault output.new) }
 {
@@ -122,6 +93,147 @@ fn say_line<O: Output>(
     say_ended(output, held, text)
 }
 
+// Says how much an import found.
+fn say_counts<O: Output>(
+    output: &mut O,
+    held: &mut Vec<u8>,
+    added: u32,
+    renamed: u32,
+    same: u32,
+) -> Result<(), LineEnd>
+    ensures told { SaysText result (out (O.taken output.old) held.old.items) (out (O.taken output.new) held.new.items) (accepted_line (Reply.Counts added renamed same)) }
+    ensures end { IfErr result (λ e. e ≡ LineEnd.WriteFault) }
+    ensures fault { result ≡ Err LineEnd.WriteFault → IsSome (O.write_fault output.new) }
+{
+    let mut first = Buffer::new();
+    let mut second = Buffer::new();
+    let mut third = Buffer::new();
+    let added = first.format(added).as_bytes();
+    let renamed = second.format(renamed).as_bytes();
+    let same = third.format(same).as_bytes();
+    say_parts(
+        output,
+        held,
+        &[
+            b"ok added=",
+            added,
+            b" renamed=",
+            renamed,
+            b" same=",
+            same,
+            b"\n",
+        ],
+    )
+}
+
+// Says the line of a command that was done.
+fn say_accepted<O: Output>(output: &mut O, held: &mut Vec<u8>, reply: Reply) -> Result<(), LineEnd>
+    ensures told { SaysText result (out (O.taken output.old) held.old.items) (out (O.taken output.new) held.new.items) (accepted_line reply) }
+    ensures end { IfErr result (λ e. e ≡ LineEnd.WriteFault) }
+    ensures fault { result ≡ Err LineEnd.WriteFault → IsSome (O.write_fault output.new) }
+{
+    let mut digits = Buffer::new();
+    match reply {
+        Reply::Done => say(output, held, b"ok\n"),
+        Reply::Numbered(number) => {
+            let number = digits.format(number).as_bytes();
+            say_parts(output, held, &[b"ok ", number, b"\n"])
+        }
+        Reply::Counts {
+            added,
+            renamed,
+            same,
+        } => say_counts(output, held, added, renamed, same),
+    }
+}
+
+// Says what a refusal tells of a file, and an LF.
+fn say_details<O: Output>(
+    output: &mut O,
+    held: &mut Vec<u8>,
+    refusal: Refusal,
+) -> Result<(), LineEnd>
+    ensures told { SaysText result (out (O.taken output.old) held.old.items) (out (O.taken output.new) held.new.items) (details refusal ++ 10 ∷ []) }
+    ensures end { IfErr result (λ e. e ≡ LineEnd.WriteFault) }
+    ensures fault { result ≡ Err LineEnd.WriteFault → IsSome (O.write_fault output.new) }
+{
+    let mut place = Buffer::new();
+    let mut number = Buffer::new();
+    match refusal {
+        Refusal::FileFault(FileFault::Line { line, kind }) => {
+            let line = place.format(line).as_bytes();
+            let number = number.format(kind.number()).as_bytes();
+            let word = kind.word().as_bytes();
+            say_parts(
+                output,
+                held,
+                &[b" line=", line, b" kind=", number, b" ", word, b"\n"],
+            )
+        }
+        Refusal::FileFault(FileFault::TooMany) => say(output, held, b" too many entries\n"),
+        _ => say_lf(output, held),
+    }
+}
+
+// Says the line of a refusal.
+fn say_refused<O: Output>(
+    output: &mut O,
+    held: &mut Vec<u8>,
+    refusal: Refusal,
+) -> Result<(), LineEnd>
+    ensures told { SaysText result (out (O.taken output.old) held.old.items) (out (O.taken output.new) held.new.items) (refused_line refusal) }
+    ensures end { IfErr result (λ e. e ≡ LineEnd.WriteFault) }
+    ensures fault { result ≡ Err LineEnd.WriteFault → IsSome (O.write_fault output.new) }
+{
+    let mut digits = Buffer::new();
+    let number = digits.format(refusal.number()).as_bytes();
+    let word = refusal.word().as_bytes();
+    if let Err(end) = say_parts(output, held, &[b"refused ", number, b" ", word]) {
+        return Err(end);
+    }
+    say_details(output, held, refusal)
+}
+
+// Says the line of an answer. It takes no memory, so that no answer is lost for want of it.
+fn say_answer<O: Output>(
+    output: &mut O,
+    held: &mut Vec<u8>,
+    answer: Result<Reply, Refusal>,
+) -> Result<(), LineEnd>
+    ensures told { SaysText result (out (O.taken output.old) held.old.items) (out (O.taken output.new) held.new.items) (reply_text answer) }
+    ensures end { IfErr result (λ e. e ≡ LineEnd.WriteFault) }
+    ensures fault { result ≡ Err LineEnd.WriteFault → IsSome (O.write_fault output.new) }
+{
+    match answer {
+        Ok(reply) => say_accepted(output, held, reply),
+        Err(refusal) => say_refused(output, held, refusal),
+    }
+}
+
+/// Says the line of an answer, with all that is held. What was answered is told, however short memory is.
+pub fn send_answer<O: Output>(
+    output: &mut O,
+    held: &mut Vec<u8>,
+    answer: Result<Reply, Refusal>,
+) -> Result<(), LineEnd>
+    ensures told { (reply : List ℕ) → IsAnswer reply answer → Tells (IsGiven (refusal_in answer)) IsNothing result reply (out (O.taken output.old) held.old.items) (out (O.taken output.new) held.new.items) }
+    ensures goes_on { GoesOn result (refusal_in answer) }
+    ensures empty { OnOk result (held.new.items ≡ []) }
+    ensures fault { result ≡ Err LineEnd.WriteFault → IsSome (O.write_fault output.new) }
+    ensures fits { result ≡ Err LineEnd.TooLong → ⊥ }
+{
+    if let Err(end) = say_answer(output, held, answer) {
+        return Err(end);
+    }
+    if let Err(end) = flush(output, held) {
+        return Err(end);
+    }
+    if stops(answer) {
+        return Err(LineEnd::Stopped);
+    }
+    Ok(())
+}
+
 /// Says that a line is not understood.
 pub fn send_bad_text<O: Output>(output: &mut O, held: &mut Vec<u8>) -> Result<(), LineEnd>
     ensures told { (given : Option Refusal) → Tells (IsGiven given) IsNothing result (refused_line refusals.BadText) (out (O.taken output.old) held.old.items) (out (O.taken output.new) held.new.items) }
@@ -133,7 +245,6 @@ pub fn send_bad_text<O: Output>(output: &mut O, held: &mut Vec<u8>) -> Result<()
 
 /// Says the name of a path, or that it has none.
 pub fn send_name<O: Output>(
-    alloc: Global,
     output: &mut O,
     held: &mut Vec<u8>,
     name: Result<Option<Name>, Refusal>,
@@ -147,13 +258,12 @@ pub fn send_name<O: Output>(
     match name {
         Ok(Some(name)) => say_line(output, held, b"name ", name.as_str().as_bytes()),
         Ok(None) => say(output, held, Unanswered::NoItem.line().as_bytes()),
-        Err(refusal) => send_answer(alloc, output, held, Err(refusal)),
+        Err(refusal) => send_answer(output, held, Err(refusal)),
     }
 }
 
 /// Says the answer to a look-up.
 pub fn send_found<O: Output>(
-    alloc: Global,
     output: &mut O,
     held: &mut Vec<u8>,
     found: Result<Answer, LookupRefusal<Refusal>>,
@@ -169,7 +279,7 @@ pub fn send_found<O: Output>(
         Ok(Answer::Text(text)) => say_line(output, held, b"text ", text.as_bytes()),
         Ok(Answer::NoAnswer) => say(output, held, b"none\n"),
         Err(LookupRefusal::BadFlags) => say(output, held, Unanswered::BadFlags.line().as_bytes()),
-        Err(LookupRefusal::Names(refusal)) => send_answer(alloc, output, held, Err(refusal)),
+        Err(LookupRefusal::Names(refusal)) => send_answer(output, held, Err(refusal)),
         Err(LookupRefusal::Memory) => Err(stop_for_memory(output, held)),
     }
 }

@@ -2,11 +2,12 @@
 //!
 //! Replies are held until a command was answered, a read ends or there is no more room, so that many go out by one write.
 //! Where there is no memory to hold them they go out at once.
-ghost use Rattle.std.specs.Prelude.{◌≡◌, ◌++◌, true, false, [], Option, Err, IfErr, IsSome, OnOk, OnErr, MatchResult};
+ghost use Rattle.std.specs.Prelude.{◌≡◌, ◌++◌, true, false, [], Option, Err, IfErr, IsSome, OnOk, OnErr};
 ghost use Rattle.std.specs.Io.KnownBytes.{Appends};
+ghost use Rattle.std.specs.List.{flat_map};
 ghost use Rattle.pid_ident.specs.Sending.{SendsFront};
 ghost use Rattle.pid_moderation.specs.declared.refusal.Refusal.{Refusal};
-ghost use Rattle.pid_script.specs.Saying.{out, Says, SaysFront, Tells, IsGiven, IsNothing};
+ghost use Rattle.pid_script.specs.Saying.{out, SaysText, Tells, IsGiven, IsNothing};
 
 use crate::line_end::LineEnd;
 use pid_ident::{Output, write_all};
@@ -57,9 +58,7 @@ pub fn flush<O: Output>(output: &mut O, held: &mut Vec<u8>) -> Result<(), LineEn
 
 /// Says a text: it is held behind what is held already, or goes out behind that.
 pub fn say<O: Output>(output: &mut O, held: &mut Vec<u8>, text: &[u8]) -> Result<(), LineEnd>
-    ensures told { MatchResult result
-        (λ _. Says (out (O.taken output.old) held.old.items) (out (O.taken output.new) held.new.items) text.now)
-        (λ _. SaysFront (out (O.taken output.old) held.old.items) (out (O.taken output.new) held.new.items) text.now) }
+    ensures told { SaysText result (out (O.taken output.old) held.old.items) (out (O.taken output.new) held.new.items) text.now }
     ensures tells { (given : Option Refusal) → Tells (IsGiven given) IsNothing result text.now (out (O.taken output.old) held.old.items) (out (O.taken output.new) held.new.items) }
     ensures end { IfErr result (λ e. e ≡ LineEnd.WriteFault) }
     ensures fault { result ≡ Err LineEnd.WriteFault → IsSome (O.write_fault output.new) }
@@ -85,4 +84,22 @@ pub fn say_all<O: Output>(output: &mut O, held: &mut Vec<u8>, text: &[u8]) -> Re
         return Err(end);
     }
     flush(output, held)
+}
+
+/// Says the parts of a text, one behind the other.
+pub fn say_parts<O: Output>(
+    output: &mut O,
+    held: &mut Vec<u8>,
+    parts: &[&[u8]],
+) -> Result<(), LineEnd>
+    ensures told { SaysText result (out (O.taken output.old) held.old.items) (out (O.taken output.new) held.new.items) (flat_map (λ part. part.now) parts.now) }
+    ensures end { IfErr result (λ e. e ≡ LineEnd.WriteFault) }
+    ensures fault { result ≡ Err LineEnd.WriteFault → IsSome (O.write_fault output.new) }
+{
+    for part in parts {
+        if let Err(end) = say(output, held, part) {
+            return Err(end);
+        }
+    }
+    Ok(())
 }

@@ -1,12 +1,12 @@
 //! Scripts: lines of commands and questions, each with its reply.
-ghost use Rattle.std.specs.Prelude.{◌≡◌, ◌+◌, ◌^◌, ◌-◌, ◌<◌, ◌≤◌, min, ◌++◌, ℕ, List, [], Option, length, IsSome, IfSome, IfErr, OnOk, Err};
+ghost use Rattle.std.specs.Prelude.{◌≡◌, ◌+◌, ◌*◌, ◌^◌, ◌-◌, ◌<◌, ◌≤◌, min, vec_capacity, ◌++◌, ℕ, List, [], Option, length, IsSome, IfSome, IfErr, OnOk, Err};
 ghost use Rattle.pid_reader.specs.Lines.{drop_cr, lines_of};
 ghost use Rattle.pid_moderation.specs.History.{History};
 ghost use Rattle.pid_script.specs.ScriptLines.{ask_of};
 ghost use Rattle.pid_script.specs.Progress.{Answered, HasAnswered, Ended, Ends, script_end};
 ghost use Rattle.pid_script.specs.Calling.{CallsGo};
 ghost use Rattle.pid_script.specs.Saying.{out, LineEnds, Unfit};
-ghost use Rattle.pid_script.specs.Scripts.{passage, IsScript};
+ghost use Rattle.pid_script.specs.Scripts.{passage, IsScript, BUFFER_ROOM, TakesAtMost};
 ghost use Rattle.pid_script.specs.Standing.{Stands};
 
 use crate::answering::answer_line;
@@ -20,7 +20,7 @@ use pid_ident::{Input, Output};
 use pid_reader::{split_line, without_cr};
 use std::alloc::Global;
 
-/// The most that one read asks for, in bytes.
+/// The room of one read, in bytes.
 pub const BUFFER: usize = 65_536;
 
 // Keeps more bytes of the open line.
@@ -45,6 +45,14 @@ fn keep<O: Output>(
     }
 }
 
+// Lets go of the bytes of a line and of the memory that held them.
+fn let_go(alloc: Global, kept: &mut Vec<u8>)
+    ensures empty { kept.new.items ≡ [] }
+    ensures memory { vec_capacity kept.new ≡ 0 }
+{
+    *kept = Vec::new(alloc);
+}
+
 // Answers the open line, which ends with these bytes. A line that came whole is not kept.
 fn end_line<R: Moderated, O: Output>(
     alloc: Global,
@@ -55,6 +63,8 @@ fn end_line<R: Moderated, O: Output>(
     front: &[u8],
 ) -> Result<(), LineEnd>
     ensures empty { OnOk result (kept.new.items ≡ []) }
+    // The memory of a line that was kept is let go before the next one.
+    ensures let_go { OnOk result (0 < length kept.old.items → vec_capacity kept.new ≡ 0) }
     ensures honest { R.showing.is_clean registry.new → R.showing.is_clean registry.old }
     ensures calls { CallsGo R.showing registry.old registry.new }
     ensures ends { R.showing.is_clean registry.new → (h : History) → Stands R.Moderated registry.old h
@@ -68,7 +78,7 @@ fn end_line<R: Moderated, O: Output>(
         return Err(end);
     }
     let answered = answer_line(alloc, registry, output, held, without_cr(kept));
-    kept.clear();
+    let_go(alloc, kept);
     answered
 }
 
@@ -200,7 +210,7 @@ fn end_of(answered: Result<(), LineEnd>) -> ScriptEnd
 /// the script begins. At `Done` it shows the history with the commands of all lines. At every other end it shows the history
 /// with those of the lines that were answered, or with that of the next line too, whose reply did not go out; or it has failed,
 /// and a crash leaves the one or the other. So a later opening finds each command whose reply went out whole. A registry that
-/// has failed before refuses the first line that asks something of it as 18, or as 16 where memory is short for the reply, and stays as it is.
+/// has failed before refuses the first line that asks something of it as 18, or as 16 where memory is short for the line, and stays as it is. The reply to a command takes no memory.
 pub fn run_script<R: Moderated, I: Input, O: Output>(
     alloc: Global,
     registry: &mut R,
@@ -217,6 +227,8 @@ pub fn run_script<R: Moderated, I: Input, O: Output>(
     ensures read_fault { result ≡ ScriptEnd.ReadFault → IsSome (I.read_fault input.new) }
     ensures write_fault { result ≡ ScriptEnd.WriteFault → IsSome (O.write_fault output.new) }
     ensures turns { I.reads input.old < 2 ^ 64 → (made : ℕ) × (made ≤ turns) × (I.reads input.new ≡ min (I.reads input.old + made) (2 ^ 64 - 1)) × (result ≡ ScriptEnd.TurnsSpent → made ≡ turns) }
+    // So many reads take at most 65,536 bytes each.
+    ensures room { (made : ℕ) × (made ≤ turns) × (I.reads input.old < 2 ^ 64 → I.reads input.new ≡ min (I.reads input.old + made) (2 ^ 64 - 1)) × TakesAtMost (I.to_come input.old) (I.to_come input.new) (made * BUFFER_ROOM) }
     ensures goes { I.goes input.old input.new }
 {
     let mut buffer = [0u8; BUFFER];

@@ -1,4 +1,4 @@
-use Rattle.std.proofs.Common.{[], refl, inl, inr}
+use Rattle.std.proofs.Common.{[], refl, inr}
 use Rattle.std.specs.Fmt.{digits}
 use Rattle.pid_moderation.specs.declared.refusal.Refusal.TheVariants.{Memory}
 use Rattle.pid_moderation.specs.ReplyLines.{refused_line}
@@ -6,16 +6,16 @@ use Rattle.pid_script.proofs.reply.stop_for_memory.Goals as goal
 
 pub returns-in-Ok-clause-told : goal.returns-in-Ok-clause-told
 unfolding digits
-returns-in-Ok-clause-told g c = λ given reply. record {
+returns-in-Ok-clause-told g c = λ reply. record {
   text = refused_line Memory;
-  stop = record { begun = []; front = refl; refusal = Memory; cause = inl refl; is = refl };
+  stop = record { begun = []; front = refl; refusal = Memory; cause = (refl, refl); is = refl };
   told = c.in-Ok.ensures.sent;
 }
 
 pub returns-in-Err-clause-told : goal.returns-in-Err-clause-told
 unfolding digits
-returns-in-Err-clause-told g c = λ given reply. record {
+returns-in-Err-clause-told g c = λ reply. record {
   text = refused_line Memory;
-  is = inr (record { begun = []; front = refl; refusal = Memory; cause = inl refl; is = refl });
+  is = inr (record { begun = []; front = refl; refusal = Memory; cause = (refl, refl); is = refl });
   front = c.in-Err.ensures.front;
 }
