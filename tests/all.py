@@ -3,28 +3,32 @@ import resource
 import sys
 import time
 
+import disks
 import fault_gallery
 import http_routes
 import jobs
 import limits
 import lookups
 import lspci
+import manual
 import memory
 import migrate
 import mirror
 import progress
 import proxy
 import real_file
+import refusing
 import registry
 import scripts
 import serving
 import serving_faults
 import stops
+import tour
 import words
 import worked_rows
 from program import Cases
 
-PARTS = {it.__name__: it for it in (worked_rows, words, fault_gallery, limits, real_file, lspci, lookups, registry, migrate, jobs, progress, stops, scripts, serving, http_routes, serving_faults, proxy, mirror, memory)}
+PARTS = {it.__name__: it for it in (worked_rows, words, fault_gallery, limits, real_file, lspci, lookups, registry, disks, migrate, jobs, progress, stops, refusing, scripts, manual, tour, serving, http_routes, serving_faults, proxy, mirror, memory)}
 
 
 def processor_seconds():

@@ -1,10 +1,14 @@
 """The words that ask for a registry or a look-up: their replies, statuses and order of faults; scripts that are killed between
 lines and within them."""
+import contextlib
+import fcntl
 import os
 import random
-import signal
+import struct
 import subprocess
 import tempfile
+import termios
+import time
 
 from program import HEADER, REAL_FILE, WHOLE
 from registry import asked, script, work
@@ -80,6 +84,37 @@ def imports(cases, folder):
     cases.equal("export of a new file", work(b"", "export", "--db", missing), (HEADER, b"", 0))
 
 
+def import_in_two(folder, database, text, cut, *more):
+    """An import whose file is a pipe that gives a text in two pieces."""
+    ids = os.path.join(folder, "pipe")
+    words = [WHOLE, "import", "--db", database, "--account", "root", *more, ids]
+    running = subprocess.Popen(words, stdout=subprocess.PIPE, stderr=subprocess.PIPE)
+    with contextlib.suppress(BrokenPipeError), open(ids, "wb", buffering=0) as pipe:
+        pipe.write(text[:cut])
+        while struct.unpack("i", fcntl.ioctl(pipe, termios.FIONREAD, bytes(4)))[0]:
+            time.sleep(0.0002)
+        pipe.write(text[cut:])
+    out, err = running.communicate(timeout=60)
+    return out, err, running.returncode
+
+
+def imports_in_two(cases, folder):
+    """Wherever a file is cut, its import is answered as one of the whole file."""
+    good, faulty = b"8086  Intel\n", b"8086  I\n\t1237  A\n\t1237  B"
+    added, same = (b"ok added=1 renamed=0 same=0\n", b"", 0), (b"ok added=0 renamed=0 same=1\n", b"", 0)
+    fault = (b"refused 14 FileFault line=3 kind=7 Duplicate\n", b"", 1)
+    os.mkfifo(os.path.join(folder, "pipe"))
+    for text, told in ((good, [("k1", added), ("k1", added), (None, same)]), (faulty, [(None, fault)])):
+        for cut in range(len(text) + 1):
+            database = os.path.join(folder, f"{len(text)}.{cut}.db")
+            got = [import_in_two(folder, database, text, cut, *(("--key", key) if key else ())) for key, _ in told]
+            left = HEADER + (text if text == good else b"")
+            if (got, work(b"", "export", "--db", database)) != ([it for _, it in told], (left, b"", 0)):
+                cases.equal(f"import of {text}, cut at {cut}", got, told)
+                return
+    cases.equal("imports cut at each byte", True, True)
+
+
 def scripts(cases, folder):
     cases.equal("a script over memory", work(b"read path=PC/8086\n", "script"), (b"refused 25 NoItem\n", b"", 0))
     cases.equal("a line that is too long", work(b"#" * 16_777_217 + b"\nexport\n", "script"), (b"refused 3 BadText\n", b"", 1))
@@ -106,7 +141,7 @@ def killed_between_lines(cases, folder):
             got = b"".join(running.stdout.readline() for _ in reply.splitlines())
             running.kill()
             running.communicate()
-            cases.equal(f"killed behind each line: {name}: {line[:60]}", got, reply.encode())
+            cases.equal(f"killed behind each line: {name}: {line[:60]}", got, reply.encode(errors="surrogateescape"))
 
 
 def killed_anywhere(cases, folder):
@@ -138,6 +173,7 @@ def run(cases):
     with tempfile.TemporaryDirectory() as folder:
         look_ups(cases, folder)
         imports(cases, folder)
+        imports_in_two(cases, folder)
         scripts(cases, folder)
         killed_between_lines(cases, folder)
         killed_anywhere(cases, folder)

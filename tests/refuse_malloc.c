@@ -1,23 +1,39 @@
-/* Refuses the N-th request for memory of a program (REFUSE_AT=N), and tells of it by a byte on descriptor REFUSE_FD. */
+/* Refuses the N-th request for memory of a program (REFUSE_AT=N), and tells of it by a byte on descriptor REFUSE_FD; where none
+   was refused, the number of requests is written there in the end. */
 #define _GNU_SOURCE
 #include <dlfcn.h>
 #include <errno.h>
+#include <stdio.h>
 #include <stdlib.h>
 #include <unistd.h>
 
-static long left = -1;
+static long calls, at, fd = -1;
+static int has_begun;
+
+/* A request may come before any constructor. */
+static void begin(void)
+{
+    const char *given_at = getenv("REFUSE_AT"), *given_fd = getenv("REFUSE_FD");
+    at = given_at ? atol(given_at) : 0;
+    fd = given_fd ? atol(given_fd) : -1;
+    has_begun = 1;
+}
+
+__attribute__((destructor)) static void end(void)
+{
+    long counted = calls;
+    if (fd >= 0 && counted < at)
+        dprintf((int) fd, "%ld", counted);
+}
 
 static int refused(void)
 {
-    if (left < 0) {
-        const char *at = getenv("REFUSE_AT");
-        left = at ? atol(at) : 0;
-    }
-    if (left == 0 || --left > 0)
+    if (!has_begun)
+        begin();
+    if (at == 0 || ++calls != at)
         return 0;
-    const char *fd = getenv("REFUSE_FD");
-    if (fd)
-        (void) !write(atoi(fd), "!", 1);
+    if (fd >= 0)
+        (void) !write((int) fd, "!", 1);
     errno = ENOMEM;
     return 1;
 }

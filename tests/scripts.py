@@ -34,17 +34,22 @@ SCRIPTS = {
 STOP = b"refused 16 Memory\n"
 
 
-def example_of(text):
-    """The commands between the marks of a page, each with what it prints."""
-    example = text.split("<!-- example: begins -->")[1].split("<!-- example: ends -->")[0]
+def commands_in(blocks):
+    """The commands of blocks, each with what it prints."""
     commands = []
-    for block in example.split("```")[1::2]:
+    for block in blocks:
         for line in block.split("\n")[1:-1]:
             if line.startswith("$ "):
                 commands.append((line[2:], []))
             else:
                 commands[-1][1].append(line + "\n")
     return [(command, "".join(printed)) for command, printed in commands]
+
+
+def example_of(text):
+    """The commands between the marks of a page, each with what it prints."""
+    example = text.split("<!-- example: begins -->")[1].split("<!-- example: ends -->")[0]
+    return commands_in(example.split("```")[1::2])
 
 
 def run_example(cases):

@@ -12,6 +12,7 @@ import time
 from http_examples import try_examples
 from http_server import BYTES, JSON, OK, TEXT, Server, refusal, reply, to_end
 from program import HEADER, PROGRAM, REAL_FILE, tidy
+from registry import script
 
 THREE = (
     b"POST /account HTTP/1.1\r\nX-Account: root\r\nContent-Length: 16\r\n\r\nwho=alice&rank=0",
@@ -111,6 +112,16 @@ def questions(cases, folder):
         kept = subprocess.run(["curl", "-sS", "-w", "%{num_connects}\n", "-o", os.devnull, f"http://127.0.0.1:{server.port}/pending", "-o", os.devnull, f"http://127.0.0.1:{server.port}/pending"], stdout=subprocess.PIPE)
         cases.equal("http: one connection for two requests", kept.stdout, b"1\n0\n")
         discussed(cases, server)
+
+
+def pages(cases, folder):
+    """A hundred pending submissions are a page, and the one behind them the next."""
+    database = os.path.join(folder, "pages")
+    script(database, "account root who=alice&rank=0", *["submit alice path=PC/8086&name=Intel"] * 101)
+    with Server(database) as server:
+        for after, numbers in ((0, range(1, 101)), (100, [101]), (101, [])):
+            lines = "".join(f"{number} alice name PC/8086 Intel\n" for number in numbers)
+            cases.equal(f"http: pending after {after}", server.curl(f"/pending?after={after}&format=text"), (200, TEXT, lines.encode()))
 
 
 def discussed(cases, server):
@@ -249,5 +260,5 @@ def run(cases):
         cases.skipped("http", "the package curl is not installed")
         return
     with tempfile.TemporaryDirectory() as folder:
-        for part in (streams, questions, examples, files, long_files, clients, killed, taken_port):
+        for part in (streams, questions, pages, examples, files, long_files, clients, killed, taken_port):
             part(cases, folder)

@@ -77,17 +77,26 @@ def refuse_in_turn(cases, shim, name, step):
                     return refusals
 
 
+def built_shims(folder):
+    """The libraries that refuse, built in a folder; None where gcc could not."""
+    shims = {name: os.path.join(folder, f"{name}.so") for name in ("refuse_disk", "refuse_malloc")}
+    for name, shim in shims.items():
+        source = os.path.join(os.path.dirname(os.path.abspath(__file__)), f"{name}.c")
+        if subprocess.run(["gcc", "-O1", "-shared", "-fPIC", source, "-o", shim, "-ldl"]).returncode != 0:
+            return None
+    return shims
+
+
 def run(cases):
     if shutil.which("sqlite3") is None or shutil.which("gcc") is None:
         cases.skipped("stops", "sqlite3 or gcc is not installed")
         return
     with tempfile.TemporaryDirectory() as folder:
+        shims = built_shims(folder)
+        if shims is None:
+            cases.skipped("stops", "gcc could not build the shims")
+            return
         for name, step, least in (("refuse_disk", 1, 40), ("refuse_malloc", 7, 100)):
-            shim = os.path.join(folder, f"{name}.so")
-            source = os.path.join(os.path.dirname(os.path.abspath(__file__)), f"{name}.c")
-            if subprocess.run(["gcc", "-O1", "-shared", "-fPIC", source, "-o", shim, "-ldl"]).returncode != 0:
-                cases.skipped(name, "gcc could not build the shim")
-                continue
-            refusals = refuse_in_turn(cases, shim, name, step)
+            refusals = refuse_in_turn(cases, shims[name], name, step)
             print(f"{name}: {refusals} calls refused, one in each run")
             cases.equal(f"{name}: calls were refused", refusals >= least, True)
