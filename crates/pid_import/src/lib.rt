@@ -11,4 +11,4 @@ mod tally;
 pub use faults::refusal_of;
 pub use judging::{Early, judge_import};
 pub use laws::{long_files_are_refused, texts_read_to_files};
-pub use put_file::{FILE_BYTES, Stop, bring_in};
+pub use put_file::{Stop, bring_in};

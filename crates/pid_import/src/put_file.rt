@@ -21,7 +21,8 @@ use crate::putting::{PutSink, Putter};
 use crate::tally::Tally;
 use pid_ident::Input;
 use pid_moderation::{
-    Change, Command, Facts, FileFault, Refusal, Reply, Verdict, decide, items_are_sorted,
+    Change, Command, FILE_BYTES, Facts, FileFault, Refusal, Reply, Verdict, decide,
+    items_are_sorted,
 };
 use pid_reader::laws::numbered_entries_are_entries;
 use pid_reader::{CutEnd, InputEnd, ReadRefusal, cut_input};
@@ -29,9 +30,6 @@ use pid_tables::{Batch, TableFault, apply, begin, commit, roll_back};
 use sqlite::{Alter, Connection};
 use std::alloc::Global;
 use thiserror::Error;
-
-/// The most bytes that the file of an import may have: 4 MiB.
-pub const FILE_BYTES: usize = 4_194_304;
 
 /// Why a file was not brought in.
 ///

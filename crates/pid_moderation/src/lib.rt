@@ -16,7 +16,7 @@ mod verb;
 mod wants;
 
 pub use change::{Change, Edit, Effect, Receipt, Write};
-pub use checks::{ITEMS, REMARKS, REVISIONS, SUBMISSIONS, breaks_form};
+pub use checks::{FILE_BYTES, ITEMS, REMARKS, REVISIONS, SUBMISSIONS, breaks_form};
 pub use command::{Act, Command, File, Proposal, Reply};
 pub use facts::{Facts, Named, State, Verdict};
 pub use form::command_of;

@@ -17,9 +17,9 @@ use crate::laws::{commands_lead_on, reached_histories_are_kept};
 use crate::registry::Registry;
 use pid_ident::{Account, Input, Key};
 use pid_import::{
-    Early, FILE_BYTES, Stop, bring_in, judge_import, long_files_are_refused, texts_read_to_files,
+    Early, Stop, bring_in, judge_import, long_files_are_refused, texts_read_to_files,
 };
-use pid_moderation::{Act, Command, Facts, File, Refusal, Reply, command_is_well_made};
+use pid_moderation::{Act, Command, FILE_BYTES, Facts, File, Refusal, Reply, command_is_well_made};
 use pid_reader::{SkipEnd, SliceInput, skip_input};
 use sqlite::Alter;
 use std::alloc::Global;
