@@ -1,5 +1,6 @@
 -- Worked look-ups, by computation: each holds over any holder whose names at the paths asked for are these.
-use Rattle.std.proofs.Common.{◌≡◌, ℕ, ◌==◌, true, false, cond, List, Option, Some, None, codes, refl}
+use Rattle.std.proofs.Common.{◌≡◌, ℕ, ◌==◌, true, false, cond, List, Option, Some, None, Ok, Err, codes, refl}
+use mathlib.Core.Bool.{false≢true}
 use Rattle.pid_ident.specs.declared.path.Path.{Path}
 use Rattle.pid_ident.specs.declared.path.Path.TheVariants.{Vendor, Device, Subsystem, Class, Subclass, ProgIf, Generic}
 use Rattle.pid_lookup.specs.declared.args.Args.{Args}
@@ -7,6 +8,8 @@ use Rattle.pid_lookup.specs.declared.answer.Answer.{Answer}
 use Rattle.pid_lookup.specs.declared.answer.Answer.TheVariants.{Text, NoAnswer}
 use Rattle.pid_lookup.specs.Flags.{request_of, switches_of, is_bad}
 use Rattle.pid_lookup.specs.Answers.{requested}
+use Rattle.pid_lookup.specs.declared.answering.LookupRefusal.TheVariants.{Memory}
+use Rattle.pid_lookup.specs.Told.{IsToldBy, NeedsNames}
 
 -- names at vendors, at devices and so on
 abbrev Named : Type 0
@@ -136,3 +139,16 @@ unknown_bit = refl
 
 mixed_with_both : is_bad 0x70001 ≡ false
 mixed_with_both = refl
+
+-- of which holders the ends come
+vendor_needs_names : NeedsNames 0x1
+vendor_needs_names = (refl, refl)
+
+no_request_needs_no_names : NeedsNames 0x5 → ⊥
+no_request_needs_no_names needs = false≢true needs.1
+
+no_answer_is_told_too : (F : Type 0) → IsToldBy {F = F} ⊥ 0x20001 (Ok NoAnswer) → ⊥
+no_answer_is_told_too F told = told (refl, refl)
+
+memory_is_told_too : (F : Type 0) → IsToldBy {A = Answer} {F = F} ⊥ 0x1 (Err Memory) → ⊥
+memory_is_told_too F told = told (refl, refl)

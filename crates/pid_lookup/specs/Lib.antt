@@ -7,5 +7,6 @@ pub mod Asked
 pub mod TreeNames
 pub mod Fields
 pub mod Holders
+pub mod Told
 pub mod Unanswered
 pub mod Steps

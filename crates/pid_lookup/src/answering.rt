@@ -1,5 +1,5 @@
 //! The texts that libpci's `pci_lookup_name` gives.
-ghost use Rattle.std.specs.Prelude.{◌≡◌, ◌≢◌, ◌↔◌, true, Err, IfOk, IfErr, IsErrOf, IsNone};
+ghost use Rattle.std.specs.Prelude.{◌≡◌, ◌≢◌, ◌↔◌, true, false, Err, IfOk, IfErr, IsErrOf, IsNone};
 ghost use Rattle.std.specs.List.{flat_map};
 ghost use Rattle.pid_lookup.specs.declared.answering.LookupRefusal.TheVariants.{Memory};
 ghost use Rattle.pid_lookup.specs.Answers.{answer_of, cut_answer, number_of, text_of, word_of};
@@ -9,6 +9,7 @@ ghost use Rattle.pid_lookup.specs.Found.{name_in};
 ghost use Rattle.pid_lookup.specs.Holders.{Keeps};
 ghost use Rattle.pid_lookup.specs.Steps.FoundTexts.{found_text};
 ghost use Rattle.pid_lookup.specs.Steps.Styles.{switches};
+ghost use Rattle.pid_lookup.specs.Told.{IsToldBy, TellsOnlyIf};
 
 use crate::answer::{Answer, AnswerText};
 use crate::args::Args;
@@ -45,6 +46,8 @@ impl<F> From<AllocError> for LookupRefusal<F> {
 ///
 /// The low 16 bits of the flags say what is looked up, as libpci's `PCI_LOOKUP_VENDOR` and its kin do; above these
 /// `PCI_LOOKUP_NUMERIC`, `PCI_LOOKUP_NO_NUMBERS` and `PCI_LOOKUP_MIXED` say how.
+///
+/// Where a name must be asked for, an answer comes only of a holder that may tell; of another its fault is all that comes.
 pub fn lookup<N: Names>(
     alloc: Global,
     names: &mut N,
@@ -58,7 +61,8 @@ pub fn lookup<N: Names>(
     ensures fault { (f : _) → IsErrOf result (LookupRefusal.Names f) → N.may_give names.old f }
     ensures unasked { (switches_of flags).numeric ≡ true → (f : _) → result ≢ Err (LookupRefusal.Names f) }
     ensures unrequested { IsNone (request_of flags) → (f : _) → result ≢ Err (LookupRefusal.Names f) }
-    ensures kept { Keeps N.shows N.is_honest N.may_give N.only_asked names.old names.new }
+    ensures told { IsToldBy (N.may_tell names.old) flags result }
+    ensures kept { Keeps N.shows N.is_honest N.may_give N.may_tell N.only_asked names.old names.new }
 {
     let Some(flags) = read_flags(flags) else {
         return Err(LookupRefusal::BadFlags);
@@ -86,10 +90,11 @@ fn answer_request<N: Names>(
 ) -> Result<Answer, LookupRefusal<N::Fault>>
     ensures answer { N.is_honest names.new → (s : N.Shown) → N.shows names.old s
         → IfOk result (λ answer. answer ≡ cut_answer (text_of (name_in (N.map_of s)) (switches style) request args.now) size) }
+    ensures told { (switches style).numeric ≡ false → TellsOnlyIf (N.may_tell names.old) result }
     ensures good_flags { result ≢ Err LookupRefusal.BadFlags }
     ensures unasked { (switches style).numeric ≡ true → (f : _) → result ≢ Err (LookupRefusal.Names f) }
     ensures fault { (f : _) → IsErrOf result (LookupRefusal.Names f) → N.may_give names.old f }
-    ensures kept { Keeps N.shows N.is_honest N.may_give N.only_asked names.old names.new }
+    ensures kept { Keeps N.shows N.is_honest N.may_give N.may_tell N.only_asked names.old names.new }
 {
     match style {
         Style::Numeric => Ok(show_number(alloc, request, args, size)?),

@@ -1,5 +1,5 @@
 //! The names that a request is about.
-ghost use Rattle.std.specs.Prelude.{◌≡◌, ◌&&◌, ◌==◌, not, nat_lt, IfOk, IfErr};
+ghost use Rattle.std.specs.Prelude.{◌≡◌, ◌&&◌, ◌==◌, not, nat_lt, IfOk, IfErr, IsSome};
 ghost use Rattle.pid_ident.specs.declared.path.Path.TheVariants as paths;
 ghost use Rattle.pid_lookup.specs.Found.{name_in, where_true, subsystem_name, class_byte as class_half, subclass_byte as subclass_half};
 ghost use Rattle.pid_lookup.specs.Flags.{has};
@@ -28,8 +28,9 @@ pub enum Found {
 pub fn find<N: Names>(names: &mut N, request: Request, args: &Args) -> Result<Found, N::Fault>
     ensures found { N.is_honest names.new → (s : N.Shown) → N.shows names.old s
         → IfOk result (λ found. IsFor found (name_in (N.map_of s)) request args.now) }
+    ensures told { IfOk result (λ _. N.may_tell names.old) }
     ensures fault { IfErr result (λ f. N.may_give names.old f) }
-    ensures kept { Keeps N.shows N.is_honest N.may_give N.only_asked names.old names.new }
+    ensures kept { Keeps N.shows N.is_honest N.may_give N.may_tell N.only_asked names.old names.new }
 {
     match request {
         Request::Vendor => Ok(Found::One(find_vendor(names, args.vendor)?)),
@@ -46,8 +47,9 @@ pub fn find<N: Names>(names: &mut N, request: Request, args: &Args) -> Result<Fo
 fn find_vendor<N: Names>(names: &mut N, vendor: Id16) -> Result<Option<Name>, N::Fault>
     ensures found { N.is_honest names.new → (s : N.Shown) → N.shows names.old s
         → IfOk result (λ name. name ≡ name_in (N.map_of s) (paths.Vendor vendor)) }
+    ensures told { IfOk result (λ _. N.may_tell names.old) }
     ensures fault { IfErr result (λ f. N.may_give names.old f) }
-    ensures kept { Keeps N.shows N.is_honest N.may_give N.only_asked names.old names.new }
+    ensures kept { Keeps N.shows N.is_honest N.may_give N.may_tell N.only_asked names.old names.new }
 {
     names.name_of(&Path::Vendor { vendor })
 }
@@ -55,8 +57,9 @@ fn find_vendor<N: Names>(names: &mut N, vendor: Id16) -> Result<Option<Name>, N:
 fn find_device<N: Names>(names: &mut N, args: &Args) -> Result<Option<Name>, N::Fault>
     ensures found { N.is_honest names.new → (s : N.Shown) → N.shows names.old s
         → IfOk result (λ name. name ≡ name_in (N.map_of s) (paths.Device args.now.vendor args.now.device)) }
+    ensures told { IfOk result (λ _. N.may_tell names.old) }
     ensures fault { IfErr result (λ f. N.may_give names.old f) }
-    ensures kept { Keeps N.shows N.is_honest N.may_give N.only_asked names.old names.new }
+    ensures kept { Keeps N.shows N.is_honest N.may_give N.may_tell N.only_asked names.old names.new }
 {
     names.name_of(&Path::Device {
         vendor: args.vendor,
@@ -67,8 +70,9 @@ fn find_device<N: Names>(names: &mut N, args: &Args) -> Result<Option<Name>, N::
 fn find_device_pair<N: Names>(names: &mut N, args: &Args) -> Result<Found, N::Fault>
     ensures found { N.is_honest names.new → (s : N.Shown) → N.shows names.old s
         → IfOk result (λ found. IsFor found (name_in (N.map_of s)) Request.VendorAndDevice args.now) }
+    ensures told { IfOk result (λ _. N.may_tell names.old) }
     ensures fault { IfErr result (λ f. N.may_give names.old f) }
-    ensures kept { Keeps N.shows N.is_honest N.may_give N.only_asked names.old names.new }
+    ensures kept { Keeps N.shows N.is_honest N.may_give N.may_tell N.only_asked names.old names.new }
 {
     let vendor = find_vendor(names, args.vendor)?;
     let device = find_device(names, args)?;
@@ -78,8 +82,9 @@ fn find_device_pair<N: Names>(names: &mut N, args: &Args) -> Result<Found, N::Fa
 fn find_subsystem_pair<N: Names>(names: &mut N, args: &Args) -> Result<Found, N::Fault>
     ensures found { N.is_honest names.new → (s : N.Shown) → N.shows names.old s
         → IfOk result (λ found. IsFor found (name_in (N.map_of s)) Request.SubvendorAndSubsystem args.now) }
+    ensures told { IfOk result (λ _. N.may_tell names.old) }
     ensures fault { IfErr result (λ f. N.may_give names.old f) }
-    ensures kept { Keeps N.shows N.is_honest N.may_give N.only_asked names.old names.new }
+    ensures kept { Keeps N.shows N.is_honest N.may_give N.may_tell N.only_asked names.old names.new }
 {
     let vendor = find_vendor(names, args.subvendor)?;
     let device = find_subsystem(names, args)?;
@@ -89,8 +94,9 @@ fn find_subsystem_pair<N: Names>(names: &mut N, args: &Args) -> Result<Found, N:
 fn find_subsystem<N: Names>(names: &mut N, args: &Args) -> Result<Option<Name>, N::Fault>
     ensures found { N.is_honest names.new → (s : N.Shown) → N.shows names.old s
         → IfOk result (λ name. name ≡ subsystem_name (name_in (N.map_of s)) args.now) }
+    ensures told { IfOk result (λ _. N.may_tell names.old) }
     ensures fault { IfErr result (λ f. N.may_give names.old f) }
-    ensures kept { Keeps N.shows N.is_honest N.may_give N.only_asked names.old names.new }
+    ensures kept { Keeps N.shows N.is_honest N.may_give N.may_tell N.only_asked names.old names.new }
 {
     if let Some(name) = find_under_device(names, args)? {
         return Ok(Some(name));
@@ -106,8 +112,9 @@ fn find_under_device<N: Names>(names: &mut N, args: &Args) -> Result<Option<Name
     ensures found { N.is_honest names.new → (s : N.Shown) → N.shows names.old s
         → IfOk result (λ name. name ≡ where_true (nat_lt 0 args.now.vendor && nat_lt 0 args.now.device)
         (name_in (N.map_of s) (paths.Subsystem args.now.vendor args.now.device args.now.subvendor args.now.subdevice))) }
+    ensures told { IfOk result (λ name. IsSome name → N.may_tell names.old) }
     ensures fault { IfErr result (λ f. N.may_give names.old f) }
-    ensures kept { Keeps N.shows N.is_honest N.may_give N.only_asked names.old names.new }
+    ensures kept { Keeps N.shows N.is_honest N.may_give N.may_tell N.only_asked names.old names.new }
 {
     if args.vendor == 0 || args.device == 0 {
         return Ok(None);
@@ -124,8 +131,9 @@ fn find_under_device<N: Names>(names: &mut N, args: &Args) -> Result<Option<Name
 fn find_generic<N: Names>(names: &mut N, args: &Args) -> Result<Option<Name>, N::Fault>
     ensures found { N.is_honest names.new → (s : N.Shown) → N.shows names.old s
         → IfOk result (λ name. name ≡ name_in (N.map_of s) (paths.Generic args.now.subvendor args.now.subdevice)) }
+    ensures told { IfOk result (λ _. N.may_tell names.old) }
     ensures fault { IfErr result (λ f. N.may_give names.old f) }
-    ensures kept { Keeps N.shows N.is_honest N.may_give N.only_asked names.old names.new }
+    ensures kept { Keeps N.shows N.is_honest N.may_give N.may_tell N.only_asked names.old names.new }
 {
     names.name_of(&Path::Generic {
         vendor: args.subvendor,
@@ -139,7 +147,7 @@ fn find_own_device<N: Names>(names: &mut N, args: &Args) -> Result<Option<Name>,
         → IfOk result (λ name. name ≡ where_true (args.now.subvendor == args.now.vendor && args.now.subdevice == args.now.device)
         (name_in (N.map_of s) (paths.Device args.now.vendor args.now.device))) }
     ensures fault { IfErr result (λ f. N.may_give names.old f) }
-    ensures kept { Keeps N.shows N.is_honest N.may_give N.only_asked names.old names.new }
+    ensures kept { Keeps N.shows N.is_honest N.may_give N.may_tell N.only_asked names.old names.new }
 {
     if !is_own_subsystem(args) {
         return Ok(None);
@@ -156,8 +164,9 @@ fn is_own_subsystem(args: &Args) -> bool
 fn find_class<N: Names>(names: &mut N, args: &Args) -> Result<Found, N::Fault>
     ensures found { N.is_honest names.new → (s : N.Shown) → N.shows names.old s
         → IfOk result (λ found. IsFor found (name_in (N.map_of s)) Request.Class args.now) }
+    ensures told { IfOk result (λ _. N.may_tell names.old) }
     ensures fault { IfErr result (λ f. N.may_give names.old f) }
-    ensures kept { Keeps N.shows N.is_honest N.may_give N.only_asked names.old names.new }
+    ensures kept { Keeps N.shows N.is_honest N.may_give N.may_tell N.only_asked names.old names.new }
 {
     let class = class_byte(args);
     let subclass = subclass_byte(args);
@@ -173,8 +182,9 @@ fn find_class<N: Names>(names: &mut N, args: &Args) -> Result<Found, N::Fault>
 fn find_progif<N: Names>(names: &mut N, args: &Args) -> Result<Found, N::Fault>
     ensures found { N.is_honest names.new → (s : N.Shown) → N.shows names.old s
         → IfOk result (λ found. IsFor found (name_in (N.map_of s)) Request.ProgIf args.now) }
+    ensures told { IfOk result (λ _. N.may_tell names.old) }
     ensures fault { IfErr result (λ f. N.may_give names.old f) }
-    ensures kept { Keeps N.shows N.is_honest N.may_give N.only_asked names.old names.new }
+    ensures kept { Keeps N.shows N.is_honest N.may_give N.may_tell N.only_asked names.old names.new }
 {
     let path = Path::ProgIf {
         class: class_byte(args),

@@ -1,5 +1,5 @@
 //! Holders of names.
-ghost use Rattle.std.specs.Prelude.{◌≡◌, IfOk, IfErr};
+ghost use Rattle.std.specs.Prelude.{◌≡◌, ⊤, IfOk, IfErr};
 ghost use Rattle.pid_ident.specs.Trees.{TreeMap};
 ghost use Rattle.pid_lookup.specs.Found.{name_in};
 ghost use Rattle.pid_lookup.specs.Holders.{Keeps};
@@ -8,8 +8,9 @@ use pid_ident::{Name, Path};
 
 /// A holder of names: a tree, or a registry over a disk.
 ///
-/// What it tells is the map of what it shows, where it is honest as the call ends. No question changes what is shown
-/// or which faults may come, nor, honest or not, more of the holder than `only_asked` allows.
+/// What it tells is the map of what it shows, where it is honest as the call ends, and it tells of a path only where it may tell.
+/// No question changes what is shown, which faults may come or whether it may tell, nor, honest or not, more of the holder than
+/// `only_asked` allows.
 pub trait Names {
     type Fault;
 
@@ -28,6 +29,9 @@ pub trait Names {
     /// Whether the holder may give this fault.
     ghost may_give: { Self → Self.Fault → Type 0 };
 
+    /// Whether the holder may tell that a path has a name, or that it has none: where not, each question gets a fault.
+    ghost may_tell: { Self → Type 0 } = { λ _. ⊤ };
+
     /// Whether a holder that was the first may be the second where it was asked for names, and nothing else was done to it.
     ghost only_asked: { Self → Self → Type 0 };
 
@@ -35,6 +39,7 @@ pub trait Names {
     fn name_of(&mut self, path: &Path) -> Result<Option<Name>, Self::Fault>
         ensures found { is_honest self.new → (s : Shown) → shows self.old s
             → IfOk result (λ name. name ≡ name_in (map_of s) path.now) }
+        ensures told { IfOk result (λ _. may_tell self.old) }
         ensures fault { IfErr result (λ f. may_give self.old f) }
-        ensures kept { Keeps shows is_honest may_give only_asked self.old self.new };
+        ensures kept { Keeps shows is_honest may_give may_tell only_asked self.old self.new };
 }

@@ -1,7 +1,7 @@
 //! The names of a text that a look-up can ask for.
 ghost use Rattle.std.specs.Prelude.{◌≡◌, false};
 ghost use Rattle.std.specs.FinMap.{empty};
-ghost use Rattle.std.specs.List.{All};
+ghost use Rattle.std.specs.List.{All, list_any};
 ghost use Rattle.std.specs.Ordering.{eq_by_cmp};
 ghost use Rattle.pid_ident.specs.PathTexts.{path_cmp};
 ghost use Rattle.pid_text_lookup.specs.AskedNames.{asked_paths as paths_asked};
@@ -37,7 +37,8 @@ impl AskedNames {
 }
 
 fn is_among(path: &Path, asked: &[Path; 8]) -> bool
-    ensures { result ≡ false → All (λ p. eq_by_cmp path_cmp p path.now ≡ false) asked.now }
+    ensures others { result ≡ false → All (λ p. eq_by_cmp path_cmp p path.now ≡ false) asked.now }
+    ensures among { result ≡ list_any (λ p. eq_by_cmp path_cmp p path.now) asked.now }
 {
     asked.iter().any(|one| *one == *path)
 }

@@ -1,8 +1,9 @@
 //! The names of an input's text.
-ghost use Rattle.std.specs.Prelude.{◌≡◌, ◌+◌, ◌≤◌, ◌↔◌, ℕ, List, Err, IsSome, IfSome, length};
+ghost use Rattle.std.specs.Prelude.{◌≡◌, ◌+◌, ◌≤◌, ◌↔◌, ℕ, List, Err, IsSome, IfSome, IfOk, length};
 ghost use Rattle.std.specs.Io.KnownBytes.{Consumes};
 ghost use Rattle.pid_reader.specs.InputTexts.{IsRead, without_fault};
-ghost use Rattle.pid_text_lookup.specs.AskedNames.{HasAsked};
+ghost use Rattle.pid_text_lookup.specs.AskedNames.{HasAsked, HasOnly, asked_paths};
+ghost use Rattle.pid_text_lookup.specs.Kept.{kept_map};
 
 use crate::asked_names::AskedNames;
 use pid_ident::Input;
@@ -25,8 +26,8 @@ fn end_of(end: InputEnd<AllocError>) -> InputEnd<Never>
     }
 }
 
-/// The names of the input's text that a look-up with these arguments can ask for. Faults are told as by `read_input`, and as much is
-/// read.
+/// The names of the input's text that a look-up with these arguments can ask for, and no others. Faults are told as by `read_input`,
+/// and as much is read.
 pub fn names_in<I: Input>(
     alloc: Global,
     limit: usize,
@@ -34,6 +35,7 @@ pub fn names_in<I: Input>(
     input: &mut I,
 ) -> Result<AskedNames, InputEnd<Never>>
     ensures names { IfSome (I.to_come input.old) (λ text. IsRead (HasAsked args.now) limit result text) }
+    ensures no_others { IfOk result (λ names. HasOnly (asked_paths args.now) (kept_map names)) }
     ensures stops { (front : List ℕ) × Consumes (I.to_come input.old) (I.to_come input.new) front × (length front ≤ limit + 1) }
     ensures fault { result ≡ Err InputEnd.ReadFault → IsSome (I.read_fault input.new) }
     ensures fault_first { IsSome (I.read_fault input.new) → result ≡ Err InputEnd.ReadFault }
