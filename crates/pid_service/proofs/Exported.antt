@@ -1,5 +1,5 @@
 -- What a registry exports, by what its tables did.
-use Rattle.std.proofs.Common.{◌≡◌, ℕ, List, Option, Ok, Err, sym, ap, subst, ◌∙◌}
+use Rattle.std.proofs.Common.{◌≡◌, ℕ, List, Option, Result, Ok, Err, refl, sym, ap, subst, ◌∙◌}
 use Rattle.std.specs.Io.KnownBytes.{Appends}
 use Rattle.pid_ident.specs.Sending.{SendsFront}
 use Rattle.pid_ident.specs.declared.io.WriteFault.{WriteFault}
@@ -12,15 +12,23 @@ use Rattle.pid_moderation.specs.Views.{items_of}
 use Rattle.pid_moderation.specs.Writes.{tree_of}
 use Rattle.pid_tree.specs.Printing.{print}
 use Rattle.pid_service.specs.declared.exporting.ExportFault.{ExportFault}
-use Rattle.pid_service.specs.declared.exporting.ExportFault.TheVariants.{Write}
+use Rattle.pid_service.specs.declared.exporting.ExportFault.TheVariants.{Refused, Write}
+use Rattle.sqlite.specs.Held.{Held}
+use Rattle.sqlite_trees.specs.declared.store.Store.{Ghosts}
+use Rattle.pid_import.specs.Faults.{refusal_for}
+use Rattle.pid_moderation.specs.declared.refusal.Refusal.{Refusal}
+use Rattle.pid_rows.specs.Clauses as clauses
+use Rattle.pid_rows.specs.declared.fault.TableFault.{TableFault}
+use Rattle.pid_service.specs.Asking.{IsCausedAs}
 use Rattle.pid_service.specs.Exporting.{ExportsTree, IsToldAs}
+use Rattle.pid_service.proofs.Causes.{caused_as}
 
 pub whole_tree : (old new : Option (List ℕ)) (h : History) → text_of_items (items_of h) ≡ print (tree_of h) → Exports {X = Unit {0}} (Ok tt) old new (items_of h) → ExportsTree {X = Unit {0}} (Ok tt) old new h
 whole_tree old new h same all = subst (λ (text : List ℕ). Appends old new text) same all
 
 pub told_tree : (end : ExportEnd) (told : ExportFault) (old new : Option (List ℕ)) (h : History) → text_of_items (items_of h) ≡ print (tree_of h) → IsToldAs end told → Exports {X = Unit {0}} (Err end) old new (items_of h)
     → ExportsTree {X = Unit {0}} (Err told) old new h
-told_tree (ends.Tables fault) told old new h same (e, is, bad) lines = subst (λ (x : ExportFault). ExportsTree {X = Unit {0}} (Err x) old new h) (sym is) (bad, lines)
+told_tree (ends.Tables fault) told old new h same (e, is, bad, of) lines = subst (λ (x : ExportFault). ExportsTree {X = Unit {0}} (Err x) old new h) (sym is) (bad, lines)
 told_tree (ends.Write fault) told old new h same is front = subst (λ (x : ExportFault). ExportsTree {X = Unit {0}} (Err x) old new h) (sym is) (subst (λ (text : List ℕ). SendsFront old new text) same front)
 
 writes : (f g : WriteFault) → Write f ≡ Write g → f ≡ g
@@ -28,5 +36,19 @@ writes f g e = cc
 
 -- a fault of the writer is told as such, and no other is
 pub told_write : (end : ExportEnd) (told : ExportFault) (f : WriteFault) → IsToldAs end told → told ≡ Write f → end ≡ ends.Write f
-told_write (ends.Tables fault) told f (e, is, bad) same = absurd (let other = sym is ∙ same in let no : ⊥ = cc in no)
+told_write (ends.Tables fault) told f (e, is, bad, of) same = absurd (let other = sym is ∙ same in let no : ⊥ = cc in no)
 told_write (ends.Write fault) told f is same = ap ends.Write (writes fault f (sym is ∙ same))
+
+refuses : (e f : Refusal) → Refused e ≡ Refused f → e ≡ f
+refuses e f is = cc
+
+-- a fault of the tables has its cause
+pub told_cause : {S : Type 0} (store : Ghosts S) (old new : Held S) (end : ExportEnd) (told : ExportFault) (e : Refusal) → IsToldAs end told → told ≡ Refused e
+    → ((fault : TableFault) → end ≡ ends.Tables fault → clauses.IsCaused store old new fault) → IsCausedAs store old new e
+told_cause store old new (ends.Tables fault) told e (x, is, bad, of) asked caused =
+    let same : e ≡ refusal_for fault = refuses e x (sym asked ∙ is) ∙ of in
+    subst (λ (y : Refusal). IsCausedAs store old new y) (sym same) (caused_as store old new fault (caused fault refl))
+told_cause store old new (ends.Write fault) told e is asked caused = absurd (let other = sym asked ∙ is in let no : ⊥ = cc in no)
+
+pub told_by : {X : Type 0} (r : Result X ExportFault) (told : ExportFault) (e : Refusal) → r ≡ Err told → r ≡ Err (Refused e) → told ≡ Refused e
+told_by r told e is asked = let same = sym is ∙ asked in cc

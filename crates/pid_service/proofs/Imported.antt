@@ -1,5 +1,5 @@
 -- What a registry shows after an import, by how far it came.
-use Rattle.std.proofs.Common.{◌≡◌, ◌≢◌, inl, inr, ℕ, ◌<◌, ◌≤◌, ◌+◌, ◌↔◌, true, false, List, [], ◌++◌, length, Some, Result, Ok, Err, refl, sym, ap, subst, ◌∙◌, arith, length-append, append-nil}
+use Rattle.std.proofs.Common.{◌≡◌, ◌≢◌, inl, inr, ℕ, ◌<◌, ◌≤◌, ◌+◌, ◌↔◌, true, false, List, [], ◌++◌, length, Option, Some, Result, Ok, Err, refl, sym, ap, subst, ◌∙◌, arith, length-append, append-nil}
 use Rattle.std.proofs.lemmas.Bool.Decides.{nat_tests}
 use Rattle.sqlite_trees.specs.declared.store.Store.{Ghosts}
 use Rattle.pid_moderation.specs.declared.command.Act.{Act}
@@ -14,15 +14,16 @@ use Rattle.pid_moderation.specs.History.{Asked, Deed, History, Imports, Reading,
 use Rattle.pid_moderation.specs.Judgement.{judge, answer, after}
 use Rattle.pid_moderation.specs.Views.{views_of}
 use Rattle.pid_rows.specs.Clauses.{AtRest}
+use Rattle.pid_import.specs.declared.put_file.Stop.{Stop}
 use Rattle.pid_import.specs.declared.put_file.Stop.TheVariants as stops
 use Rattle.pid_import.specs.Clauses.{EndsImport}
 use Rattle.pid_import.specs.Files.{asks, file_reading, reading_of}
-use Rattle.pid_import.specs.Importing.{Refuses}
+use Rattle.pid_import.specs.Importing.{ReadsFile, Refuses}
 use Rattle.pid_import.specs.Judging.{IsSettled}
 use Rattle.pid_service.specs.declared.importing.ImportEnd.{ImportEnd}
 use Rattle.pid_service.specs.declared.importing.ImportEnd.TheVariants as imports
 use Rattle.pid_service.specs.declared.registry.Registry.{Registry}
-use Rattle.pid_service.specs.Histories.{IsReached, Shows}
+use Rattle.pid_service.specs.Histories.{IsFault, IsReached, Shows}
 use Rattle.pid_service.specs.Importing.{AnswersPast, IsPlain, ObeysImport, ReadsImport}
 use Rattle.pid_service.specs.KeptNames.{KeepsNames}
 use Rattle.pid_service.specs.Obeying.{Obeys}
@@ -52,6 +53,10 @@ LongRefused = (h : History) (command : Command) (text : List ℕ) → is_import 
 
 fits : (text : List ℕ) → LongFiles → length text ≤ most_file_bytes → file_reading text ≢ TooLong
 fits text law short long = let over : most_file_bytes < length text = (law text).0 long in omega (arith, over, short)
+
+-- how much was read where it was stopped
+pub failed_read : (stop : Stop) (refusal told : Refusal) (rest : Option (List ℕ)) (text : List ℕ) → stop ≡ stops.Failed refusal → ReadsFile (Err stop) rest text → ReadsImport (Err (imports.Refused told)) rest text
+failed_read stop refusal told rest text is read = let so : ReadsFile (Err (stops.Failed refusal)) rest text = subst (λ (s : Stop). ReadsFile (Err s) rest text) is read in inl so
 
 module _ {S : Type 0} (store : Ghosts S) where
   told_so : (r : Registry S store) (h : History) (c : Asked) (result : Result Reply Refusal) → Shows store r h → answer (judge (views_of h) c) ≡ result → after h c ≡ h → Obeys store result r h c
@@ -100,6 +105,13 @@ module _ {S : Type 0} (store : Ghosts S) where
 
   pub failed_obeyed : (old new : Registry S store) (h : History) (c : Asked) (e : Refusal) → Shows store old h → is_live new ≡ false → IsReached (after h c) → EndsImport store (connection new) (Err (stops.Failed e)) h c → ObeysImport store (Err (imports.Refused e)) new h c
   failed_obeyed old new h c e shows off reached stops = inr (stops.1, inr (record { has_failed = off; before = shows.history; next = reached; leaves = stops.0 }))
+
+  -- what stops it, told as a fault
+  pub failed_carried : (old new : Registry S store) (h : History) (c : Asked) (stop : Stop) (refusal told : Refusal) → stop ≡ stops.Failed refusal → (IsFault refusal → told ≡ refusal) → Shows store old h → is_live new ≡ false → IsReached (after h c)
+      → EndsImport store (connection new) (Err stop) h c → ObeysImport store (Err (imports.Refused told)) new h c
+  failed_carried old new h c stop refusal told is same shows off reached ends =
+      let so : EndsImport store (connection new) (Err (stops.Failed refusal)) h c = subst (λ (s : Stop). EndsImport store (connection new) (Err s) h c) is ends in
+      subst (λ (e : Refusal). ObeysImport store (Err (imports.Refused e)) new h c) (sym (same so.1)) (failed_obeyed old new h c refusal shows off reached so)
 
   -- bytes in memory
 

@@ -6,8 +6,10 @@ pub mod Obeyed
 pub mod Opened
 pub mod Finding
 pub mod Imported
+pub mod Causes
 pub mod Exported
 pub mod Runs
+pub mod Lasting
 pub mod ImportLives
 pub mod RunLives
 pub mod Questions

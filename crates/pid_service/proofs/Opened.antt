@@ -1,6 +1,9 @@
 -- What an opened database is, by what it was.
 use Rattle.std.proofs.Common.{◌≡◌, ◌⊎◌, inl, inr, [], Bool, true, false, IsTrue, Some, Result, Ok, Err, IfErr, IfOk, MatchResult, refl, rules, sym, subst}
+use Rattle.sqlite.specs.Held.{Held, state}
 use Rattle.sqlite.specs.State.{State}
+use Rattle.sqlite.proofs.StateLemmas.{survives_then}
+use Rattle.sqlite_trees.specs.declared.store.Store.{Ghosts}
 use Rattle.sqlite.specs.Effect.{Database}
 use Rattle.pid_moderation.specs.History.{History, new_history}
 use Rattle.pid_moderation.specs.Views.{Views, views_of}
@@ -8,8 +11,13 @@ use Rattle.pid_rows.specs.declared.fault.TableFault.{TableFault}
 use Rattle.pid_rows.specs.declared.fault.TableFault.TheVariants.{Memory, Store, NewerSchema, Damaged}
 use Rattle.pid_rows.specs.declared.version.Version.TheVariants.{One, Two}
 use Rattle.pid_rows.specs.Faults.{IsUntold, IsNotLater}
+use Rattle.pid_rows.specs.Clauses as clauses
 use Rattle.pid_rows.specs.Leaves.{AtRest, OnlyReads, RestsIn}
 use Rattle.pid_table_check.specs.Checking.{Explains, Finds}
+use Rattle.pid_table_check.specs.Shapes.{HasSomeTable}
+use Rattle.pid_tables.specs.AtOnce.{IsOneStep, IsTakenBack}
+use Rattle.pid_tables.specs.Clauses as tables
+use Rattle.pid_tables.proofs.AtOnceLemmas.{reads_back}
 use Rattle.pid_tables.specs.Creation.{RestsBare}
 use Rattle.pid_tables.specs.Steps.{Brings, Refuses}
 use Rattle.pid_name_cache.specs.Entries.{Entries}
@@ -17,8 +25,8 @@ use Rattle.pid_tables.specs.declared.migration.Step.{Step}
 use Rattle.pid_tables.specs.declared.migration.Step.TheVariants.{Created, Moved, Already}
 use Rattle.pid_tables.specs.ShowsOrBlank.{ShowsOrBlank}
 use Rattle.pid_service.specs.KeptNames.{AreNamesOf}
-use Rattle.pid_service.specs.Opening.{IsFound}
-use Rattle.pid_rows.proofs.OnlyReading.{reads_then}
+use Rattle.pid_service.specs.Opening.{ExplainsNow, IsFound, IsMadeAndRefused, KeepsViews}
+use Rattle.pid_rows.proofs.OnlyReading.{reads_then, rests_in_still}
 
 -- what a step tells where the tables were not there, were in schema 1, and were in the schema of today
 pub record Steps (s : State) (h : History) (New : Type 0) (Old : Type 0) (Today : Type 0) : Type 0 where
@@ -104,3 +112,60 @@ moved P {a} {a'} {b} {b'} start end p = subst (λ x. P x b') start (subst (λ y.
 
 pub no_names : (names : Entries) (v : Views) → names ≡ [] → AreNamesOf names v
 no_names names v none = subst (λ (n : Entries). AreNamesOf n v) (sym none) (record { known = λ entry there. absurd (let no : ⊥ = search rules in no) })
+
+-- ---- in one step, whatever there was
+
+pub once_then_reads : (a b c : State) → IsOneStep a b → OnlyReads b c → IsOneStep a c
+once_then_reads a b c once reads = record {
+  written = once.written;
+  survives = survives_then a b c (λ db. db ≡ once.written) (λ _. ⊥) (λ db. db ≡ once.written) (λ clean db is. is) (λ clean db none. absurd none) once.survives reads.survives;
+}
+
+-- what is taken back is seen as before
+pub seen_back : (old new : State) → (IsTrue old.is_open → old.now ≡ old.committed) → IsTakenBack old new → IsTrue new.is_open → IsTrue old.is_open × (new.now ≡ old.now)
+seen_back old new settled back opened = (back.was_open opened, (back.same old.now (record { sees = λ was. refl; committed = λ was. sym (settled was) })).sees opened)
+
+-- a migration of tables that are not in schema 1, or do not keep its conditions, only reads
+
+pub brought_reads : (old mid : State) (step : Step) → Brings old step mid → ¬ (Finds old.now (Some One)) → OnlyReads old mid
+brought_reads old mid step (inl (is, reads)) none = reads
+brought_reads old mid step (inr (is, found)) none = absurd (none found)
+
+pub refused_reads : (old mid : State) (e : TableFault) → Refuses old e mid → ¬ (Finds old.now (Some One)) → OnlyReads old mid
+refused_reads old mid e (inl (explains, reads)) none = reads
+refused_reads old mid e (inr (found, later)) none = absurd (none found)
+
+-- where the judgement behind a migration fails
+
+made_found : (old mid : State) (step : Step) → (step ≡ Already → ⊥) → Brings old step mid → Finds old.now (Some One)
+made_found old mid step made (inl (is, reads)) = absurd (made is)
+made_found old mid step made (inr (is, found)) = found
+
+module _ {S : Type 0} (store : Ghosts S) where
+  pub still_views : (old mid new : Held S) → clauses.OnlyReads store mid new → KeepsViews store old mid → KeepsViews store old new
+  still_views old mid new reads kept version v rest = rests_in_still (state store mid) (state store new) v reads (kept version v rest)
+
+  module _ (old mid new : Held S) (reads : clauses.OnlyReads store mid new) (kept : clauses.HasCleanDisk store mid → KeepsViews store old mid) where
+    refused_then : (step : Step) (e : TableFault) → (step ≡ Already → ⊥) → (clauses.HasCleanDisk store mid → HasSomeTable (clauses.seen store old).schema → tables.Brings store old step mid)
+        → (clauses.HasCleanDisk store new → ExplainsNow store new e) → IsMadeAndRefused store old e new
+    refused_then step e made brings told = record {
+      found = λ clean some. made_found (state store old) (state store mid) step made (brings (reads.clean clean) some);
+      kept = λ clean. still_views old mid new reads (kept (reads.clean clean));
+      told = told;
+    }
+
+    pub back_behind : {X : Type 0} (step : Step) (r : Result X TableFault) → (step ≡ Already → clauses.OnlyReads store old mid)
+        → (clauses.HasCleanDisk store mid → HasSomeTable (clauses.seen store old).schema → tables.Brings store old step mid)
+        → (clauses.HasCleanDisk store new → IfErr r (λ e. ExplainsNow store new e)) → IfErr r (λ e. tables.IsTakenBack store old new ⊎ IsMadeAndRefused store old e new)
+    back_behind step (Ok x) already brings told = tt
+    back_behind Already (Err e) already brings told = inl (reads_back (state store old) (state store new) (reads_then (state store old) (state store mid) (state store new) (already refl) reads))
+    back_behind Created (Err e) already brings told = inr (refused_then Created e (λ is. let no : ⊥ = cc in no) brings told)
+    back_behind Moved (Err e) already brings told = inr (refused_then Moved e (λ is. let no : ⊥ = cc in no) brings told)
+
+pub explains_now : {X : Type 0} (mid new : State) (r : Result X TableFault) → (IsTrue new.is_open → new.now ≡ mid.now) → Judged mid.now r → IfErr r (λ e. Now new e)
+explains_now mid new (Ok x) same found = tt
+explains_now mid new (Err e) same explains = λ opened. subst (λ d. Explains d e) (sym (same opened)) explains
+
+pub kept_ok : {X E P : Type 0} (r : Result X E) → P → IfOk r (λ _. P)
+kept_ok (Ok x) p = p
+kept_ok (Err e) p = tt

@@ -71,7 +71,7 @@ pub none_of : {X : Type 0} (o : Option X) → is_some o ≡ false → o ≡ None
 none_of None off = refl
 none_of (Some x) off = absurd (let no : ⊥ = cc in no)
 
-no_fault : (r : Result Reply Refusal) → fault_in r ≡ None → IsErrAnd r IsFault → ⊥
+pub no_fault : (r : Result Reply Refusal) → fault_in r ≡ None → IsErrAnd r IsFault → ⊥
 no_fault (Err e) is (inl memory) = let no : ⊥ = let bad : Some Memory ≡ None = subst (λ x. fault_in (Err x) ≡ None) memory is in cc in no
 no_fault (Err e) is (inr store) = let no : ⊥ = let bad : Some Store ≡ None = subst (λ x. fault_in (Err x) ≡ None) store is in cc in no
 no_fault (Ok reply) is bad = absurd bad

@@ -5,7 +5,7 @@ use Rattle.pid_ident.specs.Sending.{SendsFront}
 use Rattle.pid_export.specs.declared.exporting.ExportEnd.{ExportEnd}
 use Rattle.pid_export.specs.declared.exporting.ExportEnd.TheVariants as ends
 use Rattle.pid_export.specs.Exports.{TakesWholeLines}
-use Rattle.pid_import.specs.Faults.{IsFault}
+use Rattle.pid_import.specs.Faults.{IsFault, refusal_for}
 use Rattle.pid_moderation.specs.declared.refusal.Refusal.{Refusal}
 use Rattle.pid_moderation.specs.History.{History}
 use Rattle.pid_moderation.specs.Views.{items_of}
@@ -23,5 +23,5 @@ ExportsTree (Err (Refused e)) old new h = IsFault e × TakesWholeLines old new (
 
 -- Serves private functions alone: how the end of an export of tables is told.
 abbrev pub IsToldAs : ExportEnd → ExportFault → Type 0
-IsToldAs (ends.Tables fault) told = (e : Refusal) × (told ≡ Refused e) × IsFault e
+IsToldAs (ends.Tables fault) told = (e : Refusal) × (told ≡ Refused e) × IsFault e × (e ≡ refusal_for fault)
 IsToldAs (ends.Write fault) told = told ≡ Write fault

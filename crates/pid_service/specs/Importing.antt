@@ -1,8 +1,9 @@
 -- What an import is answered whose file comes as an input, and what the registry shows afterwards.
-use Rattle.std.specs.Prelude.{◌≡◌, ◌≢◌, ◌⊎◌, ◌≤◌, ◌+◌, ℕ, List, length, Option, Result, Ok, Err}
+use Rattle.std.specs.Prelude.{◌≡◌, ◌≢◌, ◌⊎◌, ◌≤◌, ◌+◌, ℕ, Bool, true, List, length, Option, Result, Ok, Err}
 use Rattle.std.specs.Io.KnownBytes.{Consumes}
 use Rattle.sqlite_trees.specs.declared.store.Store.{Ghosts}
 use Rattle.pid_reader.specs.WholeInputs.{IsWhole}
+use Rattle.pid_lives.specs.Outcomes.{is_outcome}
 use Rattle.pid_moderation.specs.declared.command.Reply.{Reply}
 use Rattle.pid_moderation.specs.declared.refusal.Refusal.{Refusal}
 use Rattle.pid_moderation.specs.declared.refusal.Refusal.TheVariants.{BadText, Failed, Store}
@@ -11,7 +12,7 @@ use Rattle.pid_moderation.specs.History.{Asked, History}
 use Rattle.pid_service.specs.declared.importing.ImportEnd.{ImportEnd}
 use Rattle.pid_service.specs.declared.importing.ImportEnd.TheVariants.{Refused, Body}
 use Rattle.pid_service.specs.declared.registry.Registry.{Registry}
-use Rattle.pid_service.specs.Histories.{Shows}
+use Rattle.pid_service.specs.Histories.{IsFault, Shows}
 use Rattle.pid_service.specs.Obeying.{Obeys}
 
 -- how much of the input was read: all of it, if it is not too long; one byte more than a file may have, where it is; or what stands
@@ -39,7 +40,24 @@ abbrev pub IsEndOfLive : ImportEnd → Type 0
 IsEndOfLive (Refused e) = e ≢ Failed
 IsEndOfLive Body = Unit {0}
 
+-- a reply, a refusal with a number from 1 to 15, or a fault of the input
+abbrev pub is_end_outcome : Result Reply ImportEnd → Bool
+is_end_outcome (Ok reply) = true
+is_end_outcome (Err (Refused e)) = is_outcome (Err e)
+is_end_outcome (Err Body) = true
+
+-- memory was short, or the store failed
+abbrev pub IsEndFault : ImportEnd → Type 0
+IsEndFault (Refused e) = IsFault e
+IsEndFault Body = ⊥
+
 -- The rest serves private functions alone.
+
+-- the registry is as live as before, or memory was short or the store failed
+abbrev pub EndStaysLive : Result Reply ImportEnd → (before after : Bool) → Type 0
+EndStaysLive (Ok reply) before after = after ≡ before
+EndStaysLive (Err (Refused e)) before after = IsFault e ⊎ (after ≡ before)
+EndStaysLive (Err Body) before after = after ≡ before
 
 -- the answer that was known before, unless the text is too long or the input failed
 abbrev pub AnswersPast : Result Reply Refusal → Result Reply ImportEnd → List ℕ → Type 0

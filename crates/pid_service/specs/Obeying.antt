@@ -1,5 +1,5 @@
 -- What a registry answers to a command, and what it shows afterwards.
-use Rattle.std.specs.Prelude.{◌≡◌, ◌≢◌, ◌⊎◌, [], Result}
+use Rattle.std.specs.Prelude.{◌≡◌, ◌≢◌, ◌⊎◌, Bool, [], Result, MatchResult}
 use Rattle.sqlite_trees.specs.declared.store.Store.{Ghosts}
 use Rattle.pid_lives.specs.Registries.{CommandLeaves}
 use Rattle.pid_moderation.specs.declared.command.Reply.{Reply}
@@ -8,7 +8,7 @@ use Rattle.pid_moderation.specs.History.{Asked, History}
 use Rattle.pid_moderation.specs.Judgement.{after}
 use Rattle.pid_moderation.specs.Views.{items_of}
 use Rattle.pid_service.specs.declared.registry.Registry.{Registry}
-use Rattle.pid_service.specs.Histories.{Shows, showing}
+use Rattle.pid_service.specs.Histories.{IsFault, Shows, showing}
 use Rattle.pid_service.specs.KeptNames.{kept_names}
 
 -- What lives ask of a command (`CommandLeaves` of pid_lives). The answer is that of the judgement over the history, and the registry shows the
@@ -21,3 +21,7 @@ Obeys store result r h c = CommandLeaves (showing store) result r h c
 -- no old name either.
 abbrev pub Forgets : {S : Type 0} → (store : Ghosts S) → Registry S store → History → Asked → Type 0
 Forgets store r h c = items_of (after h c) ≢ items_of h → (kept_names r ≡ []) ⊎ Shows store r h
+
+-- Serves private functions alone: the registry is as live as before, or memory was short or the store failed.
+abbrev pub StaysLive : {X : Type 0} → Result X Refusal → (before after : Bool) → Type 0
+StaysLive result before after = MatchResult result (λ _. after ≡ before) (λ e. IsFault e ⊎ (after ≡ before))

@@ -4,7 +4,7 @@ use Rattle.sqlite.specs.Held.{Held}
 use Rattle.sqlite.specs.Effect.{Database}
 use Rattle.sqlite_trees.specs.declared.store.Store.{Ghosts}
 use Rattle.pid_moderation.specs.History.{History}
-use Rattle.pid_moderation.specs.Views.{views_of}
+use Rattle.pid_moderation.specs.Views.{Views, views_of}
 use Rattle.pid_rows.specs.declared.fault.TableFault.{TableFault}
 use Rattle.pid_rows.specs.declared.version.Version.{Version}
 use Rattle.pid_rows.specs.declared.version.Version.TheVariants.{One, Two}
@@ -12,6 +12,7 @@ use Rattle.pid_rows.specs.Clauses as clauses
 use Rattle.pid_rows.specs.Clauses.{seen}
 use Rattle.pid_rows.specs.Faults.{IsUntold}
 use Rattle.pid_table_check.specs.Checking.{Explains, Finds}
+use Rattle.pid_table_check.specs.Shapes.{HasSomeTable}
 use Rattle.pid_tables.specs.declared.migration.Step.{Step}
 use Rattle.pid_tables.specs.Clauses as tables
 use Rattle.pid_service.specs.declared.registry.Registry.{Registry}
@@ -49,6 +50,21 @@ module _ {S : Type 0} (store : Ghosts S) where
   -- tells what fails of what they became.
   abbrev pub RefusesToOpen : Held S → TableFault → Held S → Type 0
   RefusesToOpen conn fault back = tables.Refuses store conn fault back ⊎ (Finds (seen store conn) (Some One) × ExplainsNow back fault)
+
+  -- while it is open it was open, and sees what it saw
+  abbrev pub SeesTheSame : Held S → Held S → Type 0
+  SeesTheSame old new = IsTrue (clauses.is_open store new) → IsTrue (clauses.is_open store old) × (seen store new ≡ seen store old)
+
+  -- whatever views tables of the one schema or the other showed, tables of the schema of today show them
+  abbrev pub KeepsViews : Held S → Held S → Type 0
+  KeepsViews old new = (version : Version) (v : Views) → clauses.RestsIn store version old v → clauses.RestsIn store Two new v
+
+  -- A step was made where there was no table, or where tables of schema 1 kept all conditions. It is seen, views are shown as before, and the
+  -- fault tells what fails of it.
+  pub record IsMadeAndRefused (old : Held S) (fault : TableFault) (new : Held S) : Type 0 where
+    pub found : clauses.HasCleanDisk store new → HasSomeTable (seen store old).schema → Finds (seen store old) (Some One)
+    pub kept : clauses.HasCleanDisk store new → KeepsViews old new
+    pub told : clauses.HasCleanDisk store new → ExplainsNow new fault
 
   -- no registry: this is why, and the connection comes back as it was
   abbrev pub Rejects : {X : Type 0} → (X → Held S) → Held S → Result X (TableFault × Held S) → (TableFault → Type 0) → Type 0

@@ -1,9 +1,9 @@
 -- A list of commands, obeyed in order up to a fault.
-use Rattle.std.specs.Prelude.{◌≡◌, ◌⊎◌, List, [], ◌∷◌, length, take, drop, Option, Some, None, Result, Err}
+use Rattle.std.specs.Prelude.{◌≡◌, ◌≢◌, ◌⊎◌, List, [], ◌∷◌, length, take, drop, Option, Some, None, Result, Err, IfErr}
 use Rattle.sqlite_trees.specs.declared.store.Store.{Ghosts}
 use Rattle.pid_moderation.specs.declared.command.Reply.{Reply}
 use Rattle.pid_moderation.specs.declared.refusal.Refusal.{Refusal}
-use Rattle.pid_moderation.specs.declared.refusal.Refusal.TheVariants.{Memory, Store}
+use Rattle.pid_moderation.specs.declared.refusal.Refusal.TheVariants.{Failed, Memory, Store}
 use Rattle.pid_moderation.specs.History.{Asked, History}
 use Rattle.pid_moderation.specs.Judgement.{after, after_all, answers}
 use Rattle.pid_service.specs.declared.registry.Registry.{Registry}
@@ -15,6 +15,10 @@ abbrev pub fault_in : Result Reply Refusal → Option Refusal
 fault_in (Err Memory) = Some Memory
 fault_in (Err Store) = Some Store
 fault_in answer = None
+
+-- it is not told as by a registry that had failed before
+abbrev pub IsToldByLive : Result Reply Refusal → Type 0
+IsToldByLive reply = IfErr reply (λ e. e ≢ Failed)
 
 module _ {S : Type 0} (store : Ghosts S) where
   -- where a list ends: all commands were obeyed; or at the next one memory was short or the store failed, and the registry shows the

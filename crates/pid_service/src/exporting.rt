@@ -5,7 +5,7 @@ ghost use Rattle.pid_moderation.specs.History.{History};
 ghost use Rattle.pid_moderation.specs.declared.refusal.Refusal.{Refusal as RefusalValue};
 ghost use Rattle.pid_moderation.specs.Writes.{tree_of};
 ghost use Rattle.pid_tree.specs.Printing.{print};
-ghost use Rattle.pid_service.specs.Asking.{Answers, MayGive};
+ghost use Rattle.pid_service.specs.Asking.{Answers, HasCause, MayGive};
 ghost use Rattle.pid_service.specs.Exporting.{ExportsTree, IsToldAs};
 ghost use Rattle.pid_service.specs.Histories.{Shows};
 ghost use Rattle.pid_service.specs.Registries.{HasCleanDisk, OnlyReads, is_live as lives};
@@ -51,12 +51,14 @@ impl<S: Alter + Drop> Registry<S> {
         ensures shown { (h : History) → Shows S.Store self.old h → Shows S.Store self.new h }
         ensures printed { HasCleanDisk S.Store self.new → (h : History) → Shows S.Store self.old h → ExportsTree result (W.taken output.old) (W.taken output.new) h }
         ensures refused { (e : RefusalValue) → result ≡ Err (faults.Refused e) → MayGive (lives self.old) e }
+        ensures caused { HasCleanDisk S.Store self.new → (h : History) → Shows S.Store self.old h → (e : RefusalValue) → result ≡ Err (faults.Refused e) → HasCause S.Store self.old self.new e }
         // A fault of the writer is the one that it keeps.
         ensures fault { (f : OutputFault) → result ≡ Err (faults.Write f) → W.write_fault output.new ≡ Some f }
     {
         if !self.live {
             return Err(ExportFault::Refused(Refusal::Failed));
         }
+        reached_histories_are_kept();
         items_print_as_their_tree();
         match export_items(&mut self.tables, output) {
             Ok(()) => Ok(()),

@@ -1,15 +1,16 @@
 //! An import, whose file comes as an input or as bytes.
-ghost use Rattle.std.specs.Prelude.{◌≡◌, ◌≢◌, ◌⊎◌, ◌<◌, ◌≤◌, [], length, true, false, Err, IfErr, IsSome};
+ghost use Rattle.std.specs.Prelude.{◌≡◌, ◌≢◌, ◌⊎◌, ◌<◌, ◌≤◌, Bool, [], length, true, false, Err, IfErr, IsErrAnd, IsSome};
 ghost use Rattle.pid_import.specs.Files.{file_reading};
 ghost use Rattle.pid_import.specs.Judging.{IsOpen};
+ghost use Rattle.pid_lives.specs.Outcomes.{is_outcome};
 ghost use Rattle.pid_moderation.specs.BeforeFile.{import_of};
 ghost use Rattle.pid_moderation.specs.CheckTables.{most_file_bytes};
 ghost use Rattle.pid_moderation.specs.History.{History, asked, is_import};
 ghost use Rattle.pid_moderation.specs.Judgement.{after};
 ghost use Rattle.pid_moderation.specs.Views.{items_of};
-ghost use Rattle.pid_service.specs.Histories.{IsReached, Shows};
-ghost use Rattle.pid_service.specs.Importing.{AnswersPast, HasRead, IsEndOfLive, IsPlain, ObeysImport};
-ghost use Rattle.pid_service.specs.Obeying.{Obeys};
+ghost use Rattle.pid_service.specs.Histories.{IsFault, IsReached, Shows};
+ghost use Rattle.pid_service.specs.Importing.{AnswersPast, EndStaysLive, HasRead, IsEndFault, IsEndOfLive, IsPlain, ObeysImport, is_end_outcome};
+ghost use Rattle.pid_service.specs.Obeying.{Obeys, StaysLive};
 ghost use Rattle.pid_service.specs.KeptNames.{kept_names};
 ghost use Rattle.pid_service.specs.Registries.{HasCleanDisk, is_live as lives};
 
@@ -68,11 +69,23 @@ fn answer_past<I: Input>(answer: Result<Reply, Refusal>, input: &mut I) -> Resul
 fn plain(end: Result<Reply, ImportEnd>) -> Result<Reply, Refusal>
     ensures same { IsPlain end result }
     ensures alive { IfErr end IsEndOfLive → IfErr result (λ e. e ≢ Refusal.Failed) }
+    ensures held { (before after : Bool) → EndStaysLive end before after → StaysLive result before after }
 {
     match end {
         Ok(reply) => Ok(reply),
         Err(ImportEnd::Refused(refusal)) => Err(refusal),
         Err(ImportEnd::Body) => Err(Refusal::Store),
+    }
+}
+
+// What stops the transaction of an import is want of memory, or the store.
+fn stopping(refusal: Refusal) -> Refusal
+    ensures fault { IsFault result }
+    ensures same { IsFault refusal → result ≡ refusal }
+{
+    match refusal {
+        Refusal::Memory => Refusal::Memory,
+        _ => Refusal::Store,
     }
 }
 
@@ -94,6 +107,7 @@ impl<S: Alter + Drop> Registry<S> {
         ensures fault_first { IsSome (I.read_fault input.new) → result ≡ Err ImportEnd.Body }
         ensures goes { I.goes input.old input.new }
         ensures alive { IfErr result IsEndOfLive }
+        ensures held { EndStaysLive result (lives self.old) (lives self.new) }
     {
         self.names.clear();
         match bring_in(
@@ -109,7 +123,7 @@ impl<S: Alter + Drop> Registry<S> {
             Err(Stop::Refused(refusal)) => Err(ImportEnd::Refused(refusal)),
             Err(Stop::Failed(refusal)) => {
                 self.live = false;
-                Err(ImportEnd::Refused(refusal))
+                Err(ImportEnd::Refused(stopping(refusal)))
             }
         }
     }
@@ -125,6 +139,7 @@ impl<S: Alter + Drop> Registry<S> {
         ensures fault_first { IsSome (I.read_fault input.new) → result ≡ Err ImportEnd.Body }
         ensures goes { I.goes input.old input.new }
         ensures alive { IfErr result IsEndOfLive }
+        ensures held { EndStaysLive result (lives self.old) (lives self.new) }
     {
         command_is_well_made(command);
         commands_lead_on();
@@ -144,6 +159,7 @@ impl<S: Alter + Drop> Registry<S> {
             → Obeys S.Store result self.new h (asked command.now (file_reading file.now)) }
         ensures forgets { (h : History) → Shows S.Store self.old h → (kept_names self.new ≡ []) ⊎ Shows S.Store self.new h }
         ensures alive { IfErr result (λ e. e ≢ Refusal.Failed) }
+        ensures held { StaysLive result (lives self.old) (lives self.new) }
     {
         let mut input = SliceInput::new(file);
         let end = self.import_act(command, &mut input);
@@ -175,6 +191,9 @@ impl<S: Alter + Drop> Registry<S> {
         ensures goes { I.goes input.old input.new }
         // No live registry answers that it had failed, whatever its disk does.
         ensures alive { lives self.old ≡ true → IfErr result IsEndOfLive }
+        // Nor does one fail but at an answer that memory was short or the store failed.
+        ensures stays { lives self.old ≡ true → is_end_outcome result ≡ true → lives self.new ≡ true }
+        ensures fails { lives self.old ≡ true → lives self.new ≡ false → IsErrAnd result IsEndFault }
     {
         if !self.live {
             return match skip_input(FILE_BYTES, input) {
@@ -201,6 +220,8 @@ impl<S: Alter + Drop> Registry<S> {
         ensures obeyed { HasCleanDisk S.Store self.new → (h : History) → Shows S.Store self.old h → Obeys S.Store result self.new h (import_of account key (file_reading file.now)) }
         ensures forgets { (h : History) → Shows S.Store self.old h → (kept_names self.new ≡ []) ⊎ Shows S.Store self.new h }
         ensures alive { lives self.old ≡ true → IfErr result (λ e. e ≢ Refusal.Failed) }
+        ensures stays { lives self.old ≡ true → is_outcome result ≡ true → lives self.new ≡ true }
+        ensures fails { lives self.old ≡ true → lives self.new ≡ false → IsErrAnd result IsFault }
     {
         long_files_are_refused();
         if !self.live {

@@ -2,6 +2,7 @@
 ghost use Rattle.std.specs.Prelude.{◌≡◌, ◌≢◌, ◌↔◌, true, false, Err, IfOk, IsErrOf, IsNone};
 ghost use Rattle.pid_lookup.specs.Answers.{answer_of};
 ghost use Rattle.pid_lookup.specs.Flags.{is_bad, switches_of, request_of};
+ghost use Rattle.pid_lookup.specs.Told.{IsToldBy};
 ghost use Rattle.pid_moderation.specs.History.{History};
 ghost use Rattle.pid_moderation.specs.Writes.{tree_of};
 ghost use Rattle.pid_service.specs.Asking.{MayGive};
@@ -35,6 +36,8 @@ impl<S: Alter + Drop> Registry<S> {
         // No name is asked for where numbers alone are, or nothing that there is.
         ensures unasked { lives self.old ≡ true → (switches_of flags).numeric ≡ true → (f : Refusal) → result ≢ Err (LookupRefusal.Names f) }
         ensures unrequested { lives self.old ≡ true → IsNone (request_of flags) → (f : Refusal) → result ≢ Err (LookupRefusal.Names f) }
+        // And where one must be asked for, only a live registry answers, or wants memory for it.
+        ensures told { IsToldBy (lives self.old ≡ true) flags result }
     {
         if !self.live {
             return Err(LookupRefusal::Names(Refusal::Failed));

@@ -51,6 +51,7 @@ impl<S: Alter + Drop> Registry<S> {
 }
 
 impl<S: Alter + Drop> Names for Registry<S> {
+    ghost use Rattle.std.specs.Prelude.{◌≡◌, true};
     ghost use Rattle.pid_moderation.specs.History.{History};
     ghost use Rattle.pid_moderation.specs.Writes.{tree_of};
     ghost use Rattle.pid_service.specs.Asking.{MayGive};
@@ -68,6 +69,8 @@ impl<S: Alter + Drop> Names for Registry<S> {
     ghost is_honest = { λ r. HasCleanDisk S.Store r };
 
     ghost may_give = { λ r f. MayGive (is_live r) f };
+
+    ghost may_tell = { λ r. is_live r ≡ true };
 
     ghost only_asked = { OnlyAsked S.Store };
 

@@ -1,5 +1,6 @@
 //! One command: it is judged, and what comes of it is written.
-ghost use Rattle.std.specs.Prelude.{◌≡◌, ◌≢◌, false, true, [], Ok, Err, IfErr, OnOk, OnErr};
+ghost use Rattle.std.specs.Prelude.{◌≡◌, ◌≢◌, false, true, [], Ok, Err, IfErr, IsErrAnd, OnOk, OnErr};
+ghost use Rattle.pid_lives.specs.Outcomes.{is_outcome};
 ghost use Rattle.pid_moderation.specs.Changes.{changed, Fits};
 ghost use Rattle.pid_moderation.specs.CheckTables.{is_broken};
 ghost use Rattle.pid_moderation.specs.History.{Asked, History, Reading, asked, is_import};
@@ -10,7 +11,7 @@ ghost use Rattle.pid_import.specs.Files.{asks};
 ghost use Rattle.pid_service.specs.Histories.{IsFault, IsReached, Shows};
 ghost use Rattle.pid_service.specs.Judging.{Judges};
 ghost use Rattle.pid_service.specs.KeptNames.{AreNamesOf, kept_names};
-ghost use Rattle.pid_service.specs.Obeying.{Forgets, Obeys};
+ghost use Rattle.pid_service.specs.Obeying.{Forgets, Obeys, StaysLive};
 ghost use Rattle.pid_service.specs.Registries.{HasCleanDisk, connection, is_live as lives};
 
 use crate::forgetting::forget_for;
@@ -51,6 +52,7 @@ impl<S: Alter + Drop> Registry<S> {
         ensures settled { (h : History) (c : Asked) → Shows S.Store self.old h → IsReached (after h c) → Judges h c (Ok judged) → Obeys S.Store result self.new h c }
         ensures forgets { (h : History) (c : Asked) → Shows S.Store self.old h → Judges h c (Ok judged) → Forgets S.Store self.new h c }
         ensures alive { IfErr result (λ e. e ≢ Refusal.Failed) }
+        ensures held { StaysLive result (lives self.old) (lives self.new) }
     {
         match judged {
             Judged::Kept(reply) => Ok(reply),
@@ -67,6 +69,7 @@ impl<S: Alter + Drop> Registry<S> {
         ensures obeyed { HasCleanDisk S.Store self.new → (h : History) → Shows S.Store self.old h → is_import command.now.act ≡ false → Obeys S.Store result self.new h (asks command.now) }
         ensures forgets { HasCleanDisk S.Store self.new → (h : History) → Shows S.Store self.old h → is_import command.now.act ≡ false → Forgets S.Store self.new h (asks command.now) }
         ensures alive { IfErr result (λ e. e ≢ Refusal.Failed) }
+        ensures held { StaysLive result (lives self.old) (lives self.new) }
     {
         command_is_well_made(command);
         commands_lead_on();
@@ -82,6 +85,7 @@ impl<S: Alter + Drop> Registry<S> {
         ensures obeyed { HasCleanDisk S.Store self.new → (h : History) → Shows S.Store self.old h → is_broken command.now.act ≡ false → Obeys S.Store result self.new h (asks command.now) }
         ensures forgets { HasCleanDisk S.Store self.new → (h : History) → Shows S.Store self.old h → Forgets S.Store self.new h (asks command.now) }
         ensures alive { IfErr result (λ e. e ≢ Refusal.Failed) }
+        ensures held { StaysLive result (lives self.old) (lives self.new) }
     {
         if let Act::Import { file } = &command.act {
             self.import_bytes(command, file.as_bytes())
@@ -98,6 +102,8 @@ impl<S: Alter + Drop> Registry<S> {
         ensures obeyed { HasCleanDisk S.Store self.new → (h : History) → Shows S.Store self.old h → Obeys S.Store result self.new h (asks command.now) }
         ensures forgets { HasCleanDisk S.Store self.new → (h : History) → Shows S.Store self.old h → Forgets S.Store self.new h (asks command.now) }
         ensures alive { lives self.old ≡ true → IfErr result (λ e. e ≢ Refusal.Failed) }
+        ensures stays { lives self.old ≡ true → is_outcome result ≡ true → lives self.new ≡ true }
+        ensures fails { lives self.old ≡ true → lives self.new ≡ false → IsErrAnd result IsFault }
     {
         if !self.live {
             return Err(Refusal::Failed);
@@ -124,6 +130,10 @@ impl<S: Alter + Drop> Registry<S> {
         ensures forgets { HasCleanDisk S.Store self.new → (h : History) → Shows S.Store self.old h → Forgets S.Store self.new h (asks command) }
         // And no live one gives this answer, whatever its disk does.
         ensures alive { lives self.old ≡ true → IfErr result (λ e. e ≢ Refusal.Failed) }
+        // Whatever its disk does: an outcome leaves a live registry live,
+        ensures stays { lives self.old ≡ true → is_outcome result ≡ true → lives self.new ≡ true }
+        // and one that has failed since was short of memory, or its store failed.
+        ensures fails { lives self.old ≡ true → lives self.new ≡ false → IsErrAnd result IsFault }
     {
         self.obey_lent(&command)
     }

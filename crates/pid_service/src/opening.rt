@@ -3,14 +3,15 @@ ghost use Rattle.std.specs.Prelude.{◌≡◌, ◌⊎◌, ◌↔◌, true, false
 ghost use Rattle.pid_moderation.specs.History.{History, new_history};
 ghost use Rattle.pid_moderation.specs.Views.{Views, views_of};
 ghost use Rattle.pid_rows.specs.declared.version.Version.TheVariants.{One, Two};
+ghost use Rattle.pid_rows.specs.declared.version.Version.{Version as Schema};
 ghost use Rattle.pid_rows.specs.Clauses.{AtRest, HasCleanDisk, OnlyReads, RestsIn, is_open, seen};
 ghost use Rattle.pid_rows.specs.Faults.{IsNotLater, IsUntold};
 ghost use Rattle.pid_table_check.specs.Checking.{Explains, Finds};
 ghost use Rattle.pid_table_check.specs.Shapes.{HasNoTable, HasSomeTable};
-ghost use Rattle.pid_tables.specs.Clauses.{Brings, IsMet, IsOneStep, IsTakenBack, Refuses, RestsBare, ShowsOrBlank};
+ghost use Rattle.pid_tables.specs.Clauses.{Brings, HandsLatest, IsMet, IsOneStep, IsTakenBack, Refuses, RestsBare, ShowsOrBlank};
 ghost use Rattle.pid_tables.specs.Steps.{NamesLatest};
 ghost use Rattle.pid_service.specs.Histories.{IsReached};
-ghost use Rattle.pid_service.specs.Opening.{IsFound, IsJudged, Opens, RefusesToOpen, Rejects, StepsTo, ExplainsNow};
+ghost use Rattle.pid_service.specs.Opening.{IsFound, IsJudged, IsMadeAndRefused, KeepsViews, Opens, RefusesToOpen, Rejects, SeesTheSame, StepsTo, ExplainsNow};
 ghost use Rattle.pid_service.specs.Registries as registries;
 
 use crate::laws::reached_histories_are_kept;
@@ -67,6 +68,10 @@ fn make_ready<S: Alter + Drop>(tables: &mut Tables<S>, alloc: Global) -> Result<
     ensures met { HasCleanDisk S.Store tables.new.conn → HasNoTable (seen S.Store tables.old.conn).schema → IsMet S.Store tables.old.conn
         → MatchResult result (λ _. ⊥) (λ e. IsNotLater e × OnlyReads S.Store tables.old.conn tables.new.conn) }
     ensures shut { HasCleanDisk S.Store tables.new.conn → is_open S.Store tables.old.conn ≡ false → MatchResult result (λ _. ⊥) (λ e. IsUntold e × OnlyReads S.Store tables.old.conn tables.new.conn) }
+    ensures once { IsOneStep S.Store tables.old.conn tables.new.conn }
+    ensures back { IfErr result (λ e. IsTakenBack S.Store tables.old.conn tables.new.conn ⊎ IsMadeAndRefused S.Store tables.old.conn e tables.new.conn) }
+    ensures kept { HasCleanDisk S.Store tables.new.conn → IfOk result (λ _. KeepsViews S.Store tables.old.conn tables.new.conn) }
+    ensures only_read { HasCleanDisk S.Store tables.new.conn → HasSomeTable (seen S.Store tables.old.conn).schema → ¬ (Finds (seen S.Store tables.old.conn) (Some One)) → OnlyReads S.Store tables.old.conn tables.new.conn }
 {
     reached_histories_are_kept();
     // Outside a transaction nothing is uncommitted, so that both see the same.
@@ -105,6 +110,15 @@ pub fn open<S: Alter + Drop>(
     // Where there is none, something else under one of their names is refused.
     ensures met { HasNoTable (seen S.Store conn).schema → IsMet S.Store conn → Rejects S.Store registries.connection conn result IsNotLater }
     ensures shut { is_open S.Store conn ≡ false → Rejects S.Store registries.connection conn result IsUntold }
+    // Whatever there is, also beside the tables: a crash leaves what it left before, or all of one step.
+    ensures once { MatchResult result (λ r. IsOneStep S.Store conn (registries.connection r)) (λ e. IsOneStep S.Store conn e.1) }
+    // After a fault nothing of the step is seen; or it was made and is seen, and the fault tells what fails of it.
+    ensures back { IfErr result (λ e. IsTakenBack S.Store conn e.1 ⊎ IsMadeAndRefused S.Store conn e.0 e.1) }
+    // Whatever views were shown, in whichever schema: the tables of the registry show them, in that of today.
+    ensures kept { IfOk result (λ r. registries.HasCleanDisk S.Store r → KeepsViews S.Store conn (registries.connection r)) }
+    // Where there is some table nothing is written, but where tables of schema 1 keep all conditions.
+    ensures only_read { HasSomeTable (seen S.Store conn).schema → ¬ (Finds (seen S.Store conn) (Some One))
+        → MatchResult result (λ r. registries.HasCleanDisk S.Store r → OnlyReads S.Store conn (registries.connection r)) (λ e. HasCleanDisk S.Store e.1 → OnlyReads S.Store conn e.1) }
 {
     let Ok(names) = NameCache::new(alloc) else {
         return Err((TableFault::Memory, conn));
@@ -150,8 +164,18 @@ pub fn migrate<S: Alter + Drop>(
     ensures once { MatchResult result (λ r. IsOneStep S.Store conn r.0) (λ e. IsOneStep S.Store conn e.1 × IsTakenBack S.Store conn e.1) }
     ensures met { HasNoTable (seen S.Store conn).schema → IsMet S.Store conn → Rejects S.Store (λ r. r.0) conn result IsNotLater }
     ensures shut { is_open S.Store conn ≡ false → Rejects S.Store (λ r. r.0) conn result IsUntold }
+    // A migration that fails, or finds nothing to do, leaves all that is seen as it was.
+    ensures unchanged { MatchResult result (λ r. r.1 ≡ Step.Already → SeesTheSame S.Store conn r.0) (λ e. SeesTheSame S.Store conn e.1) }
+    // Where nothing had to be done, nothing is, whatever stands there; and a fault other than `Memory` and `Store` changes nothing.
+    ensures only_read { MatchResult result (λ r. r.1 ≡ Step.Already → OnlyReads S.Store conn r.0) (λ e. HasCleanDisk S.Store e.1 → ¬ (IsUntold e.0) → OnlyReads S.Store conn e.1) }
+    // Whatever views tables of the one schema or the other show, tables of schema 2 show them afterwards.
+    ensures kept { IfOk result (λ r. HasCleanDisk S.Store r.0 → KeepsViews S.Store conn r.0) }
+    // Labels of schema 2 are handed on, as far as it is known what stood there.
+    ensures latest { IfOk result (λ r. HasCleanDisk S.Store r.0 → IsTrue (is_open S.Store r.0) → HandsLatest S.Store conn r.1 r.0) }
 {
     reached_histories_are_kept();
+    // Outside a transaction nothing is uncommitted, so that what is seen was committed.
+    let _settled = conn.is_autocommit();
     match pid_tables::migrate(&mut conn, alloc) {
         Ok(step) => Ok((conn, step)),
         Err(fault) => Err((fault, conn)),

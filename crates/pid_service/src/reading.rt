@@ -1,6 +1,7 @@
 //! Questions to a registry.
 ghost use Rattle.std.specs.Prelude.{◌≡◌, ◌⊎◌, false, map, option_copied, option_map, Some, Err, IfErr};
 ghost use Rattle.pid_ident.specs.PathTexts.{path_text};
+ghost use Rattle.pid_moderation.specs.History.{History};
 ghost use Rattle.pid_moderation.specs.Items.{name_at};
 ghost use Rattle.pid_moderation.specs.Views.{items_of, views_of};
 ghost use Rattle.pid_rows.specs.ItemPairs.{pair_of};
@@ -8,8 +9,9 @@ ghost use Rattle.pid_table_lists.specs.ChangePages.{changes_in, page_of, start_t
 ghost use Rattle.pid_table_lists.specs.Children.{children_of};
 ghost use Rattle.pid_table_lists.specs.Discussions.{discussion_in, shown_of};
 ghost use Rattle.pid_table_lists.specs.PendingPages.{pending_in, told_of};
-ghost use Rattle.pid_service.specs.Asking.{Answers, IsMissing, MayGive, Tells};
-ghost use Rattle.pid_service.specs.Registries.{OnlyReads, is_live as lives};
+ghost use Rattle.pid_service.specs.Asking.{Answers, HasCause, IsMissing, MayGive, Tells};
+ghost use Rattle.pid_service.specs.Histories.{Shows};
+ghost use Rattle.pid_service.specs.Registries.{HasCleanDisk, OnlyReads, is_live as lives};
 
 use crate::laws::reached_histories_are_kept;
 use crate::registry::Registry;
@@ -28,6 +30,7 @@ impl<S: Alter + Drop> Registry<S> {
         if !self.live {
             return Err(Refusal::Failed);
         }
+        reached_histories_are_kept();
         match self.tables.item(self.alloc, path) {
             Ok(name) => Ok(name),
             Err(fault) => Err(refusal_of(fault)),
@@ -57,6 +60,7 @@ impl<S: Alter + Drop> Registry<S> {
         if !self.live {
             return Err(Refusal::Failed);
         }
+        reached_histories_are_kept();
         match self.tables.pending_page(self.alloc, after) {
             Ok(page) => Ok(page),
             Err(fault) => Err(refusal_of(fault)),
@@ -70,10 +74,12 @@ impl<S: Alter + Drop> Registry<S> {
         ensures lives { lives self.new ≡ lives self.old }
         ensures rests { OnlyReads S.Store self.old self.new }
         ensures told { Tells S.Store self.old self.new result (λ h d. discussion_in (views_of h) number ≡ Some (shown_of d)) (λ h e. IsMissing (discussion_in (views_of h) number) e) }
+        ensures caused { HasCleanDisk S.Store self.new → (h : History) → Shows S.Store self.old h → IfErr result (λ e. (e ≡ Refusal.NoSubmission) ⊎ HasCause S.Store self.old self.new e) }
     {
         if !self.live {
             return Err(Refusal::Failed);
         }
+        reached_histories_are_kept();
         match self.tables.submission(self.alloc, number) {
             Ok(Some(found)) => Ok(found),
             Ok(None) => Err(Refusal::NoSubmission),

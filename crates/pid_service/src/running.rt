@@ -1,11 +1,12 @@
 //! A list of commands in one call.
-ghost use Rattle.std.specs.Prelude.{◌≡◌, ◌≤◌, [], length, map, false, None, Some, IfSome, vec_capacity, vec_len};
+ghost use Rattle.std.specs.Prelude.{◌≡◌, ◌≤◌, ◌⊎◌, [], length, map, false, true, None, Some, IfSome, IsSomeAnd, vec_capacity, vec_len};
+ghost use Rattle.std.specs.List.{AllByRecursion};
 ghost use Rattle.pid_moderation.specs.History.{History};
 ghost use Rattle.pid_import.specs.Files.{asks};
 ghost use Rattle.pid_service.specs.Asking.{MayGive};
 ghost use Rattle.pid_service.specs.Histories.{IsFault, Shows};
 ghost use Rattle.pid_service.specs.Registries.{HasCleanDisk, is_live as lives};
-ghost use Rattle.pid_service.specs.Running.{Runs, fault_in};
+ghost use Rattle.pid_service.specs.Running.{IsToldByLive, Runs, fault_in};
 
 use crate::registry::Registry;
 use pid_moderation::{Command, Refusal, Reply};
@@ -46,6 +47,8 @@ impl<S: Alter + Drop> Registry<S> {
         ensures fault { IfSome result.fault IsFault }
         ensures most { length result.replies.items ≤ length commands.now }
         ensures ran { HasCleanDisk S.Store self.new → (h : History) → Shows S.Store self.old h → Runs S.Store result self.new h (map asks commands.now) }
+        ensures held { lives self.old ≡ true → (lives self.new ≡ true) ⊎ IsSomeAnd result.fault IsFault }
+        ensures alive { lives self.old ≡ true → AllByRecursion IsToldByLive result.replies.items }
     {
         for command in commands {
             let outcome = self.obey_lent(command);
@@ -75,6 +78,11 @@ impl<S: Alter + Drop> Registry<S> {
         ensures fault { IfSome result.fault (MayGive (lives self.old)) }
         ensures most { length result.replies.items ≤ length commands.now }
         ensures ran { HasCleanDisk S.Store self.new → (h : History) → Shows S.Store self.old h → Runs S.Store result self.new h (map asks commands.now) }
+        // Whatever its disk does: without a fault a live registry stays live, one that has failed since was short of memory, or its store failed,
+        ensures stays { lives self.old ≡ true → result.fault ≡ None → lives self.new ≡ true }
+        ensures fails { lives self.old ≡ true → lives self.new ≡ false → IsSomeAnd result.fault IsFault }
+        // and no live one replies that it had failed.
+        ensures alive { lives self.old ≡ true → AllByRecursion IsToldByLive result.replies.items }
     {
         if !self.live {
             return RunReport {

@@ -1,7 +1,10 @@
-use Rattle.std.proofs.Common.{inl, inr, refl}
+use Rattle.std.proofs.Common.{inl, inr, refl, ap, ◌∙◌}
+use Rattle.std.specs.Prelude.{not}
 use Rattle.sqlite.specs.Held.{state}
 use Rattle.pid_moderation.specs.Views.{views_of}
 use Rattle.pid_rows.proofs.LeaveLemmas.{rests_in_two}
+use Rattle.pid_tables.proofs.AtOnceLemmas.{reads_back}
+use Rattle.pid_service.proofs.Opened.{seen_back}
 use Rattle.pid_service.proofs.opening.migrate.Goals as goal
 
 pub returns-in-Ok-clause-moved : goal.returns-in-Ok-clause-moved
@@ -44,3 +47,27 @@ returns-in-Err-clause-once g c = (c.in-Err.ensures.once, c.in-Err.ensures.back)
 
 pub returns-in-Ok-clause-once : goal.returns-in-Ok-clause-once
 returns-in-Ok-clause-once g c = c.in-Ok.ensures.once
+
+-- ---- what stays, and what is handed on
+
+pub returns-in-Ok-clause-unchanged : goal.returns-in-Ok-clause-unchanged
+returns-in-Ok-clause-unchanged g c is =
+    let old = state g.S.Store c.args.conn in
+    let new = state g.S.Store c.migrate.new.conn in
+    seen_back old new (c.is_autocommit-settled.ensures.settled (c.is_autocommit-settled.ensures.value ∙ ap not c.requires)) (reads_back old new (c.in-Ok.ensures.only_read is))
+
+pub returns-in-Err-clause-unchanged : goal.returns-in-Err-clause-unchanged
+returns-in-Err-clause-unchanged g c =
+    seen_back (state g.S.Store c.args.conn) (state g.S.Store c.migrate.new.conn) (c.is_autocommit-settled.ensures.settled (c.is_autocommit-settled.ensures.value ∙ ap not c.requires)) c.in-Err.ensures.back
+
+pub returns-in-Ok-clause-only_read : goal.returns-in-Ok-clause-only_read
+returns-in-Ok-clause-only_read g c is = c.in-Ok.ensures.only_read is
+
+pub returns-in-Err-clause-only_read : goal.returns-in-Err-clause-only_read
+returns-in-Err-clause-only_read g c clean told = c.in-Err.ensures.unchanged clean told
+
+pub returns-in-Ok-clause-kept : goal.returns-in-Ok-clause-kept
+returns-in-Ok-clause-kept g c clean version v rest = c.in-Ok.ensures.kept clean version v rest
+
+pub returns-in-Ok-clause-latest : goal.returns-in-Ok-clause-latest
+returns-in-Ok-clause-latest g c clean opened = c.in-Ok.ensures.latest clean opened

@@ -1,11 +1,14 @@
-use Rattle.std.proofs.Common.{◌≡◌, ◌⊎◌, inl, false, refl, sym, subst}
+use Rattle.std.proofs.Common.{◌≡◌, ◌⊎◌, inl, false, Some, refl, sym, subst}
 use Rattle.sqlite.specs.Held.{state}
 use Rattle.pid_moderation.specs.Views.{views_of}
 use Rattle.pid_rows.specs.Clauses.{HasCleanDisk, OnlyReads, is_open, seen}
 use Rattle.pid_rows.specs.Faults.{IsNotLater, IsUntold}
 use Rattle.pid_table_check.specs.Shapes.{HasNoTable, HasSomeTable}
-use Rattle.pid_tables.specs.Clauses.{IsMet, ShowsOrBlank}
-use Rattle.pid_service.specs.Opening.{ExplainsNow, IsFound, RefusesToOpen}
+use Rattle.pid_tables.specs.Clauses.{IsMet, IsOneStep, IsTakenBack, ShowsOrBlank}
+use Rattle.pid_tables.proofs.AtOnceLemmas.{reads_back, reads_once}
+use Rattle.pid_rows.specs.declared.version.Version.TheVariants.{One}
+use Rattle.pid_table_check.specs.Checking.{Finds}
+use Rattle.pid_service.specs.Opening.{ExplainsNow, IsFound, IsMadeAndRefused, KeepsViews, RefusesToOpen}
 use Rattle.pid_table_check.proofs.Asking.{nothing_read}
 use Rattle.pid_service.proofs.Opened.{moved, no_names}
 use Rattle.pid_service.proofs.opening.open.Goals as goal
@@ -67,3 +70,37 @@ pub returns-in-Err-clause-shut : goal.returns-in-Err-clause-shut
 returns-in-Err-clause-shut g c =
     moved (λ x y. is_open g.S.Store x ≡ false → HasCleanDisk g.S.Store y → IsUntold c.in-Err.fault × OnlyReads g.S.Store x y) c.new-tables.ensures c.into_conn.ensures
     (λ closed clean. c.in-Err.ensures.shut clean closed)
+
+-- ---- in one step
+
+pub returns-in_default-clause-once : goal.returns-in_default-clause-once
+returns-in_default-clause-once g c = let here = state g.S.Store c.args.conn in reads_once here here (nothing_read here c.requires)
+
+pub returns-in-Ok-make_ready-clause-once : goal.returns-in-Ok-make_ready-clause-once
+returns-in-Ok-make_ready-clause-once g c = subst (λ k. IsOneStep g.S.Store k c.make_ready.new.tables.conn) c.new-tables.ensures c.in-Ok-make_ready.ensures.once
+
+pub returns-in-Err-clause-once : goal.returns-in-Err-clause-once
+returns-in-Err-clause-once g c = moved (λ x y. IsOneStep g.S.Store x y) c.new-tables.ensures c.into_conn.ensures c.in-Err.ensures.once
+
+pub returns-in_default-clause-back : goal.returns-in_default-clause-back
+returns-in_default-clause-back g c = let here = state g.S.Store c.args.conn in inl (reads_back here here (nothing_read here c.requires))
+
+pub returns-in-Err-clause-back : goal.returns-in-Err-clause-back
+returns-in-Err-clause-back g c =
+    moved (λ x y. IsTakenBack g.S.Store x y ⊎ IsMadeAndRefused g.S.Store x c.in-Err.fault y) c.new-tables.ensures c.into_conn.ensures c.in-Err.ensures.back
+
+pub returns-in-Ok-make_ready-clause-kept : goal.returns-in-Ok-make_ready-clause-kept
+returns-in-Ok-make_ready-clause-kept g c clean = subst (λ k. KeepsViews g.S.Store k c.make_ready.new.tables.conn) c.new-tables.ensures (c.in-Ok-make_ready.ensures.kept clean)
+
+pub returns-in_default-clause-only_read : goal.returns-in_default-clause-only_read
+returns-in_default-clause-only_read g c some none clean = nothing_read (state g.S.Store c.args.conn) c.requires
+
+pub returns-in-Ok-make_ready-clause-only_read : goal.returns-in-Ok-make_ready-clause-only_read
+returns-in-Ok-make_ready-clause-only_read g c some none clean =
+    subst (λ k. HasSomeTable (seen g.S.Store k).schema → ¬ (Finds (seen g.S.Store k) (Some One)) → OnlyReads g.S.Store k c.make_ready.new.tables.conn) c.new-tables.ensures
+    (λ there other. c.in-Ok-make_ready.ensures.only_read clean there other) some none
+
+pub returns-in-Err-clause-only_read : goal.returns-in-Err-clause-only_read
+returns-in-Err-clause-only_read g c =
+    moved (λ x y. HasSomeTable (seen g.S.Store x).schema → ¬ (Finds (seen g.S.Store x) (Some One)) → HasCleanDisk g.S.Store y → OnlyReads g.S.Store x y) c.new-tables.ensures c.into_conn.ensures
+    (λ there other clean. c.in-Err.ensures.only_read clean there other)

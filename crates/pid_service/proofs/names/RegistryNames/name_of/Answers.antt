@@ -27,6 +27,9 @@ pub returns-clause-found : goal.returns-clause-found
 returns-clause-found g c clean h shows =
     named c.ask.result _ _ (c.ask.ensures.found clean h (c.known.ensures.shown h shows)) (in_map (path_text c.args.path.now) h (c.trees_are_last_writes.ensures.entries h))
 
+same_live : (old new : Bool) → new ≡ old → (old ≡ true) ↔ (new ≡ true)
+same_live old new is = (λ on. is ∙ on, λ on. sym is ∙ on)
+
 same_faults : (old new : Bool) → new ≡ old → (f : Refusal) → MayGive old f ↔ MayGive new f
 same_faults old new is f = (λ may. subst (λ (b : Bool). MayGive b f) (sym is) may, λ may. subst (λ (b : Bool). MayGive b f) is may)
 
@@ -37,6 +40,7 @@ returns-in-Some-clause-kept g c =
       shown = c.known.ensures.shown;
       was_honest = c.known.ensures.clean;
       faults = same_faults c.args.self.now.live c.known.new.self.live c.known.ensures.lives;
+      told = same_live c.args.self.now.live c.known.new.self.live c.known.ensures.lives;
       asked = λ start asked. asked_then g.S.Store start c.args.self.now c.known.new.self on c.known.ensures.lives c.known.ensures.rests asked;
     }
 
@@ -47,6 +51,7 @@ returns-clause-kept g c =
       shown = λ h shows. c.ask.ensures.shown h (c.known.ensures.shown h shows);
       was_honest = λ clean. c.known.ensures.clean (c.ask.ensures.clean clean);
       faults = same_faults c.args.self.now.live c.ask.new.self.live (c.ask.ensures.lives ∙ c.known.ensures.lives);
+      told = same_live c.args.self.now.live c.ask.new.self.live (c.ask.ensures.lives ∙ c.known.ensures.lives);
       asked = λ start asked.
           asked_then g.S.Store start c.known.new.self c.ask.new.self (c.known.ensures.lives ∙ on) c.ask.ensures.lives c.ask.ensures.rests
           (asked_then g.S.Store start c.args.self.now c.known.new.self on c.known.ensures.lives c.known.ensures.rests asked);

@@ -1,5 +1,6 @@
 use Rattle.std.proofs.Common.{length, rules, refl, ap, ◌∙◌}
 use Rattle.pid_moderation.specs.Views.{views_of}
+use Rattle.pid_service.proofs.Causes.{caused_by}
 use Rattle.pid_service.proofs.registry.Registry.export_length.Goals as goal
 
 pub returns-in-Ok : goal.returns-in-Ok
@@ -12,4 +13,16 @@ returns-in-Ok g c = record {
     c.in-Ok.ensures.told clean (views_of h) shows.tables (c.reached_histories_are_kept.ensures.readable h shows.history) ∙ ap length (c.items_print_as_their_tree.ensures h),
     search rules,
   );
+  caused = λ clean h shows. tt;
+}
+
+pub returns-in-Err : goal.returns-in-Err
+returns-in-Err g c = record {
+  failed = search rules;
+  fault = search rules;
+  lives = search rules;
+  rests = search rules;
+  told = search rules;
+  caused = λ clean h shows.
+      caused_by g.S.Store c.args.self.now.tables.conn c.items_length.new.tables.conn c.in-Err.fault c.refusal_of.result c.refusal_of.ensures.same (c.in-Err.ensures.told clean (views_of h) shows.tables (c.reached_histories_are_kept.ensures.readable h shows.history));
 }

@@ -2,6 +2,7 @@ use Rattle.std.proofs.Common.{refl}
 use Rattle.pid_moderation.specs.History.{asked}
 use Rattle.pid_import.specs.Files.{file_reading}
 use Rattle.pid_service.proofs.Imported.{past_obeyed}
+use Rattle.pid_service.proofs.Lasting.{still_live}
 use Rattle.pid_service.proofs.Obeyed.{only_read}
 use Rattle.pid_service.proofs.registry.Registry.import_act.Goals as goal
 
@@ -28,3 +29,6 @@ returns-in-Open-clause-obeyed g c = let r = c.carry_in.ensures.obeyed in
           r.holds clean h (only_read g.S.Store c.args.self.now _ h refl c.judge_import.ensures.rests refl shows) import early.0 early.1
           (c.commands_lead_on.ensures h (asked c.args.command.now (file_reading r.text)) shows.history (c.command_is_well_made.ensures (file_reading r.text) (c.texts_read_to_files.ensures.readings r.text)));
     }
+
+pub returns-in-Answered-clause-held : goal.returns-in-Answered-clause-held
+returns-in-Answered-clause-held g c = still_live c.answer_past.result c.args.self.now.live

@@ -1,7 +1,10 @@
-use Rattle.std.proofs.Common.{◌≡◌, ℕ, ◌+◌, List, [], ◌∷◌, length, length-append, take, drop, map, suc, not, true, is_ok, sym, ap, ◌∙◌, arith}
+use Rattle.std.proofs.Common.{◌≡◌, ℕ, ◌+◌, List, [], ◌∷◌, length, length-append, take, drop, map, suc, not, true, is_ok, inr, sym, ap, subst, ◌∙◌, arith}
 use Rattle.pid_moderation.specs.History.{Asked}
 use Rattle.pid_moderation.specs.Judgement.{after_all}
 use Rattle.pid_import.specs.Files.{asks}
+use Rattle.std.specs.List.{AllByRecursion}
+use Rattle.pid_service.specs.Running.{IsToldByLive}
+use Rattle.pid_service.proofs.Lasting.{all_more, on_after, some_fault}
 use Rattle.pid_service.proofs.Runs.{one_more, next_is, none_of, so_many, obeyed_more, ends_at}
 use Rattle.pid_service.proofs.registry.Registry.run_into.Goals as goal
 
@@ -35,4 +38,11 @@ loop-command-preserved g c =
           (λ so. c.obey_lent-outcome.ensures.obeyed clean (after_all h (take i all)) so)
           none in
           (rw good at c.push.ensures.items ∙ more.0, more.1),
+      λ on. on_after c.obey_lent-outcome.result c.obey_lent-outcome.new.self.live none (λ off. c.obey_lent-outcome.ensures.fails (c.loop-command.invariant.5 on) off),
+      λ on.
+          subst (AllByRecursion IsToldByLive) (sym (rw good at c.push.ensures.items))
+          (all_more IsToldByLive c.loop-command.replies.items c.obey_lent-outcome.result (c.loop-command.invariant.6 on) (c.obey_lent-outcome.ensures.alive (c.loop-command.invariant.5 on))),
     )
+
+pub returns-then-is_some-clause-held : goal.returns-then-is_some-clause-held
+returns-then-is_some-clause-held g c on = inr (some_fault c.fault_of-fault.result (sym c.is_some.ensures ∙ c.if-is_some.true) c.fault_of-fault.ensures.fault)

@@ -1,4 +1,4 @@
-use Rattle.std.proofs.Common.{Ok, subst}
+use Rattle.std.proofs.Common.{inl, Ok, subst}
 use Rattle.pid_service.specs.declared.judging.Judged.{Judged}
 use Rattle.pid_service.specs.Judging.{Judges}
 use Rattle.pid_service.proofs.Obeyed.{kept, accepted, failed}
@@ -16,3 +16,6 @@ pub returns-clause-settled : goal.returns-clause-settled
 returns-clause-settled g c h asks shows reached told =
     failed g.S.Store c.args.self.now c.carry_out.new.self h asks c.in-Accepted.change c.in-Accepted.reply c.in-Err.refusal
     shows (subst (λ (j : Judged). Judges h asks (Ok j)) c.in-Accepted.is told) reached (λ v rest fit. c.in-Err.ensures.either v rest fit) c.in-Err.ensures.fails c.in-Err.ensures.fault
+
+pub returns-clause-held : goal.returns-clause-held
+returns-clause-held g c = inl c.in-Err.ensures.fault

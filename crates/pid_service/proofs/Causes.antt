@@ -1,0 +1,21 @@
+-- Why a question gets a fault.
+use Rattle.std.proofs.Common.{◌≡◌, sym, subst}
+use Rattle.sqlite.specs.Held.{Held}
+use Rattle.sqlite_trees.specs.declared.store.Store.{Ghosts}
+use Rattle.pid_import.specs.Faults.{refusal_for}
+use Rattle.pid_moderation.specs.declared.refusal.Refusal.{Refusal}
+use Rattle.pid_rows.specs.Clauses as clauses
+use Rattle.pid_rows.specs.declared.fault.TableFault.{TableFault}
+use Rattle.pid_rows.specs.declared.fault.TableFault.TheVariants.{Memory, Store, NewerSchema, Damaged}
+use Rattle.pid_service.specs.Asking.{IsCausedAs}
+
+module _ {S : Type 0} (store : Ghosts S) (old new : Held S) where
+  pub caused_as : (fault : TableFault) → clauses.IsCaused store old new fault → IsCausedAs store old new (refusal_for fault)
+  caused_as Memory cause = tt
+  caused_as Store cause = cause
+  caused_as (NewerSchema n) cause = absurd cause
+  caused_as Damaged cause = absurd cause
+
+  -- as the refusal that a fault of the tables is told by
+  pub caused_by : (fault : TableFault) (told : Refusal) → told ≡ refusal_for fault → clauses.IsCaused store old new fault → IsCausedAs store old new told
+  caused_by fault told same cause = subst (λ (e : Refusal). IsCausedAs store old new e) (sym same) (caused_as fault cause)
