@@ -1,9 +1,12 @@
 -- From the end of a life to the next opening.
-use Rattle.std.proofs.Common.{◌≡◌, ◌⊎◌, inl, inr, [], Bool, true, false, Ok, Err, refl, sym, subst, arith}
+use Rattle.std.proofs.Common.{◌≡◌, ◌⊎◌, inl, inr, ℕ, List, [], Bool, true, false, Option, Some, None, Ok, Err, option_map, refl, sym, subst, ◌∙◌, arith}
+use Rattle.sqlite.specs.Tree.{Trees}
 use Rattle.sqlite.specs.Held.{Held, state}
 use Rattle.sqlite_trees.specs.declared.store.Store.{Ghosts}
 use Rattle.pid_moderation.specs.History.{History, new_history}
-use Rattle.pid_moderation.specs.Views.{views_of}
+use Rattle.pid_moderation.specs.Items.{name_at}
+use Rattle.pid_moderation.specs.Revisions.{taken_over}
+use Rattle.pid_moderation.specs.Views.{Views, revision_of, since_of, views_of, without_numbers}
 use Rattle.pid_lives.specs.Registries.{Finds}
 use Rattle.pid_rows.specs.declared.fault.TableFault.{TableFault}
 use Rattle.pid_rows.specs.Clauses as clauses
@@ -29,6 +32,29 @@ none_reached = record { mark = 0; commands = []; made = tt; reached = refl; mark
 
 pub live_never_failed : {X : Type 0} (live : Bool) → live ≡ true → live ≡ false → X
 live_never_failed live on off = let no : ⊥ = cc in absurd no
+
+no_number : (name : Option (List ℕ)) (since : ℕ) → option_map (λ (n : List ℕ). 0) name ≡ Some since → since ≡ 0
+no_number None since is = absurd (let no : ⊥ = cc in no)
+no_number (Some name) since is = cc
+
+-- in schema 1 the numbers are not told
+without_shown : (db : Trees) (v : Views) → ShowsIn One (found_in (schema_of One) db) v → ShowsIn One (found_in (schema_of One) db) (without_numbers v)
+without_shown db v shows = record {
+  schema = shows.schema;
+  sound = shows.sound;
+  views = record { sorted = shows.views.sorted; paths = shows.views.paths; pending = shows.views.pending };
+  meta = shows.meta;
+  accounts = shows.accounts;
+  items = shows.items;
+  submissions = shows.submissions;
+  remarks = shows.remarks;
+  receipts = shows.receipts;
+  sinces = (refl, λ path since is. no_number (name_at path v.items) since is);
+}
+
+-- a history that was taken over has none
+pub taken_bare : (h : History) → revision_of (taken_over h) ≡ 0 → ((path : List ℕ) → since_of path (taken_over h) ≡ 0) → views_of (taken_over h) ≡ without_numbers (views_of (taken_over h))
+taken_bare h none never = λ i. record (views_of (taken_over h)) { revision = none i; since = λ path. never path i }
 
 module _ {S : Type 0} (store : Ghosts S) where
   -- while a connection is open, a crash leaves what was committed
@@ -140,3 +166,17 @@ module _ {S : Type 0} (store : Ghosts S) where
 
   pub still_between : (old new : Registry S store) (h next : History) → new ≡ old → FailsBetween store old h next → FailsBetween store new h next
   still_between old new h next same between = subst (λ r. FailsBetween store r h next) (sym same) between
+
+  -- tables of schema 1, before them
+
+  abbrev pub ShowsEarlier : Held S → Views → Type 0
+  ShowsEarlier conn v = ShowsIn One (found_in (schema_of One) (clauses.seen store conn).trees) v
+
+  pub taken_there : IsSettled → (conn : Held S) (v : Views) (h : History) → views_of (taken_over h) ≡ without_numbers (views_of (taken_over h)) → without_numbers (views_of (taken_over h)) ≡ without_numbers (views_of h)
+      → IsOpened store conn → ShowsEarlier conn v → without_numbers v ≡ without_numbers (views_of h) → ShowsOrBlank store conn (taken_over h)
+  taken_there law conn v h bare taken opens shows same =
+      opened_in law conn (taken_over h) opens One (subst (λ (w : Views). ShowsEarlier conn w) (same ∙ sym taken ∙ sym bare) (without_shown (clauses.seen store conn).trees v shows))
+
+  pub moved_shows : (conn moved : Held S) (step : Step) (h : History) (first : Registry S store) → IsReached h → ShowsOrBlank store conn h → MovesTo store conn (Ok (moved, step)) → clauses.HasCleanDisk store moved
+      → OpensTo store moved (Ok first) → HasCleanDisk store first → Shows store first h
+  moved_shows conn moved step h first reached shows moves clean opens last = opens.opened h reached (inl (move_shows conn moved step h reached shows moves clean)) last

@@ -1,5 +1,5 @@
 -- What a registry shows after a command, by how far it came.
-use Rattle.std.proofs.Common.{◌≡◌, inl, inr, false, Ok, Err, refl, sym, subst, ap, ◌∙◌, arith}
+use Rattle.std.proofs.Common.{◌≡◌, ◌⊎◌, inl, inr, false, Result, Ok, Err, IsErrAnd, refl, sym, subst, ap, ◌∙◌, arith}
 use Rattle.sqlite_trees.specs.declared.store.Store.{Ghosts}
 use Rattle.pid_moderation.specs.declared.change.Change.{Change}
 use Rattle.pid_moderation.specs.declared.command.Reply.{Reply}
@@ -12,7 +12,7 @@ use Rattle.pid_moderation.specs.declared.command.Command.{Command}
 use Rattle.pid_moderation.specs.History.{Asked, Deed, History, Reading, TooLong, asked, deed_of, is_import}
 use Rattle.pid_moderation.specs.Judgement.{judge, answer, after}
 use Rattle.pid_moderation.specs.Judgement as Outcomes
-use Rattle.pid_moderation.specs.Views.{Views, views_of}
+use Rattle.pid_moderation.specs.Views.{Views, items_of, views_of}
 use Rattle.pid_moderation.specs.WellMade.{HasGoodFile, IsWellMade}
 use Rattle.pid_rows.specs.Clauses.{AtRest, LeavesEither}
 use Rattle.pid_name_cache.specs.Entries.{Entries}
@@ -88,3 +88,23 @@ same_deed (Import file) reading other = absurd (let no : ⊥ = cc in no)
 pub well_made : (command : Command) (reading : Reading) → is_import command.act ≡ false → ((r : Reading) → HasGoodFile r → IsWellMade (asked command r)) → IsWellMade (asked command reading)
 well_made command reading other law =
     subst (λ (d : Deed). IsWellMade (record { account = command.account; key = command.key; deed = d })) (same_deed command.act reading other) (law TooLong no_file)
+
+-- what a command leaves of the items
+
+pub accepted_spares : (None : Type 0) (h : History) (c : Asked) (change : Change) (reply : Reply) → Judges h c (Ok (Accepted change reply)) → None ⊎ ((v : Views) → (changed change v).items ≡ v.items) → None ⊎ (items_of (after h c) ≡ items_of h)
+accepted_spares None h c change reply told (inl none) = inl none
+accepted_spares None h c change reply told (inr same) = inr (ap (λ (v : Views). v.items) told.1 ∙ same (views_of h))
+
+abbrev told_err : Refusal → Result Reply Refusal
+told_err e = Err e
+
+pub refused_spares : (None : Type 0) (h : History) (c : Asked) (e : Refusal) → Judges h c (Err e) → None ⊎ ((items_of (after h c) ≡ items_of h) ⊎ IsErrAnd (told_err e) IsFault)
+refused_spares None h c e (inl told) = inr (inl (ap items_of told.1))
+refused_spares None h c e (inr fault) = inr (inr fault)
+
+pub then_spares : (None : Type 0) (h : History) (c : Asked) (r : Result Reply Refusal) → None ⊎ (items_of (after h c) ≡ items_of h) → None ⊎ ((items_of (after h c) ≡ items_of h) ⊎ IsErrAnd r IsFault)
+then_spares None h c r (inl none) = inl none
+then_spares None h c r (inr same) = inr (inl same)
+
+pub broken_spares : (None : Type 0) (h : History) (c : Asked) → judge (views_of h) c ≡ Outcomes.Refused BadText → None ⊎ ((items_of (after h c) ≡ items_of h) ⊎ IsErrAnd (told_err BadText) IsFault)
+broken_spares None h c is = inr (inl (ap items_of (refused_stays h c BadText (ap answer is))))

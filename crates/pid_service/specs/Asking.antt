@@ -32,6 +32,7 @@ module _ {S : Type 0} (store : Ghosts S) where
   IsCausedAs old new Store = clauses.IsCaused store old new faults.Store
   IsCausedAs old new e = ⊥
 
+  -- the same of what a registry is asked
   abbrev pub HasCause : Registry S store → Registry S store → Refusal → Type 0
   HasCause old new e = IsCausedAs (connection old) (connection new) e
 

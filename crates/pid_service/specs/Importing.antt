@@ -9,6 +9,7 @@ use Rattle.pid_moderation.specs.declared.refusal.Refusal.{Refusal}
 use Rattle.pid_moderation.specs.declared.refusal.Refusal.TheVariants.{BadText, Failed, Store}
 use Rattle.pid_moderation.specs.CheckTables.{most_file_bytes}
 use Rattle.pid_moderation.specs.History.{Asked, History}
+use Rattle.pid_moderation.specs.Judgement.{after}
 use Rattle.pid_service.specs.declared.importing.ImportEnd.{ImportEnd}
 use Rattle.pid_service.specs.declared.importing.ImportEnd.TheVariants.{Refused, Body}
 use Rattle.pid_service.specs.declared.registry.Registry.{Registry}
@@ -70,3 +71,9 @@ abbrev pub IsPlain : Result Reply ImportEnd → Result Reply Refusal → Type 0
 IsPlain (Ok reply) result = result ≡ Ok reply
 IsPlain (Err (Refused e)) result = result ≡ Err e
 IsPlain (Err Body) result = result ≡ Err Store
+
+-- the history is left, or memory was short or the store or the input failed
+abbrev pub EndSpares : Result Reply ImportEnd → History → Asked → Type 0
+EndSpares (Ok reply) h c = after h c ≡ h
+EndSpares (Err (Refused e)) h c = (after h c ≡ h) ⊎ IsFault e
+EndSpares (Err Body) h c = Unit {0}

@@ -1,5 +1,5 @@
 -- What a registry answers to a command, and what it shows afterwards.
-use Rattle.std.specs.Prelude.{◌≡◌, ◌≢◌, ◌⊎◌, Bool, [], Result, MatchResult}
+use Rattle.std.specs.Prelude.{◌≡◌, ◌≢◌, ◌⊎◌, Bool, [], Result, IsErrAnd, MatchResult}
 use Rattle.sqlite_trees.specs.declared.store.Store.{Ghosts}
 use Rattle.pid_lives.specs.Registries.{CommandLeaves}
 use Rattle.pid_moderation.specs.declared.command.Reply.{Reply}
@@ -25,3 +25,7 @@ Forgets store r h c = items_of (after h c) ≢ items_of h → (kept_names r ≡ 
 -- Serves private functions alone: the registry is as live as before, or memory was short or the store failed.
 abbrev pub StaysLive : {X : Type 0} → Result X Refusal → (before after : Bool) → Type 0
 StaysLive result before after = MatchResult result (λ _. after ≡ before) (λ e. IsFault e ⊎ (after ≡ before))
+
+-- Serves private functions alone: no name is kept in memory, or the items are left, or memory was short or the store failed.
+abbrev pub SparesNames : {S : Type 0} {store : Ghosts S} → Result Reply Refusal → Registry S store → History → Asked → Type 0
+SparesNames result r h c = (kept_names r ≡ []) ⊎ ((items_of (after h c) ≡ items_of h) ⊎ IsErrAnd result IsFault)

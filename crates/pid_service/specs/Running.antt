@@ -6,9 +6,12 @@ use Rattle.pid_moderation.specs.declared.refusal.Refusal.{Refusal}
 use Rattle.pid_moderation.specs.declared.refusal.Refusal.TheVariants.{Failed, Memory, Store}
 use Rattle.pid_moderation.specs.History.{Asked, History}
 use Rattle.pid_moderation.specs.Judgement.{after, after_all, answers}
+use Rattle.pid_moderation.specs.Views.{items_of}
 use Rattle.pid_service.specs.declared.registry.Registry.{Registry}
 use Rattle.pid_service.specs.declared.running.RunReport.{RunReport}
 use Rattle.pid_service.specs.Histories.{Shows, FailsBetween, IsFault}
+use Rattle.pid_service.specs.KeptNames.{kept_names}
+use Rattle.pid_service.specs.Obeying.{Forgets}
 
 -- the fault that an answer is, where it is one
 abbrev pub fault_in : Result Reply Refusal → Option Refusal
@@ -19,6 +22,11 @@ fault_in answer = None
 -- it is not told as by a registry that had failed before
 abbrev pub IsToldByLive : Result Reply Refusal → Type 0
 IsToldByLive reply = IfErr reply (λ e. e ≢ Failed)
+
+-- none of the commands in turn leaves other items
+abbrev pub LeaveItems : History → List Asked → Type 0
+LeaveItems h [] = Unit {0}
+LeaveItems h (c ∷ commands) = (items_of (after h c) ≡ items_of h) × LeaveItems (after h c) commands
 
 module _ {S : Type 0} (store : Ghosts S) where
   -- where a list ends: all commands were obeyed; or at the next one memory was short or the store failed, and the registry shows the
@@ -33,3 +41,13 @@ module _ {S : Type 0} (store : Ghosts S) where
   pub record Runs (report : RunReport) (r : Registry S store) (h : History) (commands : List Asked) : Type 0 where
     pub replied : report.replies.items ≡ answers h (take (length report.replies.items) commands)
     pub ends : EndsRun report.fault (drop (length report.replies.items) commands) r (after_all h (take (length report.replies.items) commands))
+
+  -- the next command, if there is one, leaves no old name in memory
+  abbrev pub ForgetsNext : List Asked → Registry S store → History → Type 0
+  ForgetsNext [] r h = Unit {0}
+  ForgetsNext (c ∷ rest) r h = Forgets store r h c
+
+  -- No name is kept in memory, or no command that was replied to left other items; and at the next one it is as after a single command.
+  pub record ForgetsRun (report : RunReport) (r : Registry S store) (h : History) (commands : List Asked) : Type 0 where
+    pub replied : (kept_names r ≡ []) ⊎ LeaveItems h (take (length report.replies.items) commands)
+    pub next : ForgetsNext (drop (length report.replies.items) commands) r (after_all h (take (length report.replies.items) commands))

@@ -1,5 +1,5 @@
 //! Names in memory, before a change is written.
-ghost use Rattle.std.specs.Prelude.{◌≡◌, ◌≢◌, ℕ, false, []};
+ghost use Rattle.std.specs.Prelude.{◌≡◌, ◌≢◌, ◌⊎◌, ℕ, false, []};
 ghost use Rattle.pid_moderation.specs.Changes.{affected, changed};
 ghost use Rattle.pid_moderation.specs.Views.{Views};
 ghost use Rattle.pid_service.specs.KeptNames.{AreNamesOf};
@@ -24,6 +24,8 @@ fn writes_items(effect: &Effect) -> bool
 pub(crate) fn forget_for(names: &mut NameCache, change: &Change)
     ensures right { (v : Views) → AreNamesOf names.old v → AreNamesOf names.new (changed change.now v) }
     ensures forgets { (v : Views) → (changed change.now v).items ≢ v.items → names.new ≡ [] }
+    ensures spares { (names.new ≡ []) ⊎ ((v : Views) → (changed change.now v).items ≡ v.items) }
+    ensures none { names.old ≡ [] → names.new ≡ [] }
 {
     if !writes_items(&change.effect) {
         return;

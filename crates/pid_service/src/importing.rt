@@ -9,8 +9,8 @@ ghost use Rattle.pid_moderation.specs.History.{History, asked, is_import};
 ghost use Rattle.pid_moderation.specs.Judgement.{after};
 ghost use Rattle.pid_moderation.specs.Views.{items_of};
 ghost use Rattle.pid_service.specs.Histories.{IsFault, IsReached, Shows};
-ghost use Rattle.pid_service.specs.Importing.{AnswersPast, EndStaysLive, HasRead, IsEndFault, IsEndOfLive, IsPlain, ObeysImport, is_end_outcome};
-ghost use Rattle.pid_service.specs.Obeying.{Obeys, StaysLive};
+ghost use Rattle.pid_service.specs.Importing.{AnswersPast, EndSpares, EndStaysLive, HasRead, IsEndFault, IsEndOfLive, IsPlain, ObeysImport, is_end_outcome};
+ghost use Rattle.pid_service.specs.Obeying.{Obeys, SparesNames, StaysLive};
 ghost use Rattle.pid_service.specs.KeptNames.{kept_names};
 ghost use Rattle.pid_service.specs.Registries.{HasCleanDisk, is_live as lives};
 
@@ -139,6 +139,10 @@ impl<S: Alter + Drop> Registry<S> {
         ensures fault_first { IsSome (I.read_fault input.new) → result ≡ Err ImportEnd.Body }
         ensures goes { I.goes input.old input.new }
         ensures alive { IfErr result IsEndOfLive }
+        ensures spares { HasRead result (I.to_come input.old) (I.to_come input.new) (λ text.
+            HasCleanDisk S.Store self.new → (h : History) → Shows S.Store self.old h → is_import command.now.act ≡ true
+            → (kept_names self.new ≡ []) ⊎ EndSpares result h (asked command.now (file_reading text))) }
+        ensures none { kept_names self.old ≡ [] → kept_names self.new ≡ [] }
         ensures held { EndStaysLive result (lives self.old) (lives self.new) }
     {
         command_is_well_made(command);
@@ -159,6 +163,9 @@ impl<S: Alter + Drop> Registry<S> {
             → Obeys S.Store result self.new h (asked command.now (file_reading file.now)) }
         ensures forgets { (h : History) → Shows S.Store self.old h → (kept_names self.new ≡ []) ⊎ Shows S.Store self.new h }
         ensures alive { IfErr result (λ e. e ≢ Refusal.Failed) }
+        ensures spares { HasCleanDisk S.Store self.new → (h : History) → Shows S.Store self.old h → is_import command.now.act ≡ true → length file.now ≤ most_file_bytes
+            → SparesNames result self.new h (asked command.now (file_reading file.now)) }
+        ensures none { kept_names self.old ≡ [] → kept_names self.new ≡ [] }
         ensures held { StaysLive result (lives self.old) (lives self.new) }
     {
         let mut input = SliceInput::new(file);

@@ -10,14 +10,18 @@ ghost use Rattle.pid_moderation.specs.declared.refusal.Refusal.{Refusal};
 ghost use Rattle.pid_moderation.specs.declared.refusal.Refusal.TheVariants.{Failed};
 ghost use Rattle.pid_moderation.specs.History.{Asked, History, new_history};
 ghost use Rattle.pid_moderation.specs.Judgement.{after, answer, judge};
-ghost use Rattle.pid_moderation.specs.Views.{views_of};
+ghost use Rattle.pid_moderation.specs.Revisions.{taken_over};
+ghost use Rattle.pid_moderation.specs.Views.{Views, views_of, without_numbers};
 ghost use Rattle.pid_lives.specs.Calls.{Call, nothing_sent, obeyed, ran, sent_in};
 ghost use Rattle.pid_lives.specs.Outcomes.{is_outcome};
 ghost use Rattle.pid_lives.specs.Registries.{CallsLead, Does, Finds, LivesLead};
 ghost use Rattle.pid_rows.specs.declared.fault.TableFault.{TableFault};
 ghost use Rattle.pid_rows.specs.Clauses as clauses;
 ghost use Rattle.pid_rows.specs.Faults.{IsUntold};
-ghost use Rattle.pid_rows.specs.Leaves.{IsShown};
+ghost use Rattle.pid_rows.specs.Leaves.{IsShown, found_in};
+ghost use Rattle.pid_rows.specs.Schema.{schema_of};
+ghost use Rattle.pid_rows.specs.Shows.{ShowsIn};
+ghost use Rattle.pid_rows.specs.declared.version.Version.TheVariants.{One};
 ghost use Rattle.pid_tables.specs.declared.migration.Step.{Step};
 ghost use Rattle.pid_tables.specs.Clauses.{IsOpened, ShowsOrBlank};
 ghost use Rattle.pid_tables.specs.Creation.{IsBare};
@@ -35,6 +39,7 @@ ghost use Rattle.pid_service.specs.Running.{Runs};
 use crate::laws::reached_histories_are_kept;
 use crate::registry::Registry;
 use pid_lives::{ShowsHistories, calls_do, doubts_end_when_sent_again, openings_find_prefixes};
+use pid_moderation::taken_files_begin_anew;
 use pid_reader::laws::printed_trees_read_back;
 use sqlite::Alter;
 
@@ -99,6 +104,21 @@ pub fn migrations_keep_histories<S: Alter + Drop>()
     ensures again { (conn back : Held S) (fault : TableFault) (h : History) → IsReached h → ShowsOrBlank S.Store conn h
         → MovesTo S.Store conn (Err (fault, back)) → clauses.HasCleanDisk S.Store back → ShowsOrBlank S.Store back h }
 {}
+
+/// Tables of schema 1 keep no revision and no number of a change: a database that was just opened on tables that show a history but for those has that
+/// history taken over, with its mark behind all its commands. Where that is reached (`taken_histories_are_reached`), a registry that is opened there,
+/// also behind a migration, shows it.
+pub fn migrations_find_histories<S: Alter + Drop>()
+    ensures there { (conn : Held S) (v : Views) (h : History) → IsOpened S.Store conn → ShowsIn One (found_in (schema_of One) (clauses.seen S.Store conn).trees) v
+        → without_numbers v ≡ without_numbers (views_of h) → ShowsOrBlank S.Store conn (taken_over h) }
+    ensures opened { (conn : Held S) (v : Views) (h : History) (first : registry.Registry S S.Store) → IsOpened S.Store conn → ShowsIn One (found_in (schema_of One) (clauses.seen S.Store conn).trees) v
+        → without_numbers v ≡ without_numbers (views_of h) → IsReached (taken_over h) → OpensTo S.Store conn (Ok first) → HasCleanDisk S.Store first → Shows S.Store first (taken_over h) }
+    ensures moved { (conn moved : Held S) (step : Step) (v : Views) (h : History) (first : registry.Registry S S.Store) → IsOpened S.Store conn → ShowsIn One (found_in (schema_of One) (clauses.seen S.Store conn).trees) v
+        → without_numbers v ≡ without_numbers (views_of h) → IsReached (taken_over h) → MovesTo S.Store conn (Ok (moved, step)) → clauses.HasCleanDisk S.Store moved
+        → OpensTo S.Store moved (Ok first) → HasCleanDisk S.Store first → Shows S.Store first (taken_over h) }
+{
+    taken_files_begin_anew();
+}
 
 /// From the end of a life to the next opening.
 ///

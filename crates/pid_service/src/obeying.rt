@@ -1,17 +1,17 @@
 //! One command: it is judged, and what comes of it is written.
-ghost use Rattle.std.specs.Prelude.{◌≡◌, ◌≢◌, false, true, [], Ok, Err, IfErr, IsErrAnd, OnOk, OnErr};
+ghost use Rattle.std.specs.Prelude.{◌≡◌, ◌≢◌, ◌⊎◌, false, true, [], Ok, Err, IfErr, IsErrAnd, OnOk, OnErr};
 ghost use Rattle.pid_lives.specs.Outcomes.{is_outcome};
 ghost use Rattle.pid_moderation.specs.Changes.{changed, Fits};
 ghost use Rattle.pid_moderation.specs.CheckTables.{is_broken};
 ghost use Rattle.pid_moderation.specs.History.{Asked, History, Reading, asked, is_import};
 ghost use Rattle.pid_moderation.specs.Judgement.{after};
-ghost use Rattle.pid_moderation.specs.Views.{Views};
+ghost use Rattle.pid_moderation.specs.Views.{Views, items_of};
 ghost use Rattle.pid_rows.specs.Clauses.{AtRest, LeavesEither};
 ghost use Rattle.pid_import.specs.Files.{asks};
 ghost use Rattle.pid_service.specs.Histories.{IsFault, IsReached, Shows};
 ghost use Rattle.pid_service.specs.Judging.{Judges};
 ghost use Rattle.pid_service.specs.KeptNames.{AreNamesOf, kept_names};
-ghost use Rattle.pid_service.specs.Obeying.{Forgets, Obeys, StaysLive};
+ghost use Rattle.pid_service.specs.Obeying.{Forgets, Obeys, SparesNames, StaysLive};
 ghost use Rattle.pid_service.specs.Registries.{HasCleanDisk, connection, is_live as lives};
 
 use crate::forgetting::forget_for;
@@ -31,6 +31,8 @@ impl<S: Alter + Drop> Registry<S> {
         ensures either { (v : Views) → AtRest S.Store (connection self.old) v → Fits change.now v → OnErr result (LeavesEither S.Store (connection self.new) v (changed change.now v)) }
         ensures names { (v : Views) → AreNamesOf (kept_names self.old) v → OnOk result (AreNamesOf (kept_names self.new) (changed change.now v)) }
         ensures forgets { (v : Views) → (changed change.now v).items ≢ v.items → kept_names self.new ≡ [] }
+        ensures spares { (kept_names self.new ≡ []) ⊎ ((v : Views) → (changed change.now v).items ≡ v.items) }
+        ensures none { kept_names self.old ≡ [] → kept_names self.new ≡ [] }
         ensures lives { OnOk result (lives self.new ≡ lives self.old) }
         ensures fails { OnErr result (lives self.new ≡ false) }
         ensures fault { IfErr result IsFault }
@@ -51,6 +53,8 @@ impl<S: Alter + Drop> Registry<S> {
         ensures clean { HasCleanDisk S.Store self.new → HasCleanDisk S.Store self.old }
         ensures settled { (h : History) (c : Asked) → Shows S.Store self.old h → IsReached (after h c) → Judges h c (Ok judged) → Obeys S.Store result self.new h c }
         ensures forgets { (h : History) (c : Asked) → Shows S.Store self.old h → Judges h c (Ok judged) → Forgets S.Store self.new h c }
+        ensures spares { (h : History) (c : Asked) → Judges h c (Ok judged) → (kept_names self.new ≡ []) ⊎ (items_of (after h c) ≡ items_of h) }
+        ensures none { kept_names self.old ≡ [] → kept_names self.new ≡ [] }
         ensures alive { IfErr result (λ e. e ≢ Refusal.Failed) }
         ensures held { StaysLive result (lives self.old) (lives self.new) }
     {
@@ -68,6 +72,8 @@ impl<S: Alter + Drop> Registry<S> {
         ensures clean { HasCleanDisk S.Store self.new → HasCleanDisk S.Store self.old }
         ensures obeyed { HasCleanDisk S.Store self.new → (h : History) → Shows S.Store self.old h → is_import command.now.act ≡ false → Obeys S.Store result self.new h (asks command.now) }
         ensures forgets { HasCleanDisk S.Store self.new → (h : History) → Shows S.Store self.old h → is_import command.now.act ≡ false → Forgets S.Store self.new h (asks command.now) }
+        ensures spares { HasCleanDisk S.Store self.new → (h : History) → Shows S.Store self.old h → is_import command.now.act ≡ false → SparesNames result self.new h (asks command.now) }
+        ensures none { kept_names self.old ≡ [] → kept_names self.new ≡ [] }
         ensures alive { IfErr result (λ e. e ≢ Refusal.Failed) }
         ensures held { StaysLive result (lives self.old) (lives self.new) }
     {
@@ -84,6 +90,8 @@ impl<S: Alter + Drop> Registry<S> {
         ensures clean { HasCleanDisk S.Store self.new → HasCleanDisk S.Store self.old }
         ensures obeyed { HasCleanDisk S.Store self.new → (h : History) → Shows S.Store self.old h → is_broken command.now.act ≡ false → Obeys S.Store result self.new h (asks command.now) }
         ensures forgets { HasCleanDisk S.Store self.new → (h : History) → Shows S.Store self.old h → Forgets S.Store self.new h (asks command.now) }
+        ensures spares { HasCleanDisk S.Store self.new → (h : History) → Shows S.Store self.old h → is_broken command.now.act ≡ false → SparesNames result self.new h (asks command.now) }
+        ensures none { kept_names self.old ≡ [] → kept_names self.new ≡ [] }
         ensures alive { IfErr result (λ e. e ≢ Refusal.Failed) }
         ensures held { StaysLive result (lives self.old) (lives self.new) }
     {
@@ -101,6 +109,8 @@ impl<S: Alter + Drop> Registry<S> {
         ensures form { lives self.old ≡ true → is_broken command.now.act ≡ true → (result ≡ Err Refusal.BadText) × (self.new ≡ self.old) }
         ensures obeyed { HasCleanDisk S.Store self.new → (h : History) → Shows S.Store self.old h → Obeys S.Store result self.new h (asks command.now) }
         ensures forgets { HasCleanDisk S.Store self.new → (h : History) → Shows S.Store self.old h → Forgets S.Store self.new h (asks command.now) }
+        ensures spares { HasCleanDisk S.Store self.new → (h : History) → Shows S.Store self.old h → SparesNames result self.new h (asks command.now) }
+        ensures none { kept_names self.old ≡ [] → kept_names self.new ≡ [] }
         ensures alive { lives self.old ≡ true → IfErr result (λ e. e ≢ Refusal.Failed) }
         ensures stays { lives self.old ≡ true → is_outcome result ≡ true → lives self.new ≡ true }
         ensures fails { lives self.old ≡ true → lives self.new ≡ false → IsErrAnd result IsFault }

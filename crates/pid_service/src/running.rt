@@ -6,7 +6,7 @@ ghost use Rattle.pid_import.specs.Files.{asks};
 ghost use Rattle.pid_service.specs.Asking.{MayGive};
 ghost use Rattle.pid_service.specs.Histories.{IsFault, Shows};
 ghost use Rattle.pid_service.specs.Registries.{HasCleanDisk, is_live as lives};
-ghost use Rattle.pid_service.specs.Running.{IsToldByLive, Runs, fault_in};
+ghost use Rattle.pid_service.specs.Running.{ForgetsRun, IsToldByLive, Runs, fault_in};
 
 use crate::registry::Registry;
 use pid_moderation::{Command, Refusal, Reply};
@@ -47,6 +47,7 @@ impl<S: Alter + Drop> Registry<S> {
         ensures fault { IfSome result.fault IsFault }
         ensures most { length result.replies.items ≤ length commands.now }
         ensures ran { HasCleanDisk S.Store self.new → (h : History) → Shows S.Store self.old h → Runs S.Store result self.new h (map asks commands.now) }
+        ensures forgets { HasCleanDisk S.Store self.new → (h : History) → Shows S.Store self.old h → ForgetsRun S.Store result self.new h (map asks commands.now) }
         ensures held { lives self.old ≡ true → (lives self.new ≡ true) ⊎ IsSomeAnd result.fault IsFault }
         ensures alive { lives self.old ≡ true → AllByRecursion IsToldByLive result.replies.items }
     {
@@ -78,6 +79,8 @@ impl<S: Alter + Drop> Registry<S> {
         ensures fault { IfSome result.fault (MayGive (lives self.old)) }
         ensures most { length result.replies.items ≤ length commands.now }
         ensures ran { HasCleanDisk S.Store self.new → (h : History) → Shows S.Store self.old h → Runs S.Store result self.new h (map asks commands.now) }
+        // Where some command left other items, no name is kept in memory.
+        ensures forgets { HasCleanDisk S.Store self.new → (h : History) → Shows S.Store self.old h → ForgetsRun S.Store result self.new h (map asks commands.now) }
         // Whatever its disk does: without a fault a live registry stays live, one that has failed since was short of memory, or its store failed,
         ensures stays { lives self.old ≡ true → result.fault ≡ None → lives self.new ≡ true }
         ensures fails { lives self.old ≡ true → lives self.new ≡ false → IsSomeAnd result.fault IsFault }

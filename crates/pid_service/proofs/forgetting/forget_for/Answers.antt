@@ -1,4 +1,4 @@
-use Rattle.std.proofs.Common.{◌≡◌, false, Option, Some, None, refl, rules, subst, sym, ◌∙◌}
+use Rattle.std.proofs.Common.{◌≡◌, inl, inr, false, Option, Some, None, refl, rules, subst, sym, ◌∙◌}
 use Rattle.pid_moderation.specs.declared.change.Receipt.{Receipt}
 use Rattle.pid_moderation.specs.Changes.{affected, changed, keeping}
 use Rattle.pid_moderation.specs.Items.{Items, name_at}
@@ -20,3 +20,11 @@ pub returns-then-not-writes_items-clause-forgets : goal.returns-then-not-writes_
 returns-then-not-writes_items-clause-forgets c v other =
     let off : c.writes_items.result ≡ false = search rules in
     absurd (other (kept_items c.args.change.now.receipt (affected c.args.change.now.revision c.args.change.now.effect v) ∙ c.writes_items.ensures c.args.change.now.revision v off))
+
+pub returns-then-not-writes_items-clause-spares : goal.returns-then-not-writes_items-clause-spares
+returns-then-not-writes_items-clause-spares c =
+    let off : c.writes_items.result ≡ false = search rules in
+    inr (λ v. kept_items c.args.change.now.receipt (affected c.args.change.now.revision c.args.change.now.effect v) ∙ c.writes_items.ensures c.args.change.now.revision v off)
+
+pub returns-clause-spares : goal.returns-clause-spares
+returns-clause-spares c = inl c.clear.ensures.empty

@@ -1,7 +1,7 @@
-use Rattle.std.proofs.Common.{refl}
+use Rattle.std.proofs.Common.{inl, inr, refl}
 use Rattle.pid_moderation.specs.History.{asked}
 use Rattle.pid_import.specs.Files.{file_reading}
-use Rattle.pid_service.proofs.Imported.{past_obeyed}
+use Rattle.pid_service.proofs.Imported.{past_obeyed, past_spares}
 use Rattle.pid_service.proofs.Lasting.{still_live}
 use Rattle.pid_service.proofs.Obeyed.{only_read}
 use Rattle.pid_service.proofs.registry.Registry.import_act.Goals as goal
@@ -32,3 +32,23 @@ returns-in-Open-clause-obeyed g c = let r = c.carry_in.ensures.obeyed in
 
 pub returns-in-Answered-clause-held : goal.returns-in-Answered-clause-held
 returns-in-Answered-clause-held g c = still_live c.answer_past.result c.args.self.now.live
+
+pub returns-in-Answered-clause-spares : goal.returns-in-Answered-clause-spares
+returns-in-Answered-clause-spares g c = let r = c.answer_past.ensures.past in
+    record {
+      text = r.text;
+      consumed = r.consumed;
+      read = r.read;
+      holds = λ clean h shows import.
+          inr (past_spares h c.args.command.now c.in-Answered.answer c.answer_past.result r.text c.long_files_are_refused.ensures.readings c.long_files_are_refused.ensures.refused import
+          (c.in-Answered.ensures.judged clean h (c.reached_histories_are_kept.ensures.sound h shows.history) shows.tables) r.holds);
+    }
+
+pub returns-in-Open-clause-spares : goal.returns-in-Open-clause-spares
+returns-in-Open-clause-spares g c = let r = c.carry_in.ensures.obeyed in
+    record {
+      text = r.text;
+      consumed = r.consumed;
+      read = r.read;
+      holds = λ clean h shows import. inl c.carry_in.ensures.forgets;
+    }

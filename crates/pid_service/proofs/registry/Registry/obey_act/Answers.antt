@@ -1,6 +1,6 @@
 use Rattle.std.proofs.Common.{refl}
 use Rattle.pid_import.specs.Files.{asks, file_of, file_reading}
-use Rattle.pid_service.proofs.Obeyed.{only_read, refused, well_made}
+use Rattle.pid_service.proofs.Obeyed.{only_read, refused, refused_spares, then_spares, well_made}
 use Rattle.pid_service.proofs.registry.Registry.obey_act.Goals as goal
 
 pub returns-in-Err-clause-obeyed : goal.returns-in-Err-clause-obeyed
@@ -19,3 +19,12 @@ pub returns-in-Ok-clause-forgets : goal.returns-in-Ok-clause-forgets
 returns-in-Ok-clause-forgets g c clean h shows other =
     c.settle.ensures.forgets h (asks c.args.command.now) (only_read g.S.Store c.args.self.now _ h refl c.judge.ensures.rests refl shows)
     (c.in-Ok.ensures.judged (c.settle.ensures.clean clean) h (file_reading (file_of c.args.command.now.act)) shows.history shows.tables other)
+
+pub returns-in-Err-clause-spares : goal.returns-in-Err-clause-spares
+returns-in-Err-clause-spares g c clean h shows other =
+    refused_spares _ h (asks c.args.command.now) c.in-Err.refusal (c.in-Err.ensures.judged clean h (file_reading (file_of c.args.command.now.act)) shows.history shows.tables other)
+
+pub returns-in-Ok-clause-spares : goal.returns-in-Ok-clause-spares
+returns-in-Ok-clause-spares g c clean h shows other =
+    then_spares _ h (asks c.args.command.now) c.settle.result
+    (c.settle.ensures.spares h (asks c.args.command.now) (c.in-Ok.ensures.judged (c.settle.ensures.clean clean) h (file_reading (file_of c.args.command.now.act)) shows.history shows.tables other))

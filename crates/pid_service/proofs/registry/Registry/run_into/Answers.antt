@@ -5,7 +5,7 @@ use Rattle.pid_import.specs.Files.{asks}
 use Rattle.std.specs.List.{AllByRecursion}
 use Rattle.pid_service.specs.Running.{IsToldByLive}
 use Rattle.pid_service.proofs.Lasting.{all_more, on_after, some_fault}
-use Rattle.pid_service.proofs.Runs.{one_more, next_is, none_of, so_many, obeyed_more, ends_at}
+use Rattle.pid_service.proofs.Runs.{ends_at, forgets_at, forgets_more, next_is, none_of, none_then, obeyed_more, one_more, so_many}
 use Rattle.pid_service.proofs.registry.Registry.run_into.Goals as goal
 
 pub returns-then-is_some-clause-ran : goal.returns-then-is_some-clause-ran
@@ -42,7 +42,23 @@ loop-command-preserved g c =
       λ on.
           subst (AllByRecursion IsToldByLive) (sym (rw good at c.push.ensures.items))
           (all_more IsToldByLive c.loop-command.replies.items c.obey_lent-outcome.result (c.loop-command.invariant.6 on) (c.obey_lent-outcome.ensures.alive (c.loop-command.invariant.5 on))),
+      λ clean h shows.
+          let was = c.obey_lent-outcome.ensures.clean clean in
+          forgets_more _ _ c.obey_lent-outcome.result h (take i all) (take (i + 1) all) (asks c.command-item.result)
+          (one_more asks c.args.commands.now i c.command-item.result (omega (arith, c.loop-command-test.true)) (sym c.command-item.is))
+          c.obey_lent-outcome.ensures.none (c.loop-command.invariant.7 was h shows)
+          (c.obey_lent-outcome.ensures.spares clean (after_all h (take i all)) (c.loop-command.invariant.4 was h shows).1) none,
     )
+
+pub returns-then-is_some-clause-forgets : goal.returns-then-is_some-clause-forgets
+returns-then-is_some-clause-forgets g c clean h shows =
+    let i : ℕ = c.loop-command.command-index in
+    let all : List Asked = map asks c.args.commands.now in
+    let was = c.obey_lent-outcome.ensures.clean clean in
+    forgets_at g.S.Store _ c.obey_lent-outcome.new.self h i all (drop (suc i) all) (asks c.command-item.result)
+    (next_is asks c.args.commands.now i c.command-item.result (omega (arith, c.loop-command-test.true)) (sym c.command-item.is))
+    c.loop-command.invariant.1 (none_then _ _ _ c.obey_lent-outcome.ensures.none (c.loop-command.invariant.7 was h shows))
+    (c.obey_lent-outcome.ensures.forgets clean (after_all h (take i all)) (c.loop-command.invariant.4 was h shows).1)
 
 pub returns-then-is_some-clause-held : goal.returns-then-is_some-clause-held
 returns-then-is_some-clause-held g c on = inr (some_fault c.fault_of-fault.result (sym c.is_some.ensures ∙ c.if-is_some.true) c.fault_of-fault.ensures.fault)

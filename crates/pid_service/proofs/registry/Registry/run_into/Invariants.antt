@@ -1,11 +1,12 @@
-use Rattle.std.proofs.Common.{◌≡◌, ◌≤◌, true, length, take, map, vec_capacity, vec_len}
+use Rattle.std.proofs.Common.{◌≡◌, ◌⊎◌, ◌≤◌, [], true, length, take, map, vec_capacity, vec_len}
 use Rattle.std.specs.List.{AllByRecursion}
 use Rattle.pid_moderation.specs.History.{History}
 use Rattle.pid_moderation.specs.Judgement.{answers, after_all}
 use Rattle.pid_import.specs.Files.{asks}
 use Rattle.pid_service.specs.Histories.{Shows}
 use Rattle.pid_service.specs.Registries.{HasCleanDisk, is_live}
-use Rattle.pid_service.specs.Running.{IsToldByLive}
+use Rattle.pid_service.specs.KeptNames.{kept_names}
+use Rattle.pid_service.specs.Running.{IsToldByLive, LeaveItems}
 use Rattle.pid_service.proofs.registry.Registry.run_into.Given as goal
 
 abbrev pub invariant-loop-command : goal.invariant-loop-command
@@ -16,3 +17,4 @@ invariant-loop-command g l =
     → (l.replies.items ≡ answers h (take l.command-index (map asks l.commands))) × Shows g.S.Store l.self (after_all h (take l.command-index (map asks l.commands))))
     × (is_live l.fn.self ≡ true → is_live l.self ≡ true)
     × (is_live l.fn.self ≡ true → AllByRecursion IsToldByLive l.replies.items)
+    × (HasCleanDisk g.S.Store l.self → (h : History) → Shows g.S.Store l.fn.self h → (kept_names l.self ≡ []) ⊎ LeaveItems h (take l.command-index (map asks l.commands)))

@@ -1,7 +1,8 @@
-use Rattle.std.proofs.Common.{inl, Ok, subst}
+use Rattle.std.proofs.Common.{inl, inr, Ok, ap, subst}
+use Rattle.pid_moderation.specs.Views.{items_of}
 use Rattle.pid_service.specs.declared.judging.Judged.{Judged}
 use Rattle.pid_service.specs.Judging.{Judges}
-use Rattle.pid_service.proofs.Obeyed.{kept, accepted, failed}
+use Rattle.pid_service.proofs.Obeyed.{accepted, accepted_spares, failed, kept}
 use Rattle.pid_service.proofs.registry.Registry.settle.Goals as goal
 
 pub returns-in-Kept-clause-settled : goal.returns-in-Kept-clause-settled
@@ -19,3 +20,12 @@ returns-clause-settled g c h asks shows reached told =
 
 pub returns-clause-held : goal.returns-clause-held
 returns-clause-held g c = inl c.in-Err.ensures.fault
+
+pub returns-in-Kept-clause-spares : goal.returns-in-Kept-clause-spares
+returns-in-Kept-clause-spares g c h asks told = let same = subst (λ (j : Judged). Judges h asks (Ok j)) c.in-Kept.is told in inr (ap items_of same.1)
+
+pub returns-in-Ok-clause-spares : goal.returns-in-Ok-clause-spares
+returns-in-Ok-clause-spares g c h asks told = accepted_spares _ h asks c.in-Accepted.change c.in-Accepted.reply (subst (λ (j : Judged). Judges h asks (Ok j)) c.in-Accepted.is told) c.carry_out.ensures.spares
+
+pub returns-clause-spares : goal.returns-clause-spares
+returns-clause-spares g c h asks told = accepted_spares _ h asks c.in-Accepted.change c.in-Accepted.reply (subst (λ (j : Judged). Judges h asks (Ok j)) c.in-Accepted.is told) c.carry_out.ensures.spares
