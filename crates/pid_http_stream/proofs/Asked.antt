@@ -22,7 +22,7 @@ use Rattle.pid_http_stream.specs.declared.body_input.BodyFault.{BodyFault}
 use Rattle.pid_http_stream.specs.declared.body_input.BodyFault.TheVariants as faults
 use Rattle.pid_http_stream.specs.declared.handler.Reply.{Reply}
 use Rattle.pid_http_stream.proofs.BodyReads.{whole_padded, none_wanted, nothing}
-use Rattle.pid_http_stream.proofs.Heads.{stands_request, stands_short, short_is_none}
+use Rattle.pid_http_stream.proofs.Heads.{stands_request, stands_short}
 
 -- the bytes that came with the head and those of the reader, where all that is wanted was used
 whole_body : (d came used : List ℕ) (w n : ℕ) → n ≡ min w (length d) → take n d ++ came ≡ used → length used ≡ w → d ++ came ≡ used ++ drop w d
@@ -202,8 +202,8 @@ broken_short held headers spans w A B r fault off =
 broken_as : {H : Type 0} (conduct : Conduct H) (a b : H) (held : List ℕ) (headers : List HeaderSpan) (spans : RequestSpans) (all rest : List ℕ) (B : BodyState) (fault : BodyFault) (input : Option (List ℕ)) → HasBrokenOff B fault → StandsStill conduct a b → IsShort all
     → IsAskedOver conduct (record { a = a; b = b; input = input; input_after = B.to_come }) held headers spans all rest (asked.Broken fault)
 broken_as conduct a b held headers spans all rest B faults.Short input off stands short = (stands, off.cause, short)
-broken_as conduct a b held headers spans all rest B faults.ReadFault input off stands short = (stands, short_is_none all short)
-broken_as conduct a b held headers spans all rest B faults.TurnsSpent input off stands short = (stands, short_is_none all short)
+broken_as conduct a b held headers spans all rest B faults.ReadFault input off stands short = (stands, inr short)
+broken_as conduct a b held headers spans all rest B faults.TurnsSpent input off stands short = (stands, inr short)
 
 -- the body broke off
 pub broken : {H E : Type 0} (conduct : Conduct H) (a b : H) (held : List ℕ) (headers : List HeaderSpan) (spans : RequestSpans) (w : ℕ) (A B : BodyState) (r : Reading held headers spans w A B) (result : Result Reply E) (fault : BodyFault)
@@ -270,6 +270,6 @@ pub body_waits : (held : List ℕ) (headers : List HeaderSpan) (spans : RequestS
 body_waits held headers spans w A B r = since_so (IsWithinBody A) (IsWaiting held A.to_come A.taken) A.moments B.moments (λ m x. record {
   rest = held ++ x.came;
   comes = record { piece = x.came; consumed = x.consumed; kept = refl };
-  none = short_is_none (held ++ x.came) (stands_short held headers spans w r.stands x.came (still_short held headers spans w A B r x.came x.wants));
+  waits = inr (stands_short held headers spans w r.stands x.came (still_short held headers spans w A B r x.came x.wants));
   writer = x.taken;
 }) r.read.moments

@@ -1,17 +1,19 @@
 -- What comes in up to the end of a head.
-use Rattle.std.proofs.Common.{◌≡◌, ℕ, List, [], ◌++◌, Option, Some, None, length, take, drop, sym, ap, subst, ◌∙◌, append_assoc, arith, inl}
+use Rattle.std.proofs.Common.{◌≡◌, ◌≢◌, ℕ, List, [], ◌++◌, Option, Some, None, length, take, drop, sym, ap, subst, ◌∙◌, append_assoc, arith, inl}
 use Rattle.std.specs.Prelude.{IfSome, IsTrue, ◌↔◌, Bool, false}
 use Rattle.std.proofs.lemmas.Bool.{iff_false}
 use Rattle.std.specs.Io.KnownBytes.{IsAtEnd}
 use Rattle.std.proofs.KnownBytes.{Consumes-nil, Consumes-trans}
 use Rattle.std.proofs.lemmas.List.{append-nil, take_all, take-append-drop, take-append-le}
-use Rattle.httparse.specs.Grammar.{HasNoRequest as HasNoRequestHead}
+use Rattle.std.proofs.lemmas.List.Elements.{All-nil, All-append}
+use Rattle.httparse.specs.Ascii.{line_feed}
+use Rattle.httparse.specs.Grammar.{HasNoRequest as HasNoRequestHead, MayBecomeRequest as MayBecomeHead}
 use Rattle.pid_http_stream.specs.Endings.{HasFault, IsNoHead}
-use Rattle.pid_http_stream.specs.Intakes.{ComesIn, HasNoLineEnd, IsWaiting, WantsMore}
+use Rattle.pid_http_stream.specs.Intakes.{ComesIn, IsWaiting}
 use Rattle.pid_http_stream.specs.Leftovers.{AreLineEnds}
 use Rattle.pid_http_stream.specs.MomentLaws.{since_then, since_so}
 use Rattle.pid_http_stream.specs.Moments.{Moment, AllSince, IsMoment}
-use Rattle.pid_http_stream.specs.Requests.{HasNoRequest}
+use Rattle.pid_http_stream.specs.Unfinished.{CanBeHead, HasNoLineEnd, IsHeadUnfinished, IsUnfinished}
 use Rattle.pid_http_stream.specs.declared.judging.StreamFault.{StreamFault}
 use Rattle.pid_http_stream.specs.declared.judging.StreamFault.TheVariants.{BadHead}
 use Rattle.pid_http_stream.proofs.Heads.{end_within_head, no_head_behind}
@@ -34,28 +36,39 @@ pub any_faulty : (held : List ℕ) (fault : StreamFault) → ((more : List ℕ) 
 any_faulty held fault has None = tt
 any_faulty held fault has (Some more) = has more
 
-pub no_request_yet : (held : List ℕ) → HasNoRequestHead held → HasNoRequest held
-no_request_yet held none = λ request rest is. none request.head _ is.head.reads
-
-pub still_none : (after : List ℕ) (n : ℕ) → WantsMore (take n after) → HasNoLineEnd (drop n after) → HasNoRequestHead after
+pub still_none : (after : List ℕ) (n : ℕ) → IsHeadUnfinished (take n after) → HasNoLineEnd (drop n after) → HasNoRequestHead after
 still_none after n wants quiet = subst HasNoRequestHead (take-append-drop n after) (no_head_behind (take n after) (drop n after) wants.none quiet)
 
+-- where no line ended in the piece, the lines that have ended are those of before
+pub still_begins : (after : List ℕ) (n : ℕ) → CanBeHead (take n after) → HasNoLineEnd (drop n after) → CanBeHead after
+still_begins after n x quiet = record {
+  front = x.front;
+  line = x.line ++ drop n after;
+  is = sym (take-append-drop n after) ∙ ap (λ (l : List ℕ). l ++ drop n after) x.is ∙ append_assoc x.front x.line (drop n after);
+  may = x.may;
+  unended = All-append (λ (b : ℕ). b ≢ line_feed) x.line (drop n after) x.unended quiet;
+}
+
+-- what was parsed whole
+pub begins_whole : (held : List ℕ) → MayBecomeHead held → CanBeHead held
+begins_whole held may = record { front = held; line = []; is = sym (append-nil held); may = may; unended = All-nil (λ (b : ℕ). b ≢ line_feed) }
+
 -- what came goes on from what was held
-pub held_first : (held after piece : List ℕ) (n : ℕ) → WantsMore held → after ≡ held ++ piece → n ≡ length held → WantsMore (take n after)
+pub held_first : (held after piece : List ℕ) (n : ℕ) → IsHeadUnfinished held → after ≡ held ++ piece → n ≡ length held → IsHeadUnfinished (take n after)
 held_first held after piece n wants e same =
-    subst WantsMore (sym (ap (λ (k : ℕ). take k after) same ∙ ap (take (length held)) e ∙ take-append-le (length held) held piece (omega arith) ∙ take_all (length held) held (omega arith))) wants
+    subst IsHeadUnfinished (sym (ap (λ (k : ℕ). take k after) same ∙ ap (take (length held)) e ∙ take-append-le (length held) held piece (omega arith) ∙ take_all (length held) held (omega arith))) wants
 
 pub not_line_ends : (b : Bool) (held : List ℕ) → IsTrue b ↔ AreLineEnds held → b ≡ false → ¬ (AreLineEnds held)
 not_line_ends b held both no_end x = iff_false both no_end x
 
--- the reader was read once more, while no whole request stood in what had come
-pub waits_on : (held now : List ℕ) (x y taken : Option (List ℕ)) (a b c : Option (List Moment)) → ComesIn held now x y → HasNoRequest now
+-- the reader was read once more, while what had come was a request that was not whole
+pub waits_on : (held now : List ℕ) (x y taken : Option (List ℕ)) (a b c : Option (List Moment)) → ComesIn held now x y → IsUnfinished now
     → AllSince (IsWaiting held x taken) a b → AllSince (IsMoment y taken) b c → AllSince (IsWaiting held x taken) a c
-waits_on held now x y taken a b c came none first next =
+waits_on held now x y taken a b c came waits first next =
     since_then (IsWaiting held x taken) a b c first
     (since_so (IsMoment y taken) (IsWaiting held x taken) b c (λ m is. record {
       rest = now;
       comes = subst (λ (k : Moment). ComesIn held now x k.to_come) (sym is) came;
-      none = none;
+      waits = waits;
       writer = ap (λ (k : Moment). k.taken) is;
     }) next)

@@ -16,7 +16,8 @@ use Rattle.pid_http_stream.specs.Heads.{HasHead}
 use Rattle.pid_http_stream.specs.Leftovers.{AreLineEnds, IsLeftover}
 use Rattle.pid_http_stream.specs.Requests.{Request, IsRequest, HasNoRequest, fields_of}
 use Rattle.pid_http_stream.specs.Endings.{Says, IsShort, IsNoHead}
-use Rattle.pid_http_stream.specs.Intakes.{StandsAt, HasNoLineEnd}
+use Rattle.pid_http_stream.specs.Intakes.{StandsAt}
+use Rattle.pid_http_stream.specs.Unfinished.{HasNoLineEnd, IsUnfinished}
 use Rattle.pid_http_stream.specs.LineScans.{blank_after}
 use Rattle.pid_http_stream.proofs.EndsOfLines.{all_scanned}
 use Rattle.pid_http_stream.specs.declared.body_length.BodyLength.{BodyLength}
@@ -113,13 +114,18 @@ stands_short held headers spans w at came less = record {
   short = less;
 }
 
-pub short_is_none : (s : List ℕ) → IsShort s → HasNoRequest s
+short_is_none : (s : List ℕ) → IsShort s → HasNoRequest s
 short_is_none s x = λ request rest is.
     let heads = HasHead-unique s x.head request.head x.rest (request.body ++ rest) x.has is.head in
     let lengths = Bytes-same x.wanted (length request.body) (sym x.says ∙ ap (λ (h : RequestHead). body_length (fields_of h)) heads.0 ∙ is.sized) in
     let rests : length x.rest ≡ length (request.body ++ rest) = ap length heads.1 in
     let less = x.short in
     omega (arith, less, lengths, simp length-append at rests)
+
+-- a request that has not come whole is no whole request
+pub unfinished_is_none : (s : List ℕ) → IsUnfinished s → HasNoRequest s
+unfinished_is_none s (inl x) = λ request rest is. x.none request.head _ is.head.reads
+unfinished_is_none s (inr x) = short_is_none s x
 
 -- a head has bytes
 pub some_bytes : (h : RequestHead) → IsRequestHead h → 0 < length (print_request h)

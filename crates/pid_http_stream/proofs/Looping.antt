@@ -8,14 +8,15 @@ use Rattle.pid_http_stream.specs.Intakes.{ComesIn, IsWaiting}
 use Rattle.pid_http_stream.specs.Leftovers.{IsLeftover}
 use Rattle.pid_http_stream.specs.MomentLaws.{since_then, since_so}
 use Rattle.pid_http_stream.specs.Moments.{Moment, AllSince}
-use Rattle.pid_http_stream.specs.Requests.{HasNoRequest}
 use Rattle.pid_http_stream.specs.Serving.{counted, AnswersFront, IsCaughtUp, IsServed}
 use Rattle.pid_http_stream.specs.Steps.{count_with, IsRefused, Steps, stop_end}
+use Rattle.pid_http_stream.specs.Unfinished.{IsUnfinished}
 use Rattle.pid_http_stream.specs.declared.intake.Stop.{Stop}
 use Rattle.pid_http_stream.specs.declared.judging.StreamFault.{StreamFault}
 use Rattle.pid_http_stream.specs.declared.stream.Answered.TheVariants as answered
 use Rattle.pid_http_stream.specs.declared.stream.StreamEnd.{StreamEnd}
 use Rattle.pid_http_stream.specs.declared.stream.StreamEnd.TheVariants.{Clean, Closed}
+use Rattle.pid_http_stream.proofs.Heads.{unfinished_is_none}
 use Rattle.pid_http_stream.proofs.Serving.{IsServing, if_some, comes, ends_clean, ends_refused, ends_stopped, steps_open, steps_closed, steps_ended}
 
 -- a fact that hangs on known bytes, where they are known
@@ -37,10 +38,10 @@ loop_faulty conduct a b t u v input mid left held after count fault end serving 
     if_some input _ _ (λ s x. ends_refused conduct a b t u v s left after count fault end (comes conduct _ s mid left held after count x c) has r) serving
 
 pub loop_stopped : {H : Type 0} (conduct : Conduct H) (a b : H) (t u input mid left : Option (List ℕ)) (held after : List ℕ) (count : ℕ) (stop : Stop)
-    → IfSome input (λ s. IsServing conduct (record { handler = a; handler_after = b; taken = t; taken_after = u }) s mid held count) → ComesIn held after mid left → HasNoRequest after
+    → IfSome input (λ s. IsServing conduct (record { handler = a; handler_after = b; taken = t; taken_after = u }) s mid held count) → ComesIn held after mid left → IsUnfinished after
     → IfSome input (λ s. IsServed conduct (record { handler = a; handler_after = b; taken = t; taken_after = u }) s left (stop_end stop) count)
-loop_stopped conduct a b t u input mid left held after count stop serving c none =
-    if_some input _ _ (λ s x. ends_stopped conduct a b t u s left after count stop (comes conduct _ s mid left held after count x c) none) serving
+loop_stopped conduct a b t u input mid left held after count stop serving c waits =
+    if_some input _ _ (λ s x. ends_stopped conduct a b t u s left after count stop (comes conduct _ s mid left held after count x c) waits) serving
 
 pub loop_open : {H : Type 0} (conduct : Conduct H) (a b c : H) (t u v input mid read left : Option (List ℕ)) (held after lent kept : List ℕ) (n count count_after : ℕ)
     → IfSome input (λ s. IsServing conduct (record { handler = a; handler_after = b; taken = t; taken_after = u }) s mid held count) → ComesIn held after mid read → lent ≡ after
@@ -82,7 +83,8 @@ caught_up conduct a b t u mid s held count serving m x =
       last = b;
       count = count;
       before = subst (λ (k : Option (List ℕ)). AnswersFront conduct (record { handler = a; handler_after = b; taken = t; taken_after = k }) y.read x.rest count) (sym x.writer) y.before;
-      none = x.none;
+      none = unfinished_is_none x.rest x.waits;
+      unfinished = x.waits;
     }
 
 -- for a head

@@ -9,10 +9,11 @@ use Rattle.pid_http_stream.specs.Endings.{HasFault}
 use Rattle.pid_http_stream.specs.Intakes.{ComesIn}
 use Rattle.pid_http_stream.specs.Leftovers.{IsLeftover}
 use Rattle.pid_http_stream.specs.Replies.{Answer, reply_text}
-use Rattle.pid_http_stream.specs.Requests.{Request, IsRequest, HasNoRequest}
+use Rattle.pid_http_stream.specs.Requests.{Request, IsRequest}
 use Rattle.pid_http_stream.specs.Serving.{counted, Outside, WritesFront, RestsBehind, AnswersAll, AnswersFront, BreaksOff, StopsReading, LacksMemory, IsWrittenNext, IsServed}
 use Rattle.pid_http_stream.specs.Steps.{count_with, IsReplied, IsRefused, EndsWithin, Steps, stop_end}
 use Rattle.pid_http_stream.specs.Streams.{closes, Ending, clean, closed, faulty, Ends, Fronts, Splits}
+use Rattle.pid_http_stream.specs.Unfinished.{IsUnfinished}
 use Rattle.pid_http_stream.specs.declared.intake.Stop.{Stop}
 use Rattle.pid_http_stream.specs.declared.intake.Stop.TheVariants as stops
 use Rattle.pid_http_stream.specs.declared.judging.StreamFault.{StreamFault}
@@ -20,7 +21,7 @@ use Rattle.pid_http_stream.specs.declared.judging.StreamFault.TheVariants.{BadHe
 use Rattle.pid_http_stream.specs.declared.stream.Answered.TheVariants as answered
 use Rattle.pid_http_stream.specs.declared.stream.StreamEnd.{StreamEnd}
 use Rattle.pid_http_stream.specs.declared.stream.StreamEnd.TheVariants.{Clean, Closed, HeadFault, BodyFault, ReadFault, WriteFault, StoreFault, Memory, TurnsSpent}
-use Rattle.pid_http_stream.proofs.Heads.{IsRequest-append}
+use Rattle.pid_http_stream.proofs.Heads.{IsRequest-append, unfinished_is_none}
 
 -- ---- requests at the front of a stream
 
@@ -218,16 +219,17 @@ ends_refused conduct a b t u v stream left held count fault end s has r =
 
 stops_reading : {H : Type 0} (conduct : Conduct H) (a b c : H) (t u v : Option (List ℕ)) (stream : List ℕ) (left : Option (List ℕ)) (held : List ℕ) (count : ℕ)
     → IsServing conduct (record { handler = a; handler_after = b; taken = t; taken_after = u }) stream left held count
-    → StandsStill conduct b c → HasNoRequest held → v ≡ u
+    → StandsStill conduct b c → IsUnfinished held → v ≡ u
     → StopsReading conduct (record { handler = a; handler_after = c; taken = t; taken_after = v }) stream left count
-stops_reading conduct a b c t u v stream left held count s stands none same = record {
+stops_reading conduct a b c t u v stream left held count s stands waits same = record {
   read = s.read;
   consumed = s.consumed;
   rest = held;
   last = b;
   before = subst (λ (k : Option (List ℕ)). AnswersFront conduct (record { handler = a; handler_after = b; taken = t; taken_after = k }) s.read held count) (sym same) s.before;
   stands = stands;
-  none = none;
+  none = unfinished_is_none held waits;
+  unfinished = waits;
 }
 
 lacks_memory : {H : Type 0} (conduct : Conduct H) (a b c : H) (t u v : Option (List ℕ)) (stream rest : List ℕ) (count : ℕ)
@@ -243,7 +245,7 @@ lacks_memory conduct a b c t u v stream rest count f after same = record {
 
 -- reading stops at a head
 pub ends_stopped : {H : Type 0} (conduct : Conduct H) (a b : H) (t u : Option (List ℕ)) (stream : List ℕ) (left : Option (List ℕ)) (held : List ℕ) (count : ℕ) (stop : Stop)
-    → IsServing conduct (record { handler = a; handler_after = b; taken = t; taken_after = u }) stream left held count → HasNoRequest held
+    → IsServing conduct (record { handler = a; handler_after = b; taken = t; taken_after = u }) stream left held count → IsUnfinished held
     → IsServed conduct (record { handler = a; handler_after = b; taken = t; taken_after = u }) stream left (stop_end stop) count
 ends_stopped conduct a b t u stream left held count stops.ReadFault s none = stops_reading conduct a b b t u u stream left held count s (inl refl) none refl
 ends_stopped conduct a b t u stream left held count stops.TurnsSpent s none = stops_reading conduct a b b t u u stream left held count s (inl refl) none refl

@@ -1,9 +1,7 @@
 -- Serves private functions alone; no promise rests on it.
 -- What comes in from a reader, and what stands at the front of what came.
-use Rattle.std.specs.Prelude.{◌≡◌, ◌≢◌, ℕ, ◌<◌, ◌≤◌, List, ◌++◌, length, take, map, Option, IfSome, All, ⊤}
+use Rattle.std.specs.Prelude.{◌≡◌, ℕ, ◌<◌, ◌≤◌, List, ◌++◌, take, map, Option, IfSome, ⊤}
 use Rattle.std.specs.Io.KnownBytes.{Consumes, IsAtEnd}
-use Rattle.httparse.specs.Ascii.{line_feed}
-use Rattle.httparse.specs.Grammar.{HasNoRequest as HasNoHeadYet}
 use Rattle.httparse.specs.Spans.{header_bytes, IsRequestWithin, IsRequestOf}
 use Rattle.httparse.specs.declared.spans.HeaderSpan.{HeaderSpan}
 use Rattle.httparse.specs.declared.spans.RequestSpans.{RequestSpans}
@@ -12,7 +10,7 @@ use Rattle.pid_http_stream.specs.Endings.{HasFault}
 use Rattle.pid_http_stream.specs.Heads.{longest_head, most_fields}
 use Rattle.pid_http_stream.specs.Leftovers.{IsLeftover}
 use Rattle.pid_http_stream.specs.Moments.{Moment}
-use Rattle.pid_http_stream.specs.Requests.{HasNoRequest}
+use Rattle.pid_http_stream.specs.Unfinished.{IsHeadUnfinished, IsUnfinished}
 use Rattle.pid_http_stream.specs.declared.body_length.BodyLength.TheVariants.{Bytes}
 use Rattle.pid_http_stream.specs.declared.judging.Judged.{Judged}
 use Rattle.pid_http_stream.specs.declared.judging.Judged.TheVariants as judged
@@ -27,11 +25,12 @@ pub record ComesIn (held held_after : List ℕ) (input input_after : Option (Lis
   pub consumed : Consumes input input_after piece
   pub kept : held_after ≡ held ++ piece
 
--- when the reader was read, no whole request stood in what had come behind what was held, and the writer had taken this
+-- when the reader was read, what was held and what had come behind it was a request that had not come whole, and the writer had
+-- taken this
 pub record IsWaiting (held : List ℕ) (input taken : Option (List ℕ)) (m : Moment) : Type 0 where
   pub rest : List ℕ
   pub comes : ComesIn held rest input m.to_come
-  pub none : HasNoRequest rest
+  pub waits : IsUnfinished rest
   pub writer : m.taken ≡ taken
 
 -- only a piece changes what is held
@@ -39,10 +38,6 @@ abbrev pub StaysBut : List ℕ → List ℕ → Filled → Type 0
 StaysBut held held_after filled.Piece = ⊤
 StaysBut held held_after filled.End = held_after ≡ held
 StaysBut held held_after (filled.Stopped stop) = held_after ≡ held
-
--- no line ends in the bytes
-abbrev pub HasNoLineEnd : List ℕ → Type 0
-HasNoLineEnd bytes = All (λ b. b ≢ line_feed) bytes
 
 -- the spans are those of a head at the front, which says that its body has so many bytes
 pub record StandsAt (held : List ℕ) (headers : List HeaderSpan) (spans : RequestSpans) (body : ℕ) : Type 0 where
@@ -54,14 +49,9 @@ pub record StandsAt (held : List ℕ) (headers : List HeaderSpan) (spans : Reque
   pub fits : body ≤ longest_body
   pub says : body_length (map (header_bytes held) (take spans.headers headers)) ≡ Bytes body
 
--- no head stands at the front, and one may still come
-pub record WantsMore (held : List ℕ) : Type 0 where
-  pub none : HasNoHeadYet held
-  pub short : length held ≤ longest_head
-
 -- at a fault the stream has it, whatever comes behind
 abbrev pub IsJudged : List ℕ → List HeaderSpan → Judged → Type 0
-IsJudged held headers judged.More = WantsMore held
+IsJudged held headers judged.More = IsHeadUnfinished held
 IsJudged held headers (judged.Head spans body) = StandsAt held headers spans body
 IsJudged held headers (judged.Faulty fault) = (more : List ℕ) → HasFault (held ++ more) fault
 
@@ -70,4 +60,4 @@ abbrev pub IsHeadRead : List ℕ → List HeaderSpan → Option (List ℕ) → H
 IsHeadRead held headers left (heads.Head spans body) = StandsAt held headers spans body
 IsHeadRead held headers left heads.Nothing = IsAtEnd left × IsLeftover held
 IsHeadRead held headers left (heads.Faulty fault) = IfSome left (λ more. HasFault (held ++ more) fault)
-IsHeadRead held headers left (heads.Stopped stop) = HasNoRequest held
+IsHeadRead held headers left (heads.Stopped stop) = IsUnfinished held

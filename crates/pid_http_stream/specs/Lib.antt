@@ -5,6 +5,7 @@ pub mod Leftovers
 pub mod LineScans
 pub mod Requests
 pub mod Endings
+pub mod Unfinished
 pub mod Connections
 pub mod Streams
 pub mod Replies

@@ -7,6 +7,7 @@ use Rattle.pid_http_stream.specs.Moments.{Moment}
 use Rattle.pid_http_stream.specs.Replies.{Answer, answer_behind, reply_head, reply_text, fault_answer}
 use Rattle.pid_http_stream.specs.Requests.{Request, IsRequest, HasNoRequest}
 use Rattle.pid_http_stream.specs.Streams.{closes, Ending, clean, closed, faulty, Fronts, Splits}
+use Rattle.pid_http_stream.specs.Unfinished.{IsUnfinished}
 use Rattle.pid_http_stream.specs.declared.judging.StreamFault.{StreamFault}
 use Rattle.pid_http_stream.specs.declared.judging.StreamFault.TheVariants.{BadHead, Encoding, BodyTooLong, BodyShort}
 use Rattle.pid_http_stream.specs.declared.reply.ReplyHead.{ReplyHead}
@@ -111,7 +112,8 @@ pub record BreaksOffInBody {H : Type 0} (conduct : Conduct H) (o : Outside H) (s
   pub is : IsRequest rest request behind
   pub cut : IsCutInBody conduct mid request o.handler_after taken o.taken_after
 
--- what was read of the stream is the requests that were answered, and a rest that holds no whole request
+-- what was read of the stream is the requests that were answered, and a rest that holds no whole request and nothing that is
+-- refused: a request that has not come whole
 pub record StopsReading {H : Type 0} (conduct : Conduct H) (o : Outside H) (stream : List ℕ) (left : Option (List ℕ)) (count : ℕ) : Type 0 where
   pub read : List ℕ
   pub consumed : Consumes (Some stream) left read
@@ -120,6 +122,7 @@ pub record StopsReading {H : Type 0} (conduct : Conduct H) (o : Outside H) (stre
   pub before : AnswersFront conduct (record { handler = o.handler; handler_after = last; taken = o.taken; taken_after = o.taken_after }) read rest count
   pub stands : StandsStill conduct last o.handler_after
   pub none : HasNoRequest rest
+  pub unfinished : IsUnfinished rest
 
 -- the requests at the front of the stream were answered; the handler stands still, or lacked memory for the reply to the next
 pub record LacksMemory {H : Type 0} (conduct : Conduct H) (o : Outside H) (stream : List ℕ) (count : ℕ) : Type 0 where
@@ -129,7 +132,8 @@ pub record LacksMemory {H : Type 0} (conduct : Conduct H) (o : Outside H) (strea
   pub after : StandsStill conduct mid o.handler_after ⊎ ((request : Request) × (behind : List ℕ) × IsRequest rest request behind × conduct.leaves mid request o.handler_after)
 
 -- a reader was read at this moment, as pipelining wants it (RFC 9112, section 9.3.2): the requests at the front of what had come
--- were answered, the writer had taken the replies, and no whole request stood behind them
+-- were answered, the writer had taken the replies, and behind them stood no whole request and nothing that is refused: a request
+-- that had not come whole
 pub record IsCaughtUp {H : Type 0} (conduct : Conduct H) (start : H) (taken : Option (List ℕ)) (stream : List ℕ) (m : Moment) : Type 0 where
   pub read : List ℕ
   pub consumed : Consumes (Some stream) m.to_come read
@@ -138,6 +142,7 @@ pub record IsCaughtUp {H : Type 0} (conduct : Conduct H) (start : H) (taken : Op
   pub count : ℕ
   pub before : AnswersFront conduct (record { handler = start; handler_after = last; taken = taken; taken_after = m.taken }) read rest count
   pub none : HasNoRequest rest
+  pub unfinished : IsUnfinished rest
 
 -- a fault of a head, or of a body
 abbrev pub is_head_fault : StreamFault → Bool

@@ -9,9 +9,10 @@ use Rattle.pid_http_stream.specs.Conducts.{Conduct, StandsStill}
 use Rattle.pid_http_stream.specs.Endings.{HasFault, IsShort}
 use Rattle.pid_http_stream.specs.Handling.{MayReply}
 use Rattle.pid_http_stream.specs.Replies.{Answer, reply_head, reply_text, fault_answer}
-use Rattle.pid_http_stream.specs.Requests.{Request, IsRequest, HasNoRequest}
+use Rattle.pid_http_stream.specs.Requests.{Request, IsRequest}
 use Rattle.pid_http_stream.specs.Serving.{counted, WritesFront, IsWrittenNext, IsCutInBody, is_head_fault}
 use Rattle.pid_http_stream.specs.Streams.{closes}
+use Rattle.pid_http_stream.specs.Unfinished.{IsUnfinished}
 use Rattle.pid_http_stream.specs.declared.judging.StreamFault.{StreamFault}
 use Rattle.pid_http_stream.specs.declared.judging.StreamFault.TheVariants.{BodyShort}
 use Rattle.pid_http_stream.specs.declared.body_input.BodyFault.{BodyFault}
@@ -43,8 +44,8 @@ IsAskedOver conduct o held headers spans all rest (asked.Reply reply) =
 IsAskedOver conduct o held headers spans all rest asked.NoMemory =
     StandsStill conduct o.a o.b ⊎ ((request : Request) × IsRequest all request rest × conduct.leaves o.a request o.b)
 IsAskedOver conduct o held headers spans all rest (asked.Broken faults.Short) = StandsStill conduct o.a o.b × IsAtEnd o.input_after × IsShort all
-IsAskedOver conduct o held headers spans all rest (asked.Broken faults.ReadFault) = StandsStill conduct o.a o.b × HasNoRequest all
-IsAskedOver conduct o held headers spans all rest (asked.Broken faults.TurnsSpent) = StandsStill conduct o.a o.b × HasNoRequest all
+IsAskedOver conduct o held headers spans all rest (asked.Broken faults.ReadFault) = StandsStill conduct o.a o.b × IsUnfinished all
+IsAskedOver conduct o held headers spans all rest (asked.Broken faults.TurnsSpent) = StandsStill conduct o.a o.b × IsUnfinished all
 
 -- the handler was asked, and this came for the body
 pub record Asks {H : Type 0} (conduct : Conduct H) (o : Around H) (held : List ℕ) (headers : List HeaderSpan) (spans : RequestSpans) (length_told : ℕ) (result : Asked) : Type 0 where
@@ -100,8 +101,8 @@ abbrev pub EndsWithin : {H : Type 0} → Conduct H → H → H → List ℕ → 
 EndsWithin conduct a b came all old new ends.StoreFault = (request : Request) × (behind : List ℕ) × IsRequest all request behind × IsCutInBody conduct a request b old new
 EndsWithin conduct a b came all old new ends.WriteFault = (bytes : List ℕ) × IsWrittenNext conduct a all bytes b × WritesFront old new bytes
 EndsWithin conduct a b came all old new ends.BodyFault = HasFault all BodyShort × StandsStill conduct a b × Appends old new (reply_text (fault_answer BodyShort) true)
-EndsWithin conduct a b came all old new ends.ReadFault = StandsStill conduct a b × HasNoRequest came × (new ≡ old)
-EndsWithin conduct a b came all old new ends.TurnsSpent = StandsStill conduct a b × HasNoRequest came × (new ≡ old)
+EndsWithin conduct a b came all old new ends.ReadFault = StandsStill conduct a b × IsUnfinished came × (new ≡ old)
+EndsWithin conduct a b came all old new ends.TurnsSpent = StandsStill conduct a b × IsUnfinished came × (new ≡ old)
 EndsWithin conduct a b came all old new ends.Memory =
     (StandsStill conduct a b ⊎ ((request : Request) × (behind : List ℕ) × IsRequest all request behind × conduct.leaves a request b)) × (new ≡ old)
 EndsWithin conduct a b came all old new ends.Clean = ⊥

@@ -4,9 +4,9 @@ ghost use Rattle.std.specs.Io.KnownBytes.{IsAtEnd};
 ghost use Rattle.httparse.specs.Grammar.{HasNoRequest as HasNoHeadYet};
 ghost use Rattle.httparse.specs.declared.spans.HeaderSpan.{HeaderSpan as FieldSpan};
 ghost use Rattle.pid_http_stream.specs.Bodies.{SpendsTurns};
-ghost use Rattle.pid_http_stream.specs.Intakes.{ComesIn, HasNoLineEnd, IsHeadRead, IsJudged, IsWaiting, StaysBut, WantsMore};
+ghost use Rattle.pid_http_stream.specs.Intakes.{ComesIn, IsHeadRead, IsJudged, IsWaiting, StaysBut};
 ghost use Rattle.pid_http_stream.specs.Moments.{AllSince, IsMoment};
-ghost use Rattle.pid_http_stream.specs.Requests.{HasNoRequest};
+ghost use Rattle.pid_http_stream.specs.Unfinished.{HasNoLineEnd, IsHeadUnfinished, IsUnfinished};
 
 use crate::incoming::Incoming;
 use crate::judging::{
@@ -58,14 +58,14 @@ fn keep(held: &mut Vec<u8>, piece: &[u8]) -> Filled
 }
 
 // Reads once, and keeps what came. Room is made first, so that nothing is read that can't be kept; and nothing is read while a
-// whole request is held.
+// whole request is held, or what is refused.
 fn fill<I: Incoming<W>, W: Output>(
     held: &mut Vec<u8>,
     left: &mut u64,
     input: &mut I,
     output: &W,
 ) -> Filled
-    requires waits { HasNoRequest held.old.items }
+    requires waits { IsUnfinished held.old.items }
     ensures comes { ComesIn held.old.items held.new.items (I.to_come input.old) (I.to_come input.new) }
     ensures stays { StaysBut held.old.items held.new.items result }
     ensures end { result ≡ Filled.End → IsAtEnd (I.to_come input.new) }
@@ -122,7 +122,7 @@ fn judge_end(held: &[u8]) -> HeadRead
 // Judges what came, of which so many bytes hold no head. They are parsed anew only where a line ends behind these: no head ends
 // but with a line.
 fn judge_more(held: &[u8], before: usize, fields: &mut [HeaderSpan]) -> Judged
-    requires wants { WantsMore (take before held.now) }
+    requires wants { IsHeadUnfinished (take before held.now) }
     requires before { before ≤ length held.now }
     requires room { length fields.old ≡ MOST_FIELDS }
     ensures { IsJudged held.now fields.new result }

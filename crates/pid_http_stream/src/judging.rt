@@ -6,6 +6,7 @@ ghost use Rattle.httparse.specs.declared.spans.HeaderSpan.{HeaderSpan as FieldSp
 ghost use Rattle.pid_http_stream.specs.Intakes.{IsJudged};
 ghost use Rattle.pid_http_stream.specs.Leftovers.{AreLineEnds};
 ghost use Rattle.pid_http_stream.specs.LineScans.{blank_after};
+ghost use Rattle.pid_http_stream.specs.Unfinished.{CanBeHead};
 
 use crate::body_length::{BodyLength, length_of};
 use httparse::Status;
@@ -83,7 +84,8 @@ fn judge_length(held: &[u8], fields: &[HeaderSpan], spans: RequestSpans) -> Judg
 
 // Judges bytes in which no head has ended.
 pub(crate) fn judge_unended(held: &[u8]) -> Judged
-    requires { HasNoHeadYet held.now }
+    requires none { HasNoHeadYet held.now }
+    requires begins { CanBeHead held.now }
     ensures { (fields : List FieldSpan) → IsJudged held.now fields result }
 {
     if held.len() > LONGEST_HEAD {

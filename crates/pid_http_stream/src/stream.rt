@@ -175,9 +175,10 @@ fn with_refusal(answered: u64, end: StreamEnd) -> u64
 
 /// Answers the requests of a stream, one after another, in at most so many reads.
 ///
-/// Whenever it reads, the requests that came whole are answered, and the writer has taken their replies. Where the writer takes
-/// all and neither memory, turns nor the store fail, the bytes written are the replies to the requests of the whole stream, in
-/// their order, however the bytes come cut; then the one refusal where the stream ends with a fault.
+/// Whenever it reads, the requests that came whole are answered, the writer has taken their replies, and nothing that is refused
+/// stands behind them. Where the writer takes all and neither memory, turns nor the store fail, the bytes written are the replies
+/// to the requests of the whole stream, in their order, however the bytes come cut; then the one refusal where the stream ends
+/// with a fault.
 pub fn serve_stream<H: Handler, I: Incoming<W>, W: Output>(
     alloc: Global,
     handler: &mut H,

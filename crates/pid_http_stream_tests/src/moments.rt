@@ -3,6 +3,7 @@ use crate::account::Account;
 use crate::desk::Desk;
 use pid_http_stream::{StreamEnd, serve_stream};
 use pid_ident::FaultyOutput;
+use std::alloc::Global;
 use std::test::Fail;
 
 const FIRST: &[u8] = b"GET /none HTTP/1.1\r\n\r\n";
@@ -50,5 +51,43 @@ fn replies_are_out_before_each_read(rt: HostRuntime) -> Result<(), Fail> {
         assert!(rt; output.taken.starts_with(&kept.taken));
     }
     assert!(rt; output.taken.starts_with(FIRST_REPLY.as_bytes()));
+    Ok(())
+}
+
+// Whether this head, with a request before it and another behind it, is refused as soon as it has come: it is not read on first.
+fn is_refused_at_once(alloc: Global, head: &[u8]) -> Result<bool, Fail> {
+    let mut stream = Vec::from_slice(alloc, FIRST)?;
+    stream.extend_from_slice(head)?;
+    stream.extend_from_slice(FIRST)?;
+    let mut desk = Desk {
+        alloc,
+        store_fails: false,
+    };
+    let mut account = Account::new(alloc, &stream);
+    let mut output = FaultyOutput::new(alloc, 7);
+    let served = serve_stream(alloc, &mut desk, &mut account, &mut output, 1_000);
+    let is_first_out = match account.kept.last() {
+        Some(kept) => kept.taken.as_slice() == FIRST_REPLY.as_bytes(),
+        None => false,
+    };
+    Ok(
+        is_first_out
+            && served.answered == 2
+            && account.kept.len() == FIRST.len() + head.len()
+            && output.taken.starts_with(FIRST_REPLY.as_bytes())
+            && output.taken.ends_with(b"}"),
+    )
+}
+
+#[test]
+fn a_refusal_is_out_before_the_next_read(rt: HostRuntime) -> Result<(), Fail> {
+    for head in [
+        b"GET\n".as_slice(),
+        b"POST / HTTP/1.1\r\nContent-Length: x\r\n\r\n".as_slice(),
+        b"POST / HTTP/1.1\r\nTransfer-Encoding: chunked\r\n\r\n".as_slice(),
+        b"POST / HTTP/1.1\r\nContent-Length: 4194305\r\n\r\n".as_slice(),
+    ] {
+        assert!(rt; is_refused_at_once(rt.alloc(), head)?);
+    }
     Ok(())
 }

@@ -12,11 +12,30 @@ const THEIR_REPLIES: &str =
 
 #[test]
 fn requests_in_turn_at_any_cut(rt: HostRuntime) -> Result<(), Fail> {
-    for most in 1..60 {
+    for most in 1..=MANY.len() {
         let outcome = serve(rt.alloc(), MANY, most, 1_000);
         assert_eq!(rt; outcome.served.end, StreamEnd::Closed);
         assert_eq!(rt; outcome.served.answered, 5);
         assert_eq!(rt; outcome.written.as_slice(), THEIR_REPLIES.as_bytes());
+    }
+    Ok(())
+}
+
+// A body of more bytes than one read brings.
+#[test]
+fn a_long_body_is_held(rt: HostRuntime) -> Result<(), Fail> {
+    let mut body = Vec::new(rt.alloc());
+    for i in 0..9_000u32 {
+        body.push((i % 251) as u8)?;
+    }
+    let head = b"POST /echo HTTP/1.1\r\nContent-Length: 9000\r\n\r\n";
+    let mut stream = Vec::from_slice(rt.alloc(), head)?;
+    stream.extend_from_slice(&body)?;
+    for most in [4_095, 100_000] {
+        let outcome = serve(rt.alloc(), &stream, most, 100);
+        assert_eq!(rt; outcome.served.end, StreamEnd::Clean);
+        assert_eq!(rt; outcome.served.answered, 1);
+        assert!(rt; outcome.written.ends_with(&body));
     }
     Ok(())
 }

@@ -1,9 +1,11 @@
-//! Readers and writers that fail under a stream of three requests.
-use crate::exchange::{TURNS, new_in_memory, serve};
+//! Readers and writers that fail under a stream, at each byte.
+use crate::exchange::{TURNS, expect_rows, new_in_memory, serve};
 use crate::streams::{THEIR_REPLIES, THREE};
 use pid_http::serve_stream;
 use pid_http_stream::StreamEnd;
 use pid_ident::{FaultyInput, FaultyOutput, WriteFault};
+use std::alloc::Global;
+use std::process::Abort;
 use std::test::Fail;
 
 // The first request has 79 bytes and its reply 82, the second 25 and 98.
@@ -30,23 +32,58 @@ fn each_read_fails(rt: HostRuntime) -> Result<(), Fail> {
     Ok(())
 }
 
-// The writer takes a byte a call, and fails behind each count of them.
+const IMPORT: &[u8] =
+    b"POST /import HTTP/1.1\r\nX-Account: root\r\nContent-Length: 27\r\n\r\n8086  Intel\n10ec  Realtek\n\n";
+
+const NO_ITEMS: &str = "GET /pci.ids | 200 OK text # PCI ID registry;\n";
+
+// Of a file that does not come whole nothing stays.
 #[test]
-fn each_write_fails(rt: HostRuntime) -> Result<(), Fail> {
+fn each_read_of_a_file_fails(rt: HostRuntime) -> Result<(), Fail> {
     let alloc = rt.alloc();
+    for good in 0..IMPORT.len() {
+        let mut registry = new_in_memory(alloc)?;
+        let mut input = FaultyInput::new(IMPORT, 1).failing_after(good as u64);
+        let outcome = serve(alloc, &mut registry, &mut input, TURNS);
+        assert_eq!(rt; outcome.served.end, StreamEnd::ReadFault);
+        assert_eq!(rt; outcome.served.answered, 0);
+        assert_eq!(rt; outcome.written.len(), 0);
+        expect_rows(&rt, alloc, &mut registry, NO_ITEMS, StreamEnd::Clean)?;
+    }
+    Ok(())
+}
+
+// The sender is the account that the first command of the stream made.
+const KNOWN: &str =
+    r#"POST /submit alice path=PC/8086&name=Intel+Corporation | 200 OK json {"num":1,"ok":true}
+"#;
+
+// The writer takes a byte a call, and fails behind each count of them. The replies that went out whole are counted, and their commands
+// stay.
+fn each_write_fails(rt: &impl Abort, alloc: Global, fault: WriteFault) -> Result<(), Fail> {
     for good in 0..THEIR_REPLIES.len() {
-        let fault = if good % 2 == 0 {
-            WriteFault::Zero
-        } else {
-            WriteFault::Device
-        };
         let mut registry = new_in_memory(alloc)?;
         let mut input = FaultyInput::new(THREE, 50);
         let mut output = FaultyOutput::new(alloc, 1).failing_after(good as u64, fault);
         let served = serve_stream(alloc, &mut registry, &mut input, &mut output, TURNS);
+        let whole = REPLIES.iter().filter(|end| **end <= good).count() as u64;
         assert_eq!(rt; served.end, StreamEnd::WriteFault);
+        assert_eq!(rt; served.answered + 1, whole);
         assert_eq!(rt; output.taken.as_slice(), &THEIR_REPLIES[..good]);
         assert!(rt; registry.is_live());
+        if served.answered > 0 {
+            expect_rows(rt, alloc, &mut registry, KNOWN, StreamEnd::Clean)?;
+        }
     }
     Ok(())
+}
+
+#[test]
+fn a_writer_takes_nothing(rt: HostRuntime) -> Result<(), Fail> {
+    each_write_fails(&rt, rt.alloc(), WriteFault::Zero)
+}
+
+#[test]
+fn a_writer_fails(rt: HostRuntime) -> Result<(), Fail> {
+    each_write_fails(&rt, rt.alloc(), WriteFault::Device)
 }

@@ -1,5 +1,5 @@
 use Rattle.std.proofs.Common.{take}
-use Rattle.pid_http_stream.specs.Intakes.{HasNoLineEnd}
+use Rattle.pid_http_stream.specs.Unfinished.{HasNoLineEnd}
 use Rattle.pid_http_stream.proofs.intake.ends_line.Given as goal
 
 abbrev pub invariant-loop-byte : goal.invariant-loop-byte

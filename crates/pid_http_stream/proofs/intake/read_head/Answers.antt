@@ -1,8 +1,8 @@
-use Rattle.std.proofs.Common.{rules, refl, sym, subst, arith}
+use Rattle.std.proofs.Common.{rules, refl, sym, subst, arith, inl}
 use Rattle.pid_http_stream.specs.BodyLaws.{more_turns}
 use Rattle.pid_http_stream.specs.Intakes.{IsHeadRead}
-use Rattle.pid_http_stream.specs.Requests.{HasNoRequest}
-use Rattle.pid_http_stream.proofs.HeadReads.{comes_then, any_faulty, no_request_yet, waits_on}
+use Rattle.pid_http_stream.specs.Unfinished.{IsUnfinished}
+use Rattle.pid_http_stream.proofs.HeadReads.{comes_then, any_faulty, waits_on}
 use Rattle.pid_http_stream.proofs.intake.read_head.Goals as goal
 
 pub reading-preserved : goal.reading-preserved
@@ -12,7 +12,7 @@ reading-preserved g c = record {
   turns = more_turns _ _ _ c.reading.invariant.turns c.in-Piece.ensures.turns;
   pace = omega (arith, c.reading.invariant.pace, c.in-Piece.ensures.pace refl);
   room = search rules;
-  waits = waits_on _ _ _ _ _ _ _ _ c.reading.invariant.comes (no_request_yet _ (rw c.in-More.is at c.reading.invariant.judged).none) c.reading.invariant.waits c.in-Piece.ensures.noted;
+  waits = waits_on _ _ _ _ _ _ _ _ c.reading.invariant.comes (inl (rw c.in-More.is at c.reading.invariant.judged)) c.reading.invariant.waits c.in-Piece.ensures.noted;
   goes = g.met.I.Incoming.joins _ _ _ c.reading.invariant.goes c.in-Piece.ensures.goes;
 }
 
@@ -20,7 +20,7 @@ pub returns-in-Faulty-clause-head : goal.returns-in-Faulty-clause-head
 returns-in-Faulty-clause-head g c = any_faulty _ _ (rw c.in-Faulty.is at c.reading.invariant.judged) _
 
 pub returns-in-Stopped-clause-head : goal.returns-in-Stopped-clause-head
-returns-in-Stopped-clause-head g c = subst HasNoRequest (sym c.in-Stopped.ensures.stays) (no_request_yet _ (rw c.in-More.is at c.reading.invariant.judged).none)
+returns-in-Stopped-clause-head g c = subst IsUnfinished (sym c.in-Stopped.ensures.stays) (inl (rw c.in-More.is at c.reading.invariant.judged))
 
 pub returns-in-Stopped-clause-comes : goal.returns-in-Stopped-clause-comes
 returns-in-Stopped-clause-comes g c = comes_then _ _ _ _ _ _ c.reading.invariant.comes c.in-Stopped.ensures.comes
@@ -44,7 +44,7 @@ pub returns-in-End-clause-spent : goal.returns-in-End-clause-spent
 returns-in-End-clause-spent g c = λ e. absurd (c.judge_end.ensures.not_spent e)
 
 pub returns-in-Stopped-clause-waits : goal.returns-in-Stopped-clause-waits
-returns-in-Stopped-clause-waits g c = waits_on _ _ _ _ _ _ _ _ c.reading.invariant.comes (no_request_yet _ (rw c.in-More.is at c.reading.invariant.judged).none) c.reading.invariant.waits c.in-Stopped.ensures.noted
+returns-in-Stopped-clause-waits g c = waits_on _ _ _ _ _ _ _ _ c.reading.invariant.comes (inl (rw c.in-More.is at c.reading.invariant.judged)) c.reading.invariant.waits c.in-Stopped.ensures.noted
 
 pub returns-in-End-clause-waits : goal.returns-in-End-clause-waits
-returns-in-End-clause-waits g c = waits_on _ _ _ _ _ _ _ _ c.reading.invariant.comes (no_request_yet _ (rw c.in-More.is at c.reading.invariant.judged).none) c.reading.invariant.waits c.in-End.ensures.noted
+returns-in-End-clause-waits g c = waits_on _ _ _ _ _ _ _ _ c.reading.invariant.comes (inl (rw c.in-More.is at c.reading.invariant.judged)) c.reading.invariant.waits c.in-End.ensures.noted
