@@ -164,6 +164,37 @@ module _ {S : Type 0} (store : Ghosts S) where
   pub move_failure_shows : IsSettled → (conn back next : Held S) (fault : TableFault) (h : History) → IsReached h → ShowsOrBlank store conn h → MovesTo store conn (Err (fault, back)) → IsAfterStop store back next → ShowsOrBlank store next h
   move_failure_shows law conn back next fault h reached shows moves stop = left_found law back next h stop (move_leaves conn back fault h reached shows moves stop.clean).1
 
+  pub move_between : (ended : Registry S store) (conn moved : Held S) (step : Step) → LeavesTablesTo store ended conn → MovesTo store conn (Ok (moved, step)) → clauses.HasCleanDisk store moved → LeavesTablesTo store ended moved
+  move_between ended conn moved step finds moves clean = record {
+    clean = λ clean. finds.clean (moves.clean clean);
+    shown = λ h shows. inl (move_shows conn moved step h shows.history (finds.shown h shows) moves clean);
+    either = λ h next between. elim (finds.either h next between) [
+      | inl shows ↦ inl (inl (move_shows conn moved step h between.before shows moves clean))
+      | inr shows ↦ inr (inl (move_shows conn moved step next between.next shows moves clean))
+    ];
+  }
+
+  pub move_back_between : (ended : Registry S store) (conn back : Held S) (fault : TableFault) → LeavesTablesTo store ended conn → MovesTo store conn (Err (fault, back)) → clauses.HasCleanDisk store back → LeavesTablesTo store ended back
+  move_back_between ended conn back fault finds moves clean = record {
+    clean = λ clean. finds.clean (moves.clean clean);
+    shown = λ h shows. move_again conn back fault h shows.history (finds.shown h shows) moves clean;
+    either = λ h next between. elim (finds.either h next between) [
+      | inl shows ↦ inl (move_again conn back fault h between.before shows moves clean)
+      | inr shows ↦ inr (move_again conn back fault next between.next shows moves clean)
+    ];
+  }
+
+  -- a stop leaves of a connection what its tables are
+  pub stop_between : IsSettled → (ended : Registry S store) (conn next : Held S) → LeavesTablesTo store ended conn → IsAfterStop store conn next → LeavesTablesTo store ended next
+  stop_between law ended conn next finds stop = record {
+    clean = λ clean. finds.clean stop.clean;
+    shown = λ h shows. left_found law conn next h stop (finds.shown h shows);
+    either = λ h other between. elim (finds.either h other between) [
+      | inl shows ↦ inl (left_found law conn next h stop shows)
+      | inr shows ↦ inr (left_found law conn next other stop shows)
+    ];
+  }
+
   pub still_between : (old new : Registry S store) (h next : History) → new ≡ old → FailsBetween store old h next → FailsBetween store new h next
   still_between old new h next same between = subst (λ r. FailsBetween store r h next) (sym same) between
 

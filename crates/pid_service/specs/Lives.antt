@@ -58,8 +58,11 @@ module _ {S : Type 0} (store : Ghosts S) where
         (λ e. clauses.HasCleanDisk store e.1 → clauses.HasCleanDisk store conn)
     pub opened : (h : History) → IsReached h → ShowsOrBlank store conn h → Opens store result h
 
-  -- `migrate` was called on a connection and answered this: its clauses `created`, `moved` and `already`
+  -- `migrate` was called on a connection and answered this: its clauses `clean`, `created`, `moved` and `already`
   pub record MovesTo (conn : Held S) (result : Result (Held S × Step) (TableFault × Held S)) : Type 0 where
+    pub clean : MatchResult result
+        (λ r. clauses.HasCleanDisk store r.0 → clauses.HasCleanDisk store conn)
+        (λ e. clauses.HasCleanDisk store e.1 → clauses.HasCleanDisk store conn)
     pub created : RestsBare store conn → StepsTo store Created result new_history
     pub moved : (h : History) → IsReached h → clauses.RestsIn store One conn (views_of h) → StepsTo store Moved result h
     pub already : (h : History) → IsReached h → clauses.AtRest store conn (views_of h) → StepsTo store Already result h

@@ -19,11 +19,13 @@ mod writing;
 
 pub use exporting::ExportFault;
 pub use importing::ImportEnd;
-pub use laws::{commands_lead_on, reached_histories_are_kept, taken_histories_are_reached};
+pub use laws::{
+    commands_lead_on, pages_tell_a_hundred, reached_histories_are_kept, taken_histories_are_reached,
+};
 pub use lives::{
     clauses_meet_lives, first_openings_show_what_is_there, migrations_find_histories,
-    migrations_keep_histories, openings_find_histories, reopened_registries_show_prefixes,
-    repeats_end_doubts,
+    migrations_keep_histories, migrations_stand_between_lives, openings_find_histories,
+    reopened_registries_show_prefixes, repeats_end_doubts,
 };
 pub use opening::{migrate, open};
 pub use registry::Registry;

@@ -140,6 +140,19 @@ pub fn openings_find_histories<S: Alter + Drop>()
         → OpensTo S.Store conn (Err (fault, back)) → clauses.HasCleanDisk S.Store back → LeavesTablesTo S.Store ended back }
 {}
 
+/// A migration between the end of a life and the next opening. The tables that it leaves are still what the registry showed, as are those
+/// that a stop leaves of it, and so is the connection that comes back where it failed; an opening goes on from each of them.
+pub fn migrations_stand_between_lives<S: Alter + Drop>()
+    ensures moved { (ended : registry.Registry S S.Store) (conn moved : Held S) (step : Step) → LeavesTablesTo S.Store ended conn
+        → MovesTo S.Store conn (Ok (moved, step)) → clauses.HasCleanDisk S.Store moved → LeavesTablesTo S.Store ended moved }
+    ensures stopped { (ended : registry.Registry S S.Store) (conn moved next : Held S) (step : Step) → LeavesTablesTo S.Store ended conn
+        → MovesTo S.Store conn (Ok (moved, step)) → IsAfterStop S.Store moved next → LeavesTablesTo S.Store ended next }
+    ensures failed { (ended : registry.Registry S S.Store) (conn back next : Held S) (fault : TableFault) → LeavesTablesTo S.Store ended conn
+        → MovesTo S.Store conn (Err (fault, back)) → IsAfterStop S.Store back next → LeavesTablesTo S.Store ended next }
+    ensures again { (ended : registry.Registry S S.Store) (conn back : Held S) (fault : TableFault) → LeavesTablesTo S.Store ended conn
+        → MovesTo S.Store conn (Err (fault, back)) → clauses.HasCleanDisk S.Store back → LeavesTablesTo S.Store ended back }
+{}
+
 /// The crash prefix. Let the first registry show a history, that without commands where it is new, and let each further one be opened on
 /// what the one before it left, after any calls, over a stop at any place, a fault or a close. Then the last one shows the history
 /// after the first one's and a prefix of the commands of each life, joined in order, which holds every acknowledged one. It is of the
