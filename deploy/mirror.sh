@@ -1,46 +1,108 @@
 #!/bin/sh
-# Keeps a copy of a registry's pci.ids: asks what changed since the last time, and fetches the file where something did.
+# Keeps a copy of a registry's pci.ids: asks what changed since the last time, and fetches the file where the registry has moved on.
 #
 #   mirror.sh http://127.0.0.1:8086 /var/lib/pciids-mirror
 #
 # The folder holds `pci.ids`, and in `revision` the number to ask from the next time. What changed is printed, a line for each item: the
-# number of the change, the path and the name; removed items are not told, and are not in the file. Status 1: the file that came lacks one
-# of the changes, as a cache on the way had an older one; the copy stays as it was, and the next run takes it. Other faults are curl's.
+# number of the change, the path and the name; removed items are not told, and are not in the file.
+#
+# Status 0: the copy is the registry's text at that revision or at a later one. Any other: nothing was saved, and the next run begins where
+# this one did; 1 and a line that begins with `mirror:` is said here, other faults are those of curl and of the tools. A registry that was
+# put back to an earlier state is told so for good: empty the folder then.
+#
+# Each request says `Cache-Control: no-cache`, and a cache on the way has to ask the server then, as RFC 9111 has it (nginx does with
+# `proxy_cache_bypass $http_cache_control`). A text that a cache keeps in spite of it is found out where it lacks a change that is told; one
+# that has an item which was removed since is not.
 set -eu
-server=$1
-folder=$2
-known=$(cat "$folder/revision" 2>/dev/null || echo 0)
-new=$(mktemp -d "$folder/new.XXXXXX")
-trap 'rm -rf "$new"' EXIT
+export LC_ALL=C
+server=${1%/}
+cd "$2"
 
-# The pages of changes, up to one that is not full. The first one's revision counts: what comes later is asked for the next time.
-revision=
-after=
-while :; do
-    curl -fsS "$server/changes?format=text&since=$known&after=$after" > "$new/page"
-    revision=${revision:-$(sed -n '1s/^revision //p' "$new/page")}
-    sed 1d "$new/page" >> "$new/changes"
-    [ "$(wc -l < "$new/page")" -gt 100 ] || break
-    after=$(tail -n 1 "$new/page" | cut -d ' ' -f 2)
-done
-[ "$revision" != "$known" ] || [ ! -e "$folder/pci.ids" ] || exit 0
-
-curl -fsS "$server/pci.ids" > "$new/pci.ids"
-
-# Each change as its line of the file.
-awk '{
-    name = substr($0, length($1) + length($2) + 3)
-    levels = split($2, id, "/")
-    if (levels == 2) print (id[1] == "PD" ? "C " : "") id[2] "  " name
-    else if (levels == 3) print "\t" id[3] "  " name
-    else if (id[1] == "PC") print "\t\t" substr(id[4], 1, 4) " " substr(id[4], 5) "  " name
-    else print "\t\t" id[4] "  " name
-}' "$new/changes" > "$new/lines"
-if grep -vxF -f "$new/pci.ids" "$new/lines" > "$new/missing"; then
-    echo "mirror: the file is older than the changes" >&2
+fail() {
+    echo "mirror: $1" >&2
     exit 1
+}
+
+exec 9< .
+flock -n 9 || fail "another run is at work in this folder"
+known=
+[ ! -e revision ] || known=$(cat revision)
+case $known in
+    *[!0-9]*) fail "the file revision holds no number" ;;
+esac
+new=$(mktemp -d new.XXXXXX)
+trap 'rm -rf "$new"' EXIT
+trap 'exit 1' HUP INT TERM
+
+ask() {
+    curl -fsS -H 'Cache-Control: no-cache' "$server/$1"
+}
+
+# Writes the changes since the copy's revision into a file, page by page up to one that is not full. The revision is that of the first
+# page: what comes later is told the next time.
+latest=${known:-0}
+find_changes() {
+    revision=
+    after=
+    : > "$1"
+    while :; do
+        ask "changes?format=text&since=${known:-0}&after=$after" > "$new/page"
+        told=$(sed -n '1s/^revision \([0-9]\{1,\}\)$/\1/p' "$new/page")
+        [ -n "$told" ] || fail "what came for /changes is no page of changes"
+        [ "$told" -ge "$latest" ] || fail "the registry went back from revision $latest to $told"
+        latest=$told
+        revision=${revision:-$told}
+        sed 1d "$new/page" >> "$1"
+        lines=$(wc -l < "$new/page")
+        [ "$lines" -gt 100 ] || return 0
+        last=$(sed -n '$s/^[0-9]* \([^ ]*\) .*/\1/p' "$new/page")
+        [ "$last" != "$after" ] || fail "the same page of changes came again"
+        after=$last
+    done
+}
+
+find_changes "$new/changes"
+reached=$revision
+[ "$reached" != "$known" ] || [ ! -e pci.ids ] || exit 0
+
+# The text is of a revision that was reached behind the request, so of none before that of the changes.
+ask pci.ids > "$new/pci.ids"
+[ "$(sed -n 1p "$new/pci.ids")" = "# PCI ID registry" ] || fail "what came for /pci.ids is no file of a registry"
+
+# The changes that the text has, each name at its path, and those that it has not.
+: > "$new/missing"
+awk -v missing="$new/missing" '
+    FNR < NR {
+        if (name[$2] == substr($0, length($1) + length($2) + 3)) print
+        else print > missing
+        next
+    }
+    /^S / { at[0] = "PS/" substr($0, 3); next }
+    {
+        blanks = index($0, "  ")
+        id = substr($0, 1, blanks - 1)
+        depth = gsub(/\t/, "", id)
+        class = sub(/^C /, "", id)
+        sub(/ /, "", id)
+        at[depth] = (depth ? at[depth - 1] "/" : class ? "PD/" : "PC/") id
+        name[at[depth]] = substr($0, blanks + 2)
+    }
+' "$new/pci.ids" "$new/changes" > "$new/told"
+
+# A change that is not in the text was undone by another meanwhile, and is not told any more; else the text is an old one.
+if [ -s "$new/missing" ]; then
+    find_changes "$new/changes"
+    sort -o "$new/changes" "$new/changes"
+    sort -o "$new/missing" "$new/missing"
+    comm -12 "$new/changes" "$new/missing" > "$new/late"
+    [ ! -s "$new/late" ] || fail "the file is older than the changes"
 fi
 
-echo "$revision" > "$new/revision"
-mv "$new/pci.ids" "$new/revision" "$folder"
-cat "$new/changes"
+echo "$reached" > "$new/revision"
+sync "$new/pci.ids" "$new/revision"
+cat "$new/told"
+
+# The text first: a stop between the two leaves a number that is earlier than the text, and the changes are told again.
+mv -f "$new/pci.ids" pci.ids
+sync .
+mv -f "$new/revision" revision

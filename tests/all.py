@@ -22,13 +22,14 @@ import registry
 import scripts
 import serving
 import serving_faults
+import serving_memory
 import stops
 import tour
 import words
 import worked_rows
 from program import Cases
 
-PARTS = {it.__name__: it for it in (worked_rows, words, fault_gallery, limits, real_file, lspci, lookups, registry, disks, migrate, jobs, progress, stops, refusing, scripts, manual, tour, serving, http_routes, serving_faults, proxy, mirror, memory)}
+PARTS = {it.__name__: it for it in (worked_rows, words, fault_gallery, limits, real_file, lspci, lookups, registry, disks, migrate, jobs, progress, stops, refusing, scripts, manual, tour, serving, http_routes, serving_faults, serving_memory, proxy, mirror, memory)}
 
 
 def processor_seconds():

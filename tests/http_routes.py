@@ -7,6 +7,7 @@ import tempfile
 
 from http_server import JSON, TEXT, Server
 from program import TOP
+from registry import asked, script
 
 MANY = b"".join(b"%04x  a\n" % vendor for vendor in range(65_536)) + b"".join(b"\t%04x  a\n" % device for device in range(34_465))
 
@@ -75,6 +76,31 @@ COMMANDS = [
     ("/import", "mona", b"10ec  Realtek\n10ec \n", 14),
     ("/import", "mona", MANY, 14),
     ("/import", "mona", b"10ec  Realtek\r\n8086  Intel Corporation\n\t1237  440FX\n", 0),
+    # The longest texts, as forms of up to 12,000 bytes.
+    ("/submit", "alice", b"path=PC/8086/7111&name=82371AB&note=" + b"%C3%A9" * 2_000, 0),
+    ("/submit", "alice", b"path=PC/8086/7111&name=82371AB&note=" + b"%C3%A9" * 2_000 + b"a", 3),
+    ("/submit", "alice", b"path=PC/8086/7112&name=" + b"%22" * 1_000, 0),
+    ("/submit", "alice", b"path=PC/8086/7112&name=" + b"%22" * 1_001, 2),
+    ("/comment", "bob", b"num=6&text=" + b"a" * 4_000, 0),
+    ("/comment", "alice", b"num=6&text=" + b"%5C" * 4_000, 0),
+    ("/comment", "bob", b"num=6&text=" + b"%5C" * 4_001, 3),
+    ("/comment", "mona", b"num=6&text=thanks", 0),
+    ("/reject", "mona", b"num=6&reason=" + b"%26" * 4_000, 0),
+]
+
+# What a registry that has counted as many commands as it may is asked: each that would be accepted is refused.
+FULL = [
+    ("/account", "root", b"who=bob&rank=0", 15),
+    ("/account", "alice", b"who=bob&rank=0", 5),
+    ("/submit", "alice", b"path=PC/10ec&name=Realtek", 15),
+    ("/submit", "alice", b"path=PC/10ec", 3),
+    ("/comment", "mona", b"num=1&text=seen", 15),
+    ("/withdraw", "alice", b"num=1", 15),
+    ("/approve", "mona", b"num=1", 15),
+    ("/approve", "mona", b"num=2", 7),
+    ("/reject", "mona", b"num=1&reason=no", 15),
+    ("/import", "mona", b"8086  Intel\n", 15),
+    ("/import", "mona", b"8086 \n", 14),
 ]
 
 # The target of a question and the refusal, 0 where it is answered.
@@ -88,8 +114,10 @@ QUESTIONS = [
     ("/children?of=PC/8086/1237", 0),
     ("/children?of=PC", 1),
     ("/children?of=PC/8087", 25),
-    *((f"/submission/{number}", 0) for number in range(1, 6)),
-    ("/submission/6", 7),
+    ("/children?of=" + "%41" * 4_000, 1),
+    ("/read/PC/8086?" + "&" * 8_000, 0),
+    *((f"/submission/{number}", 0) for number in range(1, 8)),
+    ("/submission/8", 7),
     ("/submission/x", 3),
     ("/pending", 0),
     ("/pending?after=3", 0),
@@ -164,6 +192,30 @@ def asked_alike(cases, known, servers, name, target, refusal, *words):
     cases.equal(f"{name}: as text", (text_status, text_kind, text.decode()), (want_status, TEXT, as_text(told)))
 
 
+def ask_commands(cases, known, servers, commands, folder):
+    body = os.path.join(folder, "body")
+    for target, account, fields, refusal in commands:
+        with open(body, "wb") as file:
+            file.write(fields)
+        words = (["-H", f"X-Account: {account}"] if account else []) + ["--data-binary", f"@{body}"]
+        asked_alike(cases, known, servers, f"{target} of {account}: {fields[:60]}", target, refusal, *words)
+
+
+def full(cases, known, folder):
+    """Registries that have counted as many commands as they may."""
+    files = [os.path.join(folder, name) for name in ("full in JSON", "full in text")]
+    for path in files:
+        script(path, "account root who=alice&rank=0", "account root who=mona&rank=2", "submit alice key=k1&path=PC/8086&name=Intel")
+        cases.equal("full: the revision is set", asked(path, "UPDATE meta SET value = 9000000000000000000 WHERE label = 'revision'"), "")
+    with Server(files[0]) as first, Server(files[1]) as second:
+        ask_commands(cases, known, (first, second), FULL, folder)
+        kept = [it.post("/submit", "alice", "path=PC/10ec&name=Realtek", "-H", "X-Key: k1") for it in (first, second)]
+        cases.equal("full: a reply that is kept", kept, [(200, JSON, b'{"num":1,"ok":true}')] * 2)
+        for server in (first, second):
+            cases.equal("full: nothing was done", server.curl("/pending?format=text"), (200, TEXT, b"1 alice name PC/8086 Intel\n"))
+            cases.equal("full: no item", server.curl("/changes"), (200, JSON, b'{"items":[],"revision":9000000000000000000}'))
+
+
 def run(cases):
     if shutil.which("curl") is None:
         cases.skipped("routes", "the package curl is not installed")
@@ -171,13 +223,14 @@ def run(cases):
     known = refusals()
     cases.equal("docs/HTTP.md: refusals", sorted(known), [*range(1, 6), *range(7, 19), *range(20, 29)])
     with tempfile.TemporaryDirectory() as folder:
-        body = os.path.join(folder, "body")
         with Server(os.path.join(folder, "json")) as first, Server(os.path.join(folder, "text")) as second:
-            for target, account, fields, refusal in COMMANDS:
-                with open(body, "wb") as file:
-                    file.write(fields)
-                words = (["-H", f"X-Account: {account}"] if account else []) + ["--data-binary", f"@{body}"]
-                asked_alike(cases, known, (first, second), f"{target} of {account}: {fields[:60]}", target, refusal, *words)
+            ask_commands(cases, known, (first, second), COMMANDS, folder)
             for target, refusal in QUESTIONS:
-                asked_alike(cases, known, (first, second), f"GET {target}", target, refusal)
+                asked_alike(cases, known, (first, second), f"GET {target[:60]}", target, refusal)
             cases.equal("both registries hold the same", first.curl("/pci.ids"), second.curl("/pci.ids"))
+            remarks = [len(it["text"]) for it in json.loads(first.curl("/submission/6")[2])["remarks"]]
+            cases.equal("a submission with three remarks", remarks, [4_000, 4_000, 6])
+        if shutil.which("sqlite3") is None:
+            cases.skipped("routes of a registry that is full", "sqlite3 is not installed")
+            return
+        full(cases, known, folder)

@@ -22,6 +22,25 @@ def to_end(client):
     return taken
 
 
+def read_reply(stream):
+    """The status and the body of the next reply of a stream; None where that ends before the reply is whole."""
+    head = b""
+    while not head.endswith(b"\r\n\r\n"):
+        line = stream.readline()
+        if not line:
+            return None
+        head += line
+    length = next(int(line[16:]) for line in head.split(b"\r\n") if line.startswith(b"Content-Length: "))
+    body = stream.read(length)
+    return (int(head.split(b" ")[1]), body) if len(body) == length else None
+
+
+def posted(path, account, body, *fields):
+    """The bytes of a command."""
+    lines = [f"POST {path} HTTP/1.1", f"X-Account: {account}", *fields, f"Content-Length: {len(body)}", "", ""]
+    return "\r\n".join(lines).encode() + body
+
+
 def refusal(number, word):
     return b'{"ok":false,"refused":%d,"word":"%s"}' % (number, word.encode())
 

@@ -1,85 +1,281 @@
-"""deploy/mirror.sh, which keeps a copy of a registry's file: at the server, and behind an nginx that keeps replies."""
+"""deploy/mirror.sh, which keeps a copy of a registry's file: at the server, behind a cache of these tests, and behind nginx."""
+import fcntl
 import os
 import shutil
 import subprocess
 import tempfile
+import threading
 import time
+from http.client import HTTPConnection
+from http.server import BaseHTTPRequestHandler, ThreadingHTTPServer
 
-from http_server import Server, free_port
+from http_server import Server, ask_curl, free_port
 from program import HEADER, TOP
 from registry import script
 
 MIRROR = os.path.join(TOP, "deploy", "mirror.sh")
 
-# nginx keeps the file for this many seconds, and nothing else.
+# nginx keeps the file for this many seconds, and nothing else: at the first port it goes by what a request says of that, at the second not.
 KEPT = 2
 
-CACHE = """worker_processes 1; daemon off; user root; pid {folder}/pid; error_log {folder}/errors;
+CACHES = """worker_processes 1; daemon off; user root; pid {folder}/pid; error_log {folder}/errors;
 events {{ worker_connections 64; }}
 http {{
     access_log off;
-    proxy_cache_path {folder}/cache keys_zone=names:1m;
+    proxy_cache_path {folder}/good keys_zone=good:1m;
+    proxy_cache_path {folder}/deaf keys_zone=deaf:1m;
     server {{
-        listen 127.0.0.1:{port};
+        listen 127.0.0.1:{good};
         location / {{ proxy_pass http://127.0.0.1:{behind}; }}
-        location = /pci.ids {{ proxy_pass http://127.0.0.1:{behind}; proxy_cache names; proxy_cache_valid 200 {kept}s; }}
+        location = /pci.ids {{
+            proxy_pass http://127.0.0.1:{behind}; proxy_cache good; proxy_cache_valid 200 {kept}s; proxy_cache_bypass $http_cache_control;
+        }}
+    }}
+    server {{
+        listen 127.0.0.1:{deaf};
+        location / {{ proxy_pass http://127.0.0.1:{behind}; }}
+        location = /pci.ids {{ proxy_pass http://127.0.0.1:{behind}; proxy_cache deaf; proxy_cache_valid 200 {kept}s; }}
     }}
 }}
 """
 
+LATE = b"mirror: the file is older than the changes\n"
 
-def mirrored(port, folder):
-    """What a run of the mirror prints and says, its status, and the copy and the number that it has then."""
-    ran = subprocess.run([MIRROR, f"http://127.0.0.1:{port}", folder], stdout=subprocess.PIPE, stderr=subprocess.PIPE, timeout=120)
+
+class Cache:
+    """Keeps the file for good, and asks for it anew where it is told to, unless it is deaf; on the way commands may come."""
+
+    def __init__(self, server):
+        self.server, self.is_deaf, self.kept, self.asked = server, False, {}, []
+        # What happens before the first request for a target goes on, and what comes in place of a reply.
+        self.before, self.instead = {}, {}
+        cache = self
+
+        class Handler(BaseHTTPRequestHandler):
+            def do_GET(self):
+                self.close_connection = True
+                self.wfile.write(cache.reply(self.path, self.headers.get("Cache-Control") == "no-cache"))
+
+            def log_message(self, *_):
+                pass
+
+        self.listener = ThreadingHTTPServer(("127.0.0.1", 0), Handler)
+        self.port = self.listener.server_address[1]
+        threading.Thread(target=self.listener.serve_forever, args=[0.05], daemon=True).start()
+
+    def __enter__(self):
+        return self
+
+    def __exit__(self, *_):
+        self.listener.shutdown()
+        self.listener.server_close()
+
+    def reply(self, target, is_fresh):
+        self.asked.append(target)
+        if target in self.instead:
+            return self.instead[target]
+        if target in self.kept and (self.is_deaf or not is_fresh):
+            return self.kept[target]
+        self.before.pop(target, lambda: None)()
+        asked = HTTPConnection("127.0.0.1", self.server.port, timeout=30)
+        asked.request("GET", target)
+        told = asked.getresponse()
+        body = told.read()
+        asked.close()
+        whole = b"HTTP/1.1 %d %s\r\nContent-Length: %d\r\n\r\n" % (told.status, told.reason.encode(), len(body)) + body
+        if target == "/pci.ids":
+            self.kept[target] = whole
+        return whole
+
+    def ask(self, target):
+        return ask_curl(f"http://127.0.0.1:{self.port}{target}")[2]
+
+
+def kept_in(folder):
+    """The copy and the number in a folder, and what else is there."""
     kept = []
     for name in ("pci.ids", "revision"):
         path = os.path.join(folder, name)
         with open(path, "rb") if os.path.exists(path) else open(os.devnull, "rb") as file:
             kept.append(file.read())
-    return ran.stdout, ran.stderr, ran.returncode, *kept
+    return *kept, sorted(set(os.listdir(folder)) - {"pci.ids", "revision"})
+
+
+def mirrored(port, folder, **how):
+    """What a run of the mirror prints and says, its status, and the copy and the number that it has then."""
+    ran = subprocess.run([MIRROR, f"http://127.0.0.1:{port}", folder], stdout=subprocess.PIPE, stderr=subprocess.PIPE, timeout=120, **how)
+    copy, number, more = kept_in(folder)
+    return ran.stdout, ran.stderr, ran.returncode, copy, number, *more
 
 
 def imported(server, text):
     return server.curl("/import", "-H", "X-Account: root", "--data-binary", text)
 
 
+def removed(server, path):
+    """The item is proposed for removal, which is approved: two commands."""
+    number = server.post("/submit?format=text", "root", f"path={path}&remove=yes")[2].split()[1].decode()
+    return server.post("/approve", "bob", f"num={number}")
+
+
+def revision_of(server):
+    return server.curl("/changes?format=text&since=9000000000000000000")[2].split()[1] + b"\n"
+
+
+def text_of(server):
+    return server.curl("/pci.ids")[2]
+
+
 def at_the_server(cases, server, folder):
     cases.equal("mirror: an empty registry", mirrored(server.port, folder), (b"", b"", 0, HEADER, b"0\n"))
     imported(server, "8086  Intel\n\t1237  440FX\n\t\t1af4 1100  Qemu\n1af4  Red Hat\nS 1af4\n\t1100  Qemu\nC 01  Mass\n\t02  IDE\n\t\t80  ISA\n")
     changes = b"PC/1af4 Red Hat,PC/8086 Intel,PC/8086/1237 440FX,PC/8086/1237/1af41100 Qemu,PD/01 Mass,PD/01/02 IDE,PD/01/02/80 ISA,PS/1af4/1100 Qemu"
-    text = server.curl("/pci.ids")[2]
+    text = text_of(server)
     told = b"".join(b"1 %s\n" % change for change in changes.split(b","))
     cases.equal("mirror: the first names", mirrored(server.port, folder), (told, b"", 0, text, b"1\n"))
     cases.equal("mirror: nothing new", mirrored(server.port, folder), (b"", b"", 0, text, b"1\n"))
-    imported(server, "C 01  Mass storage\n")
-    text = server.curl("/pci.ids")[2]
-    cases.equal("mirror: one name", mirrored(server.port, folder), (b"2 PD/01 Mass storage\n", b"", 0, text, b"2\n"))
-    server.post("/submit", "root", "path=PD/01/02/80&remove=yes")
+    imported(server, "C 01  Mass  storage \n")
+    text = text_of(server)
+    cases.equal("mirror: one name", mirrored(server.port, folder), (b"2 PD/01 Mass  storage \n", b"", 0, text, b"2\n"))
     server.post("/account", "root", "who=bob&rank=2")
-    server.post("/approve", "bob", "num=1")
-    text = server.curl("/pci.ids")[2]
+    removed(server, "PD/01/02/80")
+    text = text_of(server)
     cases.equal("mirror: a removal is in the file alone", mirrored(server.port, folder), (b"", b"", 0, text, b"5\n"))
     imported(server, "".join(f"{number:04x}  Vendor {number}\n" for number in range(1, 251)))
-    text = server.curl("/pci.ids")[2]
+    text = text_of(server)
     told = b"".join(b"6 PC/%04x Vendor %d\n" % (number, number) for number in range(1, 251))
     cases.equal("mirror: three pages", mirrored(server.port, folder), (told, b"", 0, text, b"6\n"))
 
 
+def not_to_be_had(cases, server, folder):
+    """Where a run fails nothing is saved, and the next one does what was left."""
+    _, _, _, copy, number = mirrored(server.port, folder)
+    imported(server, "fffe  New\n")
+    place = os.open(folder, os.O_RDONLY)
+    fcntl.flock(place, fcntl.LOCK_EX)
+    busy = b"mirror: another run is at work in this folder\n"
+    cases.equal("mirror: two at once", mirrored(server.port, folder), (b"", busy, 1, copy, number))
+    os.close(place)
+    with subprocess.Popen([MIRROR, f"http://127.0.0.1:{server.port}", folder], stdout=subprocess.PIPE, stderr=subprocess.DEVNULL) as ran:
+        ran.stdout.close()
+    cases.equal("mirror: nobody reads what is told", (ran.returncode != 0, *kept_in(folder)), (True, copy, number, []))
+    with Cache(server) as between:
+        whole = b"HTTP/1.1 200 OK\r\nContent-Length: %d\r\n\r\n%s"
+        page, since = b"<html>Sign in</html>", f"/changes?format=text&since={number.decode().strip()}&after="
+        for name, target, told, status, said in (
+            ("a page of somebody else", "/pci.ids", whole % (len(page), page), 1, b"mirror: what came for /pci.ids is no file of a registry\n"),
+            ("changes of somebody else", since, whole % (len(page), page), 1, b"mirror: what came for /changes is no page of changes\n"),
+            ("somewhere else", "/pci.ids", b"HTTP/1.1 302 Found\r\nLocation: /\r\nContent-Length: 0\r\n\r\n", 1, b"mirror: what came for /pci.ids is no file of a registry\n"),
+            ("a text that is cut", "/pci.ids", whole % (1_000, HEADER), 18, None),
+            ("a refusal", "/pci.ids", b"HTTP/1.1 503 Service Unavailable\r\nContent-Length: 0\r\n\r\n", 22, None),
+        ):
+            between.instead = {target: told}
+            ran = mirrored(between.port, folder)
+            cases.equal(f"mirror: {name}", (ran[0], ran[1] if said else None, *ran[2:]), (b"", said, status, copy, number))
+    with tempfile.TemporaryDirectory() as tools:
+        with open(os.path.join(tools, "mv"), "w", encoding="utf-8", opener=lambda path, flags: os.open(path, flags, 0o755)) as file:
+            file.write(f"#!/bin/sh\n[ ! -e {tools}/one ] || exit 5\n: > {tools}/one\nexec /bin/mv \"$@\"\n")
+        told = mirrored(server.port, folder, env=dict(os.environ, PATH=tools + os.pathsep + os.environ["PATH"]))
+    cases.equal("mirror: a stop between the copy and its number", told, (b"7 PC/fffe New\n", b"", 5, text_of(server), number))
+    cases.equal("mirror: then", mirrored(server.port, folder), (b"7 PC/fffe New\n", b"", 0, text_of(server), b"7\n"))
+    told = mirrored(free_port(), folder)
+    cases.equal("mirror: no server", (told[0], *told[2:]), (b"", 7, text_of(server), b"7\n"))
+    for name, number, told in (
+        ("an earlier registry", b"99\n", b"mirror: the registry went back from revision 99 to 7\n"),
+        ("no number", b"7 or so\n", b"mirror: the file revision holds no number\n"),
+    ):
+        with open(os.path.join(folder, "revision"), "wb") as file:
+            file.write(number)
+        cases.equal(f"mirror: {name}", mirrored(server.port, folder), (b"", told, 1, text_of(server), number))
+
+
 def behind_a_cache(cases, server, folder):
-    place, config, port = os.path.join(folder, "copy"), os.path.join(folder, "nginx.conf"), free_port()
-    os.mkdir(place)
+    with Cache(server) as cache:
+        cases.equal("cache: the first copy", mirrored(cache.port, folder)[1:], (b"", 0, text_of(server), b"7\n"))
+        removed(server, "PC/0001")
+        old, text = cache.ask("/pci.ids"), text_of(server)
+        cases.equal("cache: it has an older text", old != text, True)
+        cases.equal("cache: a removal", mirrored(cache.port, folder), (b"", b"", 0, text, b"9\n"))
+        imported(server, "0002  Renamed\n")
+        cache.kept.clear()
+        old = cache.ask("/pci.ids")
+        removed(server, "PC/0003")
+        text = text_of(server)
+        cases.equal("cache: it has the change and not the removal", (b"0002  Renamed\n" in old, cache.ask("/pci.ids") != text), (True, True))
+        cases.equal("cache: a change, then a removal", mirrored(cache.port, folder), (b"10 PC/0002 Renamed\n", b"", 0, text, b"12\n"))
+
+        # Commands between the changes and the file: the copy is newer than its number, and the next run tells what is left.
+        imported(server, "0002  Again\n0004  Again\n0005  Again\n")
+        cache.before["/pci.ids"] = lambda: (imported(server, "0002  Once more\n"), removed(server, "PC/0004"))
+        told = mirrored(cache.port, folder)
+        cases.equal("cache: another name and a removal meanwhile", told, (b"13 PC/0005 Again\n", b"", 0, text_of(server), b"13\n"))
+        told = mirrored(cache.port, folder)
+        cases.equal("cache: then the other name", told, (b"14 PC/0002 Once more\n", b"", 0, text_of(server), b"16\n"))
+
+        # And between two pages: a name of the first page, one of the second, and one of each that goes.
+        imported(server, "".join(f"{number:04x}  Page {number}\n" for number in range(0x10, 0x10 + 150)))
+        between = "0011  Other\n0080  Other\n"
+        cache.before["/changes?format=text&since=16&after=PC/0073"] = lambda: (imported(server, between), removed(server, "PC/0012"), removed(server, "PC/0081"))
+        told = [b"17 PC/%04x Page %d\n" % (number, number) for number in range(0x10, 0x10 + 150) if number not in (0x11, 0x12, 0x80, 0x81)]
+        told.insert(110, b"18 PC/0080 Other\n")
+        cases.equal("cache: names and removals between pages", mirrored(cache.port, folder), (b"".join(told), b"", 0, text_of(server), b"17\n"))
+        told = b"18 PC/0011 Other\n18 PC/0080 Other\n"
+        cases.equal("cache: then the other names", mirrored(cache.port, folder), (told, b"", 0, text_of(server), b"22\n"))
+
+        # One that does not go by what it is told: the change has to be at its own path.
+        cache.is_deaf = True
+        imported(server, "0020  A\n\t1000  Bridge\n0021  B\n")
+        cache.kept.clear()
+        cases.equal("deaf cache: it has it", mirrored(cache.port, folder)[2:], (0, text_of(server), b"23\n"))
+        copy = text_of(server)
+        imported(server, "0021  B\n\t1000  Bridge\n")
+        cases.equal("deaf cache: the text is an older one", mirrored(cache.port, folder), (b"", LATE, 1, copy, b"23\n"))
+        cache.kept.clear()
+        cases.equal("deaf cache: the next run has it", mirrored(cache.port, folder), (b"24 PC/0021/1000 Bridge\n", b"", 0, text_of(server), b"24\n"))
+        cache.is_deaf = False
+        cache.asked.clear()
+        cases.equal("cache: nothing new", mirrored(cache.port, folder), (b"", b"", 0, text_of(server), b"24\n"))
+        cases.equal("cache: nothing new, and the file is not asked for", cache.asked, ["/changes?format=text&since=24&after="])
+        tools_failing(cases, server, cache, folder)
+
+
+def tools_failing(cases, server, cache, folder):
+    """Over two pages of changes, one of which is undone meanwhile, each tool that the script runs fails in turn: nothing is saved."""
+    copy, number, _ = kept_in(folder)
+    imported(server, "".join(f"{vendor:04x}  Vendor\n" for vendor in range(0x10, 0x10 + 150)))
+    for tool in ("awk", "cat", "comm", "curl", "flock", "mktemp", "mv", "sed", "sort", "sync", "wc"):
+        cache.before["/pci.ids"] = lambda: imported(server, f"0010  Without {tool}\n")
+        with tempfile.TemporaryDirectory() as tools:
+            os.symlink("/bin/false", os.path.join(tools, tool))
+            told = mirrored(cache.port, folder, env=dict(os.environ, PATH=tools + os.pathsep + os.environ["PATH"]))
+        cases.equal(f"mirror: without {tool}", (told[2] != 0, *told[3:]), (True, copy, number))
+    cache.before.clear()
+    told = mirrored(cache.port, folder)
+    cases.equal("mirror: with all tools", (told[0].count(b"\n"), *told[1:]), (150, b"", 0, text_of(server), revision_of(server)))
+
+
+def behind_nginx(cases, server, folder):
+    places, config = [os.path.join(folder, name) for name in ("one", "two")], os.path.join(folder, "nginx.conf")
+    good, deaf = free_port(), free_port()
+    for place in places:
+        os.mkdir(place)
     with open(config, "w", encoding="utf-8") as file:
-        file.write(CACHE.format(folder=folder, port=port, behind=server.port, kept=KEPT))
+        file.write(CACHES.format(folder=folder, good=good, deaf=deaf, behind=server.port, kept=KEPT))
     nginx = subprocess.Popen(["nginx", "-c", config, "-p", folder, "-e", os.path.join(folder, "errors")], stderr=subprocess.DEVNULL)
     try:
         time.sleep(0.5)
-        first = server.curl("/pci.ids")[2]
-        cases.equal("mirror behind a cache: the first copy", mirrored(port, place)[2:], (0, first, b"6\n"))
+        first, number = text_of(server), revision_of(server)
+        cases.equal("nginx: the first copy", mirrored(good, places[0])[2:], (0, first, number))
+        cases.equal("deaf nginx: the first copy", mirrored(deaf, places[1])[2:], (0, first, number))
+        removed(server, "PC/0030")
+        cases.equal("nginx: it has an older text", ask_curl(f"http://127.0.0.1:{good}/pci.ids")[2], first)
+        cases.equal("nginx: a removal", mirrored(good, places[0]), (b"", b"", 0, text_of(server), revision_of(server)))
         imported(server, "ffff  New\n")
-        late = b"mirror: the file is older than the changes\n"
-        cases.equal("mirror behind a cache: the text is an older one", mirrored(port, place), (b"", late, 1, first, b"6\n"))
+        told = revision_of(server)[:-1] + b" PC/ffff New\n"
+        cases.equal("nginx: a change", mirrored(good, places[0]), (told, b"", 0, text_of(server), revision_of(server)))
+        cases.equal("deaf nginx: the text is an older one", mirrored(deaf, places[1]), (b"", LATE, 1, first, number))
         time.sleep(KEPT + 1)
-        cases.equal("mirror behind a cache: the next run has it", mirrored(port, place), (b"7 PC/ffff New\n", b"", 0, server.curl("/pci.ids")[2], b"7\n"))
+        cases.equal("deaf nginx: a later run has it", mirrored(deaf, places[1]), (told, b"", 0, text_of(server), revision_of(server)))
     finally:
         nginx.terminate()
         nginx.wait()
@@ -90,15 +286,18 @@ def run(cases):
         cases.skipped("mirror", "curl is not installed")
         return
     with tempfile.TemporaryDirectory() as folder:
-        database, copy = os.path.join(folder, "registry.db"), os.path.join(folder, "copy")
-        os.mkdir(copy)
+        database = os.path.join(folder, "registry.db")
+        copies = [os.path.join(folder, name) for name in ("copy", "cached")]
+        for copy in copies:
+            os.mkdir(copy)
         script(database)
         with Server(database) as server:
-            at_the_server(cases, server, copy)
+            at_the_server(cases, server, copies[0])
+            not_to_be_had(cases, server, copies[0])
+            behind_a_cache(cases, server, copies[1])
             if shutil.which("nginx") is None or os.geteuid() != 0:
-                cases.skipped("mirror behind a cache", "nginx is not installed, or not root's to start")
+                cases.skipped("mirror behind nginx", "nginx is not installed, or not root's to start")
                 return
             with tempfile.TemporaryDirectory() as room:
                 os.chmod(room, 0o755)
-                behind_a_cache(cases, server, room)
-        cases.equal("mirror: no server", mirrored(server.port, copy)[2], 7)
+                behind_nginx(cases, server, room)

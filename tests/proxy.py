@@ -143,6 +143,21 @@ def questions(cases, proxy):
     cases.equal("proxy: a head that the server refuses", proxy.curl("/pending", *fields), (400, JSON, refusal(20, "BadHead")))
 
 
+def standards(cases, proxy):
+    """What the server leaves out of HTTP and nginx does."""
+    command = b"POST /comment HTTP/1.1\r\nHost: a\r\nConnection: close\r\nAuthorization: Basic bW9uYTptb25h\r\nExpect: 100-continue\r\nContent-Length: 16\r\n\r\nnum=9&text=seen."
+    for name, sent, want in (
+        ("no Host", b"GET /pending HTTP/1.1\r\nConnection: close\r\n\r\n", b"HTTP/1.1 400 "),
+        ("two of Host", b"GET /pending HTTP/1.1\r\nHost: a\r\nHost: a\r\nConnection: close\r\n\r\n", b"HTTP/1.1 400 "),
+        ("a target in absolute form", b"GET https://a/pending HTTP/1.1\r\nHost: a\r\nConnection: close\r\n\r\n", b"HTTP/1.1 200 "),
+        ("a client that waits for a go-ahead", command, b"HTTP/1.1 100 Continue\r\n\r\nHTTP/1.1 404 "),
+    ):
+        with proxy.connect_safely() as client:
+            client.sendall(sent)
+            told = to_end(client)
+        cases.equal(f"proxy: {name}", (told[:len(want)], told.count(b"\r\nDate: ")), (want, 1))
+
+
 def files(cases, proxy, server):
     """Long bodies and long replies: Debian's file in, with its length and in chunks, and out again."""
     for name, size, status in (("the longest body", 4_194_304, 200), ("a longer one", 4_194_305, 413)):
@@ -271,6 +286,7 @@ def run(cases):
             cases.equal("proxy: they are still borne then", [client.is_alive() for client in slow.values()], [True] * len(slow))
             accounts(cases, proxy)
             questions(cases, proxy)
+            standards(cases, proxy)
             files(cases, proxy, server)
             cut(cases, proxy, server, slow)
             many_clients(cases, proxy)

@@ -5,7 +5,8 @@ import shutil
 import subprocess
 import tempfile
 
-from program import REAL_FILE, TOP, WHOLE
+from http_server import JSON, TEXT, Server
+from program import HEADER, REAL_FILE, TOP, WHOLE
 
 VENDORS = b"8086  Intel\n\t1237  440FX\n1af4  Red Hat\nS 1af4\n\t1100  Qemu\nC 01  Mass\n"
 
@@ -134,6 +135,8 @@ def run(cases):
         return
     with tempfile.TemporaryDirectory() as folder:
         try_small(cases, os.path.join(folder, "small.db"))
+        try_great_revisions(cases, os.path.join(folder, "great.db"))
+        try_last_revision(cases, os.path.join(folder, "last.db"))
         if os.path.exists(REAL_FILE):
             try_real(cases, os.path.join(folder, "real.db"))
         try_unopened(cases, folder)
@@ -180,6 +183,94 @@ def try_small(cases, path):
     cases.equal("a faulty text changes nothing", bring_in(path, b"9999  New\n9999 \n"), faulty)
     try_changed(cases, path)
     cases.equal("items as before", asked(path, "SELECT * FROM item ORDER BY path"), items)
+
+
+# A registry whose submissions wait, one of them sent under a key: eight commands.
+BEGUN = (
+    ("account root who=alice&rank=0", b"ok\n"),
+    ("account root who=mona&rank=2", b"ok\n"),
+    ("import root file=10ec++Realtek%0A8086++Intel%0A%091237++440FX", b"ok added=3 renamed=0 same=0\n"),
+    ("submit alice path=PC/8086&name=Intel+Corporation&key=first", b"ok 1\n"),
+    ("submit alice path=PC/10ec&remove=yes", b"ok 2\n"),
+    ("submit alice path=PC/1af4&name=Red+Hat", b"ok 3\n"),
+    ("submit alice path=PC/1b36&name=Red+Hat", b"ok 4\n"),
+    ("submit alice path=PC/1b37&name=Red+Hat", b"ok 5\n"),
+)
+
+
+def answered(cases, name, path, *lines):
+    """A script of these lines over the file gets these replies, each beside its line."""
+    cases.equal(name, script(path, *(line for line, _ in lines)), (b"".join(reply for _, reply in lines), b"", 0))
+
+
+def at_revision(cases, path, revision):
+    answered(cases, f"{revision}: begun", path, *BEGUN)
+    cases.equal(f"{revision}: set", asked(path, f"UPDATE meta SET value = {revision} WHERE label = 'revision'"), "")
+
+
+def try_great_revisions(cases, path):
+    """Commands of each kind around the revision 2^32, and then what has changed."""
+    first = 2**32 - 4
+    at_revision(cases, path, first)
+    answered(
+        cases, "2^32: commands", path,
+        ("approve mona num=1", b"ok\n"),
+        ("account root who=bob&rank=1", b"ok\n"),
+        ("comment bob num=2&text=gone?", b"ok\n"),
+        ("approve mona num=2&key=gone", b"ok\n"),
+        ("reject mona num=3&reason=no", b"ok\n"),
+        ("withdraw alice num=4", b"ok\n"),
+        ("approve mona num=5", b"ok\n"),
+        ("import root file=%091237++82441FX%0A", b"refused 14 FileFault line=1 kind=3 NoParent\n"),
+        ("import root file=8086++Intel+Corporation%0A%091237++82441FX%0A", b"ok added=0 renamed=1 same=1\n"),
+        ("submit bob path=PC/1af4&name=Red+Hat", b"ok 6\n"),
+    )
+    cases.equal("2^32: the revision", asked(path, "SELECT value FROM meta WHERE label = 'revision'"), f"{first + 9}\n")
+    numbers = {"PC/1b37": first + 7, "PC/8086": first + 1, "PC/8086/1237": first + 8}
+    cases.equal("2^32: the numbers", asked(path, "SELECT * FROM item_since ORDER BY path"), "".join(f"{path}|{number}\n" for path, number in numbers.items()))
+    with Server(path, program=WHOLE) as server:
+        names = {"PC/1b37": "Red Hat", "PC/8086": "Intel Corporation", "PC/8086/1237": "82441FX"}
+        for since in (first, first + 1, 2**32 - 1, 2**32 + 3, first + 9):
+            told = "".join(f"{number} {path} {names[path]}\n" for path, number in numbers.items() if number > since)
+            want = (200, TEXT, f"revision {first + 9}\n{told}".encode())
+            cases.equal(f"2^32: changes since {since}", server.curl(f"/changes?format=text&since={since}"), want)
+    answered(cases, "2^32: opened again", path, ("approve mona num=2&key=gone", b"ok\n"), ("read path=PC/8086/1237", b"name 82441FX\n"), ("approve mona num=6", b"ok\n"))
+
+
+def try_last_revision(cases, path):
+    """Where one command more can be counted that one is taken, and behind it none; what was kept and what is asked is answered as ever."""
+    last = 9_000_000_000_000_000_000
+    at_revision(cases, path, last - 1)
+    bring = ("import mona file=8086++Intel+Corp.%0A1af4++Red+Hat&key=last", b"ok added=1 renamed=1 same=0\n")
+    full = b"refused 15 Full\n"
+    refused = [(line, full) for line in (
+        "account root who=bob&rank=1",
+        "submit alice path=PC/1b36&name=Other",
+        "comment mona num=1&text=seen",
+        "withdraw alice num=1",
+        "approve mona num=1",
+        "reject mona num=1&reason=no",
+        "import mona file=1b36++Other",
+        "import mona file=8086++Intel+Corp.&key=another",
+    )]
+    kept = [bring, ("comment mona num=1&text=seen&key=last", bring[1]), ("submit alice path=PC/1b36&name=Other&key=first", b"ok 1\n")]
+    questions = [("read path=PC/8086", b"name Intel Corp.\n"), ("lookup flags=1&vendor=1af4", b"text Red Hat\n"), ("approve mona num=9", b"refused 7 NoSubmission\n")]
+    answered(cases, "last revision: one more", path, bring, *refused, *kept, *questions)
+    rows = "items|4\nrevision|9000000000000000000\nschema|2\nsubmissions|5\n"
+    cases.equal("last revision: meta", asked(path, "SELECT * FROM meta ORDER BY label"), rows)
+    numbers = f"PC/10ec|3\nPC/1af4|{last}\nPC/8086|{last}\nPC/8086/1237|3\n"
+    cases.equal("last revision: the numbers", asked(path, "SELECT * FROM item_since ORDER BY path"), numbers)
+    with Server(path, program=WHOLE) as server:
+        told = b'{"items":[{"name":"Red Hat","path":"PC/1af4","since":9000000000000000000},{"name":"Intel Corp.","path":"PC/8086","since":9000000000000000000}],"revision":9000000000000000000}'
+        cases.equal("last revision: what changed", server.curl(f"/changes?since={last - 1}"), (200, JSON, told))
+        told = f"revision {last}\n3 PC/10ec Realtek\n{last} PC/1af4 Red Hat\n{last} PC/8086 Intel Corp.\n3 PC/8086/1237 440FX\n"
+        cases.equal("last revision: all changes", server.curl("/changes?format=text"), (200, TEXT, told.encode()))
+        cases.equal("last revision: none since", server.curl(f"/changes?format=text&since={last}"), (200, TEXT, f"revision {last}\n".encode()))
+        cases.equal("last revision: no more", server.post("/approve?format=text", "mona", "num=1"), (503, TEXT, full))
+    answered(cases, "last revision: opened again", path, *refused, *kept, *questions)
+    text = HEADER + b"10ec  Realtek\n1af4  Red Hat\n8086  Intel Corp.\n\t1237  440FX\n"
+    cases.equal("last revision: exported", work(b"", "export", "--db", path), (text, b"", 0))
+    cases.equal("last revision: meta as it was", asked(path, "SELECT * FROM meta ORDER BY label"), rows)
 
 
 def try_real(cases, path):

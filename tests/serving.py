@@ -8,9 +8,10 @@ import subprocess
 import tempfile
 import threading
 import time
+import urllib.parse
 
 from http_examples import try_examples
-from http_server import BYTES, JSON, OK, TEXT, Server, refusal, reply, to_end
+from http_server import BYTES, JSON, OK, TEXT, Server, posted, read_reply, refusal, reply, to_end
 from program import HEADER, PROGRAM, REAL_FILE, tidy
 from registry import script
 
@@ -58,6 +59,10 @@ QUESTIONS = {
     "/pending?after=00": (400, JSON, refusal(3, "BadText")),
     "/pci.ids": (200, TEXT, HEADER + b"8086  Intel Corporation\n"),
     "/pci.ids?format=text": (400, JSON, refusal(3, "BadText")),
+    "/read/PC/8086?" + "&" * 8_000 + "format=text": (200, TEXT, b"Intel Corporation\n"),
+    "/lookup?" + "&" * 8_000 + "flags=3&vendor=8086&device=ffff": (200, BYTES, b"Intel Corporation Device ffff"),
+    "/children?of=" + "%41" * 4_000 + "&format=text": (400, TEXT, b"refused 1 BadPath\n"),
+    "/pending?after=" + "0" * 8_000: (400, JSON, refusal(3, "BadText")),
     "/nope": (404, JSON, refusal(24, "NoRoute")),
     "/submit": (405, "", b""),
 }
@@ -80,6 +85,10 @@ HOSTILE = {
 }
 
 
+# Those that are refused as soon as they have come, whether or not the client goes on.
+AT_ONCE = ("33 fields", "two lengths", "a length of letters", "a long head", "a long body", "a length of 30 digits", "chunks")
+
+
 def streams(cases, folder):
     """Requests one after the other, whole, byte by byte and in bad form."""
     stream = b"".join(THREE)
@@ -87,11 +96,16 @@ def streams(cases, folder):
         with Server(os.path.join(folder, f"stream {name}"), 1) as server:
             cases.equal(f"http: three requests {name}", server.raw(*pieces, pause=pause), THREE_REPLIES)
             cases.equal(f"http: three requests {name}: the end", server.ended(), (b"served 1\n", b"", 0))
-    with Server(os.path.join(folder, "hostile"), len(HOSTILE) + 1) as server:
+    connections = len(HOSTILE) + len(AT_ONCE) + 1
+    with Server(os.path.join(folder, "hostile"), connections) as server:
         for name, (sent, want) in HOSTILE.items():
             cases.equal(f"http: {name}", server.raw(sent), want)
+        for name in AT_ONCE:
+            with server.connect() as client:
+                client.sendall(HOSTILE[name][0])
+                cases.equal(f"http: {name}, of a client that waits", to_end(client), HOSTILE[name][1])
         cases.equal("http: nothing came of them", server.curl("/pci.ids"), (200, TEXT, HEADER))
-        cases.equal("http: the end", server.ended(), (b"served %d\n" % (len(HOSTILE) + 1), b"", 0))
+        cases.equal("http: the end", server.ended(), (b"served %d\n" % connections, b"", 0))
 
 
 def questions(cases, folder):
@@ -105,7 +119,7 @@ def questions(cases, folder):
         cases.equal("http: approve again", server.post("/approve", "root", "num=1"), (409, JSON, refusal(8, "NotPending")))
         cases.equal("http: no account", server.curl("/approve", "-d", "num=1"), (400, JSON, refusal(3, "BadText")))
         for path, want in QUESTIONS.items():
-            cases.equal(f"http: GET {path}", server.curl(path), want)
+            cases.equal(f"http: GET {path[:60]}", server.curl(path), want)
         told = server.raw(b"GET /submit HTTP/1.1\r\n\r\nPOST /read/PC/8086 HTTP/1.1\r\n\r\n")
         cases.equal("http: methods", told, b"HTTP/1.1 405 Method Not Allowed\r\nContent-Length: 0\r\nAllow: POST\r\n\r\nHTTP/1.1 405 Method Not Allowed\r\nContent-Length: 0\r\nAllow: GET\r\n\r\n")
         cases.equal("http: curl with HTTP/1.0", server.curl("/read/PC/8086", "--http1.0")[0], 200)
@@ -122,6 +136,10 @@ def pages(cases, folder):
         for after, numbers in ((0, range(1, 101)), (100, [101]), (101, [])):
             lines = "".join(f"{number} alice name PC/8086 Intel\n" for number in numbers)
             cases.equal(f"http: pending after {after}", server.curl(f"/pending?after={after}&format=text"), (200, TEXT, lines.encode()))
+        lines = "num 101\nauthor alice\npath PC/8086\nname Intel\nnote \nstate pending\ndecider \nreason \n"
+        cases.equal("http: submission 101", server.curl("/submission/101?format=text"), (200, TEXT, lines.encode()))
+        cases.equal("http: submission 102", server.curl("/submission/102"), (404, JSON, refusal(7, "NoSubmission")))
+        cases.equal("http: withdraw submission 101", server.post("/withdraw", "alice", "num=101"), (200, JSON, OK))
 
 
 def discussed(cases, server):
@@ -198,53 +216,97 @@ def clients(cases, folder):
             for _ in range(3):
                 client.sendall(b"GET /pending HTTP/1.1\r\n\r\n")
                 cases.equal("http: each reply is out before the next request", client.recv(65536), reply("200 OK", JSON, b"[]"))
+        with server.connect() as client, client.makefile("rb") as stream:
+            told = set()
+            for _ in range(5_000):
+                client.sendall(b"GET /pending HTTP/1.1\r\n\r\n")
+                told.add(read_reply(stream))
+            cases.equal("http: 5,000 requests on one connection", told, {(200, b"[]")})
+
+
+def broken_off(cases, folder):
+    """A client that gives its connection up while it is answered: what is in front of the broken reply stands, what is behind it
+    was not begun, and the next client is served."""
+    text = b"".join(b"%04x  %s\n" % (vendor, b"n" * 56) for vendor in range(20_000))
+    command = posted("/submit", "root", b"path=PC/8086&name=Intel")
+    # More than the system takes for a client that does not read.
+    stream = command + b"GET /pci.ids HTTP/1.1\r\n\r\n" * 16 + command
+    with Server(os.path.join(folder, "broken off")) as server:
+        cases.equal("http: the text that is broken off", server.raw(posted("/import", "root", text)), reply("200 OK", JSON, b'{"added":20000,"ok":true,"renamed":0,"same":0}'))
+        for number, taken in enumerate((1, 100, 70_000, 3_000_000), 1):
+            with socket.socket() as client:
+                client.setsockopt(socket.SOL_SOCKET, socket.SO_RCVBUF, 65_536)
+                client.settimeout(20)
+                client.connect(("127.0.0.1", server.port))
+                client.sendall(stream)
+                while taken > 0:
+                    taken -= len(client.recv(min(taken, 65_536)))
+                client.setsockopt(socket.SOL_SOCKET, socket.SO_LINGER, b"\1\0\0\0\0\0\0\0")
+            found = [server.curl(f"/submission/{it}")[0] for it in (number, number + 1)]
+            cases.equal(f"http: the commands around a broken reply, {number}", found, [200, 404])
+        cases.equal("http: the text behind broken replies", server.curl("/pci.ids"), (200, TEXT, HEADER + text))
 
 
 def killed(cases, folder):
-    """A server that is killed while commands come: what was acknowledged is there when the file is opened anew."""
+    """A server that is killed while commands come. When the file is opened anew, each submission that was acknowledged is there as it
+    was sent, and behind them none, or the one that was under way."""
     database = os.path.join(folder, "killed")
-    acknowledged, rounds = 0, 10
+    there, rounds = [], 10
     for turn in range(rounds):
         with Server(database) as server:
             if turn == 0:
                 server.post("/account", "root", "who=alice&rank=0")
-            shown = json.loads(server.curl("/pending?after=0")[2])
-            last = last_number(server, acknowledged)
-            cases.equal(f"http: round {turn}: nothing acknowledged is lost", last >= acknowledged and bool(shown or not acknowledged), True)
             timer = threading.Timer(0.05 + 0.03 * turn, lambda: server.process.send_signal(signal.SIGKILL))
             timer.start()
-            acknowledged = submit_until_killed(server, last)
+            acknowledged, under_way = submit_until_killed(server, len(there))
             timer.join()
-    cases.equal("http: commands were acknowledged", acknowledged > rounds, True)
-
-
-def last_number(server, least):
-    """The number of the last submission that there is."""
-    number = least
-    while server.curl(f"/submission/{number + 1}")[0] == 200:
-        number += 1
-    return number
+        there += acknowledged
+        with Server(database) as server:
+            found = submissions(server)
+        lost = [it for it, other in zip(there, found + [None] * len(there)) if it != other]
+        cases.equal(f"http: round {turn}: acknowledged and not there", lost[:1], [])
+        cases.equal(f"http: round {turn}: behind those acknowledged", found[len(there):] in ([], [under_way]), True)
+        there = found
+    cases.equal("http: commands were acknowledged", len(there) > 10 * rounds, True)
 
 
 def submit_until_killed(server, last):
-    form = b"path=PC/8086&name=I"
-    request = b"POST /submit HTTP/1.1\r\nX-Account: alice\r\nContent-Length: %d\r\n\r\n%s" % (len(form), form)
+    """The submissions that were acknowledged behind the one numbered `last`, and the one that was sent then, if any."""
+    acknowledged, under_way = [], None
     try:
-        with server.connect() as client:
+        with server.connect() as client, client.makefile("rb") as stream:
             while True:
-                client.sendall(request)
-                told = client.recv(65536)
-                if not told.endswith(b'"ok":true}'):
-                    return last
-                last = json.loads(told.rpartition(b"\r\n\r\n")[2])["num"]
+                number = last + len(acknowledged) + 1
+                form = {"path": f"PC/{number:04x}", "name": f"Name {number} of {server.port}", "note": f"é{number}" * (number % 50)}
+                under_way = {"author": "alice", "decider": "", "num": number, "reason": "", "remarks": [], "state": "pending", **form}
+                client.sendall(posted("/submit", "alice", urllib.parse.urlencode(form).encode()))
+                if read_reply(stream) != (200, b'{"num":%d,"ok":true}' % number):
+                    return acknowledged, under_way
+                acknowledged.append(under_way)
+                under_way = None
     except OSError:
-        return last
+        return acknowledged, under_way
+
+
+def submissions(server):
+    """All submissions from the first on, asked for a hundred at once, until one is not there."""
+    found = []
+    with server.connect() as client, client.makefile("rb") as stream:
+        while len(found) % 100 == 0:
+            numbers = range(len(found) + 1, len(found) + 101)
+            client.sendall(b"".join(b"GET /submission/%d HTTP/1.1\r\n\r\n" % number for number in numbers))
+            told = [read_reply(stream) for _ in numbers]
+            shown = [json.loads(body) for status, body in told if status == 200]
+            if not shown:
+                break
+            found += shown
+    return found
 
 
 def examples(cases, folder):
     """The examples of docs/HTTP.md, line for line."""
     with Server(os.path.join(folder, "examples")) as server:
-        try_examples(cases, f"127.0.0.1:{server.port}")
+        try_examples(cases, server)
 
 
 def taken_port(cases, folder):
@@ -260,5 +322,5 @@ def run(cases):
         cases.skipped("http", "the package curl is not installed")
         return
     with tempfile.TemporaryDirectory() as folder:
-        for part in (streams, questions, pages, examples, files, long_files, clients, killed, taken_port):
+        for part in (streams, questions, pages, examples, files, long_files, clients, broken_off, killed, taken_port):
             part(cases, folder)

@@ -1,15 +1,17 @@
 """A server whose disk stops at each call in turn, and one whose requests for memory are refused in turn: a client that does what
 docs/HTTP.md says of such replies gets every answer in the end, and nothing that was acknowledged is lost."""
+import bisect
 import os
 import shutil
 import subprocess
 import tempfile
 import time
+from typing import NamedTuple
 
 from http_server import JSON, OK, TEXT, Server, refusal, reply
 from program import HEADER, WHOLE
 from registry import work
-from stops import ROOM
+from stops import ROOM, built_shims
 
 FILE = b"8086  Intel Corporation\n\t1237  440FX\n"
 SUBMISSION = b'{"author":"bob","decider":"root","name":"Intel","note":"","num":1,"path":"PC/8086","reason":"","remarks":[{"author":"root","text":"seen"}],"state":"approved"}'
@@ -27,6 +29,34 @@ STEPS = [
     ("GET /children?of=PC/8086", None, b"", JSON, b'[{"name":"440FX","path":"PC/8086/1237"}]'),
     ("GET /submission/1", None, b"", JSON, SUBMISSION),
     ("GET /pci.ids", None, b"", TEXT, HEADER + FILE),
+]
+
+# A command, a question, an import and the text of all items.
+FEW_STEPS = [
+    ("POST /submit", "root", b"path=PC/8086&name=Intel", JSON, b'{"num":1,"ok":true}'),
+    ("POST /import", "root", FILE, JSON, b'{"added":2,"ok":true,"renamed":0,"same":0}'),
+    ("GET /read/PC/8086?format=text", None, b"", TEXT, b"Intel Corporation\n"),
+    ("GET /pci.ids", None, b"", TEXT, HEADER + FILE),
+]
+
+
+class Turn(NamedTuple):
+    """Calls that are refused one in each run: by which library, of which requests, from the first or behind the opening on, each or at
+    a stride; the refusals that are told of it, and how many runs there are at least."""
+    shim: str
+    steps: list
+    is_behind_opening: bool
+    stride: int
+    numbers: tuple
+    least: int
+
+
+# Of 7,400 requests for memory 5,300 are those of the opening, and a run takes 20 ms: so of all requests together each 17th is refused,
+# and each behind the opening for a few of them. (refusing.py refuses memory to openings too.)
+TURNS = [
+    Turn("refuse_disk", STEPS, False, 1, (17, 18), 40),
+    Turn("refuse_malloc", STEPS, False, 17, (16, 18), 300),
+    Turn("refuse_malloc", FEW_STEPS, True, 1, (16, 18), 500),
 ]
 
 # How many connections a server serves, and how it ends: where it could not begin, where its registry failed, and where all were served.
@@ -62,9 +92,11 @@ def one_reply(client):
 
 
 def whole_size(taken):
+    """The length of the first reply, once its head is whole: it may come in pieces of any size."""
     head, end, _ = taken.partition(b"\r\n\r\n")
-    lengths = [int(field[15:]) for field in head.split(b"\r\n") if field.startswith(b"Content-Length:")]
-    return len(head) + len(end) + lengths[0] if end and lengths else None
+    if not end:
+        return None
+    return len(head) + len(end) + next(int(field[15:]) for field in head.split(b"\r\n") if field.startswith(b"Content-Length:"))
 
 
 class PatientClient:
@@ -141,14 +173,14 @@ def refused_as(line, number):
     return reply("503 Service Unavailable", TEXT if is_text else JSON, body)
 
 
-def run_refusing(shim, at, database, numbers):
+def run_refusing(shim, at, database, turn):
     """What was wrong in a run with its call number `at` refused, whether there was one, and the refusals that were told."""
     told, telling = os.pipe()
     environment = dict(os.environ, LD_PRELOAD=shim, REFUSE_AT=str(at), REFUSE_FD=str(telling))
-    client = PatientClient(database, numbers, env=environment, pass_fds=[telling])
+    client = PatientClient(database, turn.numbers, env=environment, pass_fds=[telling])
     os.close(telling)
     try:
-        for number, step in enumerate(STEPS):
+        for number, step in enumerate(turn.steps):
             if client.wrong or not client.answered(number, step):
                 client.wrong = (step[0], client.wrong)
                 break
@@ -159,19 +191,27 @@ def run_refusing(shim, at, database, numbers):
         return client.wrong, pipe.read(1) == b"!", client.refused
 
 
-def refuse_in_turn(cases, shim, name, step, numbers):
-    """Refuses each step-th call of a run, each in a new file, and answers how many, and the refusals that were told."""
+def is_begun(shim, at):
+    """Whether a server listens whose call number `at` is refused."""
+    with tempfile.TemporaryDirectory(dir=ROOM) as folder:
+        with Server(os.path.join(folder, "r.db"), program=WHOLE, env=dict(os.environ, LD_PRELOAD=shim, REFUSE_AT=str(at))) as server:
+            return server.first_line != b""
+
+
+def refuse_in_turn(cases, shim, turn):
+    """Refuses the calls of a run in turn, each in a new file, until none is refused, and answers how many, and the refusals that were told."""
     refusals, refused = 0, set()
-    for at in range(1, 1_000_000, step):
+    first = 1 + bisect.bisect_left(range(1, 100_000), True, key=lambda at: is_begun(shim, at)) if turn.is_behind_opening else 1
+    for at in range(first, 1_000_000, turn.stride):
         with tempfile.TemporaryDirectory(dir=ROOM) as folder:
             database = os.path.join(folder, "r.db")
-            wrong, was_refused, told = run_refusing(shim, at, database, numbers)
+            wrong, was_refused, told = run_refusing(shim, at, database, turn)
             refused |= told
             if wrong is None and at % 5 == 1:
                 left = work(b"", "export", "--db", database)
                 wrong = None if left == (HEADER + FILE, b"", 0) else left
             if wrong is not None:
-                cases.equal(f"serve: {name} {at}", wrong, None)
+                cases.equal(f"serve: {turn.shim} {at}", wrong, None)
             if wrong is not None or not was_refused:
                 return refusals, refused
             refusals += 1
@@ -183,15 +223,15 @@ def run(cases):
         cases.skipped("serving where memory or the disk is refused", "gcc is not installed")
         return
     with tempfile.TemporaryDirectory() as folder:
-        for name, step, numbers, least in (("refuse_disk", 1, (17, 18), 40), ("refuse_malloc", 17, (16, 18), 100)):
-            shim = os.path.join(folder, f"{name}.so")
-            source = os.path.join(os.path.dirname(os.path.abspath(__file__)), f"{name}.c")
-            if subprocess.run(["gcc", "-O1", "-shared", "-fPIC", source, "-o", shim, "-ldl"]).returncode != 0:
-                cases.skipped(f"serve: {name}", "gcc could not build the shim")
-                continue
+        shims = built_shims(folder)
+        if shims is None:
+            cases.skipped("serving where memory or the disk is refused", "gcc could not build the shims")
+            return
+        for turn in TURNS:
             start = time.monotonic()
-            refusals, refused = refuse_in_turn(cases, shim, name, step, numbers)
-            which = "each call" if step == 1 else f"each {step}th call"
-            print(f"serve: {name}: {which} refused, {refusals} runs in {time.monotonic() - start:.0f} s; told {sorted(refused)}")
-            cases.equal(f"serve: {name}: refusals were told", refused, set(numbers))
-            cases.equal(f"serve: {name}: calls were refused", refusals >= least, True)
+            refusals, refused = refuse_in_turn(cases, shims[turn.shim], turn)
+            which = ("each call" if turn.stride == 1 else f"each {turn.stride}th call") + (" behind the opening" if turn.is_behind_opening else "")
+            name = f"serve: {turn.shim}: {which} of {len(turn.steps)} requests"
+            print(f"{name} refused, {refusals} runs in {time.monotonic() - start:.0f} s; told {sorted(refused)}")
+            cases.equal(f"{name}: refusals were told", refused, set(turn.numbers))
+            cases.equal(f"{name}: calls were refused", refusals >= turn.least, True)

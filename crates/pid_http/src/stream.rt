@@ -51,8 +51,8 @@ fn serve_by<S: Alter + Drop, I: Incoming<W>, W: Output>(
 ///
 /// Each reply is that to the request over the history that the registry shows then, and the writer has taken it before another read is
 /// made. What the calls of the registry's life send it are the commands of these requests, in their order. Where memory is short or the store fails the reply is that refusal; where the registry failed so at a command, each later
-/// request that asks something of it is told so, and it has to be opened anew. A body is held in memory but that of an import, of
-/// which only what the registry needs is (as tests show).
+/// request that asks something of it is told so, and it has to be opened anew. Bodies and replies are held in memory, but for
+/// the file of an import and the text of all items, which pass through in pieces (tested over sockets, no clause says it).
 ///
 /// # How it ends
 ///

@@ -66,9 +66,9 @@ fn each_write_fails(rt: &impl Abort, alloc: Global, fault: WriteFault) -> Result
         let mut input = FaultyInput::new(THREE, 50);
         let mut output = FaultyOutput::new(alloc, 1).failing_after(good as u64, fault);
         let served = serve_stream(alloc, &mut registry, &mut input, &mut output, TURNS);
-        let whole = REPLIES.iter().filter(|end| **end <= good).count() as u64;
+        let whole = REPLIES.iter().skip(1).filter(|end| **end <= good).count();
         assert_eq!(rt; served.end, StreamEnd::WriteFault);
-        assert_eq!(rt; served.answered + 1, whole);
+        assert_eq!(rt; served.answered, whole as u64);
         assert_eq!(rt; output.taken.as_slice(), &THEIR_REPLIES[..good]);
         assert!(rt; registry.is_live());
         if served.answered > 0 {
