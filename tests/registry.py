@@ -53,7 +53,7 @@ def moved(old, new):
     return "; ".join(f"UPDATE {table} SET path = '{new}' WHERE path = '{old}'" for table in ("item", "item_since"))
 
 
-# What another program did to a good file, and what the tool says of it: one broken condition each, or none.
+# What another program did to a good file, and what the program says of it: one broken condition each, or none.
 CHANGED = {
     "nothing is changed": ("", None),
     "a wrong count of items": ("UPDATE meta SET value = 99 WHERE label = 'items'", "damaged"),

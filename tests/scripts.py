@@ -6,29 +6,19 @@ import tempfile
 
 from memory import built_shim, run_refusing
 from program import TOP, run as run_program
+from script_rows import A_MODERATOR, ROWS
+
+
+def texts_of(rows):
+    """A script of these lines, and what it is answered."""
+    return "".join(f"{line}\n" for line, _ in rows).encode(), "".join(reply for _, reply in rows).encode()
+
 
 SCRIPTS = {
-    "a first name": (
-        b"account root who=alice&rank=0\nsubmit alice path=PC/8086&name=Intel+Corporation\napprove alice num=1\n"
-        b"approve root num=1\nexport\n",
-        b"ok\nok 1\nrefused 5 RankTooLow\nok\n# PCI ID registry\n8086  Intel Corporation\n",
-    ),
-    "a parent first": (
-        b"account root who=bob&rank=1\nsubmit bob path=PC/8086/1237&name=440FX\napprove root num=1\n"
-        b"submit bob path=PC/8086&name=Intel\napprove root num=2\napprove root num=1\nexport\n",
-        b"ok\nok 1\nrefused 11 ParentMissing\nok 2\nok\nok\n# PCI ID registry\n8086  Intel\n\t1237  440FX\n",
-    ),
-    "imports": (
-        b"import root key=k1&file=8086++Intel%0A\nimport root key=k1&file=8086++Intel%0A\nimport root file=8086++Intel%0A\n"
-        b"import root file=8086++Intel+Corporation\nimport root key=k1&file=8086++Intel%0A\nread path=PC/8086\n",
-        b"ok added=1 renamed=0 same=0\nok added=1 renamed=0 same=0\nok added=0 renamed=0 same=1\n"
-        b"ok added=0 renamed=1 same=0\nok added=1 renamed=0 same=0\nname Intel Corporation\n",
-    ),
-    "refusals": (
-        b"account root who=alice&rank=0\nsubmit root path=PC/10ec&name=Realtek\napprove root num=1\nwithdraw alice num=1\n"
-        b"comment alice num=1&text=seen\naccount root who=root&rank=2\nwithdraw root num=1\nwithdraw root num=1\n",
-        b"ok\nok 1\nrefused 10 OwnDecision\nrefused 9 NotAuthor\nok\nrefused 10 OwnDecision\nok\nrefused 8 NotPending\n",
-    ),
+    "a first name": texts_of(ROWS["a first name"]),
+    "a parent first": texts_of(A_MODERATOR),
+    "imports": texts_of(ROWS["imports"]),
+    "refusals": texts_of(ROWS["refusals"]),
 }
 
 STOP = b"refused 16 Memory\n"
