@@ -1,8 +1,9 @@
 //! What the rows of these tests ask of a registry, and what it tells as one line.
 //!
 //! A row is a command, as `comment alice num=1&text=seen`, where the key of a caller stands before a slash; or `import`, the
-//! caller and the file, which comes whole, or by pieces with `slowly`; or a question: `export`, `read`, `children` with a path or `top`, `submission` and `pending` with a
-//! number, `changes` with a revision and a path, if there is one, `lookup` with its fields. In a row `;` ends a line of a file and `>` is a tab.
+//! caller and the file, which comes whole, or by pieces with `slowly`, or from an input that fails behind it with `broken`; or a question:
+//! `export`, `length` (of the export), `read`, `children` with a path or `top`, `submission` and `pending` with a number, `changes` with a
+//! revision and a path, if there is one, `lookup` with its fields. In a row `;` ends a line of a file and `>` is a tab.
 use pid_ident::{Account, FaultyInput, FaultyOutput, Key, Path};
 use pid_lookup::{Answer, LookupRefusal, args_of};
 use pid_moderation::{Proposal, Refusal, Reply, State, reply_line};
@@ -86,16 +87,20 @@ fn import<S: Alter + Drop>(
     line_of(alloc, registry.import(account, key, file.as_bytes()))
 }
 
-// An import whose file comes in pieces of at most seven bytes.
+// An import whose file comes in pieces of at most seven bytes, or from an input that fails behind them.
 fn slowly<S: Alter + Drop>(
     registry: &mut Registry<S>,
     alloc: Global,
     rest: &str,
+    is_broken: bool,
 ) -> Result<String, Fail> {
     let (caller, file) = rest.split_once(' ').ok_or("a file")?;
     let (account, key) = caller_of(alloc, caller)?;
     let file = file_of(alloc, file)?;
     let mut input = FaultyInput::new(file.as_bytes(), 7);
+    if is_broken {
+        input = input.failing_after(file.len().div_ceil(7) as u64);
+    }
     match registry.import_from(account, key, &mut input) {
         Ok(reply) => line_of(alloc, Ok(reply)),
         Err(ImportEnd::Refused(refusal)) => refused(alloc, refusal),
@@ -131,6 +136,13 @@ fn export<S: Alter + Drop>(registry: &mut Registry<S>, alloc: Global) -> Result<
         }
         Err(ExportFault::Refused(refusal)) => refused(alloc, refusal),
         Err(ExportFault::Write(_)) => Err("a write fault")?,
+    }
+}
+
+fn length<S: Alter + Drop>(registry: &mut Registry<S>, alloc: Global) -> Result<String, Fail> {
+    match registry.export_length() {
+        Ok(length) => Ok(length.to_string(alloc)?),
+        Err(refusal) => refused(alloc, refusal),
     }
 }
 
@@ -181,7 +193,7 @@ fn children<S: Alter + Drop>(
     }
 }
 
-fn proposed(proposal: &Proposal) -> &str {
+pub(crate) fn proposed(proposal: &Proposal) -> &str {
     match proposal {
         Proposal::Name(name) => name.as_str(),
         Proposal::Removal => "remove",
@@ -317,8 +329,10 @@ pub(crate) fn told<S: Alter + Drop>(
     let (verb, rest) = row.split_once(' ').unwrap_or((row, ""));
     match verb {
         "import" => import(registry, alloc, rest),
-        "slowly" => slowly(registry, alloc, rest),
+        "slowly" => slowly(registry, alloc, rest, false),
+        "broken" => slowly(registry, alloc, rest, true),
         "export" => export(registry, alloc),
+        "length" => length(registry, alloc),
         "read" => read(registry, alloc, rest),
         "children" => children(registry, alloc, rest),
         "pending" => pending(registry, alloc, rest.parse::<u32>()?),

@@ -1,4 +1,4 @@
-//! Worked runs of commands and questions.
+//! Worked runs of commands and questions. Those whose commands have keys are run by `refusals`.
 use crate::asking::{expect_run, expect_told, new_in_memory, told};
 use pid_ident::Text;
 use pid_moderation::{Act, Refusal, Reply, reply_line};
@@ -9,37 +9,37 @@ use std::alloc::Global;
 use std::process::Abort;
 use std::test::Fail;
 
-const VENDOR: &str = "\
-account root who=alice&rank=0 | ok
-submit alice path=PC/8086&name=Intel Corporation | ok 1
-approve alice num=1 | refused 5 RankTooLow
-approve root num=1 | ok
+pub(crate) const VENDOR: &str = "\
+account q1/root who=alice&rank=0 | ok
+submit q2/alice path=PC/8086&name=Intel Corporation | ok 1
+approve q3/alice num=1 | refused 5 RankTooLow
+approve q4/root num=1 | ok
 export | # PCI ID registry;8086  Intel Corporation;
 read PC/8086 | Intel Corporation
 read PC/8086/1237 | none
 ";
 
-const DEVICE: &str = "\
-account root who=bob&rank=1 | ok
-submit bob path=PC/8086/1237&name=440FX | ok 1
-approve root num=1 | refused 11 ParentMissing
-submit bob path=PC/8086&name=Intel | ok 2
-approve root num=2 | ok
-approve root num=1 | ok
+pub(crate) const DEVICE: &str = "\
+account q1/root who=bob&rank=1 | ok
+submit q2/bob path=PC/8086/1237&name=440FX | ok 1
+approve q3/root num=1 | refused 11 ParentMissing
+submit q4/bob path=PC/8086&name=Intel | ok 2
+approve q5/root num=2 | ok
+approve q6/root num=1 | ok
 export | # PCI ID registry;8086  Intel;>1237  440FX;
-submit bob path=PC/8086&remove=yes | ok 3
-approve root num=3 | refused 12 HasChildren
-submit bob path=PC/8086/1237&remove=yes | ok 4
-approve root num=4 | ok
-approve root num=3 | ok
+submit q7/bob path=PC/8086&remove=yes | ok 3
+approve q8/root num=3 | refused 12 HasChildren
+submit q9/bob path=PC/8086/1237&remove=yes | ok 4
+approve q10/root num=4 | ok
+approve q11/root num=3 | ok
 export | # PCI ID registry;
 ";
 
-const IMPORTS: &str = "\
+pub(crate) const IMPORTS: &str = "\
 import k1/root 8086  Intel; | ok added=1 renamed=0 same=0
 import k1/root 8086  Intel; | ok added=1 renamed=0 same=0
-import root 8086  Intel | ok added=0 renamed=0 same=1
-import root 8086  Intel Corporation | ok added=0 renamed=1 same=0
+import q1/root 8086  Intel | ok added=0 renamed=0 same=1
+import q2/root 8086  Intel Corporation | ok added=0 renamed=1 same=0
 import k1/root 8086  Intel; | ok added=1 renamed=0 same=0
 read PC/8086 | Intel Corporation
 ";
@@ -54,20 +54,20 @@ import bob junk | refused 5 RankTooLow
 export | # PCI ID registry;
 ";
 
-const REFUSALS: &str = "\
-account root who=alice&rank=0 | ok
-submit root path=PC/10ec&name=Realtek | ok 1
-approve root num=1 | refused 10 OwnDecision
-withdraw alice num=1 | refused 9 NotAuthor
-comment alice num=1&text=seen | ok
-account root who=root&rank=2 | refused 10 OwnDecision
-account root who=alice&rank=0 | refused 13 NothingToDo
-submit carol path=PC/10ec&name=X | refused 4 NoAccount
-approve root num=2 | refused 7 NoSubmission
-withdraw root num=1 | ok
-withdraw root num=1 | refused 8 NotPending
-withdraw alice num=1 | refused 9 NotAuthor
-reject alice num=1&reason=no | refused 8 NotPending
+pub(crate) const REFUSALS: &str = "\
+account q1/root who=alice&rank=0 | ok
+submit q2/root path=PC/10ec&name=Realtek | ok 1
+approve q3/root num=1 | refused 10 OwnDecision
+withdraw q4/alice num=1 | refused 9 NotAuthor
+comment q5/alice num=1&text=seen | ok
+account q6/root who=root&rank=2 | refused 10 OwnDecision
+account q7/root who=alice&rank=0 | refused 13 NothingToDo
+submit q8/carol path=PC/10ec&name=X | refused 4 NoAccount
+approve q9/root num=2 | refused 7 NoSubmission
+withdraw q10/root num=1 | ok
+withdraw q11/root num=1 | refused 8 NotPending
+withdraw q12/alice num=1 | refused 9 NotAuthor
+reject q13/alice num=1&reason=no | refused 8 NotPending
 submission 1 | root PC/10ec Realtek;withdrawn;alice seen
 submission 2 | refused 7 NoSubmission
 submission 0 | refused 7 NoSubmission
@@ -110,34 +110,18 @@ export | # PCI ID registry;1af4  Red Hat, Inc.;8086  Intel Corporation;>1237  44
 ";
 
 #[test]
-fn runs_a_vendor_and_a_device(rt: HostRuntime) -> Result<(), Fail> {
-    expect_run(&rt, rt.alloc(), VENDOR)?;
-    expect_run(&rt, rt.alloc(), DEVICE)
-}
-
-#[test]
-fn imports_files(rt: HostRuntime) -> Result<(), Fail> {
-    expect_run(&rt, rt.alloc(), IMPORTS)?;
-    expect_run(&rt, rt.alloc(), FAULTY)
-}
-
-#[test]
-fn refuses_by_rank_and_state(rt: HostRuntime) -> Result<(), Fail> {
-    expect_run(&rt, rt.alloc(), REFUSALS)
-}
-
-#[test]
-fn refuses_by_form_and_repeats_under_a_key(rt: HostRuntime) -> Result<(), Fail> {
-    expect_run(&rt, rt.alloc(), FORMS)
-}
-
-#[test]
-fn answers_questions(rt: HostRuntime) -> Result<(), Fail> {
-    expect_run(&rt, rt.alloc(), CHILDREN)
+fn worked_runs(rt: HostRuntime) -> Result<(), Fail> {
+    for rows in [FAULTY, FORMS, CHILDREN] {
+        expect_run(&rt, rt.alloc(), rows)?;
+    }
+    Ok(())
 }
 
 // The first and the last number of a page.
-fn ends_of(registry: &mut Registry<MemStore>, after: u32) -> Result<(usize, u32, u32), Fail> {
+pub(crate) fn ends_of(
+    registry: &mut Registry<MemStore>,
+    after: u32,
+) -> Result<(usize, u32, u32), Fail> {
     let Ok(page) = registry.pending(after) else {
         return Err("a page")?;
     };

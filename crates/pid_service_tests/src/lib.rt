@@ -4,6 +4,8 @@
 #[cfg(test)]
 mod asking;
 #[cfg(test)]
+mod beside;
+#[cfg(test)]
 mod commands;
 #[cfg(test)]
 mod imports;
@@ -15,6 +17,8 @@ mod look_ups;
 mod migrations;
 #[cfg(test)]
 mod openings;
+#[cfg(test)]
+mod refusals;
 #[cfg(test)]
 mod runs;
 #[cfg(test)]

@@ -1,40 +1,16 @@
 //! Databases of schema 1, written by statements: what moves them, and what they show afterwards.
 use crate::asking::{expect_told, opened, told};
-use crate::openings::told_of;
+use crate::openings::expect_refused;
 use pid_service::{Step, migrate};
 use pid_tables::TableFault;
+use pid_test_rows::OLDER;
 use sqlite::{Alter, Connection, MemStore};
 use std::alloc::Global;
 use std::test::Fail;
 
-// The tables of schema 1, with a vendor that an administrator approved.
-const OLDER: &str = "\
-CREATE TABLE meta (label TEXT NOT NULL PRIMARY KEY, value INTEGER NOT NULL) STRICT;
-CREATE TABLE account (name TEXT NOT NULL PRIMARY KEY, rank INTEGER NOT NULL CHECK (rank BETWEEN 0 AND 3)) STRICT;
-CREATE TABLE item (path TEXT NOT NULL PRIMARY KEY, name TEXT NOT NULL) STRICT;
-CREATE TABLE submission (num INTEGER NOT NULL PRIMARY KEY, author TEXT NOT NULL REFERENCES account(name), \
-path TEXT NOT NULL, form INTEGER NOT NULL CHECK (form BETWEEN 0 AND 1), name TEXT NOT NULL, note TEXT NOT NULL, \
-state INTEGER NOT NULL CHECK (state BETWEEN 0 AND 3), decider TEXT NOT NULL, reason TEXT NOT NULL) STRICT;
-CREATE TABLE remark (num INTEGER NOT NULL REFERENCES submission(num), seq INTEGER NOT NULL, \
-author TEXT NOT NULL REFERENCES account(name), body TEXT NOT NULL, PRIMARY KEY (num, seq)) STRICT;
-CREATE TABLE receipt (account TEXT NOT NULL REFERENCES account(name), token TEXT NOT NULL, kind INTEGER NOT NULL, \
-a INTEGER NOT NULL, b INTEGER NOT NULL, c INTEGER NOT NULL, PRIMARY KEY (account, token)) STRICT;
-INSERT INTO meta VALUES ('schema', 1), ('items', 1), ('submissions', 1);
-INSERT INTO account VALUES ('alice', 0), ('root', 3);
-INSERT INTO item VALUES ('PC/8086', 'Intel Corporation');
-INSERT INTO submission VALUES (1, 'alice', 'PC/8086', 0, 'Intel Corporation', '', 1, 'root', '')";
-
-/// Writes the database of schema 1.
-pub(crate) fn write_older<S: Alter>(conn: &mut Connection<S>) -> Result<(), Fail> {
-    for statement in OLDER.split(';') {
-        conn.execute(statement, &[])?;
-    }
-    Ok(())
-}
-
 fn older_in_memory(alloc: Global) -> Result<Connection<MemStore>, Fail> {
     let mut conn = Connection::open_in_memory(alloc)?;
-    write_older(&mut conn)?;
+    conn.execute_batch(OLDER)?;
     Ok(conn)
 }
 
@@ -59,7 +35,7 @@ export | # PCI ID registry;8086  Intel Corporation;
 submission 1 | alice PC/8086 Intel Corporation;approved by root
 ";
 
-const GOES_ON: &str = "\
+pub(crate) const GOES_ON: &str = "\
 submit alice path=PC/8086&remove=yes | ok 2
 approve root num=2 | ok
 import root 8086  X | ok added=1 renamed=0 same=0
@@ -88,29 +64,8 @@ fn older_tables_are_moved_once(rt: HostRuntime) -> Result<(), Fail> {
     )
 }
 
-#[test]
-fn opening_moves_older_tables(rt: HostRuntime) -> Result<(), Fail> {
-    let alloc = rt.alloc();
-    let mut registry = opened(alloc, older_in_memory(alloc)?)?;
-    expect_told(&rt, alloc, &mut registry, MOVED)?;
-    let (step, conn) = moved(alloc, registry.close())?;
-    assert!(rt; step == Ok(Step::Already));
-    let mut again = opened(alloc, conn)?;
-    expect_told(&rt, alloc, &mut again, GOES_ON)
-}
-
-#[test]
-fn a_migration_makes_the_tables_of_a_new_registry(rt: HostRuntime) -> Result<(), Fail> {
-    let alloc = rt.alloc();
-    let (step, conn) = moved(alloc, Connection::open_in_memory(alloc)?)?;
-    assert!(rt; step == Ok(Step::Created));
-    let mut registry = opened(alloc, conn)?;
-    let rows = "changes 0 | revision 0;\nexport | # PCI ID registry;\n";
-    expect_told(&rt, alloc, &mut registry, rows)
-}
-
-// A statement that damages the database of schema 1, what it is told as, and a statement that mends it.
-const DAMAGES: [(&str, TableFault, &str); 7] = [
+// What damages the database of schema 1, what it is told as, and what mends it.
+const DAMAGES: [(&str, TableFault, &str); 8] = [
     (
         "UPDATE meta SET value = 2 WHERE label = 'items'",
         TableFault::Damaged,
@@ -146,6 +101,13 @@ const DAMAGES: [(&str, TableFault, &str); 7] = [
         TableFault::Damaged,
         "DROP INDEX item_since",
     ),
+    (
+        "DROP TABLE receipt; CREATE TABLE receipt (x INTEGER)",
+        TableFault::Damaged,
+        "DROP TABLE receipt;
+        CREATE TABLE receipt (account TEXT NOT NULL REFERENCES account(name), token TEXT NOT NULL, kind INTEGER NOT NULL,
+            a INTEGER NOT NULL, b INTEGER NOT NULL, c INTEGER NOT NULL, PRIMARY KEY (account, token)) STRICT",
+    ),
 ];
 
 // Neither a migration nor an opening changes what is damaged.
@@ -154,13 +116,11 @@ fn damaged_tables_are_not_moved(rt: HostRuntime) -> Result<(), Fail> {
     let alloc = rt.alloc();
     let mut conn = older_in_memory(alloc)?;
     for (damage, expected, mend) in DAMAGES {
-        conn.execute(damage, &[])?;
+        conn.execute_batch(damage)?;
         let (fault, same) = moved(alloc, conn)?;
         assert!(rt; fault == Err(expected), "{damage}");
-        let (fault, same) = told_of(alloc, same)?;
-        assert!(rt; fault == Some(expected), "{damage}");
-        conn = same;
-        conn.execute(mend, &[])?;
+        conn = expect_refused(&rt, alloc, same, expected, damage)?;
+        conn.execute_batch(mend)?;
     }
     let mut registry = opened(alloc, conn)?;
     expect_told(&rt, alloc, &mut registry, MOVED)?;

@@ -1,6 +1,7 @@
 //! Generated commands through the plain registry, which keeps the list of what it accepted, and through the registry over
-//! tables: the same replies, names and pages.
-use crate::asking::{new_in_memory, told};
+//! tables: the same replies, and now and then the same items, changes and pages.
+use crate::asking::{new_in_memory, proposed, tell_item, told};
+use crate::commands::ends_of;
 use pid_ident::{LineKind, Name, Path};
 use pid_moderation::{Command, FileFault, State, Verb, reply_line};
 use pid_plain_registry::{FileReading, PlainRegistry};
@@ -35,6 +36,11 @@ impl Numbers {
         let at = self.next(words.len() as u64);
         words.get(at as usize).map_or("", |word| *word)
     }
+
+    fn path(&mut self) -> &'static str {
+        let at = self.next(PATHS.len() as u64);
+        PATHS.get(at as usize).map_or("", |path| path.0)
+    }
 }
 
 const CALLERS: [&str; 8] = [
@@ -43,17 +49,18 @@ const CALLERS: [&str; 8] = [
 
 const ACCOUNTS: [&str; 4] = ["bob", "sue", "joe", "root"];
 
-const PATHS: [&str; 10] = [
-    "PC/8086",
-    "PC/8086/1237",
-    "PC/8086/1237/1af41100",
-    "PC/10ec",
-    "PC/10ec/8139",
-    "PD/01",
-    "PD/01/01",
-    "PD/01/01/80",
-    "PS/8086/1100",
-    "PS/10ec/0001",
+// Paths in their order, and what stands before the name of each in the file.
+const PATHS: [(&str, &str); 10] = [
+    ("PC/10ec", "10ec  "),
+    ("PC/10ec/8139", ">8139  "),
+    ("PC/8086", "8086  "),
+    ("PC/8086/1237", ">1237  "),
+    ("PC/8086/1237/1af41100", ">>1af4 1100  "),
+    ("PD/01", "C 01  "),
+    ("PD/01/01", ">01  "),
+    ("PD/01/01/80", ">>80  "),
+    ("PS/10ec/0001", "S 10ec;>0001  "),
+    ("PS/8086/1100", "S 8086;>1100  "),
 ];
 
 const NAMES: [&str; 3] = ["Intel", "Other name", "Third"];
@@ -102,7 +109,7 @@ fn reading_of(alloc: Global, row: &str) -> Result<FileReading, Fail> {
 fn generated(alloc: Global, numbers: &mut Numbers, submissions: u64) -> Result<String, Fail> {
     let caller = numbers.one_of(&CALLERS);
     let number = numbers.next(submissions.saturating_add(2));
-    let path = numbers.one_of(&PATHS);
+    let path = numbers.path();
     let name = numbers.one_of(&NAMES);
     let row = match numbers.next(12) {
         0 => {
@@ -166,56 +173,115 @@ fn send_file(
     Ok(())
 }
 
-// The name of each path is the same.
-fn expect_names(
-    rt: &impl Abort,
-    alloc: Global,
-    list: &PlainRegistry,
-    registry: &mut Registry<MemStore>,
-) -> Result<(), Fail> {
+// The name of a path in the list, or the empty text, and the number of the command that it is from.
+#[derive(Drop)]
+struct Shown {
+    name: String,
+    since: u64,
+}
+
+// What the list shows of each path behind a command. Where a name is another than before, it is from that command.
+fn shown_behind(alloc: Global, list: &PlainRegistry, before: &[Shown]) -> Result<Vec<Shown>, Fail> {
     let items = list.items()?;
-    for text in PATHS {
+    let mut all = Vec::new(alloc);
+    for (at, (text, _)) in PATHS.iter().enumerate() {
         let path = Path::parse(text).ok_or("a path")?;
-        let expected = items.get(&path).map_or("none", |name| name.as_str());
-        let row = format!(in alloc; "read {text}")?;
-        let name = told(registry, alloc, row.as_str())?;
-        assert_eq!(rt; name.as_str(), expected, "at {text}");
+        let name = items.get(&path).map_or("", |name| name.as_str());
+        let (old, mut since) = before
+            .get(at)
+            .map_or(("", 0), |old| (old.name.as_str(), old.since));
+        if name != old {
+            since = list.revision() as u64;
+        }
+        let name = String::from_str(alloc, name)?;
+        all.push(Shown { name, since })?;
     }
-    Ok(())
+    Ok(all)
 }
 
-// Whether the submission is pending in the list.
-fn is_pending(list: &PlainRegistry, alloc: Global, number: usize) -> Result<bool, Fail> {
-    let row = format!(in alloc; "approve root num={number}")?;
-    let command = command_in(alloc, row.as_str())??;
-    let facts = list.facts(&command, &FileReading::TooLong)?;
-    match &facts.named {
-        Some(named) => Ok(matches!(&named.state, State::Pending)),
-        None => Ok(false),
-    }
-}
-
-// The numbers of the first page are those of the first hundred pending ones of the list.
-fn expect_page(
-    rt: &impl Abort,
-    alloc: Global,
-    list: &PlainRegistry,
-    registry: &mut Registry<MemStore>,
-) -> Result<(), Fail> {
-    let mut expected = Vec::new(alloc);
-    for number in 1..=list.submissions() {
-        if expected.len() < 100 && is_pending(list, alloc, number)? {
-            expected.push(number)?;
+// What is told of the items: the export, and those that were named anew behind a revision.
+fn items_in(alloc: Global, all: &[Shown], since: u64) -> Result<(String, String), Fail> {
+    let mut export = String::from_str(alloc, "# PCI ID registry;")?;
+    let mut changes = String::new(alloc);
+    for (shown, (path, front)) in all.iter().zip(PATHS) {
+        let name = shown.name.as_str();
+        if name != "" {
+            export.push_str(format!(in alloc; "{front}{name};")?.as_str())?;
+        }
+        if name != "" && shown.since > since {
+            changes.push_str(format!(in alloc; "{} {path} {name};", shown.since)?.as_str())?;
         }
     }
-    let Ok(page) = registry.pending(0) else {
-        return Err("a page")?;
-    };
-    assert_eq!(rt; page.len(), expected.len());
-    for (pending, number) in page.iter().zip(expected.iter()) {
-        assert_eq!(rt; pending.number as usize, *number);
+    Ok((export, changes))
+}
+
+// Adds a submission as pages tell it, if it is pending in the list.
+fn tell_pending(
+    told: &mut String,
+    alloc: Global,
+    list: &PlainRegistry,
+    number: usize,
+) -> Result<(), Fail> {
+    let row = format!(in alloc; "comment root num={number}&text=a")?;
+    let facts = list.facts(&command_in(alloc, row.as_str())??, &FileReading::TooLong)?;
+    let named = facts.named.ok_or("a submission")?;
+    if let State::Pending = named.state {
+        let author = named.author.as_str();
+        told.push_str(format!(in alloc; "{number} {author} ")?.as_str())?;
+        tell_item(told, alloc, named.path, proposed(&named.proposal))?;
     }
     Ok(())
+}
+
+fn pending_in(alloc: Global, list: &PlainRegistry) -> Result<String, Fail> {
+    let mut all = String::new(alloc);
+    for number in 1..=list.submissions() {
+        tell_pending(&mut all, alloc, list, number)?;
+    }
+    Ok(all)
+}
+
+// The pages of what is pending tell all of it, in their order, and the last one is empty.
+fn expect_pages(
+    rt: &impl Abort,
+    alloc: Global,
+    registry: &mut Registry<MemStore>,
+    pending: &str,
+) -> Result<(), Fail> {
+    let mut rest = pending;
+    let mut last = 0;
+    for _ in 0..COMMANDS {
+        let row = format!(in alloc; "pending {last}")?;
+        let page = told(registry, alloc, row.as_str())?;
+        rest = rest.strip_prefix(page.as_str()).ok_or("another page")?;
+        if page.is_empty() {
+            break;
+        }
+        last = ends_of(registry, last)?.2;
+    }
+    assert_eq!(rt; rest, "");
+    Ok(())
+}
+
+// Both show the same items, with the same numbers, and have the same submissions pending.
+fn expect_alike(
+    rt: &impl Abort,
+    alloc: Global,
+    list: &PlainRegistry,
+    all: &[Shown],
+    registry: &mut Registry<MemStore>,
+) -> Result<(), Fail> {
+    let since = list.submissions();
+    let (export, changes) = items_in(alloc, all, since as u64)?;
+    assert_eq!(rt; told(registry, alloc, "export")?.as_str(), export.as_str());
+    let row = format!(in alloc; "changes {since}")?;
+    let revision = list.revision();
+    let expected = format!(in alloc; "revision {revision};{changes}")?;
+    assert_eq!(rt;
+        told(registry, alloc, row.as_str())?.as_str(),
+        expected.as_str()
+    );
+    expect_pages(rt, alloc, registry, pending_in(alloc, list)?.as_str())
 }
 
 const COMMANDS: u64 = 1_500;
@@ -226,17 +292,21 @@ fn both_reply_alike(rt: HostRuntime) -> Result<(), Fail> {
     let mut numbers = Numbers::new();
     let mut list = PlainRegistry::new(alloc);
     let mut registry = new_in_memory(alloc)?;
+    let mut all = Vec::new(alloc);
     for at in 0..COMMANDS {
         let row = generated(alloc, &mut numbers, list.submissions() as u64)?;
         send(&rt, alloc, &mut list, &mut registry, row.as_str())?;
+        all = shown_behind(alloc, &list, all.as_slice())?;
         if at % 25 == 0 {
             let caller = numbers.one_of(&CALLERS);
             let drawn = numbers.next(FILES.len() as u64) as usize;
             let file = FILES.get(drawn).copied().unwrap_or(("", ""));
             send_file(&rt, alloc, &mut list, &mut registry, caller, file)?;
-            expect_names(&rt, alloc, &list, &mut registry)?;
+            all = shown_behind(alloc, &list, all.as_slice())?;
+        }
+        if at % 100 == 99 {
+            expect_alike(&rt, alloc, &list, all.as_slice(), &mut registry)?;
         }
     }
-    expect_names(&rt, alloc, &list, &mut registry)?;
-    expect_page(&rt, alloc, &list, &mut registry)
+    Ok(())
 }

@@ -1,30 +1,39 @@
 //! The disk stops at a call, and fails each one after: what opening then finds. The contracts say what a crash may leave; these
 //! tests show that the calls get there, over files in memory that keep what was synced alone.
-use crate::asking::{expect_told, new_in_memory, opened, told};
-use crate::migrations::{MOVED, write_older};
+use crate::asking::{expect_told, opened, told};
+use pid_moderation::Refusal;
 use pid_service::{Registry, Step, migrate, open};
 use pid_tables::TableFault;
+use pid_test_rows::OLDER;
 use sqlite::{Alter, Connection, FileStore, Files, Options};
 use sqlite_disk::{Crash, Disk, Fuse, Memory};
 use std::alloc::Global;
 use std::process::Abort;
 use std::test::Fail;
 
-// The bytes of a database and of its log.
+/// The bytes of a database and of its log.
 #[derive(Drop)]
-struct Held {
+pub(crate) struct Held {
     log: Vec<u8>,
     db: Vec<u8>,
 }
 
-// How many calls of each file go well.
+/// Files that were never opened.
+pub(crate) fn nothing(alloc: Global) -> Held {
+    Held {
+        log: Vec::new(alloc),
+        db: Vec::new(alloc),
+    }
+}
+
+/// How many calls of each file go well.
 #[derive(Clone, Copy)]
-struct Calls {
+pub(crate) struct Calls {
     log: u64,
     db: u64,
 }
 
-const ALL: Calls = Calls {
+pub(crate) const ALL: Calls = Calls {
     log: u64::MAX,
     db: u64::MAX,
 };
@@ -96,72 +105,158 @@ fn bytes_of(alloc: Global, files: &Files<Stopping>) -> Result<Held, Fail> {
     })
 }
 
-// What a registry shows: its items, its first submission, and what is pending.
+// What stands for an answer where there is none.
+const NOT_TOLD: &str = "not told";
+
+/// Whether a row was answered, and not refused for want of memory or by the store.
+pub(crate) fn is_answered(line: &str) -> bool {
+    !matches!(
+        line,
+        NOT_TOLD | "refused 16 Memory" | "refused 17 Store" | "refused 18 Failed"
+    )
+}
+
+// The answer to a row, where neither memory nor the store refuses it.
+fn answer_to<S: Alter + Drop>(
+    registry: &mut Registry<S>,
+    alloc: Global,
+    row: &str,
+) -> Result<String, Fail> {
+    let line = told(registry, alloc, row)?;
+    if is_answered(line.as_str()) {
+        Ok(line)
+    } else {
+        Err("no answer")?
+    }
+}
+
+// What a registry shows: its items, its first submission, what is pending, and the numbers of its changes.
 fn shown<S: Alter + Drop>(registry: &mut Registry<S>, alloc: Global) -> Result<String, Fail> {
-    let mut all = told(registry, alloc, "export")?;
-    for row in ["submission 1", "pending 0"] {
+    let mut all = String::new(alloc);
+    for row in ["export", "submission 1", "pending 0", "changes 0"] {
+        all.push_str(answer_to(registry, alloc, row)?.as_str())?;
         all.push('|')?;
-        all.push_str(told(registry, alloc, row)?.as_str())?;
     }
     Ok(all)
 }
 
-// What a run without a stop answers to its last row, and what it shows before and behind it.
+/// What a row is answered without a stop, and what the registry shows before and behind it.
 #[derive(Drop)]
-struct Whole {
+pub(crate) struct Whole {
     before: String,
-    reply: String,
+    pub(crate) reply: String,
     after: String,
 }
 
-fn whole_run(alloc: Global, first: &str, last: &str) -> Result<Whole, Fail> {
-    let mut registry = new_in_memory(alloc)?;
-    for row in first.lines() {
-        told(&mut registry, alloc, row)?;
-    }
+fn whole_row<S: Alter + Drop>(
+    alloc: Global,
+    conn: Connection<S>,
+    row: &str,
+) -> Result<(Whole, Connection<S>), Fail> {
+    let mut registry = opened(alloc, conn)?;
     let before = shown(&mut registry, alloc)?;
-    let reply = told(&mut registry, alloc, last)?;
+    let reply = answer_to(&mut registry, alloc, row)?;
     let after = shown(&mut registry, alloc)?;
-    Ok(Whole {
+    let whole = Whole {
         before,
         reply,
         after,
-    })
-}
-
-// Opens a registry, asks it these rows, and closes it.
-fn asked<S: Alter + Drop>(
-    alloc: Global,
-    conn: Connection<S>,
-    rows: &str,
-) -> Result<Connection<S>, Fail> {
-    let mut registry = opened(alloc, conn)?;
-    for row in rows.lines() {
-        told(&mut registry, alloc, row)?;
-    }
-    Ok(registry.close())
-}
-
-// What the files hold behind the first rows; without any they were never opened.
-fn held_behind(alloc: Global, first: &str) -> Result<Held, Fail> {
-    let none = Held {
-        log: Vec::new(alloc),
-        db: Vec::new(alloc),
     };
-    if first.is_empty() {
-        return Ok(none);
-    }
-    match connected(alloc, laid(alloc, &none, ALL)?) {
+    Ok((whole, registry.close()))
+}
+
+/// A row over files without a stop, and what they hold behind it.
+pub(crate) fn undisturbed(alloc: Global, held: &Held, row: &str) -> Result<(Whole, Held), Fail> {
+    match connected(alloc, laid(alloc, held, ALL)?) {
         Ok(conn) => {
-            let files = left(asked(alloc, conn, first)?);
-            bytes_of(alloc, &files)
+            let (whole, conn) = whole_row(alloc, conn, row)?;
+            let files = left(conn);
+            let behind = bytes_of(alloc, &files)?;
+            Ok((whole, behind))
         }
         Err(_) => Err("a connection")?,
     }
 }
 
-// What the last row is answered, and the connection behind it; no text where the registry was not opened.
+// What files hold behind these rows; without any they were never opened.
+fn held_behind(alloc: Global, rows: &str) -> Result<Held, Fail> {
+    let mut held = nothing(alloc);
+    for row in rows.lines() {
+        held = undisturbed(alloc, &held, row)?.1;
+    }
+    Ok(held)
+}
+
+// What a registry tells that has failed.
+const FAILED: &str = "\
+account root who=sue&rank=0 | refused 18 Failed
+submit root path=PC/8086&name=Intel | refused 18 Failed
+comment root num=1&text=seen | refused 18 Failed
+withdraw root num=1 | refused 18 Failed
+approve root num=1 | refused 18 Failed
+reject root num=1&reason=no | refused 18 Failed
+import root 8086  Intel | refused 18 Failed
+slowly root 8086  Intel;8086  Other | refused 18 Failed
+export | refused 18 Failed
+length | refused 18 Failed
+read PC/8086 | refused 18 Failed
+children top | refused 18 Failed
+pending 0 | refused 18 Failed
+submission 1 | refused 18 Failed
+changes 0 | refused 18 Failed
+lookup flags=1&vendor=8086 | refused 18 Failed
+lookup flags=30000 | refused 18 Failed
+";
+
+// Opens the connection that a failed opening or a failed registry handed back. It may be shut, but nothing is damaged.
+fn opened_again<S: Alter + Drop>(
+    rt: &impl Abort,
+    alloc: Global,
+    conn: Connection<S>,
+) -> Result<Connection<S>, Fail> {
+    if !conn.is_autocommit() {
+        return Err("a transaction is left")?;
+    }
+    match open(alloc, conn) {
+        Ok(registry) => Ok(registry.close()),
+        Err((fault, conn)) => {
+            assert!(rt;
+                matches!(fault, TableFault::Memory | TableFault::Store),
+                "{fault}"
+            );
+            Ok(conn)
+        }
+    }
+}
+
+// Moves the tables; no answer is told. Where it failed, memory was short or the store failed.
+fn migrated<S: Alter + Drop>(
+    rt: &impl Abort,
+    alloc: Global,
+    conn: Connection<S>,
+) -> Result<Connection<S>, Fail> {
+    if !conn.is_autocommit() {
+        return Err("a transaction is left")?;
+    }
+    match migrate(alloc, conn) {
+        Ok((conn, step)) => {
+            assert_eq!(rt; step, Step::Moved);
+            Ok(conn)
+        }
+        Err((fault, conn)) => {
+            assert!(rt;
+                matches!(fault, TableFault::Memory | TableFault::Store),
+                "{fault}"
+            );
+            opened_again(rt, alloc, conn)
+        }
+    }
+}
+
+// What the last row is answered, and the connection behind it. `migrate` moves the tables and is told no answer, as is a row of a registry
+// that was not opened. A registry that has failed says so to all that it is asked.
 fn answered<S: Alter + Drop>(
+    rt: &impl Abort,
     alloc: Global,
     conn: Connection<S>,
     last: &str,
@@ -169,36 +264,59 @@ fn answered<S: Alter + Drop>(
     if !conn.is_autocommit() {
         return Err("a transaction is left")?;
     }
+    if last == "migrate" {
+        let conn = migrated(rt, alloc, conn)?;
+        return Ok((String::from_str(alloc, NOT_TOLD)?, conn));
+    }
     match open(alloc, conn) {
         Ok(mut registry) => {
             let line = told(&mut registry, alloc, last)?;
-            Ok((line, registry.close()))
+            if registry.is_live() {
+                return Ok((line, registry.close()));
+            }
+            expect_told(rt, alloc, &mut registry, FAILED)?;
+            assert!(rt; matches!(registry.run(&[]).fault, Some(Refusal::Failed)));
+            Ok((line, opened_again(rt, alloc, registry.close())?))
         }
-        Err((TableFault::Memory | TableFault::Store, conn)) => Ok((String::new(alloc), conn)),
-        Err((fault, _)) => Err(fault)?,
+        Err((fault, conn)) => {
+            assert!(rt;
+                matches!(fault, TableFault::Memory | TableFault::Store),
+                "{fault}"
+            );
+            let conn = opened_again(rt, alloc, conn)?;
+            Ok((String::from_str(alloc, NOT_TOLD)?, conn))
+        }
     }
 }
 
 // The same on files that stop, and the files behind it.
 fn stopped(
+    rt: &impl Abort,
     alloc: Global,
     files: Files<Stopping>,
     last: &str,
 ) -> Result<(String, Files<Stopping>), Fail> {
     match connected(alloc, files) {
         Ok(conn) => {
-            let (line, conn) = answered(alloc, conn, last)?;
+            let (line, conn) = answered(rt, alloc, conn, last)?;
             Ok((line, left(conn)))
         }
-        Err(files) => Ok((String::new(alloc), files)),
+        Err(files) => Ok((String::from_str(alloc, NOT_TOLD)?, files)),
     }
 }
 
-fn is_answered(line: &str) -> bool {
-    !matches!(
-        line,
-        "" | "refused 16 Memory" | "refused 17 Store" | "refused 18 Failed"
-    )
+/// What the last row is answered over files of which so many calls go well, whether they met no stop, and what the machine comes back with.
+pub(crate) fn crashed(
+    rt: &impl Abort,
+    alloc: Global,
+    held: &Held,
+    calls: Calls,
+    last: &str,
+) -> Result<(String, bool, Held), Fail> {
+    let (line, mut files) = stopped(rt, alloc, laid(alloc, held, calls)?, last)?;
+    let is_whole = !has_stopped(&mut files);
+    crash(&mut files);
+    Ok((line, is_whole, bytes_of(alloc, &files)?))
 }
 
 // Opened again, the registry is as before the last row or behind it, and behind it where that was answered; sent again, the row is
@@ -219,29 +337,26 @@ fn expect_kept<S: Alter + Drop>(
     } else if found.as_str() != whole.before.as_str() {
         assert_eq!(rt; found.as_str(), whole.after.as_str(), "{last}");
     }
-    let again = told(&mut registry, alloc, last)?;
+    let again = answer_to(&mut registry, alloc, last)?;
     assert_eq!(rt; again.as_str(), whole.reply.as_str(), "{last}");
     let after = shown(&mut registry, alloc)?;
     assert_eq!(rt; after.as_str(), whole.after.as_str(), "{last}");
     Ok(())
 }
 
-// Whether the run met no stop.
-fn tried(
+/// The same of the files that the machine comes back with.
+pub(crate) fn expect_found(
     rt: &impl Abort,
     alloc: Global,
-    files: Files<Stopping>,
+    found: &Held,
+    line: &str,
     last: &str,
     whole: &Whole,
-) -> Result<bool, Fail> {
-    let (line, mut files) = stopped(alloc, files, last)?;
-    let is_whole = !has_stopped(&mut files);
-    crash(&mut files);
-    match connected(alloc, files) {
-        Ok(conn) => expect_kept(rt, alloc, conn, line.as_str(), last, whole)?,
-        Err(_) => return Err("the files are opened again")?,
+) -> Result<(), Fail> {
+    match connected(alloc, laid(alloc, found, ALL)?) {
+        Ok(conn) => expect_kept(rt, alloc, conn, line, last, whole),
+        Err(_) => Err("the files are opened again")?,
     }
-    Ok(is_whole)
 }
 
 // More calls than a run makes of either file.
@@ -261,31 +376,34 @@ fn stop_at(of_log: bool, calls: u64) -> Calls {
     }
 }
 
-// Stops one of the files at calls of opening and of the last row behind it: at each, or at every `step`-th.
+// Stops one of the files at calls of opening and of a row behind it, at each or at every `step`-th. The other row is asked once the
+// machine is back.
 fn stop_each(
     rt: &impl Abort,
     alloc: Global,
+    held: &Held,
     rows: (&str, &str),
     of_log: bool,
     step: u64,
 ) -> Result<(), Fail> {
-    let (first, last) = rows;
-    let held = held_behind(alloc, first)?;
-    let whole = whole_run(alloc, first, last)?;
+    let (whole, _) = undisturbed(alloc, held, rows.1)?;
     for turn in 0..MOST {
-        let calls = turn.saturating_mul(step);
-        let files = laid(alloc, &held, stop_at(of_log, calls))?;
-        if tried(rt, alloc, files, last, &whole)? {
+        let calls = stop_at(of_log, turn.saturating_mul(step));
+        let (line, is_whole, found) = crashed(rt, alloc, held, calls, rows.0)?;
+        expect_found(rt, alloc, &found, line.as_str(), rows.1, &whole)?;
+        if is_whole {
             return Ok(());
         }
     }
     Err("a run without a stop")?
 }
 
-// Stops the log, and then the database. Without rows before the last one the files are empty.
+// Stops the log, and then the database, at the last row behind the first ones.
 fn stop_both(rt: &impl Abort, alloc: Global, rows: (&str, &str), step: u64) -> Result<(), Fail> {
-    stop_each(rt, alloc, rows, true, step)?;
-    stop_each(rt, alloc, rows, false, step)
+    let (first, last) = rows;
+    let held = held_behind(alloc, first)?;
+    stop_each(rt, alloc, &held, (last, last), true, step)?;
+    stop_each(rt, alloc, &held, (last, last), false, step)
 }
 
 #[test]
@@ -362,15 +480,11 @@ fn a_stop_of_an_import_by_pieces(rt: HostRuntime) -> Result<(), Fail> {
     stop_import(&rt, rt.alloc(), "slowly")
 }
 
-// What files of the database of schema 1 hold.
-fn held_older(alloc: Global) -> Result<Held, Fail> {
-    let none = Held {
-        log: Vec::new(alloc),
-        db: Vec::new(alloc),
-    };
-    match connected(alloc, laid(alloc, &none, ALL)?) {
+/// What files of the database of schema 1 hold.
+pub(crate) fn held_older(alloc: Global) -> Result<Held, Fail> {
+    match connected(alloc, laid(alloc, &nothing(alloc), ALL)?) {
         Ok(mut conn) => {
-            write_older(&mut conn)?;
+            conn.execute_batch(OLDER)?;
             let files = left(conn);
             bytes_of(alloc, &files)
         }
@@ -378,65 +492,10 @@ fn held_older(alloc: Global) -> Result<Held, Fail> {
     }
 }
 
-// Moves the tables. Where that is told as done, it was; else memory was short or the store failed.
-fn migrated<S: Alter + Drop>(
-    alloc: Global,
-    conn: Connection<S>,
-) -> Result<(bool, Connection<S>), Fail> {
-    if !conn.is_autocommit() {
-        return Err("a transaction is left")?;
-    }
-    match migrate(alloc, conn) {
-        Ok((conn, Step::Moved)) => Ok((true, conn)),
-        Ok(_) => Err("another step")?,
-        Err((TableFault::Memory | TableFault::Store, conn)) => Ok((false, conn)),
-        Err((fault, _)) => Err(fault)?,
-    }
-}
-
-// Whether the tables were moved, and the files behind it.
-fn migrated_files(alloc: Global, files: Files<Stopping>) -> Result<(bool, Files<Stopping>), Fail> {
-    match connected(alloc, files) {
-        Ok(conn) => {
-            let (is_moved, conn) = migrated(alloc, conn)?;
-            Ok((is_moved, left(conn)))
-        }
-        Err(files) => Ok((false, files)),
-    }
-}
-
-// Opened again, the registry shows the same history.
-fn expect_moved<S: Alter + Drop>(
-    rt: &impl Abort,
-    alloc: Global,
-    conn: Connection<S>,
-) -> Result<(), Fail> {
-    let mut registry = opened(alloc, conn)?;
-    expect_told(rt, alloc, &mut registry, MOVED)
-}
-
-// Stops one of the files at each call of a migration, until it meets no stop.
-fn stop_migration(rt: &impl Abort, alloc: Global, of_log: bool) -> Result<(), Fail> {
-    let held = held_older(alloc)?;
-    for calls in 0..MOST {
-        let files = laid(alloc, &held, stop_at(of_log, calls))?;
-        let (is_moved, mut files) = migrated_files(alloc, files)?;
-        let is_whole = !has_stopped(&mut files);
-        crash(&mut files);
-        match connected(alloc, files) {
-            Ok(conn) => expect_moved(rt, alloc, conn)?,
-            Err(_) => return Err("the files are opened again")?,
-        }
-        if is_whole {
-            assert!(rt; is_moved);
-            return Ok(());
-        }
-    }
-    Err("a migration without a stop")?
-}
-
 #[test]
 fn a_stop_of_a_migration(rt: HostRuntime) -> Result<(), Fail> {
-    stop_migration(&rt, rt.alloc(), true)?;
-    stop_migration(&rt, rt.alloc(), false)
+    let alloc = rt.alloc();
+    let held = held_older(alloc)?;
+    stop_each(&rt, alloc, &held, ("migrate", "changes 0"), true, 1)?;
+    stop_each(&rt, alloc, &held, ("migrate", "changes 0"), false, 1)
 }

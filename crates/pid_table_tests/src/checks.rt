@@ -3,26 +3,17 @@
 use pid_rows::{TableFault, Version};
 use pid_table_check::check;
 use pid_tables::{Step, Tables, create, migrate};
+use pid_test_rows::OLDER;
 use sqlite::{Connection, MemStore};
 use std::alloc::Global;
 use std::test::Fail;
 
-// A registry in schema 1.
-const FIRST: &str = "
-CREATE TABLE meta (label TEXT NOT NULL PRIMARY KEY, value INTEGER NOT NULL) STRICT;
-CREATE TABLE account (name TEXT NOT NULL PRIMARY KEY, rank INTEGER NOT NULL CHECK (rank BETWEEN 0 AND 3)) STRICT;
-CREATE TABLE item (path TEXT NOT NULL PRIMARY KEY, name TEXT NOT NULL) STRICT;
-CREATE TABLE submission (num INTEGER NOT NULL PRIMARY KEY, author TEXT NOT NULL REFERENCES account(name),
-    path TEXT NOT NULL, form INTEGER NOT NULL CHECK (form BETWEEN 0 AND 1), name TEXT NOT NULL, note TEXT NOT NULL,
-    state INTEGER NOT NULL CHECK (state BETWEEN 0 AND 3), decider TEXT NOT NULL, reason TEXT NOT NULL) STRICT;
-CREATE TABLE remark (num INTEGER NOT NULL REFERENCES submission(num), seq INTEGER NOT NULL,
-    author TEXT NOT NULL REFERENCES account(name), body TEXT NOT NULL, PRIMARY KEY (num, seq)) STRICT;
-CREATE TABLE receipt (account TEXT NOT NULL REFERENCES account(name), token TEXT NOT NULL, kind INTEGER NOT NULL,
-    a INTEGER NOT NULL, b INTEGER NOT NULL, c INTEGER NOT NULL, PRIMARY KEY (account, token)) STRICT;
-INSERT INTO meta VALUES ('schema', 1), ('items', 2), ('submissions', 2);
-INSERT INTO account VALUES ('root', 3), ('bob', 1);
-INSERT INTO item VALUES ('PC/8086', 'Intel'), ('PC/8086/1237', '440FX');
-INSERT INTO submission VALUES (1, 'bob', 'PC/8086', 0, 'Intel', '', 1, 'root', ''), (2, 'bob', 'PC/8086', 1, '', '', 0, '', '');
+// More rows for a registry in schema 1: remarks, a reply that is kept, a removal that is pending.
+const MORE: &str = "
+UPDATE meta SET value = 2 WHERE label <> 'schema';
+INSERT INTO account VALUES ('bob', 1);
+INSERT INTO item VALUES ('PC/8086/1237', '440FX');
+INSERT INTO submission VALUES (2, 'bob', 'PC/8086', 1, '', '', 0, '', '');
 INSERT INTO remark VALUES (1, 1, 'bob', 'seen'), (1, 2, 'bob', 'again');
 INSERT INTO receipt VALUES ('bob', 'k1', 1, 2, 0, 0);
 ";
@@ -48,7 +39,7 @@ const DAMAGES: [&str; 15] = [
     "UPDATE account SET rank = 2 WHERE name = 'root'",
     "UPDATE item SET name = '' WHERE path = 'PC/8086'",
     "UPDATE submission SET num = 3 WHERE num = 2; UPDATE receipt SET a = 3",
-    "UPDATE submission SET decider = 'bob' WHERE num = 1",
+    "UPDATE submission SET decider = 'alice' WHERE num = 1",
     "DELETE FROM remark WHERE seq = 1",
     "UPDATE remark SET body = '' WHERE seq = 2",
     "UPDATE receipt SET account = 'root'",
@@ -173,17 +164,17 @@ fn good_databases_pass(rt: HostRuntime) -> Result<(), Fail> {
     }
     for then in ["", "DELETE FROM receipt; DELETE FROM remark"] {
         assert!(rt;
-            judged(alloc, &[FIRST, then])? == Told::Found(Version::One),
+            judged(alloc, &[OLDER, MORE, then])? == Told::Found(Version::One),
             "{then}"
         );
         assert!(rt;
-            judged(alloc, &[FIRST, SECOND, then])? == Told::Found(Version::Two),
+            judged(alloc, &[OLDER, MORE, SECOND, then])? == Told::Found(Version::Two),
             "{then}"
         );
     }
     for then in SECOND_CHANGES {
         assert!(rt;
-            judged(alloc, &[FIRST, SECOND, then])? == Told::Found(Version::Two),
+            judged(alloc, &[OLDER, MORE, SECOND, then])? == Told::Found(Version::Two),
             "{then}"
         );
     }
@@ -195,22 +186,25 @@ fn what_stands_beside_is_borne(rt: HostRuntime) -> Result<(), Fail> {
     let alloc = rt.alloc();
     let wrong = "UPDATE meta SET value = 3 WHERE label = 'items'";
     for (before, between, behind) in BESIDE {
-        let first = judged(alloc, &[before, FIRST, between, behind])?;
+        let first = judged(alloc, &[before, OLDER, MORE, between, behind])?;
         assert!(rt;
             first == Told::Found(Version::One),
             "{before}{between}{behind}"
         );
-        let second = judged(alloc, &[before, FIRST, between, SECOND, behind])?;
+        let second = judged(alloc, &[before, OLDER, MORE, between, SECOND, behind])?;
         assert!(rt;
             second == Told::Found(Version::Two),
             "{before}{between}{behind}"
         );
-        let fault = judged(alloc, &[before, FIRST, between, behind, wrong])?;
+        let fault = judged(alloc, &[before, OLDER, MORE, between, behind, wrong])?;
         assert!(rt;
             fault == Told::Refused(TableFault::Damaged),
             "{before}{between}{behind}"
         );
-        let fault = judged(alloc, &[before, FIRST, between, SECOND, behind, wrong])?;
+        let fault = judged(
+            alloc,
+            &[before, OLDER, MORE, between, SECOND, behind, wrong],
+        )?;
         assert!(rt;
             fault == Told::Refused(TableFault::Damaged),
             "{before}{between}{behind}"
@@ -236,14 +230,20 @@ fn damage_is_found(rt: HostRuntime) -> Result<(), Fail> {
     let alloc = rt.alloc();
     let damaged = Told::Refused(TableFault::Damaged);
     for then in DAMAGES {
-        assert!(rt; judged(alloc, &[FIRST, then])? == damaged, "{then}");
-        assert!(rt; judged(alloc, &[FIRST, SECOND, then])? == damaged, "{then}");
+        assert!(rt; judged(alloc, &[OLDER, MORE, then])? == damaged, "{then}");
+        assert!(rt;
+            judged(alloc, &[OLDER, MORE, SECOND, then])? == damaged,
+            "{then}"
+        );
     }
     for then in FIRST_DAMAGES {
-        assert!(rt; judged(alloc, &[FIRST, then])? == damaged, "{then}");
+        assert!(rt; judged(alloc, &[OLDER, MORE, then])? == damaged, "{then}");
     }
     for then in SECOND_DAMAGES {
-        assert!(rt; judged(alloc, &[FIRST, SECOND, then])? == damaged, "{then}");
+        assert!(rt;
+            judged(alloc, &[OLDER, MORE, SECOND, then])? == damaged,
+            "{then}"
+        );
     }
     let table =
         "CREATE TABLE item_since (path TEXT NOT NULL PRIMARY KEY, since INTEGER NOT NULL) STRICT";
@@ -260,18 +260,21 @@ fn later_schema_is_told_first(rt: HostRuntime) -> Result<(), Fail> {
         "UPDATE meta SET value = 3 WHERE label = 'schema'; DELETE FROM item",
         "UPDATE meta SET value = 3 WHERE label = 'schema'; DROP TABLE receipt",
     ] {
-        assert!(rt; judged(alloc, &[FIRST, then])? == later, "{then}");
-        assert!(rt; judged(alloc, &[FIRST, SECOND, then])? == later, "{then}");
+        assert!(rt; judged(alloc, &[OLDER, MORE, then])? == later, "{then}");
+        assert!(rt;
+            judged(alloc, &[OLDER, MORE, SECOND, then])? == later,
+            "{then}"
+        );
     }
     let then = "UPDATE meta SET value = 3 WHERE label = 'schema'; DROP TABLE item_since";
-    assert!(rt; judged(alloc, &[FIRST, SECOND, then])? == later);
+    assert!(rt; judged(alloc, &[OLDER, MORE, SECOND, then])? == later);
     Ok(())
 }
 
 #[test]
 fn tables_are_moved(rt: HostRuntime) -> Result<(), Fail> {
     let alloc = rt.alloc();
-    for (text, first) in [("", Step::Created), (FIRST, Step::Moved)] {
+    for (text, first) in [("", Step::Created), (OLDER, Step::Moved)] {
         let mut conn = made(alloc, &[text])?;
         assert!(rt; moving(&mut conn, alloc)? == first);
         assert!(rt; checked(&mut conn, alloc)? == Told::Found(Version::Two));
@@ -292,7 +295,7 @@ fn what_has_the_name_is_not_moved(rt: HostRuntime) -> Result<(), Fail> {
             Told::Found(Version::One),
         ),
     ] {
-        let mut conn = made(alloc, &[FIRST, then])?;
+        let mut conn = made(alloc, &[OLDER, MORE, then])?;
         let answer = moving(&mut conn, alloc);
         assert!(rt; answer == Err(TableFault::Damaged), "{then}");
         assert!(rt; checked(&mut conn, alloc)? == before, "{then}");

@@ -1,9 +1,28 @@
-//! What the rows of tests are made of: a command is a line such as `comment alice num=1&text=seen`. No part of the program.
+//! What the rows of tests are made of: a command is a line such as `comment alice num=1&text=seen`. And the statements that make a
+//! registry of schema 1. No part of the program.
 #![tactic(auto)]
 
 use pid_moderation::{Command, Refusal, Verb, command_of};
 use std::alloc::Global;
 use std::test::Fail;
+
+// The statements that make a registry of schema 1 (docs/STORAGE.md): a vendor that alice submitted and root approved.
+pub const OLDER: &str = "\
+CREATE TABLE meta (label TEXT NOT NULL PRIMARY KEY, value INTEGER NOT NULL) STRICT;
+CREATE TABLE account (name TEXT NOT NULL PRIMARY KEY, rank INTEGER NOT NULL CHECK (rank BETWEEN 0 AND 3)) STRICT;
+CREATE TABLE item (path TEXT NOT NULL PRIMARY KEY, name TEXT NOT NULL) STRICT;
+CREATE TABLE submission (num INTEGER NOT NULL PRIMARY KEY, author TEXT NOT NULL REFERENCES account(name),
+    path TEXT NOT NULL, form INTEGER NOT NULL CHECK (form BETWEEN 0 AND 1), name TEXT NOT NULL, note TEXT NOT NULL,
+    state INTEGER NOT NULL CHECK (state BETWEEN 0 AND 3), decider TEXT NOT NULL, reason TEXT NOT NULL) STRICT;
+CREATE TABLE remark (num INTEGER NOT NULL REFERENCES submission(num), seq INTEGER NOT NULL,
+    author TEXT NOT NULL REFERENCES account(name), body TEXT NOT NULL, PRIMARY KEY (num, seq)) STRICT;
+CREATE TABLE receipt (account TEXT NOT NULL REFERENCES account(name), token TEXT NOT NULL, kind INTEGER NOT NULL,
+    a INTEGER NOT NULL, b INTEGER NOT NULL, c INTEGER NOT NULL, PRIMARY KEY (account, token)) STRICT;
+INSERT INTO meta VALUES ('schema', 1), ('items', 1), ('submissions', 1);
+INSERT INTO account VALUES ('alice', 0), ('root', 3);
+INSERT INTO item VALUES ('PC/8086', 'Intel Corporation');
+INSERT INTO submission VALUES (1, 'alice', 'PC/8086', 0, 'Intel Corporation', '', 1, 'root', '');
+";
 
 // The text that a word stands for: `*N` is N times `a`.
 pub fn text_of(alloc: Global, word: &str) -> Result<String, Fail> {
