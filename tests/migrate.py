@@ -1,10 +1,15 @@
-"""Files of schema 1, written by the real sqlite3, and what becomes of them: by the word for it, by any other, and where the disk or memory stops."""
+"""Files of schema 1, written by the real sqlite3, and what becomes of them: by the word for it, by any other, and where the disk or memory stops.
+And registries of both schemas beside other tables, and with their own in another order."""
+import itertools
 import os
+import random
 import shutil
 import subprocess
 import tempfile
+from urllib.parse import quote_plus
 
-from http_server import JSON, TEXT, Server, refusal
+import old_registry
+from http_server import JSON, TEXT, Server, refusal, reply
 from program import HEADER, WHOLE
 from registry import asked, script, texts_of_schema, work
 from stops import ROOM
@@ -25,15 +30,21 @@ BEFORE = "items|1\nschema|1\nsubmissions|1\nalice|0\nroot|3\nPC/8086|Intel Corpo
 AFTER = BEFORE.replace("schema|1", "revision|0\nschema|2")
 
 
-def old_texts():
-    """Those of schema 1: all of schema 2 but the table that came with it."""
-    return [text for text in texts_of_schema() if "TABLE item_since " not in text]
+TABLES = ["meta", "account", "item", "submission", "remark", "receipt", "item_since"]
+
+
+def texts_in_order():
+    """Those of schema 2, in the order in which the program makes its tables: what is referred to stands first. Those of schema 1 are all but the last."""
+    return sorted(texts_of_schema(), key=lambda text: TABLES.index(text.split()[2]))
 
 
 def old_file(path, more=""):
-    # In the order in which the program of schema 1 made them: what is referred to stands first.
-    texts = sorted(old_texts(), key=lambda text: ["meta", "account", "item", "submission", "remark", "receipt"].index(text.split()[2]))
-    return asked(path, ";".join(texts) + ";" + ROWS + more)
+    return asked(path, ";".join(texts_in_order()[:6]) + ";" + ROWS + more)
+
+
+def written(path, sql):
+    """What the real sqlite3 says to these statements."""
+    return subprocess.run(["sqlite3", path], input=sql.encode(), stdout=subprocess.PIPE, stderr=subprocess.STDOUT, timeout=120).stdout.decode()
 
 
 def migrate(path):
@@ -109,13 +120,189 @@ def called_later(cases, folder):
     cases.equal("schema 1, called 2", (migrate(path), script(path)), (ALREADY, (b"", b"open: Damaged\n", 3)))
 
 
-def beside(cases, folder):
-    """Tables of other names stay beside."""
-    path = os.path.join(folder, "beside.db")
-    old_file(path, "CREATE TABLE mine (x); INSERT INTO mine VALUES (7); CREATE INDEX by_name ON item(name); CREATE VIEW names AS SELECT name FROM item")
-    cases.equal("schema 1 with a table, an index and a view beside", migrate(path), MOVED)
-    cases.equal("they are still there", asked(path, "SELECT * FROM mine; SELECT * FROM names; PRAGMA integrity_check"), "7\nIntel Corporation\nok\n")
-    cases.equal("and its rows", asked(path, DUMP), AFTER)
+# What stands beside a registry's tables: made before them, in between and behind.
+MINE = "CREATE TABLE mine (x TEXT PRIMARY KEY, y); INSERT INTO mine VALUES ('a', 1), ('b', NULL); CREATE INDEX by_y ON mine(y);"
+COUNTED = "CREATE TABLE counted (n INTEGER PRIMARY KEY AUTOINCREMENT); INSERT INTO counted VALUES (7); CREATE VIEW ours AS SELECT x FROM mine;"
+INDEXED = "CREATE INDEX by_name ON item(name); CREATE VIEW names AS SELECT path, name FROM item; CREATE TABLE behind (z BLOB); INSERT INTO behind VALUES (x'00ff');"
+FOREIGN = "SELECT * FROM mine; SELECT * FROM counted; SELECT * FROM ours; SELECT hex(z) FROM behind; SELECT count(*) FROM names EXCEPT SELECT count(*) FROM item"
+FOREIGN_ROWS = "a|1\nb|\n7\na\nb\n00FF\n"
+SOUND = "PRAGMA integrity_check; PRAGMA foreign_key_check"
+
+
+def rows_of(path):
+    """The rows of the seven tables, each in the order of its keys."""
+    keys = ["label", "name", "path", "num", "num, seq", "account, token", "path"]
+    return {table: asked(path, f"SELECT * FROM {table} ORDER BY {key}") for table, key in zip(TABLES, keys)}
+
+
+def rows_written(registry):
+    """The same of what was written, with the rows that the move of schema 1 adds."""
+    rows = {table: "".join("|".join(map(str, row)) + "\n" for row in sorted(those)) for table, those in registry.tables().items()}
+    counts = f"items|{len(registry.items)}\nrevision|0\nschema|2\nsubmissions|{len(registry.submissions)}\n"
+    return {**rows, "meta": counts, "item_since": "".join(f"{path}|0\n" for path in sorted(registry.items))}
+
+
+def read_back(cases, name, path, registry):
+    """What lines say of each row, of which none changes anything: a rank that somebody has, a name, whether a submission is pending, a kept reply."""
+    lines = [(f"account {'gina' if who == 'root' else 'root'} who={who}&rank={rank}", "refused 13 NothingToDo") for who, rank in registry.accounts.items()]
+    lines += [(f"read path={path}", f"name {name}") for path, name in registry.items.items()]
+    lines += [(f"approve alice num={it[0]}", "refused 5 RankTooLow" if it[6] == old_registry.PENDING else "refused 8 NotPending") for it in registry.submissions]
+    for (who, key), (kind, *told) in registry.receipts.items():
+        kept = ["ok", f"ok {told[0]}", "ok added=%d renamed=%d same=%d" % tuple(told)][kind]
+        lines.append((f"comment {who} num=600&text=again&key={quote_plus(key)}", kept))
+    wanted = "".join(said + "\n" for _, said in lines).encode() + old_registry.canonical(registry.items)
+    cases.equal(f"{name}: read by lines", script(path, *(line for line, _ in lines), "export"), (wanted, b"", 0))
+
+
+def asked_back(cases, name, path, registry):
+    """What the server tells of each submission with its remarks, and that nothing has changed."""
+    asks = b"".join(b"GET /submission/%d?format=text HTTP/1.1\r\n\r\n" % it[0] for it in registry.submissions)
+    with Server(path, program=WHOLE) as server:
+        told = b"".join(reply("200 OK", TEXT, registry.discussion(it)) for it in registry.submissions)
+        cases.equal(f"{name}: asked for each submission", server.raw(asks), told)
+        cases.equal(f"{name}: asked what has changed", server.curl("/changes"), (200, JSON, b'{"items":[],"revision":0}'))
+
+
+def commands(number):
+    """Commands of each kind behind so many submissions, each with its reply, on accounts and paths that no registry of these tests has."""
+    return [
+        ("account root who=ann&rank=0", "ok"),
+        ("account root who=ben&rank=2&key=rank", "ok"),
+        ("import ben file=f000++Intel%0A%091237++440FX%0Af001++Realtek&key=file", "ok added=3 renamed=0 same=0"),
+        ("submit ann path=PC/f000&name=Intel+Corporation&note=their+own&key=first", f"ok {number + 1}"),
+        ("submit ann path=PC/f001&remove=yes", f"ok {number + 2}"),
+        ("submit ann path=PC/f002&name=Red+Hat", f"ok {number + 3}"),
+        ("submit ann path=PC/f003&name=Red+Hat", f"ok {number + 4}"),
+        ("submit ann path=PC/f000/7000&name=82371SB", f"ok {number + 5}"),
+        (f"comment ben num={number + 2}&text=gone?", "ok"),
+        (f"comment ann num={number + 2}&text=yes", "ok"),
+        (f"approve ben num={number + 1}", "ok"),
+        (f"approve ben num={number + 2}&key=gone", "ok"),
+        (f"reject ben num={number + 3}&reason=whose?", "ok"),
+        (f"withdraw ann num={number + 4}", "ok"),
+        ("import ben file=f000++Intel+Corporation%0A%091237++82441FX", "ok added=0 renamed=1 same=1"),
+    ]
+
+
+def repeats(number):
+    """The same under their keys, which do nothing, and two lines that are judged by what the first ones did."""
+    return [
+        ("comment root num=1&text=x&key=rank", "ok"),
+        ("comment ben num=1&text=x&key=file", "ok added=3 renamed=0 same=0"),
+        ("comment ben num=1&text=x&key=gone", "ok"),
+        ("submit ann path=PC/f004&name=X&key=first", f"ok {number + 1}"),
+        (f"approve ann num={number + 4}", "refused 8 NotPending"),
+        (f"approve ann num={number + 5}", "refused 5 RankTooLow"),
+    ]
+
+
+# The rows that they lead to in a new registry.
+WORKED = {
+    "meta": "items|2\nrevision|15\nschema|2\nsubmissions|5\n",
+    "account": "ann|0\nben|2\nroot|3\n",
+    "item": "PC/f000|Intel Corporation\nPC/f000/1237|82441FX\n",
+    "submission": "1|ann|PC/f000|0|Intel Corporation|their own|1|ben|\n2|ann|PC/f001|1|||1|ben|\n3|ann|PC/f002|0|Red Hat||2|ben|whose?\n"
+    "4|ann|PC/f003|0|Red Hat||3|ann|\n5|ann|PC/f000/7000|0|82371SB||0||\n",
+    "remark": "2|1|ben|gone?\n2|2|ann|yes\n",
+    "receipt": "ann|first|1|1|0|0\nben|file|2|3|0|0\nben|gone|0|0|0|0\nroot|rank|0|0|0|0\n",
+    "item_since": "PC/f000|11\nPC/f000/1237|15\n",
+}
+WORKED_TEXT = HEADER + b"f000  Intel Corporation\n\t1237  82441FX\n"
+
+
+def obeys(cases, name, path, number=0):
+    """The commands get their replies, and opened again the registry knows them."""
+    for lines in (commands(number), repeats(number)):
+        told = "".join(said + "\n" for _, said in lines).encode()
+        cases.equal(f"{name}: commands", script(path, *(line for line, _ in lines)), (told, b"", 0))
+
+
+def changes_told(cases, name, path, revision=15):
+    with Server(path, program=WHOLE) as server:
+        told = f"revision {revision}\n11 PC/f000 Intel Corporation\n15 PC/f000/1237 82441FX\n"
+        cases.equal(f"{name}: what changed", server.curl("/changes?format=text"), (200, TEXT, told.encode()))
+        cases.equal(f"{name}: what changed last", server.curl("/changes?format=text&since=11&after=PC/f000"), (200, TEXT, b"revision 15\n15 PC/f000/1237 82441FX\n"))
+
+
+def of_users(cases, folder):
+    """A file of schema 1 as users have them, alone and with others' tables before, between and behind, moved by its word and by the next opening."""
+    registry = old_registry.made()
+    plain, mixed, fresh = (os.path.join(folder, f"{name}.db") for name in ("plain", "mixed", "fresh"))
+    texts, inserts = [text + ";" for text in texts_in_order()[:6]], "BEGIN;" + "".join(registry.inserts()) + "COMMIT;"
+    cases.equal("users: written", written(plain, "".join(texts) + inserts), "")
+    cases.equal("users: written beside", written(mixed, MINE + "".join(texts[:3]) + COUNTED + "".join(texts[3:]) + INDEXED + inserts), "")
+    rows = rows_written(registry)
+    told = "".join(said + "\n" for _, said in registry.lines).encode()
+    cases.equal("users: the commands that lead there", script(fresh, *(line for line, _ in registry.lines)), (told, b"", 0))
+    cases.equal("users: the same rows", {**rows_of(fresh), "meta": "", "item_since": ""}, {**rows, "meta": "", "item_since": ""})
+    after = {}
+    for name, file, is_moved_alone in (("migrate", plain, True), ("open", plain, False), ("migrate beside", mixed, True), ("open beside", mixed, False)):
+        path = os.path.join(folder, "moved.db")
+        for end in ("-wal", ""):
+            if os.path.exists(path + end):
+                os.remove(path + end)
+        shutil.copy(file, path)
+        if is_moved_alone:
+            cases.equal(f"users: {name}", (migrate(path), migrate(path), migrate(path)), (MOVED, ALREADY, ALREADY))
+            cases.equal(f"users: {name}: the rows", rows_of(path), rows)
+        read_back(cases, f"users: {name}", path, registry)
+        cases.equal(f"users: {name}: the rows behind", (rows_of(path), migrate(path)), (rows, ALREADY))
+        if is_moved_alone:
+            asked_back(cases, f"users: {name}", path, registry)
+        obeys(cases, f"users: {name}", path, len(registry.submissions))
+        changes_told(cases, f"users: {name}", path)
+        after[name] = rows_of(path)
+        cases.equal(f"users: {name}: integrity", asked(path, SOUND), "ok\n")
+        if file == mixed:
+            cases.equal(f"users: {name}: what stood there", asked(path, FOREIGN), FOREIGN_ROWS)
+    for table in TABLES:
+        cases.equal(f"users: the same rows of {table} however it was moved", [rows[table] for rows in after.values()], [after["migrate"][table]] * 4)
+
+
+def new_beside(cases, folder):
+    """A new registry, made beside the tables of somebody else, or met by them later."""
+    for name, making in (("migrate", lambda path: migrate(path) == CREATED), ("script", lambda path: script(path) == (b"", b"", 0)), ("export", lambda path: work(b"", "export", "--db", path) == (HEADER, b"", 0))):
+        path = os.path.join(folder, f"beside-{name}.db")
+        cases.equal(f"made beside by {name}", (asked(path, MINE + COUNTED), making(path)), ("", True))
+        rows = {**dict.fromkeys(TABLES, ""), "meta": "items|0\nrevision|0\nschema|2\nsubmissions|0\n", "account": "root|3\n"}
+        cases.equal(f"made beside by {name}: root alone", rows_of(path), rows)
+        cases.equal(f"made beside by {name}: and met by more", (asked(path, INDEXED), migrate(path)), ("", ALREADY))
+        obeys(cases, f"made beside by {name}", path)
+        cases.equal(f"made beside by {name}: the rows", rows_of(path), WORKED)
+        changes_told(cases, f"made beside by {name}", path)
+        cases.equal(f"made beside by {name}: its text", work(b"", "export", "--db", path), (WORKED_TEXT, b"", 0))
+        cases.equal(f"made beside by {name}: what stood there", (asked(path, FOREIGN), asked(path, SOUND)), (FOREIGN_ROWS, "ok\n"))
+
+
+def orders():
+    """Orders of the seven tables: the usual one, each with two swapped, and some of all, from a fixed seed."""
+    yield [*range(7)]
+    for one, other in itertools.combinations(range(7), 2):
+        yield [{one: other, other: one}.get(at, at) for at in range(7)]
+    chance = random.Random(14)
+    for _ in range(12):
+        yield chance.sample(range(7), 7)
+
+
+def other_orders(cases, folder):
+    """Registries of both schemas whose own tables were made in another order, some with others' in between: they open, obey and are exported as ever."""
+    texts = [text + ";" for text in texts_in_order()]
+    for number, order in enumerate(orders()):
+        for schema in (1, 2):
+            path, named = os.path.join(folder, f"order-{schema}-{number}.db"), f"schema {schema} in the order {order}"
+            made = [texts[at] for at in order if at < 6 or schema == 2]
+            rows = f"INSERT INTO meta VALUES ('schema', {schema}), ('items', 0), ('submissions', 0); INSERT INTO account VALUES ('root', 3);"
+            if schema == 2:
+                rows += "INSERT INTO meta VALUES ('revision', 0);"
+            is_mixed = number % 2 == 1
+            if is_mixed:
+                made.insert(number % 6, MINE)
+                made += [COUNTED, INDEXED]
+            cases.equal(f"{named}: written", asked(path, "".join(made) + rows), "")
+            obeys(cases, named, path)
+            cases.equal(f"{named}: the rows", rows_of(path), WORKED)
+            cases.equal(f"{named}: its text", work(b"", "export", "--db", path), (WORKED_TEXT, b"", 0))
+            cases.equal(f"{named}: what stood there", asked(path, SOUND + (";" + FOREIGN if is_mixed else "")), "ok\n" + (FOREIGN_ROWS if is_mixed else ""))
 
 
 def stopped(cases, shim, name, step):
@@ -156,7 +343,10 @@ def run(cases):
         by_other_words(cases, folder)
         not_taken_over(cases, folder)
         called_later(cases, folder)
-        beside(cases, folder)
+        new_beside(cases, folder)
+        with tempfile.TemporaryDirectory(dir=ROOM) as room:
+            of_users(cases, room)
+            other_orders(cases, room)
         for name, step, least in (("refuse_disk", 1, 10), ("refuse_malloc", 11, 20)):
             shim = os.path.join(folder, f"{name}.so")
             source = os.path.join(os.path.dirname(os.path.abspath(__file__)), f"{name}.c")
