@@ -2,6 +2,7 @@
 import fcntl
 import os
 import shutil
+import socket
 import subprocess
 import tempfile
 import threading
@@ -15,9 +16,7 @@ from registry import script
 
 MIRROR = os.path.join(TOP, "deploy", "mirror.sh")
 
-# nginx keeps the file for this many seconds, and nothing else: at the first port it goes by what a request says of that, at the second not.
-KEPT = 2
-
+# nginx keeps the file, and nothing else: at the first port it goes by what a request says of that, at the second not.
 CACHES = """worker_processes 1; daemon off; user root; pid {folder}/pid; error_log {folder}/errors;
 events {{ worker_connections 64; }}
 http {{
@@ -28,13 +27,13 @@ http {{
         listen 127.0.0.1:{good};
         location / {{ proxy_pass http://127.0.0.1:{behind}; }}
         location = /pci.ids {{
-            proxy_pass http://127.0.0.1:{behind}; proxy_cache good; proxy_cache_valid 200 {kept}s; proxy_cache_bypass $http_cache_control;
+            proxy_pass http://127.0.0.1:{behind}; proxy_cache good; proxy_cache_valid 200 1h; proxy_cache_bypass $http_cache_control;
         }}
     }}
     server {{
         listen 127.0.0.1:{deaf};
         location / {{ proxy_pass http://127.0.0.1:{behind}; }}
-        location = /pci.ids {{ proxy_pass http://127.0.0.1:{behind}; proxy_cache deaf; proxy_cache_valid 200 {kept}s; }}
+        location = /pci.ids {{ proxy_pass http://127.0.0.1:{behind}; proxy_cache deaf; proxy_cache_valid 200 1h; }}
     }}
 }}
 """
@@ -254,16 +253,31 @@ def tools_failing(cases, server, cache, folder):
     cases.equal("mirror: with all tools", (told[0].count(b"\n"), *told[1:]), (150, b"", 0, text_of(server), revision_of(server)))
 
 
+def emptied(folder):
+    """What an nginx keeps there is gone, as if its time were over."""
+    for top, _, names in os.walk(folder):
+        for name in names:
+            os.remove(os.path.join(top, name))
+
+
+def is_listening(port):
+    with socket.socket() as knock:
+        return knock.connect_ex(("127.0.0.1", port)) == 0
+
+
 def behind_nginx(cases, server, folder):
     places, config = [os.path.join(folder, name) for name in ("one", "two")], os.path.join(folder, "nginx.conf")
     good, deaf = free_port(), free_port()
     for place in places:
         os.mkdir(place)
     with open(config, "w", encoding="utf-8") as file:
-        file.write(CACHES.format(folder=folder, good=good, deaf=deaf, behind=server.port, kept=KEPT))
+        file.write(CACHES.format(folder=folder, good=good, deaf=deaf, behind=server.port))
     nginx = subprocess.Popen(["nginx", "-c", config, "-p", folder, "-e", os.path.join(folder, "errors")], stderr=subprocess.DEVNULL)
     try:
-        time.sleep(0.5)
+        for _ in range(200):
+            if is_listening(good) and is_listening(deaf):
+                break
+            time.sleep(0.05)
         first, number = text_of(server), revision_of(server)
         cases.equal("nginx: the first copy", mirrored(good, places[0])[2:], (0, first, number))
         cases.equal("deaf nginx: the first copy", mirrored(deaf, places[1])[2:], (0, first, number))
@@ -274,7 +288,7 @@ def behind_nginx(cases, server, folder):
         told = revision_of(server)[:-1] + b" PC/ffff New\n"
         cases.equal("nginx: a change", mirrored(good, places[0]), (told, b"", 0, text_of(server), revision_of(server)))
         cases.equal("deaf nginx: the text is an older one", mirrored(deaf, places[1]), (b"", LATE, 1, first, number))
-        time.sleep(KEPT + 1)
+        emptied(os.path.join(folder, "deaf"))
         cases.equal("deaf nginx: a later run has it", mirrored(deaf, places[1]), (told, b"", 0, text_of(server), revision_of(server)))
     finally:
         nginx.terminate()
