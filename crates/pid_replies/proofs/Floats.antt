@@ -2,8 +2,7 @@
 use Rattle.std.proofs.Common.{◌≡◌, false, ℕ, List, [], ◌∷◌, map, refl, Result, Ok, Err}
 use Rattle.serde_json.specs.Data.{Data}
 use Rattle.serde_json.specs.View.{items_of}
-use Rattle.serde_json.specs.Written.{has_float, items_have_float}
-use Rattle.pid_moderation.specs.Views.{Remark}
+use Rattle.serde_json.specs.Written.{has_float, items_have_float, members_have_float}
 use Rattle.pid_moderation.specs.declared.command.Proposal.{Proposal}
 use Rattle.pid_moderation.specs.declared.command.Proposal.TheVariants.{Name, Removal}
 use Rattle.pid_moderation.specs.declared.command.Reply.{Reply}
@@ -16,7 +15,7 @@ use Rattle.pid_table_lists.specs.ChangePages.{ChangePage}
 use Rattle.pid_replies.specs.ChangeAnswers.{changed_data, changes_data}
 use Rattle.pid_replies.specs.Outcomes.{outcome_data}
 use Rattle.pid_replies.specs.PendingAnswers.{pending_data, proposed_data}
-use Rattle.pid_replies.specs.SubmissionAnswers.{remark_data, remarks_data, submission_data}
+use Rattle.pid_replies.specs.SubmissionParts.{standing_members}
 
 -- an array whose items have none has none
 pub items_have_none : {A : Type 0} (f : A → Data) (none : (x : A) → has_float (f x) ≡ false) (xs : List A) → items_have_float (items_of (map f xs)) ≡ false
@@ -38,11 +37,8 @@ proposed_has_none Removal = refl
 pub pending_has_none : (s : ℕ × Standing) → has_float (pending_data s) ≡ false
 pending_has_none s = rw (proposed_has_none s.1.submitted.proposal) refl
 
-pub remarks_have_none : (remarks : List Remark) → has_float (remarks_data remarks) ≡ false
-remarks_have_none remarks = items_have_none remark_data (λ r. refl) remarks
-
-pub submission_has_none : (n : ℕ) (s : Standing × List Remark) → has_float (submission_data n s) ≡ false
-submission_has_none n s = rw (proposed_has_none s.0.submitted.proposal, remarks_have_none s.1) refl
+pub standing_has_none : (n : ℕ) (s : Standing) → members_have_float (standing_members n s) ≡ false
+standing_has_none n s = rw (proposed_has_none s.submitted.proposal) refl
 
 pub changes_have_none : (page : ChangePage) → has_float (changes_data page) ≡ false
 changes_have_none page = rw (items_have_none changed_data (λ i. refl) page.items) refl

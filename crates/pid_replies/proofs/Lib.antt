@@ -1,2 +1,4 @@
 pub mod Floats
+pub mod ListTexts
+pub mod ObjectTexts
 mod Rows

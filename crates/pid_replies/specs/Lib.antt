@@ -5,5 +5,6 @@ pub mod ItemAnswers
 pub mod PendingAnswers
 pub mod ChangeAnswers
 pub mod SubmissionAnswers
+pub mod SubmissionParts
 pub mod LookUpAnswers
 pub mod EarlyAnswers

@@ -4,10 +4,12 @@ ghost use Rattle.std.specs.List.{flat_map};
 ghost use Rattle.pid_ident.specs.PathTexts.{path_text};
 ghost use Rattle.pid_rows.specs.ItemPairs.{pair_of};
 ghost use Rattle.serde_json.specs.View.{view};
+ghost use Rattle.serde_json.specs.Written.{comma_if, compact_text};
 ghost use Rattle.pid_replies.specs.ItemAnswers.{item_answer, item_data, item_line, items_answer, items_data};
 ghost use Rattle.pid_replies.specs.Replying.{IsReplyOf};
 
-use crate::reply::{array_value, json_reply, text_reply};
+use crate::list::push_row;
+use crate::reply::{json_reply, json_text_reply, text_reply};
 use crate::text::push_line;
 use pid_http_stream::{Reply, Status};
 use pid_ident::{Name, Path};
@@ -45,23 +47,29 @@ pub fn item_reply(
     }
 }
 
-// The values of items, in their order.
-fn item_values(alloc: Global, items: &[Item]) -> Result<Vec<Value>, AllocError>
-    ensures { IfOk result (λ values. map view values.items ≡ map item_data (map pair_of items.now)) }
+fn push_item_row(
+    alloc: Global,
+    text: &mut String,
+    later: bool,
+    item: &Item,
+) -> Result<(), AllocError>
+    ensures { OnOk result (string_bytes text.new ≡ string_bytes text.old ++ comma_if later ++ compact_text (item_data (pair_of item.now))) }
 {
-    let mut values = Vec::new(alloc);
-    for item in items {
-        let value = item_value(alloc, &item.path, &item.name)?;
-        values.push(value)?;
-    }
-    Ok(values)
+    let row = item_value(alloc, &item.path, &item.name)?;
+    push_row(alloc, text, later, row)
 }
 
-fn items_value(alloc: Global, items: &[Item]) -> Result<Value, AllocError>
-    ensures { IfOk result (λ value. view value ≡ items_data (map pair_of items.now)) }
+fn items_json(alloc: Global, items: &[Item]) -> Result<String, AllocError>
+    ensures { IfOk result (λ text. string_bytes text ≡ compact_text (items_data (map pair_of items.now))) }
 {
-    let values = item_values(alloc, items)?;
-    Ok(array_value(values))
+    let mut text = String::from_str(alloc, "[")?;
+    let mut later = false;
+    for item in items {
+        push_item_row(alloc, &mut text, later, item)?;
+        later = true;
+    }
+    text.push_str("]")?;
+    Ok(text)
 }
 
 fn push_item(alloc: Global, text: &mut String, item: &Item) -> Result<(), AllocError>
@@ -87,8 +95,8 @@ pub fn items_reply(alloc: Global, format: Format, items: &[Item]) -> Result<Repl
 {
     match format {
         Format::Json => {
-            let value = items_value(alloc, items)?;
-            json_reply(alloc, Status::Okay, value)
+            let text = items_json(alloc, items)?;
+            Ok(json_text_reply(Status::Okay, text))
         }
         Format::Text => {
             let text = items_text(alloc, items)?;

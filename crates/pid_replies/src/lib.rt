@@ -7,6 +7,7 @@
 mod changes;
 mod early;
 mod items;
+mod list;
 mod look_up;
 mod outcome;
 mod pending;

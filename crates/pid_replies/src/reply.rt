@@ -27,13 +27,20 @@ pub(crate) fn text_reply(status: Status, text: String) -> Reply
     reply_with(status, Content::Text, text.into_bytes())
 }
 
+/// The reply with a text that is JSON.
+pub(crate) fn json_text_reply(status: Status, text: String) -> Reply
+    ensures { IsReplyOf result (answer_with status Content.Json (string_bytes text)) }
+{
+    reply_with(status, Content::Json, text.into_bytes())
+}
+
 /// The reply with a value as compact JSON.
 pub(crate) fn json_reply(alloc: Global, status: Status, value: Value) -> Result<Reply, AllocError>
     ensures { (json : Data) → view value ≡ json → has_float json ≡ false
         → IfOk result (λ reply. IsReplyOf reply (answer_with status Content.Json (compact_text json))) }
 {
     let text = value.to_string(alloc)?;
-    Ok(reply_with(status, Content::Json, text.into_bytes()))
+    Ok(json_text_reply(status, text))
 }
 
 /// The values as one array.

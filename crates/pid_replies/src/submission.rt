@@ -1,16 +1,20 @@
 //! The reply with a submission.
-ghost use Rattle.std.specs.Prelude.{◌≡◌, ◌++◌, map, string_bytes, IfOk, OnOk};
+ghost use Rattle.std.specs.Prelude.{◌≡◌, ◌++◌, codes, map, string_bytes, IfOk, OnOk};
 ghost use Rattle.std.specs.List.{flat_map};
 ghost use Rattle.pid_rows.specs.Comments.{remark_of};
 ghost use Rattle.pid_rows.specs.TableRows.{decider_of, reason_of};
 ghost use Rattle.pid_table_lists.specs.Discussions.{shown_of};
+ghost use Rattle.serde_json.specs.Data.{object, string};
 ghost use Rattle.serde_json.specs.View.{view};
+ghost use Rattle.serde_json.specs.Written.{comma_if, compact_text};
 ghost use Rattle.pid_rows.specs.Standings.{standing_of};
 ghost use Rattle.pid_replies.specs.Replying.{IsReplyOf};
 ghost use Rattle.pid_replies.specs.SubmissionAnswers.{proposal_line, remark_data, remark_line, remarks_data, standing_text, state_word, submission_answer, submission_data};
+ghost use Rattle.pid_replies.specs.SubmissionParts.{standing_members};
 
+use crate::list::push_row;
 use crate::pending::proposed_value;
-use crate::reply::{array_value, json_reply, text_reply};
+use crate::reply::{json_text_reply, text_reply};
 use crate::text::push_line;
 use itoa::Buffer;
 use pid_http_stream::{Reply, Status};
@@ -59,36 +63,37 @@ fn remark_value(alloc: Global, remark: &Comment) -> Result<Value, AllocError>
     json!(in alloc; {"author": remark.author.as_str(), "text": remark.text.as_str()})
 }
 
-// The values of remarks, in their order.
-fn remark_values(alloc: Global, remarks: &[Comment]) -> Result<Vec<Value>, AllocError>
-    ensures { IfOk result (λ values. map view values.items ≡ map remark_data (map remark_of remarks.now)) }
-{
-    let mut values = Vec::new(alloc);
-    for remark in remarks {
-        let value = remark_value(alloc, remark)?;
-        values.push(value)?;
-    }
-    Ok(values)
-}
-
-fn remarks_value(alloc: Global, remarks: &[Comment]) -> Result<Value, AllocError>
-    ensures { IfOk result (λ value. view value ≡ remarks_data (map remark_of remarks.now)) }
-{
-    let values = remark_values(alloc, remarks)?;
-    Ok(array_value(values))
-}
-
-fn submission_value(
+fn push_remark_row(
     alloc: Global,
-    number: u32,
-    discussion: &Discussion,
-) -> Result<Value, AllocError>
-    ensures { IfOk result (λ value. view value ≡ submission_data number (shown_of discussion.now)) }
+    text: &mut String,
+    later: bool,
+    remark: &Comment,
+) -> Result<(), AllocError>
+    ensures { OnOk result (string_bytes text.new ≡ string_bytes text.old ++ comma_if later ++ compact_text (remark_data (remark_of remark.now))) }
 {
-    let submission = &discussion.submission;
+    let row = remark_value(alloc, remark)?;
+    push_row(alloc, text, later, row)
+}
+
+fn push_remark_list(alloc: Global, text: &mut String, remarks: &[Comment]) -> Result<(), AllocError>
+    ensures { OnOk result (string_bytes text.new ≡ string_bytes text.old ++ compact_text (remarks_data (map remark_of remarks.now))) }
+{
+    text.push_str("[")?;
+    let mut later = false;
+    for remark in remarks {
+        push_remark_row(alloc, text, later, remark)?;
+        later = true;
+    }
+    text.push_str("]")?;
+    Ok(())
+}
+
+// What stands before the remarks, as an object.
+fn standing_value(alloc: Global, number: u32, submission: &Submission) -> Result<Value, AllocError>
+    ensures { IfOk result (λ value. view value ≡ object (standing_members number (standing_of submission.now))) }
+{
     let name = proposed_value(alloc, &submission.proposal)?;
     let path = submission.path.path_text(alloc)?;
-    let remarks = remarks_value(alloc, discussion.remarks.as_slice())?;
     json!(in alloc; {
         "author": submission.author.as_str(),
         "decider": decider(submission),
@@ -96,10 +101,42 @@ fn submission_value(
         "note": submission.note.as_str(),
         "num": number,
         "path": path.as_str(),
-        "reason": reason(&submission.state),
-        "remarks": remarks,
-        "state": state_name(&submission.state)
+        "reason": reason(&submission.state)
     })
+}
+
+// The same as text, but for the closing brace: more follows.
+fn standing_json(alloc: Global, number: u32, submission: &Submission) -> Result<String, AllocError>
+    ensures { IfOk result (λ text. string_bytes text ++ codes "}" ≡ compact_text (object (standing_members number (standing_of submission.now)))) }
+{
+    let value = standing_value(alloc, number, submission)?;
+    let mut text = value.to_string(alloc)?;
+    text.pop();
+    Ok(text)
+}
+
+fn state_json(alloc: Global, state: &State) -> Result<String, AllocError>
+    ensures { IfOk result (λ text. string_bytes text ≡ compact_text (string (state_word state.now))) }
+{
+    let value = json!(in alloc; state_name(state))?;
+    value.to_string(alloc)
+}
+
+fn submission_json(
+    alloc: Global,
+    number: u32,
+    discussion: &Discussion,
+) -> Result<String, AllocError>
+    ensures { IfOk result (λ text. string_bytes text ≡ compact_text (submission_data number (shown_of discussion.now))) }
+{
+    let state = state_json(alloc, &discussion.submission.state)?;
+    let mut text = standing_json(alloc, number, &discussion.submission)?;
+    text.push_str(",\"remarks\":")?;
+    push_remark_list(alloc, &mut text, discussion.remarks.as_slice())?;
+    text.push_str(",\"state\":")?;
+    text.push_str(state.as_str())?;
+    text.push_str("}")?;
+    Ok(text)
 }
 
 fn push_proposal_line(text: &mut String, proposal: &Proposal) -> Result<(), AllocError>
@@ -159,8 +196,8 @@ pub fn submission_reply(
 {
     match format {
         Format::Json => {
-            let value = submission_value(alloc, number, discussion)?;
-            json_reply(alloc, Status::Okay, value)
+            let text = submission_json(alloc, number, discussion)?;
+            Ok(json_text_reply(Status::Okay, text))
         }
         Format::Text => {
             let mut text = standing_lines(alloc, number, &discussion.submission)?;

@@ -32,6 +32,13 @@ fn intel(alloc: Global, proposal: Proposal, state: State) -> Result<Submission, 
     })
 }
 
+fn remark(alloc: Global, author: &str, text: &str) -> Result<Comment, Fail> {
+    Ok(Comment {
+        author: Account::of(alloc, author)?,
+        text: Text::of(alloc, text)?,
+    })
+}
+
 #[test]
 fn outcomes(rt: HostRuntime) -> Result<(), Fail> {
     let alloc = rt.alloc();
@@ -116,14 +123,26 @@ fn items(rt: HostRuntime) -> Result<(), Fail> {
         r#"{"name":"Intel","path":"PC/8086"}"#,
     );
     let name = Name::of(alloc, "Intel Corporation")?;
-    let list = vec![in alloc; Item { path, name }]?;
+    let other = Item {
+        path: Path::Vendor { vendor: 0x10ec },
+        name: Name::of(alloc, "Realtek")?,
+    };
+    let list = vec![in alloc; other, Item { path, name }]?;
+    let all = items_reply(alloc, Format::Json, list.as_slice())?;
+    expect(
+        &rt,
+        &all,
+        Status::Okay,
+        Content::Json,
+        r#"[{"name":"Realtek","path":"PC/10ec"},{"name":"Intel Corporation","path":"PC/8086"}]"#,
+    );
     let all = items_reply(alloc, Format::Text, list.as_slice())?;
     expect(
         &rt,
         &all,
         Status::Okay,
         Content::Text,
-        "PC/8086 Intel Corporation\n",
+        "PC/10ec Realtek\nPC/8086 Intel Corporation\n",
     );
     let none = items_reply(alloc, Format::Json, &[])?;
     expect(&rt, &none, Status::Okay, Content::Json, "[]");
@@ -147,19 +166,28 @@ fn submissions(rt: HostRuntime) -> Result<(), Fail> {
         Content::Json,
         r#"{"author":"alice","decider":"root","name":"Intel Corporation","note":"","num":1,"path":"PC/8086","reason":"","remarks":[],"state":"approved"}"#,
     );
-    let author = Account::of(alloc, "alice")?;
-    let text = Text::of(alloc, "seen")?;
     let remarked = Discussion {
         submission: intel(alloc, Proposal::Removal, State::Withdrawn)?,
-        remarks: vec![in alloc; Comment { author, text }]?,
+        remarks: vec![in alloc;
+            remark(alloc, "alice", "seen")?,
+            remark(alloc, "root", "so be it")?,
+        ]?,
     };
+    let told = submission_reply(alloc, Format::Json, 2, &remarked)?;
+    expect(
+        &rt,
+        &told,
+        Status::Okay,
+        Content::Json,
+        r#"{"author":"alice","decider":"alice","name":null,"note":"","num":2,"path":"PC/8086","reason":"","remarks":[{"author":"alice","text":"seen"},{"author":"root","text":"so be it"}],"state":"withdrawn"}"#,
+    );
     let told = submission_reply(alloc, Format::Text, 2, &remarked)?;
     expect(
         &rt,
         &told,
         Status::Okay,
         Content::Text,
-        "num 2\nauthor alice\npath PC/8086\nremove\nnote \nstate withdrawn\ndecider alice\nreason \nremark alice seen\n",
+        "num 2\nauthor alice\npath PC/8086\nremove\nnote \nstate withdrawn\ndecider alice\nreason \nremark alice seen\nremark root so be it\n",
     );
     Ok(())
 }
