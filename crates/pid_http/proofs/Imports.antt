@@ -44,9 +44,9 @@ no_longer : (file text : List ℕ) (left : Option (List ℕ)) → Consumes (Some
 no_longer file text None consumed = absurd consumed
 no_longer file text (Some more) consumed = let e = ap length consumed ∙ length-append text more in omega arith
 
-refused_whole : (file text : List ℕ) (left : Option (List ℕ)) → length file ≤ longest_body → Consumes (Some file) left text → IsWhole most_file_bytes left text ⊎ (length text ≡ most_file_bytes + 1) → (text ≡ file) × (left ≡ Some [])
+refused_whole : {Why : Type 0} (file text : List ℕ) (left : Option (List ℕ)) → length file ≤ longest_body → Consumes (Some file) left text → IsWhole most_file_bytes left text ⊎ (Why × (length text ≡ most_file_bytes + 1)) → (text ≡ file) × (left ≡ Some [])
 refused_whole file text left fits consumed (inl read) = whole file text left consumed read.at_end
-refused_whole file text left fits consumed (inr long) = let most = no_longer file text left consumed in absurd (omega arith)
+refused_whole file text left fits consumed (inr (why, long)) = let most = no_longer file text left consumed in absurd (omega arith)
 
 -- the reply to an import of this text is one to an import of the file
 behind : {E : Type 0} (account : List ℕ) (key : Option (List ℕ)) (format : Format) (file text : List ℕ) (outcome : Result Outcome Refusal) (r : Result Reply E) (left : Option (List ℕ)) (k : Known) (calls : List Call) (now : Known)

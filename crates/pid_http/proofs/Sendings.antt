@@ -18,7 +18,7 @@ use Rattle.pid_http.specs.Answering.{history_behind}
 use Rattle.pid_http.specs.Errands.{Errand, command_in, errand_of}
 use Rattle.pid_http.specs.Handling.{nothing_then}
 use Rattle.pid_http.specs.Known.{Known, Live, Between, Told, ByCalls}
-use Rattle.pid_http.specs.Sending.{AreSomeOf, SendsSome, commands_of, listed}
+use Rattle.pid_http.specs.Sending.{AreSomeOf, SendsSome, commands_of, if_any}
 use Rattle.pid_http.specs.Serving.{AreCallsOver, FaultLeaves, IsMet, IsMetOver, serving}
 
 -- ---- calls one behind the other
@@ -88,7 +88,7 @@ AreOutcomes = (v : Views) (c : Asked) → is_outcome (answer (judge v c)) ≡ tr
 one_sent : (c : Asked) (r : Result Outcome Refusal) (live : Bool) → is_outcome r ≡ true → commands_in (sent_in (obeyed c r live ∷ [])) ≡ c ∷ []
 one_sent c r live e = ap (λ (b : Bool). commands_in (cond b (record { command = c; outcome = r } ∷ []) [] ++ [])) e
 
-over : AreOutcomes → (h : History) (o : Option Asked) (calls : List Call) (k : Known) → AreCallsOver h o calls → k ≡ Live (history_behind h o) → SendsSome h (listed o) calls k
+over : AreOutcomes → (h : History) (o : Option Asked) (calls : List Call) (k : Known) → AreCallsOver h o calls → k ≡ Live (history_behind h o) → SendsSome h (if_any o) calls k
 over outcomes h None calls k nothing is = quiet h [] calls k nothing is
 over outcomes h (Some c) calls k by is =
     live_so h (c ∷ []) (c ∷ []) calls k (ap (λ (l : List Call). commands_in (sent_in l)) by ∙ one_sent c (answer (judge (views_of h) c)) true (outcomes (views_of h) c)) (inr ([], refl, refl)) is
@@ -101,16 +101,16 @@ fault_stops : (c : Asked) (refusal : Refusal) → IsFault refusal → StopsAt c 
 fault_stops c refusal (inl e) = subst (λ (r : Refusal). StopsAt c (obeyed c (Err r) false ∷ [])) (sym e) (inl (refl, tt))
 fault_stops c refusal (inr e) = subst (λ (r : Refusal). StopsAt c (obeyed c (Err r) false ∷ [])) (sym e) (inl (refl, tt))
 
-at_fault : (h : History) (o : Option Asked) (refusal : Refusal) (calls : List Call) (k : Known) → IsFault refusal → FaultLeaves h o refusal calls k → SendsSome h (listed o) calls k
+at_fault : (h : History) (o : Option Asked) (refusal : Refusal) (calls : List Call) (k : Known) → IsFault refusal → FaultLeaves h o refusal calls k → SendsSome h (if_any o) calls k
 at_fault h None refusal calls k fault (nothing, is) = quiet h [] calls k nothing is
 at_fault h (Some c) refusal calls k fault (inl (by, is)) =
     live_so h (c ∷ []) [] calls k (ap (λ (l : List Call). commands_in (sent_in l)) by ∙ fault_sends c refusal true fault) (none_of (c ∷ [])) is
 at_fault h (Some c) refusal calls k fault (inr (by, is)) =
     stopped_so h (c ∷ []) [] c calls k (ap (λ (l : List Call). commands_in (sent_in l)) by ∙ fault_sends c refusal false fault) (subst (StopsAt c) (sym by) (fault_stops c refusal fault)) (inr ([], refl, refl)) is
 
-met_sends : AreOutcomes → (h : History) (errand : Errand) (given : Answer) (calls : List Call) (k : Known) → IsMetOver h errand given calls k → SendsSome h (listed (command_in errand)) calls k
+met_sends : AreOutcomes → (h : History) (errand : Errand) (given : Answer) (calls : List Call) (k : Known) → IsMetOver h errand given calls k → SendsSome h (if_any (command_in errand)) calls k
 met_sends outcomes h errand given calls k (inl (e, by, is)) = over outcomes h (command_in errand) calls k by is
-met_sends outcomes h errand given calls k (inr (inl (short, nothing, is))) = quiet h (listed (command_in errand)) calls k nothing is
+met_sends outcomes h errand given calls k (inr (inl (short, nothing, is))) = quiet h (if_any (command_in errand)) calls k nothing is
 met_sends outcomes h errand given calls k (inr (inr (refusal, fault, refused, leaves))) = at_fault h (command_in errand) refusal calls k fault leaves
 
 -- ---- requests in turn
@@ -163,7 +163,7 @@ module _ {S : Type 0} (store : Ghosts S) where
           (λ xs ys p q. stop_on h cs ds xs ys c u.known p.0 p.1 q.0 (q.1 ∙ ap (λ (a : History). Between a (after a c)) p.2)) (at _ (stops, some, refl)) (failed x (after x c) is)
 
   pub met_by : AreOutcomes → (t u : Told store) (h : History) (errand : Errand) (given : Answer) → t.known ≡ Live h → ByCalls store t u (λ calls. IsMet t.known errand given calls u.known)
-      → ByCalls store t u (λ calls. SendsSome h (listed (command_in errand)) calls u.known)
+      → ByCalls store t u (λ calls. SendsSome h (if_any (command_in errand)) calls u.known)
   met_by outcomes t u h errand given live b = record {
     same_life = b.same_life;
     more = b.more;
@@ -193,5 +193,5 @@ module _ {S : Type 0} (store : Ghosts S) where
       → ByCalls store t u (λ calls. SendsSome h (commands_of requests) calls u.known)
   replies_send outcomes t u h [] bytes live (e, same) = by_none t u (λ v calls. SendsSome h [] calls v.known) same (inl (refl, live))
   replies_send outcomes t u h (request ∷ requests) bytes live (mid, given, later, step, e, rest) =
-      then_send t mid u h (listed (command_in (errand_of request))) (commands_of requests) (met_by outcomes t mid h (errand_of request) given live step)
+      then_send t mid u h (if_any (command_in (errand_of request))) (commands_of requests) (met_by outcomes t mid h (errand_of request) given live step)
       (λ next is. replies_send outcomes mid u next requests later is rest) (λ x y is. failed_replies mid u x y requests later is rest)

@@ -18,7 +18,7 @@ use Rattle.pid_http_stream.specs.declared.stream.StreamEnd.{StreamEnd}
 use Rattle.pid_http_stream.specs.declared.stream.StreamEnd.TheVariants.{Clean, Closed, HeadFault, BodyFault, ReadFault, WriteFault, StoreFault, Memory, TurnsSpent}
 use Rattle.pid_http.specs.Errands.{Errand, command_in, errand_of}
 use Rattle.pid_http.specs.Known.{Known, Live, Between, Down, Told, ByCalls}
-use Rattle.pid_http.specs.Sending.{SendsOf, SendsSome, StandInFront, commands_of, listed}
+use Rattle.pid_http.specs.Sending.{SendsOf, SendsSome, StandInFront, commands_of, if_any}
 use Rattle.pid_http.specs.Serving.{IsMet, IsPromised, serving}
 use Rattle.pid_http.proofs.Sendings.{AreOutcomes, by_join, by_none, failed_by, first_sent, live_so, met_by, replies_send, stopped_so, stops_then, then_send}
 
@@ -45,10 +45,10 @@ read_in_front : RequestsStay → (stream read : List ℕ) (left : Option (List �
 read_in_front stay stream read None rs consumed s = absurd consumed
 read_in_front stay stream read (Some more) rs consumed s = subst (λ (l : List ℕ). StandInFront l rs) (sym consumed) (still_in_front stay read more rs s)
 
-commands_snoc : (rs : List Request) (r : Request) → commands_of rs ++ listed (command_in (errand_of r)) ≡ commands_of (rs ++ r ∷ [])
-commands_snoc [] r = sym (append-nil (listed (command_in (errand_of r))))
+commands_snoc : (rs : List Request) (r : Request) → commands_of rs ++ if_any (command_in (errand_of r)) ≡ commands_of (rs ++ r ∷ [])
+commands_snoc [] r = sym (append-nil (if_any (command_in (errand_of r))))
 commands_snoc (q ∷ rs) r =
-    append_assoc (listed (command_in (errand_of q))) (commands_of rs) (listed (command_in (errand_of r))) ∙ ap (λ (l : List Asked). listed (command_in (errand_of q)) ++ l) (commands_snoc rs r)
+    append_assoc (if_any (command_in (errand_of q))) (commands_of rs) (if_any (command_in (errand_of r))) ∙ ap (λ (l : List Asked). if_any (command_in (errand_of q)) ++ l) (commands_snoc rs r)
 
 -- ---- what comes behind the requests that were answered
 
@@ -83,7 +83,7 @@ module _ {S : Type 0} (store : Ghosts S) where
       → ByCalls store mid u (λ calls. IsMet mid.known (errand_of r) given calls u.known) → ByCalls store t u (λ calls. SendsSome h (commands_of (rs ++ r ∷ [])) calls u.known)
   then_request outcomes t mid u h rs r given first step =
       subst (λ (l : List Asked). ByCalls store t u (λ calls. SendsSome h l calls u.known)) (commands_snoc rs r)
-      (then_send store t mid u h (commands_of rs) (listed (command_in (errand_of r))) first (λ next is. met_by store outcomes mid u next (errand_of r) given is step) (λ x y is. failed_by store mid u x y (errand_of r) given is step))
+      (then_send store t mid u h (commands_of rs) (if_any (command_in (errand_of r))) first (λ next is. met_by store outcomes mid u next (errand_of r) given is step) (λ x y is. failed_by store mid u x y (errand_of r) given is step))
 
   -- the whole stream was answered
   all_send : AreOutcomes → (h : History) (o : Outside (Told store)) (stream : List ℕ) (ending : Ending) (tail : List ℕ) (count : ℕ) → o.handler.known ≡ Live h → AnswersAll (serving store) o stream ending tail count

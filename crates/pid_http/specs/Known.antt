@@ -56,6 +56,7 @@ module _ {S : Type 0} (store : Ghosts S) where
     pub joined : u.calls ≡ t.calls ++ more
     pub holds : Holds more
 
+-- From here on proofs alone, no definitions: calls behind calls, and the laws that what answers streams gives for `stays` and `joins`.
 pub calls_join : {R : Type 0} (w : Showing R) (a b c : R) (first more : List Call) → CallsLead w a first b → CallsLead w b more c → CallsLead w a (first ++ more) c
 calls_join w a b c [] more same leads = subst (λ r. CallsLead w r more c) same leads
 calls_join w a b c (call ∷ calls) more (between, does, leads) further = (between, does, calls_join w between b c calls more leads further)

@@ -10,14 +10,14 @@ use Rattle.pid_http.specs.Errands.{command_in, errand_of}
 use Rattle.pid_http.specs.Known.{Known, Live, Between, Told, ByCalls}
 
 -- the command, if there is one
-abbrev pub listed : Option Asked → List Asked
-listed None = []
-listed (Some command) = command ∷ []
+abbrev pub if_any : Option Asked → List Asked
+if_any None = []
+if_any (Some command) = command ∷ []
 
 -- the commands that requests ask for, in their order
 abbrev pub commands_of : List Request → List Asked
 commands_of [] = []
-commands_of (request ∷ requests) = listed (command_in (errand_of request)) ++ commands_of requests
+commands_of (request ∷ requests) = if_any (command_in (errand_of request)) ++ commands_of requests
 
 -- these are some of all of them, in their order
 abbrev pub AreSomeOf : List Asked → List Asked → Type 0

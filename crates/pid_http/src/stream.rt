@@ -59,7 +59,8 @@ fn serve_by<S: Alter + Drop, I: Incoming<W>, W: Output>(
 /// - `Clean`, `Closed`, `HeadFault`, `BodyFault`: all requests of the stream were answered, behind them the refusal of what is none.
 /// - `ReadFault`, `TurnsSpent`: the requests that came whole were answered.
 /// - `Memory`: the requests before were answered; the next may have been obeyed.
-/// - `WriteFault`: the requests before were answered, and a front of the next reply was written; the next may have been obeyed.
+/// - `WriteFault`: the requests before were answered, and a front of the next reply was written, which may be all of it where the
+///   writer failed behind it; the next may have been obeyed.
 /// - `StoreFault`: the same within the text of all items, which the store failed or memory cut short, over a writer that is good.
 pub fn serve_stream<S: Alter + Drop, I: Incoming<W>, W: Output>(
     alloc: Global,
@@ -69,7 +70,9 @@ pub fn serve_stream<S: Alter + Drop, I: Incoming<W>, W: Output>(
     turns: u64,
 ) -> Served
     // The bytes are the replies to the stream's requests over the histories that the registry shows, and it shows the one behind them.
-    // The commands of the requests are what the calls of its life sent it.
+    // The commands of the requests are what the calls of its life sent it. As `t` a reader takes what is told of the registry at the
+    // start: `start` is this registry, there are no `calls` yet, and `known` is `Live h` where it shows the history `h`, `Down` where it
+    // had failed earlier.
     ensures served { Leads (HasCleanDisk S.Store) (IsTold S.Store) registry.old registry.new (λ t u. IfSome (I.to_come reader.old) (λ stream. IsServed (serving S.Store)
         (record { handler = t; handler_after = u; taken = W.taken writer.old; taken_after = W.taken writer.new }) stream (I.to_come reader.new) result.end result.answered)) }
     // Whenever the reader was read, the requests that had come were answered, and the writer had taken the replies.

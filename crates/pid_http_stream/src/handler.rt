@@ -92,6 +92,9 @@ pub trait Handler {
     /// Which bytes it may write as the body that it promised, and what is known of it behind that.
     ghost writes: { View → List ℕ → View → Type 0 };
 
+    /// What it tells of itself where it could not go on with a body that it was to write.
+    ghost cannot_go_on: { Self → Type 0 } = { λ _. ⊤ };
+
     /// Which requests it may be asked with their bodies in memory.
     ghost may_hold: { Self → RequestHead → Type 0 } = { λ _ _. ⊤ };
 
@@ -125,7 +128,8 @@ pub trait Handler {
     fn write_body<W: Output>(&mut self, out: &mut W) -> Result<(), BodyStop>
         ensures becomes { becomes self.old self.new }
         ensures written { Leads is_good stands self.old self.new (λ v w. (body : List ℕ) × writes v body w × WritesBody result (W.taken out.old) (W.taken out.new) body) }
-        ensures fault { result ≡ Err BodyStop.Writer → IsSome (W.write_fault out.new) };
+        ensures fault { result ≡ Err BodyStop.Writer → IsSome (W.write_fault out.new) }
+        ensures store { result ≡ Err BodyStop.Store → cannot_go_on self.new };
 
     /// A body that was promised and written is that of an answer.
     ghost kept: { (a : View) (request : Request) (head : ReplyHead) (told : ℕ) (b : View) (body : List ℕ) (c : View) → promises a request head told b → writes b body c

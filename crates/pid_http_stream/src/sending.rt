@@ -67,6 +67,7 @@ fn send_written<H: Handler, W: Output>(
         → IsSent (record { answers = H.answers; leaves = H.leaves; gives_up = H.gives_up; promises = H.promises }) a request w closes (W.taken out.old) (W.taken out.new) result) }
     ensures fault { result ≡ Sent.WriteFault → IsSome (W.write_fault out.new) }
     ensures store { result ≡ Sent.StoreFault → W.write_fault out.new ≡ None }
+    ensures stuck { result ≡ Sent.StoreFault → H.cannot_go_on handler.new }
 {
     match send_head(head, told, closes, out) {
         Sent::Whole => {}
@@ -98,6 +99,7 @@ pub(crate) fn send<H: Handler, W: Output>(
         → IsSent (record { answers = H.answers; leaves = H.leaves; gives_up = H.gives_up; promises = H.promises }) a request w closes (W.taken out.old) (W.taken out.new) result) }
     ensures fault { result ≡ Sent.WriteFault → IsSome (W.write_fault out.new) }
     ensures store { result ≡ Sent.StoreFault → W.write_fault out.new ≡ None }
+    ensures stuck { result ≡ Sent.StoreFault → H.cannot_go_on handler.new }
 {
     let Reply { head, body } = reply;
     match body {

@@ -134,6 +134,7 @@ fn serve_request<H: Handler, I: Incoming<W>, W: Output>(
     ensures read_fault { result ≡ Answered.Ended StreamEnd.ReadFault → IsSome (I.read_fault input.new) }
     ensures write_fault { result ≡ Answered.Ended StreamEnd.WriteFault → IsSome (W.write_fault out.new) }
     ensures store_fault { result ≡ Answered.Ended StreamEnd.StoreFault → W.write_fault out.new ≡ None }
+    ensures stuck { result ≡ Answered.Ended StreamEnd.StoreFault → H.cannot_go_on handler.new }
     ensures spent { result ≡ Answered.Ended StreamEnd.TurnsSpent → left.new ≡ 0 }
     ensures goes { I.goes input.old input.new }
 {
@@ -196,6 +197,7 @@ pub fn serve_stream<H: Handler, I: Incoming<W>, W: Output>(
     ensures read_fault { result.end ≡ StreamEnd.ReadFault → IsSome (I.read_fault input.new) }
     ensures write_fault { result.end ≡ StreamEnd.WriteFault → IsSome (W.write_fault output.new) }
     ensures store_fault { result.end ≡ StreamEnd.StoreFault → W.write_fault output.new ≡ None }
+    ensures stuck { result.end ≡ StreamEnd.StoreFault → H.cannot_go_on handler.new }
     ensures goes { I.goes input.old input.new }
 {
     let mut fields = [EMPTY_HEADER_SPAN; MOST_FIELDS];

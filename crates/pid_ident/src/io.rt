@@ -42,7 +42,7 @@ pub trait Input {
     /// some bytes of another reader, for instance, is still over that other one, and used no more of it than it may.
     ghost goes: { Self → Self → Type 0 };
 
-    /// Reads some bytes. None into a buffer with room is the end.
+    /// Reads some bytes. None into a buffer with room is the end. A fault is kept: each later call gives it again.
     fn read(&mut self, buffer: &mut [u8]) -> Result<usize, ReadFault>
         ensures room { IfOk result (λ n. n ≤ length buffer.new) }
         ensures bytes { ReadConsumes (to_come self.old) (to_come self.new) result buffer.new }
@@ -68,7 +68,7 @@ pub trait Output {
     /// The fault that is kept.
     ghost write_fault: { Self → Option WriteFault };
 
-    /// Takes some of the bytes, at least one where there are any.
+    /// Takes some of the bytes, at least one where there are any. A fault is kept: each later call gives it again.
     fn write(&mut self, bytes: &[u8]) -> Result<usize, WriteFault>
         ensures room { IfOk result (λ n. n ≤ length bytes.now) }
         ensures some { IfOk result (λ n. 0 < length bytes.now → 0 < n) }
@@ -91,7 +91,7 @@ pub fn write_all<W: Output>(out: &mut W, bytes: &[u8]) -> Result<(), WriteFault>
     Ok(())
 }
 
-/// Writes the parts one after another.
+/// Writes the parts one after another, or a front of them at a fault.
 pub fn write_parts<W: Output>(out: &mut W, parts: &[&[u8]]) -> Result<(), WriteFault>
     ensures sent { Sends result (W.taken out.old) (W.taken out.new) (flat_map (λ part. part.now) parts.now) }
     ensures fault { IfErr result (λ f. W.write_fault out.new ≡ Some f) }

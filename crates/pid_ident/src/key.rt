@@ -26,7 +26,7 @@ impl Model for Key {
 }
 
 impl Key {
-    /// The text as the key of a command, kept byte for byte.
+    /// The text as the key of a command, kept byte for byte; `Bad` exactly where it breaks the rule.
     pub fn of(alloc: Global, text: &str) -> Result<Key, WordFault>
         ensures ok { IfOk result (λ word. word ≡ text.now) }
         ensures bad { IsErrOf result WordFault.Bad ↔ (key_test text.now ≡ false) }
@@ -39,6 +39,7 @@ impl Key {
         })
     }
 
+    /// The bytes that were given, as text. They keep the rule of keys.
     pub fn as_str(&self) -> &str
         ensures text { result.now ≡ self.now }
         ensures checked { IsTrue (key_test self.now) }

@@ -107,6 +107,7 @@ impl Path {
         }
     }
 
+    /// What the item at the path is.
     pub fn kind(&self) -> PathKind
         ensures { result ≡ kind_of self.now }
     {

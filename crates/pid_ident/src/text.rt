@@ -25,7 +25,7 @@ impl Model for Text {
 }
 
 impl Text {
-    /// The text as a text, kept byte for byte.
+    /// The text as a note, a comment or a reason, kept byte for byte; `Bad` exactly where it breaks the rule.
     pub fn of(alloc: Global, text: &str) -> Result<Text, WordFault>
         ensures ok { IfOk result (λ word. word ≡ text.now) }
         ensures bad { IsErrOf result WordFault.Bad ↔ (text_test text.now ≡ false) }
@@ -38,6 +38,7 @@ impl Text {
         })
     }
 
+    /// The bytes that were given, as text. They keep the rule of such texts.
     pub fn as_str(&self) -> &str
         ensures text { result.now ≡ self.now }
         ensures checked { IsTrue (text_test self.now) }

@@ -13,7 +13,7 @@ use Rattle.pid_moderation.specs.CheckTables.{most_file_bytes}
 use Rattle.pid_moderation.specs.History.{Reading, TooLong, Faulty, Good, Asked, asked}
 use Rattle.pid_moderation.specs.Items.{Items}
 
--- why the text of a file is refused; no text is for want of memory
+-- Why the text of a file is refused. Its last line is never used: `refused` of pid_reader, whose refusals are told here, never gives `Memory`.
 abbrev pub fault_as : ReadRefusal → FileFault
 fault_as (reads.Line line kind) = faults.Line line kind
 fault_as reads.TooManyEntries = faults.TooMany

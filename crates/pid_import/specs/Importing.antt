@@ -81,8 +81,8 @@ ReadsFile (Err stops.Body) rest text = length text ≤ most_file_bytes
 ReadsFile (Err (stops.Refused e)) rest text = IsWhole most_file_bytes rest text ⊎ ((e ≡ refusals.BadText) × (length text ≡ most_file_bytes + 1))
 ReadsFile (Err (stops.Failed e)) rest text = IsWhole most_file_bytes rest text
 
--- it is not told as by a registry that had failed before
-abbrev pub IsStopOfLive : Stop → Type 0
-IsStopOfLive stops.Body = Unit {0}
-IsStopOfLive (stops.Refused e) = e ≢ refusals.Failed
-IsStopOfLive (stops.Failed e) = e ≢ refusals.Failed
+-- it does not tell that the registry had failed before
+abbrev pub DoesNotTellFailed : Stop → Type 0
+DoesNotTellFailed stops.Body = Unit {0}
+DoesNotTellFailed (stops.Refused e) = e ≢ refusals.Failed
+DoesNotTellFailed (stops.Failed e) = e ≢ refusals.Failed

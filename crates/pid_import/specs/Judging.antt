@@ -28,7 +28,7 @@ abbrev pub IsJudgedEarly : History → Command → Early → Type 0
 IsJudgedEarly h command (Answered result) = IsSettled h command result
 IsJudgedEarly h command (Open facts items) = IsOpen h command facts × (items ≡ length (items_of h))
 
--- it is not answered as by a registry that has failed
-abbrev pub IsEarlyOfLive : Early → Type 0
-IsEarlyOfLive (Answered result) = IfErr result (λ e. e ≢ Failed)
-IsEarlyOfLive (Open facts items) = Unit {0}
+-- it does not tell that the registry had failed before
+abbrev pub DoesNotTellFailed : Early → Type 0
+DoesNotTellFailed (Answered result) = IfErr result (λ e. e ≢ Failed)
+DoesNotTellFailed (Open facts items) = Unit {0}

@@ -4,7 +4,7 @@ ghost use Rattle.pid_moderation.specs.History.{History};
 ghost use Rattle.pid_moderation.specs.Sound.{IsSound};
 ghost use Rattle.pid_moderation.specs.Views.{views_of};
 ghost use Rattle.pid_rows.specs.Clauses.{AtRest, HasCleanDisk, OnlyReads};
-ghost use Rattle.pid_import.specs.Judging.{IsEarlyOfLive, IsJudgedEarly};
+ghost use Rattle.pid_import.specs.Judging.{DoesNotTellFailed, IsJudgedEarly};
 
 use crate::faults::refusal_of;
 use pid_moderation::{Command, Facts, Refusal, Reply, Rows, before_file};
@@ -32,7 +32,7 @@ pub fn judge_import<S: Alter + Drop>(
     requires { tables.old.conn.in_transaction ≡ false }
     ensures rests { OnlyReads S.Store tables.old.conn tables.new.conn }
     ensures judged { HasCleanDisk S.Store tables.new.conn → (h : History) → IsSound h → AtRest S.Store tables.old.conn (views_of h) → IsJudgedEarly h command.now result }
-    ensures alive { IsEarlyOfLive result }
+    ensures alive { DoesNotTellFailed result }
 {
     views_of_sound_histories();
     match tables.gather(alloc, &command.account, &command.key, Rows::Nothing) {

@@ -10,7 +10,7 @@ ghost use Rattle.pid_rows.specs.Clauses.{AtRest, HasCleanDisk, Holds, Within};
 ghost use Rattle.pid_rows.specs.Shows.{Counts, counts_of};
 ghost use Rattle.pid_import.specs.Clauses.{Applies, EndsImport};
 ghost use Rattle.pid_import.specs.Files.{file_reading};
-ghost use Rattle.pid_import.specs.Importing.{IsNext, IsPut, IsStopOf, IsStopOfLive, JudgesFile, ReadsFile};
+ghost use Rattle.pid_import.specs.Importing.{IsNext, IsPut, IsStopOf, DoesNotTellFailed, JudgesFile, ReadsFile};
 ghost use Rattle.pid_import.specs.Judging.{IsOpen};
 ghost use Rattle.pid_import.specs.PutFiles.{PutsFile};
 ghost use Rattle.pid_import.specs.Putting.{put_in_turn};
@@ -135,7 +135,7 @@ fn apply_file<S: Alter>(
         → IsNext facts.old.revision n → Within S.Store batch.old.conn.now (counts_of (views_of h)) (views_of h) (put_in_turn n (entries_of (lines_of text)) (views_of h))
         → Applies S.Store batch.new.conn.now result h (asked command.now (file_reading text)) }
     ensures reads { IfErr result (λ e. e ≢ Stop.Body) }
-    ensures alive { IfErr result IsStopOfLive }
+    ensures alive { IfErr result DoesNotTellFailed }
 {
     texts_read_to_files();
     match judge_file(facts, items, tally, command) {
@@ -171,7 +171,7 @@ pub fn bring_in<S: Alter, I: Input>(
     ensures fault_first { IsSome (I.read_fault input.new) → result ≡ Err Stop.Body }
     ensures goes { I.goes input.old input.new }
     // Only a registry that has failed is told as such.
-    ensures alive { IfErr result IsStopOfLive }
+    ensures alive { IfErr result DoesNotTellFailed }
 {
     let revision = next_revision(facts);
     let mut batch = begin(conn);

@@ -68,7 +68,8 @@ StopsAt c (call ∷ calls) = ((call.stopped ≡ Some c) × AreNothing calls) ⊎
 abbrev pub life_of : List Call → Doubt → Life
 life_of calls doubt = record { sent = sent_in calls; doubt = doubt }
 
--- the command in doubt is the one at which the calls stopped
+-- The command in doubt is the one at which the calls stopped. Where none is named nothing is asked: a command in doubt that does not stand may
+-- be left out, since the prefix of the life is the same.
 abbrev pub IsDoubtOf : List Call → Doubt → Type 0
 IsDoubtOf calls NoDoubt = Unit {0}
 IsDoubtOf calls (InDoubt c stands) = StopsAt c calls

@@ -43,7 +43,7 @@ abbrev pub standing : Doubt → ℕ
 standing NoDoubt = 0
 standing (InDoubt command stands) = if stands then 1 else 0
 
--- how many of them stand: as many as have an outcome, and one more where the command in doubt stands
+-- how many of them the prefix has: as many as have an outcome, the refused ones too, and one more where the command in doubt stands
 abbrev pub count_of : Life → ℕ
 count_of life = length life.sent + standing life.doubt
 
@@ -69,7 +69,7 @@ abbrev pub AreJudged : History → List Sent → Type 0
 AreJudged h [] = Unit {0}
 AreJudged h (s ∷ sent) = (s.outcome ≡ answer (judge (views_of h) s.command)) × AreJudged (after h s.command) sent
 
--- in each life, which begins with the history that the life before it left
+-- in each life each outcome is that of the judgement, and it begins with the history that the life before it left
 abbrev pub AreLives : History → List Life → Type 0
 AreLives h [] = Unit {0}
 AreLives h (life ∷ lives) = AreJudged h life.sent × AreLives (after_life h life) lives

@@ -25,7 +25,7 @@ numeral radix least most text =
 abbrev pub times : List ℕ → Fields → ℕ
 times name fields = count_by (λ field. bytes_eq field.0 name) fields
 
--- the value of a field that is there once
+-- the value of the first field of this name
 abbrev pub value_of : List ℕ → Fields → Option (List ℕ)
 value_of name fields = option_map (λ field. field.1) (find (λ field. bytes_eq field.0 name) fields)
 
@@ -34,7 +34,7 @@ abbrev pub by_rule : (List ℕ → Option ℕ) → Option ℕ → Option (List �
 by_rule rule missing None = missing
 by_rule rule missing (Some value) = rule value
 
--- what a field says: nothing where it is there twice
+-- what a field says: nothing where it is there more than once
 abbrev pub said : (List ℕ → Option ℕ) → Option ℕ → List ℕ → Fields → Option ℕ
 said rule missing name fields = if nat_lt 1 (times name fields) then None else by_rule rule missing (value_of name fields)
 

@@ -42,6 +42,7 @@ impl Digits {
         }
     }
 
+    /// The digits as text.
     pub fn as_bytes(&self) -> &[u8]
         ensures { result.now ≡ self.now }
     {

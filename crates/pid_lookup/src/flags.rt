@@ -66,7 +66,9 @@ impl Request {
 /// What the flags say; the request is missing where the low 16 bits are none.
 #[derive(Clone, Copy)]
 pub struct Flags {
+    /// What is looked up.
     pub request: Option<Request>,
+    /// How it is shown.
     pub style: Style,
 }
 

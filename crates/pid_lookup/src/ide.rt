@@ -44,6 +44,7 @@ impl IdeWords {
         }
     }
 
+    /// The words as text.
     pub fn as_bytes(&self) -> &[u8]
         ensures { result.now ≡ self.now }
     {

@@ -8,10 +8,13 @@ use pid_ident::{Name, Path};
 
 /// A holder of names: a tree, or a registry over a disk.
 ///
-/// What it tells is the map of what it shows, where it is honest as the call ends, and it tells of a path only where it may tell.
+/// Where the holder is honest as a question ends, the name that it told is that of the map that it shows. A holder that may not tell
+/// answers every question with a fault, and so tells of no path that it has a name or that it has none.
+///
 /// No question changes what is shown, which faults may come or whether it may tell, nor, honest or not, more of the holder than
 /// `only_asked` allows.
 pub trait Names {
+    /// Why a question has no answer.
     type Fault;
 
     /// What the holder may show: a map, or a history that has one.
@@ -35,7 +38,7 @@ pub trait Names {
     /// Whether a holder that was the first may be the second where it was asked for names, and nothing else was done to it.
     ghost only_asked: { Self → Self → Type 0 };
 
-    /// A copy of the name of a path.
+    /// A copy of the name of a path, and none where it has no name; or a fault.
     fn name_of(&mut self, path: &Path) -> Result<Option<Name>, Self::Fault>
         ensures found { is_honest self.new → (s : Shown) → shows self.old s
             → IfOk result (λ name. name ≡ name_in (map_of s) path.now) }

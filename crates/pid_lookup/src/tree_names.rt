@@ -14,6 +14,7 @@ pub struct TreeNames<'a> {
 }
 
 impl<'a> TreeNames<'a> {
+    /// The holder of the names of this tree.
     pub fn new(tree: &'a Tree) -> TreeNames<'a>
         ensures { tree_shown result ≡ tree.now }
     {

@@ -34,7 +34,8 @@ renumbered n before now since path = if is_named_anew (name_at path before) (nam
 abbrev pub with_items : ℕ → Items → Views → Views
 with_items n items v = record v { items = items; since = renumbered n v.items items v.since }
 
--- what a change with this number does
+-- What a change with this number does. Of an import nothing is left to do here: its pairs were put before, one by one (`with_pairs`), and
+-- what it says is how many items there are with them (`FitsEffect`).
 abbrev pub affected : ℕ → Effect → Views → Views
 affected n Nothing v = v
 affected n (Ranked who rank is_new) v = record v { rank = λ a. if bytes_eq a who then Some rank else v.rank a }

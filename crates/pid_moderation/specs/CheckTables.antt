@@ -114,10 +114,11 @@ abbrev pub if_named : Option Named → (Named → Checks) → Checks
 if_named None checks = (true, NoSubmission) ∷ []
 if_named (Some s) checks = checks s
 
--- what no file changes, and then what the file comes to
+-- an import, whatever its file comes to
 abbrev pub import_checks : Facts → Checks
 import_checks f = (not (has_rank Senior f.rank), RankTooLow) ∷ []
 
+-- and what its file comes to: `None` is a file that is too long, which the form refuses before
 abbrev pub file_checks : Option Verdict → Checks
 file_checks None = (true, BadText) ∷ []
 file_checks (Some (verdicts.Faulty fault)) = (true, FileFault fault) ∷ []
@@ -150,7 +151,7 @@ first_failing cs = option_map (λ c. c.1) (find (λ c. c.0) cs)
 
 -- FORM
 
--- an empty comment or reason, or a file too long
+-- an empty comment or reason, or a file too long: the file of an import is read here, so that `None` is one that is too long
 abbrev pub is_ill_formed : Facts → Deed → Bool
 is_ill_formed f (Comments n text) = is_empty text
 is_ill_formed f (Rejects n reason) = is_empty reason
@@ -171,7 +172,7 @@ TellsLength act reading = Unit {0}
 
 -- REPLIES
 
--- a file that is not imported counts nothing
+-- a file that is not imported counts nothing; `None` is one that is too long
 abbrev pub counts_of : Option Verdict → Reply
 counts_of (Some (verdicts.Good added renamed same items)) = Counts added renamed same
 counts_of (Some (verdicts.Faulty fault)) = Counts 0 0 0

@@ -24,6 +24,7 @@ use Rattle.pid_moderation.specs.Views.{views_of, pairs_of}
 use Rattle.pid_moderation.specs.Changes.{changed, with_pairs, Fits}
 use Rattle.pid_moderation.specs.Judgement.{Outcome, Refused, Repeated, Accepts, judge, judged, answer, after}
 
+-- what an import does: nothing where its file is not imported, as one that is too long (`None`)
 abbrev pub counted : Option Verdict → Effect
 counted (Some (verdicts.Good added renamed same items)) = Imported items
 counted (Some (verdicts.Faulty fault)) = Nothing
@@ -78,7 +79,7 @@ new_pairs (Accepts reply) deed = pairs_in deed
 new_pairs (Refused refusal) deed = []
 new_pairs (Repeated reply) deed = []
 
--- a kept reply changes nothing
+-- a refusal and a kept reply change nothing
 abbrev pub change_by : Facts → Asked → Outcome → Change
 change_by f c (Accepts reply) = change_of f c reply
 change_by f c (Refused refusal) = no_change f

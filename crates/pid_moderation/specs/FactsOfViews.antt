@@ -19,14 +19,15 @@ kept_in v account (Some key) = v.kept account key
 abbrev pub named : Views → ℕ → Option Named
 named v n = option_map (λ s. record { author = s.author; path = s.path; proposal = s.proposal; state = v.state n; remarks = length (v.remarks n) }) (submission_at n v.submits)
 
--- what a file comes to over these items, with how many items there are then; of one that is too long nothing is said
+-- what a file comes to over these items, with how many items there are then; `None` of one that is too long
 abbrev pub verdict : Items → Reading → Option Verdict
 verdict items TooLong = None
 verdict items (Faulty fault) = Some (verdicts.Faulty fault)
 verdict items (Good pairs) =
     Some (verdicts.Good (count_new items pairs) (count_renamed items pairs) (count_same items pairs) (length (imported pairs items)))
 
--- what is known of every command: the caller's rank, the reply that is kept for it, and the revision
+-- What is known of every command: the caller's rank, the reply that is kept for it, and the revision. No more is looked at yet: `file` is
+-- `None` here since it is not read yet, or the command has none.
 abbrev pub known : Views → List ℕ → Option (List ℕ) → Facts
 known v account key = record {
   rank = v.rank account;
@@ -77,11 +78,11 @@ looked_at v (SubmissionOf n) f = record f { named = named v n }
 looked_at v (ItemOf n) f = with_item v (named v n) f
 looked_at v NoRows f = f
 
--- the facts by the rows alone
+-- the facts by the rows alone: an import's file is not read yet
 abbrev pub facts_at : Views → List ℕ → Option (List ℕ) → Wanted → Facts
 facts_at v account key w = looked_at v w (known v account key)
 
--- and what the file of an import comes to
+-- and what the file of an import comes to: from here on `file` is `None` where it is too long, or the command is no import
 abbrev pub with_file : Items → Deed → Facts → Facts
 with_file items (Imports reading) f = record f { file = verdict items reading }
 with_file items deed f = f

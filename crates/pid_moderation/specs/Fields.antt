@@ -17,7 +17,7 @@ times name fields = count_by (λ f. bytes_eq f.0 name) fields
 abbrev pub is_once : List ℕ → Fields → Bool
 is_once name fields = times name fields == 1
 
--- the value of a field
+-- the value of the first field of this name
 abbrev pub value : List ℕ → Fields → Option (List ℕ)
 value name fields = option_map (λ f. f.1) (find (λ f. bytes_eq f.0 name) fields)
 

@@ -35,6 +35,7 @@ pub struct Write {
 /// What becomes of ranks, submissions, remarks and items.
 #[derive(Debug, Drop)]
 pub enum Effect {
+    /// None of these changes.
     Nothing,
     /// An account gets a rank; `is_new` where it is not there yet.
     Ranked {
@@ -73,6 +74,7 @@ pub enum Effect {
 #[derive(Debug, Drop)]
 pub struct Change {
     pub effect: Effect,
+    /// The reply that is kept from now on, where the command has a key.
     pub receipt: Option<Receipt>,
     /// The revision that it leads to; for a kept reply the one that is.
     pub revision: u64,

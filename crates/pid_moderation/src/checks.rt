@@ -38,6 +38,7 @@ fn failing(checks: &[(bool, Refusal)]) -> Option<(bool, Refusal)>
     checks.iter().copied().find(|check| check.0)
 }
 
+/// The refusal of the first check that fails.
 pub fn first_failing(checks: &[(bool, Refusal)]) -> Option<Refusal>
     ensures { result ≡ first_that_fails checks.now }
 {
@@ -47,7 +48,7 @@ pub fn first_failing(checks: &[(bool, Refusal)]) -> Option<Refusal>
     }
 }
 
-// The first check that fails is the refusal.
+/// Passes where no check fails; else the refusal of the first that does.
 pub fn pass(checks: &[(bool, Refusal)]) -> Result<(), Refusal>
     ensures { Follows checks.now tt result }
 {
@@ -57,12 +58,14 @@ pub fn pass(checks: &[(bool, Refusal)]) -> Result<(), Refusal>
     }
 }
 
+/// Whether the account with this rank is not known.
 pub fn is_unknown(rank: Option<Rank>) -> bool
     ensures { result ≡ is_none rank }
 {
     rank.is_none()
 }
 
+/// Whether the rank is this one or a higher one.
 pub fn has_rank(needed: Rank, rank: Option<Rank>) -> bool
     ensures { result ≡ rank_reaches needed rank }
 {
@@ -72,6 +75,7 @@ pub fn has_rank(needed: Rank, rank: Option<Rank>) -> bool
     }
 }
 
+/// Whether the rank is this one.
 pub fn is_rank(wanted: Rank, rank: Option<Rank>) -> bool
     ensures { result ≡ rank_equals wanted rank }
 {
@@ -81,6 +85,7 @@ pub fn is_rank(wanted: Rank, rank: Option<Rank>) -> bool
     }
 }
 
+/// Whether nothing is decided yet.
 pub fn is_pending(state: &State) -> bool
     ensures { result ≡ stands_pending state.now }
 {
@@ -92,6 +97,7 @@ pub fn is_pending(state: &State) -> bool
     }
 }
 
+/// Whether a removal is proposed.
 pub fn is_removal(proposal: &Proposal) -> bool
     ensures { result ≡ removal proposal.now }
 {
@@ -110,6 +116,7 @@ fn is_named_so(name: &Name, present: &Option<Name>) -> bool
     }
 }
 
+/// Whether the item is as proposed already.
 pub fn is_so(proposal: &Proposal, present: &Option<Name>) -> bool
     ensures { result ≡ so_already proposal.now present.now }
 {
@@ -119,6 +126,7 @@ pub fn is_so(proposal: &Proposal, present: &Option<Name>) -> bool
     }
 }
 
+/// Whether the parent of a proposed name is missing.
 pub fn lacks_parent(proposal: &Proposal, has_parent: bool) -> bool
     ensures { result ≡ parent_lacking proposal.now has_parent }
 {
@@ -128,6 +136,7 @@ pub fn lacks_parent(proposal: &Proposal, has_parent: bool) -> bool
     }
 }
 
+/// Whether a removal would leave children without their parent.
 pub fn leaves_children(proposal: &Proposal, has_children: bool) -> bool
     ensures { result ≡ children_left proposal.now has_children }
 {
@@ -137,6 +146,7 @@ pub fn leaves_children(proposal: &Proposal, has_children: bool) -> bool
     }
 }
 
+/// Whether the proposal adds an item to as many as there may be.
 pub fn overflows(proposal: &Proposal, present: &Option<Name>, items: u32) -> bool
     ensures { result ≡ one_too_many proposal.now present.now items }
 {
@@ -146,19 +156,22 @@ pub fn overflows(proposal: &Proposal, present: &Option<Name>, items: u32) -> boo
     }
 }
 
+/// Whether the text is empty.
 pub fn is_empty_text(text: &Text) -> bool
     ensures { result ≡ no_bytes text.now }
 {
     matches!(text.as_str().as_bytes(), [])
 }
 
+/// Whether the file of an import is too long: then it comes to nothing.
 pub fn is_missing(file: Option<Verdict>) -> bool
     ensures { result ≡ is_none file }
 {
     file.is_none()
 }
 
-/// Whether a command breaks a rule that its type does not keep: an empty comment or reason, or a file too long.
+/// Whether a command breaks a rule that its type does not keep: an empty comment or reason, or a file too long. Of an import the
+/// facts have what its file comes to.
 pub fn is_ill_formed(facts: &Facts, act: &Act) -> bool
     ensures { (reading : Reading) → result ≡ ill_formed facts.now (deed_of act.now reading) }
 {

@@ -40,12 +40,14 @@ impl Model for File {
 }
 
 impl File {
+    /// The file of these bytes, with no copy.
     pub fn new(bytes: Vec<u8>) -> File
         ensures { result ≡ bytes.items }
     {
         File { bytes }
     }
 
+    /// The bytes of the file.
     pub fn as_bytes(&self) -> &[u8]
         ensures { result.now ≡ self.now }
     {
@@ -72,9 +74,11 @@ pub enum Act {
         number: u32,
         text: Text,
     },
+    /// Takes back a submission of the account itself.
     Withdraw {
         number: u32,
     },
+    /// Approves a submission: what it proposes is done.
     Approve {
         number: u32,
     },
@@ -100,6 +104,7 @@ pub struct Command {
 /// What an accepted command is answered.
 #[derive(Clone, Copy, Debug, PartialEq, Eq)]
 pub enum Reply {
+    /// There is no more to say.
     Done,
     /// The number of the new submission.
     Numbered(u32),

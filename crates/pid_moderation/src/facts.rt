@@ -20,6 +20,7 @@ pub struct Named {
     pub path: Path,
     pub proposal: Proposal,
     pub state: State,
+    /// How many remarks it has.
     pub remarks: u32,
 }
 
@@ -33,23 +34,34 @@ pub enum Verdict {
         same: u32,
         items: u32,
     },
+    /// Why it is not imported.
     Faulty(FileFault),
 }
 
 /// What a command is judged by. What it does not look at is None, 0 or false.
 #[derive(Debug, Drop)]
 pub struct Facts {
+    /// The rank of the account that sent the command; None of one that is not known.
     pub rank: Option<Rank>,
+    /// The reply that is kept for this account under the command's key.
     pub kept: Option<Reply>,
     /// How many commands were accepted since the registry began to count.
     pub revision: u64,
+    /// The rank of the account whose rank is to be set; None where it is new.
     pub who: Option<Rank>,
+    /// How many submissions there are, where one more is to be made.
     pub submissions: u32,
+    /// How many items there are, where a submission is to be approved.
     pub items: u32,
+    /// The submission with the command's number; None where there is none.
     pub named: Option<Named>,
+    /// The name at the path of the submission that is to be approved.
     pub present: Option<Name>,
+    /// Whether the parent of that path is there, or the path has none.
     pub has_parent: bool,
+    /// Whether that path is the parent of an item.
     pub has_children: bool,
-    /// What the file of an import comes to; None where it is too long.
+    /// What the file of an import comes to. For `before_file` it is None, since the file is not read yet; for `decide` it is None
+    /// where the file is too long, and of every other command.
     pub file: Option<Verdict>,
 }

@@ -41,7 +41,7 @@ fn first<'a>(fields: &'a [(String, String)], name: &str) -> Option<&'a (String, 
     fields.iter().find(|field| field.0.as_str() == name)
 }
 
-/// The value of a field.
+/// The value of the first field of this name.
 pub fn value<'a>(fields: &'a [(String, String)], name: &str) -> Option<&'a str>
     ensures { option_copied result ≡ value_in name.now (texts_of fields.now) }
 {
@@ -77,7 +77,7 @@ pub fn is_one_of(fields: &[(String, String)], name: &str, other: &str) -> bool
     (names == 1 && others == 0) || (names == 0 && others == 1)
 }
 
-/// The rank with the digit.
+/// The rank with the number `0` to `3`.
 pub fn rank_said(text: &str) -> Option<Rank>
     ensures { result ≡ rank_in text.now }
 {
@@ -145,6 +145,7 @@ fn refusal_of(fault: WordFault, bad: Refusal) -> Refusal
     }
 }
 
+/// The name of an account; or `BadText`, or `Memory`.
 pub fn account_in(alloc: Global, text: &str) -> Result<Account, Refusal>
     ensures ok { IfOk result (λ word. (word ≡ text.now) × (account_test text.now ≡ true)) }
     ensures err { IfErr result (λ e. e ≢ Refusal.Memory → (e ≡ Refusal.BadText) ×
@@ -156,6 +157,7 @@ pub fn account_in(alloc: Global, text: &str) -> Result<Account, Refusal>
     }
 }
 
+/// A key, where there is one; or `BadText`, or `Memory`.
 pub fn key_in(alloc: Global, text: Option<&str>) -> Result<Option<Key>, Refusal>
     ensures ok { IfOk result (λ word. (word ≡ option_copied text.entry) ×
         (is_none_or key_test (option_copied text.entry) ≡ true)) }
@@ -171,6 +173,7 @@ pub fn key_in(alloc: Global, text: Option<&str>) -> Result<Option<Key>, Refusal>
     }
 }
 
+/// A name of an item; or `BadName`, or `Memory`.
 pub fn name_in(alloc: Global, text: &str) -> Result<Name, Refusal>
     ensures ok { IfOk result (λ word. (word ≡ text.now) × (name_test text.now ≡ true)) }
     ensures err { IfErr result (λ e. e ≢ Refusal.Memory → (e ≡ Refusal.BadName) ×
@@ -182,6 +185,7 @@ pub fn name_in(alloc: Global, text: &str) -> Result<Name, Refusal>
     }
 }
 
+/// A note, which may be empty; or `BadText`, or `Memory`.
 pub fn note_in(alloc: Global, text: &str) -> Result<Text, Refusal>
     ensures ok { IfOk result (λ word. (word ≡ text.now) × (text_test text.now ≡ true)) }
     ensures err { IfErr result (λ e. e ≢ Refusal.Memory → (e ≡ Refusal.BadText) ×
@@ -193,7 +197,7 @@ pub fn note_in(alloc: Global, text: &str) -> Result<Text, Refusal>
     }
 }
 
-/// A comment or a reason.
+/// A comment or a reason, which is not empty; or `BadText`, or `Memory`.
 pub fn remark_in(alloc: Global, text: &str) -> Result<Text, Refusal>
     ensures ok { IfOk result (λ word. (word ≡ text.now) × (remark_test text.now ≡ true)) }
     ensures err { IfErr result (λ e. e ≢ Refusal.Memory → (e ≡ Refusal.BadText) ×
@@ -206,6 +210,7 @@ pub fn remark_in(alloc: Global, text: &str) -> Result<Text, Refusal>
     Ok(remark)
 }
 
+/// A file; or `BadText` where it is too long, or `Memory`.
 pub fn file_in(alloc: Global, text: &str) -> Result<File, Refusal>
     ensures ok { IfOk result (λ file. (file ≡ text.now) × (nat_le (length text.now) file_bytes ≡ true)) }
     ensures err { IfErr result (λ e. e ≢ Refusal.Memory → (e ≡ Refusal.BadText) ×

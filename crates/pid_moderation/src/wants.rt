@@ -11,10 +11,13 @@ use pid_ident::Account;
 /// The rows that a command is judged by, beside its account's rank and kept reply.
 #[derive(Clone, Copy)]
 pub enum Rows<'a> {
+    /// The rank of this account.
     Rank(&'a Account),
+    /// How many submissions there are.
     Submissions,
+    /// The submission with this number.
     Submission(u32),
-    /// The submission, and the item of its path.
+    /// The submission with this number, and the item of its path.
     Item(u32),
     /// None: an import is judged by what its file comes to.
     Nothing,

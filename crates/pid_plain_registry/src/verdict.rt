@@ -80,7 +80,7 @@ fn good(mut items: BTreeMap<Path, Name>, pairs: &[(Path, Name)]) -> Result<Verdi
     })
 }
 
-/// What a file comes to over the items.
+/// What a file comes to over the items; None where it is too long.
 pub fn verdict(
     items: BTreeMap<Path, Name>,
     file: &FileReading,

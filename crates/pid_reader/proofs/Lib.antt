@@ -1,5 +1,6 @@
 pub mod Rows
 pub mod Cells
+pub mod WholeLineLaws
 pub mod Written
 pub mod Steps
 pub mod Listing

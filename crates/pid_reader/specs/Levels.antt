@@ -23,5 +23,6 @@ level n [] = []
 level zero (l ∷ ls) = l
 level (suc n) (l ∷ ls) = level n ls
 
+-- the digits of each identifier in a line of this depth
 abbrev pub widths : Mark → ℕ → List ℕ
 widths m d = level d (levels m)

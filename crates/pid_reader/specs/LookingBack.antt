@@ -16,8 +16,9 @@ is_above n line = not (is_idle line) && nat_lt (depth line) n
 abbrev pub above : ℕ → List (List ℕ) → Option (List ℕ)
 above n earlier = find (is_above n) earlier
 
--- the head of a line: itself at depth 0, else the nearest earlier line of depth 0, or the empty line where there is none.
--- The empty line's mark is that of vendors: so a nested line without a head is an entry, with NoParent or, behind three tabs, TooDeep.
+-- The head of a line: itself at depth 0, else the nearest earlier line of depth 0. Where there is none the empty line stands for it,
+-- whose mark is that of vendors: so a nested line without a head counts as an entry if it is not idle, and the first of these lines has
+-- a fault: NoParent, or TooDeep behind three tabs or more, or before both NotUtf8.
 abbrev pub head_of : List (List ℕ) → List ℕ → List ℕ
 head_of earlier line = if depth line == 0 then line else unwrap_or (above 1 earlier) []
 
@@ -53,7 +54,8 @@ name_at earlier line = name_in (widths_at earlier line) (inside line)
 abbrev pub head_path : List ℕ → List ℕ
 head_path line = front (mark line) ++ digits_in (widths (mark line) 0) (inside line)
 
--- the path of a line: that of its parent line, a slash, and its digits
+-- The path of a line: that of its parent line, a slash, and its digits. Between a line and its parent line stands no head, so a parent line
+-- that is nested has the same head, and its digits may be read with the lines before its child.
 abbrev pub path_at : List (List ℕ) → List ℕ → List ℕ
 path_at earlier line =
     if depth line == 0 then head_path line else

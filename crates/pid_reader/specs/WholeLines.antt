@@ -1,8 +1,9 @@
 -- Which lines of a text that comes in pieces are whole: those whose LF has come.
+-- A text is its ended pieces, each with its LF, and then its open part, in which there is no LF.
 use Rattle.std.specs.Prelude.{ℕ, List, [], ◌∷◌, map, ◌==◌, if◌then◌else◌}
 use Rattle.pid_reader.specs.Lines.{drop_cr}
 
--- a byte goes onto the first piece, where there is one
+-- a byte goes onto the first ended piece; where there is none it is of the open part
 abbrev pub onto_ended : ℕ → List (List ℕ) → List (List ℕ)
 onto_ended b [] = []
 onto_ended b (piece ∷ pieces) = (b ∷ piece) ∷ pieces
@@ -12,6 +13,7 @@ abbrev pub ended_pieces : List ℕ → List (List ℕ)
 ended_pieces [] = []
 ended_pieces (b ∷ bs) = if b == 10 then [] ∷ ended_pieces bs else onto_ended b (ended_pieces bs)
 
+-- a byte goes onto the open part where no ended piece stands between
 abbrev pub onto_open : ℕ → List (List ℕ) → List ℕ → List ℕ
 onto_open b [] rest = b ∷ rest
 onto_open b (piece ∷ pieces) rest = rest

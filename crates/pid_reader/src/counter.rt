@@ -5,6 +5,7 @@ use crate::sink::{Entry, Sink};
 /// Counts entries, up to the greatest count.
 #[derive(Clone, Copy, Debug, PartialEq, Eq)]
 pub struct Counter {
+    /// How many entries came.
     pub count: u64,
 }
 

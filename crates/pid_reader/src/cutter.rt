@@ -44,6 +44,7 @@ fn take_line<S: Sink>(
 }
 
 impl Cutter {
+    /// A cutter to which no byte of a text came yet.
     pub fn new(alloc: Global) -> Cutter
         ensures { Holds result [] }
     {
@@ -88,7 +89,11 @@ impl Cutter {
         Ok(())
     }
 
-    /// Takes the next piece of the text.
+    /// Takes the next piece of the text, and hands the entries of the lines whose LF has come to the sink, up to the first
+    /// line that is refused.
+    ///
+    /// After an error nothing more is read: `feed` and `finish` leave the sink as it is and give that refusal ever after,
+    /// or `Memory` where the sink faulted.
     pub fn feed<S: Sink>(&mut self, piece: &[u8], sink: &mut S) -> Result<(), CutEnd<S::Fault>>
         ensures stopped { (r : ReadRefusal) → IsStopped self.old r → (result ≡ Err (Refused r)) × (sink.new ≡ sink.old) × IsStopped self.new r }
         ensures stops { IfErr result (λ e. IsStopped self.new (left_by e)) }
@@ -112,7 +117,8 @@ impl Cutter {
         }
     }
 
-    /// The text has ended.
+    /// The text has ended: a last line without LF is read too. After an error of `feed` its refusal is given again, or
+    /// `Memory` where the sink faulted, and the sink stays as it is.
     pub fn finish<S: Sink>(self, sink: &mut S) -> Result<(), CutEnd<S::Fault>>
         ensures stopped { (r : ReadRefusal) → IsStopped self r → (result ≡ Err (Refused r)) × (sink.new ≡ sink.old) }
         ensures ends { (text : List ℕ) (start : S) → Holds self text → Took S.takes start (numbered_of (whole_lines text)) sink.old →

@@ -22,6 +22,7 @@ pub struct Feeder {
 }
 
 impl Feeder {
+    /// A feeder to which no byte of a text came yet.
     pub fn new(alloc: Global) -> Feeder
         ensures { Feeds result [] }
     {
@@ -31,7 +32,8 @@ impl Feeder {
         }
     }
 
-    /// Takes the next piece of the text.
+    /// Takes the next piece of the text. The error is the first refusal among the lines whose LF has come, or `Memory`;
+    /// `feed` and `finish` give it ever after.
     pub fn feed(&mut self, piece: &[u8]) -> Result<(), ReadRefusal>
         ensures feeds { (text : List ℕ) → Feeds self.old text → OnOk result (Feeds self.new (text ++ piece.now) × (refusal_of (whole_lines (text ++ piece.now)) ≡ None)) }
         ensures refused { (text : List ℕ) → Feeds self.old text → IfErr result (λ r. IsRefusal r (refusal_of (whole_lines (text ++ piece.now)))) }
@@ -62,7 +64,7 @@ impl Feeder {
         }
     }
 
-    /// The text has ended.
+    /// The text has ended: its tree; or its first refusal, or `Memory`. After an error of `feed` that is given again.
     pub fn finish(self) -> Result<Tree, ReadRefusal>
         ensures read { (text : List ℕ) → Feeds self text → IfOk result (λ t. Reads text t × (refused text ≡ None)) }
         ensures refused { (text : List ℕ) → Feeds self text → IfErr result (λ r. IsRefusal r (refused text)) }
@@ -76,7 +78,7 @@ impl Feeder {
     }
 }
 
-/// The tree of a text, or its first refusal.
+/// The tree of a text; or its first refusal, or `Memory`.
 pub fn read_ids(alloc: Global, text: &[u8]) -> Result<Tree, ReadRefusal>
     ensures read { IfOk result (λ t. Reads text.now t) }
     ensures counted { IfOk result (λ t. refused text.now ≡ None) }

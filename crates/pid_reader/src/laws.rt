@@ -1,5 +1,6 @@
 //! Laws of the definitions, over all texts and all trees.
-ghost use Rattle.std.specs.Prelude.{◌≡◌, ◌↔◌, ◌++◌, ◌≤◌, List, ℕ, None, Some, IsSome, IfSome, length, map};
+ghost use Rattle.std.specs.List.{AllByRecursion, flat_map};
+ghost use Rattle.std.specs.Prelude.{◌≡◌, ◌≢◌, ◌↔◌, ◌++◌, ◌∷◌, ◌≤◌, List, [], ℕ, None, Some, IsSome, IfSome, length, map};
 ghost use Rattle.std.specs.FinMap.Entries.{find};
 ghost use Rattle.pid_ident.specs.PathReading.{parent_text};
 ghost use Rattle.pid_ident.specs.Trees.{TreeMap, IsTree, text_cmp};
@@ -9,7 +10,7 @@ ghost use Rattle.pid_reader.specs.LookingBack.{entries_back};
 ghost use Rattle.pid_reader.specs.Reading.{AreGood, ENTRIES, Reads, entries_of, history_of, refused, refusal_of};
 ghost use Rattle.pid_reader.specs.Numbered.{item_in, numbered_of};
 ghost use Rattle.pid_reader.specs.Entries.{AreEntries};
-ghost use Rattle.pid_reader.specs.WholeLines.{whole_lines};
+ghost use Rattle.pid_reader.specs.WholeLines.{ended_pieces, open_part, whole_lines};
 ghost use Rattle.pid_reader.specs.declared.refusal.ReadRefusal.{ReadRefusal};
 
 /// A printed tree reads back to itself, and to no other tree.
@@ -20,6 +21,13 @@ pub fn printed_trees_read_back()
 /// What a text without faults says is a tree.
 pub fn texts_read_to_trees()
     ensures { (text : List ℕ) (t : TreeMap) → Reads text t → IsTree t }
+{}
+
+/// A text is its whole lines, each with its LF, and what stands open behind them. In neither is another LF.
+pub fn whole_lines_make_the_text()
+    ensures text { (text : List ℕ) → flat_map (λ line. line ++ 10 ∷ []) (ended_pieces text) ++ open_part text ≡ text }
+    ensures lines { (text : List ℕ) → AllByRecursion (λ line. AllByRecursion (λ b. b ≢ 10) line) (ended_pieces text) }
+    ensures open { (text : List ℕ) → AllByRecursion (λ b. b ≢ 10) (open_part text) }
 {}
 
 /// A refusal of the whole lines of a text, those whose LF has come, is the refusal of every text that begins with it.

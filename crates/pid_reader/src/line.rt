@@ -28,6 +28,7 @@ pub fn without_cr(piece: &[u8]) -> &[u8]
     }
 }
 
+/// Whether the bytes are UTF-8.
 pub fn is_utf8(bytes: &[u8]) -> bool
     ensures { result ≡ utf8_bytes bytes.now }
 {
@@ -37,6 +38,7 @@ pub fn is_utf8(bytes: &[u8]) -> bool
     }
 }
 
+/// Whether it is a space or a tab.
 pub fn is_blank(byte: u8) -> bool
     ensures { result ≡ blank_byte byte }
 {

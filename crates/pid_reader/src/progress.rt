@@ -19,12 +19,16 @@ const ENTRIES: usize = 100_000;
 /// What is kept of the lines that were read.
 #[derive(Drop)]
 pub struct Progress {
+    /// What the next nested line can belong to.
     pub levels: OpenLevels,
+    /// How many lines were read.
     pub lines: usize,
+    /// The paths of their entries.
     pub seen: Seen,
 }
 
 impl Progress {
+    /// What is kept before the first line.
     pub fn new(alloc: Global) -> Progress
         ensures { Shows result [] }
     {
@@ -89,7 +93,7 @@ impl Progress {
         }
     }
 
-    /// Reads one more line.
+    /// Reads one more line: its entry, if it is one; or what is refused at it, or `Memory`.
     pub fn judge<'b>(&mut self, line: &'b [u8]) -> Result<Option<Entry<'b>>, ReadRefusal>
         ensures taken { (earlier : List (List ℕ)) → Shows self.old earlier →
             IfOk result (λ o. Shows self.new (line.now ∷ earlier) × (refusal_at earlier line.now ≡ None) × (given o ≡ numbered_at earlier line.now)) }

@@ -21,5 +21,6 @@ pub enum ReadRefusal {
 pub struct LineFault {
     /// Its number, counted from 1.
     pub line: usize,
+    /// What is wrong with it.
     pub kind: LineKind,
 }

@@ -11,11 +11,14 @@ use std::collections::BTreeSet;
 /// A text in canonical order fills the run alone, where a new path costs one comparison.
 #[derive(Drop)]
 pub struct Seen {
+    /// Each is greater than the one before it.
     pub run: Vec<Path>,
+    /// Those that were not greater than the last of the run.
     pub rest: BTreeSet<Path>,
 }
 
 impl Seen {
+    /// No path was seen.
     pub fn new(alloc: Global) -> Seen
         ensures empty { paths_of result ≡ [] }
         ensures rising { IsRising result.run.items }

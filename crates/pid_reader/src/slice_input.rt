@@ -16,6 +16,7 @@ pub struct SliceInput<'a> {
 }
 
 impl<'a> SliceInput<'a> {
+    /// The bytes, all to come, with no read counted.
     pub fn new(bytes: &'a [u8]) -> SliceInput<'a>
         ensures rest { result.rest.now ≡ bytes.now }
         ensures no_reads { result.reads ≡ 0 }

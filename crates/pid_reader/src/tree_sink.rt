@@ -12,18 +12,22 @@ use std::alloc::{AllocError, Global};
 /// Why entries give no tree.
 #[derive(Clone, Copy, Debug, PartialEq, Eq)]
 pub enum TreeFault {
+    /// The parent of a path has no name.
     ParentMissing,
+    /// There is no memory.
     Memory,
 }
 
 /// Keeps the names of a tree, which is built at the end.
 #[derive(Drop)]
 pub struct TreeSink {
+    /// The names as they came.
     pub items: Vec<(Path, Name)>,
     alloc: Global,
 }
 
 impl TreeSink {
+    /// A sink to which no name came yet.
     pub fn new(alloc: Global) -> TreeSink
         ensures { tree_so_far result ≡ empty }
     {
@@ -33,6 +37,7 @@ impl TreeSink {
         }
     }
 
+    /// The tree of the names, or why they give none; of a path that came twice it has the last.
     pub fn into_tree(self) -> Result<Tree, TreeFault>
         ensures ok { IfOk result (λ t. t ≡ tree_so_far self) }
         ensures parent_missing { IsErrOf result TreeFault.ParentMissing → IsTree (tree_so_far self) → ⊥ }
@@ -46,13 +51,14 @@ impl TreeSink {
 }
 
 impl Sink for TreeSink {
+    ghost use Rattle.std.specs.Prelude.{◌≡◌};
     ghost use Rattle.pid_reader.specs.TreeSinks.{SetsItem};
 
     type Fault = AllocError;
 
     ghost takes = { SetsItem };
 
-    ghost faults = { λ s entry f t. Unit {0} };
+    ghost faults = { λ s entry f t. t.items.items ≡ s.items.items };
 
     fn entry(&mut self, entry: &Entry<'_>) -> Result<(), AllocError> {
         let name = Name::of_checked(self.alloc, entry.name)?;

@@ -9,7 +9,7 @@ use Rattle.sqlite.specs.Collation.TheVariants.{Binary}
 use Rattle.sqlite.specs.Command.TheVariants.{Select}
 use Rattle.sqlite.specs.Effect.{Database, Reads}
 use Rattle.sqlite.specs.Held.{Held, state}
-use Rattle.sqlite.specs.Listing.{understood, reads_listing, IsSourceOf}
+use Rattle.sqlite.specs.Listing.{understood, IsSourceOf}
 use Rattle.sqlite.specs.Ops.{binary}
 use Rattle.sqlite.specs.Order.{Row, column, value_cmp}
 use Rattle.sqlite.specs.Program.{overlay}
@@ -33,7 +33,7 @@ use Rattle.pid_rows.specs.LabelRows.{ExplainsNumber, HasLabel, IsDamageOf, IsMet
 use Rattle.pid_rows.specs.Unread.{IsUnread, IsNumber}
 use Rattle.pid_rows.specs.TableRows.{number}
 use Rattle.pid_rows.proofs.KeyTexts.{by_first}
-use Rattle.pid_rows.proofs.LabelTexts.{IsPlainIfAsked, plain_if_asked, meta_first, value_is}
+use Rattle.pid_rows.proofs.LabelTexts.{IsPlainIfAsked, plain_if_asked, value_is}
 use Rattle.pid_rows.proofs.MapLemmas.{none_over}
 use Rattle.pid_rows.proofs.Select.{passing, shown, simple_rows, texts_equal, text_equal}
 use Rattle.pid_rows.proofs.Statements.{IsSelect, program, simple}

@@ -43,11 +43,11 @@ IsMetaFirst schema = (others : List Table) × (schema.tables ≡ meta ∷ others
 
 -- some row of meta has the label, with this number
 abbrev pub HasLabel : Trees → List ℕ → ℕ → Type 0
-HasLabel db label n = (r : Row) × Has (db 0) r × (column r 1 ≡ Text label) × (column r 2 ≡ number n)
+HasLabel db label n = (r : Row) × Has (db meta.tree) r × (column r 1 ≡ Text label) × (column r 2 ≡ number n)
 
 -- no row of meta has the label, or one has it with a value that is no number of 32 bits
 abbrev pub LacksNumber : Trees → List ℕ → Type 0
-LacksNumber db label = ((r : Row) → Has (db 0) r → ¬ (column r 1 ≡ Text label)) ⊎ ((r : Row) × Has (db 0) r × (column r 1 ≡ Text label) × ¬ (IsNumber (column r 2)))
+LacksNumber db label = ((r : Row) → Has (db meta.tree) r → ¬ (column r 1 ≡ Text label)) ⊎ ((r : Row) × Has (db meta.tree) r × (column r 1 ≡ Text label) × ¬ (IsNumber (column r 2)))
 
 -- memory was short, or the store failed or refused; else it is Damaged, and this is so
 abbrev pub IsDamageOf : Type 0 → TableFault → Type 0

@@ -6,6 +6,7 @@ use Rattle.pid_moderation.specs.Views.{Views}
 use Rattle.pid_rows.specs.declared.version.Version.TheVariants.{One, Two}
 use Rattle.pid_rows.specs.PairRows.{RowsAre}
 use Rattle.pid_rows.specs.Schema.{schema_of}
+use Rattle.pid_rows.specs.Schema as tables
 use Rattle.pid_rows.specs.Shows.{Counts, AreViews, labels_of, standing_in, remark_in, receipt_in, since_in}
 use Rattle.pid_rows.specs.TableRows.{meta_row, account_row, item_row, submission_row, remark_row, receipt_row, since_row}
 
@@ -15,10 +16,10 @@ pub record IsBetween (counts : Counts) (db : Database) (v : Views) : Type 0 wher
   pub sound : IsDatabase db
   pub views : AreViews v
   pub uncounted : v.revision ≡ 0
-  pub meta : RowsAre meta_row (labels_of One counts 0) (db.trees 0)
-  pub accounts : RowsAre account_row v.rank (db.trees 2)
-  pub items : RowsAre item_row (λ path. name_at path v.items) (db.trees 4)
-  pub submissions : RowsAre submission_row (standing_in v) (db.trees 6)
-  pub remarks : RowsAre remark_row (remark_in v) (db.trees 7)
-  pub receipts : RowsAre receipt_row (receipt_in v) (db.trees 9)
-  pub sinces : RowsAre since_row (since_in v) (db.trees 11)
+  pub meta : RowsAre meta_row (labels_of One counts 0) (db.trees tables.meta.tree)
+  pub accounts : RowsAre account_row v.rank (db.trees tables.account.tree)
+  pub items : RowsAre item_row (λ path. name_at path v.items) (db.trees tables.item.tree)
+  pub submissions : RowsAre submission_row (standing_in v) (db.trees tables.submission.tree)
+  pub remarks : RowsAre remark_row (remark_in v) (db.trees tables.remark.tree)
+  pub receipts : RowsAre receipt_row (receipt_in v) (db.trees tables.receipt.tree)
+  pub sinces : RowsAre since_row (since_in v) (db.trees tables.item_since.tree)

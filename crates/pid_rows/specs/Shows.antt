@@ -14,6 +14,7 @@ use Rattle.pid_moderation.specs.Views.{Views, Submitted, Remark, submission_at}
 use Rattle.pid_rows.specs.declared.version.Version.{Version}
 use Rattle.pid_rows.specs.declared.version.Version.TheVariants.{One, Two}
 use Rattle.pid_rows.specs.Schema.{schema_of, number_of}
+use Rattle.pid_rows.specs.Schema as tables
 use Rattle.pid_rows.specs.PairRows.{Map, RowsAre}
 use Rattle.pid_rows.specs.TableRows.{Standing, meta_row, account_row, item_row, submission_row, remark_row, receipt_row, since_row}
 
@@ -71,19 +72,19 @@ pub record AreViews (v : Views) : Type 0 where
 -- schema 2 has a table of the numbers by paths; schema 1 has none, and shows only what has no other number than 0
 abbrev pub ShowsNumbers : Version → Numbers → Trees → Type 0
 ShowsNumbers One numbers db = (numbers.revision ≡ 0) × ((path : List ℕ) (since : ℕ) → numbers.since path ≡ Some since → since ≡ 0)
-ShowsNumbers Two numbers db = RowsAre since_row numbers.since (db 11)
+ShowsNumbers Two numbers db = RowsAre since_row numbers.since (db tables.item_since.tree)
 
 -- tables of a schema show the views, while they keep these counts and these numbers
 pub record ShowsKeeping (version : Version) (counts : Counts) (numbers : Numbers) (db : Database) (v : Views) : Type 0 where
   pub schema : db.schema ≡ schema_of version
   pub sound : IsDatabase db
   pub views : AreViews v
-  pub meta : RowsAre meta_row (labels_of version counts numbers.revision) (db.trees 0)
-  pub accounts : RowsAre account_row v.rank (db.trees 2)
-  pub items : RowsAre item_row (λ path. name_at path v.items) (db.trees 4)
-  pub submissions : RowsAre submission_row (standing_in v) (db.trees 6)
-  pub remarks : RowsAre remark_row (remark_in v) (db.trees 7)
-  pub receipts : RowsAre receipt_row (receipt_in v) (db.trees 9)
+  pub meta : RowsAre meta_row (labels_of version counts numbers.revision) (db.trees tables.meta.tree)
+  pub accounts : RowsAre account_row v.rank (db.trees tables.account.tree)
+  pub items : RowsAre item_row (λ path. name_at path v.items) (db.trees tables.item.tree)
+  pub submissions : RowsAre submission_row (standing_in v) (db.trees tables.submission.tree)
+  pub remarks : RowsAre remark_row (remark_in v) (db.trees tables.remark.tree)
+  pub receipts : RowsAre receipt_row (receipt_in v) (db.trees tables.receipt.tree)
   pub sinces : ShowsNumbers version numbers db.trees
 
 -- the counts that the views have

@@ -11,16 +11,15 @@ use Rattle.pid_script.specs.declared.line_end.LineEnd.{LineEnd}
 use Rattle.pid_script.specs.declared.line_end.LineEnd.TheVariants.{Stopped, WriteFault, TooLong}
 use Rattle.pid_script.specs.declared.moderated.Moderated.{Ghosts}
 use Rattle.pid_script.specs.Calling.{CallsSend, CallsSendEither}
-use Rattle.pid_script.specs.Replies.{reply_to, command_of, commands_in, history_after, replies}
+use Rattle.pid_script.specs.Replies.{reply_to, command_of, commands_of_lines, history_after, replies}
 use Rattle.pid_script.specs.Saying.{Out, out, Says, LineEnds}
 use Rattle.pid_script.specs.ScriptLines.{Ask, ask_of}
-use Rattle.pid_script.specs.Standing.{Stands, Becomes, BecomesEither, IsUndone}
+use Rattle.pid_script.specs.Standing.{Stands, Becomes, BecomesEither, StopsBehind}
 use Rattle.pid_script.specs.StopLines.{IsBegun, StoppedBy, IsStopText}
 use Rattle.pid_script.specs.Progress.{Answered, Ended}
 use Rattle.pid_script.specs.Scripts.{NoneTooLong, NoneCalls, AllButLast, Fits, CallsNot, passage, Answers, IsToldFor, BreaksOff}
 use Rattle.pid_script.proofs.SayLemmas.{Appends-nil, Appends-then, front-then}
 use Rattle.pid_script.proofs.Calling.{send_then, send_either}
-use Rattle.pid_script.proofs.NoStopLines.{unstopped}
 use Rattle.pid_script.proofs.LineReplies.{commands_more, commands_one, commands_then, history_on, history_more, replies_on, replies_one, fits_more, calls_more, quiet_lines, quiet_before, all_but_last, but_one, history_waits, reply_more}
 
 becomes_then : {R : Type 0} (m : Ghosts R) (a b c : R) (h k l : History) → Becomes m a h b k → Becomes m b k c l → Becomes m a h c l
@@ -29,8 +28,8 @@ becomes_then m a b c h k l p q = record { shows = λ s. q.shows (p.shows s); fai
 either_then : {R : Type 0} (m : Ghosts R) (a b c : R) (h k l n : History) → Becomes m a h b k → BecomesEither m b k c l n → BecomesEither m a h c l n
 either_then m a b c h k l n p q = record { shows = λ s. q.shows (p.shows s); failed = λ f. q.failed (subst m.has_failed (sym (p.failed f)) f) ∙ p.failed f }
 
-undone_then : {R : Type 0} (m : Ghosts R) (a b c : R) (h k : History) (commands : List Asked) → Becomes m a h b k → IsUndone m b k c k commands → IsUndone m a h c k commands
-undone_then m a b c h k commands p q = record { shows = λ s. q.shows (p.shows s); failed = λ f. q.failed (subst m.has_failed (sym (p.failed f)) f) ∙ p.failed f }
+stops_then : {R : Type 0} (m : Ghosts R) (a b c : R) (h k : History) (commands : List Asked) → Becomes m a h b k → StopsBehind m b k c k commands → StopsBehind m a h c k commands
+stops_then m a b c h k commands p q = record { shows = λ s. q.shows (p.shows s); failed = λ f. q.failed (subst m.has_failed (sym (p.failed f)) f) ∙ p.failed f }
 
 pub stands_then : {R : Type 0} (m : Ghosts R) (a b : R) (h k : History) → Becomes m a h b k → Stands m a h → Stands m b k
 stands_then m a b h k p (inl s) = inl (p.shows s)
@@ -109,20 +108,20 @@ broken m h start first r old new all lines behind parts a front = record {
   is = inl refl;
   front = subst (SendsFront a.between new) a.rest (front-then a.between old.taken new a.sent old.held a.went front);
   leaves = record { shows = λ s. inr (inl (subst (λ l. m.showing.shows r (history_after h l)) a.parts (a.leaves.shows s))); failed = a.leaves.failed };
-  calls = inr (subst (λ l. CallsSend m.showing first (commands_in l) r) a.parts a.calls);
+  calls = inr (subst (λ l. CallsSend m.showing first (commands_of_lines l) r) a.parts a.calls);
 }
 
 -- one more line was answered, and is held
 more_held : {R : Type 0} (m : Ghosts R) (h : History) (start : Option (List ℕ)) (first r new : R) (old left : Out) (lines : List (List ℕ)) (line : List ℕ)
     → Answered m h start first r old lines → Says old left (reply_to (ask_of line) (history_after h lines)) → command_of (ask_of line) ≡ []
     → NoneTooLong (lines ++ line ∷ []) → Becomes m first h new (history_after h (lines ++ line ∷ [])) → (m.has_failed first → NoneCalls (lines ++ line ∷ []))
-    → CallsSend m.showing first (commands_in (lines ++ line ∷ [])) new
+    → CallsSend m.showing first (commands_of_lines (lines ++ line ∷ [])) new
     → Answered m h start first new left (lines ++ line ∷ [])
 more_held m h start first r new old left lines line a said none fits leaves lives calls = record {
   before = a.before;
   waiting = a.waiting ++ line ∷ [];
   parts = ap (λ (l : List (List ℕ)). l ++ line ∷ []) a.parts ∙ append_assoc a.before a.waiting (line ∷ []);
-  asked = commands_more a.waiting (line ∷ []) ∙ ap (λ (l : List Asked). l ++ commands_in (line ∷ [])) a.asked ∙ commands_one line ∙ none;
+  asked = commands_more a.waiting (line ∷ []) ∙ ap (λ (l : List Asked). l ++ commands_of_lines (line ∷ [])) a.asked ∙ commands_one line ∙ none;
   between = a.between;
   told = a.told;
   sent = a.sent ++ said.sent;
@@ -160,8 +159,8 @@ more_answered m x h start first r new old left lines line a e = by e.leaves.flus
     lives : m.has_failed first → NoneCalls (lines ++ line ∷ [])
     lives = λ f. calls_more lines line (a.lives f) (e.leaves.lives (subst m.has_failed (sym (a.leaves.failed f)) f))
 
-    calls : CallsSend m.showing first (commands_in (lines ++ line ∷ [])) new
-    calls = subst (λ cs. CallsSend m.showing first cs new) (sym (commands_then lines line)) (send_then m.showing first r new (commands_in lines) (command_of (ask_of line)) a.calls e.sends)
+    calls : CallsSend m.showing first (commands_of_lines (lines ++ line ∷ [])) new
+    calls = subst (λ cs. CallsSend m.showing first cs new) (sym (commands_then lines line)) (send_then m.showing first r new (commands_of_lines lines) (command_of (ask_of line)) a.calls e.sends)
 
     by : (command_of (ask_of line) ≡ []) ⊎ (left.held ≡ []) → Answered m h start first new left (lines ++ line ∷ [])
     by (inl none) = more_held m h start first r new old left lines line a e.tells none fits leaves lives calls
@@ -183,15 +182,15 @@ told_for m first r h at k waiting line text same becomes (inr stop) =
     inr (waiting, line, text, refl, subst (λ g. IsStopText (StoppedBy m first h (ask_of line)) (IsBegun (ask_of line) g) text) same (stop_then m first r h k (ask_of line) (IsBegun (ask_of line) k) text becomes stop), refl)
 
 -- what calls sent for the lines before one, and none for that one
-none_sent : {R : Type 0} (m : Ghosts R) (first r new : R) (lines : List (List ℕ)) → CallsSend m.showing first (commands_in lines) r → CallsSend m.showing r [] new → CallsSend m.showing first (commands_in lines) new
-none_sent m first r new lines p q = subst (λ cs. CallsSend m.showing first cs new) (append-nil (commands_in lines)) (send_then m.showing first r new (commands_in lines) [] p q)
+none_sent : {R : Type 0} (m : Ghosts R) (first r new : R) (lines : List (List ℕ)) → CallsSend m.showing first (commands_of_lines lines) r → CallsSend m.showing r [] new → CallsSend m.showing first (commands_of_lines lines) new
+none_sent m first r new lines p q = subst (λ cs. CallsSend m.showing first cs new) (append-nil (commands_of_lines lines)) (send_then m.showing first r new (commands_of_lines lines) [] p q)
 
 -- or maybe for that one
-either_sent : {R : Type 0} (m : Ghosts R) (first r new : R) (lines : List (List ℕ)) (line : List ℕ) → CallsSend m.showing first (commands_in lines) r → CallsSendEither m.showing r [] (command_of (ask_of line)) new
-    → CallsSendEither m.showing first (commands_in lines) (commands_in (lines ++ line ∷ [])) new
+either_sent : {R : Type 0} (m : Ghosts R) (first r new : R) (lines : List (List ℕ)) (line : List ℕ) → CallsSend m.showing first (commands_of_lines lines) r → CallsSendEither m.showing r [] (command_of (ask_of line)) new
+    → CallsSendEither m.showing first (commands_of_lines lines) (commands_of_lines (lines ++ line ∷ [])) new
 either_sent m first r new lines line p q =
-    subst (λ cs. CallsSendEither m.showing first cs (commands_in (lines ++ line ∷ [])) new) (append-nil (commands_in lines))
-    (subst (λ cs. CallsSendEither m.showing first (commands_in lines ++ []) cs new) (sym (commands_then lines line)) (send_either m.showing first r new (commands_in lines) [] (command_of (ask_of line)) p q))
+    subst (λ cs. CallsSendEither m.showing first cs (commands_of_lines (lines ++ line ∷ [])) new) (append-nil (commands_of_lines lines))
+    (subst (λ cs. CallsSendEither m.showing first (commands_of_lines lines ++ []) cs new) (sym (commands_then lines line)) (send_either m.showing first r new (commands_of_lines lines) [] (command_of (ask_of line)) p q))
 
 -- a line ended it
 pub ends_at : {R : Type 0} (m : Ghosts R) (end : LineEnd) (h : History) (start : Option (List ℕ)) (first r new : R) (old left : Out) (all lines : List (List ℕ)) (line : List ℕ) (behind : List (List ℕ))
@@ -204,11 +203,10 @@ ends_at m Stopped h start first r new old left all lines line behind parts a e =
   parts = parts;
   fits = a.fits;
   lives = a.lives;
-  unstopped = unstopped h lines;
   text = e.tells.text;
   stop = stop_then m first r h (history_after h lines) (ask_of line) (IsBegun (ask_of line) (history_after h lines)) e.tells.text a.leaves e.tells.stop;
   told = all_told m h start first r old left.taken lines e.tells.text a e.tells.told;
-  leaves = undone_then m first r new h (history_after h lines) (command_of (ask_of line)) a.leaves e.leaves;
+  leaves = stops_then m first r new h (history_after h lines) (command_of (ask_of line)) a.leaves e.leaves;
   calls = none_sent m first r new lines a.calls e.sends;
 }
 ends_at m TooLong h start first r new old left all lines line behind parts a e = record {
@@ -243,7 +241,7 @@ ends_at m WriteFault h start first r new old left all lines line behind parts a 
       is = told_for m first r h at (history_after h lines) a.waiting line e.tells.text same a.leaves e.tells.is;
       front = subst (SendsFront a.between left.taken) (gone_on a.sent old.held (replies at a.waiting) e.tells.text a.rest) (front-then a.between old.taken left.taken a.sent (old.held ++ e.tells.text) a.went e.tells.front);
       leaves = subst (λ g. BecomesEither m first h new at g) next (subst (λ g. BecomesEither m first h new g (after_all (history_after h lines) (command_of (ask_of line)))) stays (either_then m first r new h (history_after h lines) (history_after h lines) (after_all (history_after h lines) (command_of (ask_of line))) a.leaves e.leaves));
-      calls = subst (λ cs. CallsSendEither m.showing first cs (commands_in (a.before ++ (a.waiting ++ line ∷ []))) new)
-          (ap commands_in a.parts ∙ commands_more a.before a.waiting ∙ ap (λ (l : List Asked). commands_in a.before ++ l) a.asked ∙ append-nil (commands_in a.before))
-          (subst (λ ls. CallsSendEither m.showing first (commands_in lines) (commands_in ls) new) whole (either_sent m first r new lines line a.calls e.sends));
+      calls = subst (λ cs. CallsSendEither m.showing first cs (commands_of_lines (a.before ++ (a.waiting ++ line ∷ []))) new)
+          (ap commands_of_lines a.parts ∙ commands_more a.before a.waiting ∙ ap (λ (l : List Asked). commands_of_lines a.before ++ l) a.asked ∙ append-nil (commands_of_lines a.before))
+          (subst (λ ls. CallsSendEither m.showing first (commands_of_lines lines) (commands_of_lines ls) new) whole (either_sent m first r new lines line a.calls e.sends));
     }

@@ -4,7 +4,7 @@ use Rattle.std.proofs.lemmas.List.{append-nil}
 use Rattle.std.specs.List.{AllByRecursion}
 use Rattle.pid_moderation.specs.History.{History, Asked}
 use Rattle.pid_moderation.specs.Judgement.{after, after_all}
-use Rattle.pid_script.specs.Replies.{reply_to, command_of, is_call, commands_in, history_after, replies}
+use Rattle.pid_script.specs.Replies.{reply_to, command_of, is_call, commands_of_lines, history_after, replies}
 use Rattle.pid_script.specs.ScriptLines.{ask_of}
 use Rattle.pid_script.specs.ScriptLines as asks
 use Rattle.pid_script.specs.Scripts.{NoneTooLong, NoneCalls, AllButLast, CommandsNot}
@@ -13,18 +13,18 @@ after_more : (xs : List Asked) (h : History) (ys : List Asked) → after_all h (
 after_more [] h ys = refl
 after_more (x ∷ xs) h ys = after_more xs (after h x) ys
 
-pub commands_more : (xs ys : List (List ℕ)) → commands_in (xs ++ ys) ≡ commands_in xs ++ commands_in ys
+pub commands_more : (xs ys : List (List ℕ)) → commands_of_lines (xs ++ ys) ≡ commands_of_lines xs ++ commands_of_lines ys
 commands_more [] ys = refl
-commands_more (x ∷ xs) ys = ap (λ (l : List Asked). command_of (ask_of x) ++ l) (commands_more xs ys) ∙ sym (append_assoc (command_of (ask_of x)) (commands_in xs) (commands_in ys))
+commands_more (x ∷ xs) ys = ap (λ (l : List Asked). command_of (ask_of x) ++ l) (commands_more xs ys) ∙ sym (append_assoc (command_of (ask_of x)) (commands_of_lines xs) (commands_of_lines ys))
 
-pub commands_one : (line : List ℕ) → commands_in (line ∷ []) ≡ command_of (ask_of line)
+pub commands_one : (line : List ℕ) → commands_of_lines (line ∷ []) ≡ command_of (ask_of line)
 commands_one line = append-nil (command_of (ask_of line))
 
-pub commands_then : (xs : List (List ℕ)) (line : List ℕ) → commands_in (xs ++ line ∷ []) ≡ commands_in xs ++ command_of (ask_of line)
-commands_then xs line = commands_more xs (line ∷ []) ∙ ap (λ (l : List Asked). commands_in xs ++ l) (commands_one line)
+pub commands_then : (xs : List (List ℕ)) (line : List ℕ) → commands_of_lines (xs ++ line ∷ []) ≡ commands_of_lines xs ++ command_of (ask_of line)
+commands_then xs line = commands_more xs (line ∷ []) ∙ ap (λ (l : List Asked). commands_of_lines xs ++ l) (commands_one line)
 
 pub history_on : (h : History) (xs ys : List (List ℕ)) → history_after h (xs ++ ys) ≡ history_after (history_after h xs) ys
-history_on h xs ys = ap (after_all h) (commands_more xs ys) ∙ after_more (commands_in xs) h (commands_in ys)
+history_on h xs ys = ap (after_all h) (commands_more xs ys) ∙ after_more (commands_of_lines xs) h (commands_of_lines ys)
 
 pub history_more : (h : History) (xs : List (List ℕ)) (line : List ℕ) → history_after h (xs ++ line ∷ []) ≡ after_all (history_after h xs) (command_of (ask_of line))
 history_more h xs line = history_on h xs (line ∷ []) ∙ ap (after_all (history_after h xs)) (commands_one line)
@@ -33,7 +33,7 @@ pub replies_on : (xs ys : List (List ℕ)) (h : History) → replies h (xs ++ ys
 replies_on [] ys h = refl
 replies_on (x ∷ xs) ys h =
     ap (λ (l : List ℕ). reply_to (ask_of x) h ++ l) (replies_on xs ys (after_all h (command_of (ask_of x))))
-    ∙ ap (λ g. reply_to (ask_of x) h ++ (replies (after_all h (command_of (ask_of x))) xs ++ replies g ys)) (sym (after_more (command_of (ask_of x)) h (commands_in xs)))
+    ∙ ap (λ g. reply_to (ask_of x) h ++ (replies (after_all h (command_of (ask_of x))) xs ++ replies g ys)) (sym (after_more (command_of (ask_of x)) h (commands_of_lines xs)))
     ∙ sym (append_assoc (reply_to (ask_of x) h) (replies (after_all h (command_of (ask_of x))) xs) (replies (history_after h (x ∷ xs)) ys))
 
 pub replies_one : (line : List ℕ) (h : History) → replies h (line ∷ []) ≡ reply_to (ask_of line) h
@@ -68,18 +68,18 @@ but_one P (x ∷ []) line all = (all.0, tt)
 but_one P (x ∷ y ∷ lines) line all = (all.0, but_one P (y ∷ lines) line all.1)
 
 -- lines without a command
-pub quiet_lines : (lines : List (List ℕ)) → commands_in lines ≡ [] → AllButLast CommandsNot lines
+pub quiet_lines : (lines : List (List ℕ)) → commands_of_lines lines ≡ [] → AllButLast CommandsNot lines
 quiet_lines [] none = tt
 quiet_lines (x ∷ []) none = tt
-quiet_lines (x ∷ y ∷ lines) none = (none_first (command_of (ask_of x)) (commands_in (y ∷ lines)) none, quiet_lines (y ∷ lines) (none_behind (command_of (ask_of x)) (commands_in (y ∷ lines)) none))
+quiet_lines (x ∷ y ∷ lines) none = (none_first (command_of (ask_of x)) (commands_of_lines (y ∷ lines)) none, quiet_lines (y ∷ lines) (none_behind (command_of (ask_of x)) (commands_of_lines (y ∷ lines)) none))
 
 -- and one line more
-pub quiet_before : (lines : List (List ℕ)) (line : List ℕ) → commands_in lines ≡ [] → AllButLast CommandsNot (lines ++ line ∷ [])
+pub quiet_before : (lines : List (List ℕ)) (line : List ℕ) → commands_of_lines lines ≡ [] → AllButLast CommandsNot (lines ++ line ∷ [])
 quiet_before [] line none = tt
 quiet_before (x ∷ []) line none = (none_first (command_of (ask_of x)) [] none, tt)
-quiet_before (x ∷ y ∷ lines) line none = (none_first (command_of (ask_of x)) (commands_in (y ∷ lines)) none, quiet_before (y ∷ lines) line (none_behind (command_of (ask_of x)) (commands_in (y ∷ lines)) none))
+quiet_before (x ∷ y ∷ lines) line none = (none_first (command_of (ask_of x)) (commands_of_lines (y ∷ lines)) none, quiet_before (y ∷ lines) line (none_behind (command_of (ask_of x)) (commands_of_lines (y ∷ lines)) none))
 
-pub history_waits : (h : History) (before waiting : List (List ℕ)) → commands_in waiting ≡ [] → history_after h (before ++ waiting) ≡ history_after h before
+pub history_waits : (h : History) (before waiting : List (List ℕ)) → commands_of_lines waiting ≡ [] → history_after h (before ++ waiting) ≡ history_after h before
 history_waits h before waiting none = history_on h before waiting ∙ ap (after_all (history_after h before)) none
 
 pub reply_more : (h : History) (lines : List (List ℕ)) (line : List ℕ) → replies h (lines ++ line ∷ []) ≡ replies h lines ++ reply_to (ask_of line) (history_after h lines)

@@ -1,6 +1,6 @@
 -- No reply is the line of a stop.
 use mathlib.Core.Bool.{true≢false}
-use Rattle.std.proofs.Common.{◌≡◌, ℕ, Bool, true, false, cond, eqb, get_or, ◌&&◌, ◌||◌, List, [], ◌∷◌, Option, Some, None, Result, Ok, Err, refl, sym, ap, ◌∙◌}
+use Rattle.std.proofs.Common.{◌≡◌, ℕ, Bool, true, false, cond, eqb, get_or, ◌&&◌, ◌||◌, List, [], Option, Some, None, Result, Ok, Err, refl, sym, ap, ◌∙◌}
 use Rattle.std.specs.Fmt.{digits}
 use Rattle.pid_ident.specs.declared.path.Path.{Path}
 use Rattle.pid_ident.specs.PathTexts.{path_text}
@@ -16,17 +16,17 @@ use Rattle.pid_moderation.specs.declared.refusal.Refusal.{Refusal}
 use Rattle.pid_moderation.specs.declared.refusal.Refusal.TheVariants.{BadPath, BadName, BadText, NoAccount, RankTooLow, NoSubmission, NotPending, NotAuthor, OwnDecision, ParentMissing, HasChildren, NothingToDo, FileFault, Full, Memory, Store, Failed}
 use Rattle.pid_moderation.specs.History.{History}
 use Rattle.pid_moderation.specs.Items.{name_at}
-use Rattle.pid_moderation.specs.Judgement.{answer, judge, after_all}
+use Rattle.pid_moderation.specs.Judgement.{answer, judge}
 use Rattle.pid_moderation.specs.ReplyLines.{accepted_line, refused_line, reply_text}
 use Rattle.pid_moderation.specs.Views.{views_of, items_of}
 use Rattle.pid_moderation.specs.Writes.{tree_of}
 use Rattle.pid_import.specs.Files.{asks}
 use Rattle.pid_tree.specs.Printing.{print}
 use Rattle.pid_script.specs.Asking.{command_asked, path_asked, look_up_asked}
-use Rattle.pid_script.specs.Replies.{reply_to, outcome_of, item_line, name_line, looked_up, answer_line, BAD_FLAGS, command_of}
+use Rattle.pid_script.specs.Replies.{reply_to, outcome_of, item_line, name_line, looked_up, answer_line, BAD_FLAGS}
 use Rattle.pid_script.specs.ScriptLines as lines
-use Rattle.pid_script.specs.ScriptLines.{Ask, ask_of}
-use Rattle.pid_script.specs.StopLines.{is_stop, IsStopLine, Unstopped}
+use Rattle.pid_script.specs.ScriptLines.{Ask}
+use Rattle.pid_script.specs.StopLines.{is_stop, IsStopLine}
 use Rattle.pid_script.proofs.Causes.{command_no_stop, path_no_stop}
 use Rattle.pid_script.proofs.NoStops.{judged_no_stop}
 
@@ -121,7 +121,7 @@ looked_no_stop None h = refused_no_stop BadText refl
 looked_no_stop (Some l) h = flags_no_stop (is_bad l.flags) (answer_of (tree_of h) l.flags l.args l.size)
 
 -- no reply stops a script
-reply_no_stop : (ask : Ask) (h : History) → IsStopLine (reply_to ask h) → ⊥
+pub reply_no_stop : (ask : Ask) (h : History) → IsStopLine (reply_to ask h) → ⊥
 unfolding stop_bytes
 reply_no_stop lines.Nothing h = by_bytes [] refl
 reply_no_stop (lines.Commands verb account fields) h = outcome_no_stop (command_asked verb account fields) h (command_no_stop verb account fields)
@@ -130,7 +130,3 @@ reply_no_stop (lines.Reads fields) h = item_no_stop (path_asked fields) h (path_
 reply_no_stop (lines.LooksUp fields) h = looked_no_stop (look_up_asked fields) h
 reply_no_stop lines.Unclear h = refused_no_stop BadText refl
 reply_no_stop lines.TooLong h = refused_no_stop BadText refl
-
-pub unstopped : (h : History) (ls : List (List ℕ)) → Unstopped h ls
-unstopped h [] = tt
-unstopped h (line ∷ ls) = (reply_no_stop (ask_of line) h, unstopped (after_all h (command_of (ask_of line))) ls)

@@ -11,7 +11,7 @@ use Rattle.pid_script.specs.declared.moderated.Moderated.{Ghosts}
 use Rattle.pid_script.specs.declared.script_end.ScriptEnd.{ScriptEnd}
 use Rattle.pid_script.specs.declared.script_end.ScriptEnd.TheVariants.{Done, WriteFault, TooLong, Stopped}
 use Rattle.pid_script.specs.Calling.{CallsSend}
-use Rattle.pid_script.specs.Replies.{replies, commands_in, history_after}
+use Rattle.pid_script.specs.Replies.{replies, commands_of_lines, history_after}
 use Rattle.pid_script.specs.Saying.{Out}
 use Rattle.pid_script.specs.Scripts.{NoneTooLong, NoneCalls, passage, Answers, StopsAtLine, EndsTooLong, BreaksOff}
 use Rattle.pid_script.specs.Standing.{Becomes}
@@ -23,7 +23,7 @@ module _ {R : Type 0} (registry : Ghosts R) where
     pub before : List (List ℕ)
     pub waiting : List (List ℕ)
     pub parts : lines ≡ before ++ waiting
-    pub asked : commands_in waiting ≡ []
+    pub asked : commands_of_lines waiting ≡ []
     pub between : Option (List ℕ)
     pub told : Appends start between (replies h before)
     pub sent : List ℕ
@@ -32,7 +32,7 @@ module _ {R : Type 0} (registry : Ghosts R) where
     pub fits : NoneTooLong lines
     pub leaves : Becomes registry old h new (history_after h lines)
     pub lives : registry.has_failed old → NoneCalls lines
-    pub calls : CallsSend registry.showing old (commands_in lines) new
+    pub calls : CallsSend registry.showing old (commands_of_lines lines) new
 
   -- the whole lines of a front of the text were answered, and what stands behind them is kept
   pub record HasAnswered (h : History) (start : Option (List ℕ)) (old new : R) (now : Out) (kept front : List ℕ) : Type 0 where

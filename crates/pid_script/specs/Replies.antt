@@ -92,13 +92,13 @@ command_of Unclear = []
 command_of TooLong = []
 
 -- the commands of lines, in turn
-abbrev pub commands_in : List (List ℕ) → List Asked
-commands_in [] = []
-commands_in (line ∷ lines) = command_of (ask_of line) ++ commands_in lines
+abbrev pub commands_of_lines : List (List ℕ) → List Asked
+commands_of_lines [] = []
+commands_of_lines (line ∷ lines) = command_of (ask_of line) ++ commands_of_lines lines
 
 -- the history behind lines
 abbrev pub history_after : History → List (List ℕ) → History
-history_after h lines = after_all h (commands_in lines)
+history_after h lines = after_all h (commands_of_lines lines)
 
 -- the replies to lines, each over the history that the lines before it lead to
 abbrev pub replies : History → List (List ℕ) → List ℕ

@@ -19,7 +19,7 @@ use Rattle.pid_script.specs.Calling.{CallsSend, CallsSendEither}
 use Rattle.pid_script.specs.ScriptLines as lines
 use Rattle.pid_script.specs.ScriptLines.{Ask}
 use Rattle.pid_script.specs.Replies.{reply_to, command_of, is_call}
-use Rattle.pid_script.specs.Standing.{Becomes, BecomesEither, IsUndone}
+use Rattle.pid_script.specs.Standing.{Becomes, BecomesEither, StopsBehind}
 use Rattle.pid_script.specs.StopLines.{is_stop, IsBegun, StoppedBy, IsStopText}
 
 -- what a writer took, and what is held for it
@@ -127,7 +127,7 @@ module _ {R : Type 0} (registry : Ghosts R) where
   abbrev pub Leaves : Result (Unit {0}) LineEnd → R → History → R → Ask → Out → Type 0
   Leaves (Ok x) r h new ask left = GoesBehind r h new ask left
   Leaves (Err TooLong) r h new ask left = EndsBehind r h new ask
-  Leaves (Err Stopped) r h new ask left = IsUndone registry r h new h (command_of ask)
+  Leaves (Err Stopped) r h new ask left = StopsBehind registry r h new h (command_of ask)
   Leaves (Err WriteFault) r h new ask left = BecomesEither registry r h new h (after_all h (command_of ask))
 
   -- What calls sent for the line: its command where it was answered, none that has an outcome where it was stopped, and one or the

@@ -12,9 +12,9 @@ use Rattle.pid_script.specs.declared.script_end.ScriptEnd.TheVariants.{Done, Rea
 use Rattle.pid_script.specs.ScriptLines as asks
 use Rattle.pid_script.specs.ScriptLines.{ask_of}
 use Rattle.pid_script.specs.Calling.{CallsSend, CallsSendEither}
-use Rattle.pid_script.specs.Replies.{replies, command_of, commands_in, history_after, is_call}
-use Rattle.pid_script.specs.Standing.{Becomes, BecomesEither, IsUndone}
-use Rattle.pid_script.specs.StopLines.{IsBegun, StoppedBy, IsStopText, Unstopped}
+use Rattle.pid_script.specs.Replies.{replies, command_of, commands_of_lines, history_after, is_call}
+use Rattle.pid_script.specs.Standing.{Becomes, BecomesEither, StopsBehind}
+use Rattle.pid_script.specs.StopLines.{IsBegun, StoppedBy, IsStopText}
 
 -- the room of one read, in bytes
 abbrev pub BUFFER_ROOM : ℕ
@@ -71,14 +71,15 @@ module _ {R : Type 0} (registry : Ghosts R) where
     pub told : Appends p.taken p.taken_now (replies h lines)
     pub leaves : Becomes registry p.old h p.new (history_after h lines)
     pub lives : registry.has_failed p.old → NoneCalls lines
-    pub calls : CallsSend registry.showing p.old (commands_in lines) p.new
+    pub calls : CallsSend registry.showing p.old (commands_of_lines lines) p.new
 
   -- what stops a script at a line, whose history is the one behind the lines before
   abbrev pub IsStop : R → History → History → List ℕ → List ℕ → Type 0
   IsStop r h at line text = IsStopText (StoppedBy registry r h (ask_of line)) (IsBegun (ask_of line) at) text
 
-  -- The lines before one got their replies, of which none stops a script. In place of its reply, or behind what was begun of it, the
-  -- line of a refusal stands last; and the line itself came to nothing. The commands that calls sent are those of the lines before.
+  -- The lines before one got their replies. In place of its reply, or behind what was begun of it, the line of a refusal stands last;
+  -- and the registry shows the history before the line, or has failed at its command, which may stand. The commands that calls sent are
+  -- those of the lines before.
   pub record StopsAtLine (h : History) (p : Passage R) (lines : List (List ℕ)) : Type 0 where
     pub before : List (List ℕ)
     pub line : List ℕ
@@ -86,12 +87,11 @@ module _ {R : Type 0} (registry : Ghosts R) where
     pub parts : lines ≡ before ++ line ∷ behind
     pub fits : NoneTooLong before
     pub lives : registry.has_failed p.old → NoneCalls before
-    pub unstopped : Unstopped h before
     pub text : List ℕ
     pub stop : IsStop p.old h (history_after h before) line text
     pub told : Appends p.taken p.taken_now (replies h before ++ text)
-    pub leaves : IsUndone registry p.old h p.new (history_after h before) (command_of (ask_of line))
-    pub calls : CallsSend registry.showing p.old (commands_in before) p.new
+    pub leaves : StopsBehind registry p.old h p.new (history_after h before) (command_of (ask_of line))
+    pub calls : CallsSend registry.showing p.old (commands_of_lines before) p.new
 
   -- the lines before one got their replies, and that one is too long, and was told so
   pub record EndsTooLong (h : History) (p : Passage R) (lines : List (List ℕ)) : Type 0 where
@@ -104,7 +104,7 @@ module _ {R : Type 0} (registry : Ghosts R) where
     pub lives : registry.has_failed p.old → NoneCalls before
     pub told : Appends p.taken p.taken_now (replies h (before ++ line ∷ []))
     pub leaves : Becomes registry p.old h p.new (history_after h before)
-    pub calls : CallsSend registry.showing p.old (commands_in before) p.new
+    pub calls : CallsSend registry.showing p.old (commands_of_lines before) p.new
 
   -- the text for lines: their replies, of which the last may be a stop
   abbrev pub IsToldFor : R → History → History → List (List ℕ) → List ℕ → Type 0
@@ -130,7 +130,7 @@ module _ {R : Type 0} (registry : Ghosts R) where
     pub is : IsToldFor p.old h (history_after h before) waiting text
     pub front : SendsFront between p.taken_now text
     pub leaves : BecomesEither registry p.old h p.new (history_after h before) (history_after h (before ++ waiting))
-    pub calls : CallsSendEither registry.showing p.old (commands_in before) (commands_in (before ++ waiting)) p.new
+    pub calls : CallsSendEither registry.showing p.old (commands_of_lines before) (commands_of_lines (before ++ waiting)) p.new
 
   -- part of the text was read, and its whole lines got their replies
   pub record IsCutOff (h : History) (p : Passage R) (text : List ℕ) (rest : Option (List ℕ)) : Type 0 where

@@ -28,8 +28,8 @@ module _ {R : Type 0} (registry : Ghosts R) where
   FailsAt r h [] = ⊥
   FailsAt r h (c ∷ cs) = registry.showing.fails_between r h (after h c)
 
-  -- A line with these commands came to nothing: if the registry showed the one history, it now shows the other, which is the one
-  -- before the line, or it has failed at the line's command. If it had failed earlier, it is as before.
-  pub record IsUndone (old : R) (h : History) (new : R) (before : History) (commands : List Asked) : Type 0 where
+  -- What a stop leaves: if the registry showed the one history, it now shows the other, which is the one before the line of the stop, or
+  -- it has failed at the command of that line, which may stand. If it had failed earlier, it is as before.
+  pub record StopsBehind (old : R) (h : History) (new : R) (before : History) (commands : List Asked) : Type 0 where
     pub shows : registry.showing.shows old h → registry.showing.shows new before ⊎ FailsAt new before commands
     pub failed : registry.has_failed old → new ≡ old

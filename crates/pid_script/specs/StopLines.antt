@@ -1,16 +1,15 @@
 -- The line that stops a script: choices of this project.
-use Rattle.std.specs.Prelude.{◌≡◌, ◌⊎◌, ℕ, Bool, true, false, List, [], ◌∷◌, ◌++◌}
+use Rattle.std.specs.Prelude.{◌≡◌, ◌⊎◌, ℕ, Bool, true, false, List, [], ◌++◌}
 use Rattle.pid_tree.specs.Printing.{print}
 use Rattle.pid_moderation.specs.declared.refusal.Refusal.{Refusal}
 use Rattle.pid_moderation.specs.declared.refusal.Refusal.TheVariants.{Memory, Store, Failed}
 use Rattle.pid_moderation.specs.History.{History}
-use Rattle.pid_moderation.specs.Judgement.{after_all}
 use Rattle.pid_moderation.specs.ReplyLines.{refused_line}
 use Rattle.pid_moderation.specs.Writes.{tree_of}
 use Rattle.pid_script.specs.declared.moderated.Moderated.{Ghosts}
 use Rattle.pid_moderation.specs.Faults.{IsFault}
-use Rattle.pid_script.specs.Replies.{is_call, reply_to, command_of}
-use Rattle.pid_script.specs.ScriptLines.{Ask, ask_of, Nothing, Commands, Exports, Reads, LooksUp, Unclear, TooLong}
+use Rattle.pid_script.specs.Replies.{is_call}
+use Rattle.pid_script.specs.ScriptLines.{Ask, Nothing, Commands, Exports, Reads, LooksUp, Unclear, TooLong}
 use Rattle.pid_script.specs.WholeFronts.{IsWholeFront}
 
 -- a refusal of memory, of the store, or of a registry that has failed: it judges nothing, and stops the script
@@ -23,11 +22,6 @@ is_stop refusal = false
 -- the line of such a refusal
 abbrev pub IsStopLine : List ℕ → Type 0
 IsStopLine text = (refusal : Refusal) × (is_stop refusal ≡ true) × (text ≡ refused_line refusal)
-
--- each of the lines got a reply, over the history that the lines before it lead to, that stops no script
-abbrev pub Unstopped : History → List (List ℕ) → Type 0
-Unstopped h [] = Unit {0}
-Unstopped h (line ∷ lines) = (IsStopLine (reply_to (ask_of line) h) → ⊥) × Unstopped (after_all h (command_of (ask_of line))) lines
 
 -- what stands before the line: of an export whole lines of its text, else nothing
 abbrev pub IsBegun : Ask → History → List ℕ → Type 0

@@ -36,7 +36,8 @@ pub trait Moderated {
     /// Obeys a command, or says why not.
     fn obey(&mut self, command: Command) -> Result<Reply, Refusal>
         ensures honest { showing.is_clean self.new → showing.is_clean self.old }
-        // To lives it is the call that obeys the command: with this answer, of a registry that then is live or has failed.
+        // To lives it is the call that obeys the command, with this answer. `live` says whether the registry is live behind it:
+        // with true it shows one history, and only with false may it have failed between two.
         ensures calls { (live : Bool) × Does showing self.old (obeyed (asks command) result live) self.new }
         ensures obeys { showing.is_clean self.new → (h : History) → showing.shows self.old h → CommandLeaves showing result self.new h (asks command) }
         ensures failed { has_failed self.old → (result ≡ Err Failed) × (self.new ≡ self.old) };

@@ -2,7 +2,7 @@
 //!
 //! Replies are held until a command was answered, a read ends or there is no more room, so that many go out by one write.
 //! Where there is no memory to hold them they go out at once.
-ghost use Rattle.std.specs.Prelude.{◌≡◌, ◌++◌, true, false, [], Option, Err, IfErr, IsSome, OnOk, OnErr};
+ghost use Rattle.std.specs.Prelude.{◌≡◌, ◌≤◌, ◌++◌, length, true, false, [], Option, Err, IfErr, IsSome, OnOk, OnErr};
 ghost use Rattle.std.specs.Io.KnownBytes.{Appends};
 ghost use Rattle.std.specs.List.{flat_map};
 ghost use Rattle.pid_ident.specs.Sending.{SendsFront};
@@ -19,6 +19,7 @@ pub const ROOM: usize = 65_536;
 fn holds(held: &mut Vec<u8>, text: &[u8]) -> bool
     ensures held { result ≡ true → held.new.items ≡ held.old.items ++ text.now }
     ensures same { result ≡ false → held.new.items ≡ held.old.items }
+    ensures room { length held.old.items ≤ ROOM → length held.new.items ≤ ROOM }
 {
     if ROOM.saturating_sub(held.len()) < text.len() {
         return false;

@@ -123,7 +123,7 @@ module _ {S : Type 0} (store : Ghosts S) where
 
   whole_or_long : (file text rest : List ℕ) (e : Refusal) → file ≡ text ++ rest → ReadsImport (Err (imports.Refused e)) (Some rest) text → length file ≤ most_file_bytes → text ≡ file
   whole_or_long file text rest e parts (inl whole) short = whole_text file text rest parts whole.at_end
-  whole_or_long file text rest e parts (inr long) short = absurd (too_short file text rest parts long short)
+  whole_or_long file text rest e parts (inr long) short = absurd (too_short file text rest parts long.1 short)
 
   pub bytes_obeyed : (given : Result Reply ImportEnd) (result : Result Reply Refusal) (r : Registry S store) (h : History) (command : Command) (file text rest : List ℕ) → IsPlain given result → given ≢ Err imports.Body → file ≡ text ++ rest → ReadsImport given (Some rest) text
       → length file ≤ most_file_bytes → ObeysImport store given r h (asked command (file_reading text)) → Obeys store result r h (asked command (file_reading file))

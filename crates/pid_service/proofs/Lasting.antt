@@ -9,7 +9,7 @@ use Rattle.pid_moderation.specs.declared.refusal.Refusal.TheVariants.{Memory, St
 use Rattle.pid_service.specs.declared.importing.ImportEnd.{ImportEnd}
 use Rattle.pid_service.specs.declared.importing.ImportEnd.TheVariants.{Refused, Body}
 use Rattle.pid_service.specs.Histories.{IsFault}
-use Rattle.pid_service.specs.Importing.{EndStaysLive, IsEndFault, is_end_outcome}
+use Rattle.pid_service.specs.Importing.{EndStaysLive, IsEndFault, leaves_live}
 use Rattle.pid_service.specs.Obeying.{StaysLive}
 use Rattle.pid_service.specs.Running.{fault_in}
 use Rattle.pid_service.proofs.Runs.{no_fault}
@@ -31,7 +31,7 @@ fails_so (Ok reply) before after same on off = both before after same on off
 fails_so (Err e) before after (inl fault) on off = fault
 fails_so (Err e) before after (inr same) on off = both before after same on off
 
-pub end_stays : (r : Result Reply ImportEnd) (before after : Bool) → EndStaysLive r before after → before ≡ true → is_end_outcome r ≡ true → after ≡ true
+pub end_stays : (r : Result Reply ImportEnd) (before after : Bool) → EndStaysLive r before after → before ≡ true → leaves_live r ≡ true → after ≡ true
 end_stays (Ok reply) before after same on told = same ∙ on
 end_stays (Err (Refused e)) before after (inl fault) on told = absurd (no_outcome e fault told)
 end_stays (Err (Refused e)) before after (inr same) on told = same ∙ on

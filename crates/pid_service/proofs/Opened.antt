@@ -25,7 +25,7 @@ use Rattle.pid_tables.specs.declared.migration.Step.{Step}
 use Rattle.pid_tables.specs.declared.migration.Step.TheVariants.{Created, Moved, Already}
 use Rattle.pid_tables.specs.ShowsOrBlank.{ShowsOrBlank}
 use Rattle.pid_service.specs.KeptNames.{AreNamesOf}
-use Rattle.pid_service.specs.Opening.{ExplainsNow, IsFound, IsMadeAndRefused, KeepsViews}
+use Rattle.pid_service.specs.Opening.{ExplainsNow, IsFound, MayHaveMade, KeepsViews}
 use Rattle.pid_rows.proofs.OnlyReading.{reads_then, rests_in_still}
 
 -- what a step tells where the tables were not there, were in schema 1, and were in the schema of today
@@ -147,7 +147,7 @@ module _ {S : Type 0} (store : Ghosts S) where
 
   module _ (old mid new : Held S) (reads : clauses.OnlyReads store mid new) (kept : clauses.HasCleanDisk store mid → KeepsViews store old mid) where
     refused_then : (step : Step) (e : TableFault) → (step ≡ Already → ⊥) → (clauses.HasCleanDisk store mid → HasSomeTable (clauses.seen store old).schema → tables.Brings store old step mid)
-        → (clauses.HasCleanDisk store new → ExplainsNow store new e) → IsMadeAndRefused store old e new
+        → (clauses.HasCleanDisk store new → ExplainsNow store new e) → MayHaveMade store old e new
     refused_then step e made brings told = record {
       found = λ clean some. made_found (state store old) (state store mid) step made (brings (reads.clean clean) some);
       kept = λ clean. still_views old mid new reads (kept (reads.clean clean));
@@ -156,7 +156,7 @@ module _ {S : Type 0} (store : Ghosts S) where
 
     pub back_behind : {X : Type 0} (step : Step) (r : Result X TableFault) → (step ≡ Already → clauses.OnlyReads store old mid)
         → (clauses.HasCleanDisk store mid → HasSomeTable (clauses.seen store old).schema → tables.Brings store old step mid)
-        → (clauses.HasCleanDisk store new → IfErr r (λ e. ExplainsNow store new e)) → IfErr r (λ e. tables.IsTakenBack store old new ⊎ IsMadeAndRefused store old e new)
+        → (clauses.HasCleanDisk store new → IfErr r (λ e. ExplainsNow store new e)) → IfErr r (λ e. tables.IsTakenBack store old new ⊎ MayHaveMade store old e new)
     back_behind step (Ok x) already brings told = tt
     back_behind Already (Err e) already brings told = inl (reads_back (state store old) (state store new) (reads_then (state store old) (state store mid) (state store new) (already refl) reads))
     back_behind Created (Err e) already brings told = inr (refused_then Created e (λ is. let no : ⊥ = cc in no) brings told)

@@ -11,7 +11,7 @@ use Rattle.pid_service.specs.declared.registry.Registry.{Registry}
 use Rattle.pid_service.specs.Histories.{Shows, IsFault}
 use Rattle.pid_service.specs.Registries.{HasCleanDisk, OnlyReads, connection, is_live}
 
--- a live registry gives faults of memory and of the store alone, and one that has failed only that
+-- a live registry gives `Memory` and `Store` alone, one that has failed gives `Failed` alone
 pub record MayGive (live : Bool) (e : Refusal) : Type 0 where
   pub alive : live ≡ true → IsFault e
   pub failed : live ≡ false → e ≡ Failed

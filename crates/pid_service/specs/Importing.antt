@@ -16,11 +16,11 @@ use Rattle.pid_service.specs.declared.registry.Registry.{Registry}
 use Rattle.pid_service.specs.Histories.{IsFault, Shows}
 use Rattle.pid_service.specs.Obeying.{Obeys}
 
--- how much of the input was read: all of it, if it is not too long; one byte more than a file may have, where it is; or what stands
--- before its fault
+-- how much of the input was read: all of it, if it is not too long; one byte more than a file may have, where it is, which is refused as a
+-- broken form, or as a registry that has failed refuses everything; or what stands before its fault
 abbrev pub ReadsImport : Result Reply ImportEnd → Option (List ℕ) → List ℕ → Type 0
 ReadsImport (Ok reply) rest text = IsWhole most_file_bytes rest text
-ReadsImport (Err (Refused e)) rest text = IsWhole most_file_bytes rest text ⊎ (length text ≡ most_file_bytes + 1)
+ReadsImport (Err (Refused e)) rest text = IsWhole most_file_bytes rest text ⊎ (((e ≡ BadText) ⊎ (e ≡ Failed)) × (length text ≡ most_file_bytes + 1))
 ReadsImport (Err Body) rest text = length text ≤ most_file_bytes
 
 -- this text was read of the input, and of it this holds
@@ -36,16 +36,16 @@ ObeysImport store (Ok reply) r h c = Obeys store (Ok reply) r h c
 ObeysImport store (Err (Refused e)) r h c = Obeys store (Err e) r h c
 ObeysImport store (Err Body) r h c = Shows store r h
 
--- it is not told as by a registry that had failed before
-abbrev pub IsEndOfLive : ImportEnd → Type 0
-IsEndOfLive (Refused e) = e ≢ Failed
-IsEndOfLive Body = Unit {0}
+-- it does not tell that the registry had failed before
+abbrev pub DoesNotTellFailed : ImportEnd → Type 0
+DoesNotTellFailed (Refused e) = e ≢ Failed
+DoesNotTellFailed Body = Unit {0}
 
--- a reply, a refusal with a number from 1 to 15, or a fault of the input
-abbrev pub is_end_outcome : Result Reply ImportEnd → Bool
-is_end_outcome (Ok reply) = true
-is_end_outcome (Err (Refused e)) = is_outcome (Err e)
-is_end_outcome (Err Body) = true
+-- where one of these is answered a live registry stays live: a reply, a refusal with a number from 1 to 15, or a fault of the input
+abbrev pub leaves_live : Result Reply ImportEnd → Bool
+leaves_live (Ok reply) = true
+leaves_live (Err (Refused e)) = is_outcome (Err e)
+leaves_live (Err Body) = true
 
 -- memory was short, or the store failed
 abbrev pub IsEndFault : ImportEnd → Type 0

@@ -39,8 +39,8 @@ module _ {S : Type 0} (store : Ghosts S) where
       (λ e. clauses.HasCleanDisk store e.1 → IsUntold e.0 × tables.ShowsOrBlank store e.1 h)
 
   -- while it is open, the tables keep all conditions of a registry in the schema of today
-  abbrev pub IsJudged : Held S → Type 0
-  IsJudged conn = IsTrue (clauses.is_open store conn) → Finds (seen store conn) (Some Two)
+  abbrev pub KeepsConditions : Held S → Type 0
+  KeepsConditions conn = IsTrue (clauses.is_open store conn) → Finds (seen store conn) (Some Two)
 
   -- while it is open, the fault tells what fails of the tables as they are now
   abbrev pub ExplainsNow : Held S → TableFault → Type 0
@@ -59,9 +59,9 @@ module _ {S : Type 0} (store : Ghosts S) where
   abbrev pub KeepsViews : Held S → Held S → Type 0
   KeepsViews old new = (version : Version) (v : Views) → clauses.RestsIn store version old v → clauses.RestsIn store Two new v
 
-  -- A step was made where there was no table, or where tables of schema 1 kept all conditions. It is seen, views are shown as before, and the
-  -- fault tells what fails of it.
-  pub record IsMadeAndRefused (old : Held S) (fault : TableFault) (new : Held S) : Type 0 where
+  -- A step may have been made: there was no table, or tables of schema 1 kept all conditions. Views are shown as before, and the fault tells
+  -- what fails of what is seen now.
+  pub record MayHaveMade (old : Held S) (fault : TableFault) (new : Held S) : Type 0 where
     pub found : clauses.HasCleanDisk store new → HasSomeTable (seen store old).schema → Finds (seen store old) (Some One)
     pub kept : clauses.HasCleanDisk store new → KeepsViews old new
     pub told : clauses.HasCleanDisk store new → ExplainsNow new fault

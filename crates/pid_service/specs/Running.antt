@@ -19,9 +19,9 @@ fault_in (Err Memory) = Some Memory
 fault_in (Err Store) = Some Store
 fault_in answer = None
 
--- it is not told as by a registry that had failed before
-abbrev pub IsToldByLive : Result Reply Refusal → Type 0
-IsToldByLive reply = IfErr reply (λ e. e ≢ Failed)
+-- it does not tell that the registry had failed before
+abbrev pub DoesNotTellFailed : Result Reply Refusal → Type 0
+DoesNotTellFailed reply = IfErr reply (λ e. e ≢ Failed)
 
 -- none of the commands in turn leaves other items
 abbrev pub LeaveItems : History → List Asked → Type 0

@@ -43,6 +43,11 @@ fn fault_of(end: ExportEnd) -> ExportFault
 
 impl<S: Alter + Drop> Registry<S> {
     /// Writes the canonical text of all items, while they are read one by one.
+    ///
+    /// A registry that has failed writes nothing and answers `Refused(Failed)`. Where memory is short or the store fails, `Refused` tells
+    /// `Memory` or `Store`, and the first lines were written, or none, each of them whole; where the writer fails, `Write` tells its fault,
+    /// and a front of the text was written, which may end within a line. In all of these cases the registry shows the history as before,
+    /// and is live or has failed as before.
     pub fn export<W: Output>(&mut self, output: &mut W) -> Result<(), ExportFault>
         // A registry that has failed answers nothing else, and writes nothing.
         ensures failed { lives self.old ≡ false → (result ≡ Err (ExportFault.Refused Refusal.Failed)) × (self.new ≡ self.old) × (W.taken output.new ≡ W.taken output.old) }

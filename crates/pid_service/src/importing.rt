@@ -9,7 +9,7 @@ ghost use Rattle.pid_moderation.specs.History.{History, asked, is_import};
 ghost use Rattle.pid_moderation.specs.Judgement.{after};
 ghost use Rattle.pid_moderation.specs.Views.{items_of};
 ghost use Rattle.pid_service.specs.Histories.{IsFault, IsReached, Shows};
-ghost use Rattle.pid_service.specs.Importing.{AnswersPast, EndSpares, EndStaysLive, HasRead, IsEndFault, IsEndOfLive, IsPlain, ObeysImport, is_end_outcome};
+ghost use Rattle.pid_service.specs.Importing.{AnswersPast, EndSpares, EndStaysLive, HasRead, IsEndFault, DoesNotTellFailed, IsPlain, ObeysImport, leaves_live};
 ghost use Rattle.pid_service.specs.Obeying.{Obeys, SparesNames, StaysLive};
 ghost use Rattle.pid_service.specs.KeptNames.{kept_names};
 ghost use Rattle.pid_service.specs.Registries.{HasCleanDisk, is_live as lives};
@@ -53,7 +53,7 @@ fn answer_past<I: Input>(answer: Result<Reply, Refusal>, input: &mut I) -> Resul
     ensures fault { result ≡ Err ImportEnd.Body → IsSome (I.read_fault input.new) }
     ensures fault_first { IsSome (I.read_fault input.new) → result ≡ Err ImportEnd.Body }
     ensures goes { I.goes input.old input.new }
-    ensures alive { IfErr answer (λ e. e ≢ Refusal.Failed) → IfErr result IsEndOfLive }
+    ensures alive { IfErr answer (λ e. e ≢ Refusal.Failed) → IfErr result DoesNotTellFailed }
 {
     match skip_input(FILE_BYTES, input) {
         Err(SkipEnd::ReadFault) => Err(ImportEnd::Body),
@@ -68,7 +68,7 @@ fn answer_past<I: Input>(answer: Result<Reply, Refusal>, input: &mut I) -> Resul
 // What an import of bytes is answered: they do not fail.
 fn plain(end: Result<Reply, ImportEnd>) -> Result<Reply, Refusal>
     ensures same { IsPlain end result }
-    ensures alive { IfErr end IsEndOfLive → IfErr result (λ e. e ≢ Refusal.Failed) }
+    ensures alive { IfErr end DoesNotTellFailed → IfErr result (λ e. e ≢ Refusal.Failed) }
     ensures held { (before after : Bool) → EndStaysLive end before after → StaysLive result before after }
 {
     match end {
@@ -106,7 +106,7 @@ impl<S: Alter + Drop> Registry<S> {
         ensures fault { result ≡ Err ImportEnd.Body → IsSome (I.read_fault input.new) }
         ensures fault_first { IsSome (I.read_fault input.new) → result ≡ Err ImportEnd.Body }
         ensures goes { I.goes input.old input.new }
-        ensures alive { IfErr result IsEndOfLive }
+        ensures alive { IfErr result DoesNotTellFailed }
         ensures held { EndStaysLive result (lives self.old) (lives self.new) }
     {
         self.names.clear();
@@ -138,7 +138,7 @@ impl<S: Alter + Drop> Registry<S> {
         ensures fault { result ≡ Err ImportEnd.Body → IsSome (I.read_fault input.new) }
         ensures fault_first { IsSome (I.read_fault input.new) → result ≡ Err ImportEnd.Body }
         ensures goes { I.goes input.old input.new }
-        ensures alive { IfErr result IsEndOfLive }
+        ensures alive { IfErr result DoesNotTellFailed }
         ensures spares { HasRead result (I.to_come input.old) (I.to_come input.new) (λ text.
             HasCleanDisk S.Store self.new → (h : History) → Shows S.Store self.old h → is_import command.now.act ≡ true
             → (kept_names self.new ≡ []) ⊎ EndSpares result h (asked command.now (file_reading text))) }
@@ -197,9 +197,9 @@ impl<S: Alter + Drop> Registry<S> {
         ensures fault_first { IsSome (I.read_fault input.new) → result ≡ Err ImportEnd.Body }
         ensures goes { I.goes input.old input.new }
         // No live registry answers that it had failed, whatever its disk does.
-        ensures alive { lives self.old ≡ true → IfErr result IsEndOfLive }
+        ensures alive { lives self.old ≡ true → IfErr result DoesNotTellFailed }
         // Nor does one fail but at an answer that memory was short or the store failed.
-        ensures stays { lives self.old ≡ true → is_end_outcome result ≡ true → lives self.new ≡ true }
+        ensures stays { lives self.old ≡ true → leaves_live result ≡ true → lives self.new ≡ true }
         ensures fails { lives self.old ≡ true → lives self.new ≡ false → IsErrAnd result IsEndFault }
     {
         if !self.live {

@@ -51,7 +51,7 @@ impl<S: Alter + Drop> ShowsHistories for Registry<S> {
 ///
 /// `obeys` is of `obey` and `import`, `imports` of `import_from`, `runs` of `run`; the premises are their clauses `clean`, `failed`, and `obeyed` or
 /// `ran`. Every other call `looks`: `read`, `children`, `submission`, `pending`, `changes`, `lookup`, `name_of`, `export` and
-/// `export_length`. A command is in doubt where its fault left the registry failed; one that stayed live has sent nothing.
+/// `export_length`. A command is in doubt where its fault left the registry failed; where the registry stayed live, it counts as not sent.
 pub fn clauses_meet_lives<S: Alter + Drop>()
     ensures obeys { (old new : registry.Registry S S.Store) (c : Asked) (result : Result Reply Refusal)
         → (HasCleanDisk S.Store new → HasCleanDisk S.Store old)

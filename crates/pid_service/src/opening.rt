@@ -11,7 +11,7 @@ ghost use Rattle.pid_table_check.specs.Shapes.{HasNoTable, HasSomeTable};
 ghost use Rattle.pid_tables.specs.Clauses.{Brings, HandsLatest, IsMet, IsOneStep, IsTakenBack, Refuses, RestsBare, ShowsOrBlank};
 ghost use Rattle.pid_tables.specs.Steps.{NamesLatest};
 ghost use Rattle.pid_service.specs.Histories.{IsReached};
-ghost use Rattle.pid_service.specs.Opening.{IsFound, IsJudged, IsMadeAndRefused, KeepsViews, Opens, RefusesToOpen, Rejects, SeesTheSame, StepsTo, ExplainsNow};
+ghost use Rattle.pid_service.specs.Opening.{IsFound, KeepsConditions, MayHaveMade, KeepsViews, Opens, RefusesToOpen, Rejects, SeesTheSame, StepsTo, ExplainsNow};
 ghost use Rattle.pid_service.specs.Registries as registries;
 
 use crate::laws::reached_histories_are_kept;
@@ -63,13 +63,13 @@ fn make_ready<S: Alter + Drop>(tables: &mut Tables<S>, alloc: Global) -> Result<
         → MatchResult result (λ _. AtRest S.Store tables.new.conn (views_of h)) (λ e. IsUntold e × ShowsOrBlank S.Store tables.new.conn h) }
     ensures told { HasCleanDisk S.Store tables.new.conn → HasSomeTable (seen S.Store tables.old.conn).schema
         → MatchResult result (λ _. IsFound (seen S.Store tables.old.conn)) (λ e. RefusesToOpen S.Store tables.old.conn e tables.new.conn) }
-    ensures judged { HasCleanDisk S.Store tables.new.conn → IfOk result (λ _. IsJudged S.Store tables.new.conn) }
+    ensures judged { HasCleanDisk S.Store tables.new.conn → IfOk result (λ _. KeepsConditions S.Store tables.new.conn) }
     ensures bare { HasCleanDisk S.Store tables.new.conn → HasNoTable (seen S.Store tables.old.conn).schema → IfErr result (λ e. IsNotLater e ⊎ ExplainsNow S.Store tables.new.conn e) }
     ensures met { HasCleanDisk S.Store tables.new.conn → HasNoTable (seen S.Store tables.old.conn).schema → IsMet S.Store tables.old.conn
         → MatchResult result (λ _. ⊥) (λ e. IsNotLater e × OnlyReads S.Store tables.old.conn tables.new.conn) }
     ensures shut { HasCleanDisk S.Store tables.new.conn → is_open S.Store tables.old.conn ≡ false → MatchResult result (λ _. ⊥) (λ e. IsUntold e × OnlyReads S.Store tables.old.conn tables.new.conn) }
     ensures once { IsOneStep S.Store tables.old.conn tables.new.conn }
-    ensures back { IfErr result (λ e. IsTakenBack S.Store tables.old.conn tables.new.conn ⊎ IsMadeAndRefused S.Store tables.old.conn e tables.new.conn) }
+    ensures back { IfErr result (λ e. IsTakenBack S.Store tables.old.conn tables.new.conn ⊎ MayHaveMade S.Store tables.old.conn e tables.new.conn) }
     ensures kept { HasCleanDisk S.Store tables.new.conn → IfOk result (λ _. KeepsViews S.Store tables.old.conn tables.new.conn) }
     ensures only_read { HasCleanDisk S.Store tables.new.conn → HasSomeTable (seen S.Store tables.old.conn).schema → ¬ (Finds (seen S.Store tables.old.conn) (Some One)) → OnlyReads S.Store tables.old.conn tables.new.conn }
 {
@@ -104,7 +104,7 @@ pub fn open<S: Alter + Drop>(
     ensures told { HasSomeTable (seen S.Store conn).schema → MatchResult result (λ r. registries.HasCleanDisk S.Store r → IsFound (seen S.Store conn))
         (λ e. HasCleanDisk S.Store e.1 → RefusesToOpen S.Store conn e.0 e.1) }
     // Whatever there was: what is opened keeps all conditions of a registry in the schema of today.
-    ensures judged { IfOk result (λ r. registries.HasCleanDisk S.Store r → IsJudged S.Store (registries.connection r)) }
+    ensures judged { IfOk result (λ r. registries.HasCleanDisk S.Store r → KeepsConditions S.Store (registries.connection r)) }
     // Where there is no table, whatever else there is: a later schema is told only of what was made there.
     ensures bare { HasNoTable (seen S.Store conn).schema → IfErr result (λ e. HasCleanDisk S.Store e.1 → IsNotLater e.0 ⊎ ExplainsNow S.Store e.1 e.0) }
     // Where there is none, something else under one of their names is refused.
@@ -112,8 +112,8 @@ pub fn open<S: Alter + Drop>(
     ensures shut { is_open S.Store conn ≡ false → Rejects S.Store registries.connection conn result IsUntold }
     // Whatever there is, also beside the tables: a crash leaves what it left before, or all of one step.
     ensures once { MatchResult result (λ r. IsOneStep S.Store conn (registries.connection r)) (λ e. IsOneStep S.Store conn e.1) }
-    // After a fault nothing of the step is seen; or it was made and is seen, and the fault tells what fails of it.
-    ensures back { IfErr result (λ e. IsTakenBack S.Store conn e.1 ⊎ IsMadeAndRefused S.Store conn e.0 e.1) }
+    // After a fault nothing of the step is seen; or it may have been made, and the fault tells what fails of what is seen now.
+    ensures back { IfErr result (λ e. IsTakenBack S.Store conn e.1 ⊎ MayHaveMade S.Store conn e.0 e.1) }
     // Whatever views were shown, in whichever schema: the tables of the registry show them, in that of today.
     ensures kept { IfOk result (λ r. registries.HasCleanDisk S.Store r → KeepsViews S.Store conn (registries.connection r)) }
     // Where there is some table nothing is written, but where tables of schema 1 keep all conditions.

@@ -1,12 +1,12 @@
 //! A list of commands in one call.
-ghost use Rattle.std.specs.Prelude.{◌≡◌, ◌≤◌, ◌⊎◌, [], length, map, false, true, None, Some, IfSome, IsSomeAnd, vec_capacity, vec_len};
+ghost use Rattle.std.specs.Prelude.{◌≡◌, ◌<◌, ◌≤◌, ◌⊎◌, [], length, map, false, true, None, Some, IfSome, IsSome, IsSomeAnd, vec_capacity, vec_len};
 ghost use Rattle.std.specs.List.{AllByRecursion};
 ghost use Rattle.pid_moderation.specs.History.{History};
 ghost use Rattle.pid_import.specs.Files.{asks};
 ghost use Rattle.pid_service.specs.Asking.{MayGive};
 ghost use Rattle.pid_service.specs.Histories.{IsFault, Shows};
 ghost use Rattle.pid_service.specs.Registries.{HasCleanDisk, is_live as lives};
-ghost use Rattle.pid_service.specs.Running.{ForgetsRun, IsToldByLive, Runs, fault_in};
+ghost use Rattle.pid_service.specs.Running.{ForgetsRun, DoesNotTellFailed, Runs, fault_in};
 
 use crate::registry::Registry;
 use pid_moderation::{Command, Refusal, Reply};
@@ -45,11 +45,12 @@ impl<S: Alter + Drop> Registry<S> {
         requires room { length commands.now ≤ vec_capacity replies }
         ensures clean { HasCleanDisk S.Store self.new → HasCleanDisk S.Store self.old }
         ensures fault { IfSome result.fault IsFault }
-        ensures most { length result.replies.items ≤ length commands.now }
+        ensures complete { result.fault ≡ None → length result.replies.items ≡ length commands.now }
+        ensures cut { IsSome result.fault → length result.replies.items < length commands.now }
         ensures ran { HasCleanDisk S.Store self.new → (h : History) → Shows S.Store self.old h → Runs S.Store result self.new h (map asks commands.now) }
         ensures forgets { HasCleanDisk S.Store self.new → (h : History) → Shows S.Store self.old h → ForgetsRun S.Store result self.new h (map asks commands.now) }
         ensures held { lives self.old ≡ true → (lives self.new ≡ true) ⊎ IsSomeAnd result.fault IsFault }
-        ensures alive { lives self.old ≡ true → AllByRecursion IsToldByLive result.replies.items }
+        ensures alive { lives self.old ≡ true → AllByRecursion DoesNotTellFailed result.replies.items }
     {
         for command in commands {
             let outcome = self.obey_lent(command);
@@ -77,6 +78,9 @@ impl<S: Alter + Drop> Registry<S> {
         ensures failed { lives self.old ≡ false → (result.replies.items ≡ []) × (result.fault ≡ Some Refusal.Failed) × (self.new ≡ self.old) }
         ensures clean { HasCleanDisk S.Store self.new → HasCleanDisk S.Store self.old }
         ensures fault { IfSome result.fault (MayGive (lives self.old)) }
+        // Whatever its disk does: where no fault is told each command has a reply, and where a live registry tells one some have none.
+        ensures complete { result.fault ≡ None → length result.replies.items ≡ length commands.now }
+        ensures cut { lives self.old ≡ true → IsSome result.fault → length result.replies.items < length commands.now }
         ensures most { length result.replies.items ≤ length commands.now }
         ensures ran { HasCleanDisk S.Store self.new → (h : History) → Shows S.Store self.old h → Runs S.Store result self.new h (map asks commands.now) }
         // Where some command left other items, no name is kept in memory.
@@ -85,7 +89,7 @@ impl<S: Alter + Drop> Registry<S> {
         ensures stays { lives self.old ≡ true → result.fault ≡ None → lives self.new ≡ true }
         ensures fails { lives self.old ≡ true → lives self.new ≡ false → IsSomeAnd result.fault IsFault }
         // and no live one replies that it had failed.
-        ensures alive { lives self.old ≡ true → AllByRecursion IsToldByLive result.replies.items }
+        ensures alive { lives self.old ≡ true → AllByRecursion DoesNotTellFailed result.replies.items }
     {
         if !self.live {
             return RunReport {

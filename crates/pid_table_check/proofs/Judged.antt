@@ -10,8 +10,8 @@ use Rattle.pid_rows.specs.declared.fault.TableFault.TheVariants.{Memory, Store, 
 use Rattle.pid_rows.specs.declared.version.Version.{Version}
 use Rattle.pid_rows.specs.declared.version.Version.TheVariants.{One, Two}
 use Rattle.pid_table_check.specs.Checking.{ShowsRegistry, ShowsDamage}
-use Rattle.pid_table_check.specs.Conditions.{Rows, label_row, AreLabels, AreSinces, AreNumbered, AreCounted, AreOfRegistry}
-use Rattle.pid_table_check.specs.Keeping.{AreDated, AreAllGood, ShowsJudged}
+use Rattle.pid_table_check.specs.Conditions.{Rows, label_row, AreLabels, AreSinces, AreNumbered, AreCounted}
+use Rattle.pid_table_check.specs.Keeping.{AreDated, ShowsJudged}
 use Rattle.pid_table_check.specs.Queries.{query_of}
 use Rattle.pid_table_check.specs.Reading.{TellsDamage}
 use Rattle.pid_table_check.specs.Shapes.{ShowsRows}

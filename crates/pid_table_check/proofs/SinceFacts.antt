@@ -1,5 +1,5 @@
 -- What makes rows of item_since go with the items and the revision.
-use Rattle.std.proofs.Common.{◌≡◌, ℕ, ◌≤◌, List, [], ◌∷◌, length, true, sym, ap, subst, ◌∙◌}
+use Rattle.std.proofs.Common.{◌≡◌, ℕ, ◌≤◌, List, [], ◌∷◌, length, ap, ◌∙◌}
 use Rattle.std.specs.List.{All}
 use Rattle.std.specs.BTreeSet.{BTreeSet, IsSubset}
 use Rattle.sqlite.specs.declared.types.Value.TheVariants.{Text}

@@ -19,6 +19,7 @@ use Rattle.pid_moderation.specs.WellMade.{ProposesName}
 use Rattle.pid_rows.specs.declared.version.Version.{Version}
 use Rattle.pid_rows.specs.declared.version.Version.TheVariants.{One, Two}
 use Rattle.pid_rows.specs.Schema.{number_of}
+use Rattle.pid_rows.specs.Schema as tables
 use Rattle.pid_rows.specs.TableRows.{number, Standing, kind_of, first_of, second_of, third_of}
 use Rattle.pid_rows.specs.Answers.{standing_row}
 
@@ -39,13 +40,13 @@ columns places r = map (column r) places
 -- as storage keeps them: the rowid stands before the columns, and is itself the number of a submission
 abbrev pub rows_in : Trees → Rows
 rows_in db = record {
-  meta = map (columns (1 ∷ 2 ∷ [])) (db 0);
-  accounts = map (columns (1 ∷ 2 ∷ [])) (db 2);
-  items = map (columns (1 ∷ 2 ∷ [])) (db 4);
-  submissions = map (columns (0 ∷ 2 ∷ 3 ∷ 4 ∷ 5 ∷ 6 ∷ 7 ∷ 8 ∷ 9 ∷ [])) (db 6);
-  remarks = map (columns (1 ∷ 2 ∷ 3 ∷ 4 ∷ [])) (db 7);
-  receipts = map (columns (1 ∷ 2 ∷ 3 ∷ 4 ∷ 5 ∷ 6 ∷ [])) (db 9);
-  sinces = map (columns (1 ∷ 2 ∷ [])) (db 11);
+  meta = map (columns (1 ∷ 2 ∷ [])) (db tables.meta.tree);
+  accounts = map (columns (1 ∷ 2 ∷ [])) (db tables.account.tree);
+  items = map (columns (1 ∷ 2 ∷ [])) (db tables.item.tree);
+  submissions = map (columns (0 ∷ 2 ∷ 3 ∷ 4 ∷ 5 ∷ 6 ∷ 7 ∷ 8 ∷ 9 ∷ [])) (db tables.submission.tree);
+  remarks = map (columns (1 ∷ 2 ∷ 3 ∷ 4 ∷ [])) (db tables.remark.tree);
+  receipts = map (columns (1 ∷ 2 ∷ 3 ∷ 4 ∷ 5 ∷ 6 ∷ [])) (db tables.receipt.tree);
+  sinces = map (columns (1 ∷ 2 ∷ [])) (db tables.item_since.tree);
 }
 
 -- some row has the value in the column

@@ -1,5 +1,5 @@
 -- What is kept of tables that were read and judged, and what it says of their rows.
-use Rattle.std.specs.Prelude.{◌≡◌, ◌↔◌, ℕ, Bool, List, [], length, IsTrue, String}
+use Rattle.std.specs.Prelude.{◌≡◌, ◌↔◌, ℕ, Bool, List, length, IsTrue, String}
 use Rattle.std.specs.declared.alloc.Global.{Global}
 use Rattle.std.specs.BTreeSet.{BTreeSet}
 use Rattle.sqlite.specs.Effect.{Database}
@@ -12,7 +12,7 @@ use Rattle.pid_table_check.specs.declared.item.Items.{Items}
 use Rattle.pid_table_check.specs.declared.submission.Submissions.{Submissions}
 use Rattle.pid_table_check.specs.declared.tables.Part.{Part}
 use Rattle.pid_table_check.specs.declared.tables.Judged.{Judged}
-use Rattle.pid_table_check.specs.declared.shape.Table.TheVariants.{Meta, Account, Item, Submission, Remark, Receipt}
+use Rattle.pid_table_check.specs.declared.shape.Table.TheVariants.{Meta, Account, Item, Submission, Receipt}
 use Rattle.pid_table_check.specs.AuthorSets.{AreAuthorsOf}
 use Rattle.pid_table_check.specs.NameSets.{AreNamesOf}
 use Rattle.pid_table_check.specs.PathSets.{ArePathsOf}

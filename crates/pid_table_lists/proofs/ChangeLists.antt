@@ -6,6 +6,7 @@ use Rattle.std.specs.Ordering.{ordering_then}
 use Rattle.std.specs.FinMap.Entries.{is_sorted, below_all}
 use Rattle.std.proofs.lemmas.Bool.{and_parts, and_from, both_ways, not-true}
 use Rattle.std.proofs.lemmas.Bool.Decides.{nat_tests}
+use Rattle.std.proofs.lemmas.List.{take-map}
 use Rattle.sqlite.specs.declared.types.Value.TheVariants.{Null, Int, Text}
 use Rattle.sqlite.specs.Order.{Row, column, value_cmp}
 use Rattle.sqlite.specs.Tree.{IsAscending, IsTable, rowid}
@@ -168,7 +169,7 @@ module _ (db : Database) (c : Counts) (v : Views) (shows : ShowsCounting c db v)
       (subst (λ (d : Database). IsAnswer (listing 11 later both_columns by_path a_hundred) (overlay d.trees []) params answer) is (got.answer Null))
       ∙ first_of 100 (filter (is_later floor after v) v.items)
     where
-      first_of : (k : ℕ) (xs : Items) → take k (map (λ e. (since_mark v e).1) xs) ≡ map since_shown (map (numbered_in v) (take k xs))
+      first_of : (k : ℕ) (xs : Items) → take k (map (λ e. (since_mark v e).1) xs) ≡ map since_shown (take k (map (numbered_in v) xs))
       first_of zero xs = refl
       first_of (suc k) [] = refl
       first_of (suc k) (x ∷ xs) = ap (λ l. (since_mark v x).1 ∷ l) (first_of k xs)
@@ -188,12 +189,13 @@ taken_has (suc k) (x ∷ xs) e (inr later) = inr (taken_has k xs e later)
 -- each item of a page has its name
 pub changes_named : (v : Views) (most since : ℕ) (after : List ℕ) → is_sorted text_cmp v.items ≡ true → AreNamed v (changes_in most since after v).items
 changes_named v most since after sorted =
-    named_all v (take most (filter (is_later since after v) v.items))
-    (λ e h. found_at v.items e sorted (has_filtered (is_later since after v) v.items e (taken_has most (filter (is_later since after v) v.items) e h)).0)
+    let changed = filter (is_later since after v) v.items in
+    subst (AreNamed v) (sym (take-map (numbered_in v) most changed))
+    (named_all v (take most changed) (λ e h. found_at v.items e sorted (has_filtered (is_later since after v) v.items e (taken_has most changed e h)).0))
 
 same_above : (since n : ℕ) → n < 2 ^ 63 → nat_lt (held since) n ≡ nat_lt since n
 same_above since n low = grind (arith, nat_tests)
 
 -- of numbers that SQLite holds, none is above one that it does not hold
 pub changes_held : (v : Views) (most since : ℕ) (after : List ℕ) → AreHeld v → changes_in most (held since) after v ≡ changes_in most since after v
-changes_held v most since after low = λ i. record { revision = v.revision; items = map (numbered_in v) (take most (filter (λ e. is_lt (text_cmp after e.0) && same_above since (v.since e.0) (low e.0) i) v.items)) }
+changes_held v most since after low = λ i. record { revision = v.revision; items = take most (map (numbered_in v) (filter (λ e. is_lt (text_cmp after e.0) && same_above since (v.since e.0) (low e.0) i) v.items)) }

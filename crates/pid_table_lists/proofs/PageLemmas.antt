@@ -7,7 +7,7 @@ use Rattle.std.specs.FinMap.Entries.{is_sorted, below_all}
 use Rattle.std.proofs.lemmas.Bool.{and_parts}
 use Rattle.std.proofs.lemmas.Bool.Decides.{nat_tests}
 use Rattle.std.proofs.lemmas.Cmp.{tied_itself}
-use Rattle.std.proofs.lemmas.List.{drop-take, take-append-drop, take-take, take-map, take_all}
+use Rattle.std.proofs.lemmas.List.{drop-take, take-append-drop, take-take, take_all}
 use native.Mathlib.Nat.{suc-mul, zero-mul}
 use Rattle.sqlite_rules.specs.Lists.{Has}
 use Rattle.sqlite_rules.proofs.ListLemmas.{all_has, has_filtered}
@@ -161,4 +161,4 @@ module _ (v : Views) (since : ℕ) where
   next_changed sorted after item more is = next_mapped sorted after (filter (is_later since after v) v.items) refl item more is
 
   pub changes_front : (most : ℕ) (after : List ℕ) → (changes_in most since after v).items ≡ take most (changed_behind since after v)
-  changes_front most after = sym (take-map (numbered_in v) most (filter (is_later since after v) v.items))
+  changes_front most after = refl

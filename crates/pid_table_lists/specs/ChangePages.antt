@@ -33,7 +33,7 @@ changed_behind since after v = map (numbered_in v) (filter (is_later since after
 
 -- the first of them, at most so many
 abbrev pub changes_in : ℕ → ℕ → List ℕ → Views → ChangePage
-changes_in most since after v = record { revision = v.revision; items = map (numbered_in v) (take most (filter (is_later since after v) v.items)) }
+changes_in most since after v = record { revision = v.revision; items = take most (changed_behind since after v) }
 
 -- the text behind which a page begins: that of a path, or the empty one, which is in front of every path
 abbrev pub start_text : Option Path → List ℕ

@@ -73,9 +73,9 @@ or_untold P Q (Err e) h = absurd h
 pub brought : (old new : State) (found : Option Version) (r : Result Step TableFault) → IsStanding old.now found → HasSomeTable old.now.schema
     → (found ≡ Some One → IfOk r (λ step. step ≡ Moved)) → (found ≡ Some Two → MatchResult r (λ step. (step ≡ Already) × OnlyReads old new) (λ _. ⊥)) → IfErr r IsNotLater
     → MatchResult r (λ step. Brings old step new) (λ e. Refuses old e new)
-brought old new None r (inl bad) some moved already never = absurd (let no : ⊥ = cc in no)
+brought old new None r (inl bad) some moved already never = absurd (let is = bad.0 in let no : ⊥ = cc in no)
 brought old new None r (inr none) some moved already never = absurd (none some)
-brought old new (Some One) r (inl bad) some moved already never = absurd (let no : ⊥ = cc in no)
+brought old new (Some One) r (inl bad) some moved already never = absurd (let is = bad.0 in let no : ⊥ = cc in no)
 brought old new (Some One) (Ok x) (inr finds) some moved already never = inr (moved refl, finds)
 brought old new (Some One) (Err e) (inr finds) some moved already never = inr (finds, never)
 brought old new (Some Two) (Ok x) stands some moved already never = inl (already refl)
@@ -95,7 +95,7 @@ read_alone g old mid end found (Err e) reads named already = tt
 
 -- tables that show views in schema 1 are found as such
 one_shown : (db : Database) (found : Option Version) (v : Views) → HasSomeTable (schema_of One) → ShowsIn One db v → IsStanding db found → (found ≡ Some Two → NamesLatest db) → found ≡ Some One
-one_shown db None v some shows (inl bad) named = absurd (let no : ⊥ = cc in no)
+one_shown db None v some shows (inl bad) named = absurd (let is = bad.0 in let no : ⊥ = cc in no)
 one_shown db None v some shows (inr none) named = absurd (none (subst HasSomeTable (sym shows.schema) some))
 one_shown db (Some One) v some shows stands named = refl
 one_shown db (Some Two) v some shows stands named =

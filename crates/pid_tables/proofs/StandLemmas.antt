@@ -1,5 +1,5 @@
 -- What stands in a database, as reads tell it.
-use Rattle.std.proofs.Common.{◌≡◌, ◌↔◌, ◌≤◌, ℕ, arith, inl, inr, true, false, Bool, [], ◌∷◌, ◌++◌, None, Some, Option, Ok, Err, Result, IfOk, MatchResult, IsTrue, codes, refl, sym, ap, subst}
+use Rattle.std.proofs.Common.{◌≡◌, ◌↔◌, ◌≤◌, ℕ, arith, inl, inr, true, false, Bool, [], ◌∷◌, ◌++◌, None, Some, Option, Ok, Err, Result, IfErr, IfOk, MatchResult, IsTrue, codes, refl, sym, ap, subst}
 use Rattle.std.proofs.lemmas.Bool.{cases_Bool}
 use Rattle.std.proofs.lemmas.List.Sorted.{IsPermutation-sym}
 use Rattle.sqlite.specs.Effect.{Database}
@@ -40,6 +40,10 @@ untold_explains db Memory h = tt
 untold_explains db Store h = tt
 untold_explains db (NewerSchema n) h = absurd h
 untold_explains db Damaged h = absurd h
+
+pub untold_told : {X : Type 0} (P : X → Type 0) (Q : TableFault → Type 0) (db : Database) (r : Result X TableFault) → MatchResult r P (λ fault. IsUntold fault × Q fault) → IfErr r (Explains db)
+untold_told P Q db (Ok x) h = tt
+untold_told P Q db (Err e) h = untold_explains db e h.0
 
 -- what it tells behind reads is so of what was before them
 pub told_before : (old mid : State) (r : Result (Option Version) TableFault) → (IsTrue mid.is_open → mid.now ≡ old.now) → (mid.is_open ≡ false → MatchResult r (λ _. ⊥) IsUntold)

@@ -17,6 +17,7 @@ use Rattle.pid_rows.specs.declared.fault.TableFault.{TableFault}
 use Rattle.pid_rows.specs.Faults.{IsUntold, IsNotLater}
 use Rattle.pid_rows.specs.PairRows.{Map, RowsAre}
 use Rattle.pid_rows.specs.Schema.{pid_schema}
+use Rattle.pid_rows.specs.Schema as tables
 use Rattle.pid_rows.specs.TableRows.{meta_row}
 pub use Rattle.pid_tables.specs.Creation.{making}
 use Rattle.pid_tables.specs.Creation.{AreMade, IsMetFault}
@@ -74,13 +75,13 @@ FindsTables old new result = HasCleanDisk new → IsTrue old.in_transaction → 
 pub record HasOnlyMeta (m : Map (List ℕ) ℕ) (db : Database) : Type 0 where
   pub schema : db.schema ≡ pid_schema
   pub sound : IsDatabase db
-  pub meta : RowsAre meta_row m (db.trees 0)
-  pub accounts : db.trees 2 ≡ []
-  pub items : db.trees 4 ≡ []
-  pub submissions : db.trees 6 ≡ []
-  pub remarks : db.trees 7 ≡ []
-  pub receipts : db.trees 9 ≡ []
-  pub sinces : db.trees 11 ≡ []
+  pub meta : RowsAre meta_row m (db.trees tables.meta.tree)
+  pub accounts : db.trees tables.account.tree ≡ []
+  pub items : db.trees tables.item.tree ≡ []
+  pub submissions : db.trees tables.submission.tree ≡ []
+  pub remarks : db.trees tables.remark.tree ≡ []
+  pub receipts : db.trees tables.receipt.tree ≡ []
+  pub sinces : db.trees tables.item_since.tree ≡ []
 
 -- one label more
 abbrev pub with_label : List ℕ → ℕ → Map (List ℕ) ℕ → Map (List ℕ) ℕ

@@ -23,10 +23,6 @@ abbrev pub is_latest : Version → Bool
 is_latest One = false
 is_latest Two = true
 
--- what the check finds; labels that name schema 2 are believed
-abbrev pub IsStanding : Database → Option Version → Type 0
-IsStanding db found = (found ≡ Some Two) ⊎ Finds db found
-
 -- the query of all labels
 abbrev pub labels_text : List ℕ
 labels_text = codes "SELECT label, value FROM meta"
@@ -39,6 +35,10 @@ ShowsLatest db = ShowsNumber db (codes "schema") 2 ⊎ ((rows : List Row) × Sho
 pub record NamesLatest (db : Database) : Type 0 where
   pub shown : ShowsLatest db
   pub stored : (version : Version) → IsMadeFirst version db.schema → HasLabel db.trees (codes "schema") 2
+
+-- what the check finds; labels that name schema 2 are believed
+abbrev pub IsStanding : Database → Option Version → Type 0
+IsStanding db found = ((found ≡ Some Two) × NamesLatest db) ⊎ Finds db found
 
 -- tables of schema 2 were only read, and those of schema 1 moved only where they keep all conditions of a registry
 abbrev pub Brings : State → Step → State → Type 0

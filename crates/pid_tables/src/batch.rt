@@ -252,7 +252,10 @@ pub fn commit<S: Alter>(batch: Batch<'_, S>) -> Result<(), TableFault>
     Ok(())
 }
 
-/// Gives the transaction up: the tables are as they were before it.
+/// Gives the transaction up, and commits nothing.
+///
+/// Where the tables showed views before it, they show the same again, and so does whatever a crash leaves. A roll back that fails shuts
+/// the connection, which then shows nothing.
 pub fn roll_back<S: Alter>(batch: Batch<'_, S>)
     ensures ended { batch.exit.0.now.in_transaction ≡ false }
     ensures survives { Survives S.Store batch.entry.conn.now batch.exit.0.now (λ _. ⊥) }

@@ -7,7 +7,6 @@ ghost use Rattle.pid_rows.specs.Clauses.{AtRest, HasCleanDisk, OnlyReads, RestsI
 ghost use Rattle.pid_rows.specs.Faults.{IsUntold, IsNotLater};
 ghost use Rattle.pid_rows.specs.Shows.{Counts, Numbers, ShowsKeeping};
 ghost use Rattle.pid_rows.specs.declared.version.Version.TheVariants.{One, Two};
-ghost use Rattle.pid_rows.specs.declared.version.Version.{Version as Schema};
 ghost use Rattle.pid_table_check.specs.Checking.{Explains};
 ghost use Rattle.pid_table_check.specs.Shapes.{HasNoTable, HasSomeTable};
 ghost use Rattle.pid_tables.specs.Clauses.{Brings, HandsLatest, IsMet, IsOneStep, IsTakenBack, Refuses, RestsBare};
@@ -37,7 +36,7 @@ pub enum Step {
 fn names_latest<S: Alter>(conn: &mut Connection<S>) -> Result<bool, TableFault>
     requires { conn.old.in_transaction ≡ false }
     ensures rests { OnlyReads S.Store conn.old conn.new }
-    ensures shown { HasCleanDisk S.Store conn.new → (version : Schema) (counts : Counts) (numbers : Numbers) (v : Views)
+    ensures shown { HasCleanDisk S.Store conn.new → (version : Version) (counts : Counts) (numbers : Numbers) (v : Views)
         → ShowsKeeping version counts numbers (seen S.Store conn.old) v → IfOk result (λ is. is ≡ is_latest version) }
     ensures named { HasCleanDisk S.Store conn.new → IfOk result (λ is. is ≡ true → NamesLatest (seen S.Store conn.old)) }
     ensures untold { IfErr result IsUntold }
@@ -54,7 +53,7 @@ fn is_current<S: Alter>(conn: &mut Connection<S>) -> Result<bool, TableFault>
     requires { conn.old.in_transaction ≡ false }
     ensures rests { OnlyReads S.Store conn.old conn.new }
     ensures bare { HasCleanDisk S.Store conn.new → HasNoTable (seen S.Store conn.old).schema → IfOk result (λ is. is ≡ false) }
-    ensures shown { HasCleanDisk S.Store conn.new → (version : Schema) (counts : Counts) (numbers : Numbers) (v : Views)
+    ensures shown { HasCleanDisk S.Store conn.new → (version : Version) (counts : Counts) (numbers : Numbers) (v : Views)
         → (IsTrue (is_open S.Store conn.old) → ShowsKeeping version counts numbers (seen S.Store conn.old) v) → IfOk result (λ is. is ≡ is_latest version) }
     ensures named { HasCleanDisk S.Store conn.new → IfOk result (λ is. is ≡ true → NamesLatest (seen S.Store conn.old)) }
     ensures was_open { HasCleanDisk S.Store conn.new → OnOk result (IsTrue (is_open S.Store conn.old)) }
@@ -160,6 +159,8 @@ pub fn migrate<S: Alter>(conn: &mut Connection<S>, alloc: Global) -> Result<Step
     // Tables of schema 1 show the same history afterwards, in schema 2, or after a fault in schema 1; and so does whatever a crash leaves.
     ensures moved { HasCleanDisk S.Store conn.new → (h : History) → IsSound h → RestsIn S.Store One conn.old (views_of h)
         → MatchResult result (λ step. (step ≡ Step.Moved) × AtRest S.Store conn.new (views_of h)) (λ fault. IsUntold fault × RestsIn S.Store One conn.new (views_of h)) }
+    // Whatever views tables of schema 1 show, of a history or not: a fault tells which condition fails, or nothing of the rows.
+    ensures told { HasCleanDisk S.Store conn.new → (v : Views) → RestsIn S.Store One conn.old v → IfErr result (Explains (seen S.Store conn.old)) }
     // Tables of schema 2 are only read, whatever a crash would leave in their place.
     ensures already { HasCleanDisk S.Store conn.new → (v : Views) → RestsIn S.Store Two conn.old v
         → MatchResult result (λ step. (step ≡ Step.Already) × OnlyReads S.Store conn.old conn.new) (λ fault. IsUntold fault × OnlyReads S.Store conn.old conn.new) }
@@ -171,7 +172,7 @@ pub fn migrate<S: Alter>(conn: &mut Connection<S>, alloc: Global) -> Result<Step
     // Labels of schema 2 are handed on, as far as it is known what stood there.
     ensures latest { HasCleanDisk S.Store conn.new → IfOk result (λ step. IsTrue (is_open S.Store conn.new) → HandsLatest S.Store conn.old step conn.new) }
     // Whatever views tables of the one schema or the other show, tables of schema 2 show them afterwards.
-    ensures kept { HasCleanDisk S.Store conn.new → (version : Schema) (v : Views) → RestsIn S.Store version conn.old v → OnOk result (RestsIn S.Store Two conn.new v) }
+    ensures kept { HasCleanDisk S.Store conn.new → (version : Version) (v : Views) → RestsIn S.Store version conn.old v → OnOk result (RestsIn S.Store Two conn.new v) }
     // Whatever stands there, also beside the tables: where nothing had to be done, nothing is.
     ensures only_read { IfOk result (λ step. step ≡ Step.Already → OnlyReads S.Store conn.old conn.new) }
     // Whatever there is: a crash leaves what it left before, or all of the one step; and after a fault nothing of the step is seen.

@@ -16,7 +16,6 @@ ghost use Rattle.pid_rows.specs.Causes.{IsReadable};
 ghost use Rattle.pid_rows.specs.Faults.{IsUntold, IsNotLater};
 ghost use Rattle.pid_rows.specs.LabelRows.{ExplainsNumber, HasLabel, IsDamageOf, ShowsNoNumber, ShowsNumber};
 ghost use Rattle.pid_rows.specs.declared.version.Version.TheVariants.{One};
-ghost use Rattle.pid_rows.specs.declared.version.Version.{Version as Schema};
 ghost use Rattle.pid_rows.specs.ItemPairs.{pair_of};
 ghost use Rattle.pid_table_lists.specs.ChangePages.{AreHeld, changes_in, page_of, start_text};
 ghost use Rattle.pid_table_lists.specs.Children.{children_of};
@@ -50,12 +49,14 @@ pub struct Tables<S: Alter + Drop> {
 }
 
 impl<S: Alter + Drop> Tables<S> {
+    /// The tables of an open connection, which is kept as it is: nothing is read, made or checked.
     pub fn new(conn: Connection<S>) -> Tables<S>
         ensures { result.conn ≡ conn }
     {
         Tables { conn }
     }
 
+    /// Gives the connection back as it is.
     pub fn into_conn(self) -> Connection<S>
         ensures { result ≡ self.conn }
     {
@@ -76,7 +77,8 @@ impl<S: Alter + Drop> Tables<S> {
     /// Hands all items to a sink, in the canonical order, one at a time: no list of them is made. The line of an entry is its
     /// place among them, counted from 1.
     ///
-    /// Where it fails, the sink keeps what it took until then.
+    /// Where it fails, the sink took the items before one, in their order, and faulted at that one, or was handed no more: nothing that it
+    /// took is taken back.
     pub fn each_item<K: Sink>(&mut self, sink: &mut K) -> Result<(), EachEnd<K::Fault>>
         requires { self.old.conn.in_transaction ≡ false }
         ensures rests { OnlyReads S.Store self.old.conn self.new.conn }
@@ -179,10 +181,10 @@ impl<S: Alter + Drop> Tables<S> {
         ensures told { HasCleanDisk S.Store self.new.conn → MatchResult result (Finds (seen S.Store self.old.conn)) (Explains (seen S.Store self.old.conn)) }
         // Where the tables of a schema were made first, whatever else stands behind them: it finds the schema exactly where storage has
         // a registry in it.
-        ensures stored { HasCleanDisk S.Store self.new.conn → (schema : Schema) → IsMadeFirst schema (seen S.Store self.old.conn).schema
+        ensures stored { HasCleanDisk S.Store self.new.conn → (schema : Version) → IsMadeFirst schema (seen S.Store self.old.conn).schema
             → MatchResult result (λ found. (found ≡ Some schema) ↔ IsRegistry schema (seen S.Store self.old.conn)) (λ fault. IsRegistry schema (seen S.Store self.old.conn) → IsUntold fault) }
         // Tables that show a sound history, whose revision is within its limit, are neither damaged nor of a later schema.
-        ensures good { HasCleanDisk S.Store self.new.conn → (h : History) → IsSound h → revision_of h ≤ most_revision → (schema : Schema) → RestsIn S.Store schema self.old.conn (views_of h)
+        ensures good { HasCleanDisk S.Store self.new.conn → (h : History) → IsSound h → revision_of h ≤ most_revision → (schema : Version) → RestsIn S.Store schema self.old.conn (views_of h)
             → MatchResult result (λ found. found ≡ Some schema) IsUntold }
     {
         sound_histories_are_registries();
@@ -204,8 +206,8 @@ impl<S: Alter + Drop> Tables<S> {
         ensures shown { HasCleanDisk S.Store self.new.conn → HasSomeTable (seen S.Store self.old.conn).schema
             → MatchResult result (ShowsNumber (seen S.Store self.old.conn) (codes "schema")) (IsDamageOf (ShowsNoNumber (seen S.Store self.old.conn) (codes "schema"))) }
         // The same by what storage has, where the tables of a schema were made first.
-        ensures labelled { HasCleanDisk S.Store self.new.conn → (schema : Schema) → IsMadeFirst schema (seen S.Store self.old.conn).schema → IfOk result (HasLabel (seen S.Store self.old.conn).trees (codes "schema")) }
-        ensures refused { HasCleanDisk S.Store self.new.conn → (schema : Schema) → IsMadeFirst schema (seen S.Store self.old.conn).schema → IfErr result (ExplainsNumber (seen S.Store self.old.conn).trees (codes "schema")) }
+        ensures labelled { HasCleanDisk S.Store self.new.conn → (schema : Version) → IsMadeFirst schema (seen S.Store self.old.conn).schema → IfOk result (HasLabel (seen S.Store self.old.conn).trees (codes "schema")) }
+        ensures refused { HasCleanDisk S.Store self.new.conn → (schema : Version) → IsMadeFirst schema (seen S.Store self.old.conn).schema → IfErr result (ExplainsNumber (seen S.Store self.old.conn).trees (codes "schema")) }
         ensures never { IfErr result IsNotLater }
     {
         if has_some_table(&mut self.conn)? {

@@ -30,6 +30,11 @@ pub record TakesAsked (old : AskedNames) (entry : Numbered) (new : AskedNames) :
   pub names : AgreeOn old.asked (insert (kept_map old) (item_in entry).0 (item_in entry).1) (kept_map new)
   pub no_others : HasOnly old.asked (kept_map old) → HasOnly old.asked (kept_map new)
 
+-- where memory was short for one more entry: no name that was kept is lost or changed, and none came
+pub record KeepsAll (old new : AskedNames) : Type 0 where
+  pub asked : new.asked ≡ old.asked
+  pub names : kept_map new ≡ kept_map old
+
 -- the names are those of the tree that the text reads to, at the paths that these arguments can ask for
 abbrev pub HasAsked : Args → List ℕ → AskedNames → Type 0
 HasAsked a text names = (t : TreeMap) → Reads text t → AgreeOn (asked_paths a) t (kept_map names)

@@ -44,13 +44,13 @@ fn is_among(path: &Path, asked: &[Path; 8]) -> bool
 }
 
 impl Sink for AskedNames {
-    ghost use Rattle.pid_text_lookup.specs.AskedNames.{TakesAsked};
+    ghost use Rattle.pid_text_lookup.specs.AskedNames.{KeepsAll, TakesAsked};
 
     type Fault = AllocError;
 
     ghost takes = { TakesAsked };
 
-    ghost faults = { λ s entry f t. Unit {0} };
+    ghost faults = { λ s entry f t. KeepsAll s t };
 
     fn entry(&mut self, entry: &Entry<'_>) -> Result<(), AllocError> {
         if !is_among(&entry.path, &self.asked) {

@@ -44,7 +44,7 @@ IsTidied TooLarge text w = TellsOnly TooLarge text w
 IsTidied Memory text w = TellsOnly Memory text w
 IsTidied ReadFault text w = TellsOnly ReadFault text w
 
--- whatever the input, only a good text is printed
+-- whatever the input, nothing is printed but where the end is Done, or a fault of a writer
 abbrev pub PrintsNothing : TextEnd → Option (List ℕ) → Option (List ℕ) → Type 0
 PrintsNothing Done old new = Unit {0}
 PrintsNothing WriteFault old new = Unit {0}

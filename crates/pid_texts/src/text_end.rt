@@ -22,7 +22,9 @@ pub enum TextEnd {
     TooManyEntries,
     /// More than `LARGEST` bytes.
     TooLarge,
+    /// There is no memory.
     Memory,
+    /// The reader failed.
     ReadFault,
     /// A writer failed, or took no byte.
     WriteFault,

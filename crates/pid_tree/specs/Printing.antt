@@ -7,8 +7,10 @@ use Rattle.pid_ident.specs.declared.path.Path.{Path}
 use Rattle.pid_ident.specs.PathTexts.{path_text}
 use Rattle.pid_ident.specs.Trees.{TreeMap, text_cmp}
 
--- what stands before the name in the line of an item: the label of its path, read off the path's text, whose length
--- tells which kind of path it is. Labels.antt has it by kind, and laws.rt says that the two are one (9 is a tab, 32 a space)
+-- What stands before the name in the line of an item: the label of its path, read off the path's text. It is meant for
+-- texts of paths alone, whose length tells the kind: 7 bytes of a vendor, 12 of a device or a generic subsystem, 21 of a
+-- subsystem, 5 of a class, 8 of a subclass, and else 11 of a programming interface. Labels.antt has it by kind, and
+-- laws.rt says that the two are one (9 is a tab, 32 a space).
 abbrev pub label_of : List ℕ → List ℕ
 label_of path =
     -- a vendor: `8086` of PC/8086
@@ -28,7 +30,8 @@ label_of path =
 abbrev pub item_line : List ℕ × List ℕ → List ℕ
 item_line item = label_of item.0 ++ codes "  " ++ item.1
 
--- whether the path with this text is a generic subsystem: the text begins with PS (83 is an S)
+-- whether the path with this text is a generic subsystem: the second byte is an S (83), which among texts of paths only
+-- those of generic subsystems have, as PS/1af4/1100; the others begin with PC or PD
 abbrev pub is_generic : List ℕ → Bool
 is_generic [] = false
 is_generic (p ∷ []) = false

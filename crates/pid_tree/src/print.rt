@@ -147,7 +147,8 @@ pub fn write_behind<W: Output>(
     write_item(path, name, out)
 }
 
-/// Writes the text of a tree: the header, and the lines of each item in canonical order.
+/// Writes the text of a tree: the header, and the lines of each item in canonical order. Where the writer fails, a front of
+/// the text was written, and not all of it.
 pub fn write_canonical<W: Output>(tree: &Tree, out: &mut W) -> Result<(), WriteFault>
     ensures sent { Sends result (W.taken out.old) (W.taken out.new) (print tree.now) }
     ensures fault { IfErr result (λ f. W.write_fault out.new ≡ Some f) }

@@ -85,13 +85,14 @@ impl Tree {
         self.items.len()
     }
 
+    /// Whether there is no item.
     pub fn is_empty(&self) -> bool
         ensures { IsTrue result ↔ (self.now ≡ finite.empty) }
     {
         self.items.is_empty()
     }
 
-    /// The name of a path.
+    /// The name of a path; none where the path is not in the tree.
     pub fn get(&self, path: &Path) -> Option<&Name>
         ensures { option_copied result ≡ finite.get self.now (path_text path.now) }
     {
@@ -117,7 +118,8 @@ impl Tree {
         }
     }
 
-    /// Gives a path a name, which takes the place of the name that it may have.
+    /// Gives a path a name, which takes the place of the name that it may have. Where its parent is missing
+    /// (`ParentMissing`), and for want of memory, the tree stays as it was.
     pub fn set(&mut self, path: Path, name: Name) -> Result<(), TreeRefusal>
         ensures ok { OnOk result (self.new ≡ finite.insert self.old (path_text path) name) }
         ensures parent_missing { IsErrOf result TreeRefusal.ParentMissing ↔ LacksParent self.old path }
@@ -237,7 +239,8 @@ impl Tree {
         false
     }
 
-    /// Takes a path and its name away.
+    /// Takes a path and its name away. One that is not there (`Absent`), or has children (`HasChildren`), is refused, and the
+    /// tree stays as it was. Memory is never wanting.
     pub fn remove(&mut self, path: &Path) -> Result<(), TreeRefusal>
         ensures ok { OnOk result (self.new ≡ finite.remove self.old (path_text path.now)) }
         ensures absent { IsErrOf result TreeRefusal.Absent ↔ IsNone (finite.get self.old (path_text path.now)) }

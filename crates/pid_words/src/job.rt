@@ -54,6 +54,7 @@ pub struct LookUpWords<'a> {
 /// Why the words name no job.
 #[derive(Debug, Drop)]
 pub enum WordsFault {
+    /// There is no memory.
     Memory,
     /// Words that no command takes, or help or the version that is asked for.
     Words(Error),

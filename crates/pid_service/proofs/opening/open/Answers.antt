@@ -8,7 +8,7 @@ use Rattle.pid_tables.specs.Clauses.{IsMet, IsOneStep, IsTakenBack, ShowsOrBlank
 use Rattle.pid_tables.proofs.AtOnceLemmas.{reads_back, reads_once}
 use Rattle.pid_rows.specs.declared.version.Version.TheVariants.{One}
 use Rattle.pid_table_check.specs.Checking.{Finds}
-use Rattle.pid_service.specs.Opening.{ExplainsNow, IsFound, IsMadeAndRefused, KeepsViews, RefusesToOpen}
+use Rattle.pid_service.specs.Opening.{ExplainsNow, IsFound, MayHaveMade, KeepsViews, RefusesToOpen}
 use Rattle.pid_table_check.proofs.Asking.{nothing_read}
 use Rattle.pid_service.proofs.Opened.{moved, no_names}
 use Rattle.pid_service.proofs.opening.open.Goals as goal
@@ -87,7 +87,7 @@ returns-in_default-clause-back g c = let here = state g.S.Store c.args.conn in i
 
 pub returns-in-Err-clause-back : goal.returns-in-Err-clause-back
 returns-in-Err-clause-back g c =
-    moved (λ x y. IsTakenBack g.S.Store x y ⊎ IsMadeAndRefused g.S.Store x c.in-Err.fault y) c.new-tables.ensures c.into_conn.ensures c.in-Err.ensures.back
+    moved (λ x y. IsTakenBack g.S.Store x y ⊎ MayHaveMade g.S.Store x c.in-Err.fault y) c.new-tables.ensures c.into_conn.ensures c.in-Err.ensures.back
 
 pub returns-in-Ok-make_ready-clause-kept : goal.returns-in-Ok-make_ready-clause-kept
 returns-in-Ok-make_ready-clause-kept g c clean = subst (λ k. KeepsViews g.S.Store k c.make_ready.new.tables.conn) c.new-tables.ensures (c.in-Ok-make_ready.ensures.kept clean)

@@ -1,17 +1,19 @@
+use Rattle.std.proofs.Common.{◌≡◌}
 use Rattle.sqlite.specs.Held.{state}
 use Rattle.pid_moderation.specs.History.{new_history}
 use Rattle.pid_moderation.specs.Views.{views_of}
 use Rattle.pid_rows.specs.declared.version.Version.TheVariants.{One, Two}
 use Rattle.pid_rows.specs.Faults.{IsUntold, IsNotLater}
-use Rattle.pid_rows.specs.Leaves.{OnlyReads, RestsIn}
-use Rattle.pid_rows.proofs.CauseLemmas.{passed_on}
+use Rattle.pid_rows.specs.Leaves.{AtRest, OnlyReads, RestsIn}
+use Rattle.pid_rows.proofs.CauseLemmas.{passed_from, passed_on}
 use Rattle.pid_rows.proofs.OnlyReading.{reads_then, rests_in_still}
 use Rattle.pid_rows.proofs.LeaveLemmas.{on_err}
 use Rattle.pid_table_check.proofs.Later.{untold_never}
+use Rattle.pid_table_check.specs.Checking.{Explains}
 use Rattle.pid_tables.specs.Creation.{RestsBare}
 use Rattle.pid_tables.proofs.AtOnceLemmas.{reads_once, reads_back, reads_then_once, reads_then_back, still_bare}
 use Rattle.pid_tables.proofs.BringLemmas.{made_alone, none_there, still_met, met_reads, left_alone, or_untold, brought, named_brought, read_alone, one_found, ok_rests, moved_rests, left_rests, hands_latest}
-use Rattle.pid_tables.proofs.StandLemmas.{tables_some}
+use Rattle.pid_tables.proofs.StandLemmas.{tables_some, untold_told}
 use Rattle.pid_tables.proofs.MoveLemmas.{or_never}
 use Rattle.pid_tables.specs.declared.migration.Step.TheVariants.{Created, Moved}
 use Rattle.pid_tables.proofs.migration.migrate.Goals as goal
@@ -48,6 +50,21 @@ returns-clause-moved g c clean h sound rest =
     let old = state g.S.Store c.args.conn.now in
     let mid = state g.S.Store c.standing.new.conn in
     c.bring.ensures.moved clean (c.in_ok-found.ensures.earlier (c.bring.ensures.clean clean) h sound rest) (views_of h) (rests_in_still old mid (views_of h) c.standing.ensures.rests rest)
+
+pub returns-in_err-found-clause-told : goal.returns-in_err-found-clause-told
+returns-in_err-found-clause-told g c clean v rest =
+    let old = state g.S.Store c.args.conn.now in
+    passed_from c.from_residual.result _ (Explains old.now) c.from_residual.ensures.1 (c.in_err-found.ensures.told clean)
+
+pub returns-clause-told : goal.returns-clause-told
+returns-clause-told g c clean v rest =
+    let old = state g.S.Store c.args.conn.now in
+    let mid = state g.S.Store c.standing.new.conn in
+    let new = state g.S.Store c.bring.new.conn in
+    let first = c.bring.ensures.clean clean in
+    let good = c.in_ok-found.ensures in
+    let found = one_found old c.in_ok-found.found v (tables_some One _ (c.schemas_have_tables.ensures.tables One)) rest (good.shut first) (good.told first) (good.named first) in
+    untold_told (λ step. (step ≡ Moved) × AtRest new v) (λ fault. RestsIn One new v) old.now c.bring.result (c.bring.ensures.moved clean found v (rests_in_still old mid v c.standing.ensures.rests rest))
 
 -- ---- tables of schema 2
 

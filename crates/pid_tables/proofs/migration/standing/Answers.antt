@@ -89,7 +89,7 @@ returns-in_err-is_current-clause-told g c clean =
     passed_on c.from_residual.result _ _ (Explains db) c.from_residual.ensures.1 (untold_explains db _ c.in_err-is_current.ensures.untold)
 
 pub returns-then-branch-clause-told : goal.returns-then-branch-clause-told
-returns-then-branch-clause-told g c clean = inl refl
+returns-then-branch-clause-told g c clean = inl (refl, c.in_ok-is_current.ensures.named clean c.if-branch.true)
 
 pub returns-clause-told : goal.returns-clause-told
 returns-clause-told g c clean =
