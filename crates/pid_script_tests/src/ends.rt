@@ -31,18 +31,20 @@ fn tells_statuses(rt: HostRuntime) -> Result<(), Fail> {
     Ok(())
 }
 
-// A line may have 16,777,216 bytes, its CR not counted.
+// A line may have 16,777,216 bytes, its CR not counted. Behind the read that brings one more, nothing is read.
 #[test]
 fn ends_at_a_line_too_long(rt: HostRuntime) -> Result<(), Fail> {
     let alloc = rt.alloc();
     let mut script = Vec::new(alloc);
     script.resize(16_777_217, b'#')?;
     script.extend_from_slice(b"\nread path=PC/8086\n")?;
+    script.resize(17_000_000, b'\n')?;
     let mut registry = new_in_memory(alloc)?;
     let mut input = FaultyInput::new(script.as_slice(), 65_536);
     let mut output = FaultyOutput::new(alloc, 100);
     let end = run_script(alloc, &mut registry, &mut input, &mut output, 1_000);
     assert_eq!(rt; end, ScriptEnd::TooLong);
     assert_eq!(rt; output.taken.as_slice(), b"refused 3 BadText\n".as_slice());
+    assert!(rt; script.len() < input.rest.len().saturating_add(16_777_217 + 65_536));
     Ok(())
 }

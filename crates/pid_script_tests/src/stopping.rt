@@ -50,19 +50,24 @@ impl Moderated for Refusing {
     }
 }
 
-// What is told up to the refusal, with which the script stops.
+// What is told up to the refusal, with which the script stops. What stands behind the line that is refused is not read.
 fn expect_stop(
     rt: &impl Abort,
     alloc: Global,
     mut registry: Refusing,
-    script: &[u8],
+    script: (&[u8], &[u8]),
     replies: &[u8],
 ) -> Result<(), Fail> {
-    let mut input = FaultyInput::new(script, 40);
+    let (lines, behind) = script;
+    let mut text = Vec::new(alloc);
+    text.extend_from_slice(lines)?;
+    text.extend_from_slice(behind)?;
+    let mut input = FaultyInput::new(text.as_slice(), 1);
     let mut output = FaultyOutput::new(alloc, 100);
-    let end = run_script(alloc, &mut registry, &mut input, &mut output, 20);
+    let end = run_script(alloc, &mut registry, &mut input, &mut output, 1_000);
     assert_eq!(rt; end, ScriptEnd::Stopped);
     assert_eq!(rt; output.taken.as_slice(), replies);
+    assert_eq!(rt; input.rest, behind);
     Ok(())
 }
 
@@ -75,7 +80,8 @@ fn the_store_fails(rt: HostRuntime) -> Result<(), Fail> {
         refusal: Refusal::Store,
         lines: HEADER,
     };
-    let script = b"account root who=alice&rank=0\nsubmit alice path=PC/8086&name=Intel\nexport\n";
+    let lines = b"account root who=alice&rank=0\nsubmit alice path=PC/8086&name=Intel\n";
+    let script = (lines.as_slice(), b"export\n".as_slice());
     expect_stop(&rt, rt.alloc(), registry, script, b"ok\nrefused 17 Store\n")
 }
 
@@ -92,7 +98,8 @@ fn the_store_fails_within_an_export(rt: HostRuntime) -> Result<(), Fail> {
             Refusal::Memory => b"# PCI ID registry\nrefused 16 Memory\n".as_slice(),
             _ => b"# PCI ID registry\nrefused 17 Store\n".as_slice(),
         };
-        expect_stop(&rt, rt.alloc(), registry, b"export\nnonsense\n", replies)?;
+        let script = (b"export\n".as_slice(), b"nonsense\n".as_slice());
+        expect_stop(&rt, rt.alloc(), registry, script, replies)?;
     }
     Ok(())
 }
@@ -109,14 +116,15 @@ fn failed_registries_are_asked_once(rt: HostRuntime) -> Result<(), Fail> {
     ] {
         let mut script = String::from_str(alloc, "# comment\nnonsense\nread path=pc\n")?;
         script.push_str(line)?;
-        script.push_str("\nnonsense\n")?;
+        script.push_str("\n")?;
         let registry = Refusing {
             commands: 0,
             refusal: Refusal::Failed,
             lines: b"",
         };
         let replies = b"refused 3 BadText\nrefused 1 BadPath\nrefused 18 Failed\n";
-        expect_stop(&rt, alloc, registry, script.as_bytes(), replies)?;
+        let script = (script.as_bytes(), b"nonsense\n".as_slice());
+        expect_stop(&rt, alloc, registry, script, replies)?;
     }
     Ok(())
 }

@@ -1,10 +1,12 @@
 //! Files that come by pieces, end too soon, or are too long, and exports that break off.
 use crate::asking::{caller_of, expect_told, file_of, new_in_memory};
+use crate::noted::NotedInput;
 use pid_ident::{FaultyInput, FaultyOutput, WriteFault};
 use pid_moderation::{Refusal, Reply, reply_line};
 use pid_service::{ExportFault, ImportEnd, Registry};
 use sqlite::MemStore;
 use std::alloc::Global;
+use std::process::Abort;
 use std::test::Fail;
 
 // What an import of a file is answered that comes in pieces of at most so many bytes.
@@ -65,6 +67,56 @@ fn files_come_by_pieces(rt: HostRuntime) -> Result<(), Fail> {
     Ok(())
 }
 
+// Imports a file in pieces of at most so many bytes. It was read until it had no more, by reads of at most 4,096 bytes.
+fn expect_emptied(
+    rt: &impl Abort,
+    alloc: Global,
+    registry: &mut Registry<MemStore>,
+    row: (&str, &str, &str),
+    most: usize,
+) -> Result<(), Fail> {
+    let (caller, file, expected) = row;
+    let (account, key) = caller_of(alloc, caller)?;
+    let mut input = NotedInput::new(FaultyInput::new(file.as_bytes(), most));
+    let line = tell(alloc, registry.import_from(account, key, &mut input))?;
+    assert_eq!(rt; line.as_str(), expected, "{caller} by {most}");
+    assert!(rt; input.has_ended, "{caller} by {most}: {line}");
+    assert!(rt; input.greatest <= 4_096, "{caller} by {most}: {line}");
+    Ok(())
+}
+
+// A file of more than two reads, behind lines that are brought in, refused for themselves, or not looked at.
+#[test]
+fn files_are_read_to_their_end(rt: HostRuntime) -> Result<(), Fail> {
+    let alloc = rt.alloc();
+    let comment = comment_of(alloc, 9_000)?;
+    let good = format!(in alloc; "8086  Intel\n{comment}")?;
+    let faulty = format!(in alloc; "8086  I\n8086  I\n{comment}\n1237  I")?;
+    for most in [1, 4_095, 65_536] {
+        let mut registry = new_in_memory(alloc)?;
+        expect_told(
+            &rt,
+            alloc,
+            &mut registry,
+            "account root who=bob&rank=1 | ok\n",
+        )?;
+        for row in [
+            ("k1/root", good.as_str(), "ok added=1 renamed=0 same=0"),
+            ("k1/root", good.as_str(), "ok added=1 renamed=0 same=0"),
+            (
+                "root",
+                faulty.as_str(),
+                "refused 14 FileFault line=2 kind=7 Duplicate",
+            ),
+            ("carol", good.as_str(), "refused 4 NoAccount"),
+            ("bob", good.as_str(), "refused 5 RankTooLow"),
+        ] {
+            expect_emptied(&rt, alloc, &mut registry, row, most)?;
+        }
+    }
+    Ok(())
+}
+
 // Whatever else holds, a fault of the input is told, and nothing of the file stays.
 #[test]
 fn a_failing_input_changes_nothing(rt: HostRuntime) -> Result<(), Fail> {
@@ -99,27 +151,32 @@ fn comment_of(alloc: Global, bytes: usize) -> Result<String, Fail> {
 const LONGEST: usize = 4_194_304;
 
 // A file that is too long is refused before the reply that is kept and whoever sends it, by both calls; one of just as many
-// bytes is read.
+// bytes is read. Of one that is longer by more than a read one byte past the limit is read, and no read asks for more than 4,096.
 #[test]
 fn files_have_a_longest_length(rt: HostRuntime) -> Result<(), Fail> {
     let alloc = rt.alloc();
     let mut registry = new_in_memory(alloc)?;
     let most = comment_of(alloc, LONGEST)?;
     let more = comment_of(alloc, LONGEST + 1)?;
-    for (caller, file, expected) in [
-        ("k1/root", most.as_str(), "ok added=0 renamed=0 same=0"),
-        ("k1/root", more.as_str(), "refused 3 BadText"),
-        ("carol", more.as_str(), "refused 3 BadText"),
-        ("carol", most.as_str(), "refused 4 NoAccount"),
+    let longer = comment_of(alloc, LONGEST + 5_000)?;
+    for (caller, file, expected, left) in [
+        ("k1/root", most.as_str(), "ok added=0 renamed=0 same=0", 0),
+        ("k1/root", more.as_str(), "refused 3 BadText", 0),
+        ("carol", more.as_str(), "refused 3 BadText", 0),
+        ("carol", most.as_str(), "refused 4 NoAccount", 0),
+        ("root", longer.as_str(), "refused 3 BadText", 4_999),
+        ("carol", longer.as_str(), "refused 3 BadText", 4_999),
     ] {
         let (account, key) = caller_of(alloc, caller)?;
         let outcome = registry.import(account, key, file.as_bytes());
         let line = reply_line(alloc, outcome)?;
         assert_eq!(rt; line.as_str().trim_end(), expected, "{caller}");
         let (account, key) = caller_of(alloc, caller)?;
-        let mut input = FaultyInput::new(file.as_bytes(), 65_536);
+        let mut input = NotedInput::new(FaultyInput::new(file.as_bytes(), 65_536));
         let line = tell(alloc, registry.import_from(account, key, &mut input))?;
         assert_eq!(rt; line.as_str(), expected, "{caller}");
+        assert_eq!(rt; input.input.rest.len(), left, "{caller}");
+        assert!(rt; input.greatest <= 4_096, "{caller}");
     }
     Ok(())
 }

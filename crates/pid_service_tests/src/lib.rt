@@ -16,6 +16,8 @@ mod look_ups;
 #[cfg(test)]
 mod migrations;
 #[cfg(test)]
+mod noted;
+#[cfg(test)]
 mod openings;
 #[cfg(test)]
 mod refusals;

@@ -376,20 +376,17 @@ fn stop_at(of_log: bool, calls: u64) -> Calls {
     }
 }
 
-// Stops one of the files at calls of opening and of a row behind it, at each or at every `step`-th. The other row is asked once the
-// machine is back.
+// Stops one of the files at each call of opening and of a row behind it. The other row is asked once the machine is back.
 fn stop_each(
     rt: &impl Abort,
     alloc: Global,
     held: &Held,
     rows: (&str, &str),
     of_log: bool,
-    step: u64,
 ) -> Result<(), Fail> {
     let (whole, _) = undisturbed(alloc, held, rows.1)?;
-    for turn in 0..MOST {
-        let calls = stop_at(of_log, turn.saturating_mul(step));
-        let (line, is_whole, found) = crashed(rt, alloc, held, calls, rows.0)?;
+    for calls in 0..MOST {
+        let (line, is_whole, found) = crashed(rt, alloc, held, stop_at(of_log, calls), rows.0)?;
         expect_found(rt, alloc, &found, line.as_str(), rows.1, &whole)?;
         if is_whole {
             return Ok(());
@@ -399,17 +396,17 @@ fn stop_each(
 }
 
 // Stops the log, and then the database, at the last row behind the first ones.
-fn stop_both(rt: &impl Abort, alloc: Global, rows: (&str, &str), step: u64) -> Result<(), Fail> {
+fn stop_both(rt: &impl Abort, alloc: Global, rows: (&str, &str)) -> Result<(), Fail> {
     let (first, last) = rows;
     let held = held_behind(alloc, first)?;
-    stop_each(rt, alloc, &held, (last, last), true, step)?;
-    stop_each(rt, alloc, &held, (last, last), false, step)
+    stop_each(rt, alloc, &held, (last, last), true)?;
+    stop_each(rt, alloc, &held, (last, last), false)
 }
 
 #[test]
 fn a_stop_while_opening(rt: HostRuntime) -> Result<(), Fail> {
     let rows = ("", "export");
-    stop_both(&rt, rt.alloc(), rows, 1)
+    stop_both(&rt, rt.alloc(), rows)
 }
 
 #[test]
@@ -418,19 +415,19 @@ fn a_stop_of_an_approval(rt: HostRuntime) -> Result<(), Fail> {
         "account root who=alice&rank=0\nsubmit alice path=PC/8086&name=Intel Corporation",
         "approve a1/root num=1",
     );
-    stop_both(&rt, rt.alloc(), rows, 1)
+    stop_both(&rt, rt.alloc(), rows)
 }
 
 #[test]
 fn a_stop_of_a_rank(rt: HostRuntime) -> Result<(), Fail> {
     let rows = ("export", "account k1/root who=bob&rank=2");
-    stop_both(&rt, rt.alloc(), rows, 1)
+    stop_both(&rt, rt.alloc(), rows)
 }
 
 #[test]
 fn a_stop_of_a_submission(rt: HostRuntime) -> Result<(), Fail> {
     let rows = ("export", "submit k1/root path=PC/8086&name=Intel");
-    stop_both(&rt, rt.alloc(), rows, 1)
+    stop_both(&rt, rt.alloc(), rows)
 }
 
 #[test]
@@ -439,7 +436,7 @@ fn a_stop_of_a_comment(rt: HostRuntime) -> Result<(), Fail> {
         "submit root path=PC/8086&name=Intel",
         "comment k1/root num=1&text=seen",
     );
-    stop_both(&rt, rt.alloc(), rows, 1)
+    stop_both(&rt, rt.alloc(), rows)
 }
 
 #[test]
@@ -448,7 +445,7 @@ fn a_stop_of_a_rejection(rt: HostRuntime) -> Result<(), Fail> {
         "account root who=bob&rank=2\nsubmit root path=PC/8086&name=Intel",
         "reject k1/bob num=1&reason=known",
     );
-    stop_both(&rt, rt.alloc(), rows, 1)
+    stop_both(&rt, rt.alloc(), rows)
 }
 
 #[test]
@@ -457,17 +454,16 @@ fn a_stop_of_a_withdrawal(rt: HostRuntime) -> Result<(), Fail> {
         "submit root path=PC/8086&name=Intel",
         "withdraw k1/root num=1",
     );
-    stop_both(&rt, rt.alloc(), rows, 1)
+    stop_both(&rt, rt.alloc(), rows)
 }
 
-// An import of fifty vendors, whole or by pieces. It makes many calls, and is stopped at every fourth, so that it ends in time
-// where each step of the program is checked.
+// An import of fifty vendors, whole or by pieces.
 fn stop_import(rt: &impl Abort, alloc: Global, verb: &str) -> Result<(), Fail> {
     let mut row = format!(in alloc; "{verb} k1/root ")?;
     for vendor in 0..50u32 {
         row.push_str(format!(in alloc; "{vendor:04x}  a;")?.as_str())?;
     }
-    stop_both(rt, alloc, ("export", row.as_str()), 4)
+    stop_both(rt, alloc, ("export", row.as_str()))
 }
 
 #[test]
@@ -496,6 +492,6 @@ pub(crate) fn held_older(alloc: Global) -> Result<Held, Fail> {
 fn a_stop_of_a_migration(rt: HostRuntime) -> Result<(), Fail> {
     let alloc = rt.alloc();
     let held = held_older(alloc)?;
-    stop_each(&rt, alloc, &held, ("migrate", "changes 0"), true, 1)?;
-    stop_each(&rt, alloc, &held, ("migrate", "changes 0"), false, 1)
+    stop_each(&rt, alloc, &held, ("migrate", "changes 0"), true)?;
+    stop_each(&rt, alloc, &held, ("migrate", "changes 0"), false)
 }
