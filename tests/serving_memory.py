@@ -81,6 +81,11 @@ class Measured:
         self.rows.append(f"{name} {took}")
         self.cases.equal(f"memory: {name} took {took} KiB, which is to be {least} to {most}", least <= took <= most, True)
 
+    def list(self, of, took, back):
+        """A list is held whole, and little beside its text: its rows are put together one by one."""
+        size = len(back) // KIB
+        self.row(f"a list of {of}, {size} KiB, which is held,", took, size, 4 * size + FEW)
+
 
 def bodies(measured, folder):
     """Bodies of 4 MiB of a new registry."""
@@ -115,6 +120,9 @@ def vendors(measured, folder, database):
         took, back = server.raised(posted("/import", "root", VENDORS))
         measured.cases.equal("memory: the same vendors", back, counts(0, 65_536))
         measured.row("the same vendors", took, 0, 2 * FEW)
+        took, back = server.raised(question(b"/children"))
+        measured.cases.equal("memory: the vendors in a list", back.count(b'"name"'), 65_536)
+        measured.list("vendors", took, back)
 
 
 def real_file(measured, folder):
@@ -135,7 +143,7 @@ def real_file(measured, folder):
         measured.cases.equal("memory: the real file", back.startswith(b"HTTP/1.1 200 OK\r\n"), True)
         measured.row("the real file", took, 0, FEW)
         took, back = server.raised(question(b"/children?of=PC/8086"))
-        measured.row(f"a list of {len(back) // KIB} KiB, which is held,", took, len(back) // KIB, 64 * len(back) // KIB)
+        measured.list("subsystems", took, back)
 
 
 def limited(cases, database):

@@ -52,7 +52,7 @@ pub fn print_answer<O: Output, F: Output>(
 ) -> JobEnd {
     let printed = match &found {
         Ok(Answer::Text(text)) => write_parts(output, &[b"text ", text.as_bytes(), b"\n"]),
-        Ok(Answer::NoAnswer) => write_all(output, b"none\n"),
+        Ok(Answer::NoAnswer) => write_all(output, Unanswered::NoAnswer.line().as_bytes()),
         Err(LookupRefusal::BadFlags) => write_all(output, Unanswered::BadFlags.line().as_bytes()),
         Err(_) => return JobEnd::Told(tell_end(TextEnd::Memory, faults)),
     };

@@ -15,8 +15,8 @@ unanswered_word NoItem = codes "NoItem"
 unanswered_word BadFlags = codes "BadFlags"
 unanswered_word NoAnswer = codes "NoAnswer"
 
--- its line, as that of a command that is refused
+-- its line: as that of a command that is refused, and `none` where a look-up finds no name
 abbrev pub unanswered_line : Unanswered → List ℕ
 unanswered_line NoItem = codes "refused 25 NoItem\n"
 unanswered_line BadFlags = codes "refused 26 BadFlags\n"
-unanswered_line NoAnswer = codes "refused 27 NoAnswer\n"
+unanswered_line NoAnswer = codes "none\n"

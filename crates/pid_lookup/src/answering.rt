@@ -64,6 +64,8 @@ pub fn lookup<N: Names>(
         → IfOk result (λ answer. answer ≡ answer_of (N.map_of s) flags args.now size) }
     ensures bad_flags { IsErrOf result LookupRefusal.BadFlags ↔ (is_bad flags ≡ true) }
     ensures fault { (f : _) → IsErrOf result (LookupRefusal.Names f) → N.may_give names.old f }
+    ensures caused { N.is_honest names.new → (s : N.Shown) → N.shows names.old s → (start : _) → N.only_asked start names.old
+        → (f : _) → IsErrOf result (LookupRefusal.Names f) → N.has_cause start names.new f }
     ensures unasked { (switches_of flags).numeric ≡ true → (f : _) → result ≢ Err (LookupRefusal.Names f) }
     ensures unrequested { IsNone (request_of flags) → (f : _) → result ≢ Err (LookupRefusal.Names f) }
     ensures told { IsToldBy (N.may_tell names.old) flags result }
@@ -99,6 +101,8 @@ fn answer_request<N: Names>(
     ensures good_flags { result ≢ Err LookupRefusal.BadFlags }
     ensures unasked { (switches style).numeric ≡ true → (f : _) → result ≢ Err (LookupRefusal.Names f) }
     ensures fault { (f : _) → IsErrOf result (LookupRefusal.Names f) → N.may_give names.old f }
+    ensures caused { N.is_honest names.new → (s : N.Shown) → N.shows names.old s → (start : _) → N.only_asked start names.old
+        → (f : _) → IsErrOf result (LookupRefusal.Names f) → N.has_cause start names.new f }
     ensures kept { Keeps N.shows N.is_honest N.may_give N.may_tell N.only_asked names.old names.new }
 {
     match style {

@@ -30,6 +30,8 @@ pub fn find<N: Names>(names: &mut N, request: Request, args: &Args) -> Result<Fo
         → IfOk result (λ found. IsFor found (name_in (N.map_of s)) request args.now) }
     ensures told { IfOk result (λ _. N.may_tell names.old) }
     ensures fault { IfErr result (λ f. N.may_give names.old f) }
+    ensures caused { N.is_honest names.new → (s : N.Shown) → N.shows names.old s → (start : _) → N.only_asked start names.old
+        → IfErr result (λ f. N.has_cause start names.new f) }
     ensures kept { Keeps N.shows N.is_honest N.may_give N.may_tell N.only_asked names.old names.new }
 {
     match request {
@@ -49,6 +51,8 @@ fn find_vendor<N: Names>(names: &mut N, vendor: Id16) -> Result<Option<Name>, N:
         → IfOk result (λ name. name ≡ name_in (N.map_of s) (paths.Vendor vendor)) }
     ensures told { IfOk result (λ _. N.may_tell names.old) }
     ensures fault { IfErr result (λ f. N.may_give names.old f) }
+    ensures caused { N.is_honest names.new → (s : N.Shown) → N.shows names.old s → (start : _) → N.only_asked start names.old
+        → IfErr result (λ f. N.has_cause start names.new f) }
     ensures kept { Keeps N.shows N.is_honest N.may_give N.may_tell N.only_asked names.old names.new }
 {
     names.name_of(&Path::Vendor { vendor })
@@ -59,6 +63,8 @@ fn find_device<N: Names>(names: &mut N, args: &Args) -> Result<Option<Name>, N::
         → IfOk result (λ name. name ≡ name_in (N.map_of s) (paths.Device args.now.vendor args.now.device)) }
     ensures told { IfOk result (λ _. N.may_tell names.old) }
     ensures fault { IfErr result (λ f. N.may_give names.old f) }
+    ensures caused { N.is_honest names.new → (s : N.Shown) → N.shows names.old s → (start : _) → N.only_asked start names.old
+        → IfErr result (λ f. N.has_cause start names.new f) }
     ensures kept { Keeps N.shows N.is_honest N.may_give N.may_tell N.only_asked names.old names.new }
 {
     names.name_of(&Path::Device {
@@ -72,6 +78,8 @@ fn find_device_pair<N: Names>(names: &mut N, args: &Args) -> Result<Found, N::Fa
         → IfOk result (λ found. IsFor found (name_in (N.map_of s)) Request.VendorAndDevice args.now) }
     ensures told { IfOk result (λ _. N.may_tell names.old) }
     ensures fault { IfErr result (λ f. N.may_give names.old f) }
+    ensures caused { N.is_honest names.new → (s : N.Shown) → N.shows names.old s → (start : _) → N.only_asked start names.old
+        → IfErr result (λ f. N.has_cause start names.new f) }
     ensures kept { Keeps N.shows N.is_honest N.may_give N.may_tell N.only_asked names.old names.new }
 {
     let vendor = find_vendor(names, args.vendor)?;
@@ -84,6 +92,8 @@ fn find_subsystem_pair<N: Names>(names: &mut N, args: &Args) -> Result<Found, N:
         → IfOk result (λ found. IsFor found (name_in (N.map_of s)) Request.SubvendorAndSubsystem args.now) }
     ensures told { IfOk result (λ _. N.may_tell names.old) }
     ensures fault { IfErr result (λ f. N.may_give names.old f) }
+    ensures caused { N.is_honest names.new → (s : N.Shown) → N.shows names.old s → (start : _) → N.only_asked start names.old
+        → IfErr result (λ f. N.has_cause start names.new f) }
     ensures kept { Keeps N.shows N.is_honest N.may_give N.may_tell N.only_asked names.old names.new }
 {
     let vendor = find_vendor(names, args.subvendor)?;
@@ -96,6 +106,8 @@ fn find_subsystem<N: Names>(names: &mut N, args: &Args) -> Result<Option<Name>, 
         → IfOk result (λ name. name ≡ subsystem_name (name_in (N.map_of s)) args.now) }
     ensures told { IfOk result (λ _. N.may_tell names.old) }
     ensures fault { IfErr result (λ f. N.may_give names.old f) }
+    ensures caused { N.is_honest names.new → (s : N.Shown) → N.shows names.old s → (start : _) → N.only_asked start names.old
+        → IfErr result (λ f. N.has_cause start names.new f) }
     ensures kept { Keeps N.shows N.is_honest N.may_give N.may_tell N.only_asked names.old names.new }
 {
     if let Some(name) = find_under_device(names, args)? {
@@ -114,6 +126,8 @@ fn find_under_device<N: Names>(names: &mut N, args: &Args) -> Result<Option<Name
         (name_in (N.map_of s) (paths.Subsystem args.now.vendor args.now.device args.now.subvendor args.now.subdevice))) }
     ensures told { IfOk result (λ name. IsSome name → N.may_tell names.old) }
     ensures fault { IfErr result (λ f. N.may_give names.old f) }
+    ensures caused { N.is_honest names.new → (s : N.Shown) → N.shows names.old s → (start : _) → N.only_asked start names.old
+        → IfErr result (λ f. N.has_cause start names.new f) }
     ensures kept { Keeps N.shows N.is_honest N.may_give N.may_tell N.only_asked names.old names.new }
 {
     if args.vendor == 0 || args.device == 0 {
@@ -133,6 +147,8 @@ fn find_generic<N: Names>(names: &mut N, args: &Args) -> Result<Option<Name>, N:
         → IfOk result (λ name. name ≡ name_in (N.map_of s) (paths.Generic args.now.subvendor args.now.subdevice)) }
     ensures told { IfOk result (λ _. N.may_tell names.old) }
     ensures fault { IfErr result (λ f. N.may_give names.old f) }
+    ensures caused { N.is_honest names.new → (s : N.Shown) → N.shows names.old s → (start : _) → N.only_asked start names.old
+        → IfErr result (λ f. N.has_cause start names.new f) }
     ensures kept { Keeps N.shows N.is_honest N.may_give N.may_tell N.only_asked names.old names.new }
 {
     names.name_of(&Path::Generic {
@@ -147,6 +163,8 @@ fn find_own_device<N: Names>(names: &mut N, args: &Args) -> Result<Option<Name>,
         → IfOk result (λ name. name ≡ where_true (args.now.subvendor == args.now.vendor && args.now.subdevice == args.now.device)
         (name_in (N.map_of s) (paths.Device args.now.vendor args.now.device))) }
     ensures fault { IfErr result (λ f. N.may_give names.old f) }
+    ensures caused { N.is_honest names.new → (s : N.Shown) → N.shows names.old s → (start : _) → N.only_asked start names.old
+        → IfErr result (λ f. N.has_cause start names.new f) }
     ensures kept { Keeps N.shows N.is_honest N.may_give N.may_tell N.only_asked names.old names.new }
 {
     if !is_own_subsystem(args) {
@@ -166,6 +184,8 @@ fn find_class<N: Names>(names: &mut N, args: &Args) -> Result<Found, N::Fault>
         → IfOk result (λ found. IsFor found (name_in (N.map_of s)) Request.Class args.now) }
     ensures told { IfOk result (λ _. N.may_tell names.old) }
     ensures fault { IfErr result (λ f. N.may_give names.old f) }
+    ensures caused { N.is_honest names.new → (s : N.Shown) → N.shows names.old s → (start : _) → N.only_asked start names.old
+        → IfErr result (λ f. N.has_cause start names.new f) }
     ensures kept { Keeps N.shows N.is_honest N.may_give N.may_tell N.only_asked names.old names.new }
 {
     let class = class_byte(args);
@@ -184,6 +204,8 @@ fn find_progif<N: Names>(names: &mut N, args: &Args) -> Result<Found, N::Fault>
         → IfOk result (λ found. IsFor found (name_in (N.map_of s)) Request.ProgIf args.now) }
     ensures told { IfOk result (λ _. N.may_tell names.old) }
     ensures fault { IfErr result (λ f. N.may_give names.old f) }
+    ensures caused { N.is_honest names.new → (s : N.Shown) → N.shows names.old s → (start : _) → N.only_asked start names.old
+        → IfErr result (λ f. N.has_cause start names.new f) }
     ensures kept { Keeps N.shows N.is_honest N.may_give N.may_tell N.only_asked names.old names.new }
 {
     let path = Path::ProgIf {

@@ -35,6 +35,10 @@ pub trait Names {
     /// Whether the holder may tell that a path has a name, or that it has none: where not, each question gets a fault.
     ghost may_tell: { Self → Type 0 } = { λ _. ⊤ };
 
+    /// Whether this fault has a cause, where it came of a question to a holder that had only been asked since the first one was there,
+    /// and left the second.
+    ghost has_cause: { Self → Self → Self.Fault → Type 0 } = { λ _ _ _. ⊤ };
+
     /// Whether a holder that was the first may be the second where it was asked for names, and nothing else was done to it.
     ghost only_asked: { Self → Self → Type 0 };
 
@@ -44,5 +48,7 @@ pub trait Names {
             → IfOk result (λ name. name ≡ name_in (map_of s) path.now) }
         ensures told { IfOk result (λ _. may_tell self.old) }
         ensures fault { IfErr result (λ f. may_give self.old f) }
+        ensures caused { is_honest self.new → (s : Shown) → shows self.old s → (start : Self) → only_asked start self.old
+            → IfErr result (λ f. has_cause start self.new f) }
         ensures kept { Keeps shows is_honest may_give may_tell only_asked self.old self.new };
 }

@@ -37,14 +37,14 @@ impl Unanswered {
         }
     }
 
-    /// The line that tells it.
+    /// The line that tells it: `refused`, the number and the word, and `none` where a look-up finds no name.
     pub fn line(self) -> &'static str
         ensures { result.now ≡ unanswered_line self }
     {
         match self {
             Unanswered::NoItem => "refused 25 NoItem\n",
             Unanswered::BadFlags => "refused 26 BadFlags\n",
-            Unanswered::NoAnswer => "refused 27 NoAnswer\n",
+            Unanswered::NoAnswer => "none\n",
         }
     }
 }

@@ -8,7 +8,7 @@ use Rattle.pid_lookup.specs.declared.answer.Answer.TheVariants.{Text, NoAnswer}
 use Rattle.pid_lookup.specs.Answers.{answer_of}
 use Rattle.pid_lookup.specs.Flags.{is_bad}
 use Rattle.pid_lookup.specs.Unanswered.{unanswered_line}
-use Rattle.pid_lookup.specs.declared.unanswered.Unanswered.TheVariants.{NoItem, BadFlags}
+use Rattle.pid_lookup.specs.declared.unanswered.Unanswered.TheVariants as unanswered
 use Rattle.pid_tree.specs.Printing.{print}
 use Rattle.pid_moderation.specs.declared.command.Command.{Command}
 use Rattle.pid_moderation.specs.declared.refusal.Refusal.{Refusal}
@@ -25,11 +25,11 @@ use Rattle.pid_script.specs.ScriptLines.{Ask, Nothing, Commands, Exports, Reads,
 
 -- what is told of a path without a name
 abbrev pub NO_ITEM : List ℕ
-NO_ITEM = unanswered_line NoItem
+NO_ITEM = unanswered_line unanswered.NoItem
 
 -- what is told of flags that ask for nothing
 abbrev pub BAD_FLAGS : List ℕ
-BAD_FLAGS = unanswered_line BadFlags
+BAD_FLAGS = unanswered_line unanswered.BadFlags
 
 -- the name of a path
 abbrev pub name_line : Option (List ℕ) → List ℕ
@@ -38,7 +38,7 @@ name_line (Some name) = codes "name " ++ name ++ codes "\n"
 
 -- the answer of a look-up
 abbrev pub answer_line : Answer → List ℕ
-answer_line NoAnswer = codes "none\n"
+answer_line NoAnswer = unanswered_line unanswered.NoAnswer
 answer_line (Text text) = codes "text " ++ text ++ codes "\n"
 
 -- the outcome of a command over a history

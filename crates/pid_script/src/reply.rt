@@ -277,7 +277,7 @@ pub fn send_found<O: Output>(
 {
     match found {
         Ok(Answer::Text(text)) => say_line(output, held, b"text ", text.as_bytes()),
-        Ok(Answer::NoAnswer) => say(output, held, b"none\n"),
+        Ok(Answer::NoAnswer) => say(output, held, Unanswered::NoAnswer.line().as_bytes()),
         Err(LookupRefusal::BadFlags) => say(output, held, Unanswered::BadFlags.line().as_bytes()),
         Err(LookupRefusal::Names(refusal)) => send_answer(output, held, Err(refusal)),
         Err(LookupRefusal::Memory) => Err(stop_for_memory(output, held)),

@@ -68,21 +68,27 @@ fits h command reading change other fit =
 told_by : (h : History) (c : Asked) (e : Refusal) → answer (judge (views_of h) c) ≡ Err e → ((answer (judge (views_of h) c) ≡ Err e) × (after h c ≡ h)) ⊎ IsFault e
 told_by h c e same = inl (same, refused_stays h c e same)
 
+pub told_or_memory : (h : History) (c : Asked) (e : Refusal) → (e ≢ Memory → answer (judge (views_of h) c) ≡ Err e) → (answer (judge (views_of h) c) ≡ Err e) ⊎ (e ≡ Memory)
+told_or_memory h c BadPath told = inl (told (λ bad. let no : ⊥ = cc in no))
+told_or_memory h c BadName told = inl (told (λ bad. let no : ⊥ = cc in no))
+told_or_memory h c BadText told = inl (told (λ bad. let no : ⊥ = cc in no))
+told_or_memory h c NoAccount told = inl (told (λ bad. let no : ⊥ = cc in no))
+told_or_memory h c RankTooLow told = inl (told (λ bad. let no : ⊥ = cc in no))
+told_or_memory h c NoSubmission told = inl (told (λ bad. let no : ⊥ = cc in no))
+told_or_memory h c NotPending told = inl (told (λ bad. let no : ⊥ = cc in no))
+told_or_memory h c NotAuthor told = inl (told (λ bad. let no : ⊥ = cc in no))
+told_or_memory h c OwnDecision told = inl (told (λ bad. let no : ⊥ = cc in no))
+told_or_memory h c ParentMissing told = inl (told (λ bad. let no : ⊥ = cc in no))
+told_or_memory h c HasChildren told = inl (told (λ bad. let no : ⊥ = cc in no))
+told_or_memory h c NothingToDo told = inl (told (λ bad. let no : ⊥ = cc in no))
+told_or_memory h c (FileFault f) told = inl (told (λ bad. let no : ⊥ = cc in no))
+told_or_memory h c Full told = inl (told (λ bad. let no : ⊥ = cc in no))
+told_or_memory h c Memory told = inr refl
+told_or_memory h c Store told = inl (told (λ bad. let no : ⊥ = cc in no))
+told_or_memory h c Failed told = inl (told (λ bad. let no : ⊥ = cc in no))
+
 pub refusal_told : (h : History) (c : Asked) (e : Refusal) → (e ≢ Memory → answer (judge (views_of h) c) ≡ Err e) → ((answer (judge (views_of h) c) ≡ Err e) × (after h c ≡ h)) ⊎ IsFault e
-refusal_told h c BadPath told = told_by h c BadPath (told (λ bad. let no : ⊥ = cc in no))
-refusal_told h c BadName told = told_by h c BadName (told (λ bad. let no : ⊥ = cc in no))
-refusal_told h c BadText told = told_by h c BadText (told (λ bad. let no : ⊥ = cc in no))
-refusal_told h c NoAccount told = told_by h c NoAccount (told (λ bad. let no : ⊥ = cc in no))
-refusal_told h c RankTooLow told = told_by h c RankTooLow (told (λ bad. let no : ⊥ = cc in no))
-refusal_told h c NoSubmission told = told_by h c NoSubmission (told (λ bad. let no : ⊥ = cc in no))
-refusal_told h c NotPending told = told_by h c NotPending (told (λ bad. let no : ⊥ = cc in no))
-refusal_told h c NotAuthor told = told_by h c NotAuthor (told (λ bad. let no : ⊥ = cc in no))
-refusal_told h c OwnDecision told = told_by h c OwnDecision (told (λ bad. let no : ⊥ = cc in no))
-refusal_told h c ParentMissing told = told_by h c ParentMissing (told (λ bad. let no : ⊥ = cc in no))
-refusal_told h c HasChildren told = told_by h c HasChildren (told (λ bad. let no : ⊥ = cc in no))
-refusal_told h c NothingToDo told = told_by h c NothingToDo (told (λ bad. let no : ⊥ = cc in no))
-refusal_told h c (FileFault f) told = told_by h c (FileFault f) (told (λ bad. let no : ⊥ = cc in no))
-refusal_told h c Full told = told_by h c Full (told (λ bad. let no : ⊥ = cc in no))
-refusal_told h c Memory told = inr (inl refl)
-refusal_told h c Store told = told_by h c Store (told (λ bad. let no : ⊥ = cc in no))
-refusal_told h c Failed told = told_by h c Failed (told (λ bad. let no : ⊥ = cc in no))
+refusal_told h c e told = elim (told_or_memory h c e told) [
+  | inl same ↦ told_by h c e same
+  | inr is ↦ inr (inl is)
+]

@@ -10,7 +10,7 @@ use Rattle.pid_moderation.specs.Views.{Views, views_of}
 use Rattle.pid_rows.specs.declared.fault.TableFault.{TableFault}
 use Rattle.pid_rows.specs.declared.fault.TableFault.TheVariants.{Memory, Store, NewerSchema, Damaged}
 use Rattle.pid_rows.specs.declared.version.Version.TheVariants.{One, Two}
-use Rattle.pid_rows.specs.Faults.{IsUntold, IsNotLater}
+use Rattle.pid_rows.specs.Faults.{IsUntold}
 use Rattle.pid_rows.specs.Clauses as clauses
 use Rattle.pid_rows.specs.Leaves.{AtRest, OnlyReads, RestsIn}
 use Rattle.pid_table_check.specs.Checking.{Explains, Finds}
@@ -102,9 +102,9 @@ pub judged_now : {X : Type 0} (mid new : State) (r : Result X TableFault) → (I
 judged_now mid new (Ok x) same found = λ opened. subst (λ d. Finds d (Some Two)) (sym (same opened)) found
 judged_now mid new (Err e) same explains = tt
 
-pub explained_now : {X : Type 0} (mid new : State) (r : Result X TableFault) → (IsTrue new.is_open → new.now ≡ mid.now) → Judged mid.now r → IfErr r (λ e. IsNotLater e ⊎ Now new e)
-explained_now mid new (Ok x) same found = tt
-explained_now mid new (Err e) same explains = inr (λ opened. subst (λ d. Explains d e) (sym (same opened)) explains)
+pub explained_now : {X : Type 0} (Else : TableFault → Type 0) (mid new : State) (r : Result X TableFault) → (IsTrue new.is_open → new.now ≡ mid.now) → Judged mid.now r → IfErr r (λ e. Else e ⊎ Now new e)
+explained_now Else mid new (Ok x) same found = tt
+explained_now Else mid new (Err e) same explains = inr (λ opened. subst (λ d. Explains d e) (sym (same opened)) explains)
 
 -- a step of the opening, said of the connections around it
 pub moved : {X : Type 0} (P : X → X → Type 0) {a a' b b' : X} → a ≡ a' → b' ≡ b → P a b → P a' b'

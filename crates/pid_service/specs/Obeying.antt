@@ -1,13 +1,14 @@
 -- What a registry answers to a command, and what it shows afterwards.
-use Rattle.std.specs.Prelude.{◌≡◌, ◌≢◌, ◌⊎◌, Bool, [], Result, IsErrAnd, MatchResult}
+use Rattle.std.specs.Prelude.{◌≡◌, ◌≢◌, ◌⊎◌, Bool, [], Result, Err, IsErrAnd, MatchResult}
 use Rattle.sqlite_trees.specs.declared.store.Store.{Ghosts}
 use Rattle.pid_lives.specs.Registries.{CommandLeaves}
 use Rattle.pid_moderation.specs.declared.command.Reply.{Reply}
 use Rattle.pid_moderation.specs.declared.refusal.Refusal.{Refusal}
 use Rattle.pid_moderation.specs.History.{Asked, History}
-use Rattle.pid_moderation.specs.Judgement.{after}
-use Rattle.pid_moderation.specs.Views.{items_of}
+use Rattle.pid_moderation.specs.Judgement.{after, answer, judge}
+use Rattle.pid_moderation.specs.Views.{items_of, views_of}
 use Rattle.pid_service.specs.declared.registry.Registry.{Registry}
+use Rattle.pid_service.specs.Asking.{HasCause}
 use Rattle.pid_service.specs.Histories.{IsFault, Shows, showing}
 use Rattle.pid_service.specs.KeptNames.{kept_names}
 
@@ -16,6 +17,10 @@ use Rattle.pid_service.specs.KeptNames.{kept_names}
 -- before; or while it was written, then it has failed, and what a crash may leave shows the history before the command or after it.
 abbrev pub Obeys : {S : Type 0} → (store : Ghosts S) → Result Reply Refusal → Registry S store → History → Asked → Type 0
 Obeys store result r h c = CommandLeaves (showing store) result r h c
+
+-- It is what the judgement over the history answers, or a fault that has its cause in what was read to judge by.
+abbrev pub IsRefusedFor : {S : Type 0} → (store : Ghosts S) → Registry S store → Registry S store → History → Asked → Refusal → Type 0
+IsRefusedFor store old new h c e = (answer (judge (views_of h) c) ≡ Err e) ⊎ HasCause store old new e
 
 -- Of a command that leaves other items no name is kept in memory, unless the registry shows the history as before. So one that has failed keeps
 -- no old name either.

@@ -4,9 +4,11 @@ ghost use Rattle.pid_ident.specs.PathTexts.{path_text};
 ghost use Rattle.pid_moderation.specs.History.{History};
 ghost use Rattle.pid_moderation.specs.Items.{name_at};
 ghost use Rattle.pid_moderation.specs.Views.{items_of};
+ghost use Rattle.pid_service.specs.Asking.{HasCause};
 ghost use Rattle.pid_service.specs.Histories.{IsFault, Shows};
 ghost use Rattle.pid_service.specs.Registries.{HasCleanDisk, OnlyReads, is_live as lives};
 
+use crate::laws::reached_histories_are_kept;
 use crate::registry::Registry;
 use pid_ident::{Name, Path};
 use pid_import::refusal_of;
@@ -23,6 +25,7 @@ impl<S: Alter + Drop> Registry<S> {
         ensures shown { (h : History) → Shows S.Store self.old h → Shows S.Store self.new h }
         ensures found { HasCleanDisk S.Store self.new → (h : History) → Shows S.Store self.old h → IfSome result (λ r. IfOk r (λ name. name ≡ name_at (path_text path.now) (items_of h))) }
         ensures fault { IfSome result (λ r. IfErr r IsFault) }
+        ensures caused { IfSome result (λ r. IfErr r (λ e. HasCause S.Store self.old self.new e)) }
     {
         match self.names.get(path) {
             Ok(None) => None,
@@ -39,7 +42,9 @@ impl<S: Alter + Drop> Registry<S> {
         ensures shown { (h : History) → Shows S.Store self.old h → Shows S.Store self.new h }
         ensures found { HasCleanDisk S.Store self.new → (h : History) → Shows S.Store self.old h → IfOk result (λ name. name ≡ name_at (path_text path.now) (items_of h)) }
         ensures fault { IfErr result IsFault }
+        ensures caused { HasCleanDisk S.Store self.new → (h : History) → Shows S.Store self.old h → IfErr result (λ e. HasCause S.Store self.old self.new e) }
     {
+        reached_histories_are_kept();
         match self.tables.item(self.alloc, path) {
             Ok(name) => {
                 self.names.put(path, &name);
@@ -54,7 +59,7 @@ impl<S: Alter + Drop> Names for Registry<S> {
     ghost use Rattle.std.specs.Prelude.{◌≡◌, true};
     ghost use Rattle.pid_moderation.specs.History.{History};
     ghost use Rattle.pid_moderation.specs.Writes.{tree_of};
-    ghost use Rattle.pid_service.specs.Asking.{MayGive};
+    ghost use Rattle.pid_service.specs.Asking.{HasCauseSince, MayGive};
     ghost use Rattle.pid_service.specs.Histories.{Shows};
     ghost use Rattle.pid_service.specs.Registries.{HasCleanDisk, OnlyAsked, is_live};
 
@@ -71,6 +76,8 @@ impl<S: Alter + Drop> Names for Registry<S> {
     ghost may_give = { λ r f. MayGive (is_live r) f };
 
     ghost may_tell = { λ r. is_live r ≡ true };
+
+    ghost has_cause = { HasCauseSince S.Store };
 
     ghost only_asked = { OnlyAsked S.Store };
 

@@ -63,6 +63,8 @@ fn make_ready<S: Alter + Drop>(tables: &mut Tables<S>, alloc: Global) -> Result<
         → MatchResult result (λ _. AtRest S.Store tables.new.conn (views_of h)) (λ e. IsUntold e × ShowsOrBlank S.Store tables.new.conn h) }
     ensures told { HasCleanDisk S.Store tables.new.conn → HasSomeTable (seen S.Store tables.old.conn).schema
         → MatchResult result (λ _. IsFound (seen S.Store tables.old.conn)) (λ e. RefusesToOpen S.Store tables.old.conn e tables.new.conn) }
+    ensures explained { HasCleanDisk S.Store tables.new.conn → (v : Views) → RestsIn S.Store One tables.old.conn v
+        → IfErr result (λ e. Explains (seen S.Store tables.old.conn) e ⊎ ExplainsNow S.Store tables.new.conn e) }
     ensures judged { HasCleanDisk S.Store tables.new.conn → IfOk result (λ _. KeepsConditions S.Store tables.new.conn) }
     ensures bare { HasCleanDisk S.Store tables.new.conn → HasNoTable (seen S.Store tables.old.conn).schema → IfErr result (λ e. IsNotLater e ⊎ ExplainsNow S.Store tables.new.conn e) }
     ensures met { HasCleanDisk S.Store tables.new.conn → HasNoTable (seen S.Store tables.old.conn).schema → IsMet S.Store tables.old.conn
@@ -103,6 +105,8 @@ pub fn open<S: Alter + Drop>(
     // the fault tells which one fails, and everything is as it was.
     ensures told { HasSomeTable (seen S.Store conn).schema → MatchResult result (λ r. registries.HasCleanDisk S.Store r → IsFound (seen S.Store conn))
         (λ e. HasCleanDisk S.Store e.1 → RefusesToOpen S.Store conn e.0 e.1) }
+    // Tables of schema 1 that show views, of a history or not: the fault tells what fails of them, or of what they became.
+    ensures explained { (v : Views) → RestsIn S.Store One conn v → IfErr result (λ e. HasCleanDisk S.Store e.1 → Explains (seen S.Store conn) e.0 ⊎ ExplainsNow S.Store e.1 e.0) }
     // Whatever there was: what is opened keeps all conditions of a registry in the schema of today.
     ensures judged { IfOk result (λ r. registries.HasCleanDisk S.Store r → KeepsConditions S.Store (registries.connection r)) }
     // Where there is no table, whatever else there is: a later schema is told only of what was made there.
@@ -156,6 +160,8 @@ pub fn migrate<S: Alter + Drop>(
     // Whatever the tables are: those of schema 1 are judged before they are moved, and where a condition fails, the fault tells which one,
     // and everything is as it was.
     ensures told { HasSomeTable (seen S.Store conn).schema → MatchResult result (λ r. HasCleanDisk S.Store r.0 → Brings S.Store conn r.1 r.0) (λ e. HasCleanDisk S.Store e.1 → Refuses S.Store conn e.0 e.1) }
+    // Tables of schema 1 that show views, of a history or not: the fault tells what fails of them.
+    ensures explained { (v : Views) → RestsIn S.Store One conn v → IfErr result (λ e. HasCleanDisk S.Store e.1 → Explains (seen S.Store conn) e.0) }
     // Whatever else there is: `Already` is answered only where the labels show schema 2.
     ensures named { IfOk result (λ r. HasCleanDisk S.Store r.0 → r.1 ≡ Step.Already → NamesLatest (seen S.Store conn)) }
     // Where there is no table, whatever else there is: it answers no other step than that they were made, and tells of no later schema.

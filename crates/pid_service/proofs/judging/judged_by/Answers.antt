@@ -1,7 +1,7 @@
 use Rattle.pid_moderation.specs.History.{asked}
 use Rattle.pid_moderation.specs.Views.{views_of}
 use Rattle.std.proofs.Common.{is_some, true, ◌≡◌, ap, sym, ◌∙◌}
-use Rattle.pid_service.proofs.Judged.{refusal_told, leads, fits, repeated_stays}
+use Rattle.pid_service.proofs.Judged.{refusal_told, told_or_memory, leads, fits, repeated_stays}
 use Rattle.pid_service.proofs.judging.judged_by.Goals as goal
 
 pub returns-in-Err-clause-judged : goal.returns-in-Err-clause-judged
@@ -15,3 +15,6 @@ pub returns-then-is_there-clause-judged : goal.returns-then-is_there-clause-judg
 returns-then-is_there-clause-judged c h reading marked other is =
     let there : is_some c.args.facts.now.kept ≡ true = sym c.is_there.ensures ∙ c.if-is_there.true in
     (c.in-Ok.ensures.reply (views_of h) reading is, repeated_stays h (asked c.args.command.now reading) (sym (ap (λ f. is_some f.kept) is) ∙ there))
+
+pub returns-in-Err-clause-refused : goal.returns-in-Err-clause-refused
+returns-in-Err-clause-refused c h reading is = told_or_memory h (asked c.args.command.now reading) c.in-Err.refusal (c.in-Err.ensures.refusal (views_of h) reading is)

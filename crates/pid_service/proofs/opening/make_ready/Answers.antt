@@ -2,6 +2,9 @@ use Rattle.std.proofs.Common.{inl, ap, ◌∙◌}
 use Rattle.std.specs.Prelude.{not}
 use Rattle.pid_moderation.specs.Views.{views_of}
 use Rattle.sqlite.specs.Held.{state}
+use Rattle.pid_rows.specs.Clauses.{seen}
+use Rattle.pid_rows.specs.Faults.{IsNotLater}
+use Rattle.pid_table_check.specs.Checking.{Explains}
 use Rattle.pid_rows.proofs.LeaveLemmas.{rests_in_two}
 use Rattle.pid_rows.proofs.OnlyReading.{reads_then}
 use Rattle.pid_service.proofs.Opened.{back_behind, brought_reads, explained_now, explains_now, judged_now, judged_ready, kept_ok, once_then_reads, refused_reads, step_shown, step_rests, still_views, told_then}
@@ -42,6 +45,13 @@ returns-in-Ok-clause-told g c clean some =
 
 -- ---- whatever there was
 
+pub returns-in-Err-clause-explained : goal.returns-in-Err-clause-explained
+returns-in-Err-clause-explained g c clean v rest = inl (c.in-Err.ensures.told clean v rest)
+
+pub returns-in-Ok-clause-explained : goal.returns-in-Ok-clause-explained
+returns-in-Ok-clause-explained g c clean v rest =
+    explained_now (Explains (seen g.S.Store c.args.tables.now.conn)) (state g.S.Store c.migrate.new.conn) (state g.S.Store c.judge_tables.new.tables.conn) c.judge_tables.result c.judge_tables.ensures.same (c.judge_tables.ensures.told clean)
+
 pub returns-in-Ok-clause-judged : goal.returns-in-Ok-clause-judged
 returns-in-Ok-clause-judged g c clean =
     judged_now (state g.S.Store c.migrate.new.conn) (state g.S.Store c.judge_tables.new.tables.conn) c.judge_tables.result c.judge_tables.ensures.same (c.judge_tables.ensures.told clean)
@@ -51,7 +61,7 @@ returns-in-Err-clause-bare g c clean none = inl (c.in-Err.ensures.bare clean non
 
 pub returns-in-Ok-clause-bare : goal.returns-in-Ok-clause-bare
 returns-in-Ok-clause-bare g c clean none =
-    explained_now (state g.S.Store c.migrate.new.conn) (state g.S.Store c.judge_tables.new.tables.conn) c.judge_tables.result c.judge_tables.ensures.same (c.judge_tables.ensures.told clean)
+    explained_now IsNotLater (state g.S.Store c.migrate.new.conn) (state g.S.Store c.judge_tables.new.tables.conn) c.judge_tables.result c.judge_tables.ensures.same (c.judge_tables.ensures.told clean)
 
 -- ---- in one step
 

@@ -36,6 +36,9 @@ returns-in-Err-clause-told g c some clean = c.in-Err.ensures.found clean some
 pub returns-in-Ok-clause-told : goal.returns-in-Ok-clause-told
 returns-in-Ok-clause-told g c some clean = c.in-Ok.ensures.found clean some
 
+pub returns-in-Err-clause-explained : goal.returns-in-Err-clause-explained
+returns-in-Err-clause-explained g c v rest clean = c.in-Err.ensures.told clean v rest
+
 pub returns-in-Ok-clause-bare : goal.returns-in-Ok-clause-bare
 returns-in-Ok-clause-bare g c none clean = c.in-Ok.ensures.bare clean none
 

@@ -1,13 +1,13 @@
 use Rattle.std.proofs.Common.{◌≡◌, ◌⊎◌, inl, false, Some, refl, sym, subst}
 use Rattle.sqlite.specs.Held.{state}
 use Rattle.pid_moderation.specs.Views.{views_of}
-use Rattle.pid_rows.specs.Clauses.{HasCleanDisk, OnlyReads, is_open, seen}
+use Rattle.pid_rows.specs.Clauses.{HasCleanDisk, OnlyReads, RestsIn, is_open, seen}
 use Rattle.pid_rows.specs.Faults.{IsNotLater, IsUntold}
 use Rattle.pid_table_check.specs.Shapes.{HasNoTable, HasSomeTable}
 use Rattle.pid_tables.specs.Clauses.{IsMet, IsOneStep, IsTakenBack, ShowsOrBlank}
 use Rattle.pid_tables.proofs.AtOnceLemmas.{reads_back, reads_once}
 use Rattle.pid_rows.specs.declared.version.Version.TheVariants.{One}
-use Rattle.pid_table_check.specs.Checking.{Finds}
+use Rattle.pid_table_check.specs.Checking.{Explains, Finds}
 use Rattle.pid_service.specs.Opening.{ExplainsNow, IsFound, MayHaveMade, KeepsViews, RefusesToOpen}
 use Rattle.pid_table_check.proofs.Asking.{nothing_read}
 use Rattle.pid_service.proofs.Opened.{moved, no_names}
@@ -54,6 +54,14 @@ pub returns-in-Err-clause-bare : goal.returns-in-Err-clause-bare
 returns-in-Err-clause-bare g c =
     moved (λ x y. HasNoTable (seen g.S.Store x).schema → HasCleanDisk g.S.Store y → IsNotLater c.in-Err.fault ⊎ ExplainsNow g.S.Store y c.in-Err.fault) c.new-tables.ensures c.into_conn.ensures
     (λ none clean. c.in-Err.ensures.bare clean none)
+
+pub returns-in_default-clause-explained : goal.returns-in_default-clause-explained
+returns-in_default-clause-explained g c v rest clean = inl tt
+
+pub returns-in-Err-clause-explained : goal.returns-in-Err-clause-explained
+returns-in-Err-clause-explained g c v =
+    moved (λ x y. RestsIn g.S.Store One x v → HasCleanDisk g.S.Store y → Explains (seen g.S.Store x) c.in-Err.fault ⊎ ExplainsNow g.S.Store y c.in-Err.fault) c.new-tables.ensures c.into_conn.ensures
+    (λ rest clean. c.in-Err.ensures.explained clean v rest)
 
 -- ---- where a fault has shut the connection
 

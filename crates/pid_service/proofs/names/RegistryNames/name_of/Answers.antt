@@ -1,4 +1,4 @@
-use Rattle.std.proofs.Common.{◌≡◌, ◌↔◌, ℕ, Bool, true, List, Option, Result, Ok, Err, IfOk, rules, sym, ap, subst, ◌∙◌}
+use Rattle.std.proofs.Common.{◌≡◌, ◌↔◌, ℕ, Bool, true, List, Option, Result, Ok, Err, IfErr, IfOk, rules, sym, ap, subst, ◌∙◌}
 use Rattle.std.specs.FinMap.{entries, get, get-entries}
 use Rattle.std.specs.FinMap.Entries.{find}
 use Rattle.pid_ident.specs.PathTexts.{path_text}
@@ -8,7 +8,10 @@ use Rattle.pid_moderation.specs.History.{History}
 use Rattle.pid_moderation.specs.Items.{name_at}
 use Rattle.pid_moderation.specs.Views.{items_of}
 use Rattle.pid_moderation.specs.Writes.{tree_of}
-use Rattle.pid_service.specs.Asking.{MayGive}
+use Rattle.sqlite_trees.specs.declared.store.Store.{Ghosts}
+use Rattle.pid_service.specs.declared.registry.Registry.{Registry}
+use Rattle.pid_service.specs.Asking.{HasCause, HasCauseSince, MayGive}
+use Rattle.pid_service.specs.Registries.{OnlyAsked}
 use Rattle.pid_service.proofs.Questions.{asked_then}
 use Rattle.pid_service.proofs.names.RegistryNames.name_of.Goals as goal
 
@@ -56,3 +59,17 @@ returns-clause-kept g c =
           asked_then g.S.Store start c.known.new.self c.ask.new.self (c.known.ensures.lives ∙ on) c.ask.ensures.lives c.ask.ensures.rests
           (asked_then g.S.Store start c.args.self.now c.known.new.self on c.known.ensures.lives c.known.ensures.rests asked);
     }
+
+since : {S : Type 0} (store : Ghosts S) (start old new : Registry S store) {X : Type 0} (r : Result X Refusal) → OnlyAsked store start old → IfErr r (λ e. HasCause store old new e) → IfErr r (λ e. HasCauseSince store start new e)
+since store start old new (Ok x) asked cause = tt
+since store start old new (Err e) asked cause = record { before = old; asked = asked; cause = cause }
+
+pub returns-in-Some-clause-caused : goal.returns-in-Some-clause-caused
+returns-in-Some-clause-caused g c clean h shows start asked =
+    since g.S.Store start c.args.self.now c.known.new.self c.in-Some.answer asked c.in-Some.ensures.caused
+
+pub returns-clause-caused : goal.returns-clause-caused
+returns-clause-caused g c clean h shows start asked =
+    let on : c.args.self.now.live ≡ true = search rules in
+    since g.S.Store start c.known.new.self c.ask.new.self c.ask.result
+    (asked_then g.S.Store start c.args.self.now c.known.new.self on c.known.ensures.lives c.known.ensures.rests asked) (c.ask.ensures.caused clean h (c.known.ensures.shown h shows))
