@@ -15,7 +15,7 @@ unanswered_word NoItem = codes "NoItem"
 unanswered_word BadFlags = codes "BadFlags"
 unanswered_word NoAnswer = codes "NoAnswer"
 
--- its line: as that of a command that is refused, and `none` where a look-up finds no name
+-- its line: as that of a command that is refused, and `none` where a look-up has no answer
 abbrev pub unanswered_line : Unanswered → List ℕ
 unanswered_line NoItem = codes "refused 25 NoItem\n"
 unanswered_line BadFlags = codes "refused 26 BadFlags\n"

@@ -35,8 +35,7 @@ pub trait Names {
     /// Whether the holder may tell that a path has a name, or that it has none: where not, each question gets a fault.
     ghost may_tell: { Self → Type 0 } = { λ _. ⊤ };
 
-    /// Whether this fault has a cause, where it came of a question to a holder that had only been asked since the first one was there,
-    /// and left the second.
+    /// Whether this fault has its cause between the first holder and the second, where the first was only asked for names since.
     ghost has_cause: { Self → Self → Self.Fault → Type 0 } = { λ _ _ _. ⊤ };
 
     /// Whether a holder that was the first may be the second where it was asked for names, and nothing else was done to it.

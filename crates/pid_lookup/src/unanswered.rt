@@ -8,7 +8,7 @@ pub enum Unanswered {
     NoItem,
     /// The flags of a look-up are bad.
     BadFlags,
-    /// A look-up finds no name.
+    /// No name is known to a look-up, and no number may be shown.
     NoAnswer,
 }
 
@@ -37,7 +37,7 @@ impl Unanswered {
         }
     }
 
-    /// The line that tells it: `refused`, the number and the word, and `none` where a look-up finds no name.
+    /// The line that tells it: `refused`, the number and the word, and `none` where a look-up has no answer.
     pub fn line(self) -> &'static str
         ensures { result.now ≡ unanswered_line self }
     {

@@ -27,7 +27,7 @@ use Rattle.pid_script.specs.ScriptLines.{Ask, Nothing, Commands, Exports, Reads,
 abbrev pub NO_ITEM : List ℕ
 NO_ITEM = unanswered_line unanswered.NoItem
 
--- what is told of flags that ask for nothing
+-- what is told of bad flags
 abbrev pub BAD_FLAGS : List ℕ
 BAD_FLAGS = unanswered_line unanswered.BadFlags
 

@@ -9,7 +9,7 @@ use Rattle.pid_rows.specs.Clauses as clauses
 use Rattle.pid_rows.specs.declared.fault.TableFault.TheVariants as faults
 use Rattle.pid_service.specs.declared.registry.Registry.{Registry}
 use Rattle.pid_service.specs.Histories.{Shows, IsFault}
-use Rattle.pid_service.specs.Registries.{HasCleanDisk, OnlyAsked, OnlyReads, connection, is_live}
+use Rattle.pid_service.specs.Registries.{HasCleanDisk, OnlyReads, connection, is_live}
 
 -- a live registry gives `Memory` and `Store` alone, one that has failed gives `Failed` alone
 pub record MayGive (live : Bool) (e : Refusal) : Type 0 where
@@ -35,12 +35,6 @@ module _ {S : Type 0} (store : Ghosts S) where
   -- the same of what a registry is asked
   abbrev pub HasCause : Registry S store → Registry S store → Refusal → Type 0
   HasCause old new e = IsCausedAs (connection old) (connection new) e
-
-  -- The same of a look-up, which asks for several names: it had asked for some of them, and the fault has its cause in the question that followed.
-  pub record HasCauseSince (start new : Registry S store) (e : Refusal) : Type 0 where
-    pub before : Registry S store
-    pub asked : OnlyAsked store start before
-    pub cause : HasCause before new e
 
   -- A question. A registry that has failed answers nothing else, and stays as it is.
   pub record Answers {X : Type 0} (old new : Registry S store) (result : Result X Refusal) (Says : History → X → Type 0) : Type 0 where

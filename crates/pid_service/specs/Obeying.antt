@@ -1,5 +1,5 @@
 -- What a registry answers to a command, and what it shows afterwards.
-use Rattle.std.specs.Prelude.{◌≡◌, ◌≢◌, ◌⊎◌, Bool, [], Result, Err, IsErrAnd, MatchResult}
+use Rattle.std.specs.Prelude.{◌≡◌, ◌≢◌, ◌⊎◌, Bool, false, [], Result, Ok, Err, IsErrAnd, MatchResult}
 use Rattle.sqlite_trees.specs.declared.store.Store.{Ghosts}
 use Rattle.pid_lives.specs.Registries.{CommandLeaves}
 use Rattle.pid_moderation.specs.declared.command.Reply.{Reply}
@@ -11,6 +11,7 @@ use Rattle.pid_service.specs.declared.registry.Registry.{Registry}
 use Rattle.pid_service.specs.Asking.{HasCause}
 use Rattle.pid_service.specs.Histories.{IsFault, Shows, showing}
 use Rattle.pid_service.specs.KeptNames.{kept_names}
+use Rattle.pid_service.specs.Registries.{is_live}
 
 -- What lives ask of a command (`CommandLeaves` of pid_lives). The answer is that of the judgement over the history, and the registry shows the
 -- history after the command. Or memory was short or the store failed: while it was only read, then the registry shows the history as
@@ -18,9 +19,14 @@ use Rattle.pid_service.specs.KeptNames.{kept_names}
 abbrev pub Obeys : {S : Type 0} → (store : Ghosts S) → Result Reply Refusal → Registry S store → History → Asked → Type 0
 Obeys store result r h c = CommandLeaves (showing store) result r h c
 
--- It is what the judgement over the history answers, or a fault that has its cause in what was read to judge by.
+-- the judgement over the history accepts it, or answers a reply that is kept
+abbrev pub IsAnswered : History → Asked → Type 0
+IsAnswered h c = (reply : Reply) × (answer (judge (views_of h) c) ≡ Ok reply)
+
+-- It is what the judgement over the history answers; or a fault that has its cause in the call; or it failed the registry, over a command that
+-- the judgement does not refuse.
 abbrev pub IsRefusedFor : {S : Type 0} → (store : Ghosts S) → Registry S store → Registry S store → History → Asked → Refusal → Type 0
-IsRefusedFor store old new h c e = (answer (judge (views_of h) c) ≡ Err e) ⊎ HasCause store old new e
+IsRefusedFor store old new h c e = (answer (judge (views_of h) c) ≡ Err e) ⊎ (HasCause store old new e ⊎ ((is_live new ≡ false) × IsAnswered h c))
 
 -- Of a command that leaves other items no name is kept in memory, unless the registry shows the history as before. So one that has failed keeps
 -- no old name either.

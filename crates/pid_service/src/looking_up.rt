@@ -5,7 +5,7 @@ ghost use Rattle.pid_lookup.specs.Flags.{is_bad, switches_of, request_of};
 ghost use Rattle.pid_lookup.specs.Told.{IsToldBy};
 ghost use Rattle.pid_moderation.specs.History.{History};
 ghost use Rattle.pid_moderation.specs.Writes.{tree_of};
-ghost use Rattle.pid_service.specs.Asking.{HasCauseSince, MayGive};
+ghost use Rattle.pid_service.specs.Asking.{HasCause, MayGive};
 ghost use Rattle.pid_service.specs.Histories.{Shows};
 ghost use Rattle.pid_service.specs.Registries.{HasCleanDisk, OnlyReads, is_live as lives};
 
@@ -34,7 +34,7 @@ impl<S: Alter + Drop> Registry<S> {
         ensures bad_flags { lives self.old ≡ true → (IsErrOf result LookupRefusal.BadFlags ↔ (is_bad flags ≡ true)) }
         ensures fault { (f : Refusal) → IsErrOf result (LookupRefusal.Names f) → MayGive (lives self.old) f }
         ensures caused { HasCleanDisk S.Store self.new → (h : History) → Shows S.Store self.old h
-            → (f : Refusal) → IsErrOf result (LookupRefusal.Names f) → HasCauseSince S.Store self.old self.new f }
+            → (f : Refusal) → IsErrOf result (LookupRefusal.Names f) → HasCause S.Store self.old self.new f }
         // No name is asked for where numbers alone are, or nothing that there is.
         ensures unasked { lives self.old ≡ true → (switches_of flags).numeric ≡ true → (f : Refusal) → result ≢ Err (LookupRefusal.Names f) }
         ensures unrequested { lives self.old ≡ true → IsNone (request_of flags) → (f : Refusal) → result ≢ Err (LookupRefusal.Names f) }

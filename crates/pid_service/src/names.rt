@@ -59,7 +59,7 @@ impl<S: Alter + Drop> Names for Registry<S> {
     ghost use Rattle.std.specs.Prelude.{◌≡◌, true};
     ghost use Rattle.pid_moderation.specs.History.{History};
     ghost use Rattle.pid_moderation.specs.Writes.{tree_of};
-    ghost use Rattle.pid_service.specs.Asking.{HasCauseSince, MayGive};
+    ghost use Rattle.pid_service.specs.Asking.{HasCause, MayGive};
     ghost use Rattle.pid_service.specs.Histories.{Shows};
     ghost use Rattle.pid_service.specs.Registries.{HasCleanDisk, OnlyAsked, is_live};
 
@@ -77,7 +77,7 @@ impl<S: Alter + Drop> Names for Registry<S> {
 
     ghost may_tell = { λ r. is_live r ≡ true };
 
-    ghost has_cause = { HasCauseSince S.Store };
+    ghost has_cause = { HasCause S.Store };
 
     ghost only_asked = { OnlyAsked S.Store };
 

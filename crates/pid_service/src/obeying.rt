@@ -11,7 +11,7 @@ ghost use Rattle.pid_import.specs.Files.{asks};
 ghost use Rattle.pid_service.specs.Histories.{IsFault, IsReached, Shows};
 ghost use Rattle.pid_service.specs.Judging.{Judges};
 ghost use Rattle.pid_service.specs.KeptNames.{AreNamesOf, kept_names};
-ghost use Rattle.pid_service.specs.Obeying.{Forgets, IsRefusedFor, Obeys, SparesNames, StaysLive};
+ghost use Rattle.pid_service.specs.Obeying.{Forgets, IsAnswered, IsRefusedFor, Obeys, SparesNames, StaysLive};
 ghost use Rattle.pid_service.specs.Registries.{HasCleanDisk, connection, is_live as lives};
 
 use crate::forgetting::forget_for;
@@ -57,7 +57,7 @@ impl<S: Alter + Drop> Registry<S> {
         ensures none { kept_names self.old ≡ [] → kept_names self.new ≡ [] }
         ensures alive { IfErr result (λ e. e ≢ Refusal.Failed) }
         ensures held { StaysLive result (lives self.old) (lives self.new) }
-        ensures fails { OnErr result (lives self.new ≡ false) }
+        ensures fails { (h : History) (c : Asked) → Judges h c (Ok judged) → OnErr result ((lives self.new ≡ false) × IsAnswered h c) }
     {
         match judged {
             Judged::Kept(reply) => Ok(reply),
@@ -72,7 +72,7 @@ impl<S: Alter + Drop> Registry<S> {
     fn obey_act(&mut self, command: &Command) -> Result<Reply, Refusal>
         ensures clean { HasCleanDisk S.Store self.new → HasCleanDisk S.Store self.old }
         ensures obeyed { HasCleanDisk S.Store self.new → (h : History) → Shows S.Store self.old h → is_import command.now.act ≡ false → Obeys S.Store result self.new h (asks command.now) }
-        ensures caused { HasCleanDisk S.Store self.new → (h : History) → Shows S.Store self.old h → is_import command.now.act ≡ false → lives self.new ≡ true
+        ensures caused { HasCleanDisk S.Store self.new → (h : History) → Shows S.Store self.old h → is_import command.now.act ≡ false
             → IfErr result (λ e. IsRefusedFor S.Store self.old self.new h (asks command.now) e) }
         ensures forgets { HasCleanDisk S.Store self.new → (h : History) → Shows S.Store self.old h → is_import command.now.act ≡ false → Forgets S.Store self.new h (asks command.now) }
         ensures spares { HasCleanDisk S.Store self.new → (h : History) → Shows S.Store self.old h → is_import command.now.act ≡ false → SparesNames result self.new h (asks command.now) }
@@ -92,7 +92,7 @@ impl<S: Alter + Drop> Registry<S> {
     fn obey_good(&mut self, command: &Command) -> Result<Reply, Refusal>
         ensures clean { HasCleanDisk S.Store self.new → HasCleanDisk S.Store self.old }
         ensures obeyed { HasCleanDisk S.Store self.new → (h : History) → Shows S.Store self.old h → is_broken command.now.act ≡ false → Obeys S.Store result self.new h (asks command.now) }
-        ensures caused { HasCleanDisk S.Store self.new → (h : History) → Shows S.Store self.old h → is_import command.now.act ≡ false → lives self.new ≡ true
+        ensures caused { HasCleanDisk S.Store self.new → (h : History) → Shows S.Store self.old h → is_import command.now.act ≡ false
             → IfErr result (λ e. IsRefusedFor S.Store self.old self.new h (asks command.now) e) }
         ensures forgets { HasCleanDisk S.Store self.new → (h : History) → Shows S.Store self.old h → Forgets S.Store self.new h (asks command.now) }
         ensures spares { HasCleanDisk S.Store self.new → (h : History) → Shows S.Store self.old h → is_broken command.now.act ≡ false → SparesNames result self.new h (asks command.now) }
@@ -113,7 +113,7 @@ impl<S: Alter + Drop> Registry<S> {
         ensures failed { lives self.old ≡ false → (result ≡ Err Refusal.Failed) × (self.new ≡ self.old) }
         ensures form { lives self.old ≡ true → is_broken command.now.act ≡ true → (result ≡ Err Refusal.BadText) × (self.new ≡ self.old) }
         ensures obeyed { HasCleanDisk S.Store self.new → (h : History) → Shows S.Store self.old h → Obeys S.Store result self.new h (asks command.now) }
-        ensures caused { HasCleanDisk S.Store self.new → (h : History) → Shows S.Store self.old h → is_import command.now.act ≡ false → lives self.new ≡ true
+        ensures caused { HasCleanDisk S.Store self.new → (h : History) → Shows S.Store self.old h → is_import command.now.act ≡ false
             → IfErr result (λ e. IsRefusedFor S.Store self.old self.new h (asks command.now) e) }
         ensures forgets { HasCleanDisk S.Store self.new → (h : History) → Shows S.Store self.old h → Forgets S.Store self.new h (asks command.now) }
         ensures spares { HasCleanDisk S.Store self.new → (h : History) → Shows S.Store self.old h → SparesNames result self.new h (asks command.now) }
@@ -143,8 +143,9 @@ impl<S: Alter + Drop> Registry<S> {
         // What breaks a rule of form is refused before all else.
         ensures form { lives self.old ≡ true → is_broken command.act ≡ true → (result ≡ Err Refusal.BadText) × (self.new ≡ self.old) }
         ensures obeyed { HasCleanDisk S.Store self.new → (h : History) → Shows S.Store self.old h → Obeys S.Store result self.new h (asks command) }
-        // A command but an import that is refused by a registry that is live still: the judgement refuses it, or a fault has its cause in what was read.
-        ensures caused { HasCleanDisk S.Store self.new → (h : History) → Shows S.Store self.old h → is_import command.act ≡ false → lives self.new ≡ true
+        // A command other than an import that is refused: the judgement refuses it; or a fault has its cause in the call; or the registry has failed,
+        // over a command that the judgement does not refuse.
+        ensures caused { HasCleanDisk S.Store self.new → (h : History) → Shows S.Store self.old h → is_import command.act ≡ false
             → IfErr result (λ e. IsRefusedFor S.Store self.old self.new h (asks command) e) }
         // Where it leaves other items, no name is kept in memory.
         ensures forgets { HasCleanDisk S.Store self.new → (h : History) → Shows S.Store self.old h → Forgets S.Store self.new h (asks command) }

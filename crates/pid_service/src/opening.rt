@@ -105,7 +105,8 @@ pub fn open<S: Alter + Drop>(
     // the fault tells which one fails, and everything is as it was.
     ensures told { HasSomeTable (seen S.Store conn).schema → MatchResult result (λ r. registries.HasCleanDisk S.Store r → IsFound (seen S.Store conn))
         (λ e. HasCleanDisk S.Store e.1 → RefusesToOpen S.Store conn e.0 e.1) }
-    // Tables of schema 1 that show views, of a history or not: the fault tells what fails of them, or of what they became.
+    // Tables of schema 1 that show views, of a history or not: the fault tells what fails of them, or, while the connection is open, of what
+    // they became.
     ensures explained { (v : Views) → RestsIn S.Store One conn v → IfErr result (λ e. HasCleanDisk S.Store e.1 → Explains (seen S.Store conn) e.0 ⊎ ExplainsNow S.Store e.1 e.0) }
     // Whatever there was: what is opened keeps all conditions of a registry in the schema of today.
     ensures judged { IfOk result (λ r. registries.HasCleanDisk S.Store r → KeepsConditions S.Store (registries.connection r)) }

@@ -10,8 +10,12 @@ use Rattle.pid_moderation.specs.Views.{items_of}
 use Rattle.pid_moderation.specs.Writes.{tree_of}
 use Rattle.sqlite_trees.specs.declared.store.Store.{Ghosts}
 use Rattle.pid_service.specs.declared.registry.Registry.{Registry}
-use Rattle.pid_service.specs.Asking.{HasCause, HasCauseSince, MayGive}
-use Rattle.pid_service.specs.Registries.{OnlyAsked}
+use Rattle.sqlite.specs.Held.{state}
+use Rattle.pid_moderation.specs.declared.refusal.Refusal.TheVariants.{Memory, Store}
+use Rattle.pid_rows.specs.declared.fault.TableFault.TheVariants as faults
+use Rattle.pid_rows.proofs.CauseLemmas.{caused_later}
+use Rattle.pid_service.specs.Asking.{HasCause, MayGive}
+use Rattle.pid_service.specs.Registries.{HasCleanDisk, OnlyAsked, OnlyReads, connection}
 use Rattle.pid_service.proofs.Questions.{asked_then}
 use Rattle.pid_service.proofs.names.RegistryNames.name_of.Goals as goal
 
@@ -60,16 +64,22 @@ returns-clause-kept g c =
           (asked_then g.S.Store start c.args.self.now c.known.new.self on c.known.ensures.lives c.known.ensures.rests asked);
     }
 
-since : {S : Type 0} (store : Ghosts S) (start old new : Registry S store) {X : Type 0} (r : Result X Refusal) → OnlyAsked store start old → IfErr r (λ e. HasCause store old new e) → IfErr r (λ e. HasCauseSince store start new e)
-since store start old new (Ok x) asked cause = tt
-since store start old new (Err e) asked cause = record { before = old; asked = asked; cause = cause }
+since : {S : Type 0} (store : Ghosts S) (start old new : Registry S store) (e : Refusal) → OnlyAsked store start old → OnlyReads store old new → HasCleanDisk store new → HasCause store old new e → HasCause store start new e
+since store start old new Memory asked reads clean cause = tt
+since store start old new Store asked reads clean cause =
+    caused_later (state store (connection start)) (state store (connection old)) (state store (connection new)) (λ _. ⊥) faults.Store asked.rests.survives reads.survives.counts (reads.clean clean) cause
+since store start old new e asked reads clean cause = cause
+
+since_all : {S : Type 0} (store : Ghosts S) (start old new : Registry S store) {X : Type 0} (r : Result X Refusal) → OnlyAsked store start old → OnlyReads store old new → HasCleanDisk store new → IfErr r (λ e. HasCause store old new e) → IfErr r (λ e. HasCause store start new e)
+since_all store start old new (Ok x) asked reads clean cause = tt
+since_all store start old new (Err e) asked reads clean cause = since store start old new e asked reads clean cause
 
 pub returns-in-Some-clause-caused : goal.returns-in-Some-clause-caused
 returns-in-Some-clause-caused g c clean h shows start asked =
-    since g.S.Store start c.args.self.now c.known.new.self c.in-Some.answer asked c.in-Some.ensures.caused
+    since_all g.S.Store start c.args.self.now c.known.new.self c.in-Some.answer asked c.known.ensures.rests clean c.in-Some.ensures.caused
 
 pub returns-clause-caused : goal.returns-clause-caused
 returns-clause-caused g c clean h shows start asked =
     let on : c.args.self.now.live ≡ true = search rules in
-    since g.S.Store start c.known.new.self c.ask.new.self c.ask.result
-    (asked_then g.S.Store start c.args.self.now c.known.new.self on c.known.ensures.lives c.known.ensures.rests asked) (c.ask.ensures.caused clean h (c.known.ensures.shown h shows))
+    since_all g.S.Store start c.known.new.self c.ask.new.self c.ask.result
+    (asked_then g.S.Store start c.args.self.now c.known.new.self on c.known.ensures.lives c.known.ensures.rests asked) c.ask.ensures.rests clean (c.ask.ensures.caused clean h (c.known.ensures.shown h shows))
