@@ -1,5 +1,5 @@
 -- What a registry answers to a command, and what it shows afterwards.
-use Rattle.std.specs.Prelude.{◌≡◌, ◌≢◌, ◌⊎◌, Bool, false, [], Result, Ok, Err, IsErrAnd, MatchResult}
+use Rattle.std.specs.Prelude.{◌≡◌, ◌≢◌, ◌⊎◌, Bool, true, false, [], Result, Ok, Err, IsErrAnd, MatchResult}
 use Rattle.sqlite_trees.specs.declared.store.Store.{Ghosts}
 use Rattle.pid_lives.specs.Registries.{CommandLeaves}
 use Rattle.pid_moderation.specs.declared.command.Reply.{Reply}
@@ -23,10 +23,10 @@ Obeys store result r h c = CommandLeaves (showing store) result r h c
 abbrev pub IsAnswered : History → Asked → Type 0
 IsAnswered h c = (reply : Reply) × (answer (judge (views_of h) c) ≡ Ok reply)
 
--- It is what the judgement over the history answers; or a fault that has its cause in the call; or it failed the registry, over a command that
--- the judgement does not refuse.
+-- It is what the judgement over the history answers; or a fault that has its cause in the call and leaves the registry live; or one that fails
+-- it, over a command that the judgement does not refuse.
 abbrev pub IsRefusedFor : {S : Type 0} → (store : Ghosts S) → Registry S store → Registry S store → History → Asked → Refusal → Type 0
-IsRefusedFor store old new h c e = (answer (judge (views_of h) c) ≡ Err e) ⊎ (HasCause store old new e ⊎ ((is_live new ≡ false) × IsAnswered h c))
+IsRefusedFor store old new h c e = (answer (judge (views_of h) c) ≡ Err e) ⊎ (((is_live new ≡ true) × HasCause store old new e) ⊎ ((is_live new ≡ false) × IsAnswered h c))
 
 -- Of a command that leaves other items no name is kept in memory, unless the registry shows the history as before. So one that has failed keeps
 -- no old name either.

@@ -143,8 +143,8 @@ impl<S: Alter + Drop> Registry<S> {
         // What breaks a rule of form is refused before all else.
         ensures form { lives self.old ≡ true → is_broken command.act ≡ true → (result ≡ Err Refusal.BadText) × (self.new ≡ self.old) }
         ensures obeyed { HasCleanDisk S.Store self.new → (h : History) → Shows S.Store self.old h → Obeys S.Store result self.new h (asks command) }
-        // A command other than an import that is refused: the judgement refuses it; or a fault has its cause in the call; or the registry has failed,
-        // over a command that the judgement does not refuse.
+        // A command other than an import that is refused: the judgement refuses it; or a fault has its cause in the call, and the registry is live
+        // still; or it has failed, over a command that the judgement does not refuse.
         ensures caused { HasCleanDisk S.Store self.new → (h : History) → Shows S.Store self.old h → is_import command.act ≡ false
             → IfErr result (λ e. IsRefusedFor S.Store self.old self.new h (asks command) e) }
         // Where it leaves other items, no name is kept in memory.
