@@ -1,4 +1,4 @@
-"""The words that the program takes, its statuses, and files that fail."""
+"""The arguments of the program, its exit statuses, and files that fail."""
 import os
 import subprocess
 
@@ -10,14 +10,14 @@ KINDS = ("NotUtf8", "TooDeep", "NoParent", "BadId", "NoName", "BadName", "Duplic
 
 
 def into_full(*words):
-    """What the program says where its standard output has no room."""
+    """What the program reports if its standard output is full."""
     with open("/dev/full", "wb") as full:
         ran = subprocess.run([program.PROGRAM, *words], input=TEXT, stdout=full, stderr=subprocess.PIPE, timeout=60)
     return ran.stderr, ran.returncode
 
 
 def of_folder(*words):
-    """What the program says where its standard input is a folder, which cannot be read."""
+    """What the program reports if its standard input is a folder, which cannot be read."""
     folder = os.open("/", os.O_RDONLY)
     try:
         ran = subprocess.run([program.PROGRAM, *words], stdin=folder, stdout=subprocess.PIPE, stderr=subprocess.PIPE, timeout=60)
@@ -27,7 +27,7 @@ def of_folder(*words):
 
 
 def into_left(text, *words):
-    """What the program says where the reader of its standard output has gone away."""
+    """What the program reports if the reader of its standard output has gone away."""
     there, here = os.pipe()
     os.close(there)
     try:
@@ -38,7 +38,7 @@ def into_left(text, *words):
 
 
 def first_line(text):
-    """What the program says, and the first line of what it prints, where that is all that is read."""
+    """The first line of the output, what is reported and the status, if nothing more than that line is read."""
     program_run = subprocess.Popen([program.PROGRAM], stdin=subprocess.PIPE, stdout=subprocess.PIPE, stderr=subprocess.PIPE)
     program_run.stdin.write(text)
     program_run.stdin.close()
@@ -50,11 +50,11 @@ def first_line(text):
 
 
 def asked_for(cases):
-    """Help and the version: on standard output, status 0."""
+    """Help and the version: on standard output, with status 0."""
     for words in (["--help"], ["-h"], ["help"], ["check", "--help"], ["tidy", "-h"], ["help", "check"]):
         ran = program.run(TEXT, *words)
         cases.equal(f"{words}: status", (ran.err, ran.status), (b"", 0))
-        cases.equal(f"{words}: shows where the text comes from", b"Usage: pciids" in ran.out and b"< FILE" in ran.out, True)
+        cases.equal(f"{words}: shows where the file comes from", b"Usage: pciids" in ran.out and b"< FILE" in ran.out, True)
     ran = program.run(TEXT, "--help")
     cases.equal("--help: names the commands", b"check" in ran.out and b"tidy" in ran.out, True)
     for words in (["check", "--help"], ["help", "check"]):
@@ -64,30 +64,30 @@ def asked_for(cases):
             cases.equal(f"{words}: a line on {kind}", len(told), 1)
     for word in ("--version", "-V"):
         ran = program.run(TEXT, word)
-        cases.equal(word, (ran.out, ran.err, ran.status), (b"pciids 0.1\n", b"", 0))
+        cases.equal(word, (ran.out, ran.err, ran.status), (b"pciids 0.1.0\n", b"", 0))
     for words in (["--help"], ["help"], ["check", "-h"], ["--version"], ["-V"]):
         cases.equal(f"{words}: no room for it", into_full(*words), (b"file: failed\n", 3))
         cases.equal(f"{words}: nobody reads it", into_left(b"", *words), (b"", 3))
 
 
 def wrong_words(cases):
-    """Words that no command takes: told on standard error with what to type, status 2."""
+    """Invalid arguments: reported on standard error with what to type instead, status 2."""
     for words in (["chekc"], ["check", "x"], ["tidy", "check"], ["--db", "x"], [""], ["version"], ["check", "-V"]):
         ran = program.run(TEXT, *words)
         cases.equal(f"{words}: nothing is done", (ran.out, ran.status), (b"", 2))
         cases.equal(f"{words}: the fault is told", ran.err.startswith(b"error: "), True)
     for words, typed in (([], b"pciids"), (["check"], b"pciids check"), (["tidy"], b"pciids tidy")):
         ran = program.run(b"", *words, program.REAL_FILE)
-        hint = b"A file is read from standard input: " + typed + b" < FILE\n"
+        hint = b"To read a file, redirect standard input: " + typed + b" < FILE\n"
         cases.equal(f"{words} and a file: nothing is done", (ran.out, ran.status), (b"", 2))
         cases.equal(f"{words} and a file: the fault is told", ran.err.startswith(b"error: "), True)
         cases.equal(f"{words} and a file: what to type", ran.err.endswith(b"\n" + hint), True)
     ran = program.run(TEXT, b"\xff")
-    cases.equal("a word that is not UTF-8", (ran.out, ran.err, ran.status), (b"", b"error: a word is not UTF-8\n", 2))
+    cases.equal("an argument that is not UTF-8", (ran.out, ran.err, ran.status), (b"", b"error: an argument is not valid UTF-8\n", 2))
 
 
 def files_that_fail(cases):
-    """A file that fails is told in one line; a reader that went away by the status alone."""
+    """A file that fails is reported in one line; a reader that has gone away only by the status."""
     for words in ([], ["tidy"], ["check"]):
         cases.equal(f"{words}: no room for the output", into_full(*words), (b"file: failed\n", 3))
         cases.equal(f"{words}: a folder as the input", of_folder(*words), (b"", b"file: failed\n", 3))
@@ -106,7 +106,7 @@ REGISTRY_WORDS = (
     ["export", "--db", "x"],
     ["serve", "--db", "x", "--port", "80"],
 )
-# What is missing, there twice, or no number in its range.
+# Arguments that are missing, given twice, unknown, or out of range.
 WRONG_WORDS = (
     ["lookup"], ["lookup", "--ids", "x"], ["lookup", "--flags", "1"], ["lookup", "--ids", "x", "--flags", "1", "y"],
     ["lookup", "--ids", "x", "--flags", "1", "--flags", "2"], ["script", "x"], ["script", "--db"], ["import", "--db", "x", "y"],
@@ -118,7 +118,7 @@ WRONG_WORDS = (
 
 
 def registry_words(cases):
-    """Help of the words that ask for more than a text, and faults of them."""
+    """Help for the commands that need a registry or a named file, and invalid arguments of theirs."""
     for words in REGISTRY_WORDS:
         ran = program.run(TEXT, words[0], "--help")
         cases.equal(f"{words[0]} --help", (ran.err, ran.status), (b"", 0))
@@ -130,7 +130,7 @@ def registry_words(cases):
 
 
 def left_alone(cases):
-    """What needs the whole program is left to it by the small one, which says nothing."""
+    """The small program leaves what needs the whole one to it, and prints nothing."""
     for words in REGISTRY_WORDS:
         ran = program.run(TEXT, *words)
         cases.equal(f"{words}: left to the whole program", (ran.out, ran.err, ran.status), (b"", b"", 4))

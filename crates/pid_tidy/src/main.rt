@@ -1,13 +1,14 @@
-//! The part of `pciids` that needs no registry: no words, `tidy`, `check`, help, the version, and words that name no job.
+//! The part of `pciids` that needs no registry: no arguments, `tidy`, `check`, help, the version, and invalid arguments.
 //!
-//! The wrapper runs it where the whole program is not built yet. Any other job is left to that one, with status 4.
+//! The script `pciids` runs it while the whole program is not built yet. Any other job ends it with exit status 4, and
+//! the script then builds and runs the whole program.
 #![tactic(auto)]
 
 use pid_texts::{run_check, run_tidy};
 use pid_words::{Job, job_of, tell_no_job, words_given};
 use std::process::ExitCode;
 
-/// The status of a process whose job is left to the whole program; nothing is read or written.
+/// The exit status if only the whole program can do the job. Nothing was read or written.
 const OTHER_JOB: u8 = 4;
 
 fn main(rt: HostRuntime) -> ExitCode {

@@ -1,4 +1,4 @@
--- What clap's error makes of words.
+-- What clap's errors say about the arguments.
 use Rattle.std.proofs.Common.{◌≡◌, ◌≢◌, ◌⊎◌, ℕ, List, inl, inr, refl, subst}
 use Rattle.clap.specs.Words.{App, Kinds, fault_of, kind_of, HasKind, IsAmong}
 use Rattle.clap.specs.declared.error.Error.{Error}

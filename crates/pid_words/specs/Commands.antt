@@ -1,4 +1,4 @@
--- The words that the program takes, as the command line parser `clap` defines them. The set is a choice of this project.
+-- The commands of the program and their arguments, as the command line parser `clap` defines them. The set is a choice of this project.
 use Rattle.std.specs.Prelude.{ℕ, Bool, true, pos, List, [], ◌∷◌, Some, codes}
 use Rattle.clap.specs.Walk.{Rule, Text}
 use Rattle.clap.specs.Words.{App, Shape, new_app, new_rule, with_rule, with_subcommand}
@@ -8,7 +8,7 @@ use Rattle.clap.specs.declared.builder.value_parser.ValueParser.TheVariants.{Sig
 abbrev pub option : Text → Rule
 option name = record (new_rule name) { long = Some name; value_names = 1 }
 
--- it must be there
+-- it is required
 abbrev pub required : Rule → Rule
 required rule = record rule { required = true }
 
@@ -16,7 +16,7 @@ required rule = record rule { required = true }
 abbrev pub counted : ℕ → Rule → Rule
 counted most rule = record rule { parser = Some (Signed (pos 1) (pos most)) }
 
--- a word behind the options, as IDS
+-- an argument that is no option, as IDS
 abbrev pub operand : Text → Rule
 operand name = record (new_rule name) { value_names = 1 }
 
@@ -62,7 +62,7 @@ export = command (codes "export") (required (option (codes "db")) ∷ [])
 abbrev pub migrate : App
 migrate = command (codes "migrate") (required (option (codes "db")) ∷ [])
 
--- a million connections, where nothing is said of them
+-- a million connections by default
 abbrev pub million : Rule → Rule
 million rule = record rule { defaults = codes "1000000" ∷ [] }
 
@@ -80,19 +80,19 @@ abbrev pub with_subcommands : List App → App → App
 with_subcommands [] app = app
 with_subcommands (sub ∷ more) app = with_subcommands more (with_subcommand app sub.top)
 
--- the subcommands that read no registry
+-- the subcommands that need no registry
 abbrev pub text_commands : List App
 text_commands = command (codes "tidy") [] ∷ command (codes "check") [] ∷ lookup ∷ []
 
--- those that commands come in by
+-- those that change a registry
 abbrev pub import_commands : List App
 import_commands = script ∷ import ∷ []
 
--- those that items go out by
+-- those that print or serve a registry
 abbrev pub export_commands : List App
 export_commands = export ∷ serve ∷ []
 
--- those that keep a registry's file as it should be
+-- those that maintain a registry's file
 abbrev pub care_commands : List App
 care_commands = migrate ∷ []
 

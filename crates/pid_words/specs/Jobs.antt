@@ -1,4 +1,4 @@
--- What the words ask for, as the command line parser `clap` gives them to the subcommands.
+-- What the arguments ask for, as the command line parser `clap` hands them to the subcommands.
 use Rattle.std.specs.Prelude.{◌&&◌, ◌^◌, ℕ, Bool, List, [], ◌∷◌, Option, Some, None, codes, find, length, nat_lt, option_map, unwrap_or, if◌then◌else◌}
 use Rattle.std.specs.Borrow.{Bor}
 use Rattle.std.specs.Char.{digit_value}
@@ -15,7 +15,7 @@ use Rattle.pid_words.specs.declared.job.Job.TheVariants as jobs
 use Rattle.pid_words.specs.declared.job.WordsFault.{WordsFault}
 use Rattle.pid_words.specs.declared.job.WordsFault.TheVariants.{Memory, Words}
 
--- a job, with its texts as they are written
+-- a job, with its texts as they were given
 pub data Task : Type 0 where
   Tidies : Task
   Checks : Task
@@ -26,11 +26,11 @@ pub data Task : Type 0 where
   Serves : (db : Text) (port connections : ℕ) → Task
   Migrates : (db : Text) → Task
 
--- the text behind a reference that may be missing
+-- the text of a reference that may be missing
 abbrev pub text_of : Option (Bor Text) → Option Text
 text_of = option_map (λ text. text.now)
 
--- the task of a look-up with its texts
+-- the task of a lookup with its texts
 abbrev pub look_up_task : LookUpWords → Task
 look_up_task asked = LooksUp asked.ids.now asked.flags.now (text_of asked.size) (text_of asked.vendor) (text_of asked.device)
     (text_of asked.subvendor) (text_of asked.subdevice) (text_of asked.class) (text_of asked.progif)
@@ -46,28 +46,28 @@ task_of (jobs.Export db) = Exports db.now
 task_of (jobs.Serve db port connections) = Serves db.now port connections
 task_of (jobs.Migrate db) = Migrates db.now
 
--- the value of an option that must be there
+-- the value of a required option
 abbrev pub needed : Text → List Row → Text
 needed name rows = unwrap_or (first_of name rows) []
 
--- the number of at most so many bits that a text writes in decimal digits, where a plus may stand first; of any other text 0
+-- the number of at most so many bits that a text writes in decimal digits, which a plus may precede; 0 for any other text
 abbrev pub number_written : ℕ → Text → ℕ
 number_written bits text =
     let digits = without_leading_plus text in
     if nat_lt 0 (length digits) && list_all (λ d. nat_lt (digit_value d) 10) digits && nat_lt (digits_value 10 digits) (2 ^ bits)
     then digits_value 10 digits else 0
 
--- the number of an option that must be there
+-- the number of an option that is required or has a default
 abbrev pub number_of : ℕ → Text → List Row → ℕ
 number_of bits name rows = option_map_or (number_written bits) (one_of name rows) 0
 
--- the look-up of whose options these values were given
+-- the lookup whose options have these values
 abbrev pub look_up_named : List Row → Task
 look_up_named rows = LooksUp (needed (codes "ids") rows) (needed (codes "flags") rows) (first_of (codes "size") rows)
     (first_of (codes "vendor") rows) (first_of (codes "device") rows) (first_of (codes "subvendor") rows)
     (first_of (codes "subdevice") rows) (first_of (codes "class") rows) (first_of (codes "progif") rows)
 
--- the subcommands, each with the task that it names, given the values of its options
+-- the subcommands, each with its task, given the values of its options
 abbrev pub tasks : List (Text × (List Row → Task))
 tasks = (codes "check", λ rows. Checks)
     ∷ (codes "lookup", look_up_named)
@@ -79,7 +79,7 @@ tasks = (codes "check", λ rows. Checks)
     ∷ (codes "tidy", λ rows. Tidies)
     ∷ []
 
--- the task of the subcommand with this name, of whose options these values were given; `tidy` of a name that is not among them, which no words give
+-- the task of the subcommand with this name, whose options have these values; `tidy` for any other name, which no arguments give
 abbrev pub task_named : Text → List Row → Task
 task_named name rows = option_map_or (λ entry. entry.1 rows) (find (λ entry. bytes_eq name entry.0) tasks) Tidies
 
@@ -88,20 +88,20 @@ abbrev pub task_given : Option (Text × List Row) → Task
 task_given None = Tidies
 task_given (Some s) = task_named s.0 s.1
 
--- the task that the words name, the first of which is the program's name
+-- the task that the arguments name, the first of which is the program's name
 abbrev pub task_meant : List Text → Task
 task_meant words = task_given (subcommand_of commands words)
 
--- the commands take the words: nothing in them is unknown, nothing that must be there is missing, each number is in its range, and
+-- the arguments are valid: nothing in them is unknown, nothing that is required is missing, each number is in its range, and
 -- neither help nor the version is asked for
 unfoldable pub are_taken : List Text → Bool
 are_taken words = takes commands words
 
--- what kind of fault the words have, help and the version that are asked for among them; none where the words are taken
+-- the kinds of fault that the arguments have, a request for help or the version among them; none if the arguments are valid
 unfoldable pub faults_of : List Text → Kinds
 faults_of words = fault_of commands words
 
--- why the words name no job: want of memory, or an error of a kind that they have
+-- why the arguments name no job: out of memory, or an error of a kind that they have
 abbrev pub IsFaultOfWords : WordsFault → List Text → Type 0
 IsFaultOfWords Memory words = Unit {0}
 IsFaultOfWords (Words error) words = IsAmong (kind_of error) (faults_of words)

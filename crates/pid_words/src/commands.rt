@@ -1,4 +1,4 @@
-//! The commands of the program, with their help.
+//! The commands of the program and their help.
 ghost use Rattle.std.specs.Prelude.{◌≡◌, false, [], IfOk, codes};
 ghost use Rattle.clap.specs.Words.{app_of, new_app, rule_of, with_rule, with_subcommand};
 ghost use Rattle.clap.specs.declared.builder.command.Command.TheViews.{out-Command};
@@ -7,60 +7,114 @@ ghost use Rattle.pid_words.specs.Commands.{care_commands, class_rules, command a
 use clap::{Arg, Command, value_parser};
 use std::alloc::{AllocError, Global};
 
-const VERSION: &str = "0.1";
+const VERSION: &str = "0.1.0";
+
+const USAGE: &str = "\
+pciids < FILE
+       pciids <COMMAND> [ARGS]";
 
 const COMMANDS: &str = "\
-Without a command the canonical text of standard input is printed. Statuses: 0 all was done, 1 refused, 2 the words are not
-understood, 3 memory, a file or the store failed.
+A registry is a single SQLite file. It is created if it does not exist.
 
-A registry is one file of SQLite; where it is missing, it is made.";
+Exit status:
+  0  success
+  1  a file or a command was refused, or a lookup has no answer
+  2  invalid arguments
+  3  out of memory, or a file, the port or the registry failed
 
-const TIDY: &str = "Example: pciids tidy < pci.ids > tidied.ids";
+Run 'pciids help <COMMAND>' for details and an example.";
+
+const TIDY: &str = "\
+Example: pciids tidy < pci.ids > canonical.ids
+
+If the file has a fault, nothing is printed, the first fault is reported on
+standard error, and the exit status is 1. 'pciids help check' lists the faults.";
 
 const FAULTS: &str = "\
 Example: pciids check < pci.ids
 
-A fault is told as 'line L: NUMBER Word', of the first faulty line:
-  1 NotUtf8        the bytes of the line are not UTF-8
-  2 TooDeep        more than two tabs at the front, or more than one below an S line
-  3 NoParent       tabs at the front, and no line above that the line belongs to
-  4 BadId          the hex digits, or a blank behind them, are not there
-  5 NoName         nothing stands behind the digits and blanks
-  6 BadName        the name has over 1,000 bytes, or a control character but a tab
+Prints 'ok N', where N is the number of entries, or 'line L: NUMBER Word' for
+the first line with a fault:
+  1 NotUtf8        the line is not valid UTF-8
+  2 TooDeep        more than two leading tabs, or more than one after an S line
+  3 NoParent       leading tabs, but no line above that the line belongs to
+  4 BadId          no valid hex digits, or no space or tab after them
+  5 NoName         no name after the hex digits
+  6 BadName        a name over 1,000 bytes, or a control character except tab
   7 Duplicate      an earlier entry has the same path
-  8 VendorMissing  an S line of a vendor that no earlier entry names
-A text is also refused as 'too many entries' (over 100,000) or 'too large' (over 4,194,304 bytes).";
+  8 VendorMissing  an S line for a vendor that no earlier entry names
+
+Prints 'too many entries' if there are more than 100,000 entries, and
+'too large' if the file is larger than 4,194,304 bytes.";
 
 const LOOK_UPS: &str = "\
 Example: pciids lookup --ids pci.ids --flags 3 --vendor 8086 --device 1237
 
-Flags are those of libpci's pci_lookup_name, in hex: 1 the vendor, 2 the device, 3 both; 9, A and B the same of the
-subsystem; 4 the class, 10 the programming interface. With 10000 numbers alone, 20000 no numbers, 40000 both.
-The reply is 'text NAME' (status 0), 'none' or 'refused N Word' (status 1).";
+The flags are those of pci_lookup_name in libpci. What to look up:
+  1  the vendor                   9   the vendor of the subsystem
+  2  the device                   a   the subsystem
+  3  the vendor and the device    b   the subsystem and its vendor
+  4  the class                    10  the programming interface
+Add one of these to change what is shown:
+  10000  numbers only
+  20000  names only
+  40000  names, with the numbers in brackets
+Numbers that are not given are 0.
+
+Prints 'text ANSWER' with exit status 0, or 'none' or 'refused N Word' with
+exit status 1.";
 
 const SCRIPTS: &str = "\
 Example: pciids script --db registry.db < commands
 
-Each line gets its reply; empty lines and lines that begin with # get none:
-  account WHO who=NAME&rank=N       submit WHO path=P&name=NAME     comment WHO num=N&text=T
-  withdraw WHO num=N                submit WHO path=P&remove=yes    read path=P
-  approve WHO num=N                 import WHO file=TEXT            lookup flags=HEX&..
-  reject WHO num=N&reason=T         export
-Fields are written as in a form of HTML (a space is +, a byte %XX). A new registry has the account root, an administrator.";
+Without --db, the registry is kept in memory and lost when the program ends.
 
-const IMPORTS: &str =
-    "Example: pciids import --db registry.db --account root /usr/share/misc/pci.ids";
+Each line is a command or a query, and gets a reply. Empty lines and lines that
+start with '#' get none. WHO is the account that sends the command:
+  account WHO who=NAME&rank=N
+  submit WHO path=PATH&name=NAME
+  submit WHO path=PATH&remove=yes
+  comment WHO num=N&text=TEXT
+  withdraw WHO num=N
+  approve WHO num=N
+  reject WHO num=N&reason=TEXT
+  import WHO file=TEXT
+  read path=PATH
+  lookup flags=HEX&vendor=HEX&device=HEX
+  export
 
-const EXPORTS: &str = "Example: pciids export --db registry.db > pci.ids";
+Fields are encoded as in an HTML form: a space is '+', and '%XX' is any byte.
+A new registry has one account, 'root', which is an administrator (rank 3).
+The exit status is 0 if all lines were answered, even if some were refused.";
 
-const SERVES: &str = "Example: pciids serve --db registry.db --port 8086";
+const IMPORTS: &str = "\
+Example: pciids import --db registry.db --account root /usr/share/misc/pci.ids
+
+Prints 'ok added=A renamed=R same=S', or 'refused N Word'. If the file has a
+fault, nothing is imported.";
+
+const EXPORTS: &str = "\
+Example: pciids export --db registry.db > pci.ids
+
+The output is in canonical form, as 'pciids tidy' prints it.";
+
+const SERVES: &str = "\
+Example: pciids serve --db registry.db --port 8086
+
+Prints 'listening on 127.0.0.1:PORT' when it is ready. Serves one connection at
+a time, and prints 'served N' after the last one.
+
+The server does not authenticate clients: it believes the X-Account field of a
+request. Put a proxy in front of it that checks passwords and sets the field.";
 
 const MIGRATES: &str = "\
 Example: pciids migrate --db registry.db
 
-Each command on a registry does this first. The reply is 'created schema 2', 'moved to schema 2' or 'schema 2 already'.";
+Prints 'created schema 2', 'moved to schema 2' or 'schema 2 already'. Every
+command that opens a registry upgrades it first. Older versions of pciids
+cannot open an upgraded registry.";
 
-// An option that takes one value, with the value's name and a line of help.
+// An option that takes one value, with the name of the value and a line of help.
 fn option<'a>(alloc: Global, name: &'a str, value: &'a str, help: &'a str) -> Arg<'a>
     ensures rule { rule_of result ≡ option_named name.now }
     ensures local { result.global ≡ false }
@@ -75,7 +129,12 @@ fn db<'a>(alloc: Global) -> Arg<'a>
     ensures rule { rule_of result ≡ option_named (codes "db") }
     ensures local { result.global ≡ false }
 {
-    option(alloc, "db", "FILE", "The registry's file")
+    option(
+        alloc,
+        "db",
+        "FILE",
+        "Registry file, created if it does not exist",
+    )
 }
 
 fn needed_db<'a>(alloc: Global) -> Arg<'a>
@@ -98,7 +157,7 @@ fn ids_operand<'a>(alloc: Global) -> Arg<'a>
 {
     Arg::new(alloc, "ids")
         .value_name("IDS")
-        .help("The file of identifiers")
+        .help("pci.ids file to import")
         .required(true)
 }
 
@@ -106,9 +165,9 @@ fn port<'a>(alloc: Global) -> Arg<'a>
     ensures rule { rule_of result ≡ required (counted 65535 (option_named (codes "port"))) }
     ensures local { result.global ≡ false }
 {
-    needed_option(alloc, "port", "N", "The port of 127.0.0.1, 1 to 65535").value_parser(
-        value_parser!(u16).range(1..=65535),
-    )
+    needed_option(alloc, "port", "N", "Port on 127.0.0.1, 1 to 65535").value_parser(value_parser!(
+        u16
+    ).range(1..=65535))
 }
 
 fn connections<'a>(alloc: Global) -> Arg<'a>
@@ -119,7 +178,7 @@ fn connections<'a>(alloc: Global) -> Arg<'a>
         alloc,
         "connections",
         "N",
-        "How many are served, 1 to 1000000",
+        "Number of connections to serve, 1 to 1000000",
     )
     .value_parser(value_parser!(u32).range(1..=1000000))
     .default_value("1000000")
@@ -130,7 +189,7 @@ fn tidy_command<'a>(alloc: Global) -> Command<'a>
     ensures local { (out-Command result).has_globals ≡ false }
 {
     Command::new(alloc, "tidy")
-        .about("Prints the canonical text (as without words)")
+        .about("Prints the canonical form of a pci.ids file (the default)")
         .override_usage("pciids tidy < FILE")
         .after_help(TIDY)
 }
@@ -140,7 +199,7 @@ fn check_command<'a>(alloc: Global) -> Command<'a>
     ensures local { (out-Command result).has_globals ≡ false }
 {
     Command::new(alloc, "check")
-        .about("Counts the entries, or tells the first fault")
+        .about("Counts the entries of a pci.ids file or reports the first fault")
         .override_usage("pciids check < FILE")
         .after_help(FAULTS)
 }
@@ -150,7 +209,7 @@ fn lookup_start<'a>(alloc: Global) -> Command<'a>
     ensures local { (out-Command result).has_globals ≡ false }
 {
     Command::new(alloc, "lookup")
-        .about("Looks a name up in a file, as libpci does")
+        .about("Looks up a name in a pci.ids file, as libpci does")
         .after_help(LOOK_UPS)
 }
 
@@ -168,16 +227,16 @@ fn with_option<'a>(
     command.arg(option(alloc, name, value, help))
 }
 
-// What is asked, and in which file.
+// The file, what to look up in it, and the size of the buffer.
 fn with_request<'a>(alloc: Global, command: Command<'a>) -> Result<Command<'a>, AllocError>
     requires { (out-Command command).has_globals ≡ false }
     ensures app { IfOk result (λ c. app_of c ≡ with_rules request_rules (app_of command.entry)) }
     ensures local { IfOk result (λ c. (out-Command c).has_globals ≡ false) }
 {
     command
-        .arg(needed_option(alloc, "ids", "FILE", "The file of identifiers"))?
-        .arg(needed_option(alloc, "flags", "HEX", "What is asked, 1 to 8 hex digits"))?
-        .arg(option(alloc, "size", "N", "The size of the buffer in bytes (1024)"))
+        .arg(needed_option(alloc, "ids", "FILE", "pci.ids file to read"))?
+        .arg(needed_option(alloc, "flags", "HEX", "What to look up, 1 to 8 hex digits"))?
+        .arg(option(alloc, "size", "N", "Buffer size in bytes [default: 1024]"))
 }
 
 fn with_device<'a>(alloc: Global, command: Command<'a>) -> Result<Command<'a>, AllocError>
@@ -185,14 +244,14 @@ fn with_device<'a>(alloc: Global, command: Command<'a>) -> Result<Command<'a>, A
     ensures app { IfOk result (λ c. app_of c ≡ with_rules device_rules (app_of command.entry)) }
     ensures local { IfOk result (λ c. (out-Command c).has_globals ≡ false) }
 {
-    let command = with_option(alloc, command, "vendor", "H", "The vendor, 4 hex digits")?;
-    let command = with_option(alloc, command, "device", "H", "The device, 4 hex digits")?;
+    let command = with_option(alloc, command, "vendor", "HEX", "Vendor, 4 hex digits")?;
+    let command = with_option(alloc, command, "device", "HEX", "Device, 4 hex digits")?;
     with_option(
         alloc,
         command,
         "subvendor",
-        "H",
-        "The subsystem's vendor, 4 hex digits",
+        "HEX",
+        "Vendor of the subsystem, 4 hex digits",
     )
 }
 
@@ -205,22 +264,22 @@ fn with_class<'a>(alloc: Global, command: Command<'a>) -> Result<Command<'a>, Al
         alloc,
         command,
         "subdevice",
-        "H",
-        "The subsystem, 4 hex digits",
+        "HEX",
+        "Subsystem, 4 hex digits",
     )?;
     let command = with_option(
         alloc,
         command,
         "class",
-        "H",
-        "The class and the subclass, 4 hex digits",
+        "HEX",
+        "Class and subclass, 4 hex digits",
     )?;
     with_option(
         alloc,
         command,
         "progif",
-        "H",
-        "The programming interface, 2 hex digits",
+        "HEX",
+        "Programming interface, 2 hex digits",
     )
 }
 
@@ -238,7 +297,7 @@ fn script_start<'a>(alloc: Global) -> Command<'a>
     ensures local { (out-Command result).has_globals ≡ false }
 {
     Command::new(alloc, "script")
-        .about("Answers the lines of standard input")
+        .about("Runs the commands and queries on standard input, one per line")
         .after_help(SCRIPTS)
 }
 
@@ -254,7 +313,7 @@ fn import_start<'a>(alloc: Global) -> Command<'a>
     ensures local { (out-Command result).has_globals ≡ false }
 {
     Command::new(alloc, "import")
-        .about("Brings a file of identifiers into a registry")
+        .about("Imports a pci.ids file into a registry")
         .after_help(IMPORTS)
 }
 
@@ -264,12 +323,17 @@ fn import_command<'a>(alloc: Global) -> Result<Command<'a>, AllocError>
 {
     import_start(alloc)
         .arg(needed_db(alloc))?
-        .arg(needed_option(alloc, "account", "A", "Who imports"))?
+        .arg(needed_option(
+            alloc,
+            "account",
+            "ACCOUNT",
+            "Account that imports, of rank 2 or 3",
+        ))?
         .arg(option(
             alloc,
             "key",
-            "K",
-            "Sent again with the same key, it is answered as the first time",
+            "KEY",
+            "Key that makes it safe to repeat the import: it is done once",
         ))?
         .arg(ids_operand(alloc))
 }
@@ -279,7 +343,7 @@ fn export_start<'a>(alloc: Global) -> Command<'a>
     ensures local { (out-Command result).has_globals ≡ false }
 {
     Command::new(alloc, "export")
-        .about("Prints the canonical text of a registry")
+        .about("Prints a registry as a pci.ids file")
         .after_help(EXPORTS)
 }
 
@@ -314,7 +378,7 @@ fn migrate_start<'a>(alloc: Global) -> Command<'a>
     ensures local { (out-Command result).has_globals ≡ false }
 {
     Command::new(alloc, "migrate")
-        .about("Brings a registry's file to the newest schema")
+        .about("Upgrades a registry to the newest schema")
         .after_help(MIGRATES)
 }
 
@@ -330,8 +394,8 @@ fn own_command<'a>(alloc: Global) -> Result<Command<'a>, AllocError>
 {
     Command::new(alloc, "pciids")
         .version(VERSION)
-        .about("A registry of PCI identifiers, and their canonical text")
-        .override_usage("pciids [COMMAND] < FILE")
+        .about("Checks and prints pci.ids files, and keeps a moderated registry of PCI IDs")
+        .override_usage(USAGE)
         .after_help(COMMANDS)
         .bin_name("pciids")
 }
@@ -346,7 +410,7 @@ fn with_command<'a>(
     command.subcommand(subcommand)
 }
 
-// The commands that read no registry.
+// The commands that need no registry.
 fn with_texts<'a>(alloc: Global, command: Command<'a>) -> Result<Command<'a>, AllocError>
     ensures { IfOk result (λ c. app_of c ≡ with_subcommands text_commands (app_of command.entry)) }
 {

@@ -1,4 +1,4 @@
-//! What the program is asked to do, and why the words ask for nothing.
+//! What the arguments ask the program to do, and why they name no job.
 ghost use Rattle.std.specs.Prelude.{◌≡◌, ◌≢◌, ◌⊎◌};
 ghost use Rattle.clap.specs.Words.{kind_of};
 ghost use Rattle.clap.specs.declared.error.kind.ErrorKind.TheVariants.{OutOfMemory};
@@ -7,13 +7,13 @@ use clap::Error;
 use clap::error::ErrorKind;
 use std::alloc::AllocError;
 
-/// What the program is asked to do. Texts stand as they were given.
+/// What the program is asked to do. Texts are as they were given.
 #[derive(Clone, Copy, Debug)]
 pub enum Job<'a> {
     Tidy,
     Check,
     Lookup(LookUpWords<'a>),
-    /// Over memory, where no file is named.
+    /// On a registry in memory, if no file is named.
     Script {
         db: Option<&'a str>,
     },
@@ -26,7 +26,7 @@ pub enum Job<'a> {
     Export {
         db: &'a str,
     },
-    /// A port of 1 to 65,535, and 1 to 1,000,000 connections.
+    /// The port is 1 to 65,535; the number of connections is 1 to 1,000,000.
     Serve {
         db: &'a str,
         port: u16,
@@ -37,7 +37,7 @@ pub enum Job<'a> {
     },
 }
 
-/// The values of a look-up, which are not judged yet, and the file that it is made in.
+/// The file and the values of a lookup. The values are not checked yet.
 #[derive(Clone, Copy, Debug)]
 pub struct LookUpWords<'a> {
     pub ids: &'a str,
@@ -51,12 +51,12 @@ pub struct LookUpWords<'a> {
     pub progif: Option<&'a str>,
 }
 
-/// Why the words name no job.
+/// Why the arguments name no job.
 #[derive(Debug, Drop)]
 pub enum WordsFault {
-    /// There is no memory.
+    /// Out of memory.
     Memory,
-    /// Words that no command takes, or help or the version that is asked for.
+    /// The arguments are invalid, or ask for help or the version.
     Words(Error),
 }
 

@@ -1,4 +1,4 @@
-//! The words that the program is started with.
+//! The command line of the program.
 #![tactic(auto)]
 
 mod commands;

@@ -1,4 +1,4 @@
-//! The words of a process, and what it says where they name no job.
+//! The arguments of the process, and what it prints if they name no job.
 use crate::job::WordsFault;
 use clap::Error;
 use pid_ident::{Plain, write_all};
@@ -6,11 +6,11 @@ use pid_texts::{TextEnd, tell_end, tell_failed};
 use std::io::{ErrorKind, Write};
 use std::{env, io};
 
-/// The status of a process whose words name no job.
+/// The exit status if the arguments name no job.
 pub const UNKNOWN_WORDS: u8 = 2;
 
-/// The words that the process was started with. Words that are not UTF-8 and want of memory are told on standard error,
-/// and the status is answered.
+/// The arguments of the process, the program's name first. Reports an argument that is not UTF-8, or that it ran out of
+/// memory, on standard error, and returns the exit status.
 pub fn words_given(rt: &HostRuntime) -> Result<Vec<String>, u8> {
     match collected(rt) {
         Ok(words) => Ok(words),
@@ -19,7 +19,7 @@ pub fn words_given(rt: &HostRuntime) -> Result<Vec<String>, u8> {
             if error.kind() == ErrorKind::OutOfMemory {
                 return Err(tell_end(TextEnd::Memory, &mut faults));
             }
-            let _ = write_all(&mut faults, b"error: a word is not UTF-8\n");
+            let _ = write_all(&mut faults, b"error: an argument is not valid UTF-8\n");
             Err(UNKNOWN_WORDS)
         }
     }
@@ -29,8 +29,8 @@ fn collected(rt: &HostRuntime) -> io::Result<Vec<String>> {
     Ok(env::args(rt)?.collect(rt.alloc())?)
 }
 
-/// Tells why the words name no job, and answers the status: help and the version, which were asked for, on `output`, all else on
-/// `faults`.
+/// Prints why the arguments name no job, and returns the exit status: help and the version, if asked for, on `output`, and
+/// anything else on `faults`.
 pub fn tell_no_job<O: Write + Drop, F: Write + Drop>(
     fault: &WordsFault,
     words: &[String],
@@ -65,13 +65,13 @@ fn answer<O: Write + Drop, F: Write + Drop>(
     }
 }
 
-// What to type in place of words that no command takes, a file's name among them.
+// What to type instead. A common mistake is the name of a file as an argument.
 fn hint(words: &[String]) -> &'static str {
     match words.get(1).map(String::as_str) {
-        Some("check") => "A file is read from standard input: pciids check < FILE\n",
-        Some("tidy") => "A file is read from standard input: pciids tidy < FILE\n",
+        Some("check") => "To read a file, redirect standard input: pciids check < FILE\n",
+        Some("tidy") => "To read a file, redirect standard input: pciids tidy < FILE\n",
         Some("lookup" | "script" | "import" | "export" | "serve" | "migrate") => "",
         Some(word) if word.as_bytes().first() == Some(&b'-') => "",
-        _ => "A file is read from standard input: pciids < FILE\n",
+        _ => "To read a file, redirect standard input: pciids < FILE\n",
     }
 }

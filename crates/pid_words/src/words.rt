@@ -1,4 +1,4 @@
-//! The job that the words name.
+//! The job that the arguments name.
 ghost use Rattle.std.specs.Prelude.{◌≡◌, true, [], IfOk, IfErr, codes, map, string_bytes};
 ghost use Rattle.clap.specs.Walk.{first_of, rows_of};
 ghost use Rattle.clap.specs.Words.{found_of};
@@ -9,7 +9,7 @@ use crate::job::{Job, LookUpWords, WordsFault};
 use clap::ArgMatches;
 use std::alloc::Global;
 
-// The value of an option that must be there.
+// The value of a required option.
 fn needed_text<'a>(given: &ArgMatches<'a>, name: &str) -> &'a str
     ensures { result.now ≡ needed name.now (rows_of (found_of given.now)) }
 {
@@ -38,7 +38,7 @@ fn look_up_words<'a>(given: &ArgMatches<'a>) -> LookUpWords<'a>
     }
 }
 
-// The number of an option that must be there.
+// The number that a required option, or one with a default, has as its value.
 fn port_given(given: &ArgMatches<'_>) -> u16
     ensures { result ≡ number_of 16 (codes "port") (rows_of (found_of given.now)) }
 {
@@ -81,7 +81,7 @@ fn job_named<'a>(name: &str, given: &ArgMatches<'a>) -> Job<'a>
     }
 }
 
-/// The job that the words name, of which the first is the program's name. No other word is `tidy`.
+/// The job that the arguments name. The first of them is the program's name; if it is the only one, the job is `tidy`.
 pub fn job_of<'a>(alloc: Global, words: &'a [String]) -> Result<Job<'a>, WordsFault>
     ensures job { IfOk result (λ job. task_of job ≡ task_meant (map string_bytes words.now)) }
     ensures taken { IfOk result (λ _. faults_of (map string_bytes words.now) ≡ []) }
