@@ -1,4 +1,4 @@
-"""The manual page: it is laid out without a warning, and has each word and each option that the program's help names."""
+"""The manual page has each command and each option of the help. All places that name the version agree."""
 import os
 import re
 import shutil
@@ -7,17 +7,38 @@ import subprocess
 from program import TOP, run as run_program
 
 PAGE = os.path.join(TOP, "docs", "pciids.1")
-# What says itself what it does.
+# These need no description.
 HELP = {"help", "--help", "--version"}
 
 
 def words_of(told):
-    """The words that a help lists under 'Commands:'."""
+    """The commands that a help lists under 'Commands:'."""
     listed = told.partition("\nCommands:\n")[2].partition("\n\n")[0]
     return [line.split()[0] for line in listed.splitlines()]
 
 
+def text_of(*path):
+    """A file of the source; empty if it does not exist."""
+    file = os.path.join(TOP, *path)
+    if not os.path.exists(file):
+        return ""
+    with open(file, encoding="utf-8") as opened:
+        return opened.read()
+
+
+def versions(cases):
+    """The program, the manual page, the newest entry of the changelog and the README name the same version."""
+    version = run_program(b"", "--version").out.decode().removeprefix("pciids ").strip()
+    cases.equal("--version: three numbers", re.fullmatch(r"\d+\.\d+\.\d+", version) is not None or version, True)
+    cases.equal("the version of the manual page", re.findall(r'^\.Os "pciids (.*)"$', text_of("docs", "pciids.1"), re.M), [version])
+    heads = re.findall(r"^## \[(\d[^]]*)\] - \d{4}-\d{2}-\d{2}$", text_of("CHANGELOG.md"), re.M)
+    cases.equal("the newest version of the changelog", heads[:1], [version])
+    named = re.findall(r"\bpciids v?(\d+\.\d+(?:\.\d+)?)\b", text_of("README.md"))
+    cases.equal("the versions that the README names", set(named) - {version}, set())
+
+
 def run(cases):
+    versions(cases)
     if shutil.which("man") is None:
         cases.skipped("the manual page", "man is not installed")
         return
@@ -26,7 +47,7 @@ def run(cases):
     cases.equal("the manual page: laid out without a warning", (ran.stderr, ran.returncode), (b"", 0))
     page = ran.stdout.decode()
     words = words_of(run_program(b"", "--help").out.decode())
-    cases.equal("the manual page: the help lists words", len(words) > 5, True)
+    cases.equal("the manual page: the help lists commands", len(words) > 5, True)
     for word in set(words) - HELP:
         usage = [line for line in page.splitlines() if re.match(rf" +pciids \[?{word}\b", line)]
         cases.equal(f"the manual page: how {word} is used", len(usage) >= 1, True)
