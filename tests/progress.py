@@ -1,4 +1,4 @@
-"""How far an import or an export is: told on standard error, at a terminal alone, where it takes over a second."""
+"""The progress of an import or an export: shown on standard error, only at a terminal, if it takes over a second."""
 import os
 import re
 import subprocess
@@ -12,12 +12,12 @@ from registry import bring_in
 LINES = [b"%04x  A vendor of the number %d\n" % (vendor, vendor) for vendor in range(20_000)]
 TEXT = b"".join(LINES)
 TOLD = rb"(\r%s: [0-9]{1,3}(,[0-9]{3})* lines)+\r +\r"
-# Longer than what is done in silence.
+# Longer than the time before progress is shown.
 PAUSE = 1.4
 
 
 def read_all(file, pieces):
-    """Reads a file to its end, or to that of the terminal behind it."""
+    """Reads a file to its end, or until the other side of the terminal is closed."""
     try:
         while piece := os.read(file, 65_536):
             pieces.append(piece)
@@ -26,7 +26,7 @@ def read_all(file, pieces):
 
 
 class Running:
-    """The program with its standard error at a terminal, or at a pipe."""
+    """The program, running with a terminal or a pipe as its standard error."""
 
     def __init__(self, at_terminal, *words, output=subprocess.PIPE):
         self.read, write = os.openpty() if at_terminal else os.pipe()
@@ -37,7 +37,7 @@ class Running:
         self.reader.start()
 
     def ended(self):
-        """What it printed and told, and its status."""
+        """Its standard output, its standard error and its exit status."""
         out = self.program.communicate(timeout=60)[0]
         self.reader.join()
         os.close(self.read)
@@ -45,7 +45,7 @@ class Running:
 
 
 def slow_import(folder, at_terminal, last):
-    """An import of a text that comes in two parts, from a pipe with a name."""
+    """An import of a text that comes from a named pipe, in two parts."""
     db, ids = os.path.join(folder, f"slow{at_terminal}.db"), os.path.join(folder, "pipe")
     os.mkfifo(ids)
     running = Running(at_terminal, "import", "--db", db, "--account", "root", ids)
@@ -60,7 +60,7 @@ def slow_import(folder, at_terminal, last):
 
 
 def slow_export(db, at_terminal):
-    """An export whose text is not read for a while."""
+    """An export whose output is not read for a while."""
     running = Running(at_terminal, "export", "--db", db)
     time.sleep(PAUSE)
     return running.ended()
@@ -97,7 +97,7 @@ def run(cases):
 
 
 def both_at_terminal(cases, db):
-    """An export to the terminal itself is not told: its lines are there."""
+    """An export to the terminal itself shows no progress: its lines are there."""
     here, there = os.openpty()
     running = subprocess.Popen([WHOLE, "export", "--db", db], stdin=subprocess.DEVNULL, stdout=there, stderr=there)
     os.close(there)

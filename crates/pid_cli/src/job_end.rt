@@ -4,10 +4,10 @@ use pid_moderation::{Refusal, Reply};
 /// How a job ends.
 #[derive(Clone, Copy, Debug, PartialEq, Eq)]
 pub enum JobEnd {
-    /// All is told, and this is the status.
+    /// Everything is printed, and this is the exit status.
     Told(u8),
-    /// The reply is not told yet.
+    /// The reply is not printed yet.
     Replied(Result<Reply, Refusal>),
-    /// A file failed, which is not told yet.
+    /// A file failed, which is not reported yet.
     FileFailed,
 }

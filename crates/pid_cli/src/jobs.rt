@@ -1,4 +1,4 @@
-//! The jobs of a registry, over any store. Each hands the connection back, where the registry is live.
+//! The jobs of a registry, on any store. Each returns the connection if the registry is live.
 ghost use Rattle.std.specs.Prelude.{◌≡◌, false};
 
 use crate::job_end::JobEnd;
@@ -11,10 +11,10 @@ use pid_tables::TableFault;
 use sqlite::{Alter, Connection};
 use std::alloc::Global;
 
-/// How many reads a script may take.
+/// The number of reads that a script may use.
 const TURNS: u64 = 10_000_000;
 
-/// A job of a registry, with what it reads.
+/// A job of a registry, with its input.
 #[derive(Drop)]
 pub enum RegistryJob<I> {
     Script(I),
@@ -25,11 +25,11 @@ pub enum RegistryJob<I> {
     },
     Export,
     Serve(Port),
-    /// The tables alone: no registry is opened.
+    /// Only upgrades the tables; opens no registry.
     Migrate,
 }
 
-/// Opens the registry of a connection, or begins it, and does the job.
+/// Opens or creates the registry of a connection, and does the job.
 pub fn work_on<S: Alter + Drop, I: Input + Drop, O: Output, F: Output>(
     rt: &HostRuntime,
     conn: Connection<S>,
@@ -53,7 +53,7 @@ pub fn work_on<S: Alter + Drop, I: Input + Drop, O: Output, F: Output>(
     }
 }
 
-// Brings the tables to the newest schema.
+// Upgrades the tables to the newest schema.
 fn take_over<S: Alter + Drop, O: Output, F: Output>(
     alloc: Global,
     conn: Connection<S>,

@@ -1,4 +1,4 @@
-//! Look-ups in a file of identifiers.
+//! Lookups in a pci.ids file.
 use crate::job_end::JobEnd;
 use crate::replies::print_answer;
 use pid_ident::{Input, Output};
@@ -8,7 +8,7 @@ use pid_texts::{LARGEST, TextEnd, tell_unread};
 use pid_words::LookUpWords;
 use std::alloc::{AllocError, Global};
 
-/// A look-up whose values are judged.
+/// A lookup whose values were checked.
 #[derive(Clone, Copy, Debug)]
 pub struct LookUp {
     pub flags: u32,
@@ -16,7 +16,7 @@ pub struct LookUp {
     pub size: u32,
 }
 
-/// The look-up that the values of the words say, unless one breaks its rule; or memory is short.
+/// Checks the values of the arguments and returns the lookup that they ask for.
 pub fn read_words(
     alloc: Global,
     words: &LookUpWords<'_>,
@@ -45,7 +45,7 @@ pub fn read_words(
     }
 }
 
-/// Answers a look-up in the input's text, or tells the fault of the text.
+/// Answers a lookup in the text of the input, or reports the fault of the text.
 pub fn print_look_up<I: Input, O: Output, F: Output>(
     alloc: Global,
     look_up: &LookUp,

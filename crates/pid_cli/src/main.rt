@@ -1,4 +1,4 @@
-//! `pciids`: a registry of PCI identifiers, and their canonical text.
+//! `pciids`: checks and prints pci.ids files, and keeps a moderated registry of PCI IDs.
 #![tactic(auto)]
 
 mod job_end;

@@ -1,4 +1,4 @@
-//! The jobs of a registry in a file of the system, or in memory.
+//! The jobs of a registry in a file or in memory.
 use crate::job_end::JobEnd;
 use crate::jobs::{RegistryJob, work_on};
 use crate::replies::tell_unopened;
@@ -6,7 +6,8 @@ use pid_ident::{Input, Output};
 use pid_tables::TableFault;
 use sqlite::Connection;
 
-/// Does the job over a file, which is made where it is missing. What was committed is in the file when it ends, or in the log beside it.
+/// Does the job on a registry file, which is created if it does not exist. Afterwards, all that was committed is in the file or
+/// in the log next to it.
 pub fn work_on_file<I: Input + Drop, O: Output, F: Output>(
     rt: &HostRuntime,
     file: &str,
@@ -18,7 +19,7 @@ pub fn work_on_file<I: Input + Drop, O: Output, F: Output>(
         Ok(conn) => {
             let (end, conn) = work_on(rt, conn, job, output, faults);
             if let Some(conn) = conn {
-                // Where the log cannot be brought into the file it stays, and the next opening reads it.
+                // If the log cannot be copied into the file, it stays, and the next opening reads it.
                 let _ = conn.close();
             }
             end
@@ -27,7 +28,7 @@ pub fn work_on_file<I: Input + Drop, O: Output, F: Output>(
     }
 }
 
-/// Does the job over memory.
+/// Does the job on a new registry in memory.
 pub fn work_on_memory<I: Input + Drop, O: Output, F: Output>(
     rt: &HostRuntime,
     job: RegistryJob<I>,

@@ -8,10 +8,10 @@ use pid_tables::{Step, TableFault};
 use pid_texts::{FAILED, TextEnd, tell_end};
 use std::alloc::{AllocError, Global};
 
-/// The status of a process whose command or look-up is refused.
+/// The exit status if a command or a lookup is refused.
 pub const REFUSED: u8 = 1;
 
-/// Prints the reply to a command. Its status is 0 where it was accepted, 3 where memory or the store failed, else 1.
+/// Prints the reply to a command. The exit status is 0 if it was accepted, 3 if memory or the store failed, else 1.
 pub fn print_reply<O: Output, F: Output>(
     alloc: Global,
     reply: Result<Reply, Refusal>,
@@ -27,7 +27,7 @@ pub fn print_reply<O: Output, F: Output>(
     }
 }
 
-/// Tells the reply of a job whose output is something else, the refusal of an export; answers the status of one that failed.
+/// Reports the refusal of a job whose output is not a reply line, which is an export. Returns the exit status of a failure.
 pub fn tell_reply<F: Output>(alloc: Global, reply: Result<Reply, Refusal>, faults: &mut F) -> u8 {
     let Ok(line) = reply_line(alloc, reply) else {
         return tell_end(TextEnd::Memory, faults);
@@ -44,7 +44,7 @@ fn status_of(reply: Result<Reply, Refusal>) -> u8 {
     }
 }
 
-/// Prints the answer to a look-up, as a script does. Its status is 0 where there is a text, else 1.
+/// Prints the answer to a lookup, as a script does. The exit status is 0 if there is a text, else 1.
 pub fn print_answer<O: Output, F: Output>(
     found: Result<Answer, LookupRefusal<AllocError>>,
     output: &mut O,
@@ -63,7 +63,7 @@ pub fn print_answer<O: Output, F: Output>(
     }
 }
 
-/// Prints what a migration came to, with status 0.
+/// Prints what a migration did, with exit status 0.
 pub fn print_step<O: Output>(step: Step, output: &mut O) -> JobEnd {
     let line: &[u8] = match step {
         Step::Created => b"created schema 2\n",
@@ -76,7 +76,7 @@ pub fn print_step<O: Output>(step: Step, output: &mut O) -> JobEnd {
     }
 }
 
-/// Tells why a registry was not opened, and answers the status.
+/// Reports why a registry was not opened, and returns the exit status.
 pub fn tell_unopened<F: Output>(fault: TableFault, faults: &mut F) -> u8 {
     let _ = match fault {
         TableFault::Memory => write_all(faults, b"open: Memory\n"),

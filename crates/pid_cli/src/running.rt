@@ -1,4 +1,4 @@
-//! The job that the words name, between the files of the process.
+//! The job that the arguments name, on the streams of the process.
 use crate::job_end::JobEnd;
 use crate::jobs::RegistryJob;
 use crate::look_ups::{print_look_up, read_words};
@@ -16,10 +16,10 @@ use std::io::{BufWriter, IsTerminal, Read, Stdin, Write};
 
 const BUFFER: usize = 65_536;
 
-/// Does what the words ask for, and answers the status of the process.
+/// Does what the arguments ask for, and returns the exit status.
 ///
-/// Faults are found in this order: the words; the account, the key and the values of a look-up; the opening of the file of
-/// identifiers; the database; the port; the rest.
+/// Faults are found in this order: the arguments; the account, the key and the values of a lookup; the opening of the
+/// pci.ids file; the database; the port; the rest.
 pub fn run_words<I: Read + Drop, O: Write + Drop, F: Write + Drop>(
     rt: &HostRuntime,
     words: &[String],
@@ -36,7 +36,7 @@ pub fn run_words<I: Read + Drop, O: Write + Drop, F: Write + Drop>(
     }
 }
 
-// A job whose replies are written as they come.
+// A job whose replies are written without a buffer.
 fn run_job<I: Read + Drop, O: Write + Drop, F: Write + Drop>(
     rt: &HostRuntime,
     job: &Job<'_>,
@@ -90,7 +90,7 @@ fn run_job<I: Read + Drop, O: Write + Drop, F: Write + Drop>(
     )
 }
 
-// Tells what is left to tell of an end, and answers the status.
+// Prints what is still to be printed at an end, and returns the exit status.
 fn status<F: Output>(alloc: Global, end: JobEnd, is_unread: bool, faults: &mut F) -> u8 {
     match end {
         JobEnd::Told(status) => status,
@@ -99,7 +99,7 @@ fn status<F: Output>(alloc: Global, end: JobEnd, is_unread: bool, faults: &mut F
     }
 }
 
-// Where standard output is the terminal too, the text itself shows how far it is.
+// If standard output is a terminal too, the text itself shows the progress.
 fn run_export<O: Write + Drop, F: Write + Drop>(
     rt: &HostRuntime,
     db: &str,
@@ -115,7 +115,7 @@ fn run_export<O: Write + Drop, F: Write + Drop>(
     status(rt.alloc(), end, is_unread, &mut faults)
 }
 
-// Prints the registry of a file through a buffer. Answers too whether nobody reads the output any more.
+// Prints the registry of a file through a buffer. Also returns whether the reader of the output has gone away.
 fn print_export<O: Write + Drop, F: Output>(
     rt: &HostRuntime,
     db: &str,
@@ -153,7 +153,7 @@ fn run_lookup<O: Output, F: Output>(
     }
 }
 
-// The registry's file and that of the identifiers; the account and its key.
+// `files` are the registry file and the pci.ids file; `sender` is the account and the key.
 fn run_import<O: Output, F: Output>(
     rt: &HostRuntime,
     files: (&str, &str),
@@ -172,7 +172,7 @@ fn run_import<O: Output, F: Output>(
     }
 }
 
-// Brings an open file of identifiers into the registry of a file.
+// Imports an open pci.ids file into the registry of a file.
 fn bring_in_file<O: Output, F: Output>(
     rt: &HostRuntime,
     db: &str,

@@ -1,4 +1,4 @@
-//! A registry, served over HTTP to clients of this machine.
+//! Serving a registry over HTTP to clients on this machine.
 ghost use Rattle.std.specs.Prelude.{◌≡◌, ◌+◌, ◌≤◌};
 
 use crate::job_end::JobEnd;
@@ -13,14 +13,14 @@ use sqlite::Alter;
 use std::alloc::Global;
 use std::net::{Ipv4Addr, SocketAddr, TcpListener};
 
-/// Where clients connect to, and how many of them are served, one after the other.
+/// The port that clients connect to, and the number of connections to serve, one after the other.
 #[derive(Clone, Copy, Debug)]
 pub struct Port {
     pub number: u16,
     pub connections: u32,
 }
 
-// A registry that answers the requests of one stream after another.
+// A registry that answers the requests of one stream after the other.
 #[derive(Drop)]
 struct Server<'r, S: Alter + Drop> {
     alloc: Global,
@@ -59,7 +59,7 @@ fn tell_socket<F: Output>(faults: &mut F) -> JobEnd {
     JobEnd::Told(FAILED)
 }
 
-// Serves so many connections to a listener, and prints how many streams were begun.
+// Serves so many connections of a listener, and prints the number of streams that were started.
 fn serve_listener<S: Alter + Drop, O: Output, F: Output>(
     alloc: Global,
     registry: &mut Registry<S>,
@@ -79,10 +79,10 @@ fn serve_listener<S: Alter + Drop, O: Output, F: Output>(
     }
 }
 
-/// Listens at a port of this machine, and serves a registry there to so many connections, one after the other.
+/// Listens on a port of this machine, and serves a registry to so many connections, one after the other.
 ///
-/// Prints where it listens before the first one is accepted, and in the end how many streams were begun. The status is 0 where
-/// all were served and the registry is live, else 3.
+/// Prints where it listens before it accepts the first connection, and the number of streams that were started at the end.
+/// The exit status is 0 if all connections were served and the registry is live, else 3.
 pub fn serve_registry<S: Alter + Drop, O: Output, F: Output>(
     rt: &HostRuntime,
     registry: &mut Registry<S>,

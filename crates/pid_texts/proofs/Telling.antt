@@ -1,4 +1,4 @@
--- What is told of a text that is refused.
+-- What is reported of a text that is refused.
 use Rattle.std.proofs.Common.{ℕ, List, Option, Some, None, refl}
 use Rattle.std.specs.Io.KnownBytes.{Keeps}
 use Rattle.pid_texts.specs.declared.text_end.TextEnd.{TextEnd}

@@ -1,4 +1,4 @@
--- What `check` wrote for the text of its input.
+-- What `check` writes for the text of its input.
 use Rattle.std.specs.Prelude.{ℕ, ◌⊎◌, [], ◌∷◌, ◌++◌, List, Option, length, codes, decimal}
 use Rattle.std.specs.Io.KnownBytes.{Appends}
 use Rattle.pid_reader.specs.Reading.{history_of}
@@ -9,15 +9,15 @@ use Rattle.pid_texts.specs.Told.{IsTold}
 use Rattle.pid_texts.specs.declared.text_end.TextEnd.{TextEnd}
 use Rattle.pid_texts.specs.declared.text_end.TextEnd.TheVariants.{Done, Line, TooManyEntries, TooLarge, Memory, ReadFault, WriteFault}
 
--- how many entries a text has
+-- the number of entries in a text
 abbrev pub count_of : List ℕ → ℕ
 count_of text = length (entries_back (history_of text))
 
--- the line of a good text with so many entries: ok 35598
+-- the line for a good text with so many entries: ok 35598
 abbrev pub ok_line : ℕ → List ℕ
 ok_line count = codes "ok " ++ decimal count ++ 10 ∷ []
 
--- what was written, by the end: the count of a good text, or why there is none
+-- what was written, by the end: the count for a good text, or why there is none
 abbrev pub IsChecked : TextEnd → List ℕ → Option (List ℕ) → Option (List ℕ) → Type 0
 IsChecked Done text old new = IsGood text × Appends old new (ok_line (count_of text))
 IsChecked WriteFault text old new = (IsGood text × SendsFront old new (ok_line (count_of text))) ⊎ IsTold WriteFault text old new

@@ -18,7 +18,7 @@ pub record ReadsWithin (text : List ℕ) (t : TreeMap) : Type 0 where
   pub good : refused text ≡ None
   pub reads : Reads text t
 
--- the end that a text with a fault has: too large before any line is judged, else the first refusal; and want of memory, which may come of any text
+-- the end of a text with a fault: too large before any line is judged, else the first refusal; or out of memory, which may happen to any text
 abbrev pub IsFaultOf : TextEnd → List ℕ → Type 0
 IsFaultOf (Line line kind) text = (length text ≤ LARGEST) × (refused text ≡ Some (refusals.Line line kind))
 IsFaultOf TooManyEntries text = (length text ≤ LARGEST) × (refused text ≡ Some refusals.TooManyEntries)

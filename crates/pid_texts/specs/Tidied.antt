@@ -1,4 +1,4 @@
--- What `tidy` wrote for the text of its input.
+-- What `tidy` writes for the text of its input.
 use Rattle.std.specs.Prelude.{ℕ, ◌⊎◌, List, Option}
 use Rattle.std.specs.Io.KnownBytes.{Appends, Keeps}
 use Rattle.pid_ident.specs.Trees.{TreeMap}
@@ -9,7 +9,7 @@ use Rattle.pid_texts.specs.Told.{IsTold}
 use Rattle.pid_texts.specs.declared.text_end.TextEnd.{TextEnd}
 use Rattle.pid_texts.specs.declared.text_end.TextEnd.TheVariants.{Done, Line, TooManyEntries, TooLarge, Memory, ReadFault, WriteFault}
 
--- what the output and the writer of faults had taken before, and after
+-- what the output and the writer of faults had taken before and after
 pub record Writers : Type 0 where
   pub output : Option (List ℕ)
   pub output_after : Option (List ℕ)
@@ -23,18 +23,18 @@ pub record Prints (text : List ℕ) (w : Writers) : Type 0 where
   pub printed : Appends w.output w.output_after (print tree)
   pub nothing_told : Keeps w.faults w.faults_after
 
--- the text reads to a tree, and a front of the tree's text was printed
+-- the text reads to a tree, and a prefix of the tree's text was printed
 pub record PrintsFront (text : List ℕ) (w : Writers) : Type 0 where
   pub tree : TreeMap
   pub reads : ReadsWithin text tree
   pub printed : SendsFront w.output w.output_after (print tree)
   pub nothing_told : Keeps w.faults w.faults_after
 
--- nothing was printed, and why was told
+-- nothing was printed, and the reason was reported
 abbrev pub TellsOnly : TextEnd → List ℕ → Writers → Type 0
 TellsOnly end text w = Keeps w.output w.output_after × IsTold end text w.faults w.faults_after
 
--- what was written, by the end: the canonical text, or why there is none
+-- what was written, by the end: the canonical form, or why there is none
 abbrev pub IsTidied : TextEnd → List ℕ → Writers → Type 0
 IsTidied Done text w = Prints text w
 IsTidied WriteFault text w = PrintsFront text w ⊎ TellsOnly WriteFault text w
@@ -44,7 +44,7 @@ IsTidied TooLarge text w = TellsOnly TooLarge text w
 IsTidied Memory text w = TellsOnly Memory text w
 IsTidied ReadFault text w = TellsOnly ReadFault text w
 
--- whatever the input, nothing is printed but where the end is Done, or a fault of a writer
+-- whatever the input, something is printed only if the end is Done or a fault of a writer
 abbrev pub PrintsNothing : TextEnd → Option (List ℕ) → Option (List ℕ) → Type 0
 PrintsNothing Done old new = Unit {0}
 PrintsNothing WriteFault old new = Unit {0}

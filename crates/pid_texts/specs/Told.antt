@@ -1,4 +1,4 @@
--- How the fault of a text is told.
+-- How the fault of a text is reported.
 use Rattle.std.specs.Prelude.{ℕ, ◌⊎◌, List, Option}
 use Rattle.std.specs.Io.KnownBytes.{Appends, Keeps}
 use Rattle.pid_ident.specs.Sending.{SendsFront}
@@ -7,12 +7,12 @@ use Rattle.pid_texts.specs.TextEnds.{fault_line}
 use Rattle.pid_texts.specs.declared.text_end.TextEnd.{TextEnd}
 use Rattle.pid_texts.specs.declared.text_end.TextEnd.TheVariants.{Done, Line, TooManyEntries, TooLarge, Memory, ReadFault, WriteFault}
 
--- the end is a fault of the text or want of memory, and its line was written
+-- the end is a fault of the text or out of memory, and its line was written
 pub record TellsFault (end : TextEnd) (text : List ℕ) (old new : Option (List ℕ)) : Type 0 where
   pub is_fault : IsFaultOf end text
   pub told : Appends old new (fault_line end)
 
--- the writer failed, and a front of the line of a fault of the text or of want of memory was written
+-- the writer failed, and a prefix of a fault line or of the line for out of memory was written
 pub record TellsFront (text : List ℕ) (old new : Option (List ℕ)) : Type 0 where
   pub end : TextEnd
   pub is_fault : IsFaultOf end text
@@ -22,7 +22,7 @@ pub record TellsFront (text : List ℕ) (old new : Option (List ℕ)) : Type 0 w
 abbrev pub TriesLine : Option (List ℕ) → Option (List ℕ) → List ℕ → Type 0
 TriesLine old new line = Appends old new line ⊎ SendsFront old new line
 
--- an end without a result: a fault of the text and want of memory are told, a fault of the reader is not
+-- an end without a result: a fault of the text and out of memory are reported, a fault of the reader is not
 abbrev pub IsTold : TextEnd → List ℕ → Option (List ℕ) → Option (List ℕ) → Type 0
 IsTold Done text old new = ⊥
 IsTold (Line line kind) text old new = TellsFault (Line line kind) text old new

@@ -1,4 +1,4 @@
-//! Whether a text is good, and how many entries it has.
+//! Counting the entries of a text, or finding its first fault.
 ghost use Rattle.std.specs.Prelude.{◌≡◌, ◌+◌, ◌≤◌, ℕ, [], List, IsSome, IfSome, IfErr, Err, Some, None, length};
 ghost use Rattle.std.specs.Io.KnownBytes.{Consumes};
 ghost use Rattle.pid_ident.specs.Sending.{Sends};
@@ -12,9 +12,9 @@ use pid_ident::{Input, Output, WriteFault, write_parts};
 use pid_reader::{InputEnd, Never, count_input};
 use std::alloc::Global;
 
-/// Writes `ok` and the count of the entries of what the input gives, or the line of its fault.
+/// Writes `ok` and the number of entries in the input, or its fault line.
 ///
-/// A fault of the input is told by the end alone. No tree is made. At most one byte past `LARGEST` is read.
+/// Writes nothing if the input fails: only the returned end says so. Builds no tree. Reads at most one byte past `LARGEST`.
 pub fn check<I: Input, O: Output>(alloc: Global, input: &mut I, output: &mut O) -> TextEnd
     ensures checked { IfSome (I.to_come input.old) (λ text. IsChecked result text (O.taken output.old) (O.taken output.new)) }
     ensures read_fault { result ≡ TextEnd.ReadFault → IsSome (I.read_fault input.new) }
@@ -27,7 +27,7 @@ pub fn check<I: Input, O: Output>(alloc: Global, input: &mut I, output: &mut O) 
     write_counted(counted, output)
 }
 
-// Writes the count, or tells why there is none.
+// Writes the count, or why there is none.
 fn write_counted<O: Output>(counted: Result<u64, InputEnd<Never>>, output: &mut O) -> TextEnd
     ensures checked { (text : List ℕ) → IsRead HasEntries LARGEST counted text → IsChecked result text (O.taken output.old) (O.taken output.new) }
     ensures read_fault { result ≡ TextEnd.ReadFault → counted ≡ Err InputEnd.ReadFault }

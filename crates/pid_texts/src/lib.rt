@@ -1,4 +1,4 @@
-//! What becomes of a text: its canonical text, or whether it is good, each with the line and the status of a fault.
+//! The commands `tidy` and `check`: the canonical form of a text, and its entries or its first fault.
 #![tactic(auto)]
 
 mod checking;

@@ -1,4 +1,4 @@
-//! `tidy` and `check` between the files of a process, and the statuses that they end with.
+//! `tidy` and `check` on the streams of a process, and their exit statuses.
 ghost use Rattle.std.specs.Prelude.{◌≡◌, true, false, IfSome};
 ghost use Rattle.std.specs.Io.KnownBytes.{Keeps};
 ghost use Rattle.pid_texts.specs.Statuses.{IsStatusFor};
@@ -13,15 +13,15 @@ use pid_ident::{Output, Plain, write_all};
 use std::alloc::Global;
 use std::io::{BufWriter, Read, Write};
 
-/// The status of a process whose memory, store or files failed.
+/// The exit status if memory, the store or a file failed.
 pub const FAILED: u8 = 3;
 
 const BUFFER: usize = 65_536;
 
-/// Writes the canonical text of the input to the output, or the line of its fault to `faults`; answers the status: 0 of a good
-/// text, 1 of one that is refused, and 3 where memory, the reader or a writer failed.
+/// Writes the canonical form of the input to `output`, or its fault line to `faults`. Returns the exit status: 0 on success,
+/// 1 if the text was refused, 3 if memory, the reader or a writer failed.
 ///
-/// A file that failed is told as `file: failed`, but where nobody reads the output any more.
+/// Reports a file that failed as `file: failed`, unless the reader of the output has gone away.
 pub fn run_tidy<I: Read + Drop, O: Write + Drop, F: Write + Drop>(
     alloc: Global,
     input: I,
@@ -45,9 +45,9 @@ pub fn run_tidy<I: Read + Drop, O: Write + Drop, F: Write + Drop>(
     status(end, buffer.get_ref().is_unread(), &mut faults)
 }
 
-/// Writes the count of the input's entries, or the line of its fault, to the output; answers the status as `run_tidy` does.
+/// Writes the number of entries in the input, or its fault line, to `output`. Returns the exit status as `run_tidy` does.
 ///
-/// A file that failed is told on `faults` as `file: failed`, but where nobody reads the output any more.
+/// Reports a file that failed as `file: failed` on `faults`, unless the reader of the output has gone away.
 pub fn run_check<I: Read + Drop, O: Write + Drop, F: Write + Drop>(
     alloc: Global,
     input: I,
@@ -63,7 +63,7 @@ pub fn run_check<I: Read + Drop, O: Write + Drop, F: Write + Drop>(
     status(end, is_unread, &mut Plain::new(faults))
 }
 
-// The status of an end that was told, but for a file that failed, which is told here.
+// The exit status of an end. A file that failed is reported here; anything else was reported before.
 fn status<F: Output>(end: TextEnd, is_unread: bool, faults: &mut F) -> u8
     ensures { result ≡ status_of end }
 {
@@ -73,7 +73,7 @@ fn status<F: Output>(end: TextEnd, is_unread: bool, faults: &mut F) -> u8
     }
 }
 
-/// Tells a fault of a text, or want of memory, that is not told yet; answers its status.
+/// Reports a fault of a text, or that memory ran out, and returns the exit status.
 pub fn tell_end<F: Output>(end: TextEnd, faults: &mut F) -> u8
     ensures status { result ≡ status_of end }
     ensures told { TriesLine (F.taken faults.old) (F.taken faults.new) (fault_line end) }
@@ -82,7 +82,7 @@ pub fn tell_end<F: Output>(end: TextEnd, faults: &mut F) -> u8
     end.status()
 }
 
-/// Tells that a file failed, as `file: failed`. Where nobody reads the output any more the status alone says it.
+/// Reports that a file failed, as `file: failed`. If the reader of the output has gone away, only the exit status says so.
 pub fn tell_failed<F: Output>(is_unread: bool, faults: &mut F) -> u8
     ensures status { result ≡ FAILED }
     ensures told { is_unread ≡ false → TriesLine (F.taken faults.old) (F.taken faults.new) failed_line }

@@ -1,4 +1,4 @@
-//! How far a long job is, told at a terminal.
+//! Progress of a long job, shown at a terminal.
 ghost use Rattle.std.specs.Prelude.{◌≡◌};
 ghost use Rattle.std.specs.Io.{ReadsAtMost, WritesAtMost};
 ghost use Rattle.std.specs.Io.KnownBytes.{Keeps, ReadConsumes, WriteAppends};
@@ -8,29 +8,29 @@ use std::io::{Read, Write};
 use std::time::{Duration, Instant};
 use std::{fmt, io};
 
-/// How long a job takes before it is told, in milliseconds.
+/// How long a job runs before its progress is shown, in milliseconds.
 const PATIENCE: u64 = 1_000;
 
-/// How long what is told stands at least, in milliseconds.
+/// The shortest time between two updates, in milliseconds.
 const PAUSE: u64 = 100;
 
-/// The greatest line that is told, taken away.
+/// Overwrites the longest progress line with spaces.
 const CLEARED: &str = "\r                                        \r";
 
-/// How many lines a job has read or written: one line of standard error, written again in place, of a job that takes over a
-/// second. What it tells there is no part of any promise.
+/// The number of lines that a job has read or written: one line on standard error, updated in place, once the job has
+/// taken a second. No promise covers what is shown there.
 #[derive(Drop)]
 pub struct Progress<'r> {
     rt: &'r HostRuntime,
     job: &'static str,
     lines: u64,
-    // When it is told next; none where it is not told.
+    // When to show it next; `None` if it is not shown.
     due: Option<Instant>,
     is_shown: bool,
 }
 
 impl<'r> Progress<'r> {
-    /// Of a job that begins now, as `importing`.
+    /// The progress of a job that starts now, such as `importing`.
     pub fn new(rt: &'r HostRuntime, job: &'static str, is_told: bool) -> Progress<'r> {
         let due = if is_told {
             instant_after(rt, PATIENCE)
@@ -46,7 +46,7 @@ impl<'r> Progress<'r> {
         }
     }
 
-    /// Takes the line away, so that other text can stand in its place.
+    /// Erases the line, so that other text can take its place.
     pub fn clear(&mut self) {
         if self.is_shown {
             let _ = write!(self.rt.stderr(), "{CLEARED}");
@@ -54,7 +54,7 @@ impl<'r> Progress<'r> {
         }
     }
 
-    // Counts the lines that end in these bytes, and tells the count where that is due.
+    // Counts the line ends in these bytes, and shows the count if it is due.
     fn note(&mut self, bytes: &[u8]) {
         let Some(due) = self.due else {
             return;
@@ -75,7 +75,7 @@ impl<'r> Progress<'r> {
     }
 }
 
-// The moment so many milliseconds from now; none where the clock fails.
+// The moment so many milliseconds from now; `None` if the clock fails.
 fn instant_after(rt: &HostRuntime, millis: u64) -> Option<Instant> {
     Instant::now(rt)
         .ok()?
@@ -86,7 +86,7 @@ fn ends_in(bytes: &[u8]) -> u64 {
     bytes.iter().filter(|byte| **byte == b'\n').count() as u64
 }
 
-// A number whose digits stand in groups of three.
+// A number, printed with its digits in groups of three.
 #[derive(Clone, Copy)]
 struct Grouped(u64);
 
@@ -106,7 +106,7 @@ impl Display for Grouped {
     }
 }
 
-/// A reader or a writer whose lines are counted: it reads and writes what that does.
+/// A reader or a writer whose lines are counted. It reads and writes what the inner one does.
 #[derive(Drop)]
 pub struct Counted<'p, 'r, T> {
     inner: T,
@@ -114,7 +114,7 @@ pub struct Counted<'p, 'r, T> {
 }
 
 impl<'p, 'r, T> Counted<'p, 'r, T> {
-    /// The reader or the writer, with the progress that its lines count for.
+    /// The reader or the writer, and the progress that counts its lines.
     pub fn new(inner: T, progress: &'p mut Progress<'r>) -> Counted<'p, 'r, T>
         ensures { result.inner ≡ inner }
     {

@@ -14,7 +14,7 @@ pub const LARGEST: usize = 4_194_304;
 /// How the reading of a text ends.
 #[derive(Clone, Copy, Debug, PartialEq, Eq)]
 pub enum TextEnd {
-    /// All was read, and what was asked for was written.
+    /// The whole text was read, and the result was written.
     Done,
     /// The first faulty line, counted from 1.
     Line { line: usize, kind: LineKind },
@@ -22,7 +22,7 @@ pub enum TextEnd {
     TooManyEntries,
     /// More than `LARGEST` bytes.
     TooLarge,
-    /// There is no memory.
+    /// Out of memory.
     Memory,
     /// The reader failed.
     ReadFault,
@@ -30,7 +30,7 @@ pub enum TextEnd {
     WriteFault,
 }
 
-/// The end that a refusal makes.
+/// The end for a refusal.
 pub fn end_of(refusal: ReadRefusal) -> TextEnd
     ensures { result ≡ end_made refusal }
 {
@@ -42,8 +42,8 @@ pub fn end_of(refusal: ReadRefusal) -> TextEnd
 }
 
 impl TextEnd {
-    /// The status of a process that ends so: 0 where all is done, 1 where the text is refused, 3 where
-    /// memory, a reader or a writer failed.
+    /// The exit status of a process that ends this way: 0 on success, 1 if the text was refused, 3 if memory, a reader or
+    /// a writer failed.
     pub fn status(self) -> u8
         ensures { result ≡ status_of self }
     {
@@ -54,7 +54,7 @@ impl TextEnd {
         }
     }
 
-    /// Writes the line that tells a fault of the text or want of memory. Takes no memory.
+    /// Writes the line that reports a fault of the text, or `no memory`. Allocates nothing.
     pub fn tell<W: Output>(self, out: &mut W) -> Result<(), WriteFault>
         ensures sent { Sends result (W.taken out.old) (W.taken out.new) (fault_line self) }
         ensures fault { IfErr result (λ f. W.write_fault out.new ≡ Some f) }

@@ -1,4 +1,4 @@
-//! The canonical text of what an input gives.
+//! Printing the canonical form of a text.
 ghost use Rattle.std.specs.Prelude.{◌≡◌, ◌⊎◌, ◌+◌, ◌≤◌, ℕ, List, IsSome, IfSome, Err, length};
 ghost use Rattle.std.specs.Io.KnownBytes.{Consumes};
 ghost use Rattle.pid_reader.specs.InputTexts.{IsRead};
@@ -13,10 +13,10 @@ use pid_tree::{Tree, write_canonical};
 use std::alloc::Global;
 use std::mem;
 
-/// Writes the canonical text of what the input gives, or the line of its fault to `faults`.
+/// Writes the canonical form of the input to `output`, or its fault line to `faults`.
 ///
-/// A fault of the input or of a writer is told by the end alone. Nothing is printed of a text that has a fault. At most
-/// one byte past `LARGEST` is read.
+/// Writes nothing to `output` if the text has a fault. If the input or a writer fails, only the returned end says so.
+/// Reads at most one byte past `LARGEST`.
 pub fn tidy<I: Input, O: Output, F: Output>(
     alloc: Global,
     input: &mut I,
@@ -36,7 +36,7 @@ pub fn tidy<I: Input, O: Output, F: Output>(
     print_read(read, output, faults)
 }
 
-// Prints the tree that was read, or tells why there is none.
+// Prints the tree that was read, or why there is none.
 fn print_read<O: Output, F: Output>(
     read: Result<Tree, InputEnd<Never>>,
     output: &mut O,
@@ -52,7 +52,7 @@ fn print_read<O: Output, F: Output>(
     match read {
         Ok(tree) => {
             let printed = write_canonical(&tree, output);
-            // The process ends behind this: the tree need not be taken apart.
+            // The process ends after this, so freeing the tree would be wasted time.
             mem::forget(tree);
             match printed {
                 Ok(()) => TextEnd::Done,
