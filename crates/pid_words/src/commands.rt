@@ -27,8 +27,9 @@ Run 'pciids help <COMMAND>' for details and an example.";
 const TIDY: &str = "\
 Example: pciids tidy < pci.ids > canonical.ids
 
-If the file has a fault, nothing is printed, the first fault is reported on
-standard error, and the exit status is 1. 'pciids help check' lists the faults.";
+If the file has a fault, nothing is printed on standard output, the first fault
+is reported on standard error, and the exit status is 1. The faults are listed
+by 'pciids help check'.";
 
 const FAULTS: &str = "\
 Example: pciids check < pci.ids
@@ -36,7 +37,7 @@ Example: pciids check < pci.ids
 Prints 'ok N', where N is the number of entries, or 'line L: NUMBER Word' for
 the first line with a fault:
   1 NotUtf8        the line is not valid UTF-8
-  2 TooDeep        more than two leading tabs, or more than one after an S line
+  2 TooDeep        more than two leading tabs, or more than one below an S line
   3 NoParent       leading tabs, but no line above that the line belongs to
   4 BadId          no valid hex digits, or no space or tab after them
   5 NoName         no name after the hex digits
@@ -178,7 +179,7 @@ fn connections<'a>(alloc: Global) -> Arg<'a>
         alloc,
         "connections",
         "N",
-        "Number of connections to serve, 1 to 1000000",
+        "Connections to serve, 1 to 1000000",
     )
     .value_parser(value_parser!(u32).range(1..=1000000))
     .default_value("1000000")
@@ -333,7 +334,7 @@ fn import_command<'a>(alloc: Global) -> Result<Command<'a>, AllocError>
             alloc,
             "key",
             "KEY",
-            "Key that makes it safe to repeat the import: it is done once",
+            "Key under which the import is done only once",
         ))?
         .arg(ids_operand(alloc))
 }
