@@ -1,3 +1,4 @@
+pub mod RouteRows
 pub mod Senders
 pub mod Targets
 pub mod Revisions

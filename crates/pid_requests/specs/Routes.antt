@@ -8,6 +8,23 @@ use Rattle.pid_requests.specs.declared.method.Method.TheVariants.{Get, Post}
 use Rattle.pid_requests.specs.declared.route.Route.{Route}
 use Rattle.pid_requests.specs.declared.route.Route.TheVariants.{Export, Read, Children, LookUp, Submission, Pending, Changes, Account, Submit, Comment, Withdraw, Approve, Reject, Import}
 
+-- the path of a route, with what a router reads at its end
+abbrev pub path_at : Route → List ℕ
+path_at Export = codes "/pci.ids"
+path_at Read = codes "/read/{*path}"
+path_at Children = codes "/children"
+path_at LookUp = codes "/lookup"
+path_at Submission = codes "/submission/{num}"
+path_at Pending = codes "/pending"
+path_at Changes = codes "/changes"
+path_at Account = codes "/account"
+path_at Submit = codes "/submit"
+path_at Comment = codes "/comment"
+path_at Withdraw = codes "/withdraw"
+path_at Approve = codes "/approve"
+path_at Reject = codes "/reject"
+path_at Import = codes "/import"
+
 -- a route with this path alone
 abbrev pub literal : List ℕ → Route → List ℕ × RouteOf Route
 literal text route = (text, record { pattern = text; text = text; names = []; value = route })

@@ -1,7 +1,7 @@
 //! The routes.
 ghost use Rattle.std.specs.Prelude.{◌≡◌, IfOk, None, Some, MatchOption};
 ghost use Rattle.matchit.specs.Seek.{first};
-ghost use Rattle.pid_requests.specs.Routes.{table, method_at};
+ghost use Rattle.pid_requests.specs.Routes.{table, path_at, method_at};
 
 use crate::method::Method;
 use matchit::{InsertError, Router};
@@ -40,6 +40,28 @@ pub enum Route {
     Import,
 }
 
+// The path of a route, as a router reads it.
+fn path_of(route: Route) -> &'static str
+    ensures { result.now ≡ path_at route }
+{
+    match route {
+        Route::Export => "/pci.ids",
+        Route::Read => "/read/{*path}",
+        Route::Children => "/children",
+        Route::LookUp => "/lookup",
+        Route::Submission => "/submission/{num}",
+        Route::Pending => "/pending",
+        Route::Changes => "/changes",
+        Route::Account => "/account",
+        Route::Submit => "/submit",
+        Route::Comment => "/comment",
+        Route::Withdraw => "/withdraw",
+        Route::Approve => "/approve",
+        Route::Reject => "/reject",
+        Route::Import => "/import",
+    }
+}
+
 /// All the routes.
 ///
 /// # Errors
@@ -48,21 +70,26 @@ pub enum Route {
 pub fn build_routes(alloc: Global) -> Result<Router<Route>, InsertError>
     ensures { IfOk result (λ routes. routes ≡ table) }
 {
+    let all = [
+        Route::Export,
+        Route::Read,
+        Route::Children,
+        Route::LookUp,
+        Route::Submission,
+        Route::Pending,
+        Route::Changes,
+        Route::Account,
+        Route::Submit,
+        Route::Comment,
+        Route::Withdraw,
+        Route::Approve,
+        Route::Reject,
+        Route::Import,
+    ];
     let mut routes = Router::new(alloc);
-    routes.insert("/pci.ids", Route::Export)?;
-    routes.insert("/read/{*path}", Route::Read)?;
-    routes.insert("/children", Route::Children)?;
-    routes.insert("/lookup", Route::LookUp)?;
-    routes.insert("/submission/{num}", Route::Submission)?;
-    routes.insert("/pending", Route::Pending)?;
-    routes.insert("/changes", Route::Changes)?;
-    routes.insert("/account", Route::Account)?;
-    routes.insert("/submit", Route::Submit)?;
-    routes.insert("/comment", Route::Comment)?;
-    routes.insert("/withdraw", Route::Withdraw)?;
-    routes.insert("/approve", Route::Approve)?;
-    routes.insert("/reject", Route::Reject)?;
-    routes.insert("/import", Route::Import)?;
+    for route in all {
+        routes.insert(path_of(route), route)?;
+    }
     Ok(routes)
 }
 
