@@ -166,9 +166,9 @@ fn port<'a>(alloc: Global) -> Arg<'a>
     ensures rule { rule_of result ≡ required (counted 65535 (option_named (codes "port"))) }
     ensures local { result.global ≡ false }
 {
-    needed_option(alloc, "port", "N", "Port on 127.0.0.1, 1 to 65535").value_parser(value_parser!(
-        u16
-    ).range(1..=65535))
+    needed_option(alloc, "port", "N", "TCP port on 127.0.0.1, 1 to 65535").value_parser(
+        value_parser!(u16).range(1..=65535),
+    )
 }
 
 fn connections<'a>(alloc: Global) -> Arg<'a>
