@@ -67,7 +67,7 @@ def slow_export(db, at_terminal):
 
 
 def is_told(cases, name, told, job):
-    cases.equal(f"{name}: how far it is, and nothing in the end", re.fullmatch(TOLD % job, told) is not None or told, True)
+    cases.equal(f"{name}: the progress, erased at the end", re.fullmatch(TOLD % job, told) is not None or told, True)
 
 
 def run(cases):
@@ -75,12 +75,12 @@ def run(cases):
         for last, reply, status in ((b"", b"ok added=20000 renamed=0 same=0\n", 0), (b"0000  Again\n", b"refused 14 FileFault line=20001 kind=7 Duplicate\n", 1)):
             for at_terminal in (True, False):
                 out, told, ended = slow_import(folder, at_terminal, last)
-                name = f"a long import, {'at a terminal' if at_terminal else 'beside a pipe'}: {reply}"
+                name = f"a long import, {'at a terminal' if at_terminal else 'with a pipe'}: {reply}"
                 cases.equal(name, (out, ended), (reply, status))
                 if at_terminal:
                     is_told(cases, name, told, b"importing")
                 else:
-                    cases.equal(f"{name}: nothing is told", told, b"")
+                    cases.equal(f"{name}: nothing is shown", told, b"")
                 os.remove(os.path.join(folder, f"slow{at_terminal}.db"))
         db, ids = os.path.join(folder, "db"), os.path.join(folder, "ids")
         with open(ids, "wb") as file:
@@ -92,7 +92,7 @@ def run(cases):
         cases.equal("a long export, at a terminal", (out == HEADER + TEXT, ended), (True, 0))
         is_told(cases, "a long export, at a terminal", told, b"exporting")
         out, told, ended = slow_export(db, False)
-        cases.equal("a long export, beside a pipe", (out == HEADER + TEXT, told, ended), (True, b"", 0))
+        cases.equal("a long export, with a pipe", (out == HEADER + TEXT, told, ended), (True, b"", 0))
         both_at_terminal(cases, db)
 
 

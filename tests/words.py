@@ -75,12 +75,12 @@ def wrong_words(cases):
     for words in (["chekc"], ["check", "x"], ["tidy", "check"], ["--db", "x"], [""], ["version"], ["check", "-V"]):
         ran = program.run(TEXT, *words)
         cases.equal(f"{words}: nothing is done", (ran.out, ran.status), (b"", 2))
-        cases.equal(f"{words}: the fault is told", ran.err.startswith(b"error: "), True)
+        cases.equal(f"{words}: the fault is reported", ran.err.startswith(b"error: "), True)
     for words, typed in (([], b"pciids"), (["check"], b"pciids check"), (["tidy"], b"pciids tidy")):
         ran = program.run(b"", *words, program.REAL_FILE)
         hint = b"To read a file, redirect standard input: " + typed + b" < FILE\n"
         cases.equal(f"{words} and a file: nothing is done", (ran.out, ran.status), (b"", 2))
-        cases.equal(f"{words} and a file: the fault is told", ran.err.startswith(b"error: "), True)
+        cases.equal(f"{words} and a file: the fault is reported", ran.err.startswith(b"error: "), True)
         cases.equal(f"{words} and a file: what to type", ran.err.endswith(b"\n" + hint), True)
     ran = program.run(TEXT, b"\xff")
     cases.equal("an argument that is not UTF-8", (ran.out, ran.err, ran.status), (b"", b"error: an argument is not valid UTF-8\n", 2))
@@ -126,7 +126,7 @@ def registry_words(cases):
     for words in WRONG_WORDS:
         ran = program.run(TEXT, *words)
         cases.equal(f"{words}: nothing is done", (ran.out, ran.status), (b"", 2))
-        cases.equal(f"{words}: the fault is told", ran.err.startswith(b"error: "), True)
+        cases.equal(f"{words}: the fault is reported", ran.err.startswith(b"error: "), True)
 
 
 def left_alone(cases):
