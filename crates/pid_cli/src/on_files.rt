@@ -6,8 +6,8 @@ use pid_ident::{Input, Output};
 use pid_tables::TableFault;
 use sqlite::Connection;
 
-/// Does the job on a registry file, which is created if it does not exist. Afterwards, all that was committed is in the file or
-/// in the log next to it.
+/// Does the job on a registry file, which is created if it does not exist. Afterwards, all that was
+/// committed is in the file or in the log next to it.
 pub fn work_on_file<I: Input + Drop, O: Output, F: Output>(
     rt: &HostRuntime,
     file: &str,
@@ -19,7 +19,7 @@ pub fn work_on_file<I: Input + Drop, O: Output, F: Output>(
         Ok(conn) => {
             let (end, conn) = work_on(rt, conn, job, output, faults);
             if let Some(conn) = conn {
-                // If the log cannot be copied into the file, it stays, and the next opening reads it.
+                // If the log cannot be copied into the file, it stays for the next opening.
                 let _ = conn.close();
             }
             end

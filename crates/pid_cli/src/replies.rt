@@ -11,7 +11,8 @@ use std::alloc::{AllocError, Global};
 /// The exit status if a command or a lookup is refused.
 pub const REFUSED: u8 = 1;
 
-/// Prints the reply to a command. The exit status is 0 if it was accepted, 3 if memory or the store failed, else 1.
+/// Prints the reply to a command. The exit status is 0 if it was accepted, 3 if memory or the store
+/// failed, else 1.
 pub fn print_reply<O: Output, F: Output>(
     alloc: Global,
     reply: Result<Reply, Refusal>,
@@ -27,7 +28,8 @@ pub fn print_reply<O: Output, F: Output>(
     }
 }
 
-/// Reports the refusal of a job whose output is not a reply line, which is an export. Returns the exit status of a failure.
+/// Reports the refusal of a job whose output is not a reply line, which is an export. Returns the
+/// exit status of a failure.
 pub fn tell_reply<F: Output>(alloc: Global, reply: Result<Reply, Refusal>, faults: &mut F) -> u8 {
     let Ok(line) = reply_line(alloc, reply) else {
         return tell_end(TextEnd::Memory, faults);
@@ -44,7 +46,7 @@ fn status_of(reply: Result<Reply, Refusal>) -> u8 {
     }
 }
 
-/// Prints the answer to a lookup, as a script does. The exit status is 0 if there is a text, else 1.
+/// Prints the answer to a lookup, as a script does. The exit status is 0 for a text, else 1.
 pub fn print_answer<O: Output, F: Output>(
     found: Result<Answer, LookupRefusal<AllocError>>,
     output: &mut O,

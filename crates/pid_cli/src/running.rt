@@ -18,8 +18,8 @@ const BUFFER: usize = 65_536;
 
 /// Does what the arguments ask for, and returns the exit status.
 ///
-/// Faults are found in this order: the arguments; the account, the key and the values of a lookup; the opening of the
-/// pci.ids file; the database; the port; the rest.
+/// Faults are found in this order: the arguments; the account, the key and the values of a lookup;
+/// the opening of the pci.ids file; the database; the port; the rest.
 pub fn run_words<I: Read + Drop, O: Write + Drop, F: Write + Drop>(
     rt: &HostRuntime,
     words: &[String],
@@ -115,7 +115,8 @@ fn run_export<O: Write + Drop, F: Write + Drop>(
     status(rt.alloc(), end, is_unread, &mut faults)
 }
 
-// Prints the registry of a file through a buffer. Also returns whether the reader of the output has gone away.
+// Prints the registry of a file through a buffer. Also returns whether the reader of the output has
+// gone away.
 fn print_export<O: Write + Drop, F: Output>(
     rt: &HostRuntime,
     db: &str,

@@ -79,10 +79,11 @@ fn serve_listener<S: Alter + Drop, O: Output, F: Output>(
     }
 }
 
-/// Listens on a port of this machine, and serves a registry to so many connections, one after the other.
+/// Listens on a port of this machine and serves a registry to so many connections, one at a time.
 ///
-/// Prints where it listens before it accepts the first connection, and the number of streams that were started at the end.
-/// The exit status is 0 if all connections were served and the registry is live, else 3.
+/// Prints where it listens before it accepts the first connection, and the number of streams that
+/// were started at the end. The exit status is 0 if all connections were served and the registry is
+/// live, else 3.
 pub fn serve_registry<S: Alter + Drop, O: Output, F: Output>(
     rt: &HostRuntime,
     registry: &mut Registry<S>,

@@ -1,4 +1,5 @@
--- How a whole text is judged: first its length, and then its lines. The limit is a choice of this project.
+-- How a whole text is judged: first its length, and then its lines. The limit is a choice of this
+-- project.
 use Rattle.std.specs.Prelude.{◌≡◌, ℕ, ◌<◌, ◌≤◌, List, length, Some, None}
 use Rattle.pid_ident.specs.Trees.{TreeMap}
 use Rattle.pid_reader.specs.declared.refusal.ReadRefusal.TheVariants as refusals
@@ -18,7 +19,8 @@ pub record ReadsWithin (text : List ℕ) (t : TreeMap) : Type 0 where
   pub good : refused text ≡ None
   pub reads : Reads text t
 
--- the end of a text with a fault: too large before any line is judged, else the first refusal; or out of memory, which may happen to any text
+-- the end of a text with a fault: too large before any line is judged, else the first refusal; or
+-- out of memory, which may happen to any text
 abbrev pub IsFaultOf : TextEnd → List ℕ → Type 0
 IsFaultOf (Line line kind) text = (length text ≤ LARGEST) × (refused text ≡ Some (refusals.Line line kind))
 IsFaultOf TooManyEntries text = (length text ≤ LARGEST) × (refused text ≡ Some refusals.TooManyEntries)

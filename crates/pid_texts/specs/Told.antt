@@ -22,7 +22,8 @@ pub record TellsFront (text : List ℕ) (old new : Option (List ℕ)) : Type 0 w
 abbrev pub TriesLine : Option (List ℕ) → Option (List ℕ) → List ℕ → Type 0
 TriesLine old new line = Appends old new line ⊎ SendsFront old new line
 
--- an end without a result: a fault of the text and out of memory are reported, a fault of the reader is not
+-- an end without a result: a fault of the text and out of memory are reported, a fault of the
+-- reader is not
 abbrev pub IsTold : TextEnd → List ℕ → Option (List ℕ) → Option (List ℕ) → Type 0
 IsTold Done text old new = ⊥
 IsTold (Line line kind) text old new = TellsFault (Line line kind) text old new

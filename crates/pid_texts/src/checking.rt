@@ -14,7 +14,8 @@ use std::alloc::Global;
 
 /// Writes `ok` and the number of entries in the input, or its fault line.
 ///
-/// Writes nothing if the input fails: only the returned end says so. Builds no tree. Reads at most one byte past `LARGEST`.
+/// Writes nothing if the input fails: only the returned end says so. Builds no tree. Reads at most
+/// one byte past `LARGEST`.
 pub fn check<I: Input, O: Output>(alloc: Global, input: &mut I, output: &mut O) -> TextEnd
     ensures checked { IfSome (I.to_come input.old) (λ text. IsChecked result text (O.taken output.old) (O.taken output.new)) }
     ensures read_fault { result ≡ TextEnd.ReadFault → IsSome (I.read_fault input.new) }

@@ -1,4 +1,4 @@
-//! The commands `tidy` and `check`: the canonical form of a text, and its entries or its first fault.
+//! `tidy` and `check`: the canonical form of a text, and its entries or its first fault.
 #![tactic(auto)]
 
 mod checking;

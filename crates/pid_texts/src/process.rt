@@ -18,8 +18,9 @@ pub const FAILED: u8 = 3;
 
 const BUFFER: usize = 65_536;
 
-/// Writes the canonical form of the input to `output`, or its fault line to `faults`. Returns the exit status: 0 on success,
-/// 1 if the text was refused, 3 if memory, the reader or a writer failed.
+/// Writes the canonical form of the input to `output`, or its fault line to `faults`. Returns the
+/// exit status: 0 on success, 1 if the text was refused, 3 if memory, the reader or a writer
+/// failed.
 ///
 /// Reports a file that failed as `file: failed`, unless the reader of the output has gone away.
 pub fn run_tidy<I: Read + Drop, O: Write + Drop, F: Write + Drop>(
@@ -45,9 +46,11 @@ pub fn run_tidy<I: Read + Drop, O: Write + Drop, F: Write + Drop>(
     status(end, buffer.get_ref().is_unread(), &mut faults)
 }
 
-/// Writes the number of entries in the input, or its fault line, to `output`. Returns the exit status as `run_tidy` does.
+/// Writes the number of entries in the input, or its fault line, to `output`. Returns the exit
+/// status as `run_tidy` does.
 ///
-/// Reports a file that failed as `file: failed` on `faults`, unless the reader of the output has gone away.
+/// Reports a file that failed as `file: failed` on `faults`, unless the reader of the output has
+/// gone away.
 pub fn run_check<I: Read + Drop, O: Write + Drop, F: Write + Drop>(
     alloc: Global,
     input: I,
@@ -63,7 +66,7 @@ pub fn run_check<I: Read + Drop, O: Write + Drop, F: Write + Drop>(
     status(end, is_unread, &mut Plain::new(faults))
 }
 
-// The exit status of an end. A file that failed is reported here; anything else was reported before.
+// The exit status of an end. Reports a file that failed; anything else was reported before.
 fn status<F: Output>(end: TextEnd, is_unread: bool, faults: &mut F) -> u8
     ensures { result ≡ status_of end }
 {
@@ -82,7 +85,8 @@ pub fn tell_end<F: Output>(end: TextEnd, faults: &mut F) -> u8
     end.status()
 }
 
-/// Reports that a file failed, as `file: failed`. If the reader of the output has gone away, only the exit status says so.
+/// Reports that a file failed, as `file: failed`. If the reader of the output has gone away, only
+/// the exit status says so.
 pub fn tell_failed<F: Output>(is_unread: bool, faults: &mut F) -> u8
     ensures status { result ≡ FAILED }
     ensures told { is_unread ≡ false → TriesLine (F.taken faults.old) (F.taken faults.new) failed_line }

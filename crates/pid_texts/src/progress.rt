@@ -17,8 +17,8 @@ const PAUSE: u64 = 100;
 /// Overwrites the longest progress line with spaces.
 const CLEARED: &str = "\r                                        \r";
 
-/// The number of lines that a job has read or written: one line on standard error, updated in place, once the job has
-/// taken a second. No promise covers what is shown there.
+/// The number of lines that a job has read or written: one line on standard error, updated in
+/// place, once the job has taken a second. No promise covers what is shown there.
 #[derive(Drop)]
 pub struct Progress<'r> {
     rt: &'r HostRuntime,

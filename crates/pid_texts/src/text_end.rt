@@ -42,8 +42,8 @@ pub fn end_of(refusal: ReadRefusal) -> TextEnd
 }
 
 impl TextEnd {
-    /// The exit status of a process that ends this way: 0 on success, 1 if the text was refused, 3 if memory, a reader or
-    /// a writer failed.
+    /// The exit status of a process that ends this way: 0 on success, 1 if the text was refused, 3
+    /// if memory, a reader or a writer failed.
     pub fn status(self) -> u8
         ensures { result ≡ status_of self }
     {

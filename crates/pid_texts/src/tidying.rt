@@ -15,8 +15,8 @@ use std::mem;
 
 /// Writes the canonical form of the input to `output`, or its fault line to `faults`.
 ///
-/// Writes nothing to `output` if the text has a fault. If the input or a writer fails, only the returned end says so.
-/// Reads at most one byte past `LARGEST`.
+/// Writes nothing to `output` if the text has a fault. If the input or a writer fails, only the
+/// returned end says so. Reads at most one byte past `LARGEST`.
 pub fn tidy<I: Input, O: Output, F: Output>(
     alloc: Global,
     input: &mut I,

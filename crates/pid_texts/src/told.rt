@@ -7,8 +7,8 @@ use crate::text_end::{LARGEST, TextEnd, end_of};
 use pid_ident::Output;
 use pid_reader::{CutEnd, InputEnd, Never};
 
-/// Reports a fault of the text, or that memory ran out. Writes nothing if the reader failed. If the writer fails, that is the
-/// end.
+/// Reports a fault of the text, or that memory ran out. Writes nothing if the reader failed. If the
+/// writer fails, that is the end.
 pub fn tell_unread<F: Output>(end: InputEnd<Never>, faults: &mut F) -> TextEnd
     ensures told { (text : List ℕ) → IsUnread LARGEST end text → IsTold result text (F.taken faults.old) (F.taken faults.new) }
     ensures read_fault { result ≡ TextEnd.ReadFault → end ≡ InputEnd.ReadFault }

@@ -1,7 +1,8 @@
-//! The part of `pciids` that needs no registry: no arguments, `tidy`, `check`, help, the version, and invalid arguments.
+//! The part of `pciids` that needs no registry: no arguments, `tidy`, `check`, help, the version,
+//! and invalid arguments.
 //!
-//! The script `pciids` runs it while the whole program is not built yet. Any other job ends it with exit status 4, and
-//! the script then builds and runs the whole program.
+//! The script `pciids` runs it while the whole program is not built yet. Any other job ends it with
+//! exit status 4, and the script then builds and runs the whole program.
 #![tactic(auto)]
 
 use pid_texts::{run_check, run_tidy};

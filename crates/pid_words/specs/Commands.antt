@@ -1,4 +1,5 @@
--- The commands of the program and their arguments, as the command line parser `clap` defines them. The set is a choice of this project.
+-- The commands of the program and their arguments, as the command line parser `clap` defines them.
+-- The set is a choice of this project.
 use Rattle.std.specs.Prelude.{ℕ, Bool, true, pos, List, [], ◌∷◌, Some, codes}
 use Rattle.clap.specs.Walk.{Rule, Text}
 use Rattle.clap.specs.Words.{App, Shape, new_app, new_rule, with_rule, with_subcommand}

@@ -50,7 +50,8 @@ task_of (jobs.Migrate db) = Migrates db.now
 abbrev pub needed : Text → List Row → Text
 needed name rows = unwrap_or (first_of name rows) []
 
--- the number of at most so many bits that a text writes in decimal digits, which a plus may precede; 0 for any other text
+-- the number of at most so many bits that a text writes in decimal digits, which a plus may
+-- precede; 0 for any other text
 abbrev pub number_written : ℕ → Text → ℕ
 number_written bits text =
     let digits = without_leading_plus text in
@@ -79,7 +80,8 @@ tasks = (codes "check", λ rows. Checks)
     ∷ (codes "tidy", λ rows. Tidies)
     ∷ []
 
--- the task of the subcommand with this name, whose options have these values; `tidy` for any other name, which no arguments give
+-- the task of the subcommand with this name, whose options have these values; `tidy` for any other
+-- name, which no arguments give
 abbrev pub task_named : Text → List Row → Task
 task_named name rows = option_map_or (λ entry. entry.1 rows) (find (λ entry. bytes_eq name entry.0) tasks) Tidies
 
@@ -92,12 +94,13 @@ task_given (Some s) = task_named s.0 s.1
 abbrev pub task_meant : List Text → Task
 task_meant words = task_given (subcommand_of commands words)
 
--- the arguments are valid: nothing in them is unknown, nothing that is required is missing, each number is in its range, and
--- neither help nor the version is asked for
+-- the arguments are valid: nothing in them is unknown, nothing that is required is missing, each
+-- number is in its range, and neither help nor the version is asked for
 unfoldable pub are_taken : List Text → Bool
 are_taken words = takes commands words
 
--- the kinds of fault that the arguments have, a request for help or the version among them; none if the arguments are valid
+-- the kinds of fault that the arguments have, a request for help or the version among them; none if
+-- the arguments are valid
 unfoldable pub faults_of : List Text → Kinds
 faults_of words = fault_of commands words
 

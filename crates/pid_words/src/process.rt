@@ -9,8 +9,8 @@ use std::{env, io};
 /// The exit status if the arguments name no job.
 pub const UNKNOWN_WORDS: u8 = 2;
 
-/// The arguments of the process, the program's name first. Reports an argument that is not UTF-8, or that it ran out of
-/// memory, on standard error, and returns the exit status.
+/// The arguments of the process, the program's name first. Reports an argument that is not UTF-8,
+/// or that it ran out of memory, on standard error, and returns the exit status.
 pub fn words_given(rt: &HostRuntime) -> Result<Vec<String>, u8> {
     match collected(rt) {
         Ok(words) => Ok(words),
@@ -29,8 +29,8 @@ fn collected(rt: &HostRuntime) -> io::Result<Vec<String>> {
     Ok(env::args(rt)?.collect(rt.alloc())?)
 }
 
-/// Prints why the arguments name no job, and returns the exit status: help and the version, if asked for, on `output`, and
-/// anything else on `faults`.
+/// Prints why the arguments name no job, and returns the exit status: help and the version, if
+/// asked for, on `output`, and anything else on `faults`.
 pub fn tell_no_job<O: Write + Drop, F: Write + Drop>(
     fault: &WordsFault,
     words: &[String],

@@ -81,7 +81,8 @@ fn job_named<'a>(name: &str, given: &ArgMatches<'a>) -> Job<'a>
     }
 }
 
-/// The job that the arguments name. The first of them is the program's name; if it is the only one, the job is `tidy`.
+/// The job that the arguments name. The first of them is the program's name; if it is the only one,
+/// the job is `tidy`.
 pub fn job_of<'a>(alloc: Global, words: &'a [String]) -> Result<Job<'a>, WordsFault>
     ensures job { IfOk result (λ job. task_of job ≡ task_meant (map string_bytes words.now)) }
     ensures taken { IfOk result (λ _. faults_of (map string_bytes words.now) ≡ []) }
