@@ -1,8 +1,8 @@
 -- The commands of the program and their arguments, as the command line parser `clap` defines them.
 -- The set is a choice of this project.
-use Rattle.std.specs.Prelude.{ℕ, Bool, true, pos, List, [], ◌∷◌, Some, codes}
+use Rattle.std.specs.Prelude.{ℕ, true, pos, List, [], ◌∷◌, Some, codes}
 use Rattle.clap.specs.Walk.{Rule, Text}
-use Rattle.clap.specs.Words.{App, Shape, new_app, new_rule, with_rule, with_subcommand}
+use Rattle.clap.specs.Words.{App, new_app, new_rule, with_rule, with_subcommand}
 use Rattle.clap.specs.declared.builder.value_parser.ValueParser.TheVariants.{Signed}
 
 -- an option that takes one value, as `--db FILE`
