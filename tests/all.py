@@ -1,35 +1,44 @@
-"""All cases of the built program. The words name parts; without words all are tried."""
+"""Tries the program against files and real peers, part by part. tests/run calls it."""
+import importlib
+import os
 import resource
+import signal
 import sys
 import time
+import traceback
 
-import disks
-import fault_gallery
-import http_routes
-import jobs
-import limits
-import lookups
-import lspci
-import manual
-import memory
-import migrate
-import mirror
-import progress
-import proxy
-import real_file
-import refusing
-import registry
-import scripts
-import serving
-import serving_faults
-import serving_memory
-import stops
-import tour
-import words
-import worked_rows
-from program import Cases
+import program
 
-PARTS = {it.__name__: it for it in (worked_rows, words, fault_gallery, limits, real_file, lspci, lookups, registry, disks, migrate, jobs, progress, stops, refusing, scripts, manual, tour, serving, http_routes, serving_faults, serving_memory, proxy, mirror, memory)}
+PARTS = (
+    "harness worked_rows words fault_gallery limits real_file lspci lookups registry disks migrate"
+    " jobs progress stops refusing scripts manual documents tour serving loopback http_routes"
+    " serving_faults serving_memory proxy mirror memory"
+).split()
+
+# No part takes nearly as long, in seconds. One that hangs is stopped, so that the others are tried.
+LONGEST = 1_800
+
+USAGE = """usage: tests/run [PART..]
+
+Tries the built program against files and real peers: all parts, or those that are named. Programs
+that are missing or older than a source are built first, and missing packages of Debian installed.
+The last line is 'N passed, N failed', followed by ', N skipped' if cases were skipped.
+
+  PCIIDS=/usr/bin/pciids tests/run
+
+tries an installed program, and nothing is built. The file has to be the program itself, and not a
+script that calls it, since some parts refuse it memory or stop its disk.
+
+"""
+
+
+def parts_in_lines():
+    lines = [""]
+    for name in PARTS:
+        if len(lines[-1]) + len(name) > 96:
+            lines.append("")
+        lines[-1] += f" {name}"
+    return "The parts are:\n" + "\n".join(f" {it}" for it in lines) + "\n"
 
 
 def processor_seconds():
@@ -37,10 +46,86 @@ def processor_seconds():
     return sum(it.ru_utime + it.ru_stime for it in used)
 
 
-cases = Cases()
-for name in sys.argv[1:] or PARTS:
-    passed, before, start = cases.passed, processor_seconds(), time.monotonic()
-    PARTS[name].run(cases)
-    print(f"{name}: {cases.passed - passed} passed, {processor_seconds() - before:.1f} processor seconds of {time.monotonic() - start:.1f}", flush=True)
-print(f"{cases.passed} passed, {cases.failed} failed")
-raise SystemExit(cases.failed != 0)
+def attempt(cases, name, call):
+    """Calls a function. Whatever ends it early is one failure, and the run goes on."""
+    under_test = program.PROGRAM
+    try:
+        return call()
+    except program.Skip as why:
+        cases.skipped(name, why)
+    except KeyboardInterrupt:
+        raise
+    except BaseException as fault:
+        cases.failed += 1
+        print(f"FAILED {name}: ended by {type(fault).__name__}")
+        traceback.print_exc(file=sys.stdout)
+    finally:
+        program.PROGRAM = under_test
+    return None
+
+
+def stop_part(*_):
+    raise TimeoutError(f"the part has not ended after {LONGEST} seconds")
+
+
+def run_part(cases, name):
+    """Imports the module of a part and runs it, for no longer than LONGEST."""
+    signal.signal(signal.SIGALRM, stop_part)
+    signal.alarm(LONGEST)
+    try:
+        importlib.import_module(name).run(cases)
+    finally:
+        signal.alarm(0)
+
+
+def try_part(cases, name):
+    part, used, start = program.Cases(), processor_seconds(), time.monotonic()
+    try:
+        attempt(part, name, lambda: run_part(part, name))
+    finally:
+        cases.add(part)
+    took = f"{processor_seconds() - used:.1f} processor seconds of {time.monotonic() - start:.1f}"
+    print(f"{name}: {part.counts()}, {took}")
+
+
+def try_parts(cases, names, prepares):
+    """Returns the exit status."""
+    unknown = [it for it in names if it not in PARTS]
+    if unknown:
+        cases.failed += len(unknown)
+        print(f"tests/run: unknown part: {', '.join(unknown)}\n{parts_in_lines()}", file=sys.stderr)
+        return 2
+    fault = program.fault_of_installed()
+    if not fault and prepares:
+        fault = attempt(cases, "prepare", lambda: importlib.import_module("prepare").ready())
+    if fault:
+        cases.failed += 1
+        print(fault)
+    if not cases.failed:
+        for name in names or PARTS:
+            try_part(cases, name)
+    return int(cases.failed != 0)
+
+
+def main(words):
+    sys.stdout.reconfigure(line_buffering=True, errors="backslashreplace")
+    prepares = words[:1] == ["--prepare"]
+    names = words[prepares:]
+    if {"--help", "-h"} & {*names}:
+        print(USAGE + parts_in_lines(), end="")
+        return 0
+    cases = program.Cases()
+    try:
+        status = try_parts(cases, names, prepares)
+    except KeyboardInterrupt:
+        cases.failed, status = cases.failed + 1, 130
+        print("FAILED: interrupted")
+    print(cases.counts())
+    return status
+
+
+if __name__ == "__main__":
+    ended = main(sys.argv[1:])
+    sys.stdout.flush()
+    # No thread that a part has left running prints anything after the last line.
+    os._exit(ended)

@@ -91,7 +91,9 @@ def small_disk(folder, size):
     """A file system in memory of so many kilobytes; None where none can be had."""
     place = os.path.join(folder, "disk")
     os.makedirs(place, exist_ok=True)
-    had = subprocess.run(["mount", "-t", "tmpfs", "-o", f"size={size}k", "pciids-test", place], stderr=subprocess.DEVNULL).returncode == 0
+    words = ["mount", "-t", "tmpfs", "-o", f"size={size}k", "pciids-test", place]
+    has_mount = shutil.which("mount") is not None
+    had = has_mount and subprocess.run(words, stderr=subprocess.DEVNULL).returncode == 0
     try:
         yield place if had else None
     finally:

@@ -1,4 +1,6 @@
-"""What ./test does: `rt ci`, then tests/run, and at the end where the processor time went."""
+"""What ./test does: `rt ci`, then tests/run, and at the end where the processor time went.
+
+tests/run tries the programs that `rt ci` has built: they stay in crates/NAME/out."""
 import os
 import re
 import resource
@@ -12,15 +14,23 @@ import time
 TOP = os.path.dirname(os.path.dirname(os.path.abspath(__file__)))
 TICKS = os.sysconf("SC_CLK_TCK")
 PARTS = ("proof", "tests", "edits")
-PIPED = {"stdin": subprocess.DEVNULL, "stdout": subprocess.PIPE, "stderr": subprocess.STDOUT, "errors": "replace"}
+PROGRAMS = ("pid_cli", "pid_tidy")
+PIPED = {
+    "stdin": subprocess.DEVNULL,
+    "stdout": subprocess.PIPE,
+    "stderr": subprocess.STDOUT,
+    "errors": "replace",
+}
 
 USAGE = """usage: ./test [--edits]
 
-Proves every crate and its tests from nothing, runs the tests and the programs as two compilers build them (`rt ci`, in a
-copy of the repository without the must-fail edits), and then tries the built program against real peers (tests/run).
-With --edits nothing is left out: `rt ci` runs in the repository itself, and the prover has to refuse each must-fail edit.
-Missing packages of Debian are installed: pci.ids, pciutils, libpci-dev, sqlite3, curl, nginx-light, apache2-utils, openssl.
-The last line is 'N passed, N failed'.
+Proves every crate and its tests from nothing, runs the tests and the programs as two compilers
+build them (`rt ci`, in a copy of the repository without the must-fail edits), and then tries the
+built program against real peers (tests/run). With --edits nothing is left out: `rt ci` runs in the
+repository itself, and the prover has to refuse each must-fail edit.
+Missing packages of Debian are installed: pci.ids, pciutils, libpci-dev, sqlite3, curl, nginx-light,
+apache2-utils, openssl, man-db. Cases whose package can't be installed are skipped.
+The last line is 'N passed, N failed', followed by ', N skipped' if cases were skipped.
 """
 
 NO_RT = """./test: the command rt is missing, which proves and builds the crates.
@@ -40,12 +50,12 @@ class Clock:
 
 
 class Meter(threading.Thread):
-    """Looks twice a second at the provers that a run of `rt ci` started, and keeps what each has used."""
+    """Looks twice a second at the provers that `rt ci` started, and keeps what each has used."""
 
     def __init__(self, rt, clock):
         super().__init__(daemon=True)
         self.rt, self.clock, self.is_over = rt, clock, threading.Event()
-        # For each prover its crate, its part and its processor seconds; and the edits that each crate has.
+        # For each prover its crate, its part and its processor seconds; the edits of each crate.
         self.provers, self.edits = {}, {}
 
     def run(self):
@@ -66,22 +76,24 @@ class Meter(threading.Thread):
                 self.provers[pid, start] = [*task, 0.0]
             used += sum(found[it][2] for it in all_below(pid, below))
             self.provers[pid, start][2] = max(self.provers[pid, start][2], used)
-        self.tell_of_edits({(pid, found[pid][1]) for pid in below.get(self.rt, [])})
+        self.report_edits({(pid, found[pid][1]) for pid in below.get(self.rt, [])})
 
-    def tell_of_edits(self, alive):
-        """A crate's edits are tried in turn, and then the crate once more without any, where there are several."""
+    def report_edits(self, alive):
+        """A crate's edits are tried in turn; after several, the crate is tried without any."""
         for crate, count in list(self.edits.items()):
-            tried = [key for key, (name, part, _) in self.provers.items() if (name, part) == (crate, "edits")]
+            provers = self.provers.items()
+            tried = [key for key, (*task, _) in provers if task == [crate, "edits"]]
             if len(tried) >= count + (count > 1) and not alive & set(tried):
                 del self.edits[crate]
-                self.clock.say(f"{crate}: its must-fail edits were tried, {self.minutes(crate, 'edits'):.1f} processor minutes")
+                used = self.minutes(crate, "edits")
+                self.clock.say(f"{crate}: must-fail edits tried, {used:.1f} processor minutes")
 
     def minutes(self, crate, part):
-        return sum(used for name, of, used in self.provers.values() if (name, of) == (crate, part)) / 60
+        return sum(used for *task, used in self.provers.values() if task == [crate, part]) / 60
 
 
 def processes():
-    """The parent, the start and the processor seconds of each process, those of its ended children included."""
+    """The parent, the start and the processor seconds of each process with its ended children."""
     found = {}
     for name in os.listdir("/proc"):
         if name.isdigit():
@@ -114,7 +126,7 @@ def task_of(pid):
     return words[words.index("--crate-name") + 1], part
 
 
-class Told:
+class Relay:
     """Passes on what matters of the lines of `rt ci`, as they come."""
 
     def __init__(self, clock, meter):
@@ -134,7 +146,7 @@ class Told:
             self.meter.edits[edits[1]] = int(edits[2])
         elif text.startswith("== ") or self.section:
             self.section.append(text)
-        elif text.startswith("rt: must-fail ") and ": refused, as it must be" in text and "says little" not in text:
+        elif re.match(r"rt: must-fail .*: refused, as it must be(?!.*says little)", text):
             self.refused += 1
         elif not re.match(r"test .* ok$|test result: ok|running \d+ test|rt: chose|$", text):
             self.clock.say(text)
@@ -146,38 +158,59 @@ def used_by_children():
 
 
 def counted(line):
-    """The counts of a last line 'N passed, N failed'; without one, a failure."""
-    found = re.fullmatch(r"(\d+) passed, (\d+) failed", line)
-    return (int(found[1]), int(found[2])) if found else (0, 1)
+    """What passed, failed and was skipped by a last line; without one, a failure."""
+    found = re.fullmatch(r"(\d+) passed, (\d+) failed(?:, (\d+) skipped)?", line)
+    return tuple(int(it or 0) for it in found.groups()) if found else (0, 1, 0)
+
+
+def program_in(folder, name):
+    return os.path.join(folder, "crates", name, "out", name)
+
+
+def date_programs(folder, start):
+    """Gives the built programs the time at which `rt ci` began: a source changed since is newer."""
+    for name in PROGRAMS:
+        if os.path.exists(program_in(folder, name)):
+            os.utime(program_in(folder, name), ns=(start, start))
 
 
 def prove(folder, clock):
-    """Runs `rt ci` in a folder: what passed and failed, the meter, and the processor minutes of the whole."""
-    before, last = used_by_children(), ""
+    """Runs `rt ci` in a folder: what passed and failed, the meter, and its processor minutes."""
+    before, start, last = used_by_children(), time.time_ns(), ""
     with subprocess.Popen(["rt", "ci"], cwd=folder, **PIPED) as ran:
         meter = Meter(ran.pid, clock)
         meter.start()
-        told = Told(clock, meter)
+        relay = Relay(clock, meter)
         for line in ran.stdout:
             last = line.rstrip("\n")
-            told.line(last)
+            relay.line(last)
     meter.is_over.set()
     meter.join()
-    meter.tell_of_edits(set())
-    if told.refused:
-        clock.say(f"{told.refused} must-fail edits were refused")
-    passed, failed = counted(last)
+    meter.report_edits(set())
+    if relay.refused:
+        clock.say(f"{relay.refused} must-fail edits were refused")
+    date_programs(folder, start)
+    passed, failed, _ = counted(last)
     return passed, failed + (ran.returncode != 0 and not failed), meter, used_by_children() - before
 
 
 def try_program(folder):
-    """Runs tests/run in a folder: what passed and failed, and its processor minutes."""
+    """Runs tests/run in a folder: what passed, failed and was skipped, and its processor minutes.
+
+    The programs are those that `rt ci` has built there, whatever the caller's PCIIDS names."""
+    missing = [name for name in PROGRAMS if not os.path.exists(program_in(folder, name))]
+    if missing:
+        print(f"{'':9}not tried: rt ci has not built {' and '.join(missing)}")
+        return 0, 1, 0, 0.0
     before, last = used_by_children(), ""
-    with subprocess.Popen([os.path.join(folder, "tests", "run")], **PIPED) as ran:
+    environment = {name: value for name, value in os.environ.items() if name != "PCIIDS"}
+    with subprocess.Popen([os.path.join(folder, "tests", "run")], env=environment, **PIPED) as ran:
         for line in ran.stdout:
             last = line.rstrip("\n")
             print(f"{'':9}{last}", flush=True)
-    return (*counted(last), used_by_children() - before)
+    passed, failed, skipped = counted(last)
+    failed += ran.returncode != 0 and not failed
+    return passed, failed, skipped, used_by_children() - before
 
 
 def print_table(meter, whole, peers, clock):
@@ -187,18 +220,21 @@ def print_table(meter, whole, peers, clock):
     print(f"\n{'processor minutes':30}" + "".join(f"{part:>8}" for part in (*PARTS, "all")))
     for crate, cells in rows:
         print(f"{crate:30}" + "".join(f"{cell:8.1f}" for cell in (*cells, sum(cells))))
-    for name, cell in (("rt, links and runs", max(whole - sum(sums), 0)), ("tests/ (the built program)", peers)):
+    rest = max(whole - sum(sums), 0)
+    for name, cell in (("rt, links and runs", rest), ("tests/ (the built program)", peers)):
         print(f"{name:30}{cell:32.1f}")
     print(f"{'all':30}" + "".join(f"{cell:8.1f}" for cell in (*sums, whole + peers)))
-    print(f"{(time.monotonic() - clock.start) / 60:.0f} minutes on {len(os.sched_getaffinity(0))} processors\n")
+    minutes, processors = (time.monotonic() - clock.start) / 60, len(os.sched_getaffinity(0))
+    print(f"{minutes:.0f} minutes on {processors} processors\n")
 
 
 def copy_without_edits(to):
-    """A copy of the repository that `rt ci` takes for one: it looks for a folder .git at the top."""
+    """Makes a copy that `rt ci` takes for a repository: it looks for a folder .git at the top."""
 
     def left_out(folder, names):
         is_crate = os.path.dirname(folder) == os.path.join(TOP, "crates")
-        return {"out", "must-fail", "edits-on-demand"} & set(names) if is_crate else {".git"} & set(names)
+        unwanted = {"out", "must-fail", "edits-on-demand"} if is_crate else {".git"}
+        return unwanted & set(names)
 
     shutil.copytree(TOP, to, symlinks=True, ignore=left_out)
     os.mkdir(os.path.join(to, ".git"))
@@ -208,11 +244,11 @@ def run(folder):
     clock = Clock()
     clock.say("rt ci: every crate and its tests from nothing")
     passed, failed, meter, whole = prove(folder, clock)
-    clock.say("tests/run: the built program against files, lspci, libpci, grep, sqlite3, curl and nginx")
-    more_passed, more_failed, peers = try_program(folder)
+    clock.say("tests/run: the built program against lspci, libpci, sqlite3, curl, nginx and files")
+    more_passed, more_failed, skipped, peers = try_program(folder)
     print_table(meter, whole, peers, clock)
     passed, failed = passed + more_passed, failed + more_failed
-    print(f"{passed} passed, {failed} failed")
+    print(f"{passed} passed, {failed} failed" + (f", {skipped} skipped" if skipped else ""))
     return failed != 0
 
 
@@ -225,15 +261,16 @@ def main(words):
         print("0 passed, 1 failed")
         return 2
     if words:
-        print("./test --edits: all proofs, tests and must-fail edits, then the built program against real peers")
+        print("./test --edits: proofs, tests and must-fail edits, then the program with real peers")
         return run(TOP)
-    print("./test: all proofs and tests, then the built program against real peers (--edits: the must-fail edits too)")
+    print("./test: proofs and tests, then the program with real peers (must-fail edits: --edits)")
     with tempfile.TemporaryDirectory(prefix="pciids-test-") as room:
         copy_without_edits(os.path.join(room, "pciids"))
         return run(os.path.join(room, "pciids"))
 
 
-try:
-    sys.exit(main(sys.argv[1:]))
-except KeyboardInterrupt:
-    sys.exit(130)
+if __name__ == "__main__":
+    try:
+        sys.exit(main(sys.argv[1:]))
+    except KeyboardInterrupt:
+        sys.exit(130)

@@ -10,7 +10,7 @@ from urllib.parse import quote_plus
 
 import old_registry
 from http_server import JSON, TEXT, Server, refusal, reply
-from program import HEADER, WHOLE
+from program import HEADER, WHOLE, need
 from registry import asked, script, texts_of_schema, work
 from stops import ROOM
 
@@ -335,9 +335,7 @@ def stopped(cases, shim, name, step):
 
 
 def run(cases):
-    if shutil.which("sqlite3") is None:
-        cases.skipped("schema 1", "sqlite3 is not installed")
-        return
+    need("sqlite3", "curl")
     with tempfile.TemporaryDirectory() as folder:
         taken_over(cases, folder)
         by_other_words(cases, folder)

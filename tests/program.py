@@ -1,13 +1,47 @@
 """The program under test, and the counting of cases."""
 import os
+import shutil
 import subprocess
 
 TOP = os.path.dirname(os.path.dirname(os.path.abspath(__file__)))
-PROGRAM = os.path.join(TOP, "pciids")
-WHOLE = os.path.join(TOP, "crates", "pid_cli", "out", "pid_cli")
-SMALL = os.path.join(TOP, "crates", "pid_tidy", "out", "pid_tidy")
 REAL_FILE = "/usr/share/misc/pci.ids"
 HEADER = b"# PCI ID registry\n"
+
+# PCIIDS names an installed program to try, relative to the caller's folder. Without it the programs
+# of this source tree are tried: the script, which calls one of the other two, the whole program and
+# the small one, which has no registry.
+INSTALLED = os.environ.get("PCIIDS")
+if INSTALLED is None:
+    PROGRAM = os.path.join(TOP, "pciids")
+    WHOLE = os.path.join(TOP, "crates", "pid_cli", "out", "pid_cli")
+    SMALL = os.path.join(TOP, "crates", "pid_tidy", "out", "pid_tidy")
+else:
+    PROGRAM = WHOLE = os.path.abspath(INSTALLED)
+    SMALL = None
+
+
+def fault_of_installed():
+    """Why the program that PCIIDS names can't be tried, or None."""
+    if INSTALLED is None:
+        return None
+    if not INSTALLED:
+        return "PCIIDS is set, but empty: it has to name the program to try"
+    if not os.path.exists(PROGRAM):
+        return f"PCIIDS names {PROGRAM}, which does not exist"
+    if not os.path.isfile(PROGRAM) or not os.access(PROGRAM, os.X_OK):
+        return f"PCIIDS names {PROGRAM}, which is not an executable file"
+    return None
+
+
+class Skip(Exception):
+    """Ends a part, the rest of which is counted as skipped. It says why."""
+
+
+def need(*commands):
+    """Skips the rest of a part if one of these commands is missing."""
+    missing = [it for it in commands if shutil.which(it) is None]
+    if missing:
+        raise Skip(f"{', '.join(missing)} not installed")
 
 
 class Ran:
@@ -18,17 +52,20 @@ class Ran:
 
 
 def run(text, *words):
-    """What the program with these words makes of a text on its standard input."""
-    return Ran(subprocess.run([PROGRAM, *words], input=text, stdout=subprocess.PIPE, stderr=subprocess.PIPE, timeout=60))
+    """Runs the program with these arguments and this text on its standard input."""
+    if PROGRAM is None:
+        raise Skip("the small program belongs to the source tree, and PCIIDS names another one")
+    words = [PROGRAM, *words]
+    return Ran(subprocess.run(words, input=text, capture_output=True, timeout=60))
 
 
 def tidy(text):
-    """Without words the program prints the canonical text."""
+    """Without arguments the program prints the canonical text."""
     return run(text)
 
 
 def entries_of(canonical):
-    """How many entries a canonical text has: its lines behind the header, but for those that open a block."""
+    """The number of entries of a canonical text: its lines after the header that open no block."""
     return sum(not line.startswith((b"#", b"S ")) for line in canonical.splitlines())
 
 
@@ -36,6 +73,7 @@ class Cases:
     def __init__(self):
         self.passed = 0
         self.failed = 0
+        self.left_out = 0
 
     def equal(self, name, got, want):
         if got == want:
@@ -45,21 +83,34 @@ class Cases:
         print(f"FAILED {name}\n  got  {short(got)}\n  want {short(want)}")
 
     def printed(self, name, text, want):
-        """The text is tidied to this, and its entries are counted, with status 0."""
+        """`tidy` prints the text like this, and `check` counts its entries, with status 0."""
         ran = tidy(text)
         self.equal(name, (ran.out, ran.err, ran.status), (want, b"", 0))
         ran = run(text, "check")
-        self.equal(f"check: {name}", (ran.out, ran.err, ran.status), (b"ok %d\n" % entries_of(want), b"", 0))
+        counted = b"ok %d\n" % entries_of(want)
+        self.equal(f"check: {name}", (ran.out, ran.err, ran.status), (counted, b"", 0))
 
     def refused(self, name, text, fault_line):
-        """The text is refused with this line, status 1: on standard error by `tidy`, on standard output by `check`."""
+        """`tidy` prints this line on standard error, `check` on standard output, with status 1."""
         ran = tidy(text)
         self.equal(name, (ran.out, ran.err, ran.status), (b"", fault_line + b"\n", 1))
         ran = run(text, "check")
         self.equal(f"check: {name}", (ran.out, ran.err, ran.status), (fault_line + b"\n", b"", 1))
 
     def skipped(self, name, why):
+        """Counts cases that can't be tried here, and says why."""
+        self.left_out += 1
         print(f"skipped {name}: {why}")
+
+    def add(self, more):
+        self.passed += more.passed
+        self.failed += more.failed
+        self.left_out += more.left_out
+
+    def counts(self):
+        """The last line of a run."""
+        skipped = f", {self.left_out} skipped" if self.left_out else ""
+        return f"{self.passed} passed, {self.failed} failed{skipped}"
 
 
 def short(value):

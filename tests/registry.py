@@ -135,10 +135,15 @@ def run(cases):
         return
     with tempfile.TemporaryDirectory() as folder:
         try_small(cases, os.path.join(folder, "small.db"))
-        try_great_revisions(cases, os.path.join(folder, "great.db"))
-        try_last_revision(cases, os.path.join(folder, "last.db"))
+        if shutil.which("curl") is None:
+            cases.skipped("the registry's file: great revisions", "curl is not installed")
+        else:
+            try_great_revisions(cases, os.path.join(folder, "great.db"))
+            try_last_revision(cases, os.path.join(folder, "last.db"))
         if os.path.exists(REAL_FILE):
             try_real(cases, os.path.join(folder, "real.db"))
+        else:
+            cases.skipped("the registry's file: the real file", "pci.ids is not installed")
         try_unopened(cases, folder)
 
 
