@@ -81,6 +81,31 @@ def missing_calls(known):
     return len(calls), sorted(set(calls) - known)
 
 
+def sources_in(crate):
+    folder = os.path.join(TOP, "crates", crate, "src")
+    return "".join(open(os.path.join(at, it), encoding="utf-8").read()
+                   for at, _, files in os.walk(folder) for it in files)
+
+
+def missing_evidence():
+    """How many tests and calls SECURITY.md names, and those that do not exist."""
+    text = " ".join(text_of("SECURITY.md").partition("## What is not")[0].split())
+    text = text.partition("A client of `serve`:")[2]
+    named, missing = 0, []
+    for place, first, others in re.findall(r"`(pid_\w+|\w+\.py): (\w+)`((?:, `\w+`)*)", text):
+        for name in [first, *re.findall(r"\w+", others)]:
+            file = os.path.join("tests", place)
+            found = text_of(file) if place.endswith(".py") else sources_in(place)
+            named += 1
+            if not re.search(rf"\b(def|fn) {name}\b", found):
+                missing.append(f"{place}: {name}")
+    for crate, path in re.findall(r"`(pid_\w+)::([\w:]+)`", text):
+        named += 1
+        if not re.search(rf"\bfn {path.rpartition(':')[2]}\b", sources_in(crate)):
+            missing.append(f"{crate}::{path}")
+    return named, missing
+
+
 def run(cases):
     for page in pages():
         cases.equal(f"{page}: links that lead nowhere", sorted(broken_links(page)), [])
@@ -92,6 +117,9 @@ def run(cases):
     count, missing = missing_calls(defined())
     cases.equal("promises: calls that no source defines", missing, [])
     cases.equal("promises: they name calls", count > 40, True)
+    count, missing = missing_evidence()
+    cases.equal("SECURITY.md: tests and calls that do not exist", missing, [])
+    cases.equal("SECURITY.md: it names some", count > 30, True)
     kit = re.search(r"rattle-kit-\w+ (logic \w+)", text_of("README.md"))
     cases.equal("README.md: names the toolchain's line", kit is not None, True)
     if shutil.which("rt") is None:
