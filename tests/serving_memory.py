@@ -2,6 +2,7 @@
 
 What a request took is told by how far the mark of the server's resident memory rose (VmHWM), and by what is answered where the
 server may take little more than it has. Forms and lists, which are held, show that both would tell of it."""
+import errno
 import os
 import resource
 import subprocess
@@ -46,6 +47,10 @@ def counts(added, same):
     return reply("200 OK", JSON, b'{"added":%d,"ok":true,"renamed":0,"same":%d}' % (added, same))
 
 
+# How the client learns that the server has cut the connection: at a write, a read or its end.
+CUT = (errno.EPIPE, errno.ECONNRESET, errno.ENOTCONN)
+
+
 class Serving(Server):
     """A server that was asked once, so that what the first request takes is there."""
 
@@ -64,10 +69,12 @@ class Serving(Server):
         return self.told("VmHWM") - before, back
 
     def answered(self, sent):
-        """What comes back; nothing where the connection is reset, as behind a body that was not read."""
+        """What comes back; nothing if the connection is cut, as after a body that was not read."""
         try:
             return self.raw(sent)
-        except (BrokenPipeError, ConnectionResetError):
+        except OSError as fault:
+            if fault.errno not in CUT:
+                raise
             return b""
 
 
