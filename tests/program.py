@@ -7,6 +7,9 @@ TOP = os.path.dirname(os.path.dirname(os.path.abspath(__file__)))
 REAL_FILE = "/usr/share/misc/pci.ids"
 HEADER = b"# PCI ID registry\n"
 
+# Debian has nginx in a folder that only root's PATH names.
+os.environ["PATH"] = os.environ.get("PATH", os.defpath) + ":/usr/sbin:/sbin"
+
 # PCIIDS names an installed program to try, relative to the caller's folder. Without it the programs
 # of this source tree are tried: the script, which calls one of the other two, the whole program and
 # the small one, which has no registry.
