@@ -30,7 +30,8 @@ def versions(cases):
     """The program, the manual page, the newest entry of the changelog and the README name the same version."""
     version = run_program(b"", "--version").out.decode().removeprefix("pciids ").strip()
     cases.equal("--version: three numbers", re.fullmatch(r"\d+\.\d+\.\d+", version) is not None or version, True)
-    cases.equal("the version of the manual page", re.findall(r'^\.Os "pciids (.*)"$', text_of("docs", "pciids.1"), re.M), [version])
+    found = re.findall(r'^\.Os "pciids (.*)"$', text_of("docs", "pciids.1"), re.M)
+    cases.equal("the version of the manual page", found, [version])
     heads = re.findall(r"^## \[(\d[^]]*)\] - \d{4}-\d{2}-\d{2}$", text_of("CHANGELOG.md"), re.M)
     cases.equal("the newest version of the changelog", heads[:1], [version])
     named = re.findall(r"\bpciids v?(\d+\.\d+(?:\.\d+)?)\b", text_of("README.md"))

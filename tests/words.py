@@ -54,7 +54,8 @@ def asked_for(cases):
     for words in (["--help"], ["-h"], ["help"], ["check", "--help"], ["tidy", "-h"], ["help", "check"]):
         ran = program.run(TEXT, *words)
         cases.equal(f"{words}: status", (ran.err, ran.status), (b"", 0))
-        cases.equal(f"{words}: shows where the file comes from", b"Usage: pciids" in ran.out and b"< FILE" in ran.out, True)
+        shown = b"Usage: pciids" in ran.out and b"< FILE" in ran.out
+        cases.equal(f"{words}: shows where the file comes from", shown, True)
     ran = program.run(TEXT, "--help")
     cases.equal("--help: names the commands", b"check" in ran.out and b"tidy" in ran.out, True)
     for words in (["check", "--help"], ["help", "check"]):
@@ -83,7 +84,8 @@ def wrong_words(cases):
         cases.equal(f"{words} and a file: the fault is reported", ran.err.startswith(b"error: "), True)
         cases.equal(f"{words} and a file: what to type", ran.err.endswith(b"\n" + hint), True)
     ran = program.run(TEXT, b"\xff")
-    cases.equal("an argument that is not UTF-8", (ran.out, ran.err, ran.status), (b"", b"error: an argument is not valid UTF-8\n", 2))
+    fault = b"error: an argument is not valid UTF-8\n"
+    cases.equal("an argument that is not UTF-8", (ran.out, ran.err, ran.status), (b"", fault, 2))
 
 
 def files_that_fail(cases):
