@@ -14,7 +14,7 @@ import time
 TOP = os.path.dirname(os.path.dirname(os.path.abspath(__file__)))
 TICKS = os.sysconf("SC_CLK_TCK")
 PARTS = ("proof", "tests", "edits")
-PROGRAMS = ("pid_cli", "pid_tidy")
+PROGRAMS = ("pid_cli", "pid_cli_first")
 PIPED = {
     "stdin": subprocess.DEVNULL,
     "stdout": subprocess.PIPE,

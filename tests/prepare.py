@@ -5,7 +5,7 @@ import shutil
 import subprocess
 import time
 
-from program import INSTALLED, PROGRAM, REAL_FILE, SMALL, TOP, WHOLE
+from program import FIRST, INSTALLED, PROGRAM, REAL_FILE, TOP, WHOLE
 
 # A command that tests need, or a pattern of a file, and the package that has it.
 PACKAGES = {
@@ -121,10 +121,10 @@ def build_programs():
     if INSTALLED is not None:
         print(f"{PROGRAM}: tried as PCIIDS names it, and nothing is built")
         return None
-    # Where neither is current, the script builds the small program first.
+    # Where neither is current, the script builds the first program before it.
     fault = built(WHOLE, [PROGRAM, "script"])
-    small = os.path.dirname(os.path.dirname(SMALL))
-    return fault or built(SMALL, ["rt", "run"], cwd=small, stderr=subprocess.STDOUT)
+    first = os.path.dirname(os.path.dirname(FIRST))
+    return fault or built(FIRST, ["rt", "run"], cwd=first, stderr=subprocess.STDOUT)
 
 
 def ready():

@@ -12,15 +12,15 @@ os.environ["PATH"] = os.environ.get("PATH", os.defpath) + ":/usr/sbin:/sbin"
 
 # PCIIDS names an installed program to try, relative to the caller's folder. Without it the programs
 # of this source tree are tried: the script, which calls one of the other two, the whole program and
-# the small one, which has no registry.
+# the first one, which has no registry.
 INSTALLED = os.environ.get("PCIIDS")
 if INSTALLED is None:
     PROGRAM = os.path.join(TOP, "pciids")
     WHOLE = os.path.join(TOP, "crates", "pid_cli", "out", "pid_cli")
-    SMALL = os.path.join(TOP, "crates", "pid_tidy", "out", "pid_tidy")
+    FIRST = os.path.join(TOP, "crates", "pid_cli_first", "out", "pid_cli_first")
 else:
     PROGRAM = WHOLE = os.path.abspath(INSTALLED)
-    SMALL = None
+    FIRST = None
 
 
 def fault_of_installed():
@@ -57,7 +57,7 @@ class Ran:
 def run(text, *words):
     """Runs the program with these arguments and this text on its standard input."""
     if PROGRAM is None:
-        raise Skip("the small program belongs to the source tree, and PCIIDS names another one")
+        raise Skip("the first program belongs to the source tree, and PCIIDS names another one")
     words = [PROGRAM, *words]
     return Ran(subprocess.run(words, input=text, capture_output=True, timeout=60))
 

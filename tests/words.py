@@ -2,6 +2,7 @@
 import os
 import subprocess
 
+import first_pages
 import program
 from program import HEADER
 
@@ -119,12 +120,16 @@ WRONG_WORDS = (
 )
 
 
-def registry_words(cases):
-    """Help for the commands that need a registry or a named file, and invalid arguments of theirs."""
+def registry_help(cases):
+    """Help for the commands that need a registry or a named file."""
     for words in REGISTRY_WORDS:
         ran = program.run(TEXT, words[0], "--help")
         cases.equal(f"{words[0]} --help", (ran.err, ran.status), (b"", 0))
         cases.equal(f"{words[0]} --help: an example", b"Example: pciids " + words[0].encode() in ran.out, True)
+
+
+def registry_words(cases):
+    """Invalid arguments of these commands."""
     for words in WRONG_WORDS:
         ran = program.run(TEXT, *words)
         cases.equal(f"{words}: nothing is done", (ran.out, ran.status), (b"", 2))
@@ -132,21 +137,50 @@ def registry_words(cases):
 
 
 def left_alone(cases):
-    """The small program leaves what needs the whole one to it, and prints nothing."""
-    for words in REGISTRY_WORDS:
+    """The first program leaves what needs the whole one to it, and prints nothing."""
+    for words in (*REGISTRY_WORDS, *WRONG_WORDS, ["--db", "x"], ["help", "help"], ["help", "nosuch"]):
         ran = program.run(TEXT, *words)
         cases.equal(f"{words}: left to the whole program", (ran.out, ran.err, ran.status), (b"", b"", 4))
 
 
+# Both programs answer these alike. The whole program also suggests a command with a similar name.
+SHARED_WORDS = (
+    [], ["tidy"], ["check"], ["--version"], ["-V"], ["--help"], ["-h"], ["help"], [""], ["version"], ["x.ids"],
+    ["x.ids", "y"], ["tidy", "x"], ["check", "x.ids"], ["tidy", "check"], ["check", ""], [b"\xff"],
+)
+
+
+def alike(cases, whole, first):
+    """What both programs print on every page of help, and on the mistakes that the first one reports."""
+    pages = [words for it in first_pages.COMMANDS for words in ([it, "--help"], [it, "-h"], ["help", it])]
+    for words in (*SHARED_WORDS, *pages):
+        wanted, ran = (ran_of(it, words) for it in (whole, first))
+        cases.equal(f"{words}: as the whole program", ran, wanted)
+    with open(os.path.join(program.TOP, "crates", "pid_cli_first", "src", "pages.rt")) as file:
+        cases.equal("the source of the pages", file.read(), first_pages.source(whole))
+
+
+def ran_of(it, words):
+    done = subprocess.run([it, *words], input=TEXT, capture_output=True, timeout=60)
+    return done.stdout, done.stderr, done.returncode
+
+
+def either(cases):
+    """What both programs do."""
+    ran = program.run(TEXT, "tidy")
+    cases.equal("tidy", (ran.out, ran.err, ran.status), (HEADER + TEXT, b"", 0))
+    asked_for(cases)
+    registry_help(cases)
+    files_that_fail(cases)
+
+
 def run(cases):
     whole = program.PROGRAM
-    for it in (whole, program.SMALL):
-        program.PROGRAM = it
-        ran = program.run(TEXT, "tidy")
-        cases.equal("tidy", (ran.out, ran.err, ran.status), (HEADER + TEXT, b"", 0))
-        asked_for(cases)
-        wrong_words(cases)
-        registry_words(cases)
-        files_that_fail(cases)
+    either(cases)
+    wrong_words(cases)
+    registry_words(cases)
+    program.PROGRAM = program.FIRST
+    either(cases)
     left_alone(cases)
     program.PROGRAM = whole
+    alike(cases, program.WHOLE, program.FIRST)

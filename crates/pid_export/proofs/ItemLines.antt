@@ -2,12 +2,12 @@
 use Rattle.std.proofs.Common.{◌≡◌, ℕ, List, [], ◌∷◌, ◌++◌, map, Option, reverse, refl, sym, ap, subst, ◌∙◌, append_assoc}
 use Rattle.std.proofs.lemmas.List.{map-append, reverse-append}
 use Rattle.std.specs.Io.KnownBytes.{Appends}
-use Rattle.pid_ident.proofs.SendingLemmas.{Appends-nil, Appends-then}
+use Rattle.pid_file.proofs.SendingLemmas.{Appends-nil, Appends-then}
 use Rattle.pid_moderation.specs.Items.{Items}
 use Rattle.pid_reader.specs.Numbered.{Numbered, item_in}
 use Rattle.pid_reader.specs.Sinks.{Took}
 use Rattle.pid_tree.specs.Printing.{ended, lines_behind, text_or_none}
-use Rattle.pid_tree.proofs.Written.{ended-append, lines-first}
+use Rattle.pid_file.proofs.Written.{ended-append, lines-first}
 use Rattle.pid_export.specs.ExportSinks.{PrintsItem}
 use Rattle.pid_export.specs.declared.sink.ExportSink.{ExportSink}
 

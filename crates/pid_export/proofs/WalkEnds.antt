@@ -3,9 +3,9 @@ use Rattle.std.proofs.Common.{◌≡◌, ℕ, ◌+◌, List, [], ◌∷◌, ◌+
 use Rattle.std.proofs.lemmas.List.{map-append, reverse-reverse}
 use Rattle.std.specs.Io.KnownBytes.{Appends}
 use Rattle.pid_ident.specs.Sending.{SendsFront}
-use Rattle.pid_ident.specs.declared.io.WriteFault.{WriteFault}
-use Rattle.pid_ident.specs.declared.path.Path.{Path}
-use Rattle.pid_ident.proofs.SendingLemmas.{Appends-nil, Appends-then, stopped}
+use Rattle.pid_file.specs.declared.io.WriteFault.{WriteFault}
+use Rattle.pid_file.specs.declared.path.Path.{Path}
+use Rattle.pid_file.proofs.SendingLemmas.{Appends-nil, Appends-then, stopped}
 use Rattle.pid_moderation.specs.Items.{Items}
 use Rattle.pid_rows.specs.declared.fault.TableFault.{TableFault}
 use Rattle.pid_reader.specs.Numbered.{Numbered, item_in}

@@ -1,6 +1,6 @@
 -- Serves private functions alone; no promise rests on it.
 -- How a walk over items that are written ends an export.
-use Rattle.pid_ident.specs.declared.io.WriteFault.{WriteFault}
+use Rattle.pid_file.specs.declared.io.WriteFault.{WriteFault}
 use Rattle.pid_table_lists.specs.declared.walk.EachEnd.{EachEnd}
 use Rattle.pid_table_lists.specs.declared.walk.EachEnd.TheVariants as walks
 use Rattle.pid_export.specs.declared.exporting.ExportEnd.{ExportEnd}

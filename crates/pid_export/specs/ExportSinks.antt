@@ -3,7 +3,7 @@
 use Rattle.std.specs.Prelude.{◌≡◌, ℕ, List, [], ◌∷◌, Option, Some}
 use Rattle.std.specs.Io.KnownBytes.{Appends}
 use Rattle.pid_ident.specs.Sending.{SendsFront}
-use Rattle.pid_ident.specs.declared.io.WriteFault.{WriteFault}
+use Rattle.pid_file.specs.declared.io.WriteFault.{WriteFault}
 use Rattle.pid_reader.specs.Numbered.{Numbered, item_in}
 use Rattle.pid_tree.specs.Printing.{ended, lines_behind, text_or_none}
 use Rattle.pid_export.specs.declared.sink.ExportSink.{ExportSink}

@@ -3,7 +3,7 @@ ghost use Rattle.std.specs.Prelude.{◌≡◌, false, Err, Some};
 ghost use Rattle.pid_export.specs.EndsOfWalks.{export_end};
 ghost use Rattle.pid_export.specs.Exports.{Exports};
 ghost use Rattle.pid_export.specs.declared.exporting.ExportEnd.TheVariants as ends;
-ghost use Rattle.pid_ident.specs.declared.io.WriteFault.{WriteFault as OutputFault};
+ghost use Rattle.pid_file.specs.declared.io.WriteFault.{WriteFault as OutputFault};
 ghost use Rattle.pid_moderation.specs.Views.{Views};
 ghost use Rattle.pid_rows.specs.Causes.{IsReadable};
 ghost use Rattle.pid_rows.specs.Clauses.{AtRest, HasCleanDisk, IsCaused, OnlyReads};

@@ -7,7 +7,7 @@ use Rattle.sqlite_trees.specs.declared.store.Store.{Ghosts}
 use Rattle.pid_export.proofs.ItemLines.{last_path, text_behind, text_joined}
 use Rattle.pid_export.specs.ItemTexts.{text_of_items}
 use Rattle.pid_ident.specs.Sending.{SendsFront}
-use Rattle.pid_ident.specs.declared.io.WriteFault.{WriteFault}
+use Rattle.pid_file.specs.declared.io.WriteFault.{WriteFault}
 use Rattle.pid_lives.specs.Calls.{AreNothing}
 use Rattle.pid_moderation.specs.History.{History}
 use Rattle.pid_moderation.specs.Items.{Items}

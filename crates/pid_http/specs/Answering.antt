@@ -1,7 +1,7 @@
 -- The answers to what requests come to, and the history behind them. Choices of this project.
 use Rattle.std.specs.Prelude.{◌≡◌, ◌⊎◌, ℕ, List, Option, Some, None, Result, Ok, Err, if◌then◌else◌}
 use Rattle.pid_ident.specs.PathTexts.{path_text}
-use Rattle.pid_ident.specs.declared.path.Path.{Path}
+use Rattle.pid_file.specs.declared.path.Path.{Path}
 use Rattle.pid_lookup.specs.declared.answer.Answer.{Answer as Found}
 use Rattle.pid_lookup.specs.declared.answering.LookupRefusal.{LookupRefusal}
 use Rattle.pid_lookup.specs.declared.answering.LookupRefusal.TheVariants as look_ups

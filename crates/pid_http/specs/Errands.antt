@@ -1,6 +1,6 @@
 -- What a request comes to: an answer that is known without the registry, or something that it is asked for. Choices of this project.
 use Rattle.std.specs.Prelude.{ℕ, List, Option, Some, None, Result, Ok, Err}
-use Rattle.pid_ident.specs.declared.path.Path.{Path}
+use Rattle.pid_file.specs.declared.path.Path.{Path}
 use Rattle.pid_import.specs.Files.{asks, file_reading}
 use Rattle.pid_moderation.specs.BeforeFile.{import_of}
 use Rattle.pid_moderation.specs.History.{Asked}

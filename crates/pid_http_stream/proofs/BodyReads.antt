@@ -4,8 +4,8 @@ use Rattle.std.specs.Prelude.{option_map, min, IfSome, IsSome, is_some, false}
 use Rattle.std.specs.Io.KnownBytes.{Consumes, IsAtEnd, Keeps}
 use Rattle.std.proofs.KnownBytes.{Consumes-nil, Consumes-trans}
 use Rattle.std.proofs.lemmas.List.{take-append-le, take_all, append-nil}
-use Rattle.pid_ident.specs.Reading.{StaysKept}
-use Rattle.pid_ident.specs.declared.io.ReadFault.{ReadFault}
+use Rattle.pid_ident.specs.InputCalls.{StaysKept}
+use Rattle.pid_file.specs.declared.io.ReadFault.{ReadFault}
 use Rattle.pid_http_stream.specs.Bodies.{padded, Turns, SpendsTurns, BodyState, IsCauseOf, HasBrokenOff, IsTold, IsWithinBody, HasReadBody}
 use Rattle.pid_http_stream.specs.BodyLaws.{no_turns, stays_kept}
 use Rattle.pid_http_stream.specs.MomentLaws.{since_none, since_so}

@@ -2,9 +2,9 @@
 -- A reader of a request's body, and what reads leave of it.
 use Rattle.std.specs.Prelude.{◌≡◌, ℕ, zero, suc, ◌+◌, ◌-◌, ◌^◌, ◌<◌, ◌≤◌, List, [], ◌∷◌, ◌++◌, length, Option, Some, None, IfSome, IsSome}
 use Rattle.std.specs.Io.KnownBytes.{Consumes, IsAtEnd}
-use Rattle.pid_ident.specs.declared.io.ReadFault.{ReadFault}
-use Rattle.pid_ident.specs.declared.io.ReadFault.TheVariants.{Device}
-use Rattle.pid_ident.specs.Reading.{StaysKept}
+use Rattle.pid_file.specs.declared.io.ReadFault.{ReadFault}
+use Rattle.pid_file.specs.declared.io.ReadFault.TheVariants.{Device}
+use Rattle.pid_ident.specs.InputCalls.{StaysKept}
 use Rattle.pid_http_stream.specs.Moments.{Moment, AllSince}
 use Rattle.pid_http_stream.specs.declared.body_input.BodyFault.{BodyFault}
 use Rattle.pid_http_stream.specs.declared.body_input.BodyFault.TheVariants as faults

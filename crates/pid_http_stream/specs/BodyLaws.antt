@@ -2,7 +2,7 @@
 use Rattle.std.proofs.Common.{◌≡◌, ℕ, ◌+◌, List, [], ◌++◌, Option, Some, None, refl, sym, ap, ◌∙◌, append_assoc, length, length-append, arith}
 use Rattle.std.proofs.lemmas.List.{append-nil}
 use Rattle.std.proofs.KnownBytes.{Consumes-nil, Consumes-trans}
-use Rattle.pid_ident.specs.Reading.{StaysKept}
+use Rattle.pid_ident.specs.InputCalls.{StaysKept}
 use Rattle.pid_http_stream.specs.Bodies.{Turns, SpendsTurns, BodyState, IsWithinBody, HasReadBody}
 use Rattle.pid_http_stream.specs.MomentLaws.{since_none, since_then, since_so}
 use Rattle.pid_http_stream.specs.Moments.{Moment}

@@ -10,7 +10,7 @@ use pid_ident::{Input, Output, ReadFault};
 /// So one that keeps account of these moments tells when replies go out. Each `Input` is one that keeps none.
 pub trait Incoming<W: Output> {
     ghost use Rattle.std.specs.Prelude.{ℕ, List, Option, None};
-    ghost use Rattle.pid_ident.specs.declared.io.ReadFault.{ReadFault};
+    ghost use Rattle.pid_file.specs.declared.io.ReadFault.{ReadFault};
     ghost use Rattle.pid_http_stream.specs.Moments.{Moment};
 
     /// The bytes to come, where they are known.

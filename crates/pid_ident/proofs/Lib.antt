@@ -1,5 +1,2 @@
-pub mod PathOrder
 pub mod Parsing
-pub mod WordTests
-pub mod SendingLemmas
 pub mod PathReadingLemmas

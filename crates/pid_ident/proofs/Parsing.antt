@@ -1,10 +1,10 @@
 -- Which texts are no paths, by what stands behind their first parts.
 use Rattle.std.proofs.Common.{◌≡◌, ℕ, ◌<◌, ◌^◌, List, [], ◌∷◌, ◌++◌, drop, sym, ap, ◌∙◌, arith}
-use Rattle.pid_ident.specs.declared.path.Path.{Path}
-use Rattle.pid_ident.specs.declared.path.Path.TheVariants.{Vendor, Device, Subsystem, Class, Subclass, ProgIf, Generic}
-use Rattle.pid_ident.specs.PathTexts.{IsPath, parts_of, slashed}
-use Rattle.pid_ident.specs.PathPlaces.{letter_of}
-use Rattle.pid_ident.specs.Identifiers.{hex4}
+use Rattle.pid_file.specs.declared.path.Path.{Path}
+use Rattle.pid_file.specs.declared.path.Path.TheVariants.{Vendor, Device, Subsystem, Class, Subclass, ProgIf, Generic}
+use Rattle.pid_file.specs.PathTexts.{IsPath, parts_of, slashed}
+use Rattle.pid_file.specs.PathPlaces.{letter_of}
+use Rattle.pid_file.specs.Identifiers.{hex4}
 
 -- no slash with four digits
 abbrev pub NoPart4 : List ℕ → Type 0

@@ -6,9 +6,9 @@ use Rattle.std.specs.Option.{IfSome, IfNone, option_map}
 use Rattle.std.specs.Str.{bytes_eq}
 use Rattle.std.proofs.lemmas.Bool.Decides.{nat_tests}
 use Rattle.std.proofs.lemmas.Slice.Eq.{bytes_eq-Decides}
-use Rattle.pid_ident.specs.declared.path.Path.{Path}
-use Rattle.pid_ident.specs.declared.path.Path.TheVariants.{Vendor, Device, Subsystem, Class, Subclass, ProgIf, Generic}
-use Rattle.pid_ident.specs.PathTexts.{IsPath, IsTextOf, path_text, parent_of}
+use Rattle.pid_file.specs.declared.path.Path.{Path}
+use Rattle.pid_file.specs.declared.path.Path.TheVariants.{Vendor, Device, Subsystem, Class, Subclass, ProgIf, Generic}
+use Rattle.pid_file.specs.PathTexts.{IsPath, IsTextOf, path_text, parent_of}
 use Rattle.pid_ident.specs.PathReading.{hex_value, two_at, four_at, candidate, if_its_text, path_of, parent_text}
 
 hex_value-digit_char : (x : ℕ) → x < 16 → hex_value (digit_char x) ≡ x

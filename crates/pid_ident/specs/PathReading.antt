@@ -2,9 +2,9 @@
 -- says that `path_of` gives the one path whose text it is, and `parent_text` the text of that path's parent.
 use Rattle.std.specs.Prelude.{ℕ, ◌+◌, ◌-◌, ◌*◌, ◌%◌, ◌==◌, ◌++◌, nat_le, if◌then◌else◌, List, length, take, drop, slice_index, Option, Some, None, codes}
 use Rattle.std.specs.Str.{bytes_eq}
-use Rattle.pid_ident.specs.declared.path.Path.{Path}
-use Rattle.pid_ident.specs.declared.path.Path.TheVariants.{Vendor, Device, Subsystem, Class, Subclass, ProgIf, Generic}
-use Rattle.pid_ident.specs.PathTexts.{path_text}
+use Rattle.pid_file.specs.declared.path.Path.{Path}
+use Rattle.pid_file.specs.declared.path.Path.TheVariants.{Vendor, Device, Subsystem, Class, Subclass, ProgIf, Generic}
+use Rattle.pid_file.specs.PathTexts.{path_text}
 
 -- the value of a lower-case hex digit
 abbrev pub hex_value : ℕ → ℕ

@@ -1,10 +1,9 @@
 //! Accounts.
 ghost use Rattle.std.specs.Prelude.{◌≡◌, ◌↔◌, false, IsTrue, IfOk, IsErrOf};
 ghost use Rattle.std.specs.List.{list_all};
-ghost use Rattle.pid_ident.specs.Words.{is_account as account_test, is_account_byte as account_byte};
+ghost use Rattle.pid_file.specs.Words.{is_account as account_test, is_account_byte as account_byte};
 
-use crate::bytes::is_empty;
-use crate::word_fault::WordFault;
+use pid_file::{WordFault, is_empty};
 use std::alloc::{AllocError, Global};
 use std::marker::Model;
 
@@ -16,7 +15,7 @@ pub struct Account {
 
 impl Model for Account {
     ghost use Rattle.std.specs.Prelude.{ℕ, List, string_bytes, IsTrue};
-    ghost use Rattle.pid_ident.specs.Words.{is_account};
+    ghost use Rattle.pid_file.specs.Words.{is_account};
 
     ghost Value = { List ℕ };
 

@@ -3,9 +3,9 @@ ghost use Rattle.std.specs.Prelude.{◌≡◌, ◌↔◌, ℕ, ◌+◌, ◌-◌,
 ghost use Rattle.std.specs.Prelude.{None, Some, Err, IfOk, IfErr, IfSome, MatchResult, is_err};
 ghost use Rattle.std.specs.Io.KnownBytes.{ReadConsumes, WriteAppends};
 ghost use Rattle.pid_ident.specs.Doubles.{calls_left, fails, one_less};
-ghost use Rattle.pid_ident.specs.Reading.{HasReadOn, HasNoMore};
+ghost use Rattle.pid_file.specs.InputCalls.{HasReadOn, HasNoMore};
 
-use crate::io::{Input, Output, ReadFault, WriteFault};
+use pid_file::{Input, Output, ReadFault, WriteFault};
 use std::alloc::Global;
 
 /// A reader of given bytes, for tests: each call moves at most some bytes, and from one call on each fails.
@@ -57,7 +57,7 @@ impl<'a> FaultyInput<'a> {
 
 impl Input for FaultyInput<'_> {
     ghost use Rattle.std.proofs.Common.{refl, ◌∙◌};
-    ghost use Rattle.pid_ident.specs.ReadingLaws.{no_reads, more_reads, no_more_stays, no_more_then};
+    ghost use Rattle.pid_file.specs.ReadingLaws.{no_reads, more_reads, no_more_stays, no_more_then};
 
     ghost to_come = { λ i. Some i.rest.now };
 

@@ -1,10 +1,10 @@
 //! Laws of the definitions. Each is the contract of a function that does nothing.
 ghost use Rattle.std.specs.Prelude.{◌≡◌, ◌↔◌, ℕ, List, Some};
 ghost use Rattle.std.specs.Option.{option_map};
-ghost use Rattle.pid_ident.specs.PathTexts.{IsTextOf, path_text, parent_of};
+ghost use Rattle.pid_file.specs.PathTexts.{IsTextOf, path_text, parent_of};
 ghost use Rattle.pid_ident.specs.PathReading.{path_of, parent_text};
 
-use crate::path::Path;
+use pid_file::Path;
 
 /// What a text reads to is the path whose text it is; any other text reads to none.
 pub fn texts_have_one_path()

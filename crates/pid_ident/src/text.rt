@@ -1,9 +1,8 @@
 //! Notes, comments and reasons.
 ghost use Rattle.std.specs.Prelude.{◌≡◌, ◌↔◌, false, IsTrue, IfOk, IsErrOf};
-ghost use Rattle.pid_ident.specs.Words.{is_text as text_test};
+ghost use Rattle.pid_file.specs.Words.{is_text as text_test};
 
-use crate::bytes::are_printed;
-use crate::word_fault::WordFault;
+use pid_file::{WordFault, are_printed};
 use std::alloc::{AllocError, Global};
 use std::marker::Model;
 
@@ -15,7 +14,7 @@ pub struct Text {
 
 impl Model for Text {
     ghost use Rattle.std.specs.Prelude.{ℕ, List, string_bytes, IsTrue};
-    ghost use Rattle.pid_ident.specs.Words.{is_text};
+    ghost use Rattle.pid_file.specs.Words.{is_text};
 
     ghost Value = { List ℕ };
 

@@ -7,7 +7,7 @@ use Rattle.std.proofs.lemmas.Bool.{false≢true}
 use Rattle.std.specs.FinMap.{slice_cmp-IsAntisymmetric, nat_cmp-IsAntisymmetric}
 use Rattle.std.specs.declared.cmp.Ordering.{Ordering}
 use Rattle.std.specs.declared.cmp.Ordering.TheVariants.{Less, Equal, Greater}
-use Rattle.pid_ident.specs.declared.path.Path.{Path}
+use Rattle.pid_file.specs.declared.path.Path.{Path}
 use Rattle.pid_ident.specs.PathTexts.{IsTextOf, path_text, parent_of}
 use Rattle.pid_ident.specs.PathReading.{parent_text}
 use Rattle.pid_ident.specs.Trees.{text_cmp}

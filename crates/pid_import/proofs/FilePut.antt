@@ -1,9 +1,9 @@
 -- A whole file put, by what became of the sink.
 use Rattle.std.proofs.Common.{◌≡◌, ◌⊎◌, ℕ, inl, inr, List, [], ◌∷◌, map, Option, Result, Ok, Err, refl, subst, ap, ◌∙◌}
 use Rattle.std.specs.declared.alloc.Global.{Global}
-use Rattle.pid_reader.specs.declared.sink.CutEnd.TheVariants.{Refused, Fault}
-use Rattle.pid_reader.specs.declared.whole_input.InputEnd.{InputEnd}
-use Rattle.pid_reader.specs.declared.whole_input.InputEnd.TheVariants.{ReadFault, TooLong, Cut}
+use Rattle.pid_file.specs.declared.sink.CutEnd.TheVariants.{Refused, Fault}
+use Rattle.pid_file.specs.declared.whole_input.InputEnd.{InputEnd}
+use Rattle.pid_file.specs.declared.whole_input.InputEnd.TheVariants.{ReadFault, TooLong, Cut}
 use Rattle.pid_reader.specs.Lines.{lines_of}
 use Rattle.pid_reader.specs.LookingBack.{Item}
 use Rattle.pid_reader.specs.Numbered.{Numbered, item_in, numbered_of}

@@ -7,7 +7,7 @@ use Rattle.sqlite_trees.specs.declared.store.Store.{Ghosts}
 use Rattle.pid_reader.specs.LookingBack.{Item}
 use Rattle.pid_reader.specs.Lines.{lines_of}
 use Rattle.pid_reader.specs.Reading.{entries_of}
-use Rattle.pid_reader.specs.declared.whole_input.InputEnd.{InputEnd}
+use Rattle.pid_file.specs.declared.whole_input.InputEnd.{InputEnd}
 use Rattle.pid_moderation.specs.Views.{Views}
 use Rattle.pid_rows.specs.declared.fault.TableFault.{TableFault}
 use Rattle.pid_rows.specs.Leaves.{Holds, Within}

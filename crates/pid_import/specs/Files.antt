@@ -1,7 +1,7 @@
 -- What the file of an import reads to, and what a command asks with it: choices of this project.
 use Rattle.std.specs.Prelude.{ℕ, List, [], length, nat_lt, if◌then◌else◌, Option, Some, None}
-use Rattle.pid_reader.specs.declared.refusal.ReadRefusal.{ReadRefusal}
-use Rattle.pid_reader.specs.declared.refusal.ReadRefusal.TheVariants as reads
+use Rattle.pid_file.specs.declared.refusal.ReadRefusal.{ReadRefusal}
+use Rattle.pid_file.specs.declared.refusal.ReadRefusal.TheVariants as reads
 use Rattle.pid_reader.specs.Lines.{lines_of}
 use Rattle.pid_reader.specs.Reading.{entries_of, refused}
 use Rattle.pid_moderation.specs.declared.command.Act.{Act}

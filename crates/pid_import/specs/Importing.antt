@@ -3,10 +3,10 @@ use Rattle.std.specs.Prelude.{◌≡◌, ◌≢◌, ◌⊎◌, ◌+◌, ◌≤�
 use Rattle.sqlite.specs.State.{State}
 use Rattle.pid_reader.specs.Lines.{lines_of}
 use Rattle.pid_reader.specs.Reading.{entries_of, refused}
-use Rattle.pid_reader.specs.declared.refusal.ReadRefusal.TheVariants as reads
-use Rattle.pid_reader.specs.declared.sink.CutEnd.TheVariants as cuts
-use Rattle.pid_reader.specs.declared.whole_input.InputEnd.{InputEnd}
-use Rattle.pid_reader.specs.declared.whole_input.InputEnd.TheVariants as ends
+use Rattle.pid_file.specs.declared.refusal.ReadRefusal.TheVariants as reads
+use Rattle.pid_file.specs.declared.sink.CutEnd.TheVariants as cuts
+use Rattle.pid_file.specs.declared.whole_input.InputEnd.{InputEnd}
+use Rattle.pid_file.specs.declared.whole_input.InputEnd.TheVariants as ends
 use Rattle.pid_reader.specs.WholeInputs.{IsWhole}
 use Rattle.pid_moderation.specs.declared.change.Change.{Change}
 use Rattle.pid_moderation.specs.declared.command.Reply.{Reply}

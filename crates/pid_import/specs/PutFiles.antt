@@ -1,10 +1,10 @@
 -- Serves private functions alone; no promise rests on it.
 -- What putting a whole file does.
 use Rattle.std.specs.Prelude.{◌≡◌, ◌⊎◌, ◌+◌, ◌≤◌, ℕ, List, [], ◌∷◌, length, Option, Some, None, Result, Ok, Err}
-use Rattle.pid_reader.specs.declared.refusal.ReadRefusal.TheVariants.{Memory}
-use Rattle.pid_reader.specs.declared.sink.CutEnd.TheVariants.{Refused, Fault}
-use Rattle.pid_reader.specs.declared.whole_input.InputEnd.{InputEnd}
-use Rattle.pid_reader.specs.declared.whole_input.InputEnd.TheVariants.{ReadFault, TooLong, Cut}
+use Rattle.pid_file.specs.declared.refusal.ReadRefusal.TheVariants.{Memory}
+use Rattle.pid_file.specs.declared.sink.CutEnd.TheVariants.{Refused, Fault}
+use Rattle.pid_file.specs.declared.whole_input.InputEnd.{InputEnd}
+use Rattle.pid_file.specs.declared.whole_input.InputEnd.TheVariants.{ReadFault, TooLong, Cut}
 use Rattle.pid_reader.specs.Lines.{lines_of}
 use Rattle.pid_reader.specs.LookingBack.{Item}
 use Rattle.pid_reader.specs.Reading.{entries_of, refused}

@@ -1,7 +1,7 @@
 -- Worked lives, by computation.
 use Rattle.std.proofs.Common.{◌≡◌, ℕ, Bool, true, false, List, [], ◌∷◌, Some, None, Ok, Err, refl}
 use Rattle.std.specs.Prelude.{codes}
-use Rattle.pid_ident.specs.declared.path.Path.TheVariants.{Vendor}
+use Rattle.pid_file.specs.declared.path.Path.TheVariants.{Vendor}
 use Rattle.pid_moderation.specs.declared.command.Proposal.TheVariants.{Name}
 use Rattle.pid_moderation.specs.declared.command.Reply.TheVariants.{Done, Numbered}
 use Rattle.pid_moderation.specs.declared.rank.Rank.TheVariants.{Contributor}

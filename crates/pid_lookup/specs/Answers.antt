@@ -1,7 +1,7 @@
 -- The answer of a look-up: libpci's pci_lookup_name over a map of names.
 use Rattle.std.specs.Prelude.{◌≡◌, ℕ, not, ◌||◌, List, ◌++◌, Option, Some, None, codes}
-use Rattle.pid_ident.specs.declared.path.Path.{Path}
-use Rattle.pid_ident.specs.declared.path.Path.TheVariants.{Vendor, Device}
+use Rattle.pid_file.specs.declared.path.Path.{Path}
+use Rattle.pid_file.specs.declared.path.Path.TheVariants.{Vendor, Device}
 use Rattle.pid_ident.specs.Identifiers.{hex4, hex2}
 use Rattle.pid_ident.specs.Trees.{TreeMap}
 use Rattle.pid_lookup.specs.declared.args.Args.{Args}

@@ -1,8 +1,8 @@
 -- The paths that a look-up is about, as the cases of libpci's pci_lookup_name ask for them.
 use Rattle.std.specs.Prelude.{◌≡◌, ℕ, Bool, true, false, List, [], ◌∷◌, Some}
 use Rattle.std.specs.List.{All, Any}
-use Rattle.pid_ident.specs.declared.path.Path.{Path}
-use Rattle.pid_ident.specs.declared.path.Path.TheVariants.{Vendor, Device, Subsystem, Class, Subclass, ProgIf, Generic}
+use Rattle.pid_file.specs.declared.path.Path.{Path}
+use Rattle.pid_file.specs.declared.path.Path.TheVariants.{Vendor, Device, Subsystem, Class, Subclass, ProgIf, Generic}
 use Rattle.pid_ident.specs.Trees.{TreeMap}
 use Rattle.pid_lookup.specs.declared.args.Args.{Args}
 use Rattle.pid_lookup.specs.declared.flags.Request.{Request}

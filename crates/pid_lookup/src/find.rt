@@ -1,6 +1,6 @@
 //! The names that a request is about.
 ghost use Rattle.std.specs.Prelude.{◌≡◌, ◌&&◌, ◌==◌, not, nat_lt, IfOk, IfErr, IsSome};
-ghost use Rattle.pid_ident.specs.declared.path.Path.TheVariants as paths;
+ghost use Rattle.pid_file.specs.declared.path.Path.TheVariants as paths;
 ghost use Rattle.pid_lookup.specs.Found.{name_in, where_true, subsystem_name, class_byte as class_half, subclass_byte as subclass_half};
 ghost use Rattle.pid_lookup.specs.Flags.{has};
 ghost use Rattle.pid_lookup.specs.Holders.{Keeps};

@@ -6,8 +6,8 @@ use Rattle.std.specs.FinMap.{get, get-from_sorted}
 use Rattle.pid_ident.specs.PathTexts.{IsTextOf, path_text, parent_of}
 use Rattle.pid_ident.specs.Trees.{IsTree, text_cmp}
 use Rattle.pid_ident.specs.Words.{is_name}
-use Rattle.pid_ident.specs.declared.path.Path.{Path}
-use Rattle.pid_ident.specs.declared.path.Path.TheVariants.{Vendor, Device, Subsystem, Class, Subclass, ProgIf, Generic}
+use Rattle.pid_file.specs.declared.path.Path.{Path}
+use Rattle.pid_file.specs.declared.path.Path.TheVariants.{Vendor, Device, Subsystem, Class, Subclass, ProgIf, Generic}
 use Rattle.pid_moderation.specs.History.{Asked, Begins, History}
 use Rattle.pid_moderation.specs.Items.{Items, name_at}
 use Rattle.pid_moderation.specs.Views.{items_of}

@@ -1,8 +1,8 @@
 -- Worked rows, by computation.
 use Rattle.std.proofs.Common.{◌≡◌, ℕ, List, [], ◌∷◌, ◌++◌, Some, None, refl}
 use Rattle.std.specs.Prelude.{codes, map, Result, Ok, Err}
-use Rattle.pid_ident.specs.declared.path.Path.TheVariants.{Vendor, Device}
-use Rattle.pid_ident.specs.declared.line_kind.LineKind.TheVariants.{Duplicate}
+use Rattle.pid_file.specs.declared.path.Path.TheVariants.{Vendor, Device}
+use Rattle.pid_file.specs.declared.line_kind.LineKind.TheVariants.{Duplicate}
 use Rattle.pid_moderation.specs.declared.command.Proposal.TheVariants.{Name, Removal}
 use Rattle.pid_moderation.specs.declared.command.Reply.{Reply}
 use Rattle.pid_moderation.specs.declared.command.Reply.TheVariants.{Done, Numbered, Counts}

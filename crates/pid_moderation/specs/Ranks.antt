@@ -1,7 +1,7 @@
 -- Ranks of accounts, and what a decision on a proposal needs: choices of this project.
 use Rattle.std.specs.Prelude.{ℕ, Bool, true, false, nat_le, ◌==◌, Option, Some, None}
-use Rattle.pid_ident.specs.declared.path.Path.{Path}
-use Rattle.pid_ident.specs.declared.path.Path.TheVariants.{Vendor, Device, Subsystem, Class, Subclass, ProgIf, Generic}
+use Rattle.pid_file.specs.declared.path.Path.{Path}
+use Rattle.pid_file.specs.declared.path.Path.TheVariants.{Vendor, Device, Subsystem, Class, Subclass, ProgIf, Generic}
 use Rattle.pid_moderation.specs.declared.rank.Rank.{Rank}
 use Rattle.pid_moderation.specs.declared.rank.Rank.TheVariants.{Contributor, Moderator, Senior, Administrator}
 

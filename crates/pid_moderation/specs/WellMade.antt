@@ -2,7 +2,7 @@
 use Rattle.std.specs.Prelude.{◌≡◌, ℕ, ◌≤◌, true, List, [], ◌∷◌, Option, Some, None, is_some, length}
 use Rattle.pid_ident.specs.PathTexts.{IsPath, IsTextOf}
 use Rattle.pid_ident.specs.Words.{is_name, is_text, is_account, is_key}
-use Rattle.pid_ident.specs.declared.path.Path.{Path}
+use Rattle.pid_file.specs.declared.path.Path.{Path}
 use Rattle.pid_moderation.specs.declared.command.Proposal.{Proposal}
 use Rattle.pid_moderation.specs.declared.command.Proposal.TheVariants.{Name, Removal}
 use Rattle.pid_moderation.specs.History.{Reading, Deed, Ranks, Submits, Comments, Withdraws, Approves, Rejects, Imports, Asked}

@@ -14,7 +14,7 @@ use crate::fields::{
 };
 use crate::refusal::Refusal;
 use crate::verb::Verb;
-use pid_ident::Path;
+use pid_ident::{Path, PathText};
 use std::alloc::Global;
 
 fn has_fields(verb: Verb, fields: &[(String, String)]) -> bool

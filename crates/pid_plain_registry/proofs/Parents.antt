@@ -1,7 +1,7 @@
 -- The items below a path, by the texts of their paths.
 use Rattle.std.proofs.Common.{◌≡◌, ℕ, refl, List, [], ◌∷◌, ap, map, ◌||◌}
 use Rattle.std.specs.List.{list_any}
-use Rattle.pid_ident.specs.declared.path.Path.{Path}
+use Rattle.pid_file.specs.declared.path.Path.{Path}
 use Rattle.pid_ident.specs.PathReading.{parent_text}
 use Rattle.pid_ident.specs.PathTexts.{path_text}
 use Rattle.pid_moderation.specs.Items.{is_parent, has_children}

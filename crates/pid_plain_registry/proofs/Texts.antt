@@ -10,7 +10,7 @@ use Rattle.std.specs.Cmp.{on_total}
 use Rattle.std.specs.FinMap.Entries.{find as value_at, put, by_order, where_key}
 use Rattle.std.proofs.lemmas.Cmp.{nat_list_cmp_total, eq_by_cmp_equiv}
 use Rattle.std.proofs.lemmas.Map.Keys.{IsDistinct-from_sorted, IsDistinct-head, IsDistinct-tail}
-use Rattle.pid_ident.specs.declared.path.Path.{Path}
+use Rattle.pid_file.specs.declared.path.Path.{Path}
 use Rattle.pid_ident.specs.PathTexts.{path_text, path_cmp}
 use Rattle.pid_ident.specs.Trees.{text_cmp}
 use Rattle.pid_plain_registry.specs.Shown.{item_of}

@@ -2,7 +2,7 @@
 use Rattle.std.specs.Prelude.{ℕ, List, map, fold}
 use Rattle.std.specs.BTreeMap.{BTreeMap}
 use Rattle.pid_ident.specs.PathTexts.{path_text}
-use Rattle.pid_ident.specs.declared.path.Path.{Path}
+use Rattle.pid_file.specs.declared.path.Path.{Path}
 use Rattle.pid_moderation.specs.declared.command.Command.{Command}
 use Rattle.pid_moderation.specs.History as histories
 use Rattle.pid_moderation.specs.History.{More, History, Reading, Asked, asked, new_history}

@@ -1,5 +1,5 @@
 //! What each command is answered over facts, row by row.
-use pid_ident::{Account, LineKind, Name, Path, Text};
+use pid_ident::{Account, LineKind, Name, Path, PathText, Text};
 use pid_moderation::{
     Act, Facts, FileFault, Named, Proposal, Rank, Refusal, Reply, State, Verdict, before_file,
     breaks_form, decide, reply_line,

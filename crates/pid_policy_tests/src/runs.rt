@@ -1,5 +1,5 @@
 //! Worked runs of the plain registry. A row is a command with its reply, or `items` with what the registry holds.
-use pid_ident::{Account, LineKind, Name, Path};
+use pid_ident::{Account, LineKind, Name, Path, PathText};
 use pid_moderation::{Command, FileFault, Rank, Refusal, Reply, Verb, reply_line};
 use pid_plain_registry::{FileReading, PlainRegistry};
 use pid_test_rows::{command_by, command_in, fields_of};

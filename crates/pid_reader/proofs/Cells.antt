@@ -3,9 +3,9 @@ use Rattle.std.proofs.Common.{◌≡◌, ℕ, ◌/◌, ◌%◌, ◌<◌, true, f
 use Rattle.std.specs.Char.{digit_char, to_ascii_lowercase}
 use Rattle.std.proofs.lemmas.Bool.{cases_lt}
 use Rattle.std.proofs.lemmas.Bool.Decides.{nat_tests}
-use Rattle.pid_ident.specs.Bytes.{is_blank}
-use Rattle.pid_reader.specs.Columns.{is_hex}
-use Rattle.pid_reader.specs.Marks.{is_capital}
+use Rattle.pid_file.specs.Bytes.{is_blank}
+use Rattle.pid_file.specs.Columns.{is_hex}
+use Rattle.pid_file.specs.Marks.{is_capital}
 
 -- a byte that is a lower-case hex digit
 pub record IsDigit (c : ℕ) : Type 0 where

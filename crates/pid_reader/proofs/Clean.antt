@@ -5,13 +5,13 @@ use Rattle.std.specs.Prelude.{IsSome, is_some, unwrap_or}
 use Rattle.std.specs.FinMap.Entries.{find as value_at}
 use Rattle.std.specs.Ordering.{is_eq}
 use Rattle.std.proofs.lemmas.Bool.Decides.{nat_tests}
-use Rattle.pid_ident.specs.declared.line_kind.LineKind.{LineKind}
-use Rattle.pid_ident.specs.declared.line_kind.LineKind.TheVariants.{NotUtf8, TooDeep, NoParent, BadId, NoName, BadName, Duplicate, VendorMissing}
-use Rattle.pid_reader.specs.Marks.{is_idle, depth}
-use Rattle.pid_reader.specs.Faults.{has, fault_of}
-use Rattle.pid_reader.specs.Reading.{AreGood}
-use Rattle.pid_reader.specs.LookingBack.{is_above, above, entries_back, is_entry, path_at, name_at}
-use Rattle.pid_ident.specs.Trees.{text_cmp}
+use Rattle.pid_file.specs.declared.line_kind.LineKind.{LineKind}
+use Rattle.pid_file.specs.declared.line_kind.LineKind.TheVariants.{NotUtf8, TooDeep, NoParent, BadId, NoName, BadName, Duplicate, VendorMissing}
+use Rattle.pid_file.specs.Marks.{is_idle, depth}
+use Rattle.pid_file.specs.Faults.{has, fault_of}
+use Rattle.pid_file.specs.Reading.{AreGood}
+use Rattle.pid_file.specs.LookingBack.{is_above, above, entries_back, is_entry, path_at, name_at}
+use Rattle.pid_file.specs.Trees.{text_cmp}
 
 cond_none : (b : Bool) (k : LineKind) (r : Option LineKind) → cond b (Some k) r ≡ None → (b ≡ false) × (r ≡ None)
 cond_none true k r h = absurd (true≢false (ap is_some h))

@@ -4,8 +4,8 @@ use mathlib.Core.Bool.{false≢true}
 use Rattle.std.specs.Char.{digit_value, digit_char, to_ascii_lowercase}
 use Rattle.std.proofs.lemmas.Bool.{cases_lt}
 use Rattle.std.proofs.lemmas.Bool.Decides.{nat_tests}
-use Rattle.pid_reader.specs.Columns.{is_hex, begins_with_id, is_id}
-use Rattle.pid_ident.specs.Identifiers.{hex4, hex2}
+use Rattle.pid_file.specs.Columns.{is_hex, begins_with_id, is_id}
+use Rattle.pid_file.specs.Identifiers.{hex4, hex2}
 use Rattle.pid_reader.proofs.Written.{both_true}
 
 lower_digit : (b : ℕ) → is_hex b ≡ true → to_ascii_lowercase b ≡ digit_char (digit_value b)

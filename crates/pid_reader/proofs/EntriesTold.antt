@@ -4,16 +4,16 @@ use mathlib.Core.Bool.{true≢false}
 use Rattle.std.specs.Prelude.{is_some, IsSome, IfSome}
 use Rattle.std.specs.FinMap.Entries.{find as value_at}
 use Rattle.pid_ident.specs.PathReading.{parent_text}
-use Rattle.pid_ident.specs.Trees.{text_cmp}
-use Rattle.pid_ident.specs.Words.{is_name}
-use Rattle.pid_reader.specs.Lines.{lines_of}
-use Rattle.pid_reader.specs.LookingBack.{Item, entries_back, is_entry, path_at, name_at, is_told}
-use Rattle.pid_reader.specs.Reading.{AreGood, history_of, refused, entries_of}
-use Rattle.pid_reader.specs.Entries.{AreEntries}
+use Rattle.pid_file.specs.Trees.{text_cmp}
+use Rattle.pid_file.specs.Words.{is_name}
+use Rattle.pid_file.specs.Lines.{lines_of}
+use Rattle.pid_file.specs.LookingBack.{Item, entries_back, is_entry, path_at, name_at, is_told}
+use Rattle.pid_file.specs.Reading.{AreGood, history_of, refused, entries_of}
+use Rattle.pid_file.specs.Entries.{AreEntries}
 use Rattle.pid_reader.proofs.Clean.{clean}
 use Rattle.pid_reader.proofs.ReadTrees.{kept, name_test, parent_told}
 use Rattle.pid_reader.proofs.Refusals.{good_by_refused}
-use Rattle.pid_reader.proofs.Feeding.{entries-good}
+use Rattle.pid_file.proofs.Feeding.{entries-good}
 
 none_there : (o : Option (List ℕ)) → is_some o ≡ false → o ≡ None
 none_there None h = refl

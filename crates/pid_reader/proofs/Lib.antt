@@ -11,15 +11,6 @@ pub mod Clean
 pub mod Sound
 pub mod ReadTrees
 pub mod Refusals
-pub mod LineLemmas
-pub mod LineSays
-pub mod Cuts
-pub mod Feeding
-pub mod OneMoreLine
 pub mod TreeEnds
-pub mod Counting
 pub mod EntriesTold
 pub mod LinesTold
-pub mod FrontEnds
-pub mod InputTexts
-mod Rising

@@ -1,16 +1,16 @@
 -- One more line of a text that is told line by line.
 use Rattle.std.proofs.Common.{◌≡◌, ℕ, ◌+◌, List, [], ◌∷◌, ◌++◌, length, map, Some, None, Result, Ok, Err, refl, sym, ap, ◌∙◌, arith}
-use Rattle.pid_ident.specs.declared.line_kind.LineKind.{LineKind}
-use Rattle.pid_reader.specs.declared.refusal.LineFault.{LineFault}
+use Rattle.pid_file.specs.declared.line_kind.LineKind.{LineKind}
+use Rattle.pid_reader.specs.declared.line_fault.LineFault.{LineFault}
 use Rattle.pid_reader.specs.declared.lines.Lines.{Lines}
-use Rattle.pid_reader.specs.declared.open_levels.Said.{Said}
-use Rattle.pid_reader.specs.declared.open_levels.Said.TheVariants as said
-use Rattle.pid_reader.specs.declared.entry_line.Named.{Named}
-use Rattle.pid_reader.specs.Lines.{lines_of, pieces_of, drop_cr}
-use Rattle.pid_reader.specs.LookingBack.{Item}
-use Rattle.pid_reader.specs.Numbered.{Numbered, at_line, numbered_at}
-use Rattle.pid_reader.specs.Faults.{line_fault_of}
-use Rattle.pid_reader.specs.OpenLevels.{IsOpenAt, Says, items_of, open_behind}
+use Rattle.pid_file.specs.declared.open_levels.Said.{Said}
+use Rattle.pid_file.specs.declared.open_levels.Said.TheVariants as said
+use Rattle.pid_file.specs.declared.entry_line.Named.{Named}
+use Rattle.pid_file.specs.Lines.{lines_of, pieces_of, drop_cr}
+use Rattle.pid_file.specs.LookingBack.{Item}
+use Rattle.pid_file.specs.Numbered.{Numbered, at_line, numbered_at}
+use Rattle.pid_file.specs.Faults.{line_fault_of}
+use Rattle.pid_file.specs.OpenLevels.{IsOpenAt, Says, items_of, open_behind}
 use Rattle.pid_reader.specs.LinesLeft.{as_ok, told_at, told_from, Stands, HasLeft, IsAtEnd, GivesFirst}
 
 -- what is told where a line has no fault

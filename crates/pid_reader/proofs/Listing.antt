@@ -12,17 +12,17 @@ use Rattle.std.proofs.lemmas.List.{take-append-drop}
 use Rattle.std.specs.FinMap.{slice_cmp-IsAntisymmetric, nat_cmp-IsAntisymmetric}
 use Rattle.std.specs.FinMap.Entries.{find as value_at}
 use Rattle.std.specs.List.{AllByRecursion}
-use Rattle.pid_ident.specs.declared.path.Path.{Path}
-use Rattle.pid_ident.specs.declared.path.Path.TheVariants.{Vendor, Device, Subsystem, Class, Subclass, ProgIf, Generic}
-use Rattle.pid_ident.specs.PathTexts.{path_text, parent_of}
-use Rattle.pid_ident.specs.Words.{is_name}
-use Rattle.pid_ident.specs.Identifiers.{hex4, hex2}
-use Rattle.pid_reader.specs.declared.line.Mark.TheVariants.{Devices, Classes, Generics}
-use Rattle.pid_reader.specs.LookingBack.{entries_back}
-use Rattle.pid_reader.specs.Reading.{AreGood}
-use Rattle.pid_reader.specs.Faults.{fault_of}
-use Rattle.pid_ident.specs.Trees.{text_cmp}
-use Rattle.pid_tree.specs.Printing.{item_line, block_line, opens_block, header}
+use Rattle.pid_file.specs.declared.path.Path.{Path}
+use Rattle.pid_file.specs.declared.path.Path.TheVariants.{Vendor, Device, Subsystem, Class, Subclass, ProgIf, Generic}
+use Rattle.pid_file.specs.PathTexts.{path_text, parent_of}
+use Rattle.pid_file.specs.Words.{is_name}
+use Rattle.pid_file.specs.Identifiers.{hex4, hex2}
+use Rattle.pid_file.specs.declared.line.Mark.TheVariants.{Devices, Classes, Generics}
+use Rattle.pid_file.specs.LookingBack.{entries_back}
+use Rattle.pid_file.specs.Reading.{AreGood}
+use Rattle.pid_file.specs.Faults.{fault_of}
+use Rattle.pid_file.specs.Trees.{text_cmp}
+use Rattle.pid_file.specs.Printing.{item_line, block_line, opens_block, header}
 use Rattle.pid_reader.proofs.Written.{written4, written2, written44, bare, lettered, one_tab, two_tabs}
 use Rattle.pid_reader.proofs.Steps.{Says, IsRow, Under, Below, IsOpen, OneMore, says_head, says_one, says_two, one_more, says_block, under_head, under_nested, below_one, below_two}
 

@@ -2,14 +2,14 @@
 use Rattle.std.proofs.Common.{◌≡◌, ℕ, true, false, cond, not, ◌&&◌, ◌||◌, eqb, leb, List, [], ◌∷◌, ◌++◌, map, refl, sym, ap, subst, ◌∙◌, arith}
 use Rattle.std.specs.List.{AllByRecursion, list_all}
 use Rattle.std.proofs.lemmas.Bool.Decides.{nat_tests}
-use Rattle.pid_ident.specs.declared.path.Path.{Path}
-use Rattle.pid_ident.specs.declared.path.Path.TheVariants.{Vendor, Device, Subsystem, Class, Subclass, ProgIf, Generic}
-use Rattle.pid_ident.specs.PathTexts.{IsTextOf, path_text}
-use Rattle.pid_ident.specs.Words.{is_name}
-use Rattle.pid_ident.specs.Bytes.{is_printed}
-use Rattle.pid_ident.specs.Identifiers.{hex4, hex2}
-use Rattle.pid_reader.specs.Lines.{pieces_of, drop_cr, lines_of}
-use Rattle.pid_tree.specs.Printing.{header, item_line, block_line, opens_block, lines_behind, ended}
+use Rattle.pid_file.specs.declared.path.Path.{Path}
+use Rattle.pid_file.specs.declared.path.Path.TheVariants.{Vendor, Device, Subsystem, Class, Subclass, ProgIf, Generic}
+use Rattle.pid_file.specs.PathTexts.{IsTextOf, path_text}
+use Rattle.pid_file.specs.Words.{is_name}
+use Rattle.pid_file.specs.Bytes.{is_printed}
+use Rattle.pid_file.specs.Identifiers.{hex4, hex2}
+use Rattle.pid_file.specs.Lines.{pieces_of, drop_cr, lines_of}
+use Rattle.pid_file.specs.Printing.{header, item_line, block_line, opens_block, lines_behind, ended}
 use Rattle.pid_reader.proofs.Cells.{hex4_is, hex2_is}
 use Rattle.pid_reader.proofs.Written.{both_true, not_true}
 use Rattle.pid_reader.proofs.Listing.{Items}

@@ -11,16 +11,16 @@ use Rattle.std.proofs.lemmas.Cmp.{nat_list_cmp_total, tied_itself, nat_cmp_total
 use Rattle.std.specs.FinMap.{get, entries, from_entries, get-entries, get-from_entries, entries_sorted, same_map, slice_cmp-IsAntisymmetric, nat_cmp-IsAntisymmetric}
 use Rattle.std.specs.FinMap.Entries.{find as value_at, is_sorted, below_all}
 use Rattle.std.specs.List.{AllByRecursion}
-use Rattle.pid_ident.specs.declared.path.Path.{Path}
-use Rattle.pid_ident.specs.declared.path.Path.TheVariants.{Vendor, Device, Subsystem, Class, Subclass, ProgIf, Generic}
-use Rattle.pid_ident.specs.PathTexts.{path_text, parent_of}
-use Rattle.pid_ident.specs.Words.{is_name}
-use Rattle.pid_ident.specs.Identifiers.{hex4, hex2}
-use Rattle.pid_reader.specs.Lines.{lines_of}
-use Rattle.pid_reader.specs.Reading.{Reads, history_of, AreGood}
-use Rattle.pid_reader.specs.LookingBack.{entries_back}
-use Rattle.pid_ident.specs.Trees.{TreeMap, IsTree, text_cmp}
-use Rattle.pid_tree.specs.Printing.{item_line, block_line, opens_block, header, lines_behind, print}
+use Rattle.pid_file.specs.declared.path.Path.{Path}
+use Rattle.pid_file.specs.declared.path.Path.TheVariants.{Vendor, Device, Subsystem, Class, Subclass, ProgIf, Generic}
+use Rattle.pid_file.specs.PathTexts.{path_text, parent_of}
+use Rattle.pid_file.specs.Words.{is_name}
+use Rattle.pid_file.specs.Identifiers.{hex4, hex2}
+use Rattle.pid_file.specs.Lines.{lines_of}
+use Rattle.pid_file.specs.Reading.{Reads, history_of, AreGood}
+use Rattle.pid_file.specs.LookingBack.{entries_back}
+use Rattle.pid_file.specs.Trees.{TreeMap, IsTree, text_cmp}
+use Rattle.pid_file.specs.Printing.{item_line, block_line, opens_block, header, lines_behind, print}
 use Rattle.pid_reader.proofs.Printed.{IsItem, lines_of-ended, lines_plain, header_plain}
 use Rattle.pid_reader.proofs.Listing.{Items, IsListing, IsNext, told, lines_back, last_path}
 

@@ -9,19 +9,19 @@ use Rattle.std.specs.FinMap.{get, from_entries, get-from_entries, slice_cmp-IsAn
 use Rattle.std.specs.FinMap.Entries.{find as value_at}
 use Rattle.std.proofs.lemmas.Cmp.{nat_list_cmp_total}
 use Rattle.std.proofs.lemmas.Bool.Decides.{nat_tests}
-use Rattle.pid_ident.specs.declared.path.Path.{Path}
-use Rattle.pid_ident.specs.declared.path.Path.TheVariants.{Vendor, Device, Subsystem, Class, Subclass, ProgIf, Generic}
+use Rattle.pid_file.specs.declared.path.Path.{Path}
+use Rattle.pid_file.specs.declared.path.Path.TheVariants.{Vendor, Device, Subsystem, Class, Subclass, ProgIf, Generic}
 use Rattle.pid_ident.specs.PathReading.{parent_text}
-use Rattle.pid_ident.specs.PathTexts.{path_text, parent_of}
-use Rattle.pid_ident.specs.Words.{is_name}
-use Rattle.pid_reader.specs.declared.line.Mark.{Mark}
-use Rattle.pid_reader.specs.declared.line.Mark.TheVariants.{Devices, Classes, Generics, Unknown}
-use Rattle.pid_reader.specs.Marks.{is_idle, depth, mark, is_unknown, is_generics}
-use Rattle.pid_reader.specs.Levels.{levels}
-use Rattle.pid_reader.specs.Reading.{Reads, history_of, AreGood}
-use Rattle.pid_reader.specs.Faults.{fault_of}
-use Rattle.pid_reader.specs.LookingBack.{above, mark_at, if_depth, entries_back, is_block, is_entry, path_at, name_at}
-use Rattle.pid_ident.specs.Trees.{TreeMap, IsTree, text_cmp}
+use Rattle.pid_file.specs.PathTexts.{path_text, parent_of}
+use Rattle.pid_file.specs.Words.{is_name}
+use Rattle.pid_file.specs.declared.line.Mark.{Mark}
+use Rattle.pid_file.specs.declared.line.Mark.TheVariants.{Devices, Classes, Generics, Unknown}
+use Rattle.pid_file.specs.Marks.{is_idle, depth, mark, is_unknown, is_generics}
+use Rattle.pid_file.specs.Levels.{levels}
+use Rattle.pid_file.specs.Reading.{Reads, history_of, AreGood}
+use Rattle.pid_file.specs.Faults.{fault_of}
+use Rattle.pid_file.specs.LookingBack.{above, mark_at, if_depth, entries_back, is_block, is_entry, path_at, name_at}
+use Rattle.pid_file.specs.Trees.{TreeMap, IsTree, text_cmp}
 use Rattle.pid_reader.proofs.Written.{both_true, not_true}
 use Rattle.pid_reader.proofs.Clean.{IsClean, clean, IsToldBy, told_on, nearest}
 use Rattle.pid_reader.proofs.Sound.{IsKept, kept_vendor, kept_class, kept_device, kept_subclass, kept_generic, kept_subsystem, kept_progif, has_upper, above_two}

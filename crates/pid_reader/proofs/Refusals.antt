@@ -5,12 +5,12 @@ use Rattle.std.proofs.lemmas.Bool.Decides.{nat_tests}
 use Rattle.std.proofs.lemmas.List.{length-append}
 use Rattle.std.specs.Prelude.{Option, is_some}
 use mathlib.Core.Bool.{true≢false}
-use Rattle.pid_ident.specs.declared.line_kind.LineKind.{LineKind}
-use Rattle.pid_reader.specs.declared.refusal.ReadRefusal.{ReadRefusal}
-use Rattle.pid_reader.specs.Reading.{AreGood, refused_from, refused_at, or_else, ENTRIES}
-use Rattle.pid_reader.specs.LookingBack.{entries_back, entry_of, is_entry, path_at, name_at}
-use Rattle.pid_reader.specs.Faults.{fault_of}
-use Rattle.pid_reader.specs.declared.refusal.ReadRefusal.TheVariants.{TooManyEntries}
+use Rattle.pid_file.specs.declared.line_kind.LineKind.{LineKind}
+use Rattle.pid_file.specs.declared.refusal.ReadRefusal.{ReadRefusal}
+use Rattle.pid_file.specs.Reading.{AreGood, refused_from, refused_at, or_else, ENTRIES}
+use Rattle.pid_file.specs.LookingBack.{entries_back, entry_of, is_entry, path_at, name_at}
+use Rattle.pid_file.specs.Faults.{fault_of}
+use Rattle.pid_file.specs.declared.refusal.ReadRefusal.TheVariants.{TooManyEntries}
 
 good_before : (lines earlier : List (List ℕ)) → AreGood (reverse_aux lines earlier) → AreGood earlier
 good_before [] earlier h = h

@@ -3,11 +3,11 @@ use Rattle.std.proofs.Common.{◌≡◌, ℕ, List, [], ◌∷◌, ◌++◌, Som
 use Rattle.std.specs.Prelude.{codes}
 use Rattle.std.specs.Str.{is_utf8, chars}
 use lib.Utf8.{encode}
-use Rattle.pid_ident.specs.declared.line_kind.LineKind.TheVariants.{NotUtf8, TooDeep, NoParent, BadId, NoName, Duplicate, VendorMissing}
-use Rattle.pid_reader.specs.declared.refusal.ReadRefusal.TheVariants.{Line}
-use Rattle.pid_tree.specs.Printing.{lines_behind}
-use Rattle.pid_reader.specs.LookingBack.{entries_back}
-use Rattle.pid_reader.specs.Reading.{history_of, refused}
+use Rattle.pid_file.specs.declared.line_kind.LineKind.TheVariants.{NotUtf8, TooDeep, NoParent, BadId, NoName, Duplicate, VendorMissing}
+use Rattle.pid_file.specs.declared.refusal.ReadRefusal.TheVariants.{Line}
+use Rattle.pid_file.specs.Printing.{lines_behind}
+use Rattle.pid_file.specs.LookingBack.{entries_back}
+use Rattle.pid_file.specs.Reading.{history_of, refused}
 
 generics : List ℕ
 generics = codes "1af4  Red Hat" ++ 10 ∷ codes "S 1AF4" ++ 10 ∷ 9 ∷ codes "1100  Qemu" ++ 10 ∷ 9 ∷ codes "0001  Net" ++ 10 ∷ codes "C 01  Mass" ++ 10 ∷ codes "8086  I" ++ 10 ∷ codes "S 1af4" ++ 10 ∷ 9 ∷ codes "0002  Blk" ++ 10 ∷ []

@@ -4,19 +4,19 @@ use mathlib.Core.Bool.{true≢false}
 use Rattle.std.specs.Prelude.{IfSome, is_none, codes}
 use Rattle.std.specs.Char.{to_ascii_lowercase}
 use Rattle.std.proofs.lemmas.Bool.Decides.{nat_tests}
-use Rattle.pid_ident.specs.declared.path.Path.{Path}
-use Rattle.pid_ident.specs.declared.path.Path.TheVariants.{Vendor, Device, Subsystem, Class, Subclass, ProgIf, Generic}
-use Rattle.pid_ident.specs.PathTexts.{IsPath, path_text, parent_of}
-use Rattle.pid_ident.specs.Identifiers.{hex4, hex2}
-use Rattle.pid_reader.specs.declared.line.Mark.{Mark}
-use Rattle.pid_reader.specs.declared.line.Mark.TheVariants.{Devices, Classes, Generics}
-use Rattle.pid_reader.specs.Marks.{is_idle, depth, body, mark, is_unknown, inside}
-use Rattle.pid_reader.specs.Levels.{widths}
-use Rattle.pid_reader.specs.Columns.{begins_with_id, begins_with_ids}
-use Rattle.pid_reader.specs.Faults.{has}
-use Rattle.pid_reader.specs.Reading.{AreGood}
-use Rattle.pid_reader.specs.LookingBack.{is_above, above, parent_line, if_depth, is_entry, head_path, path_at}
-use Rattle.pid_ident.specs.declared.line_kind.LineKind.TheVariants.{VendorMissing}
+use Rattle.pid_file.specs.declared.path.Path.{Path}
+use Rattle.pid_file.specs.declared.path.Path.TheVariants.{Vendor, Device, Subsystem, Class, Subclass, ProgIf, Generic}
+use Rattle.pid_file.specs.PathTexts.{IsPath, path_text, parent_of}
+use Rattle.pid_file.specs.Identifiers.{hex4, hex2}
+use Rattle.pid_file.specs.declared.line.Mark.{Mark}
+use Rattle.pid_file.specs.declared.line.Mark.TheVariants.{Devices, Classes, Generics}
+use Rattle.pid_file.specs.Marks.{is_idle, depth, body, mark, is_unknown, inside}
+use Rattle.pid_file.specs.Levels.{widths}
+use Rattle.pid_file.specs.Columns.{begins_with_id, begins_with_ids}
+use Rattle.pid_file.specs.Faults.{has}
+use Rattle.pid_file.specs.Reading.{AreGood}
+use Rattle.pid_file.specs.LookingBack.{is_above, above, parent_line, if_depth, is_entry, head_path, path_at}
+use Rattle.pid_file.specs.declared.line_kind.LineKind.TheVariants.{VendorMissing}
 use Rattle.pid_reader.proofs.Written.{both_true, not_true}
 use Rattle.pid_reader.proofs.Digits.{Number4, Number2, id4, id2, whole4}
 use Rattle.std.proofs.lemmas.Cmp.{nat_list_cmp_total, tied_itself}

@@ -4,17 +4,17 @@ use Rattle.std.specs.Prelude.{is_some, is_none, codes, unwrap_or}
 use Rattle.std.specs.Str.{is_utf8}
 use Rattle.std.proofs.lemmas.Str.{is_utf8-from_IsUtf8, IsUtf8-from_ascii}
 use Rattle.std.specs.FinMap.Entries.{find as value_at}
-use Rattle.pid_ident.specs.Words.{is_name}
-use Rattle.pid_ident.specs.Bytes.{is_empty}
-use Rattle.pid_ident.specs.Identifiers.{hex4}
-use Rattle.pid_reader.specs.declared.line.Mark.{Mark}
-use Rattle.pid_reader.specs.declared.line.Mark.TheVariants.{Devices, Classes, Generics, Unknown}
-use Rattle.pid_reader.specs.Marks.{depth, mark, is_unknown, is_generics, inside}
-use Rattle.pid_reader.specs.Levels.{front, levels, widths}
-use Rattle.pid_reader.specs.Columns.{begins_with_ids, digits_in}
-use Rattle.pid_reader.specs.LookingBack.{above, mark_at, parent_line, is_block, is_entry, widths_at, digits_at, name_at, head_path, path_at, entries_back, is_told}
-use Rattle.pid_reader.specs.Faults.{fault_of}
-use Rattle.pid_ident.specs.Trees.{text_cmp}
+use Rattle.pid_file.specs.Words.{is_name}
+use Rattle.pid_file.specs.Bytes.{is_empty}
+use Rattle.pid_file.specs.Identifiers.{hex4}
+use Rattle.pid_file.specs.declared.line.Mark.{Mark}
+use Rattle.pid_file.specs.declared.line.Mark.TheVariants.{Devices, Classes, Generics, Unknown}
+use Rattle.pid_file.specs.Marks.{depth, mark, is_unknown, is_generics, inside}
+use Rattle.pid_file.specs.Levels.{front, levels, widths}
+use Rattle.pid_file.specs.Columns.{begins_with_ids, digits_in}
+use Rattle.pid_file.specs.LookingBack.{above, mark_at, parent_line, is_block, is_entry, widths_at, digits_at, name_at, head_path, path_at, entries_back, is_told}
+use Rattle.pid_file.specs.Faults.{fault_of}
+use Rattle.pid_file.specs.Trees.{text_cmp}
 use Rattle.pid_reader.proofs.Cells.{AreDigits, hex4_is}
 use Rattle.pid_reader.proofs.Written.{Written, Stands, name_parts, utf8_cons}
 

@@ -1,12 +1,12 @@
 -- The tree of a text that is refused nowhere lacks no parent.
 use Rattle.std.proofs.Common.{◌≡◌, ℕ, List, refl}
-use Rattle.pid_ident.specs.Trees.{IsTree}
-use Rattle.pid_reader.specs.declared.tree_sink.TreeSink.{TreeSink}
-use Rattle.pid_reader.specs.declared.tree_sink.TreeFault.{TreeFault}
-use Rattle.pid_reader.specs.declared.tree_sink.TreeFault.TheVariants.{ParentMissing, Memory}
-use Rattle.pid_reader.specs.declared.sink.CutEnd.TheVariants.{Fault}
-use Rattle.pid_reader.specs.Reading.{Reads, refused}
-use Rattle.pid_reader.specs.TreeSinks.{tree_so_far}
+use Rattle.pid_file.specs.Trees.{IsTree}
+use Rattle.pid_file.specs.declared.tree_sink.TreeSink.{TreeSink}
+use Rattle.pid_file.specs.declared.tree_sink.TreeFault.{TreeFault}
+use Rattle.pid_file.specs.declared.tree_sink.TreeFault.TheVariants.{ParentMissing, Memory}
+use Rattle.pid_file.specs.declared.sink.CutEnd.TheVariants.{Fault}
+use Rattle.pid_file.specs.Reading.{Reads, refused}
+use Rattle.pid_file.specs.TreeSinks.{tree_so_far}
 use Rattle.pid_reader.specs.Feeders.{IsTreeEnd}
 use Rattle.pid_reader.proofs.ReadTrees.{reads_tree}
 

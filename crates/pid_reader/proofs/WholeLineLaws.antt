@@ -2,7 +2,7 @@
 use Rattle.std.specs.List.{AllByRecursion, flat_map}
 use Rattle.std.proofs.Common.{◌≡◌, ◌≢◌, ℕ, true, false, cond, eqb, List, [], ◌∷◌, ◌++◌, refl, sym, ap, arith}
 use Rattle.std.proofs.lemmas.Bool.Decides.{nat_tests}
-use Rattle.pid_reader.specs.WholeLines.{ended_pieces, open_part, onto_ended, onto_open}
+use Rattle.pid_file.specs.WholeLines.{ended_pieces, open_part, onto_ended, onto_open}
 
 -- a piece and its LF
 abbrev ended : List ℕ → List ℕ

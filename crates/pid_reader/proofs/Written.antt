@@ -2,13 +2,13 @@
 use Rattle.std.proofs.Common.{◌≡◌, ℕ, zero, suc, ◌<◌, Bool, true, false, not, ◌&&◌, List, [], ◌∷◌, ◌++◌, refl, arith}
 use Rattle.std.specs.Str.{is_utf8, IsUtf8, IsAscii}
 use Rattle.std.proofs.lemmas.Str.{IsUtf8-append, IsUtf8-from_ascii, IsUtf8-from_is_utf8, is_utf8-from_IsUtf8}
-use Rattle.pid_ident.specs.Bytes.{is_empty, begins_blank}
-use Rattle.pid_ident.specs.Words.{is_name}
-use Rattle.pid_reader.specs.declared.line.Mark.{Mark}
-use Rattle.pid_reader.specs.declared.line.Mark.TheVariants.{Devices, Classes}
-use Rattle.pid_reader.specs.Marks.{trim_blanks, is_idle, depth, body, mark, inside}
-use Rattle.pid_ident.specs.Identifiers.{hex4, hex2}
-use Rattle.pid_reader.specs.Columns.{begins_with_ids, digits_in, name_in}
+use Rattle.pid_file.specs.Bytes.{is_empty, begins_blank}
+use Rattle.pid_file.specs.Words.{is_name}
+use Rattle.pid_file.specs.declared.line.Mark.{Mark}
+use Rattle.pid_file.specs.declared.line.Mark.TheVariants.{Devices, Classes}
+use Rattle.pid_file.specs.Marks.{trim_blanks, is_idle, depth, body, mark, inside}
+use Rattle.pid_file.specs.Identifiers.{hex4, hex2}
+use Rattle.pid_file.specs.Columns.{begins_with_ids, digits_in, name_in}
 use Rattle.pid_reader.proofs.Cells.{AreDigits, AreTwo, hex4_is, hex2_is}
 
 pub both_true : (a b : Bool) → (a && b) ≡ true → (a ≡ true) × (b ≡ true)

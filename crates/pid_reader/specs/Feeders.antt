@@ -1,19 +1,19 @@
 -- What a feeder holds of the text that it was fed, and why it gives up. Callers need not open it.
 use Rattle.std.specs.Prelude.{◌≡◌, ℕ, List, Option}
 use Rattle.std.specs.FinMap.{empty}
-use Rattle.pid_reader.specs.declared.refusal.ReadRefusal.{ReadRefusal}
-use Rattle.pid_reader.specs.declared.sink.CutEnd.{CutEnd}
-use Rattle.pid_reader.specs.declared.sink.CutEnd.TheVariants.{Refused, Fault}
-use Rattle.pid_reader.specs.declared.tree_sink.TreeFault.{TreeFault}
-use Rattle.pid_reader.specs.declared.tree_sink.TreeFault.TheVariants.{ParentMissing, Memory}
-use Rattle.pid_reader.specs.declared.tree_sink.TreeSink.{TreeSink}
+use Rattle.pid_file.specs.declared.refusal.ReadRefusal.{ReadRefusal}
+use Rattle.pid_file.specs.declared.sink.CutEnd.{CutEnd}
+use Rattle.pid_file.specs.declared.sink.CutEnd.TheVariants.{Refused, Fault}
+use Rattle.pid_file.specs.declared.tree_sink.TreeFault.{TreeFault}
+use Rattle.pid_file.specs.declared.tree_sink.TreeFault.TheVariants.{ParentMissing, Memory}
+use Rattle.pid_file.specs.declared.tree_sink.TreeSink.{TreeSink}
 use Rattle.pid_reader.specs.declared.feeder.Feeder.{Feeder}
-use Rattle.pid_reader.specs.Numbered.{numbered_of}
-use Rattle.pid_reader.specs.WholeLines.{whole_lines}
-use Rattle.pid_reader.specs.Refusals.{IsRefusal}
-use Rattle.pid_reader.specs.Sinks.{Took}
-use Rattle.pid_reader.specs.Cutters.{Holds, IsStopped}
-use Rattle.pid_reader.specs.TreeSinks.{SetsItem, tree_so_far}
+use Rattle.pid_file.specs.Numbered.{numbered_of}
+use Rattle.pid_file.specs.WholeLines.{whole_lines}
+use Rattle.pid_file.specs.Refusals.{IsRefusal}
+use Rattle.pid_file.specs.Sinks.{Took}
+use Rattle.pid_file.specs.Cutters.{Holds, IsStopped}
+use Rattle.pid_file.specs.TreeSinks.{SetsItem, tree_so_far}
 
 -- the feeder was fed this text, whose whole lines weren't refused
 pub record Feeds (f : Feeder) (text : List ℕ) : Type 0 where

@@ -1,13 +1,13 @@
 -- What is told line by line, up to the first line that has a fault of its own.
 use Rattle.std.specs.Prelude.{◌≡◌, ℕ, ◌+◌, List, [], ◌∷◌, ◌++◌, length, map, Option, Some, None, Result, Ok, Err}
-use Rattle.pid_ident.specs.declared.line_kind.LineKind.{LineKind}
-use Rattle.pid_reader.specs.declared.refusal.LineFault.{LineFault}
-use Rattle.pid_reader.specs.declared.sink.Entry.{Entry}
+use Rattle.pid_file.specs.declared.line_kind.LineKind.{LineKind}
+use Rattle.pid_reader.specs.declared.line_fault.LineFault.{LineFault}
+use Rattle.pid_file.specs.declared.sink.Entry.{Entry}
 use Rattle.pid_reader.specs.declared.lines.Lines.{Lines}
-use Rattle.pid_reader.specs.Lines.{lines_of}
-use Rattle.pid_reader.specs.Numbered.{Numbered, as_told, numbered_at}
-use Rattle.pid_reader.specs.Faults.{line_fault_of}
-use Rattle.pid_reader.specs.OpenLevels.{IsOpenAt}
+use Rattle.pid_file.specs.Lines.{lines_of}
+use Rattle.pid_file.specs.Numbered.{Numbered, as_told, numbered_at}
+use Rattle.pid_file.specs.Faults.{line_fault_of}
+use Rattle.pid_file.specs.OpenLevels.{IsOpenAt}
 
 abbrev pub as_ok : Numbered → Result Numbered LineFault
 as_ok entry = Ok entry

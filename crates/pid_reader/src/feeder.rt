@@ -1,17 +1,13 @@
 //! A text as a tree, whole or in pieces.
 ghost use Rattle.std.specs.Prelude.{◌≡◌, ◌++◌, ℕ, [], List, None, Err, OnOk, IfOk, IfErr};
-ghost use Rattle.pid_reader.specs.Reading.{Reads, refused, refusal_of};
-ghost use Rattle.pid_reader.specs.WholeLines.{whole_lines};
-ghost use Rattle.pid_reader.specs.Refusals.{IsRefusal};
-ghost use Rattle.pid_reader.specs.Cutters.{left_by};
+ghost use Rattle.pid_file.specs.Reading.{Reads, refused, refusal_of};
+ghost use Rattle.pid_file.specs.WholeLines.{whole_lines};
+ghost use Rattle.pid_file.specs.Refusals.{IsRefusal};
+ghost use Rattle.pid_file.specs.Cutters.{left_by};
 ghost use Rattle.pid_reader.specs.Feeders.{Feeds, GaveUp, IsTreeEnd};
-ghost use Rattle.pid_reader.specs.declared.sink.CutEnd.TheVariants.{Refused};
+ghost use Rattle.pid_file.specs.declared.sink.CutEnd.TheVariants.{Refused};
 
-use crate::cutter::Cutter;
-use crate::refusal::ReadRefusal;
-use crate::sink::CutEnd;
-use crate::tree_sink::{TreeFault, TreeSink};
-use pid_tree::Tree;
+use pid_file::{CutEnd, Cutter, ReadRefusal, Tree, TreeFault, TreeSink};
 use std::alloc::{AllocError, Global};
 
 /// Reads a text that comes in pieces as a tree.

@@ -3,15 +3,15 @@ ghost use Rattle.std.specs.List.{AllByRecursion, flat_map};
 ghost use Rattle.std.specs.Prelude.{◌≡◌, ◌≢◌, ◌↔◌, ◌++◌, ◌∷◌, ◌≤◌, List, [], ℕ, None, Some, IsSome, IfSome, length, map};
 ghost use Rattle.std.specs.FinMap.Entries.{find};
 ghost use Rattle.pid_ident.specs.PathReading.{parent_text};
-ghost use Rattle.pid_ident.specs.Trees.{TreeMap, IsTree, text_cmp};
-ghost use Rattle.pid_tree.specs.Printing.{print};
-ghost use Rattle.pid_reader.specs.Lines.{lines_of};
-ghost use Rattle.pid_reader.specs.LookingBack.{entries_back};
-ghost use Rattle.pid_reader.specs.Reading.{AreGood, ENTRIES, Reads, entries_of, history_of, refused, refusal_of};
-ghost use Rattle.pid_reader.specs.Numbered.{item_in, numbered_of};
-ghost use Rattle.pid_reader.specs.Entries.{AreEntries};
-ghost use Rattle.pid_reader.specs.WholeLines.{ended_pieces, open_part, whole_lines};
-ghost use Rattle.pid_reader.specs.declared.refusal.ReadRefusal.{ReadRefusal};
+ghost use Rattle.pid_file.specs.Trees.{TreeMap, IsTree, text_cmp};
+ghost use Rattle.pid_file.specs.Printing.{print};
+ghost use Rattle.pid_file.specs.Lines.{lines_of};
+ghost use Rattle.pid_file.specs.LookingBack.{entries_back};
+ghost use Rattle.pid_file.specs.Reading.{AreGood, ENTRIES, Reads, entries_of, history_of, refused, refusal_of};
+ghost use Rattle.pid_file.specs.Numbered.{item_in, numbered_of};
+ghost use Rattle.pid_file.specs.Entries.{AreEntries};
+ghost use Rattle.pid_file.specs.WholeLines.{ended_pieces, open_part, whole_lines};
+ghost use Rattle.pid_file.specs.declared.refusal.ReadRefusal.{ReadRefusal};
 
 /// A printed tree reads back to itself, and to no other tree.
 pub fn printed_trees_read_back()

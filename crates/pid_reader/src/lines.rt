@@ -1,11 +1,9 @@
 //! A text entry by entry, without taking memory.
 ghost use Rattle.std.specs.Prelude.{◌+◌, ◌<◌, ◌^◌, length, []};
 
-use crate::line::without_cr;
-use crate::open_levels::{OpenLevels, Said, read_line};
+use crate::line_fault::LineFault;
 use crate::pieces::first_line;
-use crate::refusal::LineFault;
-use crate::sink::Entry;
+use pid_file::{Entry, OpenLevels, Said, read_line, without_cr};
 
 /// The entries of a text, line by line, up to the first line that has a fault of its own (a kind from NotUtf8 to BadName): that fault is the last item.
 ///
@@ -19,7 +17,7 @@ pub struct Lines<'a> {
 }
 
 impl<'a> Lines<'a> {
-    ghost use Rattle.pid_reader.specs.Lines.{lines_of};
+    ghost use Rattle.pid_file.specs.Lines.{lines_of};
     ghost use Rattle.pid_reader.specs.LinesLeft.{HasLeft, told_from};
 
     /// The entries of this text.

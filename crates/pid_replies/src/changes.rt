@@ -10,6 +10,7 @@ use crate::reply::{array_value, json_reply, text_reply};
 use crate::text::{push_line, push_long_number};
 use itoa::Buffer;
 use pid_http_stream::{Reply, Status};
+use pid_ident::PathText;
 use pid_requests::Format;
 use pid_table_lists::{ChangedItem, Changes};
 use serde_json::{Value, json};

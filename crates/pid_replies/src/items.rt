@@ -12,7 +12,7 @@ use crate::list::push_row;
 use crate::reply::{json_reply, json_text_reply, text_reply};
 use crate::text::push_line;
 use pid_http_stream::{Reply, Status};
-use pid_ident::{Name, Path};
+use pid_ident::{Name, Path, PathText};
 use pid_requests::Format;
 use pid_rows::item::Item;
 use serde_json::{Value, json};

@@ -9,6 +9,7 @@ ghost use Rattle.pid_replies.specs.Replying.{IsReplyOf};
 use crate::reply::{array_value, json_reply, text_reply};
 use crate::text::push_number;
 use pid_http_stream::{Reply, Status};
+use pid_ident::PathText;
 use pid_moderation::Proposal;
 use pid_requests::Format;
 use pid_table_lists::Pending;

@@ -18,6 +18,7 @@ use crate::reply::{json_text_reply, text_reply};
 use crate::text::push_line;
 use itoa::Buffer;
 use pid_http_stream::{Reply, Status};
+use pid_ident::PathText;
 use pid_moderation::{Proposal, State};
 use pid_requests::Format;
 use pid_rows::remark::Comment;

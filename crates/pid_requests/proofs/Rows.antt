@@ -6,7 +6,7 @@ use Rattle.std.specs.Str.Lossy.{utf8_lossy, utf8_valid_len}
 use lib.Utf8.{encode}
 use Rattle.form_urlencoded.proofs.OnLiterals.{form_urlencoded_on_literals}
 use Rattle.matchit.proofs.OnLiterals.{matchit_on_literals}
-use Rattle.pid_ident.specs.declared.path.Path.TheVariants.{Vendor, Class}
+use Rattle.pid_file.specs.declared.path.Path.TheVariants.{Vendor, Class}
 use Rattle.pid_lookup.specs.Fields.{look_up_in}
 use Rattle.pid_moderation.specs.declared.verb.Verb.TheVariants as verbs
 use Rattle.pid_requests.specs.Questions.{question, with_target, question_at}

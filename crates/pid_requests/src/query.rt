@@ -7,7 +7,7 @@ ghost use Rattle.pid_requests.specs.Queries.{are_three as three, format_beside_t
 
 use crate::fields::{number_of, revision_of, times, value};
 use crate::format::Format;
-use pid_ident::Path;
+use pid_ident::{Path, PathText};
 
 /// Below what children are asked for.
 #[derive(Clone, Copy, Debug)]

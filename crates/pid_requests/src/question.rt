@@ -20,7 +20,7 @@ use crate::route::{Route, method_for, route_of};
 use crate::text::text_of;
 use matchit::Router;
 use pid_fields::fields_of;
-use pid_ident::Path;
+use pid_ident::{Path, PathText};
 use pid_moderation::Verb;
 use std::alloc::{AllocError, Global};
 

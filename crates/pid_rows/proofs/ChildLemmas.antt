@@ -16,8 +16,8 @@ use Rattle.pid_moderation.specs.Items.{Items, name_at, holds_parent, is_parent, 
 use Rattle.pid_moderation.specs.WellMade.{AllItems, HoldsParents}
 use Rattle.pid_rows.specs.Ranges.{is_between, holds_between}
 use Rattle.pid_rows.proofs.RangeLemmas.{any_there, any_found, found_in, found_at}
-use Rattle.pid_ident.specs.declared.path.Path.{Path}
-use Rattle.pid_ident.specs.declared.path.Path.TheVariants.{Vendor, Device, Subsystem, Class, Subclass, ProgIf, Generic}
+use Rattle.pid_file.specs.declared.path.Path.{Path}
+use Rattle.pid_file.specs.declared.path.Path.TheVariants.{Vendor, Device, Subsystem, Class, Subclass, ProgIf, Generic}
 use Rattle.pid_ident.specs.Identifiers.{hex4, hex2}
 use Rattle.pid_ident.specs.PathTexts.{path_text}
 use Rattle.pid_ident.specs.PathReading.{parent_text}

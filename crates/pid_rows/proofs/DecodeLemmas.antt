@@ -4,7 +4,7 @@ use Rattle.std.specs.Prelude.{option_map, ◌↔◌}
 use Rattle.std.specs.List.{AllByRecursion}
 use Rattle.sqlite.specs.declared.types.Value.TheVariants.{Text}
 use Rattle.sqlite.specs.Order.{Row, column}
-use Rattle.pid_ident.specs.declared.path.Path.{Path}
+use Rattle.pid_file.specs.declared.path.Path.{Path}
 use Rattle.pid_ident.specs.PathTexts.{IsPath, IsTextOf, path_text}
 use Rattle.pid_ident.specs.PathReading.{path_of}
 use Rattle.pid_moderation.specs.declared.command.Proposal.{Proposal}

@@ -3,8 +3,8 @@ use Rattle.sqlite.specs.declared.error.Error.{Error}
 use Rattle.sqlite.specs.declared.error.Error.TheVariants.{SqliteFailure, SqlInputError, InvalidColumnIndex, InvalidColumnType, IntegralValueOutOfRange, Utf8Error}
 use Rattle.sqlite.specs.declared.error.ErrorCode.TheVariants.{OutOfMemory}
 use Rattle.sqlite_resolve.specs.declared.error.CompileError.TheVariants as compile
-use Rattle.pid_ident.specs.declared.word_fault.WordFault.{WordFault}
-use Rattle.pid_ident.specs.declared.word_fault.WordFault.TheVariants as words
+use Rattle.pid_file.specs.declared.word_fault.WordFault.{WordFault}
+use Rattle.pid_file.specs.declared.word_fault.WordFault.TheVariants as words
 use Rattle.pid_rows.specs.declared.fault.TableFault.{TableFault}
 use Rattle.pid_rows.specs.declared.fault.TableFault.TheVariants.{Memory, Store, NewerSchema, Damaged}
 

@@ -16,7 +16,7 @@ ghost use Rattle.pid_rows.specs.Clauses.{ChangesTo, GoesOn, LeadsKeeping, Reads}
 use crate::fault::TableFault;
 use crate::run::{read_rows, write_one};
 use crate::value::{name_at, path_at, stored};
-use pid_ident::{Id16, Name, Path, hex4};
+use pid_ident::{Id16, Name, Path, PathText, hex4};
 use sqlite::types::{ToSql, ValueRef};
 use sqlite::{Alter, Connection, Row, Transaction};
 use std::alloc::{AllocError, Global};

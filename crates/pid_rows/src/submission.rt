@@ -14,7 +14,7 @@ ghost use Rattle.pid_rows.specs.Clauses.{ChangesTo, GoesOn, Reads};
 use crate::fault::TableFault;
 use crate::run::{read_rows, write_one};
 use crate::value::{account_at, path_at, proposal_at, state_at, words_at};
-use pid_ident::{Account, Path, Text, texts_have_one_path};
+use pid_ident::{Account, Path, PathText, Text, texts_have_one_path};
 use pid_moderation::{Proposal, State};
 use sqlite::types::ToSql;
 use sqlite::{Alter, Connection, Row, Transaction};

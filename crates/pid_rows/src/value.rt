@@ -6,7 +6,7 @@ ghost use Rattle.sqlite.specs.Order.{column};
 ghost use Rattle.sqlite_value.specs.Value.{owned};
 ghost use Rattle.pid_ident.specs.PathTexts.{IsTextOf, IsPath, path_text};
 ghost use Rattle.pid_ident.specs.Words.{is_name as name_rule, is_account as account_rule, is_text as text_rule};
-ghost use Rattle.pid_ident.specs.declared.path.Path.{Path as PathValue};
+ghost use Rattle.pid_file.specs.declared.path.Path.{Path as PathValue};
 ghost use Rattle.pid_moderation.specs.declared.command.Reply.{Reply as ReplyValue};
 ghost use Rattle.pid_moderation.specs.declared.rank.Rank.{Rank as RankValue};
 ghost use Rattle.pid_moderation.specs.Ranks.{rank_number};
@@ -15,7 +15,7 @@ ghost use Rattle.pid_rows.specs.Unread.{IsUnread, IsMistold, IsNumber, IsWhole, 
 ghost use Rattle.pid_rows.specs.TableRows.{number, form_of, name_of, state_number, decider_of, reason_of, kind_of, first_of, second_of, third_of};
 
 use crate::fault::TableFault;
-use pid_ident::{Account, Name, Path, Text};
+use pid_ident::{Account, Name, Path, PathText, Text};
 use pid_moderation::{Proposal, Rank, Reply, State};
 use sqlite::Row;
 use sqlite::types::ValueRef;

@@ -17,7 +17,7 @@ use Rattle.pid_moderation.specs.Writes.{tree_of}
 use Rattle.pid_moderation.specs.Faults.{IsFault}
 use Rattle.pid_lives.specs.Calls.{nothing_sent}
 use Rattle.pid_lives.specs.Registries.{Does}
-use Rattle.pid_ident.specs.declared.path.Path.{Path}
+use Rattle.pid_file.specs.declared.path.Path.{Path}
 use Rattle.pid_ident.specs.PathTexts.{path_text}
 use Rattle.pid_moderation.specs.Items.{name_at}
 use Rattle.pid_moderation.specs.Views.{items_of}

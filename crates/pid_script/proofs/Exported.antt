@@ -4,7 +4,7 @@ use Rattle.std.proofs.Common.{◌≡◌, ℕ, true, List, [], ◌++◌, Option, 
 use Rattle.std.specs.Io.KnownBytes.{Appends}
 use Rattle.std.specs.Prelude.{◌⊎◌, IsErrOf}
 use Rattle.pid_ident.specs.Sending.{SendsFront}
-use Rattle.pid_ident.specs.declared.io.WriteFault.{WriteFault as OutputFault}
+use Rattle.pid_file.specs.declared.io.WriteFault.{WriteFault as OutputFault}
 use Rattle.pid_tree.specs.Printing.{print}
 use Rattle.pid_moderation.specs.declared.refusal.Refusal.{Refusal}
 use Rattle.pid_moderation.specs.declared.refusal.Refusal.TheVariants.{Failed}

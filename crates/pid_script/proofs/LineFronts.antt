@@ -3,7 +3,7 @@ use Rattle.std.proofs.Common.{◌≡◌, ℕ, true, false, cond, eqb, List, [], 
 use Rattle.std.proofs.lemmas.List.{append-nil}
 use Rattle.pid_reader.specs.Lines.{drop_cr, pieces_of, onto_first, lines_of}
 use Rattle.pid_reader.specs.WholeLines.{ended_pieces, open_part, whole_lines, onto_ended}
-use Rattle.pid_reader.proofs.Cuts.{lines_split, last_line, lines_more, open_no_lf, open_then, piece_first}
+use Rattle.pid_file.proofs.Cuts.{lines_split, last_line, lines_more, open_no_lf, open_then, piece_first}
 
 -- of bytes without LF, one more at the front
 no_lf_cases : (b : ℕ) (bs : List ℕ) → ended_pieces (b ∷ bs) ≡ [] → (eqb b 10 ≡ false) × (ended_pieces bs ≡ [])

@@ -7,7 +7,7 @@ use Rattle.pid_ident.specs.Sending.{SendsFront}
 use Rattle.pid_reader.specs.Lines.{drop_cr, lines_of}
 use Rattle.pid_moderation.specs.History.{History}
 use Rattle.pid_reader.specs.WholeLines.{ended_pieces, open_part, whole_lines}
-use Rattle.pid_reader.proofs.Cuts.{whole_line, open_behind, whole_same, open_longer, lines_more}
+use Rattle.pid_file.proofs.Cuts.{whole_line, open_behind, whole_same, open_longer, lines_more}
 use Rattle.pid_script.specs.declared.line_end.LineEnd.{LineEnd}
 use Rattle.pid_script.specs.declared.line_end.LineEnd.TheVariants.{WriteFault}
 use Rattle.pid_script.specs.declared.moderated.Moderated.{Ghosts}

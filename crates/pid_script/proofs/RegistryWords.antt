@@ -15,7 +15,7 @@ use Rattle.pid_moderation.specs.History.{History}
 use Rattle.pid_moderation.specs.Items.{Items}
 use Rattle.pid_moderation.specs.Views.{items_of}
 use Rattle.pid_moderation.specs.Writes.{tree_of}
-use Rattle.pid_reader.proofs.Cuts.{open_line, open_more, open_no_lf}
+use Rattle.pid_file.proofs.Cuts.{open_line, open_more, open_no_lf}
 use Rattle.pid_reader.specs.WholeLines.{open_part}
 use Rattle.pid_service.specs.Asking.{MayGive}
 use Rattle.pid_service.specs.declared.exporting.ExportFault.{ExportFault}

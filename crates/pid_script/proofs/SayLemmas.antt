@@ -2,7 +2,7 @@
 use Rattle.std.proofs.Common.{◌≡◌, ℕ, suc, ◌+◌, ◌<◌, get_or, List, [], ◌++◌, length, take, drop, Option, Some, None, Result, Ok, Err, refl, inl, sym, ap, subst, ◌∙◌, append_assoc, arith}
 use Rattle.std.proofs.lemmas.List.{append-nil, length-append, take-append-le, take_more, flat_map_more}
 use Rattle.std.specs.List.{flat_map}
-use Rattle.pid_ident.proofs.SendingLemmas.{flat_map-split}
+use Rattle.pid_file.proofs.SendingLemmas.{flat_map-split}
 use Rattle.std.proofs.Math.Seq.{take-append-add}
 use Rattle.std.specs.Io.KnownBytes.{Appends}
 use Rattle.std.specs.Prelude.{OnOk, OnErr, IfErr, MatchResult}

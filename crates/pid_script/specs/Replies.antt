@@ -1,6 +1,6 @@
 -- The replies to the lines of a script, and the history behind them: choices of this project.
 use Rattle.std.specs.Prelude.{ℕ, Bool, true, false, if◌then◌else◌, List, [], ◌∷◌, ◌++◌, Option, Some, None, is_some, codes, Result, Ok, Err, is_ok}
-use Rattle.pid_ident.specs.declared.path.Path.{Path}
+use Rattle.pid_file.specs.declared.path.Path.{Path}
 use Rattle.pid_ident.specs.PathTexts.{path_text}
 use Rattle.pid_import.specs.Files.{asks}
 use Rattle.pid_lookup.specs.declared.answer.Answer.{Answer}

@@ -8,7 +8,7 @@ ghost use Rattle.pid_ident.specs.PathReading.{path_of};
 ghost use Rattle.pid_script.specs.Asking.{command_in, command_asked, other_fields, path_in as path_said, path_asked};
 
 use pid_fields::fields_of;
-use pid_ident::Path;
+use pid_ident::{Path, PathText};
 use pid_moderation::{Command, Refusal, Verb, command_of};
 use std::alloc::Global;
 

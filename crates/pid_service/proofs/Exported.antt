@@ -2,7 +2,7 @@
 use Rattle.std.proofs.Common.{◌≡◌, ℕ, List, Option, Result, Ok, Err, refl, sym, ap, subst, ◌∙◌}
 use Rattle.std.specs.Io.KnownBytes.{Appends}
 use Rattle.pid_ident.specs.Sending.{SendsFront}
-use Rattle.pid_ident.specs.declared.io.WriteFault.{WriteFault}
+use Rattle.pid_file.specs.declared.io.WriteFault.{WriteFault}
 use Rattle.pid_export.specs.declared.exporting.ExportEnd.{ExportEnd}
 use Rattle.pid_export.specs.declared.exporting.ExportEnd.TheVariants as ends
 use Rattle.pid_export.specs.Exports.{Exports}

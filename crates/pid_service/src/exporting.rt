@@ -1,6 +1,6 @@
 //! The items of a registry as the text of their tree.
 ghost use Rattle.std.specs.Prelude.{◌≡◌, false, true, Err, Some, length};
-ghost use Rattle.pid_ident.specs.declared.io.WriteFault.{WriteFault as OutputFault};
+ghost use Rattle.pid_file.specs.declared.io.WriteFault.{WriteFault as OutputFault};
 ghost use Rattle.pid_moderation.specs.History.{History};
 ghost use Rattle.pid_moderation.specs.declared.refusal.Refusal.{Refusal as RefusalValue};
 ghost use Rattle.pid_moderation.specs.Writes.{tree_of};

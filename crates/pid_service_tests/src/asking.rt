@@ -4,7 +4,7 @@
 //! caller and the file, which comes whole, or by pieces with `slowly`, or from an input that fails behind it with `broken`; or a question:
 //! `export`, `length` (of the export), `read`, `children` with a path or `top`, `submission` and `pending` with a number, `changes` with a
 //! revision and a path, if there is one, `lookup` with its fields. In a row `;` ends a line of a file and `>` is a tab.
-use pid_ident::{Account, FaultyInput, FaultyOutput, Key, Path};
+use pid_ident::{Account, FaultyInput, FaultyOutput, Key, Path, PathText};
 use pid_lookup::{Answer, LookupRefusal, args_of};
 use pid_moderation::{Proposal, Refusal, Reply, State, reply_line};
 use pid_service::{ExportFault, ImportEnd, Registry, open};

@@ -22,7 +22,7 @@ impl<'a> NotedInput<'a> {
 impl Input for NotedInput<'_> {
     ghost use Rattle.std.specs.Prelude.{◌≡◌, Some};
     ghost use Rattle.std.proofs.Common.{refl, ◌∙◌};
-    ghost use Rattle.pid_ident.specs.Reading.{HasReadOn, HasNoMore};
+    ghost use Rattle.pid_ident.specs.InputCalls.{HasReadOn, HasNoMore};
     ghost use Rattle.pid_ident.specs.ReadingLaws.{no_reads, more_reads, no_more_stays, no_more_then};
 
     ghost to_come = { λ n. Some n.input.rest.now };

@@ -2,7 +2,7 @@
 //! tables: the same replies, and now and then the same items, changes and pages.
 use crate::asking::{new_in_memory, proposed, tell_item, told};
 use crate::commands::ends_of;
-use pid_ident::{LineKind, Name, Path};
+use pid_ident::{LineKind, Name, Path, PathText};
 use pid_moderation::{Command, FileFault, State, Verb, reply_line};
 use pid_plain_registry::{FileReading, PlainRegistry};
 use pid_service::Registry;

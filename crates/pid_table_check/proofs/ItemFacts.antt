@@ -10,13 +10,13 @@ use Rattle.sqlite.specs.declared.types.Value.{Value}
 use Rattle.sqlite.specs.declared.types.Value.TheVariants.{Text}
 use Rattle.sqlite.specs.Order.{Row, column}
 use Rattle.sqlite_rules.specs.Lists.{Has}
-use Rattle.pid_ident.specs.declared.path.Path.{Path}
+use Rattle.pid_file.specs.declared.path.Path.{Path}
 use Rattle.pid_ident.specs.PathTexts.{IsPath, path_text, path_cmp, parent_of}
 use Rattle.pid_ident.specs.Trees.{text_cmp}
 use Rattle.pid_ident.specs.Words.{is_name}
 use Rattle.pid_moderation.specs.CheckTables.{most_items}
 use Rattle.pid_rows.proofs.SetLemmas.{tied}
-use Rattle.pid_tree.proofs.Kin.{same_path, parent_in_range}
+use Rattle.pid_file.proofs.Kin.{same_path, parent_in_range}
 use Rattle.pid_table_check.specs.Conditions.{HasValue, HasItem, AreItems}
 use Rattle.pid_table_check.specs.PathSets.{ArePathsOf, HasPathText, IsItemAmong}
 use Rattle.pid_table_check.proofs.Each.{each_member, each_place}

@@ -9,7 +9,7 @@ use Rattle.sqlite_rules.specs.Lists.{Has}
 use Rattle.pid_ident.specs.PathTexts.{IsPath, path_text, parent_of}
 use Rattle.pid_ident.specs.Trees.{text_cmp}
 use Rattle.pid_ident.specs.Words.{is_name}
-use Rattle.pid_ident.specs.declared.path.Path.{Path}
+use Rattle.pid_file.specs.declared.path.Path.{Path}
 use Rattle.pid_moderation.specs.History.{History}
 use Rattle.pid_moderation.specs.Items.{name_at}
 use Rattle.pid_moderation.specs.Sound.{IsSound}

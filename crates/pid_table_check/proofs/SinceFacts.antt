@@ -4,7 +4,7 @@ use Rattle.std.specs.List.{All}
 use Rattle.std.specs.BTreeSet.{BTreeSet, IsSubset}
 use Rattle.sqlite.specs.declared.types.Value.TheVariants.{Text}
 use Rattle.sqlite.specs.Order.{Row, column}
-use Rattle.pid_ident.specs.declared.path.Path.{Path}
+use Rattle.pid_file.specs.declared.path.Path.{Path}
 use Rattle.pid_ident.specs.PathTexts.{IsPath, path_text, path_cmp}
 use Rattle.pid_rows.specs.TableRows.{number}
 use Rattle.pid_table_check.specs.Conditions.{IsSinceRow, AreSinces}

@@ -8,7 +8,7 @@ use Rattle.sqlite.specs.Order.{Row, column}
 use Rattle.pid_ident.specs.Bytes.{is_empty}
 use Rattle.pid_ident.specs.PathTexts.{IsPath, path_text}
 use Rattle.pid_ident.specs.Words.{is_name, is_text}
-use Rattle.pid_ident.specs.declared.path.Path.{Path}
+use Rattle.pid_file.specs.declared.path.Path.{Path}
 use Rattle.pid_moderation.specs.declared.command.Proposal.{Proposal}
 use Rattle.pid_moderation.specs.declared.command.Proposal.TheVariants.{Name, Removal}
 use Rattle.pid_moderation.specs.declared.facts.State.{State}

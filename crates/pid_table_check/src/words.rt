@@ -7,7 +7,7 @@ ghost use Rattle.pid_ident.specs.PathTexts.{IsPath, path_text};
 ghost use Rattle.pid_ident.specs.Words.{is_name as name_test, is_text as text_test};
 
 use crate::value::text_at;
-use pid_ident::{Path, is_name, is_text};
+use pid_ident::{Path, PathText, is_name, is_text};
 use sqlite::Row;
 
 /// The path in a column.

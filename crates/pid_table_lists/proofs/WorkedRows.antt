@@ -2,7 +2,7 @@
 use Rattle.std.proofs.Common.{◌≡◌, List, [], ◌∷◌, None, Some, Ok, Err, codes, refl, ℕ, cond}
 use Rattle.std.specs.Prelude.{◌==◌, if◌then◌else◌}
 use Rattle.std.specs.Str.{bytes_eq}
-use Rattle.pid_ident.specs.declared.path.Path.TheVariants.{Vendor, Device}
+use Rattle.pid_file.specs.declared.path.Path.TheVariants.{Vendor, Device}
 use Rattle.pid_moderation.specs.declared.command.Proposal.TheVariants.{Removal}
 use Rattle.pid_moderation.specs.declared.facts.State.TheVariants.{Pending, Withdrawn}
 use Rattle.pid_moderation.specs.Items.{Items}

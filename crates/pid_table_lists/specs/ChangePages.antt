@@ -3,7 +3,7 @@ use Rattle.std.specs.Prelude.{ℕ, ◌<◌, ◌^◌, Bool, ◌&&◌, nat_lt, Lis
 use Rattle.std.specs.Ordering.{is_lt}
 use Rattle.pid_ident.specs.PathTexts.{path_text}
 use Rattle.pid_ident.specs.Trees.{text_cmp}
-use Rattle.pid_ident.specs.declared.path.Path.{Path}
+use Rattle.pid_file.specs.declared.path.Path.{Path}
 use Rattle.pid_moderation.specs.Views.{Views}
 use Rattle.pid_table_lists.specs.declared.changes.ChangedItem.{ChangedItem}
 use Rattle.pid_table_lists.specs.declared.changes.Changes.{Changes}

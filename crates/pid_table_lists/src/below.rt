@@ -18,7 +18,7 @@ ghost use Rattle.pid_table_lists.specs.Children.{stands_below, children_of};
 ghost use Rattle.pid_rows.specs.Clauses.{Reads};
 
 use crate::walk::{EachEnd, each_item};
-use pid_ident::{Id16, Name, Path, hex4};
+use pid_ident::{Id16, Name, Path, PathText, hex4};
 use pid_reader::{Entry, Sink};
 use pid_rows::TableFault;
 use pid_rows::item::{Item, edge, item_of};

@@ -17,7 +17,7 @@ ghost use Rattle.pid_table_lists.specs.ChangeRows.{since_shown, AreNamed, held a
 
 use crate::pages::PAGE;
 use crate::walk::lent;
-use pid_ident::{Name, Path};
+use pid_ident::{Name, Path, PathText};
 use pid_rows::TableFault;
 use pid_rows::item::item_name;
 use pid_rows::meta::revision;

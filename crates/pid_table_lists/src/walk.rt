@@ -17,7 +17,7 @@ ghost use Rattle.pid_table_lists.specs.declared.walk.EachEnd.TheVariants as ends
 ghost use Rattle.pid_rows.specs.Clauses.{AtRest, HasCleanDisk, OnlyReads};
 ghost use Rattle.pid_table_lists.specs.Clauses.{IsCausedEnd};
 
-use pid_ident::{Path, is_name};
+use pid_ident::{Path, PathText, is_name};
 use pid_reader::{Entry, Sink};
 use pid_rows::TableFault;
 use sqlite::types::ValueRef;

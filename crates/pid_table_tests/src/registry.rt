@@ -1,6 +1,6 @@
 //! A registry written and read back. What each call means is in its contract: the tests show that the calls succeed where
 //! there is memory, and that the texts of rows are those of SQLite.
-use pid_ident::{Account, Key, Path};
+use pid_ident::{Account, Key, Path, PathText};
 use pid_moderation::{
     Change, Command, Facts, Rank, Reply, Rows, Verb, command_of, decide, needs, reply_line,
 };

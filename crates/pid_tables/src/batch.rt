@@ -13,7 +13,7 @@ ghost use Rattle.pid_tables.specs.Clauses.{IsUndone};
 ghost use Rattle.pid_rows.specs.Clauses.{AtRest, ChangesTo, GoesOn, HasCleanDisk, Holds, IsCaused, LeadsTo, LeavesEither, Survives, Within, Written, is_open, seen};
 
 use crate::putting::{Put, put_text};
-use pid_ident::{Account, Path, Text};
+use pid_ident::{Account, Path, PathText, Text};
 use pid_moderation::{Change, Edit, Effect, Proposal, Rank, Receipt, State, Write};
 use pid_rows::TableFault;
 use pid_rows::account::{add_account, change_rank};

@@ -9,7 +9,7 @@ ghost use Rattle.pid_moderation.specs.Wants.{wanted_by};
 ghost use Rattle.pid_moderation.specs.WellMade.{AllItems, HoldsParents};
 ghost use Rattle.pid_rows.specs.Clauses.{Reads};
 
-use pid_ident::{Account, Key, Name, Path};
+use pid_ident::{Account, Key, Name, Path, PathText};
 use pid_moderation::{Facts, Named, Rank, Reply, Rows};
 use pid_rows::TableFault;
 use pid_rows::account::rank;

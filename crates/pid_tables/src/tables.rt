@@ -26,7 +26,7 @@ ghost use Rattle.pid_rows.specs.Clauses.{AtRest, HasCleanDisk, OnlyReads, Reads,
 ghost use Rattle.pid_table_lists.specs.Clauses.{IsCausedEnd};
 
 use crate::gather::gather_facts;
-use pid_ident::{Account, Key, Name, Path};
+use pid_ident::{Account, Key, Name, Path, PathText};
 use pid_moderation::{Facts, Rows};
 use pid_reader::Sink;
 use pid_rows::item::{Item, item_name};

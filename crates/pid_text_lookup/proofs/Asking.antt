@@ -6,7 +6,7 @@ use Rattle.std.specs.FinMap.{empty, from_entries, insert, get-empty, get-insert}
 use Rattle.std.specs.List.{slice_index_or}
 use Rattle.std.specs.Ordering.{eq_by_cmp}
 use Rattle.std.proofs.lemmas.Cmp.{nat_list_cmp_total}
-use Rattle.pid_ident.specs.declared.path.Path.{Path}
+use Rattle.pid_file.specs.declared.path.Path.{Path}
 use Rattle.pid_ident.specs.PathTexts.{path_text}
 use Rattle.pid_ident.specs.Trees.{TreeMap, text_cmp}
 use Rattle.pid_lookup.specs.Asked.{AgreeOn}
@@ -16,7 +16,7 @@ use Rattle.pid_reader.specs.Lines.{lines_of}
 use Rattle.pid_reader.specs.Numbered.{Numbered, item_in, numbered_of}
 use Rattle.pid_reader.specs.Reading.{refused}
 use Rattle.pid_reader.specs.Sinks.{Took}
-use Rattle.pid_reader.proofs.Feeding.{numbered-good, items_in_numbered}
+use Rattle.pid_file.proofs.Feeding.{numbered-good, items_in_numbered}
 use Rattle.pid_text_lookup.specs.AskedNames.{HasAsked, HasOnly, TakesAsked, asked_paths}
 use Rattle.pid_text_lookup.specs.Kept.{kept_map}
 use Rattle.pid_text_lookup.specs.declared.asked_names.AskedNames.{AskedNames}

@@ -6,13 +6,13 @@ use Rattle.std.specs.FinMap.{get, insert, get-insert}
 use Rattle.std.specs.List.{All, Any, slice_index_or}
 use Rattle.std.specs.Ordering.{eq_by_cmp}
 use Rattle.std.proofs.lemmas.Cmp.{nat_list_cmp_total}
-use Rattle.pid_ident.specs.declared.path.Path.{Path}
+use Rattle.pid_file.specs.declared.path.Path.{Path}
 use Rattle.pid_ident.specs.PathTexts.{path_cmp, path_text}
 use Rattle.pid_ident.specs.Trees.{TreeMap, text_cmp}
 use Rattle.pid_lookup.specs.Asked.{AgreeOn}
 use Rattle.pid_lookup.specs.Found.{name_in}
 use Rattle.pid_tree.specs.Items.{tree_of}
-use Rattle.pid_tree.proofs.Maps.{is_equal, same_texts, tree-insert}
+use Rattle.pid_file.proofs.Maps.{is_equal, same_texts, tree-insert}
 use Rattle.pid_text_lookup.specs.AskedNames.{HasOnly}
 
 -- the name of a path that is not asked for

@@ -1,5 +1,5 @@
 //! Worked trees, refusals, and writers that fail.
-use pid_ident::{FaultyOutput, Name, Path, WriteFault};
+use pid_ident::{FaultyOutput, Name, Path, PathText, WriteFault};
 use pid_tree::{Tree, TreeRefusal, write_canonical};
 use std::alloc::Global;
 use std::process::Abort;

@@ -2,8 +2,8 @@
 use Rattle.std.proofs.Common.{◌≡◌, ℕ, List, [], ◌∷◌, ◌++◌, refl, ap, true, false}
 use Rattle.std.specs.Prelude.{codes}
 use Rattle.std.specs.FinMap.{from_sorted, entries-from_sorted}
-use Rattle.pid_ident.specs.Trees.{text_cmp}
-use Rattle.pid_tree.specs.Printing.{block_line, ended, header, item_line, lines_behind, opens_block, print}
+use Rattle.pid_file.specs.Trees.{text_cmp}
+use Rattle.pid_file.specs.Printing.{block_line, ended, header, item_line, lines_behind, opens_block, print}
 
 abbrev Items : Type 0
 Items = List (List ℕ × List ℕ)

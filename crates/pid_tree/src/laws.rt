@@ -1,10 +1,10 @@
 //! Laws of the definitions. Each is the contract of a function that does nothing.
 ghost use Rattle.std.specs.Prelude.{◌≡◌};
-ghost use Rattle.pid_ident.specs.PathTexts.{path_text};
-ghost use Rattle.pid_tree.specs.Labels.{label};
-ghost use Rattle.pid_tree.specs.Printing.{label_of};
+ghost use Rattle.pid_file.specs.PathTexts.{path_text};
+ghost use Rattle.pid_file.specs.Labels.{label};
+ghost use Rattle.pid_file.specs.Printing.{label_of};
 
-use pid_ident::Path;
+use pid_file::Path;
 
 /// The label that the printed text takes from the text of a path is that of the path's kind.
 pub fn labels_are_of_paths()

@@ -2,12 +2,9 @@
 #![tactic(auto)]
 
 mod laws;
-mod print;
-mod tree;
-mod whole;
 
 pub use laws::labels_are_of_paths;
-pub use print::{
+pub use pid_file::{Tree, TreeRefusal};
+pub use pid_file::{
     opened_block, write_behind, write_block, write_canonical, write_header, write_item,
 };
-pub use tree::{Tree, TreeRefusal};

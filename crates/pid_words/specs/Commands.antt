@@ -50,10 +50,17 @@ lookup = with_rules class_rules (with_rules device_rules (command (codes "lookup
 abbrev pub script : App
 script = command (codes "script") (option (codes "db") ∷ [])
 
--- import --db FILE --account A [--key K] IDS
+-- --db FILE --account A
+abbrev pub sender_rules : List Rule
+sender_rules = required (option (codes "db")) ∷ required (option (codes "account")) ∷ []
+
+-- [--key K] IDS
+abbrev pub file_rules : List Rule
+file_rules = option (codes "key") ∷ required (operand (codes "ids")) ∷ []
+
+-- import, with all of these
 abbrev pub import : App
-import = command (codes "import") (required (option (codes "db")) ∷ required (option (codes "account")) ∷ option (codes "key")
-    ∷ required (operand (codes "ids")) ∷ [])
+import = with_rules file_rules (command (codes "import") sender_rules)
 
 -- export --db FILE
 abbrev pub export : App

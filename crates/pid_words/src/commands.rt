@@ -2,7 +2,7 @@
 ghost use Rattle.std.specs.Prelude.{◌≡◌, false, [], IfOk, codes};
 ghost use Rattle.clap.specs.Words.{app_of, new_app, rule_of, with_rule, with_subcommand};
 ghost use Rattle.clap.specs.declared.builder.command.Command.TheViews.{out-Command};
-ghost use Rattle.pid_words.specs.Commands.{care_commands, class_rules, command as command_named, commands as the_commands, counted, device_rules, export, export_commands, import, import_commands, lookup, migrate, million, operand, option as option_named, request_rules, required, script, serve, text_commands, with_rules, with_subcommands, with_version};
+ghost use Rattle.pid_words.specs.Commands.{care_commands, class_rules, command as command_named, commands as the_commands, counted, device_rules, export, export_commands, file_rules, import, import_commands, lookup, migrate, million, operand, option as option_named, request_rules, required, script, sender_rules, serve, text_commands, with_rules, with_subcommands, with_version};
 
 use clap::{Arg, Command, value_parser};
 use std::alloc::{AllocError, Global};
@@ -318,25 +318,36 @@ fn import_start<'a>(alloc: Global) -> Command<'a>
         .after_help(IMPORTS)
 }
 
+fn with_sender<'a>(alloc: Global, command: Command<'a>) -> Result<Command<'a>, AllocError>
+    requires { (out-Command command).has_globals ≡ false }
+    ensures app { IfOk result (λ c. app_of c ≡ with_rules sender_rules (app_of command.entry)) }
+    ensures local { IfOk result (λ c. (out-Command c).has_globals ≡ false) }
+{
+    command.arg(needed_db(alloc))?.arg(needed_option(
+        alloc,
+        "account",
+        "ACCOUNT",
+        "Account that imports, of rank 2 or 3",
+    ))
+}
+
+fn with_file<'a>(alloc: Global, command: Command<'a>) -> Result<Command<'a>, AllocError>
+    requires { (out-Command command).has_globals ≡ false }
+    ensures app { IfOk result (λ c. app_of c ≡ with_rules file_rules (app_of command.entry)) }
+    ensures local { IfOk result (λ c. (out-Command c).has_globals ≡ false) }
+{
+    let help = "Key under which the import is done only once";
+    command
+        .arg(option(alloc, "key", "KEY", help))?
+        .arg(ids_operand(alloc))
+}
+
 fn import_command<'a>(alloc: Global) -> Result<Command<'a>, AllocError>
     ensures app { IfOk result (λ c. app_of c ≡ import) }
     ensures local { IfOk result (λ c. (out-Command c).has_globals ≡ false) }
 {
-    import_start(alloc)
-        .arg(needed_db(alloc))?
-        .arg(needed_option(
-            alloc,
-            "account",
-            "ACCOUNT",
-            "Account that imports, of rank 2 or 3",
-        ))?
-        .arg(option(
-            alloc,
-            "key",
-            "KEY",
-            "Key under which the import is done only once",
-        ))?
-        .arg(ids_operand(alloc))
+    let command = with_sender(alloc, import_start(alloc))?;
+    with_file(alloc, command)
 }
 
 fn export_start<'a>(alloc: Global) -> Command<'a>

@@ -1,7 +1,7 @@
 -- Serves private functions alone; no promise rests on it.
 -- What the names that were found show.
 use Rattle.std.specs.Prelude.{◌≡◌, ℕ, Bool, true, false, List, Option, Some, None}
-use Rattle.pid_ident.specs.declared.path.Path.{Path}
+use Rattle.pid_file.specs.declared.path.Path.{Path}
 use Rattle.pid_lookup.specs.declared.args.Args.{Args}
 use Rattle.pid_lookup.specs.declared.find.Found.{Found}
 use Rattle.pid_lookup.specs.declared.find.Found.TheVariants as found

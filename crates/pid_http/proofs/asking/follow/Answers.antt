@@ -1,6 +1,6 @@
 use Rattle.std.proofs.Common.{◌≡◌, refl, ap, ℕ, Option}
 use Rattle.std.specs.Option.{option_copied}
-use Rattle.pid_ident.specs.declared.path.Path.{Path}
+use Rattle.pid_file.specs.declared.path.Path.{Path}
 use Rattle.pid_moderation.specs.Views.{views_of}
 use Rattle.pid_table_lists.specs.ChangePages.{changes_in, page_of, start_text}
 use Rattle.pid_table_lists.specs.declared.changes.Changes.{Changes}

@@ -1,6 +1,6 @@
 use Rattle.std.proofs.Common.{◌≡◌, refl, ap}
 use Rattle.pid_ident.specs.PathTexts.{path_text}
-use Rattle.pid_ident.specs.declared.path.Path.{Path}
+use Rattle.pid_file.specs.declared.path.Path.{Path}
 use Rattle.pid_moderation.specs.Items.{name_at}
 use Rattle.pid_moderation.specs.Views.{items_of}
 use Rattle.pid_requests.specs.declared.format.Format.{Format}

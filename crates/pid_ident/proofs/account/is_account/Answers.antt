@@ -1,6 +1,6 @@
 use Rattle.std.proofs.Common.{sym, ap, ◌∙◌, arith}
-use Rattle.pid_ident.specs.Words.{is_account}
-use Rattle.pid_ident.proofs.WordTests.{account_said}
+use Rattle.pid_file.specs.Words.{is_account}
+use Rattle.pid_file.proofs.WordTests.{account_said}
 use Rattle.pid_ident.proofs.account.is_account.Goals as goal
 
 pub returns : goal.returns

@@ -1,6 +1,6 @@
 use Rattle.std.proofs.Common.{sym, ap, ◌∙◌, arith}
-use Rattle.pid_ident.specs.Words.{is_key}
-use Rattle.pid_ident.proofs.WordTests.{key_said}
+use Rattle.pid_file.specs.Words.{is_key}
+use Rattle.pid_file.proofs.WordTests.{key_said}
 use Rattle.pid_ident.proofs.key.is_key.Goals as goal
 
 pub returns : goal.returns

@@ -1,6 +1,6 @@
 use Rattle.std.proofs.Common.{ap, ◌∙◌, arith}
-use Rattle.pid_ident.specs.Words.{is_text}
-use Rattle.pid_ident.proofs.WordTests.{text_said}
+use Rattle.pid_file.specs.Words.{is_text}
+use Rattle.pid_file.proofs.WordTests.{text_said}
 use Rattle.pid_ident.proofs.text.is_text.Goals as goal
 
 pub returns : goal.returns

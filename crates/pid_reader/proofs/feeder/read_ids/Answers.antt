@@ -1,6 +1,6 @@
 use Rattle.std.proofs.Common.{[]}
 use Rattle.std.proofs.lemmas.Result.{err_from_is_err_and, IfOk-weaker}
-use Rattle.pid_reader.proofs.Feeding.{refused_whole}
+use Rattle.pid_file.proofs.Feeding.{refused_whole}
 use Rattle.pid_reader.proofs.feeder.read_ids.Goals as goal
 
 pub returns-in_err-feed-clause-refused : goal.returns-in_err-feed-clause-refused

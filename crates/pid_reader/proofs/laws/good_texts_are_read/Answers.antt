@@ -1,7 +1,7 @@
 use Rattle.std.proofs.Common.{[], arith}
-use Rattle.pid_reader.specs.Lines.{lines_of}
+use Rattle.pid_file.specs.Lines.{lines_of}
 use Rattle.pid_reader.proofs.Refusals.{not_refused, good_by_refused}
-use Rattle.pid_reader.proofs.Counting.{few_from}
+use Rattle.pid_file.proofs.Counting.{few_from}
 use Rattle.pid_reader.proofs.laws.good_texts_are_read.Goals as goal
 
 pub returns : goal.returns

@@ -1,8 +1,8 @@
 use Rattle.std.proofs.Common.{[], ap, length, arith}
-use Rattle.pid_reader.specs.Lines.{lines_of}
-use Rattle.pid_reader.proofs.Counting.{few_from}
+use Rattle.pid_file.specs.Lines.{lines_of}
+use Rattle.pid_file.proofs.Counting.{few_from}
 use Rattle.pid_reader.proofs.EntriesTold.{entries_told, parents_told}
-use Rattle.pid_reader.proofs.Feeding.{entries-good}
+use Rattle.pid_file.proofs.Feeding.{entries-good}
 use Rattle.pid_reader.proofs.laws.texts_tell_entries.Goals as goal
 
 pub returns-clause-entries : goal.returns-clause-entries

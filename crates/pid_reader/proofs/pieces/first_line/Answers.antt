@@ -1,7 +1,7 @@
 use Rattle.std.proofs.Common.{◌≡◌, ◌∙◌, ap, arith, length, ◌<◌}
 use Rattle.std.proofs.lemmas.Bool.Decides.{nat_tests}
-use Rattle.pid_reader.specs.Lines.{pieces_of}
-use Rattle.pid_reader.proofs.Cuts.{piece_first, piece_alone}
+use Rattle.pid_file.specs.Lines.{pieces_of}
+use Rattle.pid_file.proofs.Cuts.{piece_first, piece_alone}
 use Rattle.pid_reader.proofs.pieces.first_line.Goals as goal
 
 pub returns-in-None-clause-parts : goal.returns-in-None-clause-parts

@@ -1,7 +1,7 @@
 use Rattle.std.proofs.Common.{◌≡◌, ◌++◌, ◌∷◌, [], ap, subst, sym, ◌∙◌}
 use Rattle.std.specs.Prelude.{◌||◌}
-use Rattle.pid_ident.specs.declared.path.Path.{Path}
-use Rattle.pid_ident.specs.declared.path.Path.TheVariants.{Vendor}
+use Rattle.pid_file.specs.declared.path.Path.{Path}
+use Rattle.pid_file.specs.declared.path.Path.TheVariants.{Vendor}
 use Rattle.pid_ident.specs.PathTexts.{path_text}
 use Rattle.pid_moderation.specs.Items.{has_children}
 use Rattle.pid_rows.specs.Ranges.{holds_between}

@@ -1,6 +1,6 @@
 use Rattle.std.proofs.Common.{◌∙◌, ap, arith}
 use Rattle.std.proofs.lemmas.Str.{is_utf8-from_IsUtf8}
-use Rattle.pid_reader.proofs.LineLemmas.{not_utf8}
+use Rattle.pid_file.proofs.LineLemmas.{not_utf8}
 use Rattle.pid_script.specs.ScriptLines.{text_ask}
 use Rattle.pid_script.proofs.ScriptAsks.{too_long, no_text, a_text}
 use Rattle.pid_script.proofs.line.line_asks.Goals as goal

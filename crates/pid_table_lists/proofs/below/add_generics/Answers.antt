@@ -1,7 +1,7 @@
 use Rattle.std.proofs.Common.{filter, ◌∙◌}
 use Rattle.sqlite.specs.Held.{state}
 use Rattle.pid_ident.specs.PathTexts.{path_text}
-use Rattle.pid_ident.specs.declared.path.Path.TheVariants.{Vendor}
+use Rattle.pid_file.specs.declared.path.Path.TheVariants.{Vendor}
 use Rattle.pid_rows.proofs.ChildLemmas.{generics_of}
 use Rattle.pid_table_lists.proofs.BelowLemmas.{behind, kept_items}
 use Rattle.pid_table_lists.proofs.RowLists.{read_or_caused}

@@ -1,6 +1,6 @@
 use Rattle.std.proofs.Common.{◌≡◌, ◌++◌, filter, map, ap, subst, sym, ◌∙◌}
 use Rattle.pid_ident.specs.PathTexts.{path_text}
-use Rattle.pid_ident.specs.declared.path.Path.TheVariants.{Vendor}
+use Rattle.pid_file.specs.declared.path.Path.TheVariants.{Vendor}
 use Rattle.pid_rows.specs.ItemPairs.{pair_of}
 use Rattle.pid_rows.proofs.ChildLemmas.{generics_of}
 use Rattle.pid_table_lists.proofs.BelowLemmas.{behind, child_of, vendor_joined, other_joined}

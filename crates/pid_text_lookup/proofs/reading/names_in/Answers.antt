@@ -1,4 +1,4 @@
-use Rattle.pid_reader.proofs.InputTexts.{read_whole}
+use Rattle.pid_file.proofs.InputTexts.{read_whole}
 use Rattle.pid_text_lookup.specs.AskedNames.{HasAsked}
 use Rattle.pid_text_lookup.proofs.Asking.{has_asked, has_only}
 use Rattle.pid_text_lookup.proofs.reading.names_in.Goals as goal

@@ -1,6 +1,6 @@
 use Rattle.std.proofs.Common.{Err, ap, sym, subst}
-use Rattle.pid_reader.specs.Reading.{Reads}
-use Rattle.pid_reader.proofs.Feeding.{Reads-from_sink}
+use Rattle.pid_file.specs.Reading.{Reads}
+use Rattle.pid_file.proofs.Feeding.{Reads-from_sink}
 use Rattle.pid_reader.proofs.TreeEnds.{never_missing}
 use Rattle.pid_reader.proofs.feeder.Feeder.end.Goals as goal
 

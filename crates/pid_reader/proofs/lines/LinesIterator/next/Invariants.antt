@@ -1,7 +1,7 @@
 use Rattle.std.proofs.Common.{List, Result, length, ◌≤◌}
-use Rattle.pid_reader.specs.declared.refusal.LineFault.{LineFault}
+use Rattle.pid_reader.specs.declared.line_fault.LineFault.{LineFault}
 use Rattle.pid_reader.specs.LinesLeft.{HasLeft}
-use Rattle.pid_reader.specs.Numbered.{Numbered}
+use Rattle.pid_file.specs.Numbered.{Numbered}
 use Rattle.pid_reader.proofs.lines.LinesIterator.next.Given as goal
 
 abbrev pub invariant-loop-piece : goal.invariant-loop-piece

@@ -1,7 +1,7 @@
 use Rattle.std.proofs.Common.{Some, sym, ap, ◌∙◌}
 use Rattle.pid_ident.specs.Trees.{TreeMap}
 use Rattle.pid_lookup.specs.Found.{name_in}
-use Rattle.pid_tree.proofs.Maps.{get-tree}
+use Rattle.pid_file.proofs.Maps.{get-tree}
 use Rattle.pid_text_lookup.proofs.asked_names.AskedNamesNames.name_of.Goals as goal
 
 pub returns-in_ok-copy-in-Some-clause-found : goal.returns-in_ok-copy-in-Some-clause-found

@@ -1,0 +1,116 @@
+-- Paths by their letters and numbers, and where the children of a path lie.
+use Rattle.std.proofs.Common.{◌≡◌, ℕ, ◌≤◌, false, List, [], ◌∷◌, Option, Some, None, refl, sym, ap, subst, ◌∙◌, arith, ◌⊎◌, inl, inr}
+use Rattle.std.specs.Prelude.{◌==◌, ◌↔◌, IsTrue, if◌then◌else◌}
+use Rattle.std.specs.declared.cmp.Ordering.{Ordering}
+use Rattle.std.specs.declared.cmp.Ordering.TheVariants.{Less, Equal, Greater}
+use Rattle.std.specs.Ordering.{nat_cmp, ordering_then, is_eq, is_gt}
+use Rattle.std.specs.Cmp.Lexicographic.{slice_cmp}
+use Rattle.std.specs.BTreeMap.Range.{IsLeBy}
+use Rattle.std.specs.FinMap.{slice_cmp-IsAntisymmetric, nat_cmp-IsAntisymmetric}
+use Rattle.std.proofs.lemmas.Cmp.{nat_list_cmp_total, tied_itself}
+use Rattle.std.proofs.lemmas.Bool.{cases_lt}
+use Rattle.std.proofs.lemmas.Bool.Decides.{nat_tests}
+use Rattle.pid_file.specs.declared.path.Path.{Path}
+use Rattle.pid_file.specs.declared.path.Path.TheVariants.{Vendor, Device, Subsystem, Class, Subclass, ProgIf, Generic}
+use Rattle.pid_file.specs.PathTexts.{IsPath, path_text, path_cmp, parent_of}
+use Rattle.pid_file.specs.PathPlaces.{letter_of, numbers_of}
+use Rattle.pid_file.proofs.PathOrder.{places_order}
+
+under_c : List ℕ → Option Path
+under_c (v ∷ []) = Some (Vendor v)
+under_c (v ∷ d ∷ []) = Some (Device v d)
+under_c (v ∷ d ∷ s ∷ e ∷ []) = Some (Subsystem v d s e)
+under_c _ = None
+
+under_d : List ℕ → Option Path
+under_d (c ∷ []) = Some (Class c)
+under_d (c ∷ s ∷ []) = Some (Subclass c s)
+under_d (c ∷ s ∷ p ∷ []) = Some (ProgIf c s p)
+under_d _ = None
+
+under_s : List ℕ → Option Path
+under_s (v ∷ d ∷ []) = Some (Generic v d)
+under_s _ = None
+
+-- the path of a letter and numbers
+path_at : ℕ → List ℕ → Option Path
+path_at letter numbers = if letter == 67 then under_c numbers else (if letter == 68 then under_d numbers else under_s numbers)
+
+found_at : (p : Path) → path_at (letter_of p) (numbers_of p) ≡ Some p
+unfolding path_at under_c under_d under_s
+found_at (Vendor v) = refl
+found_at (Device v d) = refl
+found_at (Subsystem v d s e) = refl
+found_at (Class c) = refl
+found_at (Subclass c s) = refl
+found_at (ProgIf c s p) = refl
+found_at (Generic v d) = refl
+
+same_places : (p q : Path) → letter_of p ≡ letter_of q → numbers_of p ≡ numbers_of q → p ≡ q
+same_places p q letters numbers =
+    let same : Some p ≡ Some q = sym (found_at p) ∙ (λ i. path_at (letters i) (numbers i)) ∙ found_at q in
+    cc
+
+then_parts : (a b : Ordering) → ordering_then a b ≡ Equal → (a ≡ Equal) × (b ≡ Equal)
+then_parts Less b h = absurd cc
+then_parts Equal b h = (refl, h)
+then_parts Greater b h = absurd cc
+
+-- paths of one text are one
+pub same_path : (p q : Path) → IsPath p → IsPath q → path_text p ≡ path_text q → p ≡ q
+same_path p q a b same =
+    let tied : path_cmp p q ≡ Equal = ap (λ (t : List ℕ). slice_cmp nat_cmp t (path_text q)) same ∙ tied_itself nat_list_cmp_total (path_text q) in
+    let parts = then_parts _ _ (sym (places_order p q a b) ∙ tied) in
+    same_places p q (nat_cmp-IsAntisymmetric _ _ parts.0) (slice_cmp-IsAntisymmetric nat_cmp-IsAntisymmetric _ _ parts.1)
+
+-- number by number no more
+abbrev pub Below : List ℕ → List ℕ → Type 0
+Below [] [] = Unit {0}
+Below [] (n ∷ ns) = ⊥
+Below (m ∷ ms) [] = ⊥
+Below (m ∷ ms) (n ∷ ns) = (m ≤ n) × Below ms ns
+
+less_or_same : (m n : ℕ) → m ≤ n → (nat_cmp m n ≡ Less) ⊎ (nat_cmp m n ≡ Equal)
+less_or_same m n h = elim (cases_lt m n) [ inl lt ↦ inl (grind (arith, nat_tests)) | inr ge ↦ inr (grind (arith, nat_tests)) ]
+
+not_above : (ms ns : List ℕ) → Below ms ns → is_gt (slice_cmp nat_cmp ms ns) ≡ false
+not_above [] [] h = refl
+not_above [] (n ∷ ns) h = absurd h
+not_above (m ∷ ms) [] h = absurd h
+not_above (m ∷ ms) (n ∷ ns) h = elim (less_or_same m n h.0) [
+  | inl less ↦ ap (λ o. is_gt (ordering_then o (slice_cmp nat_cmp ms ns))) less
+  | inr same ↦ ap (λ o. is_gt (ordering_then o (slice_cmp nat_cmp ms ns))) same ∙ not_above ms ns h.1
+]
+
+then_right : (a b : Ordering) → a ≡ Equal → is_gt (ordering_then a b) ≡ is_gt b
+then_right a b h = ap (λ o. is_gt (ordering_then o b)) h
+
+-- a path is no greater than one of its letter whose numbers are no less
+pub ordered_places : (p q : Path) → IsPath p → IsPath q → nat_cmp (letter_of p) (letter_of q) ≡ Equal → Below (numbers_of p) (numbers_of q) → IsLeBy path_cmp p q
+ordered_places p q a b letters numbers = ap is_gt (places_order p q a b) ∙ then_right _ _ letters ∙ not_above _ _ numbers
+
+pub parent_in_range : (q r : Path) → parent_of q ≡ Some r → IsPath q → IsPath r
+parent_in_range (Vendor v) r h x = absurd cc
+parent_in_range (Device v d) r h x = let same : Vendor v ≡ r = cc in subst IsPath same x.0
+parent_in_range (Subsystem v d s e) r h x = let same : Device v d ≡ r = cc in subst IsPath same (x.0, x.1)
+parent_in_range (Class c) r h x = absurd cc
+parent_in_range (Subclass c s) r h x = let same : Class c ≡ r = cc in subst IsPath same x.0
+parent_in_range (ProgIf c s p) r h x = let same : Subclass c s ≡ r = cc in subst IsPath same (x.0, x.1)
+parent_in_range (Generic v d) r h x = let same : Vendor v ≡ r = cc in subst IsPath same x.0
+
+-- a path is a key's parent where the parent that the key has compares equal
+pub parent_test : (key parent path : Path) → IsPath key → IsPath path → parent_of key ≡ Some parent → IsTrue (is_eq (path_cmp parent path)) ↔ (parent_of key ≡ Some path)
+parent_test key parent path a b is = (
+  λ equal. is ∙ ap (λ p. Some p) (same_path parent path (parent_in_range key parent is a) b (slice_cmp-IsAntisymmetric nat_cmp-IsAntisymmetric _ _ (equal_order _ equal))),
+  λ same.
+      let one : parent ≡ path = some_same _ _ (sym is ∙ same) in
+      ap is_eq (ap (λ (p : Path). path_cmp p path) one ∙ tied_itself nat_list_cmp_total (path_text path)),
+)
+  where
+    equal_order : (o : Ordering) → IsTrue (is_eq o) → o ≡ Equal
+    equal_order Less h = absurd cc
+    equal_order Equal h = refl
+    equal_order Greater h = absurd cc
+
+    some_same : (p q : Path) → Some p ≡ Some q → p ≡ q
+    some_same p q h = cc

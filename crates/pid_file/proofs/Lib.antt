@@ -1,0 +1,20 @@
+pub mod PathOrder
+pub mod WordTests
+pub mod SendingLemmas
+pub mod Kin
+pub mod Maps
+pub mod Between
+pub mod Childless
+pub mod Removed
+pub mod Written
+mod WholeLemmas
+pub mod LineLemmas
+pub mod LineSays
+pub mod Cuts
+pub mod Feeding
+pub mod OneMoreLine
+pub mod Counting
+pub mod FrontEnds
+pub mod InputTexts
+mod Rising
+pub mod Telling

@@ -1,0 +1,20 @@
+use Rattle.std.proofs.Common.{◌∙◌, sym}
+use Rattle.std.proofs.lemmas.Result.{err_from_is_err_and}
+use Rattle.pid_file.specs.declared.entry_line.Place.TheVariants.{Vendor, Class}
+use Rattle.pid_file.proofs.LineSays.{entry_read, fault_read}
+use Rattle.pid_file.proofs.open_levels.read_head.Goals as goal
+
+pub returns-in_err-vendor-in-Devices-clause-fault : goal.returns-in_err-vendor-in-Devices-clause-fault
+returns-in_err-vendor-in-Devices-clause-fault c earlier =
+    let p = err_from_is_err_and c.from_residual.result c.from_residual.ensures.1 in
+    rw (p.1, p.2) (fault_read Vendor earlier c.args.line.now c.split_mark-mark.result.1.now _ c.requires.text c.requires.active (c.requires.flat, sym c.split_mark-mark.ensures.mark ∙ c.in-Devices.is) c.split_mark-mark.ensures.inside c.in_err-vendor-in-Devices.ensures.fault)
+
+pub returns-in_err-class-in-Classes-clause-fault : goal.returns-in_err-class-in-Classes-clause-fault
+returns-in_err-class-in-Classes-clause-fault c earlier =
+    let p = err_from_is_err_and c.from_residual-in_err-class-in-Classes.result c.from_residual-in_err-class-in-Classes.ensures.1 in
+    rw (p.1, p.2) (fault_read Class earlier c.args.line.now c.split_mark-mark.result.1.now _ c.requires.text c.requires.active (c.requires.flat, sym c.split_mark-mark.ensures.mark ∙ c.in-Classes.is) c.split_mark-mark.ensures.inside c.in_err-class-in-Classes.ensures.fault)
+
+pub returns-in_ok-vendor-in-Devices-clause-says : goal.returns-in_ok-vendor-in-Devices-clause-says
+returns-in_ok-vendor-in-Devices-clause-says c at earlier =
+    let e = c.in_ok-vendor-in-Devices.ensures in
+    entry_read at Vendor earlier c.args.line.now c.split_mark-mark.result.1.now c.in_ok-vendor-in-Devices.vendor c.requires.text c.requires.active (c.requires.flat, sym c.split_mark-mark.ensures.mark ∙ c.in-Devices.is) c.split_mark-mark.ensures.inside e.path e.name e.good

@@ -1,0 +1,19 @@
+use Rattle.std.proofs.Common.{◌≡◌, ◌∙◌, sym, Ok, Some}
+use Rattle.std.proofs.lemmas.Result.{err_from_is_err_and}
+use Rattle.pid_file.specs.OpenLevels.{below}
+use Rattle.pid_file.proofs.LineSays.{entry_read, fault_read, place_is, inside_nested}
+use Rattle.pid_file.proofs.open_levels.read_nested.Goals as goal
+
+pub returns-in_err-named-clause-fault : goal.returns-in_err-named-clause-fault
+returns-in_err-named-clause-fault c earlier shown =
+    let p = err_from_is_err_and c.from_residual-in_err-named.result c.from_residual-in_err-named.ensures.1 in
+    let found : below c.args.levels c.args.depth ≡ Ok (Some c.in-Some.place) = cc (c.place_below.ensures, c.in_ok-place.was, c.in-Some.is) in
+    let nested = rw (← c.requires.depth) at c.requires.nested in
+    rw (p.1, p.2) (fault_read c.in-Some.place earlier c.args.line.now c.args.body.now _ c.requires.text c.requires.active (place_is c.args.levels c.args.depth c.in-Some.place earlier c.args.line.now c.requires.depth shown found) (sym c.requires.body ∙ sym (inside_nested c.args.line.now nested)) c.in_err-named.ensures.fault)
+
+pub returns-clause-says : goal.returns-clause-says
+returns-clause-says c earlier shown =
+    let e = c.in_ok-named.ensures in
+    let found : below c.args.levels c.args.depth ≡ Ok (Some c.in-Some.place) = cc (c.place_below.ensures, c.in_ok-place.was, c.in-Some.is) in
+    let nested = rw (← c.requires.depth) at c.requires.nested in
+    entry_read c.args.levels c.in-Some.place earlier c.args.line.now c.args.body.now c.in_ok-named.named c.requires.text c.requires.active (place_is c.args.levels c.args.depth c.in-Some.place earlier c.args.line.now c.requires.depth shown found) (sym c.requires.body ∙ sym (inside_nested c.args.line.now nested)) e.path e.name e.good

@@ -1,0 +1,28 @@
+-- What is kept of the lines that were read shows them, the last one first.
+-- Serves private functions alone; no promise rests on it.
+use Rattle.std.specs.Prelude.{◌≡◌, ℕ, List, [], ◌∷◌, Option, Some, None, length}
+use Rattle.pid_file.specs.declared.path.Path.{Path}
+use Rattle.pid_file.specs.PathTexts.{path_text}
+use Rattle.pid_file.specs.declared.open_levels.OpenLevels.{OpenLevels}
+use Rattle.pid_file.specs.declared.progress.Progress.{Progress}
+use Rattle.pid_file.specs.declared.sink.Entry.{Entry}
+use Rattle.pid_file.specs.LookingBack.{entries_back, is_told}
+use Rattle.pid_file.specs.Numbered.{Numbered, as_told}
+use Rattle.pid_file.specs.OpenLevels.{IsOpenAt}
+use Rattle.pid_file.specs.SeenPaths.{IsRising, has_path, paths_of}
+
+pub record IsShown (at : OpenLevels) (seen : List Path) (lines : ℕ) (earlier : List (List ℕ)) : Type 0 where
+  pub paths : (q : Path) → has_path seen q ≡ is_told earlier (path_text q)
+  pub count : length seen ≡ length (entries_back earlier)
+  pub levels : IsOpenAt at earlier
+  pub number : lines ≡ length earlier
+
+-- the kept run of paths rises, and what is kept shows the lines
+pub record Shows (p : Progress) (earlier : List (List ℕ)) : Type 0 where
+  pub rising : IsRising p.seen.run.items
+  pub shown : IsShown p.levels (paths_of p.seen) p.lines earlier
+
+-- the entry that is given, if any
+abbrev pub given : Option Entry → List Numbered
+given None = []
+given (Some e) = as_told e ∷ []

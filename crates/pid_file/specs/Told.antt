@@ -1,0 +1,34 @@
+-- How the fault of a text is reported.
+use Rattle.std.specs.Prelude.{ℕ, ◌⊎◌, List, Option}
+use Rattle.std.specs.Io.KnownBytes.{Appends, Keeps}
+use Rattle.pid_file.specs.Sending.{SendsFront}
+use Rattle.pid_file.specs.Judgements.{IsFaultOf}
+use Rattle.pid_file.specs.TextEnds.{fault_line}
+use Rattle.pid_file.specs.declared.text_end.TextEnd.{TextEnd}
+use Rattle.pid_file.specs.declared.text_end.TextEnd.TheVariants.{Done, Line, TooManyEntries, TooLarge, Memory, ReadFault, WriteFault}
+
+-- the end is a fault of the text or out of memory, and its line was written
+pub record TellsFault (end : TextEnd) (text : List ℕ) (old new : Option (List ℕ)) : Type 0 where
+  pub is_fault : IsFaultOf end text
+  pub told : Appends old new (fault_line end)
+
+-- the writer failed, and a prefix of a fault line or of the line for out of memory was written
+pub record TellsFront (text : List ℕ) (old new : Option (List ℕ)) : Type 0 where
+  pub end : TextEnd
+  pub is_fault : IsFaultOf end text
+  pub told : SendsFront old new (fault_line end)
+
+-- the writer took the line, or failed within it
+abbrev pub TriesLine : Option (List ℕ) → Option (List ℕ) → List ℕ → Type 0
+TriesLine old new line = Appends old new line ⊎ SendsFront old new line
+
+-- an end without a result: a fault of the text and out of memory are reported, a fault of the
+-- reader is not
+abbrev pub IsTold : TextEnd → List ℕ → Option (List ℕ) → Option (List ℕ) → Type 0
+IsTold Done text old new = ⊥
+IsTold (Line line kind) text old new = TellsFault (Line line kind) text old new
+IsTold TooManyEntries text old new = TellsFault TooManyEntries text old new
+IsTold TooLarge text old new = TellsFault TooLarge text old new
+IsTold Memory text old new = TellsFault Memory text old new
+IsTold ReadFault text old new = Keeps old new
+IsTold WriteFault text old new = TellsFront text old new

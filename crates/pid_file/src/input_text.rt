@@ -1,0 +1,72 @@
+//! What the text of an input says: its tree, and the number of its entries.
+ghost use Rattle.std.specs.Prelude.{◌≡◌, ◌↔◌, ◌+◌, ◌≤◌, ℕ, List, Err, IsSome, IfSome, length};
+ghost use Rattle.std.specs.Io.KnownBytes.{Consumes};
+ghost use Rattle.pid_file.specs.Reading.{Reads};
+ghost use Rattle.pid_file.specs.InputTexts.{HasEntries, IsRead, without_fault};
+
+use crate::counter::{Counter, Never};
+use crate::io::Input;
+use crate::refusal::ReadRefusal;
+use crate::sink::CutEnd;
+use crate::tree::Tree;
+use crate::tree_sink::TreeSink;
+use crate::whole_input::{InputEnd, cut_input};
+use std::alloc::{AllocError, Global};
+
+// The end without the fault of a sink, which is want of memory.
+fn end_of(end: InputEnd<AllocError>) -> InputEnd<Never>
+    ensures end { result ≡ without_fault end }
+    ensures fault { (result ≡ InputEnd.ReadFault) ↔ (end ≡ InputEnd.ReadFault) }
+{
+    match end {
+        InputEnd::ReadFault => InputEnd::ReadFault,
+        InputEnd::TooLong => InputEnd::TooLong,
+        InputEnd::Cut(CutEnd::Refused(refusal)) => InputEnd::Cut(CutEnd::Refused(refusal)),
+        InputEnd::Cut(CutEnd::Fault(AllocError)) => {
+            InputEnd::Cut(CutEnd::Refused(ReadRefusal::Memory))
+        }
+    }
+}
+
+/// The tree of the input's text. A fault of the input is told before all else, and a text of more than `limit` bytes
+/// before what is refused in it. One byte past the limit is read, to know it, and no other.
+pub fn read_input<I: Input>(
+    alloc: Global,
+    limit: usize,
+    input: &mut I,
+) -> Result<Tree, InputEnd<Never>>
+    ensures end { IfSome (I.to_come input.old) (λ text. IsRead Reads limit result text) }
+    ensures stops { (front : List ℕ) × Consumes (I.to_come input.old) (I.to_come input.new) front × (length front ≤ limit + 1) }
+    ensures fault { result ≡ Err InputEnd.ReadFault → IsSome (I.read_fault input.new) }
+    ensures fault_first { IsSome (I.read_fault input.new) → result ≡ Err InputEnd.ReadFault }
+    ensures goes { I.goes input.old input.new }
+{
+    let mut sink = TreeSink::new(alloc);
+    match cut_input(alloc, limit, input, &mut sink) {
+        Ok(()) => match sink.into_tree() {
+            Ok(tree) => Ok(tree),
+            Err(_) => Err(InputEnd::Cut(CutEnd::Refused(ReadRefusal::Memory))),
+        },
+        Err(end) => Err(end_of(end)),
+    }
+}
+
+/// The number of the entries of the input's text, without keeping their names. Faults are told as by `read_input`, and
+/// as much is read.
+pub fn count_input<I: Input>(
+    alloc: Global,
+    limit: usize,
+    input: &mut I,
+) -> Result<u64, InputEnd<Never>>
+    ensures end { IfSome (I.to_come input.old) (λ text. IsRead HasEntries limit result text) }
+    ensures stops { (front : List ℕ) × Consumes (I.to_come input.old) (I.to_come input.new) front × (length front ≤ limit + 1) }
+    ensures fault { result ≡ Err InputEnd.ReadFault → IsSome (I.read_fault input.new) }
+    ensures fault_first { IsSome (I.read_fault input.new) → result ≡ Err InputEnd.ReadFault }
+    ensures goes { I.goes input.old input.new }
+{
+    let mut counter = Counter { count: 0 };
+    match cut_input(alloc, limit, input, &mut counter) {
+        Ok(()) => Ok(counter.count),
+        Err(end) => Err(end),
+    }
+}

@@ -1,0 +1,66 @@
+//! A file of PCI identifiers: its bytes, its entries, its tree, and its canonical text.
+//!
+//! All that the program needs without arguments, for `tidy` and for `check` stands here, and
+//! nothing that only a registry needs. `pid_ident`, `pid_tree`, `pid_reader` and `pid_texts` hand
+//! it on to the crates above.
+#![tactic(auto)]
+
+mod bytes;
+mod checking;
+mod counter;
+mod cutter;
+mod entry_line;
+mod identifier;
+mod input_text;
+mod io;
+mod line;
+mod line_kind;
+mod name;
+mod open_levels;
+mod path;
+mod pieces;
+mod plain;
+mod print;
+mod process;
+mod progress;
+mod refusal;
+mod seen;
+mod sink;
+mod text_end;
+mod tidying;
+mod told;
+mod tree;
+mod tree_sink;
+mod watched;
+mod whole;
+mod whole_input;
+mod word_fault;
+
+pub use bytes::{are_printed, is_empty};
+pub use checking::check;
+pub use counter::{Counter, Never};
+pub use cutter::Cutter;
+pub use identifier::{Id8, Id16, hex2, hex4};
+pub use input_text::{count_input, read_input};
+pub use io::{Input, Output, ReadFault, WriteFault, write_all, write_parts};
+pub use line::without_cr;
+pub use line_kind::LineKind;
+pub use name::{Name, is_name};
+pub use open_levels::{OpenLevels, Said, read_line};
+pub use path::{Path, PathKind};
+pub use pieces::split_line;
+pub use plain::Plain;
+pub use print::{
+    opened_block, write_behind, write_block, write_canonical, write_header, write_item,
+};
+pub use process::{FAILED, run_check, run_tidy, tell_end, tell_failed};
+pub use refusal::ReadRefusal;
+pub use sink::{CutEnd, Entry, Sink};
+pub use text_end::{LARGEST, TextEnd, end_of};
+pub use tidying::tidy;
+pub use told::tell_unread;
+pub use tree::{Tree, TreeRefusal};
+pub use tree_sink::{TreeFault, TreeSink};
+pub use watched::Watched;
+pub use whole_input::{BUFFER, InputEnd, SkipEnd, cut_input, next_piece};
+pub use word_fault::WordFault;

@@ -1,0 +1,98 @@
+//! Names of items.
+ghost use Rattle.std.specs.Prelude.{◌≡◌, ◌↔◌, false, IsTrue, IfOk, IsErrOf};
+ghost use Rattle.pid_file.specs.Words.{is_name as name_test};
+
+use crate::bytes::{are_printed, begins_blank, is_empty};
+use crate::word_fault::WordFault;
+use std::alloc::{AllocError, Global};
+use std::marker::Model;
+
+/// A name of an item: text of 1 to 1,000 bytes that begins with no blank and holds no control byte but tabs. Blanks at its end belong to it.
+#[derive(Debug, Drop)]
+pub struct Name {
+    text: String,
+}
+
+impl Model for Name {
+    ghost use Rattle.std.specs.Prelude.{ℕ, List, string_bytes, IsTrue};
+    ghost use Rattle.pid_file.specs.Words.{is_name};
+
+    ghost Value = { List ℕ };
+
+    ghost view = { λ word. string_bytes word.text };
+
+    ghost invariant = { λ word. IsTrue (is_name (string_bytes word.text)) };
+}
+
+impl Name {
+    /// The text as a name, kept byte for byte; `Bad` exactly where it breaks the rule.
+    pub fn of(alloc: Global, text: &str) -> Result<Name, WordFault>
+        ensures ok { IfOk result (λ word. word ≡ text.now) }
+        ensures bad { IsErrOf result WordFault.Bad ↔ (name_test text.now ≡ false) }
+    {
+        if !is_name(text) {
+            return Err(WordFault::Bad);
+        }
+        Ok(Name {
+            text: String::from_str(alloc, text)?,
+        })
+    }
+
+    /// The text as a name, where it is known to keep the rule.
+    pub fn of_checked(alloc: Global, text: &str) -> Result<Name, AllocError>
+        requires { IsTrue (name_test text.now) }
+        ensures { IfOk result (λ word. word ≡ text.now) }
+    {
+        Ok(Name {
+            text: String::from_str(alloc, text)?,
+        })
+    }
+
+    /// The bytes that were given, as text. They keep the rule of names.
+    pub fn as_str(&self) -> &str
+        ensures text { result.now ≡ self.now }
+        ensures checked { IsTrue (name_test self.now) }
+    {
+        self.text.as_str()
+    }
+
+    /// The same name once more.
+    pub fn copy(&self) -> Result<Name, AllocError>
+        ensures { IfOk result (λ word. word ≡ self.now) }
+    {
+        Ok(Name {
+            text: self.text.clone()?,
+        })
+    }
+}
+
+impl PartialEq for Name {
+    ghost use Rattle.std.specs.Str.{bytes_eq};
+    ghost use Rattle.std.specs.Cmp.{partial_equiv_from_equiv};
+    ghost use Rattle.std.specs.Cmp.Lexicographic.{nat_list_eq_equiv};
+
+    ghost eq = { bytes_eq };
+
+    ghost laws = { partial_equiv_from_equiv nat_list_eq_equiv };
+
+    fn eq(&self, other: &Name) -> bool {
+        self.text == other.text
+    }
+}
+
+impl Eq for Name {
+    ghost use Rattle.std.specs.Cmp.Lexicographic.{nat_list_eq_equiv};
+
+    ghost laws = { nat_list_eq_equiv };
+}
+
+/// Whether a text may be a name.
+pub fn is_name(text: &str) -> bool
+    ensures { result ≡ name_test text.now }
+{
+    let bytes = text.as_bytes();
+    if is_empty(bytes) || bytes.len() > 1000 || begins_blank(bytes) {
+        return false;
+    }
+    are_printed(bytes)
+}

@@ -1,0 +1,199 @@
+//! The open levels, and what a line says below them.
+ghost use Rattle.std.specs.Prelude.{◌≡◌, ◌==◌, ℕ, List, true, false, Some, IfOk, IfErr};
+ghost use Rattle.std.specs.Str.{is_utf8 as utf8_bytes};
+ghost use Rattle.pid_file.specs.Marks.{is_idle as idle_line, depth as tabs, body as behind_tabs};
+ghost use Rattle.pid_file.specs.Faults.{line_fault_of};
+ghost use Rattle.pid_file.specs.OpenLevels.{IsOpenAt, IsNamed, Says};
+ghost use Rattle.pid_file.specs.OpenLevels.{first_below as below_at_one, second_below as below_at_two, deeper_below as below_deeper, below as below_at};
+ghost use Rattle.pid_file.specs.OpenLevels.{open_below as levels_below, open_behind as levels_behind};
+
+use crate::entry_line::{Named, Place, read_columns, vendor_of_block};
+use crate::identifier::{Id8, Id16};
+use crate::line::{Mark, is_idle, is_utf8, split_depth, split_mark};
+use crate::line_kind::LineKind;
+use crate::path::Path;
+
+/// What the next nested line can belong to.
+#[derive(Clone, Copy)]
+pub enum OpenLevels {
+    /// No top-level line has come.
+    Nothing,
+    /// A block that is not known, whose lines are skipped.
+    Unknown,
+    Vendor { vendor: Id16 },
+    Device { vendor: Id16, device: Id16 },
+    Class { class: Id8 },
+    Subclass { class: Id8, subclass: Id8 },
+    /// A block of generic subsystems of a vendor.
+    Generics { vendor: Id16 },
+}
+
+/// What a line says.
+#[derive(Clone, Copy)]
+pub enum Said<'a> {
+    Nothing,
+    /// A block that is not known begins.
+    Unknown,
+    /// A block of generic subsystems begins.
+    Block { vendor: Id16 },
+    Entry(Named<'a>),
+}
+
+// What a line of depth 1 names, if it is not skipped.
+fn first_below(levels: OpenLevels) -> Result<Option<Place>, LineKind>
+    ensures { result ≡ below_at_one levels }
+{
+    match levels {
+        OpenLevels::Nothing => Err(LineKind::NoParent),
+        OpenLevels::Unknown => Ok(None),
+        OpenLevels::Vendor { vendor } | OpenLevels::Device { vendor, .. } => {
+            Ok(Some(Place::Device { vendor }))
+        }
+        OpenLevels::Class { class } | OpenLevels::Subclass { class, .. } => {
+            Ok(Some(Place::Subclass { class }))
+        }
+        OpenLevels::Generics { vendor } => Ok(Some(Place::Generic { vendor })),
+    }
+}
+
+// What a line of depth 2 names, if it is not skipped.
+fn second_below(levels: OpenLevels) -> Result<Option<Place>, LineKind>
+    ensures { result ≡ below_at_two levels }
+{
+    match levels {
+        OpenLevels::Unknown => Ok(None),
+        OpenLevels::Nothing | OpenLevels::Vendor { .. } | OpenLevels::Class { .. } => {
+            Err(LineKind::NoParent)
+        }
+        OpenLevels::Device { vendor, device } => Ok(Some(Place::Subsystem { vendor, device })),
+        OpenLevels::Subclass { class, subclass } => Ok(Some(Place::ProgIf { class, subclass })),
+        OpenLevels::Generics { .. } => Err(LineKind::TooDeep),
+    }
+}
+
+// No line below depth 2 names anything.
+fn deeper_below(levels: OpenLevels) -> Result<Option<Place>, LineKind>
+    ensures { result ≡ below_deeper levels }
+{
+    match levels {
+        OpenLevels::Unknown => Ok(None),
+        _ => Err(LineKind::TooDeep),
+    }
+}
+
+// What a line of this depth, which is not 0, names, if it is not skipped.
+fn place_below(levels: OpenLevels, depth: usize) -> Result<Option<Place>, LineKind>
+    ensures { result ≡ below_at levels depth }
+{
+    if depth == 1 {
+        first_below(levels)
+    } else if depth == 2 {
+        second_below(levels)
+    } else {
+        deeper_below(levels)
+    }
+}
+
+// Reads a nested line.
+fn read_nested<'b>(
+    levels: OpenLevels,
+    line: &'b [u8],
+    depth: usize,
+    body: &'b [u8],
+) -> Result<Said<'b>, LineKind>
+    requires text { utf8_bytes line.now ≡ true }
+    requires active { idle_line line.now ≡ false }
+    requires nested { (depth == 0) ≡ false }
+    requires depth { tabs line.now ≡ depth }
+    requires body { behind_tabs line.now ≡ body.now }
+    ensures says { (earlier : List (List ℕ)) → IsOpenAt levels earlier → IfOk result (λ s. Says levels earlier line.now s) }
+    ensures named { IfOk result (λ s. IsNamed s) }
+    ensures fault { (earlier : List (List ℕ)) → IsOpenAt levels earlier → IfErr result (λ kind. line_fault_of earlier line.now ≡ Some kind) }
+{
+    let Some(place) = place_below(levels, depth)? else {
+        return Ok(Said::Nothing);
+    };
+    let named = read_columns(place, body)?;
+    Ok(Said::Entry(named))
+}
+
+// Reads a line of depth 0.
+fn read_head(line: &[u8]) -> Result<Said<'_>, LineKind>
+    requires text { utf8_bytes line.now ≡ true }
+    requires active { idle_line line.now ≡ false }
+    requires flat { tabs line.now ≡ 0 }
+    ensures says { (levels : OpenLevels) (earlier : List (List ℕ)) → IfOk result (λ s. Says levels earlier line.now s) }
+    ensures named { IfOk result (λ s. IsNamed s) }
+    ensures fault { (earlier : List (List ℕ)) → IfErr result (λ kind. line_fault_of earlier line.now ≡ Some kind) }
+{
+    let (mark, behind) = split_mark(line);
+    match mark {
+        Mark::Devices => {
+            let vendor = read_columns(Place::Vendor, behind)?;
+            Ok(Said::Entry(vendor))
+        }
+        Mark::Classes => {
+            let class = read_columns(Place::Class, behind)?;
+            Ok(Said::Entry(class))
+        }
+        Mark::Generics => match vendor_of_block(behind) {
+            Some(vendor) => Ok(Said::Block { vendor }),
+            None => Err(LineKind::BadId),
+        },
+        Mark::Unknown => Ok(Said::Unknown),
+    }
+}
+
+/// Reads a line below the open levels.
+pub fn read_line<'b>(levels: OpenLevels, line: &'b [u8]) -> Result<Said<'b>, LineKind>
+    ensures says { (earlier : List (List ℕ)) → IsOpenAt levels earlier → IfOk result (λ s. Says levels earlier line.now s) }
+    ensures named { IfOk result (λ s. IsNamed s) }
+    ensures fault { (earlier : List (List ℕ)) → IsOpenAt levels earlier → IfErr result (λ kind. line_fault_of earlier line.now ≡ Some kind) }
+{
+    if !is_utf8(line) {
+        return Err(LineKind::NotUtf8);
+    }
+    if is_idle(line) {
+        return Ok(Said::Nothing);
+    }
+    let (depth, body) = split_depth(line);
+    if depth == 0 {
+        read_head(line)
+    } else {
+        read_nested(levels, line, depth, body)
+    }
+}
+
+// The levels that are open behind an entry.
+fn open_below(path: Path) -> OpenLevels
+    ensures { result ≡ levels_below path }
+{
+    match path {
+        Path::Vendor { vendor } => OpenLevels::Vendor { vendor },
+        Path::Device { vendor, device } | Path::Subsystem { vendor, device, .. } => {
+            OpenLevels::Device { vendor, device }
+        }
+        Path::Class { class } => OpenLevels::Class { class },
+        Path::Subclass { class, subclass }
+        | Path::ProgIf {
+            class,
+            subclass,
+            ..
+        } => { OpenLevels::Subclass { class, subclass } }
+        Path::Generic { vendor, .. } => OpenLevels::Generics { vendor },
+    }
+}
+
+impl OpenLevels {
+    /// The levels that are open behind a line.
+    pub fn behind(self, said: &Said<'_>) -> OpenLevels
+        ensures { result ≡ levels_behind self said.now }
+    {
+        match *said {
+            Said::Nothing => self,
+            Said::Unknown => OpenLevels::Unknown,
+            Said::Block { vendor } => OpenLevels::Generics { vendor },
+            Said::Entry(entry) => open_below(entry.path),
+        }
+    }
+}

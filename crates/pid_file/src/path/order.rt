@@ -1,0 +1,125 @@
+//! The bytewise order of the texts of paths, without the texts: the letter of the front decides, and then the numbers.
+ghost use Rattle.std.specs.Prelude.{◌≡◌, Some, slice_get};
+ghost use Rattle.std.specs.Ordering.{on, eq_by_cmp, as_partial_cmp};
+ghost use Rattle.std.specs.Cmp.{on_total, eq_by_cmp_equiv, partial_equiv_from_equiv, partial_order_from_own_ties};
+ghost use Rattle.std.specs.Cmp.Lexicographic.{nat_list_cmp_total};
+ghost use Rattle.std.specs.Cmp.Rules.{comparing};
+ghost use Rattle.std.proofs.Common.{refl, rules};
+ghost use Rattle.pid_file.specs.PathTexts.{IsPath, path_text, path_cmp};
+ghost use Rattle.pid_file.specs.PathPlaces.{letter_of, numbers_of, rest_cmp};
+
+use super::Path;
+use std::cmp::Ordering;
+
+// The letter of the front, and the first number: most paths differ there.
+#[derive(Clone, Copy)]
+struct Head {
+    letter: u8,
+    first: u16,
+}
+
+fn head_of(path: Path) -> Head
+    ensures letter { result.letter ≡ letter_of path }
+    ensures first { Some result.first ≡ slice_get (numbers_of path) 0 }
+    ensures in_range { IsPath path }
+{
+    let (letter, first) = match path {
+        Path::Vendor { vendor } | Path::Device { vendor, .. } | Path::Subsystem { vendor, .. } => {
+            (b'C', vendor)
+        }
+        Path::Class { class } | Path::Subclass { class, .. } | Path::ProgIf { class, .. } => {
+            (b'D', class as u16)
+        }
+        Path::Generic { vendor, .. } => (b'S', vendor),
+    };
+    Head { letter, first }
+}
+
+fn second_of(path: Path) -> Option<u16>
+    ensures { result ≡ slice_get (numbers_of path) 1 }
+{
+    match path {
+        Path::Vendor { .. } | Path::Class { .. } => None,
+        Path::Device { device, .. }
+        | Path::Subsystem { device, .. }
+        | Path::Generic { device, .. } => { Some(device) }
+        Path::Subclass { subclass, .. } | Path::ProgIf { subclass, .. } => Some(subclass as u16),
+    }
+}
+
+fn third_of(path: Path) -> Option<u16>
+    ensures { result ≡ slice_get (numbers_of path) 2 }
+{
+    match path {
+        Path::Subsystem { subvendor, .. } => Some(subvendor),
+        Path::ProgIf { progif, .. } => Some(progif as u16),
+        _ => None,
+    }
+}
+
+fn fourth_of(path: Path) -> Option<u16>
+    ensures { result ≡ slice_get (numbers_of path) 3 }
+{
+    match path {
+        Path::Subsystem { subdevice, .. } => Some(subdevice),
+        _ => None,
+    }
+}
+
+// By the numbers behind the first: a missing one comes before every other.
+fn compare_rests(mine: Path, theirs: Path) -> Ordering
+    ensures { result ≡ rest_cmp (numbers_of mine) (numbers_of theirs) }
+{
+    let by_second = second_of(mine).cmp(&second_of(theirs));
+    if by_second.is_ne() {
+        return by_second;
+    }
+    let by_third = third_of(mine).cmp(&third_of(theirs));
+    let by_fourth = fourth_of(mine).cmp(&fourth_of(theirs));
+    by_third.then(by_fourth)
+}
+
+impl PartialEq for Path {
+    ghost eq = { eq_by_cmp path_cmp };
+
+    ghost laws = { partial_equiv_from_equiv (eq_by_cmp_equiv (on_total path_text nat_list_cmp_total)) };
+
+    fn eq(&self, other: &Path) -> bool {
+        self.cmp(other).is_eq()
+    }
+}
+
+impl Eq for Path {
+    ghost laws = { eq_by_cmp_equiv (on_total path_text nat_list_cmp_total) };
+}
+
+impl PartialOrd for Path {
+    ghost partial_cmp = { as_partial_cmp path_cmp };
+
+    ghost laws = { Prim.search (comparing, rules) };
+
+    fn partial_cmp(&self, other: &Path) -> Option<Ordering> {
+        Some(self.cmp(other))
+    }
+}
+
+impl Ord for Path {
+    ghost cmp = { path_cmp };
+
+    ghost total = { on_total path_text nat_list_cmp_total };
+
+    ghost matches_partial_cmp = { λ x y. refl };
+
+    ghost matches_eq = { λ x y. refl };
+
+    fn cmp(&self, other: &Path) -> Ordering {
+        let mine = head_of(*self);
+        let theirs = head_of(*other);
+        let by_letter = mine.letter.cmp(&theirs.letter);
+        let by_head = by_letter.then(mine.first.cmp(&theirs.first));
+        if by_head.is_ne() {
+            return by_head;
+        }
+        compare_rests(*self, *other)
+    }
+}

@@ -1,0 +1,165 @@
+//! The canonical text of a tree.
+ghost use Rattle.std.specs.Prelude.{◌≡◌, ◌≤◌, ◌∷◌, [], ◌++◌, codes, take, Some, IfErr, IfSome, is_some};
+ghost use Rattle.pid_file.specs.Identifiers.{hex4 as four_digits};
+ghost use Rattle.pid_file.specs.PathTexts.{path_text};
+ghost use Rattle.pid_file.specs.Sending.{Sends};
+ghost use Rattle.std.specs.Ordering.{is_eq};
+ghost use Rattle.pid_file.specs.Trees.{text_cmp};
+ghost use Rattle.pid_file.specs.Printing.{block_line, ended, header, item_line, label_of, lines_behind, opens_block, print, text_or_none};
+
+use crate::identifier::{Id16, hex2, hex4};
+use crate::io::{Output, WriteFault, write_all, write_parts};
+use crate::path::Path;
+use crate::tree::Tree;
+
+/// Writes the first line of every canonical text.
+pub fn write_header<W: Output>(out: &mut W) -> Result<(), WriteFault>
+    ensures sent { Sends result (W.taken out.old) (W.taken out.new) (ended (header ∷ [])) }
+    ensures fault { IfErr result (λ f. W.write_fault out.new ≡ Some f) }
+{
+    write_all(out, b"# PCI ID registry\n")
+}
+
+/// The vendor whose block the item opens, where one line comes before it: it is a generic subsystem, and the item before, if there is one, is none of that vendor.
+pub fn opened_block(before: Option<Path>, path: Path) -> Option<Id16>
+    ensures opens { is_some result ≡ opens_block (text_or_none before) (path_text path) }
+    ensures vendor { IfSome result (λ vendor. block_line (path_text path) ≡ codes "S " ++ four_digits vendor) }
+{
+    let Path::Generic { vendor, .. } = path else {
+        return None;
+    };
+    match before {
+        Some(previous) if is_generic_of(previous, vendor) => None,
+        _ => Some(vendor),
+    }
+}
+
+// Whether it is a generic subsystem of the vendor.
+fn is_generic_of(path: Path, vendor: Id16) -> bool
+    ensures { result ≡ is_eq (text_cmp (take 7 (path_text path)) (codes "PS/" ++ four_digits vendor)) }
+{
+    match path {
+        Path::Generic { vendor: other, .. } => is_same_vendor(other, vendor),
+        _ => false,
+    }
+}
+
+fn is_same_vendor(vendor: Id16, other: Id16) -> bool
+    ensures { result ≡ is_eq (text_cmp (four_digits vendor) (four_digits other)) }
+{
+    vendor == other
+}
+
+/// Writes the line that stands before the generic subsystems of a vendor.
+pub fn write_block<W: Output>(vendor: Id16, out: &mut W) -> Result<(), WriteFault>
+    ensures sent { Sends result (W.taken out.old) (W.taken out.new) (ended ((codes "S " ++ four_digits vendor) ∷ [])) }
+    ensures fault { IfErr result (λ f. W.write_fault out.new ≡ Some f) }
+{
+    let [a, b, c, d] = hex4(vendor);
+    write_all(out, &[b'S', b' ', a, b, c, d, b'\n'])
+}
+
+/// Writes the line of an item.
+pub fn write_item<W: Output>(path: &Path, name: &str, out: &mut W) -> Result<(), WriteFault>
+    ensures sent { Sends result (W.taken out.old) (W.taken out.new) (ended (item_line (path_text path.now, name.now) ∷ [])) }
+    ensures fault { IfErr result (λ f. W.write_fault out.new ≡ Some f) }
+{
+    let label = Label::of(*path);
+    let (front, _) = label.bytes.split_at(label.len);
+    write_parts(out, &[front, name.as_bytes(), b"\n"])
+}
+
+// What stands before a name, with the spaces behind it: the first `len` bytes.
+#[derive(Clone, Copy)]
+struct Label {
+    bytes: [u8; 13],
+    len: usize,
+}
+
+impl Label {
+    fn of(path: Path) -> Label
+        ensures bytes { take result.len result.bytes ≡ label_of (path_text path) ++ codes "  " }
+        ensures len { result.len ≤ 13 }
+    {
+        match path {
+            Path::Vendor { vendor } => {
+                let [a, b, c, d] = hex4(vendor);
+                Label {
+                    bytes: [a, b, c, d, b' ', b' ', 0, 0, 0, 0, 0, 0, 0],
+                    len: 6,
+                }
+            }
+            Path::Device { device, .. } | Path::Generic { device, .. } => {
+                let [a, b, c, d] = hex4(device);
+                Label {
+                    bytes: [b'\t', a, b, c, d, b' ', b' ', 0, 0, 0, 0, 0, 0],
+                    len: 7,
+                }
+            }
+            Path::Subsystem {
+                subvendor,
+                subdevice,
+                ..
+            } => {
+                let [a, b, c, d] = hex4(subvendor);
+                let [e, f, g, h] = hex4(subdevice);
+                Label {
+                    bytes: [b'\t', b'\t', a, b, c, d, b' ', e, f, g, h, b' ', b' '],
+                    len: 13,
+                }
+            }
+            Path::Class { class } => {
+                let [a, b] = hex2(class);
+                Label {
+                    bytes: [b'C', b' ', a, b, b' ', b' ', 0, 0, 0, 0, 0, 0, 0],
+                    len: 6,
+                }
+            }
+            Path::Subclass { subclass, .. } => {
+                let [a, b] = hex2(subclass);
+                Label {
+                    bytes: [b'\t', a, b, b' ', b' ', 0, 0, 0, 0, 0, 0, 0, 0],
+                    len: 5,
+                }
+            }
+            Path::ProgIf { progif, .. } => {
+                let [a, b] = hex2(progif);
+                Label {
+                    bytes: [b'\t', b'\t', a, b, b' ', b' ', 0, 0, 0, 0, 0, 0, 0],
+                    len: 6,
+                }
+            }
+        }
+    }
+}
+
+/// Writes the lines of an item that comes behind another, or is the first: that of the block that it opens, and its own.
+pub fn write_behind<W: Output>(
+    before: Option<Path>,
+    path: &Path,
+    name: &str,
+    out: &mut W,
+) -> Result<(), WriteFault>
+    ensures sent { Sends result (W.taken out.old) (W.taken out.new) (ended (lines_behind (text_or_none before) ((path_text path.now, name.now) ∷ []))) }
+    ensures fault { IfErr result (λ f. W.write_fault out.new ≡ Some f) }
+{
+    if let Some(vendor) = opened_block(before, *path) {
+        write_block(vendor, out)?;
+    }
+    write_item(path, name, out)
+}
+
+/// Writes the text of a tree: the header, and the lines of each item in canonical order. Where the writer fails, a front of
+/// the text was written, and not all of it.
+pub fn write_canonical<W: Output>(tree: &Tree, out: &mut W) -> Result<(), WriteFault>
+    ensures sent { Sends result (W.taken out.old) (W.taken out.new) (print tree.now) }
+    ensures fault { IfErr result (λ f. W.write_fault out.new ≡ Some f) }
+{
+    write_header(out)?;
+    let mut before = None;
+    for (path, name) in tree.in_order() {
+        write_behind(before, path, name.as_str(), out)?;
+        before = Some(*path);
+    }
+    Ok(())
+}

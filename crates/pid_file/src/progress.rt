@@ -1,0 +1,112 @@
+//! What is kept of the lines that were read.
+ghost use Rattle.std.specs.Prelude.{◌≡◌, ◌+◌, ◌∷◌, ℕ, [], List, None, Some, OnOk, IfOk, IfErr, IfSome, IsTrue};
+ghost use Rattle.pid_file.specs.Words.{is_name};
+ghost use Rattle.pid_file.specs.Numbered.{numbered_at};
+ghost use Rattle.pid_file.specs.OpenLevels.{Says, IsNamed, open_behind};
+ghost use Rattle.pid_file.specs.Refusals.{refusal_at, IsRefusal};
+ghost use Rattle.pid_file.specs.Progress.{Shows, given};
+
+use crate::line_kind::LineKind;
+use crate::open_levels::{OpenLevels, Said, read_line};
+use crate::path::Path;
+use crate::refusal::ReadRefusal;
+use crate::seen::Seen;
+use crate::sink::Entry;
+use std::alloc::Global;
+
+// How many entries a text may have: a choice of this project.
+const ENTRIES: usize = 100_000;
+
+/// What is kept of the lines that were read.
+#[derive(Drop)]
+pub struct Progress {
+    /// What the next nested line can belong to.
+    pub levels: OpenLevels,
+    /// How many lines were read.
+    pub lines: usize,
+    /// The paths of their entries.
+    pub seen: Seen,
+}
+
+impl Progress {
+    /// What is kept before the first line.
+    pub fn new(alloc: Global) -> Progress
+        ensures { Shows result [] }
+    {
+        Progress {
+            levels: OpenLevels::Nothing,
+            lines: 0,
+            seen: Seen::new(alloc),
+        }
+    }
+
+    // The line with this number was read.
+    fn pass(&mut self, number: usize, said: &Said<'_>)
+        ensures levels { self.new.levels ≡ open_behind self.old.levels said.now }
+        ensures lines { self.new.lines ≡ number }
+        ensures seen { self.new.seen ≡ self.old.seen }
+    {
+        self.levels = self.levels.behind(said);
+        self.lines = number;
+    }
+
+    // Takes what the line with this number says, which has no fault of its own.
+    fn admit<'b>(&mut self, number: usize, said: Said<'b>) -> Result<Option<Entry<'b>>, ReadRefusal>
+        requires { IsNamed said }
+        ensures taken { (earlier : List (List ℕ)) (line : List ℕ) → Shows self.old earlier → number ≡ self.old.lines + 1 → Says self.old.levels earlier line said.entry →
+            IfOk result (λ o. Shows self.new (line ∷ earlier) × (refusal_at earlier line ≡ None) × (given o ≡ numbered_at earlier line)) }
+        ensures named { IfOk result (λ o. IfSome o (λ entry. IsTrue (is_name entry.name.now))) }
+        ensures refused { (earlier : List (List ℕ)) (line : List ℕ) → Shows self.old earlier → number ≡ self.old.lines + 1 → Says self.old.levels earlier line said.entry →
+            IfErr result (λ r. IsRefusal r (refusal_at earlier line)) }
+    {
+        match said {
+            Said::Nothing | Said::Unknown => {
+                self.pass(number, &said);
+                Ok(None)
+            }
+            Said::Block { vendor } => {
+                if !self.seen.contains(&Path::Vendor { vendor }) {
+                    let kind = LineKind::VendorMissing;
+                    return Err(ReadRefusal::Line { line: number, kind });
+                }
+                self.pass(number, &said);
+                Ok(None)
+            }
+            Said::Entry(named) => {
+                match self.seen.insert(named.path) {
+                    Err(_) => return Err(ReadRefusal::Memory),
+                    Ok(false) => {
+                        let kind = LineKind::Duplicate;
+                        return Err(ReadRefusal::Line { line: number, kind });
+                    }
+                    Ok(true) => {}
+                }
+                if self.seen.len() > ENTRIES {
+                    return Err(ReadRefusal::TooManyEntries);
+                }
+                self.pass(number, &said);
+                Ok(Some(Entry {
+                    line: number,
+                    path: named.path,
+                    name: named.name,
+                }))
+            }
+        }
+    }
+
+    /// Reads one more line: its entry, if it is one; or what is refused at it, or `Memory`.
+    pub fn judge<'b>(&mut self, line: &'b [u8]) -> Result<Option<Entry<'b>>, ReadRefusal>
+        ensures taken { (earlier : List (List ℕ)) → Shows self.old earlier →
+            IfOk result (λ o. Shows self.new (line.now ∷ earlier) × (refusal_at earlier line.now ≡ None) × (given o ≡ numbered_at earlier line.now)) }
+        ensures named { IfOk result (λ o. IfSome o (λ entry. IsTrue (is_name entry.name.now))) }
+        ensures refused { (earlier : List (List ℕ)) → Shows self.old earlier → IfErr result (λ r. IsRefusal r (refusal_at earlier line.now)) }
+    {
+        let Some(number) = self.lines.checked_add(1) else {
+            return Err(ReadRefusal::Memory);
+        };
+        match read_line(self.levels, line) {
+            Ok(said) => self.admit(number, said),
+            Err(kind) => Err(ReadRefusal::Line { line: number, kind }),
+        }
+    }
+}

@@ -1,0 +1,67 @@
+//! Printing the canonical form of a text.
+ghost use Rattle.std.specs.Prelude.{◌≡◌, ◌⊎◌, ◌+◌, ◌≤◌, ℕ, List, IsSome, IfSome, Err, length};
+ghost use Rattle.std.specs.Io.KnownBytes.{Consumes};
+ghost use Rattle.pid_file.specs.InputTexts.{IsRead};
+ghost use Rattle.pid_file.specs.Reading.{Reads};
+ghost use Rattle.pid_file.specs.Tidied.{IsTidied, PrintsNothing};
+
+use crate::counter::Never;
+use crate::input_text::read_input;
+use crate::io::{Input, Output};
+use crate::print::write_canonical;
+use crate::text_end::{LARGEST, TextEnd};
+use crate::told::tell_unread;
+use crate::tree::Tree;
+use crate::whole_input::InputEnd;
+use std::alloc::Global;
+use std::mem;
+
+/// Writes the canonical form of the input to `output`, or its fault line to `faults`.
+///
+/// Writes nothing to `output` if the text has a fault. If the input or a writer fails, only the
+/// returned end says so. Reads at most one byte past `LARGEST`.
+pub fn tidy<I: Input, O: Output, F: Output>(
+    alloc: Global,
+    input: &mut I,
+    output: &mut O,
+    faults: &mut F,
+) -> TextEnd
+    ensures tidied { IfSome (I.to_come input.old) (λ text.
+        IsTidied result text (record { output = O.taken output.old; output_after = O.taken output.new; faults = F.taken faults.old; faults_after = F.taken faults.new })) }
+    ensures read_fault { result ≡ TextEnd.ReadFault → IsSome (I.read_fault input.new) }
+    ensures read_fault_first { IsSome (I.read_fault input.new) → result ≡ TextEnd.ReadFault }
+    ensures write_fault { result ≡ TextEnd.WriteFault → IsSome (O.write_fault output.new) ⊎ IsSome (F.write_fault faults.new) }
+    ensures nothing_printed { PrintsNothing result (O.taken output.old) (O.taken output.new) }
+    ensures goes { I.goes input.old input.new }
+    ensures stops { (front : List ℕ) × Consumes (I.to_come input.old) (I.to_come input.new) front × (length front ≤ LARGEST + 1) }
+{
+    let read = read_input(alloc, LARGEST, input);
+    print_read(read, output, faults)
+}
+
+// Prints the tree that was read, or why there is none.
+fn print_read<O: Output, F: Output>(
+    read: Result<Tree, InputEnd<Never>>,
+    output: &mut O,
+    faults: &mut F,
+) -> TextEnd
+    ensures tidied { (text : List ℕ) → IsRead Reads LARGEST read text →
+        IsTidied result text (record { output = O.taken output.old; output_after = O.taken output.new; faults = F.taken faults.old; faults_after = F.taken faults.new }) }
+    ensures read_fault { result ≡ TextEnd.ReadFault → read ≡ Err InputEnd.ReadFault }
+    ensures read_fault_first { read ≡ Err InputEnd.ReadFault → result ≡ TextEnd.ReadFault }
+    ensures write_fault { result ≡ TextEnd.WriteFault → IsSome (O.write_fault output.new) ⊎ IsSome (F.write_fault faults.new) }
+    ensures nothing_printed { PrintsNothing result (O.taken output.old) (O.taken output.new) }
+{
+    match read {
+        Ok(tree) => {
+            let printed = write_canonical(&tree, output);
+            // The process ends after this, so freeing the tree would be wasted time.
+            mem::forget(tree);
+            match printed {
+                Ok(()) => TextEnd::Done,
+                Err(_) => TextEnd::WriteFault,
+            }
+        }
+        Err(end) => tell_unread(end, faults),
+    }
+}

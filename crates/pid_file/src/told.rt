@@ -1,0 +1,31 @@
+//! Reporting why a text was not read.
+ghost use Rattle.std.specs.Prelude.{◌≡◌, ◌≢◌, ℕ, List, Err, IsSome};
+ghost use Rattle.pid_file.specs.InputTexts.{IsUnread};
+ghost use Rattle.pid_file.specs.Told.{IsTold};
+
+use crate::counter::Never;
+use crate::io::Output;
+use crate::sink::CutEnd;
+use crate::text_end::{LARGEST, TextEnd, end_of};
+use crate::whole_input::InputEnd;
+
+/// Reports a fault of the text, or that memory ran out. Writes nothing if the reader failed. If the
+/// writer fails, that is the end.
+pub fn tell_unread<F: Output>(end: InputEnd<Never>, faults: &mut F) -> TextEnd
+    ensures told { (text : List ℕ) → IsUnread LARGEST end text → IsTold result text (F.taken faults.old) (F.taken faults.new) }
+    ensures read_fault { result ≡ TextEnd.ReadFault → end ≡ InputEnd.ReadFault }
+    ensures read_fault_first { end ≡ InputEnd.ReadFault → result ≡ TextEnd.ReadFault }
+    ensures write_fault { result ≡ TextEnd.WriteFault → IsSome (F.write_fault faults.new) }
+    ensures not_done { result ≢ TextEnd.Done }
+{
+    let end = match end {
+        InputEnd::ReadFault => return TextEnd::ReadFault,
+        InputEnd::TooLong => TextEnd::TooLarge,
+        InputEnd::Cut(CutEnd::Refused(refusal)) => end_of(refusal),
+        InputEnd::Cut(CutEnd::Fault(never)) => match never {},
+    };
+    match end.tell(faults) {
+        Ok(()) => end,
+        Err(_) => TextEnd::WriteFault,
+    }
+}

@@ -1,0 +1,145 @@
+//! An input that is read to its end, up to a limit of bytes.
+ghost use Rattle.std.specs.Prelude.{◌≡◌, ◌++◌, ◌+◌, ◌<◌, ◌≤◌, ℕ, List, [], None, Ok, Err, IsSome, IfSome, IfOk, OnOk, length};
+ghost use Rattle.std.specs.Io.KnownBytes.{Consumes, IsAtEnd, Keeps};
+ghost use Rattle.pid_file.specs.Cutters.{Holds};
+ghost use Rattle.pid_file.specs.Lines.{lines_of};
+ghost use Rattle.pid_file.specs.Sinks.{Ends};
+ghost use Rattle.pid_file.specs.WholeLines.{whole_lines};
+ghost use Rattle.pid_file.specs.WholeInputs.{CutsInput};
+
+use crate::cutter::Cutter;
+use crate::io::Input;
+use crate::sink::{CutEnd, Sink};
+use std::alloc::Global;
+use thiserror::Error;
+
+/// The most that one read asks for, in bytes.
+pub const BUFFER: usize = 4_096;
+
+/// Why not all entries of an input came to a sink.
+#[derive(Debug, Drop, Error)]
+pub enum InputEnd<F> {
+    #[error("the reader failed")]
+    ReadFault,
+    /// The input has more bytes than the limit.
+    #[error("too long")]
+    TooLong,
+    /// The text is refused, or the sink faulted.
+    #[error("{0}")]
+    Cut(CutEnd<F>),
+}
+
+/// Why an input was not read to its end.
+#[derive(Clone, Copy, Debug, Error)]
+pub enum SkipEnd {
+    #[error("the reader failed")]
+    ReadFault,
+    /// The input has more bytes than the limit.
+    #[error("too long")]
+    TooLong,
+}
+
+impl<F: Drop> From<SkipEnd> for InputEnd<F> {
+    ghost use Rattle.std.specs.Prelude.{◌≡◌};
+    ghost use Rattle.pid_file.specs.WholeInputs.{as_input_end};
+
+    ghost from_gives = { λ end r. r ≡ as_input_end end };
+
+    fn from(end: SkipEnd) -> InputEnd<F> {
+        match end {
+            SkipEnd::ReadFault => InputEnd::ReadFault,
+            SkipEnd::TooLong => InputEnd::TooLong,
+        }
+    }
+}
+
+/// The next piece of an input that may have `room` bytes more; none at its end.
+pub fn next_piece<'b, I: Input>(
+    input: &mut I,
+    room: usize,
+    buffer: &'b mut [u8; BUFFER],
+) -> Result<Option<&'b [u8]>, SkipEnd>
+    ensures piece { IfOk result (λ o. IfSome o (λ piece. Consumes (I.to_come input.old) (I.to_come input.new) piece.now)) }
+    ensures some { IfOk result (λ o. IfSome o (λ piece. (0 < length piece.now) × (length piece.now ≤ room))) }
+    ensures end { result ≡ Ok None → Consumes (I.to_come input.old) (I.to_come input.new) [] × IsAtEnd (I.to_come input.new) }
+    ensures long { result ≡ Err SkipEnd.TooLong → (front : List ℕ) × Consumes (I.to_come input.old) (I.to_come input.new) front × (length front ≡ room + 1) }
+    ensures failed { result ≡ Err SkipEnd.ReadFault → Keeps (I.to_come input.old) (I.to_come input.new) }
+    ensures fault { result ≡ Err SkipEnd.ReadFault → IsSome (I.read_fault input.new) }
+    ensures fault_first { IsSome (I.read_fault input.new) → result ≡ Err SkipEnd.ReadFault }
+    ensures goes { I.goes input.old input.new }
+{
+    let piece = &mut buffer[..room.min(BUFFER - 1) + 1];
+    let Ok(count) = input.read(piece) else {
+        return Err(SkipEnd::ReadFault);
+    };
+    if count == 0 {
+        return Ok(None);
+    }
+    if count > room {
+        return Err(SkipEnd::TooLong);
+    }
+    Ok(Some(&piece[..count]))
+}
+
+// Takes the next piece, where the text was not given up before.
+fn take_next<K: Sink>(
+    cutter: &mut Cutter,
+    outcome: Result<(), CutEnd<K::Fault>>,
+    piece: &[u8],
+    sink: &mut K,
+) -> Result<(), CutEnd<K::Fault>>
+where
+    K::Fault: Drop,
+    ensures holds { (text : List ℕ) → OnOk outcome (Holds cutter.old text) → OnOk result (Holds cutter.new (text ++ piece.now)) }
+    ensures ends { (text : List ℕ) (start : K) → OnOk outcome (Holds cutter.old text) → Ends K.takes K.faults outcome start (whole_lines text) sink.old →
+        Ends K.takes K.faults result start (whole_lines (text ++ piece.now)) sink.new }
+{
+    outcome?;
+    cutter.feed(piece, sink)
+}
+
+// The text has ended.
+fn end_text<K: Sink>(
+    cutter: Cutter,
+    outcome: Result<(), CutEnd<K::Fault>>,
+    sink: &mut K,
+) -> Result<(), CutEnd<K::Fault>>
+where
+    K::Fault: Drop,
+    ensures ends { (text : List ℕ) (start : K) → OnOk outcome (Holds cutter text) → Ends K.takes K.faults outcome start (whole_lines text) sink.old →
+        Ends K.takes K.faults result start (lines_of text) sink.new }
+{
+    outcome?;
+    cutter.finish(sink)
+}
+
+/// Hands the entries of the input's text to the sink, in the order of their lines, until the text is refused or the
+/// sink faults. Whatever the outcome, the input is read to its end, or until more than `limit` bytes came: then no more
+/// is read. A fault of the input is told before all else, and a text that is too long before what the sink says.
+pub fn cut_input<K: Sink, I: Input>(
+    alloc: Global,
+    limit: usize,
+    input: &mut I,
+    sink: &mut K,
+) -> Result<(), InputEnd<K::Fault>>
+where
+    K::Fault: Drop,
+    ensures read { (text : List ℕ) × Consumes (I.to_come input.old) (I.to_come input.new) text × CutsInput K.takes K.faults limit result (I.to_come input.new) text sink.old sink.new }
+    ensures stops { (front : List ℕ) × Consumes (I.to_come input.old) (I.to_come input.new) front × (length front ≤ limit + 1) }
+    ensures fault { result ≡ Err InputEnd.ReadFault → IsSome (I.read_fault input.new) }
+    ensures fault_first { IsSome (I.read_fault input.new) → result ≡ Err InputEnd.ReadFault }
+    ensures goes { I.goes input.old input.new }
+{
+    let mut cutter = Cutter::new(alloc);
+    let mut buffer = [0u8; BUFFER];
+    let mut room = limit;
+    let mut outcome = Ok(());
+    while let Some(piece) = next_piece(input, room, &mut buffer)? {
+        outcome = take_next(&mut cutter, outcome, piece, sink);
+        room -= piece.len();
+    }
+    match end_text(cutter, outcome, sink) {
+        Ok(()) => Ok(()),
+        Err(end) => Err(InputEnd::Cut(end)),
+    }
+}

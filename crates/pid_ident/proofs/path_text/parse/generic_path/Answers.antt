@@ -1,0 +1,6 @@
+use Rattle.pid_ident.proofs.Parsing.{no_generic}
+use Rattle.pid_ident.proofs.path_text.parse.generic_path.Goals as goal
+
+pub returns-in_err-device-clause-none : goal.returns-in_err-device-clause-none
+returns-in_err-device-clause-none c =
+    rw c.from_residual-in_err-device.ensures (no_generic c.in_ok-vendor.vendor _ c.in_ok-vendor.rest.now c.in_ok-vendor.ensures.found.1 c.in_err-device.ensures.none)

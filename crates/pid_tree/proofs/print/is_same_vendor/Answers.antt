@@ -1,5 +1,0 @@
-use Rattle.pid_ident.proofs.PathOrder.{same_block}
-use Rattle.pid_tree.proofs.print.is_same_vendor.Goals as goal
-
-pub returns : goal.returns
-returns c = same_block _ _ c.ranges.vendor.fits c.ranges.other.fits

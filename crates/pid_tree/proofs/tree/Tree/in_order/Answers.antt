@@ -1,8 +1,0 @@
-use Rattle.std.proofs.Common.{sym, ap, ◌∙◌, map}
-use Rattle.std.specs.FinMap as finite
-use Rattle.pid_tree.specs.Items.{item_of}
-use Rattle.pid_tree.proofs.Maps.{entries-tree}
-use Rattle.pid_tree.proofs.tree.Tree.in_order.Goals as goal
-
-pub returns-clause-items : goal.returns-clause-items
-returns-clause-items c = ap (map item_of) c.iter.ensures.rest ∙ sym (entries-tree c.self.inside.items.entries c.iter.ensures.ordered) ∙ ap finite.entries c.self.view_is
