@@ -1,0 +1,89 @@
+// The head of the page: the search box, the menu, and who is logged in.
+
+import { account, logOut, rank, watchAccount } from "./account.js";
+import { askToLogIn } from "./login.js";
+import { load } from "./names.js";
+import { currentPage, go, refresh, watchPages } from "./router.js";
+import { RANKS } from "./words.js";
+
+const main = document.getElementById("main");
+const box = document.getElementById("q");
+const log = document.getElementById("log");
+const mine = document.getElementById("mine");
+
+const firstFound = () => main.querySelector("#found a");
+const isSearch = () => location.pathname === "/search";
+
+// The search follows what is typed, in place.
+function typed() {
+  const href = `/search?q=${encodeURIComponent(box.value)}`;
+  if (isSearch() && currentPage()?.search) {
+    history.replaceState(history.state, "", href);
+    currentPage().search(box.value);
+  } else if (box.value) go(href, { focus: false });
+}
+
+function startSearch() {
+  document.getElementById("find").addEventListener("submit", (event) => {
+    event.preventDefault();
+    if (isSearch() && firstFound()) firstFound().click();
+    else typed();
+  });
+  box.addEventListener("input", typed);
+  box.addEventListener("focus", () => load());
+  box.addEventListener("keydown", (event) => {
+    if (event.key !== "ArrowDown" || !firstFound()) return;
+    event.preventDefault();
+    firstFound().focus();
+  });
+  main.addEventListener("keydown", moveInFound);
+}
+
+// The arrows go through what was found, and back to the box.
+function moveInFound(event) {
+  const row = event.target.closest?.("#found li");
+  if (!row || (event.key !== "ArrowDown" && event.key !== "ArrowUp")) return;
+  event.preventDefault();
+  const isDown = event.key === "ArrowDown";
+  const next = isDown ? row.nextElementSibling : row.previousElementSibling;
+  if (next) next.querySelector("a")?.focus();
+  else if (!isDown) box.focus();
+}
+
+function showPlace(address) {
+  for (const it of document.querySelectorAll("header nav a")) {
+    if (it.pathname === address.pathname) it.setAttribute("aria-current", "page");
+    else it.removeAttribute("aria-current");
+  }
+  if (document.activeElement === box) return;
+  box.value = address.pathname === "/search" ? address.searchParams.get("q") ?? "" : "";
+}
+
+function rankWords() {
+  const { least, most } = rank();
+  if (most < 0) return "not an account of the registry yet";
+  return least === most ? RANKS[least] : "";
+}
+
+function showWho() {
+  const name = account();
+  log.textContent = name ? `Log out ${name}` : "Log in";
+  log.title = name ? rankWords() : "";
+  mine.hidden = name === null;
+}
+
+// Who is in the middle of typing keeps the page that is there.
+const isTyping = () => main.contains(document.activeElement)
+  && document.activeElement.matches("input, textarea, select");
+
+/** Begins to keep the head up to date. */
+export function startHeader() {
+  startSearch();
+  watchPages(showPlace);
+  watchAccount((isBusy) => {
+    showWho();
+    if (!isBusy && !isTyping()) refresh();
+  });
+  log.addEventListener("click", () => (account() ? logOut() : askToLogIn()));
+  showWho();
+}
