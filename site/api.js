@@ -8,7 +8,7 @@ import { tell, untell } from "./notice.js";
 const SLOW = "The registry is slow to answer. Still waiting.";
 const SLOW_AFTER = 1_500;
 const GIVEN_UP_AFTER = { GET: 20_000, POST: 60_000 };
-const PAUSES = [300, 1_000];
+const PAUSES = [300, 1_000, 3_000];
 
 // A page leaves room for other tabs of the same address; one place is kept for commands.
 const MOST_QUESTIONS = 3;

@@ -8,7 +8,7 @@ import { keep, recall } from "./kept.js";
 const PAGE = 100;
 const MOST_PENDING = 1_000;
 const FRESH_FOR = 20_000;
-const LATEST = 30;
+const LATEST = 20;
 const REVISION_ONLY = "/changes?since=9000000000000000000";
 
 /**
