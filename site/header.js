@@ -6,6 +6,7 @@ import { load } from "./names.js";
 import { currentPage, go, refresh, watchPages } from "./router.js";
 import { RANKS } from "./words.js";
 
+const RESTS_AFTER = 300;
 const main = document.getElementById("main");
 const box = document.getElementById("q");
 const log = document.getElementById("log");
@@ -14,23 +15,35 @@ const mine = document.getElementById("mine");
 const firstFound = () => main.querySelector("#found a");
 const isSearch = () => location.pathname === "/search";
 
+const searchHref = () => `/search?q=${encodeURIComponent(box.value)}`;
+
+// The address follows when the hand rests: browsers ignore an address that changes too often.
+let resting = 0;
+function addressFollows() {
+  if (resting && isSearch()) history.replaceState(history.state, "", searchHref());
+  clearTimeout(resting);
+  resting = 0;
+}
+
 // The search follows what is typed, in place.
 function typed() {
-  const href = `/search?q=${encodeURIComponent(box.value)}`;
   if (isSearch() && currentPage()?.search) {
-    history.replaceState(history.state, "", href);
+    clearTimeout(resting);
+    resting = setTimeout(addressFollows, RESTS_AFTER);
     currentPage().search(box.value);
-  } else if (box.value) go(href, { focus: false });
+  } else if (box.value) go(searchHref(), { focus: false });
 }
 
 function startSearch() {
   document.getElementById("find").addEventListener("submit", (event) => {
     event.preventDefault();
+    addressFollows();
     if (isSearch() && firstFound()) firstFound().click();
     else typed();
   });
   box.addEventListener("input", typed);
   box.addEventListener("focus", () => load());
+  box.addEventListener("blur", addressFollows);
   box.addEventListener("keydown", (event) => {
     if (event.key !== "ArrowDown" || !firstFound()) return;
     event.preventDefault();
