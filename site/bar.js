@@ -13,7 +13,7 @@ import { spelled } from "./shown.js";
 import { steadyButton } from "./steady.js";
 import { answerWords } from "./words.js";
 
-const LOOKS_EVERY = 2_000;
+const LOOKS_EVERY = 1_000;
 const place = document.getElementById("owed");
 const reports = [];          // { about, answer }
 let drawn = "";

@@ -42,6 +42,7 @@ def reloaded(cases, world, browser):
     cases.equal("once: told of after a reload", browser.has("Loaded anew in the first", "#owed"), True)
     world.spoiler.set("pass")
     browser.wait(lambda: count(world, "a002") == 1, "the first try to have come through")
+    browser.has("no answer came", "#owed")
     browser.click("#owed button")
     browser.has("done, as proposal", "#owed")
     cases.equal("once: asked again, one proposal", count(world, "a002"), 1)
