@@ -219,6 +219,9 @@ class World:
         self.folder = self.stack.name
         os.mkdir(f"{self.folder}/public")
         shutil.copyfile(program.REAL_FILE, f"{self.folder}/public/pci.ids")
+        # Publishing makes a page for each vendor, in which the application is, too.
+        os.makedirs(f"{self.folder}/public/item/PC")
+        shutil.copyfile(f"{SITE}/index.html", f"{self.folder}/public/item/PC/8086.html")
         self.database = f"{self.folder}/registry.db"
         fill(self.database, list(items_taken()))
         self.server = Server(self.database, connections=100_000)
