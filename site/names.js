@@ -39,7 +39,7 @@ function call(what, ...words) {
 export const load = () => call("load");
 
 /** What is found: { rows: [{ path, name, above }], count }, the likeliest first, or null. */
-export const search = (text, most = 60) => call("search", text, most);
+export const search = (text, most = 40) => call("search", text, most);
 
 /** The names at paths, as a Map without those that have none; empty without a file. */
 export const namesAt = async (paths) => new Map((await call("namesAt", paths)) ?? []);

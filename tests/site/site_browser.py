@@ -118,6 +118,12 @@ class Browser:
         for key in keys:
             self.driver.switch_to.active_element.send_keys(key)
 
+    def tab(self):
+        """Presses Tab, also where the focus is on a box for a file."""
+        for kind in ("rawKeyDown", "keyUp"):
+            self.driver.execute_cdp_cmd("Input.dispatchKeyEvent", {
+                "type": kind, "key": "Tab", "code": "Tab", "windowsVirtualKeyCode": 9})
+
     def log_in(self, name, stays=True):
         self.click("#log")
         self.enter(name, stays)
