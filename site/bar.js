@@ -53,6 +53,7 @@ function forgetIt(entry) {
 function fileBox(entry) {
   const box = el("input", { type: "file", id: `again-${entry.key}` });
   box.addEventListener("change", async () => {
+    if (!box.files[0]) return;
     const bytes = new Uint8Array(await box.files[0].arrayBuffer());
     if (await bringFile(entry, bytes)) askAgain(entry);
     else tell("That is another file than the one that was sent.", 6);
