@@ -93,8 +93,7 @@ export async function request(method, path, how = {}) {
   }
 }
 
-/** Waits so many milliseconds. */
-export const pause = (milliseconds) => new Promise((go) => { setTimeout(go, milliseconds); });
+const pause = (milliseconds) => new Promise((go) => { setTimeout(go, milliseconds); });
 
 /** Asks a question, again where the server is just busy or about to start. */
 export async function ask(path, how = {}) {

@@ -34,8 +34,8 @@ let shownPage = null;
 const addressOf = (it) => it.pathname + it.search;
 const found = (pathname) => PAGES.find(([form]) => form.test(pathname));
 
-/** Whether this site has a page at a path. */
-export const hasPage = (pathname) => found(pathname) !== undefined;
+// Whether this site has a page at a path.
+const hasPage = (pathname) => found(pathname) !== undefined;
 
 /** The page that is shown: its nodes, with what else it offers. */
 export const currentPage = () => shownPage;

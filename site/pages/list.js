@@ -1,7 +1,7 @@
 // Vendors, or classes. The registry answers both in one list.
 
 import { ask } from "../api.js";
-import { el, link } from "../dom.js";
+import { el } from "../dom.js";
 import { itemList } from "../lists.js";
 import { childrenOf } from "../names.js";
 import { copyWords, failed, title } from "../parts.js";

@@ -32,7 +32,7 @@ export function beginMany(rows) {
 const pathOf = ([a, b, c, d]) => (d ? `PC/${a}/${b}/${c}${d}` : `PC/${a}/${b}`);
 
 /** The rows that a text asks for: { path, name }, one for each path. */
-export function rowsIn(text) {
+function rowsIn(text) {
   const rows = text.split(/\r?\n/).flatMap((line) => {
     const found = NAMED.exec(line);
     if (!found || OF_LSPCI.test(found[5])) return [];
