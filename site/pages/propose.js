@@ -136,8 +136,8 @@ class Proposal {
 
   checkName() {
     const text = this.name.value;
-    const blank = /[ \t]$/.test(text) ? "There is a blank at the end; it would be in the file." : "";
-    this.nameFault.textContent = nameFault(text) ?? blank;
+    const atEnd = "There is a blank at the end; it would be in the file.";
+    this.nameFault.textContent = nameFault(text) ?? (/[ \t]$/.test(text) ? atEnd : "");
   }
 
   /** Asks what the registry has at the path and above it. */

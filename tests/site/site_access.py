@@ -30,7 +30,8 @@ for (const it of all("a[href], button, summary").filter(seen)) if (!nameOf(it)) 
 const ids = all("[id]").map((it) => it.id);
 ids.forEach((it, at) => { if (ids.indexOf(it) !== at) faults.push(`twice the id ${it}`); });
 for (const it of all("[for], [aria-describedby], [aria-labelledby]")) {
-  const id = it.htmlFor ?? it.getAttribute("aria-describedby") ?? it.getAttribute("aria-labelledby");
+  const id = it.htmlFor ?? it.getAttribute("aria-describedby")
+    ?? it.getAttribute("aria-labelledby");
   if (it.id !== "dialog" && !document.getElementById(id)) say("points to nothing", it);
 }
 if (all("main").length !== 1 || all("header").length !== 1 || all("footer").length !== 1
@@ -161,7 +162,8 @@ def broken(cases, browser):
         document.querySelector("main").append(it);
         return it;
       };
-      add("input"); add("button"); add("h1", {}, "again"); add("label", { htmlFor: "nothing" }, "x");
+      add("input"); add("button"); add("h1", {}, "again");
+      add("label", { htmlFor: "nothing" }, "x");
       add("nav"); add("p", { id: "main" }, "twice");
       add("p", {}, "pale").style.color = "#999999";
       const small = add("button", {}, "small");
@@ -170,7 +172,8 @@ def broken(cases, browser):
     said = " ".join(browser.js(CHECK))
     for word in ("no label", "no name", "one heading", "points to nothing", "landmarks", "twice"):
         cases.equal(f"access: the check sees: {word}", word in said, True)
-    cases.equal("access: the check sees contrast", "pale" in " ".join(browser.js(CONTRAST, LEAST)), True)
+    pale = " ".join(browser.js(CONTRAST, LEAST))
+    cases.equal("access: the check sees contrast", "pale" in pale, True)
     cases.equal("access: the check sees sizes", "small" in " ".join(browser.js(SIZES)), True)
     cases.equal("access: the check sees width", browser.js(WIDE) > 0, True)
 
@@ -221,8 +224,9 @@ def motion(cases, browser):
         "features": [{"name": "prefers-reduced-motion", "value": "reduce"}]})
     browser.go("/vendors")
     moving = browser.js("return [...document.querySelectorAll('*')].filter((it) => {"
-                        "const style = getComputedStyle(it); return style.transitionDuration !== '0s'"
-                        "|| style.animationName !== 'none' }).length")
+                        "const style = getComputedStyle(it);"
+                        "return style.transitionDuration !== '0s'"
+                        " || style.animationName !== 'none' }).length")
     cases.equal("access: nothing moves where that is not wanted", moving, 0)
     browser.driver.execute_cdp_cmd("Emulation.setEmulatedMedia", {"features": []})
 

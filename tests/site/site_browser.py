@@ -110,7 +110,8 @@ class Browser:
 
     def put(self, selector, text):
         """Puts a text into a box at once, as pasting does."""
-        self.js("const it = document.querySelector(arguments[0]); it.focus(); it.value = arguments[1];"
+        self.js("const it = document.querySelector(arguments[0]); it.focus();"
+                "it.value = arguments[1];"
                 "it.dispatchEvent(new Event('input', { bubbles: true }))", selector, text)
 
     def press(self, *keys):

@@ -39,7 +39,8 @@ def reloaded(cases, world, browser):
     browser.click("form.propose button.main")
     time.sleep(1)
     browser.go("/help")
-    cases.equal("once: told of after a reload", browser.has("Loaded anew in the first", "#owed"), True)
+    told = browser.has("Loaded anew in the first", "#owed")
+    cases.equal("once: told of after a reload", told, True)
     world.spoiler.set("pass")
     browser.wait(lambda: count(world, "a002") == 1, "the first try to have come through")
     browser.has("no answer came", "#owed")
@@ -59,7 +60,7 @@ def reloaded(cases, world, browser):
 
 
 def doubled(cases, world, browser):
-    """Double clicks and ten clicks at once propose once, and do nothing on the page that follows."""
+    """Double clicks and ten clicks at once propose once, and do nothing on the next page."""
     for digits, pause in (("a004", 0.12), ("a005", 0.3)):
         propose(browser, digits, "Double")
         time.sleep(SETTLE)
@@ -80,7 +81,8 @@ def doubled(cases, world, browser):
     cases.equal("once: ten clicks at once", count(world, "a006"), 1)
     # What comes under the pointer with the new page doesn't act within half a second.
     number = world.pending("PC/8086/a006")[0]["num"]
-    browser.js("window.clicks = setInterval(() => document.querySelector('.decide button')?.click());"
+    browser.js("const press = () => document.querySelector('.decide button')?.click();"
+               "window.clicks = setInterval(press);"
                "document.querySelector('header nav a[href=\"/help\"]').click()")
     browser.heading("Help")
     browser.js("history.back()")
@@ -122,7 +124,8 @@ def queued(cases, world, browser):
     time.sleep(SETTLE)
     hold_key(browser, "a", 65, 1.5)
     time.sleep(SETTLE)
-    cases.equal("once: a held key approves nothing", {world.state(it) for it in numbers}, {"pending"})
+    states = {world.state(it) for it in numbers}
+    cases.equal("once: a held key approves nothing", states, {"pending"})
     for pause in (0.1, 0.25, 0.4):
         row = browser.js(
             "const it = [...document.querySelectorAll('.queue > li:not(.settled) button.main')][0];"
@@ -133,7 +136,8 @@ def queued(cases, world, browser):
             mouse(browser, row, clicks)
             time.sleep(pause)
         time.sleep(SETTLE)
-        cases.equal(f"once: a double click of {pause} s approves one", before - len(world.pending()), 1)
+        approved = before - len(world.pending())
+        cases.equal(f"once: a double click of {pause} s approves one", approved, 1)
     cases.equal("once: the decided rows stay", len(browser.all(".queue > li.settled")), 3)
 
 
@@ -181,7 +185,7 @@ def late(cases, world, browser):
 
 
 def forgotten(cases, world, browser):
-    """`Forget it` in another tab stops the first; entries of two tabs don't overwrite each other."""
+    """`Forget it` in another tab stops the first; entries of two tabs are all kept."""
     driver = browser.driver
     world.spoiler.set("gone")
     browser.go("/propose?path=PC/8086/a040")
@@ -199,9 +203,11 @@ def forgotten(cases, world, browser):
     cases.equal("once: the first tab says so", browser.has("forgotten in another tab"), True)
     world.spoiler.set("pass")
     time.sleep(2)
-    cases.equal("once: what was forgotten isn't sent", (count(world, "a040"), browser.owed()), (0, []))
-    make = ("const done = arguments[0]; import('/site/outbox.js').then(async ({ begin, forget }) => {"
-            "const all = []; for (let n = 0; n < 60; n += 1) all.push((await begin('/x', 'a=b', 'x')).key);"
+    left = count(world, "a040"), browser.owed()
+    cases.equal("once: what was forgotten isn't sent", left, (0, []))
+    make = ("const done = arguments[0], all = [];"
+            "import('/site/outbox.js').then(async ({ begin, forget }) => {"
+            "for (let n = 0; n < 60; n += 1) all.push((await begin('/x', 'a=b', 'x')).key);"
             "window.forgetAll = () => all.forEach(forget); done(all.length); })")
     driver.execute_script(f"(function () {{ {make} }})(() => {{ window.made = true; }})")
     driver.switch_to.window(second)
@@ -249,7 +255,8 @@ def imports(cases, world, browser):
     """An import whose page was loaded again asks for the same file, under the same key."""
     path = os.path.join(world.folder, "some.ids")
     other = os.path.join(world.folder, "other.ids")
-    for name, text in ((path, "8086  Intel Corporation\n\ta060  By file\n"), (other, "8086  Else\n")):
+    own = "8086  Intel Corporation\n\ta060  By file\n"
+    for name, text in ((path, own), (other, "8086  Else\n")):
         with open(name, "w", encoding="utf-8") as file:
             file.write(text)
     browser.go("/load")

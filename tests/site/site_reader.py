@@ -1,5 +1,5 @@
-"""The page's own check of a file beside the program: `check`, `tidy`, and imports, on the real file,
-on generated texts of each fault, at the limits, and on cuts of UTF-8."""
+"""The page's own check of a file beside the program: `check`, `tidy`, and imports, on the real
+file, on generated texts of each fault, at the limits, and on cuts of UTF-8."""
 import base64
 import collections
 import json
@@ -92,7 +92,8 @@ class Texts:
         if kind == 3:
             return "\t" * self.pick((1, 2)) + number + blank + name
         if kind == 4:
-            return self.pick(("", "\t", "C ", "C", "c ", "S ", "S\t", "A", "\t\t", " ")) + self.pick(
+            front = self.pick(("", "\t", "C ", "C", "c ", "S ", "S\t", "A", "\t\t", " "))
+            return front + self.pick(
                 (number, number[:3] + blank + name, "g000 x", f"{number}\v{name}", number + name,
                  f"{self.hex(4)}  {self.hex(4)} x", f"ab01 {name}"))
         if kind == 5:
@@ -112,7 +113,8 @@ class Texts:
         if kind != 1:
             return whole
         at = self.random.randrange(len(whole) + 1)
-        bad = self.pick((b"\xff", b"\xc0", b"\xed\xa0\x80", b"\x80", b"\xe2\x82", b"\xf4\x90\x80\x80"))
+        bad = self.pick((b"\xff", b"\xc0", b"\xed\xa0\x80", b"\x80", b"\xe2\x82",
+                         b"\xf4\x90\x80\x80"))
         return whole[:at] + bad + whole[at:]
 
 

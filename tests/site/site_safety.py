@@ -37,7 +37,7 @@ new MutationObserver((all) => all.forEach((it) => it.addedNodes.forEach((node) =
 
 
 def hostile(cases, world, browser):
-    """Markup everywhere: as a name, note, comment, reason, in the search, in a file, in an address."""
+    """Markup everywhere: as a name, note, comment, reason, search, file and address."""
     number = world.submit("alice", "PC/8086/be01", HOSTILE, HOSTILE)
     other = world.submit("alice", "PC/8086/be02", HOSTILE, HOSTILE)
     world.ask("/comment", {"num": number, "text": HOSTILE}, "alice")
@@ -74,7 +74,7 @@ def hostile(cases, world, browser):
 
 
 def deceiving(cases, world, browser):
-    """Each text as a row of the queue shows it, and the letters that differ from the present name."""
+    """Each text as a row of the queue shows it, and the letters that differ from before."""
     numbers = {text: world.submit("alice", f"PC/8086/de{at:02x}", text)
                for at, text in enumerate(DECEIVING)}
     browser.go("/queue")
@@ -87,7 +87,8 @@ def deceiving(cases, world, browser):
     cases.equal("safety: blanks aren't folded", blanks, "pre-wrap")
     number = world.submit("alice", "PC/8086", "\u0406ntel Corporation")
     browser.go(f"/proposals/{number}")
-    marked = browser.js("return [...document.querySelectorAll('.facts mark')].map(it => it.innerText)")
+    marked = browser.js("return [...document.querySelectorAll('.facts mark')]"
+                        ".map((it) => it.innerText)")
     cases.equal("safety: what differs is marked", marked, ["I", "\u0406Cyrillic"])
     label = browser.driver.title
     cases.equal("safety: the title spells it too", "\u0406[Cyrillic]ntel" in label, True)

@@ -6,7 +6,8 @@ from site_world import World
 
 LSPCI = ("00:00.0 Host bridge [0600]: Intel Corporation 440FX [8086:1237] (rev 02)\n"
          "\tSubsystem: Red Hat, Inc. Qemu virtual machine [1af4:1100]\n"
-         "00:02.0 VGA [0300]: Device [8086:ab01] (rev 02)\n00:03.0 VGA [0300]: Device [8086:ab02]\n")
+         "00:02.0 VGA [0300]: Device [8086:ab01] (rev 02)\n"
+         "00:03.0 VGA [0300]: Device [8086:ab02]\n")
 PASTES = {
     "8086:1237": "440FX", "8086 1237": "440FX", "0x8086 0x1237": "440FX",
     r"PCI\VEN_8086&DEV_1237&SUBSYS_11001AF4&REV_02": "Qemu virtual machine",
@@ -42,8 +43,8 @@ def visitor(cases, browser):
     cases.equal("story: the title", browser.driver.title.startswith("8086:1237 440FX"), True)
     browser.driver.back()
     browser.wait(lambda: browser.all("#found a"), "the search again")
-    cases.equal("story: back to the search", browser.js("return document.getElementById('q').value"),
-                "8086:1237")
+    typed = browser.js("return document.getElementById('q').value")
+    cases.equal("story: back to the search", typed, "8086:1237")
     browser.go("/item/PC/8086/")
     cases.equal("story: an address with a slash", browser.heading("Intel Corporation"), True)
 
@@ -120,7 +121,8 @@ def refusals(cases, world, browser):
     browser.wait(lambda: browser.all(".decide button.main"), "Approve")
     world.ask("/withdraw", {"num": taken}, "alice")
     browser.click(".decide button.main")
-    cases.equal("story: withdrawn meanwhile", browser.has("isn't pending any more", ".decide"), True)
+    told = browser.has("isn't pending any more", ".decide")
+    cases.equal("story: withdrawn meanwhile", told, True)
     orphan = world.submit("alice", "PC/fff1/0001", "NoVendor")
     browser.go(f"/proposals/{orphan}")
     browser.click(".decide button.main")

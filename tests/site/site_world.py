@@ -63,7 +63,8 @@ def items_taken():
 
 def fill(database, items):
     """A registry with these items and the accounts of PEOPLE, as an import would have made it."""
-    lines = [f"account root who={who}&rank={rank}\n" for who, rank in PEOPLE.items() if who != "root"]
+    lines = [f"account root who={who}&rank={rank}\n" for who, rank in PEOPLE.items()
+             if who != "root"]
     words = [program.PROGRAM, "script", "--db", database]
     subprocess.run(words, input="".join(lines).encode(), stdout=subprocess.DEVNULL, check=True)
     with sqlite3.connect(database) as registry:
