@@ -34,6 +34,15 @@ function typed() {
   } else if (box.value) go(searchHref(), { focus: false });
 }
 
+// A box of one line would join lines that are pasted: marks keep them apart.
+function pasteLines(event) {
+  const text = event.clipboardData.getData("text").trim();
+  if (!text.includes("\n")) return;
+  event.preventDefault();
+  box.value = text.replace(/\s*\n\s*/g, " | ");
+  typed();
+}
+
 function startSearch() {
   document.getElementById("find").addEventListener("submit", (event) => {
     event.preventDefault();
@@ -44,6 +53,7 @@ function startSearch() {
   box.addEventListener("input", typed);
   box.addEventListener("focus", () => load());
   box.addEventListener("blur", addressFollows);
+  box.addEventListener("paste", pasteLines);
   box.addEventListener("keydown", (event) => {
     if (event.key !== "ArrowDown" || !firstFound()) return;
     event.preventDefault();

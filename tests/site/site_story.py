@@ -26,6 +26,12 @@ def visitor(cases, browser):
         browser.put("#q", text)
         browser.wait(lambda want=want: want in browser.text("#found li"), f"{text} finds {want}")
         cases.equal(f"story: {text!r} is found first", want in browser.text("#found li"), True)
+    browser.js("const data = new DataTransfer(); data.setData('text', arguments[0]);"
+               "document.getElementById('q').dispatchEvent(new ClipboardEvent('paste',"
+               "{ clipboardData: data, cancelable: true }))", LSPCI)
+    browser.has("Qemu virtual machine", "#found")
+    cases.equal("story: a paste of lines offers the rest", browser.has(
+        "Propose names for 2 devices"), True)
     browser.put("#q", "1237")
     browser.wait(lambda: "440FX" in browser.text("#found"), "the device of that number")
     browser.js("document.getElementById('q').value = ''")
