@@ -12,8 +12,12 @@ import program
 PARTS = (
     "harness worked_rows words fault_gallery limits real_file lspci lookups registry disks migrate"
     " jobs progress stops refusing scripts manual documents tour serving loopback http_routes"
-    " serving_faults serving_memory proxy mirror memory"
+    " serving_faults serving_memory proxy mirror memory site_reader site_story site_once"
+    " site_safety site_access"
 ).split()
+
+# The parts that are tried in a browser have a folder to themselves.
+sys.path.append(os.path.join(os.path.dirname(os.path.abspath(__file__)), "site"))
 
 # No part takes nearly as long, in seconds. One that hangs is stopped, so that the others are tried.
 LONGEST = 1_800

@@ -15,6 +15,7 @@ NARROW = (
     "SECURITY.md",
     "docs/INSTALL.md",
     "docs/PROMISES.md",
+    "docs/SITE.md",
 )
 WIDEST = 100
 README_LINES = 130

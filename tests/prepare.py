@@ -18,6 +18,9 @@ PACKAGES = {
     "htpasswd": "apache2-utils",
     "openssl": "openssl",
     "man": "man-db",
+    "chromium": "chromium",
+    "chromedriver": "chromium-driver",
+    "/usr/lib/python3/dist-packages/selenium/webdriver": "python3-selenium",
 }
 PARTS_OF_CRATE = ("src", "specs", "proofs")
 

@@ -1,0 +1,158 @@
+// What the registry's questions of today don't answer in one step, and how it is found out all the
+// same. Nothing else of the site knows of it: where the registry comes to answer such a question
+// itself, a function of this module becomes one request.
+
+import { ask, request } from "./api.js";
+import { keep, recall } from "./kept.js";
+
+const PAGE = 100;
+const MOST_PENDING = 1_000;
+const FRESH_FOR = 20_000;
+const LATEST = 20;
+const REVISION_ONLY = "/changes?since=9000000000000000000";
+
+/**
+ * The rank of an account that is about to log in: { least, most }, most is -1 of no account.
+ * No question tells it. Two commands are refused whatever the rank is, but differently: a file with
+ * a fault (5 below a senior), and giving oneself the highest rank (5 for all but administrators).
+ * What remains between contributor and moderator is known only from decisions made before.
+ */
+export async function ranksOf(name, headers) {
+  const fields = new URLSearchParams({ who: name, rank: 3 }).toString();
+  const [file, self] = await Promise.all([
+    request("POST", "/import", { headers, body: "?" }),
+    request("POST", "/account", { headers, body: fields }),
+  ]);
+  if (self.refusal?.refused === 10 || self.refusal?.refused === 13) return { least: 3, most: 3 };
+  if (file.refusal?.refused === 14) return { least: 2, most: 2 };
+  if (file.refusal?.refused === 4) return { least: 0, most: -1 };
+  const known = recall("localStorage", `rank:${name}`);
+  const least = known?.least >= 1 ? 1 : 0;
+  if (file.refusal?.refused === 5) return { least, most: known?.most === 0 ? 0 : 1 };
+  return { least: 0, most: 3 };
+}
+
+/** A page of the pending proposals, those with numbers above `after`. */
+export const pendingPage = (after) => ask(`/pending?after=${after}`);
+
+let walked = null;         // { at, all }
+
+async function walkPending() {
+  const all = [];
+  for (;;) {
+    const page = await ask(`/pending?after=${all.at(-1)?.num ?? 0}`, { quiet: true });
+    if (!page.value) return all;
+    all.push(...page.value);
+    if (page.value.length < PAGE || all.length >= MOST_PENDING) return all;
+  }
+}
+
+/** The pending proposals on a path, of the first thousand that are pending. */
+export async function pendingAt(path) {
+  if (!walked || performance.now() - walked.at > FRESH_FOR) {
+    walked = { at: performance.now(), all: walkPending() };
+  }
+  return (await walked.all).filter((it) => it.path === path);
+}
+
+/** Says that a command was accepted, so that what is pending is asked for anew. */
+export const forgetPending = () => { walked = null; };
+
+/** How many proposals there are, by halving; { value } or an answer without one. */
+async function countProposals() {
+  const there = async (number) => {
+    const answer = await ask(`/submission/${number}`, { quiet: true });
+    if (answer.trouble) throw answer;
+    return Boolean(answer.value);
+  };
+  let low = recall("sessionStorage", "last") ?? 0;
+  if (low > 0 && !(await there(low))) low = 0;
+  let step = 1;
+  while (await there(low + step)) { low += step; step *= 2; }
+  let high = low + step;
+  while (high - low > 1) {
+    const middle = Math.floor((low + high) / 2);
+    if (await there(middle)) low = middle; else high = middle;
+  }
+  keep("sessionStorage", "last", low);
+  return low;
+}
+
+/** The latest proposals in all states, falling: { value } or an answer without one. */
+export async function latestProposals() {
+  try {
+    const last = await countProposals();
+    const numbers = Array.from({ length: Math.min(LATEST, last) }, (_, at) => last - at);
+    return { value: await proposals(numbers) };
+  } catch (answer) {
+    if (answer.trouble) return answer;
+    throw answer;
+  }
+}
+
+/** Proposals by their numbers; those that could not be asked for are left out. */
+export async function proposals(numbers) {
+  const answers = await Promise.all(numbers.map((it) => ask(`/submission/${it}`, { quiet: true })));
+  return answers.filter((it) => it.value).map((it) => it.value);
+}
+
+/**
+ * What was added or renamed by the latest commands: { value: { revision, items, isCut } }. The
+ * registry tells it by paths, and here it is put in the order of time.
+ */
+export async function latestChanges(commands, most) {
+  const first = await ask(REVISION_ONLY);
+  if (!first.value) return first;
+  const { revision } = first.value;
+  const since = Math.max(0, revision - commands);
+  const items = [];
+  for (;;) {
+    const page = await ask(`/changes?since=${since}&after=${items.at(-1)?.path ?? ""}`);
+    if (!page.value) return page;
+    items.push(...page.value.items);
+    if (page.value.items.length < PAGE || items.length >= most) break;
+  }
+  items.sort((one, other) => other.since - one.since);
+  return { value: { revision, items, isCut: items.length >= most } };
+}
+
+// The path text just in front of one, behind everything that is in front of it.
+function before(path) {
+  const cut = path.search(/[0-9a-f]+$/);
+  const digits = path.slice(cut);
+  const less = parseInt(digits, 16) - 1;
+  if (less < 0) return null;
+  const number = less.toString(16).padStart(digits.length, "0");
+  const deeper = { 7: "/ffff/ffffffff", 12: "/ffffffff", 5: "/ff/ff", 8: "/ff" };
+  const depth = path.startsWith("PS/") ? "" : deeper[path.length] ?? "";
+  return path.slice(0, cut) + number + depth;
+}
+
+/** The command that named an item, and the latest, by number: { since, revision } or null. */
+export async function sinceOf(path) {
+  const after = before(path);
+  if (!after) return null;
+  const answer = await ask(`/changes?since=0&after=${after}`, { quiet: true });
+  const row = answer.value?.items[0];
+  return row?.path === path ? { since: row.since, revision: answer.value.revision } : null;
+}
+
+// Own proposals: no question tells them by author, so this browser remembers those it made.
+const OWN = "own:";
+const ownKey = (name) => `${OWN}${name}`;
+
+/** Remembers a proposal that an account made here: { num, path, name }. */
+export function rememberOwn(name, one) {
+  const all = recall("localStorage", ownKey(name)) ?? [];
+  if (all.some((it) => it.num === one.num)) return;
+  keep("localStorage", ownKey(name), [one, ...all].slice(0, 500));
+}
+
+/** The proposals that an account made in this browser, the latest first. */
+export const ownProposals = (name) => recall("localStorage", ownKey(name)) ?? [];
+
+/** Remembers in which state an own proposal was seen last. */
+export function rememberStates(name, states) {
+  const all = ownProposals(name).map((it) => ({ ...it, state: states.get(it.num) ?? it.state }));
+  keep("localStorage", ownKey(name), all);
+}

@@ -1,0 +1,112 @@
+// The head of the page: the search box, the menu, and who is logged in.
+
+import { account, logOut, rank, watchAccount } from "./account.js";
+import { askToLogIn } from "./login.js";
+import { load } from "./names.js";
+import { currentPage, go, refresh, watchPages } from "./router.js";
+import { RANKS } from "./words.js";
+
+const RESTS_AFTER = 300;
+const main = document.getElementById("main");
+const box = document.getElementById("q");
+const log = document.getElementById("log");
+const mine = document.getElementById("mine");
+
+const firstFound = () => main.querySelector("#found a");
+const isSearch = () => location.pathname === "/search";
+
+const searchHref = () => `/search?q=${encodeURIComponent(box.value)}`;
+
+// The address follows when the hand rests: browsers ignore an address that changes too often.
+let resting = 0;
+function addressFollows() {
+  if (resting && isSearch()) history.replaceState(history.state, "", searchHref());
+  clearTimeout(resting);
+  resting = 0;
+}
+
+// The search follows what is typed, in place.
+function typed() {
+  if (isSearch() && currentPage()?.search) {
+    clearTimeout(resting);
+    resting = setTimeout(addressFollows, RESTS_AFTER);
+    currentPage().search(box.value);
+  } else if (box.value) go(searchHref(), { focus: false });
+}
+
+// A box of one line would join lines that are pasted: marks keep them apart.
+function pasteLines(event) {
+  const text = event.clipboardData.getData("text").trim();
+  if (!text.includes("\n")) return;
+  event.preventDefault();
+  box.value = text.replace(/\s*\n\s*/g, " | ");
+  typed();
+}
+
+function startSearch() {
+  document.getElementById("find").addEventListener("submit", (event) => {
+    event.preventDefault();
+    addressFollows();
+    if (isSearch() && firstFound()) firstFound().click();
+    else typed();
+  });
+  box.addEventListener("input", typed);
+  box.addEventListener("focus", () => load());
+  box.addEventListener("blur", addressFollows);
+  box.addEventListener("paste", pasteLines);
+  box.addEventListener("keydown", (event) => {
+    if (event.key !== "ArrowDown" || !firstFound()) return;
+    event.preventDefault();
+    firstFound().focus();
+  });
+  main.addEventListener("keydown", moveInFound);
+}
+
+// The arrows go through what was found, and back to the box.
+function moveInFound(event) {
+  const row = event.target.closest?.("#found li");
+  if (!row || (event.key !== "ArrowDown" && event.key !== "ArrowUp")) return;
+  event.preventDefault();
+  const isDown = event.key === "ArrowDown";
+  const next = isDown ? row.nextElementSibling : row.previousElementSibling;
+  if (next) next.querySelector("a")?.focus();
+  else if (!isDown) box.focus();
+}
+
+function showPlace(address) {
+  for (const it of document.querySelectorAll("header nav a")) {
+    if (it.pathname === address.pathname) it.setAttribute("aria-current", "page");
+    else it.removeAttribute("aria-current");
+  }
+  if (document.activeElement === box) return;
+  box.value = address.pathname === "/search" ? address.searchParams.get("q") ?? "" : "";
+}
+
+function rankWords() {
+  const { least, most } = rank();
+  if (most < 0) return "not an account of the registry yet";
+  return least === most ? RANKS[least] : "";
+}
+
+function showWho() {
+  const name = account();
+  log.textContent = name ? `Log out ${name}` : "Log in";
+  log.title = name ? rankWords() : "";
+  mine.hidden = name === null;
+}
+
+// Who is in the middle of typing keeps the page that is there.
+const isTyping = () => main.contains(document.activeElement)
+  && document.activeElement.matches("input, textarea, select");
+
+/** Begins to keep the head up to date. */
+export function startHeader() {
+  startSearch();
+  watchPages(showPlace);
+  watchAccount((isBusy) => {
+    showWho();
+    if (!isBusy && !isTyping()) refresh();
+  });
+  log.addEventListener("click", () => (account() ? logOut() : askToLogIn()));
+  showWho();
+}

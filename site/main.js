@@ -1,0 +1,20 @@
+// Where the site begins.
+
+import { restoreAccount, watchAccount } from "./account.js";
+import { drawBar } from "./bar.js";
+import { startHeader } from "./header.js";
+import { load } from "./names.js";
+import { loadPages, startRouter, watchPages } from "./router.js";
+import { refuseHeldKeys } from "./steady.js";
+
+const QUIET_AFTER = 1_000;
+
+restoreAccount();
+refuseHeldKeys();
+watchAccount(drawBar);
+watchPages(drawBar);
+startHeader();
+startRouter().then(() => {
+  // What later pages need is fetched when there is time, and where data isn't spared.
+  if (!navigator.connection?.saveData) setTimeout(() => { load(); loadPages(); }, QUIET_AFTER);
+});

@@ -1,0 +1,181 @@
+// Commands, each under a key of its own, which is kept in the browser from before the command is
+// sent until its outcome is known: a command that is sent again under its key acts once, also after
+// the page was loaded again. Each entry has a key of localStorage to itself, so that tabs don't
+// overwrite each other's, and is sent by the one tab that holds its lock.
+
+import { account, authorization } from "./account.js";
+import { request } from "./api.js";
+import { keep, keysOf, recall } from "./kept.js";
+
+const FRONT = "owed:";
+const WAITS = [500, 1_000, 2_000, 4_000, 8_000, 15_000];
+const MOST_ODD = 3;
+
+const files = new Map();     // the bodies of imports, which are held in memory alone
+const unkept = new Map();    // entries that the browser didn't keep
+const working = new Map();   // what this tab is sending: its key, and { entry, answer, state }
+const watchers = [];
+
+/** Has a function called when entries come, go or change their state. */
+export const watchOutbox = (watcher) => watchers.push(watcher);
+const changed = () => watchers.forEach((watcher) => watcher());
+
+/** The commands whose outcome isn't known, of this and of earlier pages and of other tabs. */
+export function owed() {
+  const all = keysOf("localStorage", FRONT).map((it) => recall("localStorage", it));
+  const isEntry = (it) => typeof it?.key === "string" && typeof it.route === "string";
+  return [...all.filter(isEntry), ...unkept.values()].sort((one, other) => one.at - other.at);
+}
+
+/** What this tab does about an entry now: null, or { trouble, wait, now, leave } while it waits. */
+export const stateOf = (key) => working.get(key)?.state ?? null;
+
+/** Whether this tab is sending an entry. */
+export const isWorking = (key) => working.has(key);
+
+const isThere = (key) => unkept.has(key) || recall("localStorage", FRONT + key) !== null;
+
+/** The keys of entries that some tab is sending. */
+export async function keysAtWork() {
+  const held = (await navigator.locks?.query())?.held ?? [];
+  const names = held.map((it) => it.name).filter((it) => it.startsWith(FRONT));
+  return new Set([...names.map((it) => it.slice(FRONT.length)), ...working.keys()]);
+}
+
+/** Gives an entry up: it isn't sent again, here or in another tab. */
+export function forget(key) {
+  files.delete(key);
+  unkept.delete(key);
+  keep("localStorage", FRONT + key, null);
+  working.get(key)?.state?.leave();
+  changed();
+}
+
+/** A new key: 32 hex digits by chance. */
+export function newKey() {
+  const bytes = crypto.getRandomValues(new Uint8Array(16));
+  return Array.from(bytes, (byte) => byte.toString(16).padStart(2, "0")).join("");
+}
+
+/** The SHA-256 of bytes, as hex digits. */
+async function sumOf(bytes) {
+  const sum = await crypto.subtle.digest("SHA-256", bytes);
+  return Array.from(new Uint8Array(sum), (it) => it.toString(16).padStart(2, "0")).join("");
+}
+
+/**
+ * Keeps a command before it is sent.
+ * @param {string} route
+ * @param {string|Uint8Array} body a form's text, or a file
+ * @param {string} about what it does, in words
+ * @param {string} [key] the key, where one was chosen before
+ */
+export async function begin(route, body, about, key = newKey()) {
+  const entry = { key, account: account(), route, about, at: Date.now() };
+  if (typeof body === "string") entry.body = body;
+  else {
+    entry.sum = await sumOf(body);
+    files.set(key, body);
+  }
+  // Whoever finds it after a reload doesn't know how the first try went.
+  if (!keep("localStorage", FRONT + key, { ...entry, isInDoubt: true })) unkept.set(key, entry);
+  changed();
+  return entry;
+}
+
+/** Takes the file of an import again that was loaded before; returns whether it is the same one. */
+export async function bringFile(entry, bytes) {
+  if (entry.sum !== (await sumOf(bytes))) return false;
+  files.set(entry.key, bytes);
+  return true;
+}
+
+/** Whether the file of an import has to be chosen again. */
+export const wantsFile = (entry) => entry.body === undefined && !files.has(entry.key);
+
+/**
+ * Sends an entry until its outcome is known, and resolves to that: a value, a refusal, or a trouble
+ * that ends the tries. Called twice for an entry it sends once.
+ */
+export function settle(entry) {
+  const at = working.get(entry.key);
+  if (at) return at.answer;
+  const work = { entry, state: null };
+  working.set(entry.key, work);
+  work.answer = locked(entry, () => sendUntilKnown(entry, work)).finally(() => {
+    working.delete(entry.key);
+    changed();
+  });
+  changed();
+  return work.answer;
+}
+
+function locked(entry, call) {
+  if (!navigator.locks) return call();
+  return navigator.locks.request(FRONT + entry.key, { ifAvailable: true },
+    (lock) => (lock ? call() : { trouble: "elsewhere", certain: false }));
+}
+
+function send(entry, body) {
+  const kind = typeof body === "string" ? "application/x-www-form-urlencoded" : "text/plain";
+  const headers = { ...authorization(), "X-Key": entry.key, "Content-Type": kind };
+  return request("POST", entry.route, { headers, body });
+}
+
+/** Whether an answer ends the tries. `tries` counts those that were made. */
+function isEnd(answer, tries) {
+  if (answer.trouble === "odd") return tries >= MOST_ODD;
+  return answer.certain && answer.trouble !== "busy";
+}
+
+async function sendUntilKnown(entry, work) {
+  let isInDoubt = entry.isInDoubt ?? false;
+  for (let tries = 1; ; tries += 1) {
+    if (!isThere(entry.key)) return { trouble: "forgotten", certain: !isInDoubt };
+    const body = entry.body ?? files.get(entry.key);
+    if (body === undefined) return { trouble: "file", certain: !isInDoubt };
+    if (account() !== entry.account) return { trouble: "account", certain: !isInDoubt };
+    const answer = await send(entry, body);
+    if (answer.value || answer.refusal) {
+      forget(entry.key);
+      return answer;
+    }
+    isInDoubt ||= !answer.certain;
+    if (isEnd(answer, tries)) return gaveUp(entry, answer, isInDoubt);
+    if (await isLeft(work, answer.trouble, tries)) {
+      return { trouble: isThere(entry.key) ? "left" : "forgotten", certain: false };
+    }
+  }
+}
+
+function gaveUp(entry, answer, isInDoubt) {
+  if (!isInDoubt) forget(entry.key);
+  return { ...answer, certain: !isInDoubt };
+}
+
+/** Waits before the next try; resolves to whether the person left it. */
+function isLeft(work, trouble, tries) {
+  const wait = WAITS[Math.min(tries, WAITS.length) - 1] * (0.75 + Math.random() / 2);
+  return new Promise((resolve) => {
+    const end = (isGivenUp) => {
+      clearTimeout(timer);
+      work.state = null;
+      resolve(isGivenUp);
+      changed();
+    };
+    const timer = setTimeout(() => end(false), wait);
+    work.state = { trouble, wait, now: () => end(false), leave: () => end(true) };
+    changed();
+  });
+}
+
+/** The body of a command with these fields. */
+export const form = (fields) => new URLSearchParams(fields).toString();
+
+// An entry that another tab forgot is not waited for any longer.
+addEventListener("storage", ({ key, newValue }) => {
+  if (key?.startsWith(FRONT) && newValue === null) {
+    working.get(key.slice(FRONT.length))?.state?.leave();
+  }
+  changed();
+});

@@ -1,0 +1,185 @@
+// Checks a file in the browser, and has those who may import it, and others propose its names.
+
+import { account, rank } from "../account.js";
+import { carryOut } from "../carry.js";
+import { canonical } from "../canonical.js";
+import { counted, el, fill, link, several } from "../dom.js";
+import * as names from "../names.js";
+import { title } from "../parts.js";
+import { hrefOf } from "../paths.js";
+import { read } from "../reader.js";
+import { compared, shown } from "../shown.js";
+import { steadyButton } from "../steady.js";
+import { KINDS } from "../words.js";
+import { beginMany } from "./many.js";
+
+const AROUND = 2;
+const LONGEST_LINE = 300;
+const FEW = 20;
+
+/** The page that checks. */
+export const check = (context) => new Check(context, false).page();
+
+/** The page that imports. */
+export const load = (context) => new Check(context, true).page();
+
+function faultLines(bytes, faulty) {
+  const lines = new TextDecoder().decode(bytes).split("\n");
+  const from = Math.max(0, faulty - 1 - AROUND);
+  const row = (line, at) => {
+    const number = from + at + 1;
+    const text = line.replace(/\r$/, "").slice(0, LONGEST_LINE).replace(/\t/g, "→   ");
+    return el("span", { class: number === faulty ? "bad" : null },
+      `${String(number).padStart(6)}  `, text ? shown(text) : null, "\n");
+  };
+  return el("pre", { class: "code" }, lines.slice(from, faulty + AROUND).map(row));
+}
+
+/** Why a file has no names, as nodes; null where it has. */
+function faultOf(name, bytes, outcome) {
+  const words = outcome.isTooLarge ? `${name} is longer than 4,194,304 bytes.`
+    : outcome.hasTooMany ? `${name} has more than 100,000 entries.`
+      : outcome.line ? `${name}, line ${counted(outcome.line)}: ${KINDS[outcome.kind]}.` : null;
+  if (!words) return null;
+  const lines = outcome.line ? faultLines(bytes, outcome.line) : null;
+  return [el("p", { class: "fault" }, words), lines];
+}
+
+function differenceRow({ path, name, now }) {
+  const [was, is] = now === undefined ? [null, shown(name)] : compared(now, name);
+  return el("li", {}, el("a", { href: hrefOf(path) }, el("code", {}, path), " ",
+    was ? [el("del", {}, was), " "] : null, is));
+}
+
+function differenceGroup(words, { count, rows }) {
+  if (count === 0) return null;
+  const left = count - rows.length;
+  const more = left ? el("li", {}, `and ${counted(left)} more`) : null;
+  return el("details", { open: count < FEW }, el("summary", {}, `${counted(count)} ${words}`),
+    el("ol", { class: "items" }, rows.map(differenceRow), more));
+}
+
+function differenceWords({ added, renamed, missing, same }) {
+  return [
+    el("p", {}, `Beside the published file: ${counted(added.count)} new,`
+      + ` ${counted(renamed.count)} with another name, ${counted(same)} the same,`
+      + ` ${counted(missing.count)} only there.`),
+    differenceGroup("new", added),
+    differenceGroup("with another name", renamed),
+    differenceGroup("only in the published file", missing),
+  ];
+}
+
+class Check {
+  constructor({ go }, isImport) {
+    this.go = go;
+    this.isImport = isImport;
+    this.result = el("div", { class: "result", role: "status" });
+    this.place = el("div");
+    this.text = el("textarea", {
+      id: "paste", rows: 10, spellcheck: "false", class: "code", wrap: "off",
+    });
+  }
+
+  async takeFile(file) {
+    if (!file) return;
+    this.text.value = "";
+    await this.judge(file.name, new Uint8Array(await file.arrayBuffer()));
+  }
+
+  fileBox() {
+    const take = () => this.takeFile(box.files[0]);
+    const box = el("input", { id: "file", type: "file", onchange: take });
+    const area = el("div", {
+      class: "drop",
+      ondragover: (event) => { event.preventDefault(); area.classList.add("over"); },
+      ondragleave: () => area.classList.remove("over"),
+      ondrop: (event) => {
+        event.preventDefault();
+        area.classList.remove("over");
+        this.takeFile(event.dataTransfer.files[0]);
+      },
+    }, el("label", { for: "file" }, "A file, chosen or dropped here"), " ", box);
+    return area;
+  }
+
+  async judge(name, bytes) {
+    const outcome = read(bytes);
+    fill(this.place);
+    URL.revokeObjectURL(this.href);
+    const fault = faultOf(shownName(name), bytes, outcome);
+    if (fault) { fill(this.result, fault, spokeHere()); return; }
+    const count = several(outcome.names.size, "entry").replace("entrys", "entries");
+    this.href = URL.createObjectURL(new Blob([canonical(outcome.names)], { type: "text/plain" }));
+    const save = el("a", { href: this.href, download: "pci.ids", class: "button" },
+      "Save it in canonical form");
+    const beside = await names.difference(outcome.names);
+    fill(this.result,
+      el("p", { class: "good" }, `${shownName(name)} has no fault: ${count}.`), spokeHere(),
+      el("p", {}, save, " ", el("small", {}, "Comments, version and date are not in it.")),
+      beside ? differenceWords(beside) : null,
+      this.isImport ? this.importButton(bytes) : this.proposeButton(beside));
+  }
+
+  importButton(bytes) {
+    const onclick = async () => {
+      const answer = await carryOut({
+        route: "/import", body: bytes, about: "Import of a file", button, place: this.place,
+        why: "Imports are made by senior moderators.",
+      });
+      if (!answer?.value) return;
+      const { added, renamed, same } = answer.value;
+      row.remove();
+      fill(this.place, el("p", { class: "good", role: "status" }, `The registry imported it:`
+        + ` ${counted(added)} added, ${counted(renamed)} renamed, ${counted(same)} the same.`));
+    };
+    const button = steadyButton({ class: "main", onclick }, "Import it");
+    const row = el("p", { class: "buttons" }, button);
+    return row;
+  }
+
+  // Who may not import proposes the names one by one.
+  proposeButton(beside) {
+    const rows = [...beside?.added.rows ?? [], ...beside?.renamed.rows ?? []];
+    if (rows.length === 0) return null;
+    const begin = () => this.go(beginMany(rows.map(({ path, name }) => ({ path, name }))));
+    const all = beside.added.count + beside.renamed.count;
+    const words = rows.length === all ? several(all, "name") : `the first ${counted(rows.length)}`;
+    return el("p", { class: "buttons" },
+      steadyButton({ onclick: begin }, `Propose ${words} …`));
+  }
+
+  page() {
+    const submit = (event) => {
+      event.preventDefault();
+      this.judge("The text", new TextEncoder().encode(this.text.value));
+    };
+    return [
+      title(this.isImport ? "Import" : "Check a file"),
+      this.isImport ? importWords() : el("p", {}, "Is your ", el("code", {}, "pci.ids"),
+        " in order, and what does it have that the registry hasn't? The file stays in your"
+        + " browser."),
+      this.fileBox(),
+      el("form", { onsubmit: submit }, el("label", { for: "paste" }, "Or its text"), this.text,
+        el("p", { class: "buttons" }, el("button", { class: "main" }, "Check"))),
+      this.result, this.place,
+      this.isImport ? null : el("p", {}, link("/load", "Import a file"), " (senior moderators)"),
+    ];
+  }
+}
+
+const shownName = (name) => (name.length > 80 ? `${name.slice(0, 80)}…` : name);
+
+const spokeHere = () => el("p", { class: "aside" }, "So says the check in your browser. What is"
+  + " imported is judged by the registry alone.");
+
+function importWords() {
+  return [
+    el("p", {}, "For senior moderators: the names of a file are set in the registry, all or none."
+      + " Nothing is removed, and proposals are left alone. The file is checked here first, and you"
+      + " see what it would change."),
+    account() && rank().most < 2
+      ? el("p", { class: "fault" }, "This account's rank is too low for an import. ",
+        link("/check", "Check a file"), " offers to propose its names.") : null,
+  ];
+}

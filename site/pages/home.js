@@ -1,0 +1,37 @@
+import { account } from "../account.js";
+import { counted, el, fill, link } from "../dom.js";
+import { load } from "../names.js";
+import { title } from "../parts.js";
+
+const example = (text) => link(`/search?q=${encodeURIComponent(text)}`, el("code", {}, text));
+
+function publishedWords({ count, date }) {
+  const day = date ? new Date(date).toISOString().slice(0, 16).replace("T", " ") : null;
+  const when = day ? `, published ${day} UTC` : "";
+  return [link("/pci.ids", "pci.ids"), ` has ${counted(count)} names${when}.`];
+}
+
+export default async function home() {
+  const published = el("p", { class: "aside published" }, "\u00a0");
+  load().then((known) => { if (known) fill(published, publishedWords(known)); });
+  return [
+    title("PCI ID registry"),
+    el("p", { class: "lead" }, "The names of PCI vendors, devices, subsystems and classes that ",
+      el("code", {}, "lspci"), " and other programs show. People propose names, moderators decide,"
+      + " and the file ", link("/pci.ids", "pci.ids"), " has what was approved."),
+    el("p", {}, "Type or paste into the box above: a name (", example("440fx"), "), a number (",
+      example("8086:1237"), "), a line of ", el("code", {}, "lspci -nn"),
+      ", a hardware id of Windows, or a modalias."),
+    el("ul", { class: "doors" },
+      el("li", {}, link("/vendors", "Vendors"), " with their devices and subsystems"),
+      el("li", {}, link("/classes", "Classes"), " with subclasses and programming interfaces"),
+      el("li", {}, link("/propose", "Propose"), " a name, a better one, or a removal; or ",
+        link("/propose?many=yes", "many at once")),
+      el("li", {}, link("/queue", "What is pending"), ", for moderators and for comments"),
+      el("li", {}, link("/recent", "What changed"), " lately, and ",
+        link("/decided", "the latest proposals")),
+      el("li", {}, link("/check", "Check a file"), " of your own"),
+      account() ? el("li", {}, link("/mine", "My proposals"), ", and what came of them") : null),
+    published,
+  ];
+}

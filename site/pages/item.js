@@ -1,0 +1,152 @@
+// An item: its name, its line in the file, what lspci shows, what is below it, what was proposed.
+
+import { account } from "../account.js";
+import { ask } from "../api.js";
+import { ownProposals, pendingAt, sinceOf } from "../detours.js";
+import { counted, el, fill, link } from "../dom.js";
+import { itemList } from "../lists.js";
+import * as names from "../names.js";
+import {
+  copyButton, copyWords, crumbs, failed, kindOf, proposalRow, title,
+} from "../parts.js";
+import {
+  BELOW, KIND_WORDS, lineOf, lookupOf, parse, rankFor, wholeNumber, withParents,
+} from "../paths.js";
+import { shown } from "../shown.js";
+import { RANKS } from "../words.js";
+
+const MANY = {
+  vendor: "Devices", device: "Subsystems", class: "Subclasses", subclass: "Programming interfaces",
+};
+const SHORT_WAIT = 150;
+
+/** The item as the registry has it, or as the published file does: { name, nameOf, below, .. }. */
+async function found(path) {
+  const chain = withParents(path);
+  const hasBelow = BELOW[parse(path).kind].length > 0;
+  const [children, ...answers] = await Promise.all([
+    hasBelow ? ask(`/children?of=${path}`) : { value: [] },
+    ...chain.map((it) => ask(`/read/${it}`)),
+  ]);
+  const own = answers.at(-1);
+  if (own.trouble) return (await foundInFile(path, chain)) ?? { answer: own };
+  const known = new Map(chain.map((it, at) => [it, answers[at].value?.name]));
+  return { answer: own, known, below: children.value ?? [] };
+}
+
+async function foundInFile(path, chain) {
+  const [known, below] = await Promise.all([names.namesAt(chain), names.childrenOf(path)]);
+  return known.has(path) ? { known, below, isCopy: true, answer: { value: true } } : null;
+}
+
+/** The page of an item. */
+export default async function item({ path, again }) {
+  if (!parse(path)) return failed({ refusal: { refused: 1 } });
+  const { answer, known, below, isCopy } = await found(path);
+  if (answer.refusal?.refused === 25) return absent(path, known);
+  if (!answer.value) return failed(answer, again);
+  const name = known.get(path);
+  const history = el("div", { class: "history" });
+  // Waited for a moment, so that nothing shifts when it comes.
+  const wait = new Promise((go) => { setTimeout(go, SHORT_WAIT); });
+  const [text] = await Promise.all([
+    isCopy ? undefined : lspciText(path),
+    isCopy ? null : Promise.race([showHistory(path, history), wait]),
+  ]);
+  return [
+    crumbs(path, (it) => known.get(it)),
+    heading(path, known),
+    isCopy ? copyWords() : null,
+    facts(path, name, text),
+    actions(path),
+    history,
+    lists(path, below),
+  ];
+}
+
+function heading(path, known) {
+  const above = withParents(path).slice(0, -1).map((it) => known.get(it)).filter(Boolean);
+  const text = [`${wholeNumber(path)} ${known.get(path)}`, ...above.reverse()].join(" · ");
+  return title(text, shown(known.get(path)));
+}
+
+/** What lspci shows: null where it shows nothing of its own, undefined where it isn't known. */
+async function lspciText(path) {
+  const query = lookupOf(path);
+  if (!query) return null;
+  const { value } = await ask(`/lookup?${query}`);
+  return value === undefined ? undefined : String(value);
+}
+
+function facts(path, name, text) {
+  const line = lineOf(path, name);
+  return el("dl", { class: "facts" },
+    el("dt", {}, "Kind"), el("dd", {}, kindOf(path)),
+    el("dt", {}, "Path"), el("dd", {}, el("code", {}, path)),
+    el("dt", {}, "In pci.ids"),
+    el("dd", { class: "line" }, el("pre", {}, line.replace(/[^\t].*/, ""), shown(line.trimStart())),
+      copyButton(line)),
+    text ? [el("dt", {}, el("code", {}, "lspci -nn"), " shows"),
+      el("dd", {}, el("pre", {}, shown(text)))] : null);
+}
+
+function actions(path) {
+  const { kind } = parse(path);
+  const button = (query, words) => el("a", { class: "button", href: `/propose?${query}` }, words);
+  return [
+    el("p", { class: "buttons" },
+      button(`path=${path}`, "Propose another name"),
+      button(`path=${path}&remove=yes`, "Propose its removal"),
+      BELOW[kind].map((it) => button(`under=${path}&kind=${it}`,
+        `Propose a ${KIND_WORDS[it].toLowerCase()}`))),
+    el("p", { class: "aside" }, `A ${RANKS[rankFor(path, false)]} or above decides on names of`
+      + ` this kind, a ${RANKS[2]} or above on removals.`),
+  ];
+}
+
+function lists(path, below) {
+  const { kind } = parse(path);
+  const generic = below.filter((it) => it.path.startsWith("PS/"));
+  const direct = below.filter((it) => !it.path.startsWith("PS/"));
+  const section = (words, items) => el("section", {}, el("h2", {}, words),
+    itemList(items, words.toLowerCase()));
+  return [
+    MANY[kind] ? section(MANY[kind], direct) : null,
+    generic.length ? section("Generic subsystems", generic) : null,
+  ];
+}
+
+function absent(path, known) {
+  const history = el("div", { class: "history" });
+  showHistory(path, history);
+  return [
+    crumbs(path, (it) => known.get(it)),
+    title(`${wholeNumber(path)} has no name`, el("code", {}, wholeNumber(path)), " has no name"),
+    el("p", {}, "The registry has no entry for ", el("code", {}, path), "."),
+    el("p", {}, el("a", { class: "button", href: `/propose?path=${path}` }, "Propose a name")),
+    history,
+  ];
+}
+
+// What was proposed for this path, and since when it has its name, as far as the registry tells.
+async function showHistory(path, place) {
+  const [pending, named] = await Promise.all([pendingAt(path), sinceOf(path)]);
+  const own = (account() ? ownProposals(account()) : []).filter((it) => it.path === path
+    && !pending.some(({ num }) => num === it.num));
+  if (!pending.length && !own.length && !named) return;
+  const rows = [
+    ...pending.reverse().map((it) => proposalRow(it, `by ${it.author}, pending`)),
+    ...own.map((it) => proposalRow(it, "by you")),
+  ];
+  fill(place, el("h2", {}, "Proposals and history"),
+    rows.length ? el("ol", { class: "items" }, rows) : null,
+    sinceWords(named));
+}
+
+function sinceWords(named) {
+  if (!named) return null;
+  const { since, revision } = named;
+  const words = since === 0 ? "It had its name before the registry began to count its commands."
+    : `Command ${counted(since)} of ${counted(revision)} gave it its name.`;
+  return el("p", { class: "aside" }, words, " ", link("/recent", "What changed lately"));
+}

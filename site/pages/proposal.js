@@ -1,0 +1,155 @@
+// A proposal: what it proposes, its comments, and deciding on it.
+
+import { account, learnRank, rank } from "../account.js";
+import { ask } from "../api.js";
+import { carryOut, faultWords } from "../carry.js";
+import { keepDraft } from "../drafts.js";
+import { el, fill, utf8Length } from "../dom.js";
+import { learnName } from "../names.js";
+import { tell } from "../notice.js";
+import { chainOf, failed, kindOf, oneParagraph, title, wishOf } from "../parts.js";
+import { rankFor, withParents } from "../paths.js";
+import { compared, shown, spelled } from "../shown.js";
+import { steadyButton } from "../steady.js";
+import { RANKS, STATES } from "../words.js";
+
+const MOST_TEXT = 4_000;
+const NEEDS_ACCOUNT = "Decisions are made under an account.";
+
+/** The page of a proposal. */
+export default async function proposal({ number, again }) {
+  const answer = await ask(`/submission/${number}`);
+  if (!answer.value) return failed(answer, again);
+  const it = answer.value;
+  const chain = withParents(it.path);
+  const answers = await Promise.all(chain.map((path) => ask(`/read/${path}`)));
+  const names = new Map(chain.map((path, at) => [path, answers[at].value?.name]));
+  const done = (words) => { tell(words, 4); again(); };
+  const text = `Proposal ${it.num}: ${it.name === null ? "remove" : it.name} · ${it.path}`;
+  return [
+    title(text, `Proposal ${it.num} `,
+      el("span", { class: `state ${it.state}` }, STATES[it.state])),
+    facts(it, names),
+    it.state === "pending" ? decisions(it, names.get(it.path), done) : null,
+    el("section", {}, el("h2", {}, "Comments"), remarks(it), commentForm(it, done)),
+  ];
+}
+
+function facts(it, names) {
+  const now = names.get(it.path);
+  const isRename = it.state === "pending" && it.name !== null && now !== undefined;
+  const [was, wish] = isRename ? compared(now, it.name) : [now && shown(now), wishOf(it.name)];
+  const row = (word, ...value) => [el("dt", {}, word), el("dd", {}, ...value)];
+  const isDecided = it.state === "approved" || it.state === "rejected";
+  return el("dl", { class: "facts" },
+    row(kindOf(it.path), chainOf(it.path, (path) => names.get(path)), " ", el("code", {}, it.path)),
+    it.state === "pending" && was ? row("Now", el("del", {}, was)) : null,
+    row(it.name === null ? "Removal" : "Name", el("ins", { class: "proposed" }, wish)),
+    row("By", it.author),
+    row("Note", it.note === "" ? "–" : shown(it.note)),
+    isDecided ? row(STATES[it.state], `by ${it.decider}`) : null,
+    it.reason ? row("Reason", shown(it.reason)) : null);
+}
+
+function remarks(it) {
+  if (it.remarks.length === 0) return el("p", { class: "none" }, "None yet.");
+  return el("ol", { class: "remarks" }, it.remarks.map((remark) => el("li", {},
+    el("b", {}, remark.author), el("p", { class: "words" }, shown(remark.text)))));
+}
+
+function commentForm(it, done) {
+  const place = el("div");
+  const text = el("textarea", {
+    id: "comment", rows: 3, required: true, "aria-describedby": "comment-hint",
+  });
+  const button = steadyButton({ class: "main" }, "Comment");
+  const submit = async (event) => {
+    event.preventDefault();
+    const words = oneParagraph(text.value);
+    const fault = !words ? "There is nothing in it."
+      : utf8Length(words) > MOST_TEXT ? "A comment has at most 4,000 bytes." : null;
+    if (fault) { fill(place, faultWords(fault)); return; }
+    const answer = await carryOut({
+      route: "/comment", fields: { num: it.num, text: words }, about: `Comment on ${it.num}`,
+      button, place, why: "Comments are made under an account.",
+    });
+    if (!answer?.value) return;
+    draft.clear();
+    done("Your comment is there.");
+  };
+  const form = el("form", { onsubmit: submit },
+    el("label", { for: "comment" }, "Your comment"), text,
+    el("small", { id: "comment-hint" },
+      "One paragraph: line breaks become spaces. Everybody can read it, and it stays."),
+    el("p", { class: "buttons" }, button), place);
+  const draft = keepDraft(form, "comment");
+  return form;
+}
+
+// What an author may do, and what others may.
+function decisions(it, now, done) {
+  const needed = rankFor(it.path, it.name === null);
+  if (!account()) {
+    return el("p", { class: "aside" }, `Log in to comment, to withdraw your own, or, as a`
+      + ` ${RANKS[needed]} or above, to decide.`);
+  }
+  if (account() === it.author) return withdrawal(it, done);
+  if (rank().most < needed) {
+    return el("p", { class: "aside" }, `A ${RANKS[needed]} or above decides on this.`);
+  }
+  return decision(it, needed, now, done);
+}
+
+function withdrawal(it, done) {
+  const place = el("div");
+  const onclick = async () => {
+    const answer = await carryOut({
+      route: "/withdraw", fields: { num: it.num }, about: `Withdraw ${it.num}`, button, place,
+    });
+    if (answer?.value) done("Withdrawn.");
+  };
+  const button = steadyButton({ onclick }, "Withdraw");
+  return el("div", { class: "decide" }, el("p", { class: "buttons" }, button), place);
+}
+
+/** Sends a decision, and learns from its answer. Returns whether it was accepted. */
+export async function decide(it, needed, command) {
+  const answer = await carryOut({ ...command, why: NEEDS_ACCOUNT });
+  if (answer?.value) learnRank(needed, true);
+  else if (answer?.refusal?.refused === 5) learnRank(needed, false);
+  if (answer?.value && command.route === "/approve") learnName(it.path, it.name);
+  return answer;
+}
+
+/** What an approval does, in words that stand for themselves. */
+export const approvalWords = (it) => (
+  it.name === null ? `Approve ${it.num}: remove ${it.path}`
+    : `Approve ${it.num}: “${spelled(it.name)}” for ${it.path}`);
+
+function decision(it, needed, now, done) {
+  const place = el("div");
+  const onclick = async () => {
+    const answer = await decide(it, needed, {
+      route: "/approve", fields: { num: it.num }, about: approvalWords(it), button: approve, place,
+    });
+    if (answer?.value) done(`${it.num} is approved.`);
+  };
+  const approve = steadyButton({ class: "main", onclick }, "Approve");
+  const reason = el("input", { id: "reason", required: true, maxlength: MOST_TEXT });
+  const reject = steadyButton({}, "Reject");
+  const submit = async (event) => {
+    event.preventDefault();
+    const fields = { num: it.num, reason: oneParagraph(reason.value) };
+    const command = { route: "/reject", fields, about: `Reject ${it.num}`, button: reject, place };
+    if (!(await decide(it, needed, command))?.value) return;
+    draft.clear();
+    done(`${it.num} is rejected.`);
+  };
+  const form = el("form", { class: "reject", onsubmit: submit },
+    el("label", { for: "reason" }, "Reason"), reason, reject);
+  const draft = keepDraft(form, "reason");
+  const isIdle = it.name === null ? now === undefined : now === it.name;
+  return el("div", { class: "decide" },
+    isIdle ? faultWords("Nothing would change: it is so already.") : null,
+    el("p", { class: "buttons" }, approve), form, place);
+}

@@ -1,0 +1,227 @@
+// Proposes a name, a better one, or a removal.
+
+import { account } from "../account.js";
+import { ask } from "../api.js";
+import { carryOut, faultWords } from "../carry.js";
+import { pendingAt, rememberOwn } from "../detours.js";
+import { draftOf, keepDraft } from "../drafts.js";
+import { el, fill, link } from "../dom.js";
+import { tell } from "../notice.js";
+import { oneParagraph, title, wishOf } from "../parts.js";
+import { devicesIn } from "../pasted.js";
+import { KIND_WORDS, NUMBERS, parse, pathOf, rankFor, withParents } from "../paths.js";
+import { shown, spelled } from "../shown.js";
+import { steadyButton } from "../steady.js";
+import { RANKS } from "../words.js";
+import many from "./many.js";
+import { MOST_NAME, nameFault, noteBox, noteFault } from "./proposing.js";
+
+/** The boxes of the numbers of a path. */
+class Numbers {
+  constructor(kind, digits, changed) {
+    this.element = el("div", { class: "numbers" });
+    this.changed = changed;
+    this.show(kind, digits);
+  }
+
+  boxes() {
+    return [...this.element.querySelectorAll("input")];
+  }
+
+  digits() {
+    return this.boxes().map((it) => it.value);
+  }
+
+  path() {
+    return pathOf(this.kind, this.digits());
+  }
+
+  show(kind, digits) {
+    this.kind = kind;
+    fill(this.element, NUMBERS[kind].map(([word, length], at) => {
+      const box = el("input", {
+        id: `number-${at}`, size: length, maxlength: length, required: true, class: "hex",
+        value: digits[at] ?? "", autocomplete: "off", spellcheck: "false", autocapitalize: "off",
+        title: `${length} hex digits`, pattern: `[0-9A-Fa-f]{${length}}`,
+        oninput: () => this.typed(box, at, length),
+        onpaste: (event) => this.paste(event, at),
+      });
+      return el("p", {}, el("label", { for: box.id }, word), box);
+    }));
+  }
+
+  typed(box, at, length) {
+    const isFull = box.value.length === length && document.activeElement === box;
+    if (isFull) this.boxes()[at + 1]?.focus();
+    this.changed();
+  }
+
+  // A whole number, or a line of lspci, that is pasted falls into its boxes.
+  paste(event, at) {
+    const text = event.clipboardData.getData("text");
+    const [device] = devicesIn(text);
+    const typed = /^[0-9a-f]+(?:[:\s/]+[0-9a-f]+)+$/i.exec(text)?.[0].split(/[:\s/]+/);
+    const all = device ?? typed ?? [];
+    if (all.length < 2) return;
+    event.preventDefault();
+    all.forEach((it, more) => {
+      const box = this.boxes()[(device ? 0 : at) + more];
+      if (box) box.value = it;
+    });
+    this.changed();
+    this.element.dispatchEvent(new Event("input", { bubbles: true }));
+  }
+}
+
+/** The form, and what the registry says of its path meanwhile. */
+class Proposal {
+  constructor(query, go) {
+    this.go = go;
+    this.turn = 0;
+    const before = draftOf().read();
+    const given = parse(query.get("path") ?? "");
+    const under = parse(query.get("under") ?? "");
+    const asked = KIND_WORDS[query.get("kind")] ? query.get("kind") : "device";
+    const kind = before?.kind ?? given?.kind ?? asked;
+    const digits = before ? [0, 1, 2, 3].map((it) => before[`number-${it}`])
+      : given?.numbers ?? under?.numbers ?? [];
+    this.isFilled = before !== null;
+    this.numbers = new Numbers(kind, digits, () => this.look());
+    this.makeFields(kind, query.get("remove") === "yes");
+    this.makeForm();
+    this.draft = keepDraft(this.form);
+    this.name.disabled = this.remove.checked;
+    this.checkName();
+    queueMicrotask(() => this.look());
+  }
+
+  makeFields(kind, isRemoval) {
+    const options = Object.entries(KIND_WORDS).map(([value, word]) => (
+      el("option", { value, selected: value === kind }, word)));
+    this.kind = el("select", { id: "kind", onchange: () => this.changeKind() }, options);
+    this.remove = el("input", {
+      id: "remove", type: "checkbox", checked: isRemoval, onchange: () => this.changeRemoval(),
+    });
+    this.name = el("input", {
+      id: "name", required: true, maxlength: MOST_NAME, autocomplete: "off",
+      "aria-describedby": "name-fault", oninput: () => this.checkName(),
+    });
+    this.nameFault = el("small", { id: "name-fault", class: "fault" });
+    this.about = el("div", { class: "about", role: "status" });
+    this.place = el("div");
+    this.button = steadyButton({ class: "main" }, "Propose");
+  }
+
+  makeForm() {
+    const submit = (event) => { event.preventDefault(); this.send(); };
+    this.form = el("form", { class: "propose", novalidate: true, onsubmit: submit },
+      el("p", {}, el("label", { for: "kind" }, "Kind"), this.kind),
+      this.numbers.element, this.about,
+      el("p", { class: "tick" }, this.remove, el("label", { for: "remove" }, "Remove the entry")),
+      el("p", {}, el("label", { for: "name" }, "Name"), this.name, this.nameFault),
+      el("div", {}, noteBox()),
+      el("p", { class: "buttons" }, this.button), this.place);
+    this.note = this.form.querySelector("#note");
+  }
+
+  changeKind() {
+    this.numbers.show(this.kind.value, this.numbers.digits());
+    this.look();
+  }
+
+  changeRemoval() {
+    this.name.disabled = this.remove.checked;
+    this.look();
+  }
+
+  checkName() {
+    const text = this.name.value;
+    const atEnd = "There is a blank at the end; it would be in the file.";
+    this.nameFault.textContent = nameFault(text) ?? (/[ \t]$/.test(text) ? atEnd : "");
+  }
+
+  /** Asks what the registry has at the path and above it. */
+  async look() {
+    const path = this.numbers.path();
+    const mine = this.turn += 1;
+    if (!path) { fill(this.about); return; }
+    const chain = withParents(path);
+    const [pending, ...answers] = await Promise.all([
+      pendingAt(path), ...chain.map((it) => ask(`/read/${it}`, { quiet: true })),
+    ]);
+    if (mine !== this.turn) return;
+    const now = answers.at(-1).value?.name;
+    fill(this.about, this.aboutWords(path, chain, answers, pending));
+    // The present name is where a better one begins.
+    const isFresh = !this.isFilled && this.name.value === ""
+      && document.activeElement !== this.name && !this.remove.checked;
+    if (now !== undefined && isFresh) this.name.value = now;
+  }
+
+  aboutWords(path, chain, answers, pending) {
+    const isRemoval = this.remove.checked;
+    const own = answers.at(-1);
+    const above = chain.slice(0, -1);
+    const missing = above.find((_, at) => answers[at].refusal?.refused === 25);
+    const nameOf = (answer) => (answer.value ? shown(answer.value.name)
+      : answer.refusal ? "not there" : "not known at the moment");
+    return el("ul", {},
+      above.map((it, at) => el("li", {}, `${KIND_WORDS[parse(it).kind]} `, el("code", {}, it),
+        ": ", nameOf(answers[at]))),
+      el("li", {}, el("code", {}, path), own.refusal ? " has no name yet." : [" is now ",
+        el("b", {}, nameOf(own)), "."]),
+      missing && !isRemoval ? el("li", { class: "fault" }, el("code", {}, missing),
+        " isn't in the registry, and has to be approved before this one: ",
+        link(`/propose?path=${missing}`, "propose it")) : null,
+      isRemoval && own.refusal ? el("li", { class: "fault" }, "There is nothing to remove.") : null,
+      pending.map((it) => el("li", {}, "Pending already: ", link(`/proposals/${it.num}`,
+        `#${it.num}`), " ", wishOf(it.name), ` by ${it.author}`)),
+      el("li", {}, `A ${RANKS[rankFor(path, isRemoval)]} or above decides.`));
+  }
+
+  /** The first fault of the form: the box and the words; or null. */
+  fault() {
+    const { name, note, numbers, remove } = this;
+    if (!numbers.path()) {
+      const box = numbers.boxes().find((it) => !it.checkValidity()) ?? numbers.boxes()[0];
+      return [box, "The number isn't whole: each box takes as many hex digits as it is wide."];
+    }
+    if (!remove.checked && name.value === "") return [name, "There is no name."];
+    if (!remove.checked && nameFault(name.value)) return [name, nameFault(name.value)];
+    return noteFault(note.value) ? [note, noteFault(note.value)] : null;
+  }
+
+  async send() {
+    const fault = this.fault();
+    if (fault) {
+      fill(this.place, faultWords(fault[1]));
+      fault[0].focus();
+      return;
+    }
+    const path = this.numbers.path();
+    const name = this.remove.checked ? null : this.name.value;
+    const wish = name === null ? { remove: "yes" } : { name };
+    const words = name === null ? "to remove" : `“${spelled(name)}” for`;
+    const by = account();
+    const answer = await carryOut({
+      route: "/submit", fields: { path, ...wish, note: oneParagraph(this.note.value) },
+      about: `Propose ${words} ${path}`, button: this.button, place: this.place,
+      why: "Proposals are made under an account.",
+    });
+    if (!answer?.value) return;
+    rememberOwn(by ?? account(), { num: answer.value.num, path, name });
+    this.draft.clear();
+    tell(`Your proposal has the number ${answer.value.num}.`, 5);
+    this.go(`/proposals/${answer.value.num}`);
+  }
+}
+
+/** The page for one proposal, or for many. */
+export default async function propose(context) {
+  if (context.query.get("many") === "yes") return many(context);
+  return [
+    title("Propose"),
+    new Proposal(context.query, context.go).form,
+    el("p", {}, link("/propose?many=yes", "Propose many at once")),
+  ];
+}

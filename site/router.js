@@ -1,0 +1,140 @@
+// Which page an address shows, and going from one to the next without loading anew.
+
+import { el, fill, link } from "./dom.js";
+import { beEager } from "./lists.js";
+import { tell, untell } from "./notice.js";
+import { failed, title, titleOf } from "./parts.js";
+
+const PAGES = [
+  [/^\/$/, "home"],
+  [/^\/vendors$/, "list", "vendors"],
+  [/^\/classes$/, "list", "classes"],
+  [/^\/item\/(?<path>P[CDS]\/[0-9a-f/]+)$/, "item"],
+  [/^\/search$/, "search"],
+  [/^\/proposals\/(?<number>[1-9][0-9]{0,9})$/, "proposal"],
+  [/^\/propose$/, "propose"],
+  [/^\/queue$/, "queue"],
+  [/^\/decided$/, "decided"],
+  [/^\/recent$/, "recent"],
+  [/^\/check$/, "check", "check"],
+  [/^\/load$/, "check", "load"],
+  [/^\/mine$/, "mine"],
+  [/^\/people$/, "people"],
+  [/^\/help$/, "help"],
+];
+const LOADING = "Loading …";
+const LOADING_AFTER = 300;
+
+const main = document.getElementById("main");
+const watchers = [];
+let turn = 0;
+let shownAddress = "";
+let shownPage = null;
+
+const addressOf = (it) => it.pathname + it.search;
+const found = (pathname) => PAGES.find(([form]) => form.test(pathname));
+
+// Whether this site has a page at a path.
+const hasPage = (pathname) => found(pathname) !== undefined;
+
+/** The page that is shown: its nodes, with what else it offers. */
+export const currentPage = () => shownPage;
+
+/** Has a function called after each page that is shown. */
+export const watchPages = (watcher) => watchers.push(watcher);
+
+/** Loads the files of all pages, so that going to one needs no server. */
+export const loadPages = () => PAGES.forEach(([, file]) => {
+  import(`./pages/${file}.js`).catch(() => {});
+});
+
+// Addresses that people write in capitals, or with a slash at the end.
+function mended(pathname) {
+  const low = pathname.replace(/(.)\/+$/, "$1")
+    .replace(/^\/item\/(p[cds])\/(.*)$/i, (_, kind, rest) => (
+      `/item/${kind.toUpperCase()}/${rest.toLowerCase()}`));
+  return hasPage(low) ? low : pathname;
+}
+
+function absent() {
+  return [title("No such page"),
+    el("p", {}, "There is nothing at this address. ", link("/", "Start page"))];
+}
+
+async function made(address, again) {
+  const [form, file, name = "default"] = found(address.pathname) ?? [];
+  if (!form) return absent();
+  const context = {
+    ...form.exec(address.pathname).groups, query: address.searchParams, go, again,
+  };
+  try {
+    return await (await import(`./pages/${file}.js`))[name](context);
+  } catch (fault) {
+    console.error(fault);
+    return failed({ trouble: fault instanceof TypeError ? "offline" : "odd" }, again);
+  }
+}
+
+/**
+ * Shows the page of the address. What was there stays until the new one is ready.
+ * @param {Object} [how] focus: whether the heading gets it; scroll: how far down, or null for as is
+ */
+export async function show({ focus = true, scroll = 0 } = {}) {
+  const mine = turn += 1;
+  const pathname = mended(location.pathname);
+  if (pathname !== location.pathname) {
+    history.replaceState(history.state, "", pathname + location.search);
+  }
+  const address = new URL(location.href);
+  const slow = setTimeout(() => tell(LOADING), LOADING_AFTER);
+  beEager(scroll > 0);
+  const page = await made(address, () => again(address));
+  clearTimeout(slow);
+  if (mine !== turn) return;
+  untell(LOADING);
+  shownPage = page;
+  shownAddress = addressOf(address);
+  fill(main, page);
+  document.title = titleOf(main.querySelector("h1"));
+  document.body.classList.add("ready");
+  watchers.forEach((watcher) => watcher(address));
+  if (scroll !== null) scrollTo(0, scroll);
+  if (focus) main.querySelector("h1")?.focus({ preventScroll: true });
+}
+
+// A page that asks to be shown again after another one came in its place is not.
+function again(address) {
+  if (addressOf(location) !== addressOf(address)) return Promise.resolve();
+  return show({ focus: false, scroll: null });
+}
+
+/** Shows the page anew where it is. */
+export const refresh = () => show({ focus: false, scroll: null });
+
+/** Goes to an address of this site. */
+export function go(href, how) {
+  history.replaceState({ scroll: scrollY }, "");
+  history.pushState({ scroll: 0 }, "", href);
+  return show(how);
+}
+
+function followLink(event) {
+  const it = event.target.closest?.("a[href]");
+  const isPlain = event.button === 0 && !event.ctrlKey && !event.metaKey && !event.shiftKey
+    && !event.altKey && !event.defaultPrevented;
+  if (!it || !isPlain || it.origin !== location.origin || it.target) return;
+  if (it.hasAttribute("download") || !hasPage(it.pathname) || it.hash) return;
+  event.preventDefault();
+  go(it.href);
+}
+
+/** Begins to show pages. */
+export function startRouter() {
+  history.scrollRestoration = "manual";
+  addEventListener("popstate", (event) => {
+    if (addressOf(location) !== shownAddress) show({ scroll: event.state?.scroll ?? 0 });
+  });
+  addEventListener("pagehide", () => history.replaceState({ scroll: scrollY }, ""));
+  document.addEventListener("click", followLink);
+  return show({ focus: false, scroll: history.state?.scroll ?? 0 });
+}

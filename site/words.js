@@ -1,0 +1,85 @@
+// What answers mean, in plain words.
+
+const REFUSALS = {
+  1: "This isn't a path such as PC/8086/1237, with digits in lower case.",
+  2: "A name has 1 to 1,000 bytes, no blank in front and no control characters.",
+  3: "A field is missing, too long, or has characters that the registry doesn't take.",
+  4: "The registry doesn't know this account. An administrator has to add it first.",
+  5: "This account's rank is too low for that.",
+  7: "There is no such proposal.",
+  8: "It isn't pending any more: somebody decided on it or withdrew it meanwhile.",
+  9: "Only its author can withdraw a proposal.",
+  10: "Nobody decides on their own proposal, or sets their own rank.",
+  11: "What it would be under isn't in the registry yet. That has to be approved first.",
+  12: "Other entries are under this one. They have to be removed first.",
+  13: "Nothing would change: it is so already.",
+  15: "The registry is full.",
+  16: "The registry was out of memory just now.",
+  17: "The registry's disk failed just now.",
+  18: "The registry has failed and is about to start again.",
+  20: "The request was malformed.",
+  21: "That is too long: the registry takes at most 4,194,304 bytes.",
+  22: "The request was encoded in a way that the registry doesn't take.",
+  23: "The request was cut off on its way.",
+  24: "There is no such page.",
+  25: "There is no such entry.",
+  26: "These flags ask for things that don't go together.",
+  27: "There is no text for these numbers.",
+  28: "The address of the request was malformed.",
+};
+
+/** The kinds of faults of a file. */
+export const KINDS = {
+  1: "the line isn't UTF-8 text",
+  2: "it is deeper (has more tabs in front) than anything can be there",
+  3: "there is nothing that it could be under",
+  4: "the number isn't so many hex digits and then a space or a tab",
+  5: "there is no name after the number",
+  6: "the name has a control character or is longer than 1,000 bytes",
+  7: "an earlier line has the same number already",
+  8: "the vendor of this block has no line of its own above",
+};
+
+/** A refusal in words: the answer's object with its number. */
+export function refusalWords(refusal) {
+  if (refusal.refused !== 14) {
+    return REFUSALS[refusal.refused] ?? `The registry refused it (${refusal.word}).`;
+  }
+  if (!refusal.line) return "The file has more than 100,000 entries.";
+  const kind = KINDS[refusal.kind] ?? `kind ${refusal.kind}`;
+  return `Line ${refusal.line.toLocaleString("en")} of the file is faulty: ${kind}.`;
+}
+
+const TROUBLES = {
+  offline: "There is no connection to the server.",
+  stopped: "The registry isn't running at the moment.",
+  slow: "The registry doesn't answer.",
+  busy: "The server has too much to do at the moment.",
+  store: "The registry is out of memory, or its disk failed.",
+  login: "The account and the password weren't accepted.",
+  foreign: "The server took this for a request of another site and refused it.",
+  large: "That is too long: at most 4,194,304 bytes are taken.",
+  odd: "The server's answer can't be understood here.",
+  file: "The file isn't held any more since the page was loaded again. Choose it once more.",
+  account: "Another account is logged in by now.",
+  elsewhere: "Another tab is sending it.",
+  forgotten: "It was forgotten in another tab, so it isn't sent again.",
+  left: "It isn't known whether this was done. It is kept at the top of the page.",
+};
+
+/** What stood in the way of an answer, in words. */
+export const troubleWords = (trouble) => TROUBLES[trouble] ?? TROUBLES.odd;
+
+/** What came of a command that was not accepted, in words. */
+export function answerWords(answer) {
+  if (answer.refusal) return refusalWords(answer.refusal);
+  return troubleWords(answer.trouble) + (answer.certain ? " Nothing was done." : "");
+}
+
+/** The ranks, by their numbers. */
+export const RANKS = ["contributor", "moderator", "senior moderator", "administrator"];
+
+/** The states of proposals. */
+export const STATES = {
+  pending: "Pending", approved: "Approved", rejected: "Rejected", withdrawn: "Withdrawn",
+};

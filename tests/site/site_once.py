@@ -1,0 +1,321 @@
+"""Nothing acts twice or by accident: lost responses, reloads at any moment, a killed server, double
+clicks, held keys, late answers, other tabs; and nothing that was typed is lost."""
+import os
+import threading
+import time
+
+from site_browser import Browser
+from site_world import World
+
+SETTLE = 0.7
+
+
+def propose(browser, digits, name):
+    """Fills in the form for a device of 8086."""
+    browser.go(f"/propose?path=PC/8086/{digits}")
+    browser.has("has no name yet", ".about")
+    browser.type("#name", name)
+
+
+def count(world, digits):
+    return len(world.pending(f"PC/8086/{digits}"))
+
+
+def lost(cases, world, browser):
+    world.spoiler.set("lose", left=3)
+    propose(browser, "a001", "Lost three times")
+    browser.click("form.propose button.main")
+    browser.has("It isn't known yet whether this was done")
+    cases.equal("once: kept before its outcome is known", len(browser.owed()), 1)
+    browser.heading("Proposal ", 30)
+    cases.equal("once: lost three times, one proposal", count(world, "a001"), 1)
+    cases.equal("once: nothing is kept after it", browser.owed(), [])
+
+
+def reloaded(cases, world, browser):
+    """A reload during the first try, and one between two tries."""
+    world.spoiler.set("hold", seconds=3)
+    propose(browser, "a002", "Loaded anew in the first try")
+    browser.click("form.propose button.main")
+    time.sleep(1)
+    browser.go("/help")
+    told = browser.has("Loaded anew in the first", "#owed")
+    cases.equal("once: told of after a reload", told, True)
+    world.spoiler.set("pass")
+    browser.wait(lambda: count(world, "a002") == 1, "the first try to have come through")
+    browser.has("no answer came", "#owed")
+    browser.click("#owed button")
+    browser.has("done, as proposal", "#owed")
+    cases.equal("once: asked again, one proposal", count(world, "a002"), 1)
+    world.spoiler.set("lose", left=50)
+    propose(browser, "a003", "Loaded anew between tries")
+    browser.click("form.propose button.main")
+    browser.has("It isn't known yet")
+    browser.go("/")
+    browser.has("no answer came", "#owed")
+    world.spoiler.set("pass")
+    browser.click("#owed button")
+    browser.has("done, as proposal", "#owed")
+    cases.equal("once: the same between tries", (count(world, "a003"), browser.owed()), (1, []))
+
+
+def doubled(cases, world, browser):
+    """Double clicks and ten clicks at once propose once, and do nothing on the next page."""
+    for digits, pause in (("a004", 0.12), ("a005", 0.3)):
+        propose(browser, digits, "Double")
+        time.sleep(SETTLE)
+        place = browser.js("const it = document.querySelector('form.propose button.main')"
+                           ".getBoundingClientRect(); return [it.x + 10, it.y + 10]")
+        for clicks in (1, 2):
+            mouse(browser, place, clicks)
+            time.sleep(pause)
+        browser.heading("Proposal ")
+        time.sleep(SETTLE)
+        states = [it["path"] for it in world.pending(f"PC/8086/{digits}")]
+        cases.equal(f"once: a double click of {pause} s", states, [f"PC/8086/{digits}"])
+    propose(browser, "a006", "Ten clicks")
+    time.sleep(SETTLE)
+    browser.js("const it = document.querySelector('form.propose button.main');"
+               "for (let n = 0; n < 10; n += 1) it.click()")
+    browser.heading("Proposal ")
+    cases.equal("once: ten clicks at once", count(world, "a006"), 1)
+    # What comes under the pointer with the new page doesn't act within half a second.
+    number = world.pending("PC/8086/a006")[0]["num"]
+    browser.js("const press = () => document.querySelector('.decide button')?.click();"
+               "window.clicks = setInterval(press);"
+               "document.querySelector('header nav a[href=\"/help\"]').click()")
+    browser.heading("Help")
+    browser.js("history.back()")
+    browser.heading("Proposal ")
+    time.sleep(0.3)
+    browser.js("clearInterval(window.clicks)")
+    cases.equal("once: a button that just came", world.state(number), "pending")
+
+
+def mouse(browser, place, clicks):
+    for kind in ("mousePressed", "mouseReleased"):
+        browser.driver.execute_cdp_cmd("Input.dispatchMouseEvent", {
+            "type": kind, "x": place[0], "y": place[1], "button": "left", "clickCount": clicks})
+
+
+def hold_key(browser, key, code, seconds):
+    """Holds a key, as a keyboard does that repeats it."""
+    words = {"key": key, "windowsVirtualKeyCode": code, "code": f"Key{key.upper()}", "text": key}
+    if key == "Enter":
+        words.update(code="Enter", text="\r")
+    end, repeats = time.monotonic() + seconds, False
+    while time.monotonic() < end:
+        browser.driver.execute_cdp_cmd("Input.dispatchKeyEvent",
+                                       {"type": "keyDown", "autoRepeat": repeats, **words})
+        repeats = True
+        time.sleep(0.04)
+    words.pop("text")
+    browser.driver.execute_cdp_cmd("Input.dispatchKeyEvent", {"type": "keyUp", **words})
+
+
+def queued(cases, world, browser):
+    """Held keys and double clicks in the queue."""
+    numbers = [world.submit("alice", f"PC/8086/a1{it:02x}", f"Row {it}") for it in range(8)]
+    browser.go("/queue")
+    if browser.all("main .aside button"):
+        browser.click("main .aside button")
+    browser.wait(lambda: browser.all(".queue .buttons"), "buttons")
+    browser.js("document.querySelector('.queue > li[tabindex=\"0\"]').focus()")
+    time.sleep(SETTLE)
+    hold_key(browser, "a", 65, 1.5)
+    time.sleep(SETTLE)
+    states = {world.state(it) for it in numbers}
+    cases.equal("once: a held key approves nothing", states, {"pending"})
+    for pause in (0.1, 0.25, 0.4):
+        row = browser.js(
+            "const it = [...document.querySelectorAll('.queue > li:not(.settled) button.main')][0];"
+            "it.scrollIntoView({ block: 'center' }); const at = it.getBoundingClientRect();"
+            "return [at.x + 10, at.y + 10]")
+        before = len(world.pending())
+        for clicks in (1, 2 if pause < 0.3 else 1):
+            mouse(browser, row, clicks)
+            time.sleep(pause)
+        time.sleep(SETTLE)
+        approved = before - len(world.pending())
+        cases.equal(f"once: a double click of {pause} s approves one", approved, 1)
+    cases.equal("once: the decided rows stay", len(browser.all(".queue > li.settled")), 3)
+
+
+def elsewhere_decided(cases, world, browser):
+    """Two clicks on a row that somebody else decided leave the other rows alone."""
+    browser.go("/queue")
+    browser.wait(lambda: browser.all(".queue .buttons"), "buttons")
+    rows = len(browser.all(".queue > li"))
+    number = world.pending()[0]["num"]
+    world.ask("/reject", {"num": number, "reason": "no"}, "root")
+    time.sleep(SETTLE)
+    browser.js("const it = document.querySelector('.queue button.main'); it.click(); it.click()")
+    browser.has("isn't pending any more", ".queue")
+    time.sleep(2)
+    left = f"{rows - 1} proposal"
+    cases.equal("once: decided by somebody else", (left in browser.text(".count"),
+                len(browser.all(".queue > li"))), (True, rows))
+
+
+def killed(cases, world, browser):
+    """The server is killed while a command is sent, and started anew."""
+    propose(browser, "a020", "Killed")
+    threading.Timer(0.56, world.stop_server).start()
+    browser.click("form.propose button.main")
+    time.sleep(1.5)
+    world.start_server()
+    browser.heading("Proposal ", 40)
+    cases.equal("once: a killed server, one proposal", count(world, "a020"), 1)
+
+
+def late(cases, world, browser):
+    """A late answer doesn't take anybody away from where he is by now."""
+    world.spoiler.set("hold", seconds=3)
+    propose(browser, "a030", "Late")
+    browser.click("form.propose button.main")
+    browser.js("document.querySelector('header nav a[href=\"/check\"]').click()")
+    browser.heading("Check a file")
+    cases.equal("once: told in the bar meanwhile", browser.has("Late", "#owed"), True)
+    browser.type("#paste", "typed meanwhile")
+    browser.has("done, as proposal", "#owed")
+    world.spoiler.set("pass")
+    typed = browser.js("return document.getElementById('paste').value")
+    cases.equal("once: who is elsewhere stays there", (browser.text("main h1"), typed),
+                ("Check a file", "typed meanwhile"))
+
+
+def forgotten(cases, world, browser):
+    """`Forget it` in another tab stops the first; entries of two tabs are all kept."""
+    driver = browser.driver
+    world.spoiler.set("gone")
+    browser.go("/propose?path=PC/8086/a040")
+    browser.type("#name", "Forgotten")
+    browser.click("form.propose button.main")
+    browser.has("It isn't known yet")
+    first = driver.current_window_handle
+    driver.switch_to.new_window("tab")
+    browser.go("/help")
+    browser.has("another tab is sending it", "#owed")
+    cases.equal("once: another tab is logged in too", browser.text("#log"), "Log out alice")
+    browser.click("#owed button")
+    second = driver.current_window_handle
+    driver.switch_to.window(first)
+    cases.equal("once: the first tab says so", browser.has("forgotten in another tab"), True)
+    world.spoiler.set("pass")
+    time.sleep(2)
+    left = count(world, "a040"), browser.owed()
+    cases.equal("once: what was forgotten isn't sent", left, (0, []))
+    make = ("const done = arguments[0], all = [];"
+            "import('/site/outbox.js').then(async ({ begin, forget }) => {"
+            "for (let n = 0; n < 60; n += 1) all.push((await begin('/x', 'a=b', 'x')).key);"
+            "window.forgetAll = () => all.forEach(forget); done(all.length); })")
+    driver.execute_script(f"(function () {{ {make} }})(() => {{ window.made = true; }})")
+    driver.switch_to.window(second)
+    driver.execute_async_script(make)
+    browser.wait(lambda: len(browser.owed()) == 120, "entries of both tabs", 5)
+    cases.equal("once: two tabs keep all their entries", len(browser.owed()), 120)
+    browser.js("window.forgetAll()")
+    driver.close()
+    driver.switch_to.window(first)
+    browser.js("window.forgetAll()")
+    cases.equal("once: and forget them", browser.owed(), [])
+
+
+def drafts(cases, world, browser):
+    """What was typed is there again after a reload, a key in the search box and Back, the skip
+    link, and a decision on the same page."""
+    propose(browser, "a050", "Half typed")
+    browser.type("#note", "a note")
+    value = lambda it: browser.js(f"return document.querySelector('{it}')?.value")
+    browser.driver.refresh()
+    browser.ready()
+    cases.equal("drafts: a reload", (value("#name"), value("#note")), ("Half typed", "a note"))
+    browser.type("#q", "i")
+    browser.heading("Search")
+    browser.js("history.back()")
+    browser.heading("Propose")
+    cases.equal("drafts: a key in the search box", value("#name"), "Half typed")
+    browser.js("document.getElementById('name').mark = 1; document.querySelector('.skip').click()")
+    time.sleep(0.3)
+    browser.js("history.back()")
+    time.sleep(0.3)
+    cases.equal("drafts: the skip link makes no new page",
+                browser.js("return document.getElementById('name').mark"), 1)
+    number = world.submit("mona", "PC/8086/a051", "To comment")
+    browser.go(f"/proposals/{number}")
+    browser.type("#comment", "half a comment")
+    browser.click("#log")
+    browser.wait(lambda: browser.text("#log") == "Log in", "logged out")
+    cases.equal("drafts: a log-out", value("#comment"), "half a comment")
+    browser.log_in("alice")
+    cases.equal("drafts: a log-in", value("#comment"), "half a comment")
+
+
+def imports(cases, world, browser):
+    """An import whose page was loaded again asks for the same file, under the same key."""
+    path = os.path.join(world.folder, "some.ids")
+    other = os.path.join(world.folder, "other.ids")
+    own = "8086  Intel Corporation\n\ta060  By file\n"
+    for name, text in ((path, own), (other, "8086  Else\n")):
+        with open(name, "w", encoding="utf-8") as file:
+            file.write(text)
+    browser.go("/load")
+    browser.type("#file", path)
+    browser.has("Import it", ".result")
+    world.spoiler.set("lose", left=50)
+    revision = world.ask("/changes?since=9000000000000000000")["revision"]
+    browser.click(".result button.main")
+    browser.has("It isn't known yet", "main", 40)
+    browser.go("/help")
+    browser.has("Choose the same file again", "#owed")
+    world.spoiler.set("pass")
+    browser.type("#owed input", other)
+    cases.equal("once: another file is refused", browser.has("another file", "#notice"), True)
+    browser.type("#owed input", path)
+    browser.has("done.", "#owed")
+    now = world.ask("/changes?since=9000000000000000000")["revision"]
+    cases.equal("once: an import after a reload", (now - revision, browser.owed()), (1, []))
+
+
+def stopped(cases, world, browser):
+    """A slow and a stopped registry are told of, and browsing goes on."""
+    browser.go("/help")
+    time.sleep(3)
+    world.spoiler.set("hold", seconds=3)
+    browser.js("document.querySelector('header nav a[href=\"/vendors\"]').click()")
+    cases.equal("stopped: told that it is slow", browser.has("slow to answer", "#notice"), True)
+    browser.heading("Vendors", 30)
+    world.spoiler.set("gone")
+    browser.go("/item/PC/8086/1237")
+    got = "published file" in browser.text(), "440FX" in browser.text("h1")
+    cases.equal("stopped: an item from the published file", got, (True, True))
+    browser.go("/vendors")
+    cases.equal("stopped: all vendors", "2,3" in browser.text(".narrow output"), True)
+    browser.go("/queue")
+    cases.equal("stopped: told plainly", browser.has("isn't running at the moment"), True)
+    world.spoiler.set("pass")
+    cases.equal("stopped: tried again by itself", browser.heading("Queue"), True)
+
+
+def run(cases):
+    with World() as world, Browser(world.base) as alice, Browser(world.base) as mona:
+        alice.go("/")
+        alice.log_in("alice")
+        mona.go("/")
+        mona.log_in("mona")
+        lost(cases, world, alice)
+        reloaded(cases, world, alice)
+        doubled(cases, world, alice)
+        queued(cases, world, mona)
+        elsewhere_decided(cases, world, mona)
+        killed(cases, world, alice)
+        late(cases, world, alice)
+        forgotten(cases, world, alice)
+        drafts(cases, world, alice)
+        mona.click("#log")
+        mona.wait(lambda: mona.text("#log") == "Log in", "logged out")
+        mona.log_in("sam")
+        imports(cases, world, mona)
+        stopped(cases, world, mona)
+        for name, it in (("alice", alice), ("mona", mona)):
+            cases.equal(f"once: the console of {name}", it.faults(), [])

@@ -1,0 +1,170 @@
+"""Hostile names, notes, remarks and reasons stay text; text that deceives is marked; the policy of
+the headers holds and reports nothing; without scripts the page leads to the texts of the API."""
+import json
+
+from http_server import ask_curl
+from site_browser import Browser
+from site_world import World
+
+MARKUP = """<img src=x onerror="document.title='owned'"><script>document.title='owned'</script>"""
+MORE = "</textarea></title><svg onload=alert(1)> javascript:alert(1) & \"q\" 'p' ${1} {{2}}"
+HOSTILE = f"{MARKUP} {MORE}"
+# A text, and what is shown beside or in place of what deceives in it.
+DECEIVING = {
+    "\u0406ntel Corporation": "\u0406Cyrillicntel Corporation",
+    "Int\u200bel": "IntU+200Bel",
+    "Intel\u3164Corp": "IntelU+3164Corp",
+    "Intel\u2800Corp": "IntelU+2800Corp",
+    "Intel\u00a0Corp": "IntelU+00A0Corp",
+    "Intel\U000e0041": "IntelU+E0041",
+    "Intel\u202egnirts": "IntelU+202Egnirts",
+    "Intel ": "Intelblank",
+    "a\tb": "atabb",
+    "Inte\u217c": "Inte\u217cU+217C",
+    "\uff29ntel": "\uff29U+FF29ntel",
+    "Intel  Corp": "Intel  Corp",
+    "\u00b5PD 2\u00b2 \u00fc Corp.\u2122": "\u00b5PD 2\u00b2 \u00fc Corp.\u2122",
+}
+PAGES = ("/", "/vendors", "/classes", "/item/PC/8086/1237", "/item/PC/8086", "/search?q=intel",
+         "/recent", "/queue", "/decided", "/propose", "/propose?many=yes", "/mine", "/people",
+         "/check", "/load", "/help")
+COUNT = """
+window.made = [];
+new MutationObserver((all) => all.forEach((it) => it.addedNodes.forEach((node) => {
+  if (/^(IMG|SCRIPT|SVG|IFRAME|OBJECT|STYLE|LINK)$/i.test(node.nodeName)) made.push(node.outerHTML);
+}))).observe(document.body, { subtree: true, childList: true });
+"""
+
+
+def hostile(cases, world, browser):
+    """Markup everywhere: as a name, note, comment, reason, search, file and address."""
+    number = world.submit("alice", "PC/8086/be01", HOSTILE, HOSTILE)
+    other = world.submit("alice", "PC/8086/be02", HOSTILE, HOSTILE)
+    world.ask("/comment", {"num": number, "text": HOSTILE}, "alice")
+    world.ask("/reject", {"num": other, "reason": HOSTILE}, "root")
+    world.ask("/approve", {"num": number}, "root")
+    third = world.submit("alice", "PC/8086/be01", HOSTILE + "2", HOSTILE)
+    browser.go("/help")
+    for path, selector in (
+        (f"/proposals/{number}", "main"), (f"/proposals/{other}", "main"), ("/queue", ".queue"),
+        ("/decided", "main"), ("/item/PC/8086/be01", "main"), ("/item/PC/8086", "main"),
+        ("/recent", "main"), ("/propose?path=PC/8086/be01", ".about"),
+        (f"/proposals/{third}", "main"),
+    ):
+        browser.go(path)
+        browser.has("<img src=x onerror=", selector)
+        made = browser.all("main img, main script, main svg, main iframe")
+        title = browser.driver.title.startswith("owned")
+        cases.equal(f"safety: markup is text on {path}", (made, title), ([], False))
+    browser.go("/check")
+    browser.js(COUNT)
+    browser.put("#paste", f"8086  {HOSTILE}\n{HOSTILE}")
+    browser.click("main form button.main")
+    browser.has("line 2", ".result")
+    browser.put("#paste", f"8086  {HOSTILE}\n")
+    browser.click("main form button.main")
+    browser.has("1 with another name", ".result")
+    browser.put("#q", HOSTILE)
+    browser.has("Nothing is found", "main")
+    cases.equal("safety: markup makes no element", browser.js("return made"), [])
+    address = "/search?q=%3Cimg%20src%3Dx%20onerror%3Dalert(1)%3E"
+    cases.equal("safety: markup in an address", browser.go(address).has("<img src=x"), True)
+    browser.go("/propose?many=yes&text=8086:beef%20%3Cimg%20src=x%3E")
+    cases.equal("safety: markup in a pasted text", browser.all("main img"), [])
+
+
+def deceiving(cases, world, browser):
+    """Each text as a row of the queue shows it, and the letters that differ from before."""
+    numbers = {text: world.submit("alice", f"PC/8086/de{at:02x}", text)
+               for at, text in enumerate(DECEIVING)}
+    browser.go("/queue")
+    for text, number in numbers.items():
+        row = f"a[href='/proposals/{number}']"
+        got = browser.js("return document.querySelector(arguments[0]).closest('li')"
+                         ".querySelector('.change ins').textContent", row)
+        cases.equal(f"safety: {text!r} is shown", got, DECEIVING[text])
+    blanks = browser.js("return getComputedStyle(document.querySelector('.change bdi')).whiteSpace")
+    cases.equal("safety: blanks aren't folded", blanks, "pre-wrap")
+    number = world.submit("alice", "PC/8086", "\u0406ntel Corporation")
+    browser.go(f"/proposals/{number}")
+    marked = browser.js("return [...document.querySelectorAll('.facts mark')]"
+                        ".map((it) => it.innerText)")
+    cases.equal("safety: what differs is marked", marked, ["I", "\u0406Cyrillic"])
+    label = browser.driver.title
+    cases.equal("safety: the title spells it too", "\u0406[Cyrillic]ntel" in label, True)
+
+
+def policy(cases, world, browser):
+    """Nothing from another origin, nothing inline, and Trusted Types refuse markup."""
+    for path in (*PAGES, "/nope"):
+        status, _, _ = ask_curl("-k", "-H", "Accept: text/html", world.base + path)
+        head = ask_curl("-k", "-I", "-X", "GET", "-H", "Accept: text/html", world.base + path)[2]
+        strict = all(it in head for it in (
+            b"default-src 'none'; script-src 'self'", b"require-trusted-types-for 'script'",
+            b"frame-ancestors 'none'", b"nosniff"))
+        cases.equal(f"safety: the policy of {path}", (strict, status), (True, 404 if path == "/nope"
+                                                                       else 200))
+    browser.go("/")
+    # The policy itself is tried, so that a page that breaks it would be seen: each of these fails.
+    for name, text in {
+        "markup": "document.body.innerHTML = '<b>x</b>'",
+        "an address of a script": "document.createElement('script').src = '/site/main.js'",
+        "a worker": "new Worker('/site/names.worker.js')",
+    }.items():
+        got = browser.js(f"try {{ {text}; return 'done' }} catch (it) {{ return it.name }}")
+        cases.equal(f"safety: the policy refuses {name}", got, "TypeError")
+    faults = browser.faults()
+    cases.equal("safety: and the console tells of it", len(faults) >= 3, True)
+    browser.said = []
+    for path in PAGES:
+        browser.go(path)
+        browser.js("return new Promise((go) => setTimeout(go, 200))")
+        cases.equal(f"safety: the console on {path}", browser.faults(), [])
+    loaded = browser.js("return performance.getEntriesByType('resource').map((it) => it.name)")
+    foreign = [it for it in loaded if not it.startswith(browser.base)]
+    cases.equal("safety: nothing from another origin", (foreign, len(loaded) > 5), ([], True))
+
+
+def without_scripts(cases, world):
+    """What a browser without scripts is led to is there."""
+    page = ask_curl("-k", "-H", "Accept: text/html", world.base + "/")[2].decode()
+    text = page.partition("<noscript>")[2].partition("</noscript>")[0]
+    links = [it.partition('"')[0].replace("&amp;", "&") for it in text.split('href="')[1:]]
+    cases.equal("safety: links without scripts", len(links) >= 4, True)
+    for it in links:
+        cases.equal(f"safety: {it}", ask_curl("-k", world.base + it)[0], 200)
+    inline = [it for it in ("style=", "onclick=", "<style", "<script>") if it in page]
+    cases.equal("safety: nothing inline", inline, [])
+
+
+def secrets(cases, browser):
+    """Without the tick the password is nowhere; a cancelled log-in logs nobody in."""
+    browser.go("/")
+    browser.log_in("alice", stays=False)
+    kept = browser.js("return JSON.stringify([Object.values(localStorage), "
+                      "Object.values(sessionStorage)])")
+    cases.equal("safety: the password isn't kept", [it for it in json.loads(kept)[1]
+                                                     if "secret" in it], [])
+    browser.go("/help")
+    cases.equal("safety: and a reload logs out", browser.text("#log"), "Log in")
+    browser.click("#log")
+    browser.type("#log-name", "alice")
+    browser.type("#log-password", "pw-alice")
+    browser.js("document.querySelector('#dialog button.main').click();"
+               "document.querySelector('#dialog button[type=button]').click()")
+    browser.js("return new Promise((go) => setTimeout(go, 1500))")
+    cases.equal("safety: cancelled in the middle", browser.text("#log"), "Log in")
+    browser.click("#log")
+    browser.type("#log-name", "alice")
+    browser.type("#log-password", "wrong", browser.keys.ENTER)
+    cases.equal("safety: a wrong password", browser.has("weren't accepted", "#dialog"), True)
+
+
+def run(cases):
+    with World() as world, Browser(world.base) as browser:
+        hostile(cases, world, browser)
+        cases.equal("safety: the console after markup", browser.faults(), [])
+        deceiving(cases, world, browser)
+        policy(cases, world, browser)
+        without_scripts(cases, world)
+        secrets(cases, browser)

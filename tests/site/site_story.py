@@ -1,0 +1,214 @@
+"""The story of four people in their browsers: a visitor finds a device, a contributor proposes a
+name, a moderator comments, rejects and approves, a maintainer brings a file; the file changes."""
+from http_server import ask_curl
+from site_browser import Browser
+from site_world import World
+
+LSPCI = ("00:00.0 Host bridge [0600]: Intel Corporation 440FX [8086:1237] (rev 02)\n"
+         "\tSubsystem: Red Hat, Inc. Qemu virtual machine [1af4:1100]\n"
+         "00:02.0 VGA [0300]: Device [8086:ab01] (rev 02)\n"
+         "00:03.0 VGA [0300]: Device [8086:ab02]\n")
+PASTES = {
+    "8086:1237": "440FX", "8086 1237": "440FX", "0x8086 0x1237": "440FX",
+    r"PCI\VEN_8086&DEV_1237&SUBSYS_11001AF4&REV_02": "Qemu virtual machine",
+    "00:00.0 0600: 8086:1237 (rev 02)": "440FX",
+    "pci:v00008086d00001237sv00001AF4sd00001100bc06sc00i00": "Qemu virtual machine",
+    "00:00.0 Host bridge [0600]: Intel Corporation 440FX [8086:1237]": "440FX",
+    "1237": "Alta Technology Corporation", "intel corp": "Intel Corporation",
+    "PC/8086/1237": "440FX", "440fx natoma": "440FX",
+}
+
+
+def visitor(cases, browser):
+    keys = browser.keys
+    browser.go("/")
+    for text, want in PASTES.items():
+        browser.put("#q", text)
+        browser.wait(lambda want=want: want in browser.text("#found li"), f"{text} finds {want}")
+        cases.equal(f"story: {text!r} is found first", want in browser.text("#found li"), True)
+    browser.js("const data = new DataTransfer(); data.setData('text', arguments[0]);"
+               "document.getElementById('q').dispatchEvent(new ClipboardEvent('paste',"
+               "{ clipboardData: data, cancelable: true }))", LSPCI)
+    browser.has("Qemu virtual machine", "#found")
+    cases.equal("story: a paste of lines offers the rest", browser.has(
+        "Propose names for 2 devices"), True)
+    browser.put("#q", "1237")
+    browser.wait(lambda: "440FX" in browser.text("#found"), "the device of that number")
+    browser.js("document.getElementById('q').value = ''")
+    browser.type("#q", "8086:1237")
+    browser.wait(lambda: "440FX" in browser.text("#found li"), "440FX")
+    browser.type("#q", keys.ENTER)
+    browser.heading("440FX")
+    cases.equal("story: the item's address", browser.driver.current_url,
+                f"{browser.base}/item/PC/8086/1237")
+    shown = "Intel Corporation 440FX - 82441FX PMC [Natoma] [8086:1237]"
+    cases.equal("story: what lspci shows", shown in browser.text(), True)
+    cases.equal("story: its line", "\t1237  440FX - 82441FX PMC [Natoma]" in browser.text(), True)
+    focus = browser.js("return document.activeElement.tagName")
+    cases.equal("story: the focus is on the heading", focus, "H1")
+    cases.equal("story: the title", browser.driver.title.startswith("8086:1237 440FX"), True)
+    browser.driver.back()
+    browser.wait(lambda: browser.all("#found a"), "the search again")
+    typed = browser.js("return document.getElementById('q').value")
+    cases.equal("story: back to the search", typed, "8086:1237")
+    browser.go("/item/PC/8086/")
+    cases.equal("story: an address with a slash", browser.heading("Intel Corporation"), True)
+
+
+def contributor(cases, world, browser):
+    """Returns the number of the proposal."""
+    browser.go("/item/PC/8086")
+    browser.log_in("alice")
+    browser.click("a.button[href*='kind=device']")
+    browser.heading("Propose")
+    cases.equal("story: the vendor is there already",
+                browser.js("return document.getElementById('number-0').value"), "8086")
+    browser.type("#number-1", "7D8C")
+    browser.has("has no name yet", ".about")
+    browser.type("#name", "Imaginary Controller")
+    browser.type("#note", "seen in\na laptop")
+    browser.click("form.propose button.main")
+    browser.heading("Proposal ")
+    number = int(browser.driver.current_url.rsplit("/", 1)[1])
+    told = world.ask(f"/submission/{number}")
+    got = [told[it] for it in ("author", "path", "name", "note", "state")]
+    want = ["alice", "PC/8086/7d8c", "Imaginary Controller", "seen in a laptop", "pending"]
+    cases.equal("story: the proposal as the registry has it", got, want)
+    buttons = browser.js("return [...document.querySelectorAll('.decide button')]"
+                         ".map((it) => it.textContent)")
+    cases.equal("story: its author may withdraw and not decide", buttons, ["Withdraw"])
+    browser.go("/mine")
+    cases.equal("story: among her own", browser.has("Imaginary Controller"), True)
+    return number
+
+
+def moderator(cases, world, browser, number):
+    other = world.submit("alice", "PC/8086/7d8e", "Bad")
+    browser.go("/queue")
+    cases.equal("story: a visitor may not decide", browser.all(".queue .buttons"), [])
+    browser.log_in("mona")
+    browser.click("main .aside button")
+    browser.wait(lambda: browser.all(".queue > li .buttons"), "buttons")
+    browser.has("seen in a laptop", ".queue")
+    browser.click(f".queue a[href='/proposals/{number}']")
+    browser.heading(f"Proposal {number}")
+    browser.type("#comment", "Where is it from?")
+    browser.click("section form button.main")
+    browser.has("Where is it from?", ".remarks")
+    browser.go("/queue")
+    # By keyboard alone: down to the row, and `a` twice.
+    browser.wait(lambda: browser.all(".queue > li"), "rows")
+    browser.js("document.querySelector('.queue > li[tabindex=\"0\"]').focus()")
+    browser.press("j", "k")
+    row = browser.js("return document.activeElement.getAttribute('aria-label')")
+    cases.equal("story: j and k go down and up", row,
+                f"Proposal {number}: Imaginary Controller, PC/8086/7d8c")
+    browser.js("return new Promise((go) => setTimeout(go, 600))")
+    browser.press("a")
+    cases.equal("story: one key does not approve", world.state(number), "pending")
+    browser.press("a")
+    browser.wait(lambda: world.state(number) == "approved", "approved")
+    browser.wait(lambda: "Bad" in browser.js("return document.activeElement.innerText"), "the next")
+    browser.press("r")
+    browser.press("no such chip", browser.keys.ENTER)
+    browser.wait(lambda: world.state(other) == "rejected", "rejected")
+    cases.equal("story: rejected with the reason",
+                world.ask(f"/submission/{other}")["reason"], "no such chip")
+    browser.has("Rejected", ".queue")
+    cases.equal("story: what was decided stays in its place", len(browser.all(".queue > li")), 2)
+    live = ask_curl("-k", "-H", "Cache-Control: no-cache", f"{world.base}/pci.ids")[2]
+    cases.equal("story: the file has it", b"\t7d8c  Imaginary Controller\n" in live, True)
+
+
+def refusals(cases, world, browser):
+    """What the registry refuses is said in plain words."""
+    taken = world.submit("alice", "PC/8086/7d8d", "Two")
+    browser.go(f"/proposals/{taken}")
+    browser.wait(lambda: browser.all(".decide button.main"), "Approve")
+    world.ask("/withdraw", {"num": taken}, "alice")
+    browser.click(".decide button.main")
+    told = browser.has("isn't pending any more", ".decide")
+    cases.equal("story: withdrawn meanwhile", told, True)
+    orphan = world.submit("alice", "PC/fff1/0001", "NoVendor")
+    browser.go(f"/proposals/{orphan}")
+    browser.click(".decide button.main")
+    cases.equal("story: no parent", browser.has("isn't in the registry yet", ".decide"), True)
+    vendor = world.submit("alice", "PC/fff1", "Vendor")
+    browser.go(f"/proposals/{vendor}")
+    cases.equal("story: whom it is for", browser.has("A senior moderator or above decides"), True)
+    browser.go("/proposals/99999")
+    cases.equal("story: none of that number", browser.has("There is no such proposal."), True)
+
+
+def many(cases, world, browser):
+    """A paste of several unknown devices becomes several proposals."""
+    browser.go("/propose?many=yes")
+    browser.put("#pasted", LSPCI)
+    browser.click("main form button")
+    browser.wait(lambda: len(browser.all(".many > li")) == 3, "three rows")
+    for row, name in ((1, "First of two"), (2, "Second of two")):
+        browser.all(".many input")[row].send_keys(name)
+    browser.has("Propose 2 names")
+    browser.js("[...document.querySelectorAll('main button')]"
+               ".find((it) => it.textContent.startsWith('Propose 2')).click()")
+    browser.wait(lambda: len(browser.all(".many .good")) == 2, "both proposed")
+    told = {it["path"]: it["name"] for it in world.pending() if it["author"] == "alice"}
+    got = told.get("PC/8086/ab01"), told.get("PC/8086/ab02")
+    cases.equal("story: two devices, two proposals", got, ("First of two", "Second of two"))
+
+
+def maintainer(cases, world, browser):
+    """A file is checked, its names are proposed by who may not import, and imported by who may."""
+    browser.go("/check")
+    browser.type("#paste", "8086  Intel\n8086  Other")
+    browser.click("main form button.main")
+    cases.equal("story: the first fault", browser.has("line 2: an earlier line has the same number",
+                                                      ".result"), True)
+    browser.js("document.getElementById('paste').value = '8086  Intel Corporation\\n\\tab03  New'")
+    browser.click("main form button.main")
+    cases.equal("story: what differs", browser.has("1 new, 0 with another name", ".result"), True)
+    browser.click(".result .buttons button")
+    browser.heading("Propose many")
+    browser.has("PC/8086/ab03", ".many")
+    browser.go("/load")
+    cases.equal("story: a contributor may not import", browser.has("rank is too low"), True)
+    browser.click("#log")
+    browser.wait(lambda: browser.text("#log") == "Log in", "logged out")
+    browser.log_in("sam")
+    browser.has("For senior moderators")
+    browser.js("document.getElementById('paste').value = '8086  Intel Corporation\\n\\tab03  New'")
+    browser.click("main form button.main")
+    browser.has("Import it", ".result")
+    browser.click(".result button.main")
+    cases.equal("story: imported", browser.has("1 added, 0 renamed, 1 the same"), True)
+    cases.equal("story: it is there", world.ask("/read/PC/8086/ab03")["name"], "New")
+
+
+def administrator(cases, world, browser):
+    browser.go("/people")
+    browser.click("#log")
+    browser.wait(lambda: browser.text("#log") == "Log in", "logged out")
+    browser.log_in("root")
+    browser.type("#who-name", "emil")
+    browser.click("main form button.main")
+    browser.has("emil is a contributor now", "#notice")
+    told = world.ask("/submit", {"path": "PC/8086/ab04", "name": "By emil"}, "emil")
+    cases.equal("story: a new account proposes", told["ok"], True)
+    cases.equal("story: nobody's rank was changed by a log-in",
+                world.ask("/account", {"who": "root", "rank": "3"}, "root")["word"], "OwnDecision")
+
+
+def run(cases):
+    with World() as world:
+        with Browser(world.base) as one, Browser(world.base) as two, Browser(world.base) as three:
+            visitor(cases, one)
+            number = contributor(cases, world, two)
+            moderator(cases, world, three, number)
+            two.go("/mine")
+            cases.equal("story: alice sees what came of it", two.has("Approved"), True)
+            refusals(cases, world, three)
+            many(cases, world, two)
+            maintainer(cases, world, two)
+            administrator(cases, world, two)
+            for name, it in (("visitor", one), ("contributor", two), ("moderator", three)):
+                cases.equal(f"story: the console of the {name}", it.faults(), [])

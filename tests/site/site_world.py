@@ -1,0 +1,280 @@
+"""What the tests of the site stand on: a registry with a part of Debian's file, the program that
+serves it, a proxy that spoils responses on demand, and the real nginx with the site's own
+configuration in front."""
+import json
+import os
+import re
+import shutil
+import socket
+import sqlite3
+import subprocess
+import tempfile
+import threading
+import time
+import urllib.error
+import urllib.parse
+import urllib.request
+
+import program
+from http_server import Server, ask_curl, free_port
+
+SITE = os.path.join(program.TOP, "site")
+# Where nginx's files for the site are.
+CONFIG = os.environ.get("SITE_NGINX", os.path.join(program.TOP, "deploy", "nginx"))
+PEOPLE = {"root": 3, "sam": 2, "mona": 1, "alice": 0, "dora": 0}
+
+# The vendors and classes of Debian's file that the registry of a test has, and how many lines of
+# each. The published file is Debian's whole one: what the site has at hand are all its names.
+TAKEN = {
+    "8086": 60, "10de": 25, "1af4": 25, "1002": 20, "10ec": 20, "0014": 8, "1234": 3, "1022": 15,
+    "C 01": 12, "C 02": 6, "C 03": 5, "C 06": 8,
+}
+ALWAYS = ("PC/8086/1237", "PC/8086/1237/1af41100")
+
+
+def items_of_file():
+    """The items of Debian's file as (path, name), in its order."""
+    top = first = ""
+    with open(program.REAL_FILE, encoding="utf-8") as file:
+        for line in file:
+            text = line.rstrip("\n")
+            rest = text.lstrip("\t")
+            if not rest.strip() or rest.startswith("#"):
+                continue
+            depth = len(text) - len(rest)
+            front = "C " if rest.startswith("C ") else ""
+            numbers, name = re.match(r"((?:[0-9a-f]{2,4} ?)+?)  (.*)", rest[len(front):]).groups()
+            digits = numbers.replace(" ", "")
+            if depth == 0:
+                top = first = ("PD/" if front else "PC/") + digits
+            elif depth == 1:
+                first = f"{top}/{digits}"
+            yield (first if depth < 2 else f"{first}/{digits}"), name
+
+
+def items_taken():
+    left = {("PD/" + it[2:] if it[:2] == "C " else "PC/" + it): n for it, n in TAKEN.items()}
+    for path, name in items_of_file():
+        top = path[:7] if path.startswith("PC") else path[:5]
+        if left.get(top, 0) > 0 or path in ALWAYS:
+            left[top] = left.get(top, 0) - 1
+            yield path, name
+
+
+def fill(database, items):
+    """A registry with these items and the accounts of PEOPLE, as an import would have made it."""
+    lines = [f"account root who={who}&rank={rank}\n" for who, rank in PEOPLE.items()
+             if who != "root"]
+    words = [program.PROGRAM, "script", "--db", database]
+    subprocess.run(words, input="".join(lines).encode(), stdout=subprocess.DEVNULL, check=True)
+    with sqlite3.connect(database) as registry:
+        registry.executemany("INSERT INTO item VALUES (?, ?)", items)
+        registry.executemany("INSERT INTO item_since VALUES (?, 5)", [(path,) for path, _ in items])
+        registry.execute("UPDATE meta SET value = ? WHERE label = 'items'", (len(items),))
+        registry.execute("UPDATE meta SET value = 5 WHERE label = 'revision'")
+    registry.close()
+
+
+class Spoiler:
+    """Stands between nginx and the server. `mode` is `pass`, `lose` (the responses to the next
+    `left` commands are thrown away), `hold` (each response comes `seconds` late) or `gone`."""
+
+    def __init__(self, behind):
+        self.behind, self.port = behind, free_port()
+        self.set("pass")
+        self.lock = threading.Lock()
+        self.listener = socket.create_server(("127.0.0.1", self.port), backlog=100)
+        threading.Thread(target=self.listen, daemon=True).start()
+
+    def set(self, mode, left=0, seconds=0):
+        self.mode, self.left, self.seconds = mode, left, seconds
+
+    def listen(self):
+        while True:
+            try:
+                client, _ = self.listener.accept()
+            except OSError:
+                return
+            threading.Thread(target=self.serve, args=(client,), daemon=True).start()
+
+    def is_lost(self, head):
+        is_command = head.startswith(b"POST") and b"\nx-key:" in head.lower()
+        with self.lock:
+            if self.mode != "lose" or not is_command or self.left == 0:
+                return False
+            self.left -= 1
+            return True
+
+    def serve(self, client):
+        with client:
+            if self.mode == "gone":
+                client.setsockopt(socket.SOL_SOCKET, socket.SO_LINGER, b"\1\0\0\0\0\0\0\0")
+                return
+            try:
+                self.pass_on(client)
+            except OSError:
+                pass
+
+    def pass_on(self, client):
+        head = b""
+        while b"\r\n\r\n" not in head:
+            head += client.recv(65536) or b"\r\n\r\n"
+        length = re.search(rb"\ncontent-length: *([0-9]+)", head, re.I)
+        whole = head.index(b"\r\n\r\n") + 4 + (int(length[1]) if length else 0)
+        while len(head) < whole:
+            head += client.recv(65536)
+        is_lost = self.is_lost(head)
+        with socket.create_connection(("127.0.0.1", self.behind)) as server:
+            server.sendall(head)
+            response = b""
+            while piece := server.recv(65536):
+                response += piece
+        if self.mode == "hold":
+            time.sleep(self.seconds)
+        if not is_lost:
+            client.sendall(response)
+
+
+NGINX = """user root;
+worker_processes 1;
+pid {folder}/pid;
+error_log {folder}/errors.log;
+events {{ worker_connections 512; }}
+http {{
+    include /etc/nginx/mime.types;
+    default_type application/octet-stream;
+    access_log off;
+    client_body_temp_path {folder}/body; proxy_temp_path {folder}/proxy;
+    fastcgi_temp_path {folder}/f; uwsgi_temp_path {folder}/u; scgi_temp_path {folder}/s;
+    include {folder}/pciids-limits.conf;
+    include {folder}/pciids-site.conf;
+}}
+"""
+
+
+class Nginx:
+    """nginx with the site's configuration, its ports and places changed. The tests' people share
+    one address, so its rates are ten times as high."""
+
+    def __init__(self, folder, behind):
+        self.folder, self.port = folder, free_port()
+        certificate = ["openssl", "req", "-x509", "-newkey", "rsa:2048", "-nodes", "-days", "1",
+                       "-subj", "/CN=localhost", "-out", f"{folder}/certificate.pem", "-keyout",
+                       f"{folder}/key.pem"]
+        subprocess.run(certificate, stderr=subprocess.DEVNULL, check=True)
+        open(f"{folder}/passwords", "w").close()
+        for name in PEOPLE:
+            words = ["htpasswd", "-bB", "-C", "4", f"{folder}/passwords", name, f"pw-{name}"]
+            subprocess.run(words, stderr=subprocess.DEVNULL, check=True)
+        for name in ("headers", "limits", "site"):
+            with open(f"{CONFIG}/pciids-{name}.conf", encoding="utf-8") as file:
+                text = self.in_place(file.read(), behind)
+            with open(f"{folder}/pciids-{name}.conf", "w", encoding="utf-8") as file:
+                file.write(text)
+        with open(f"{folder}/nginx.conf", "w", encoding="utf-8") as file:
+            file.write(NGINX.format(folder=folder))
+        words = ["nginx", "-c", f"{folder}/nginx.conf", "-p", folder, "-e", f"{folder}/errors.log",
+                 "-g", "daemon off;"]
+        self.process = subprocess.Popen(words, stderr=subprocess.PIPE)
+
+    def in_place(self, text, behind):
+        for old, new in (
+            (r"listen 443 ssl( http2)?;", f"listen 127.0.0.1:{self.port} ssl\\1;"),
+            (r"listen 80;", f"listen 127.0.0.1:{free_port()};"),
+            (r" *listen \[::\].*\n", ""),
+            (r"/etc/pciids/(nginx/)?", f"{self.folder}/"),
+            (r"/usr/share/pciids-registry/site", SITE),
+            (r"/var/lib/pciids-public", f"{self.folder}/public"),
+            (r"unix:/run/pciids/http.sock", f"127.0.0.1:{behind}"),
+            (r"rate=([0-9]+)r/", r"rate=\g<1>0r/"),
+        ):
+            text = re.sub(old, new, text)
+        return text
+
+    def stop(self):
+        self.process.terminate()
+        self.process.communicate(timeout=30)
+
+
+def missing():
+    """Why the site can't be tried here, or None."""
+    commands = ("chromium", "chromedriver", "nginx", "htpasswd", "openssl", "curl")
+    absent = [it for it in commands if shutil.which(it) is None]
+    if not os.path.exists(program.REAL_FILE):
+        absent.append(program.REAL_FILE)
+    if absent:
+        return f"{', '.join(absent)} not installed"
+    if not os.path.exists(f"{CONFIG}/pciids-site.conf"):
+        return f"{CONFIG} has no configuration of the site"
+    return None if os.geteuid() == 0 else "nginx of Debian is started by root"
+
+
+class World:
+    """All of it, in a folder of its own."""
+
+    def __init__(self):
+        why = missing()
+        if why:
+            raise program.Skip(why)
+        self.stack = tempfile.TemporaryDirectory()
+        self.folder = self.stack.name
+        os.mkdir(f"{self.folder}/public")
+        shutil.copyfile(program.REAL_FILE, f"{self.folder}/public/pci.ids")
+        # Publishing makes a page for each vendor, in which the application is, too.
+        os.makedirs(f"{self.folder}/public/item/PC")
+        shutil.copyfile(f"{SITE}/index.html", f"{self.folder}/public/item/PC/8086.html")
+        self.database = f"{self.folder}/registry.db"
+        fill(self.database, list(items_taken()))
+        self.server = Server(self.database, connections=100_000)
+        self.spoiler = Spoiler(self.server.port)
+        self.nginx = Nginx(self.folder, self.spoiler.port)
+        self.base = f"https://localhost:{self.nginx.port}"
+        self.wait()
+
+    def wait(self):
+        for _ in range(200):
+            if ask_curl("-k", f"{self.base}/read/PC/8086")[0] == 200:
+                return
+            time.sleep(0.05)
+        raise TimeoutError("the site doesn't answer")
+
+    def __enter__(self):
+        return self
+
+    def __exit__(self, *_):
+        self.nginx.stop()
+        self.spoiler.listener.close()
+        self.server.kill()
+        self.stack.cleanup()
+
+    def stop_server(self):
+        self.server.kill()
+
+    def start_server(self):
+        self.server = Server(self.database, connections=100_000, port=self.server.port)
+
+    def ask(self, path, fields=None, account="root"):
+        """A question or a command to the server itself, past nginx: the JSON of the response."""
+        data = None if fields is None else urllib.parse.urlencode(fields).encode()
+        request = urllib.request.Request(f"http://127.0.0.1:{self.server.port}{path}", data)
+        request.add_header("X-Account", account)
+        request.add_header("Connection", "close")
+        try:
+            with urllib.request.urlopen(request, timeout=60) as response:
+                return json.load(response)
+        except urllib.error.HTTPError as fault:
+            return json.load(fault)
+
+    def submit(self, account, path, name, note=""):
+        """The number of a new proposal."""
+        return self.ask("/submit", {"path": path, "name": name, "note": note}, account)["num"]
+
+    def pending(self, path=None):
+        all_of_them, page = [], None
+        while page is None or page:
+            page = self.ask(f"/pending?after={all_of_them[-1]['num'] if all_of_them else 0}")
+            all_of_them += page
+        return [it for it in all_of_them if path in (None, it["path"])]
+
+    def state(self, number):
+        return self.ask(f"/submission/{number}")["state"]
