@@ -150,9 +150,9 @@ def moderated(story):
     lines = "sed -e 's/[0-9.]\\{10\\}$/DAY/' -e 's/    20.*/ TIME/'"
     want = "# PCI ID registry\n#\n#\tVersion: DAY\n#\tDate: TIME\n#\n8086  Intel"
     story.same("the published file", f"{text} | {lines}", want)
-    story.same("the page of the vendor", f"{page} https://{HOST}/item/PC/8086", "200 ")
-    story.same("the page of no vendor", f"{page} https://{HOST}/item/PC/8087", "404 ")
-    story.same("a page of nothing", f"{page} https://{HOST}/nothing", "404 ")
+    story.same("the page of the vendor", f"{page} https://{HOST}/item/PC/8086", "200")
+    story.same("the page of no vendor", f"{page} https://{HOST}/item/PC/8087", "404")
+    story.same("a page of nothing", f"{page} https://{HOST}/nothing", "404")
     where = f"{ASK_SITE} https://{HOST}/item/PC/8086 | grep -c '<h1>Intel</h1>'"
     story.same("the vendor's name is in it", where, "1")
 
