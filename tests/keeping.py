@@ -1,25 +1,16 @@
-"""deploy/lib and deploy/bin by themselves: stops and starts, backups, restores, publishing, accounts.
+"""deploy/lib by itself: stops and starts of the server, backups, restores.
 Whatever fails or is killed, the registry is whole and the server comes back."""
-import bz2
 import contextlib
 import gzip
 import os
-import re
 import shutil
-import socket
 import subprocess
 import tempfile
-import threading
 import time
 
-import built_packages
-import program
-from http_server import Server
-from program import HEADER, TOP
+from program import TOP
 
 LIB = os.path.join(TOP, "deploy", "lib")
-MIRROR = os.path.join(TOP, "deploy", "mirror.sh")
-ADDUSER = os.path.join(TOP, "deploy", "bin", "pciids-adduser")
 SCRIPTS = ("mirror.sh", "build-deb", "bin/pciids-adduser", "bin/pciids-restore", "lib/hold")
 SCRIPTS += ("lib/backup", "lib/restore")
 
@@ -331,6 +322,3 @@ def run(cases):
     holds(cases)
     backups(cases)
     restores(cases)
-    import publishing
-
-    publishing.run(cases)

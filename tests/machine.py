@@ -234,6 +234,7 @@ def upgraded(story, folder):
     story.same("the registry stays", f"{ASK}/pci.ids", "# PCI ID registry\n8086  Intel")
     story.same("an edited file stays", "grep -c 'listen \\[::\\]' /etc/pciids/nginx/pciids-site.conf", "0", 1)
     story.same("an unedited one is the new one", "tail -1 /etc/pciids/nginx/pciids-limits.conf", "# Another version.")
+    story.machine.until(f"{ASK_SITE} -f -o /dev/null https://{HOST}/pending")
     told = story.post("carl", "/submit", "path=PC/10de&name=NVIDIA")
     story.cases.equal("machine: passwords stay", told, "ok 2")
 
@@ -253,8 +254,8 @@ def removed(story, copy):
     story.same(
         "what stays: the registry, its copies and the passwords",
         "find /etc /usr /run /var/lib /var/log /var/cache /var/backups -maxdepth 3"
-        " \\( -name 'pciids*' -o -path '*/pciids/*' \\)"
-        " ! -path '*/dpkg/*' ! -path '*/replaced.*' ! -path '*/journal/*' ! -path '/etc/systemd/*' | sort",
+        " ! -path /run/pciids \\( -name 'pciids*' -o -path '*/pciids/*' \\)"
+        " ! -path '*/dpkg/*' ! -name '*.pem' ! -path '*/replaced.*' ! -path '/var/backups/pciids/*/*' ! -path '*/journal/*' ! -path '/etc/systemd/*' | sort",
         "/etc/pciids\n/etc/pciids/passwords\n/var/backups/pciids\n"
         f"/var/backups/pciids/{copy}\n"
         "/var/lib/pciids\n/var/lib/pciids/registry.db\n/var/lib/pciids/registry.db-wal",

@@ -18,6 +18,11 @@ PACKAGES = {
     "htpasswd": "apache2-utils",
     "openssl": "openssl",
     "man": "man-db",
+    "shellcheck": "shellcheck",
+    "dh": "debhelper",
+    "dpkg-buildpackage": "dpkg-dev",
+    "lintian": "lintian",
+    "systemd-nspawn": "systemd-container",
 }
 PARTS_OF_CRATE = ("src", "specs", "proofs")
 
