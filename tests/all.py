@@ -12,7 +12,7 @@ import program
 PARTS = (
     "harness worked_rows words fault_gallery limits real_file lspci lookups registry disks migrate"
     " jobs progress stops refusing scripts manual documents tour serving loopback http_routes"
-    " serving_faults serving_memory proxy mirror memory keeping front machine"
+    " serving_faults serving_memory proxy mirror memory keeping publishing front packages machine"
 ).split()
 
 # No part takes nearly as long, in seconds. One that hangs is stopped, so that the others are tried.
