@@ -35,7 +35,7 @@ trap 'rm -rf "$new"' EXIT
 trap 'exit 1' HUP INT TERM
 
 ask() {
-    curl -fsS -H 'Cache-Control: no-cache' "$server/$1"
+    curl -fsS --connect-timeout 10 --max-time 240 -H 'Cache-Control: no-cache' "$server/$1"
 }
 
 # Writes the changes since the copy's revision into a file, page by page up to one that is not full. The revision is that of the first

@@ -12,8 +12,8 @@ import program
 PARTS = (
     "harness worked_rows words fault_gallery limits real_file lspci lookups registry disks migrate"
     " jobs progress stops refusing scripts manual documents tour serving loopback http_routes"
-    " serving_faults serving_memory proxy mirror memory site_reader site_story site_once"
-    " site_safety site_access"
+    " serving_faults serving_memory proxy mirror memory keeping publishing front packages machine"
+    " site_reader site_story site_once site_safety site_access"
 ).split()
 
 # The parts that are tried in a browser have a folder to themselves.

@@ -21,6 +21,11 @@ PACKAGES = {
     "chromium": "chromium",
     "chromedriver": "chromium-driver",
     "/usr/lib/python3/dist-packages/selenium/webdriver": "python3-selenium",
+    "shellcheck": "shellcheck",
+    "dh": "debhelper",
+    "dpkg-buildpackage": "dpkg-dev",
+    "lintian": "lintian",
+    "systemd-nspawn": "systemd-container",
 }
 PARTS_OF_CRATE = ("src", "specs", "proofs")
 

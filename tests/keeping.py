@@ -1,0 +1,324 @@
+"""deploy/lib by itself: stops and starts of the server, backups, restores.
+Whatever fails or is killed, the registry is whole and the server comes back."""
+import contextlib
+import gzip
+import os
+import shutil
+import subprocess
+import tempfile
+import time
+
+from program import TOP
+
+LIB = os.path.join(TOP, "deploy", "lib")
+SCRIPTS = ("mirror.sh", "build-deb", "bin/pciids-adduser", "bin/pciids-restore", "lib/hold")
+SCRIPTS += ("lib/backup", "lib/restore")
+
+# Stands for the program: a registry opens where its file and its log belong together.
+OPENS = """#!/bin/sh
+case $1 in
+    check) grep -c . && exit 0 ;;
+    export) [ "$(cat "$3")" = "registry $(cat "$3-wal")" ] && cat "$3" && exit 0 ;;
+esac
+exit 1
+"""
+
+# Stands for systemctl: keeps in a file whether the server runs, and in another what was asked.
+SYSTEMCTL = """#!/bin/sh
+cd "${0%/*}"
+echo "$*" >> asked
+case $1 in
+    show) cat state ;;
+    stop) echo inactive > state ;;
+    start)
+        if [ -e broken ]; then rm broken; exit 1; fi
+        [ -L "$PCIIDS_RUN/stopped" ] || echo active > state ;;
+esac
+"""
+
+# Stands for a tool in turn: the call with this number kills the script that makes it.
+KILLS = """#!/bin/sh
+echo >> "{counter}"
+if [ "$(wc -l < "{counter}")" -eq {number} ]; then kill -KILL $PPID; sleep 1; exit 1; fi
+exec {tool} "$@"
+"""
+
+
+def write(path, text, mode=0o644):
+    with open(path, "w", encoding="utf-8") as file:
+        file.write(text)
+    os.chmod(path, mode)
+
+
+def read(path):
+    with open(path, "rb") as file:
+        return file.read()
+
+
+def ran(*words, tools=None, **more):
+    """The status of a script, and what it printed, with other tools in front of PATH."""
+    environment = dict(os.environ, **more)
+    if tools:
+        environment["PATH"] = tools + os.pathsep + environment["PATH"]
+    done = subprocess.run(
+        words, env=environment, stdout=subprocess.PIPE, stderr=subprocess.STDOUT, timeout=60
+    )
+    return done.returncode, done.stdout.decode(errors="replace")
+
+
+def linted(cases):
+    if shutil.which("shellcheck") is None:
+        cases.skipped("keeping: shellcheck", "shellcheck is not installed")
+        return
+    paths = [os.path.join(TOP, "deploy", it) for it in SCRIPTS]
+    for name in ("postinst", "prerm", "postrm"):
+        paths.append(os.path.join(TOP, "debian", f"pciids-registry.{name}"))
+    cases.equal("keeping: shellcheck", ran("shellcheck", *paths), (0, ""))
+
+
+class Held:
+    """`hold` in a folder, with a server that a file stands for."""
+
+    def __init__(self, folder, state):
+        self.folder, self.run = folder, os.path.join(folder, "run")
+        write(os.path.join(folder, "systemctl"), SYSTEMCTL, 0o755)
+        write(os.path.join(folder, "state"), state + "\n")
+
+    def hold(self, *words):
+        return ran(os.path.join(LIB, "hold"), *words, tools=self.folder, PCIIDS_RUN=self.run)[0]
+
+    def state(self):
+        """Whether the server runs, and the marks."""
+        marks = sorted(os.listdir(self.run)) if os.path.isdir(self.run) else []
+        return read(os.path.join(self.folder, "state")).decode().strip(), marks
+
+
+@contextlib.contextmanager
+def held(state):
+    with tempfile.TemporaryDirectory() as folder:
+        yield Held(folder, state)
+
+
+def holds(cases):
+    for state in ("active", "activating", "deactivating", "reloading"):
+        with held(state) as it:
+            cases.equal(f"hold: taken from one that is {state}", it.hold("take", "a"), 0)
+            cases.equal(f"hold: {state}, stopped", it.state(), ("inactive", ["stopped"]))
+            cases.equal(f"hold: {state}, released", it.hold("release", "a"), 0)
+            cases.equal(f"hold: {state}, running", it.state(), ("active", []))
+            cases.equal("hold: released once more", (it.hold("release", "a"), it.state()), (0, ("active", [])))
+    for state in ("inactive", "failed"):
+        with held(state) as it:
+            it.hold("take", "a")
+            it.hold("release", "a")
+            cases.equal(f"hold: a server that was {state} stays so", it.state(), ("inactive", []))
+    with held("active") as it:
+        it.hold("take", "a")
+        cases.equal("hold: a second job", (it.hold("take", "b"), it.hold("release", "b")), (1, 0))
+        cases.equal("hold: the first one's hold", it.state(), ("inactive", ["stopped"]))
+    with held("active") as it:
+        it.hold("take", "a")
+        write(os.path.join(it.folder, "broken"), "")
+        cases.equal("hold: a start that fails", it.hold("release", "a"), 1)
+        cases.equal("hold: the next release starts it", (it.hold("release", "a"), it.state()), (0, ("active", [])))
+    # Whichever tool kills `take` or `release`, a `release` afterwards leaves a running server.
+    for number in range(1, 12):
+        with held("active") as it:
+            killed = killing(it.folder, ("ln", "mv", "mkdir", "rm", "readlink"), number)
+            it.hold("take", "a")
+            it.hold("release", "a")
+            is_over = not killed()
+            it.hold("release", "a")
+            if it.state()[0] != "active" or it.state()[1]:
+                # Killed at its very beginning, nothing was stopped.
+                cases.equal(f"hold: killed at its call {number}", it.state(), ("active", []))
+            cases.passed += 1
+        if is_over:
+            break
+    cases.equal("hold: every call was tried", is_over, True)
+
+
+def killing(folder, tools, number):
+    """Puts tools into a folder, of which the call with this number kills its script. Returns a
+    function: whether it did."""
+    counter = os.path.join(folder, "counter")
+    write(counter, "")
+    for tool in tools:
+        real = shutil.which(tool)
+        write(os.path.join(folder, tool), KILLS.format(counter=counter, number=number, tool=real), 0o755)
+
+    def has_killed():
+        for tool in tools:
+            os.remove(os.path.join(folder, tool))
+        return len(read(counter)) >= number
+
+    return has_killed
+
+
+class Room:
+    """A registry, its copies and the folder of its mirror, with a program that stands for pciids."""
+
+    def __init__(self, folder):
+        self.folder = folder
+        self.registry, self.copies, self.mirror, self.tools = (
+            os.path.join(folder, name) for name in ("registry", "copies", "mirror", "tools")
+        )
+        for it in (self.registry, self.copies, self.mirror, self.tools):
+            os.mkdir(it)
+        self.program = os.path.join(folder, "program")
+        write(self.program, OPENS, 0o755)
+        self.set("one")
+
+    def set(self, text):
+        write(os.path.join(self.registry, "registry.db"), f"registry {text}")
+        write(os.path.join(self.registry, "registry.db-wal"), text)
+
+    def now(self):
+        """The registry's file and its log."""
+        return tuple(read(os.path.join(self.registry, it)) for it in ("registry.db", "registry.db-wal"))
+
+    def copy(self):
+        return ran(os.path.join(LIB, "backup"), "copy", self.registry, self.copies, tools=self.tools)
+
+    def keep(self, number):
+        words = ("keep", self.copies, str(number), self.program)
+        return ran(os.path.join(LIB, "backup"), *words, tools=self.tools)
+
+    def kept(self):
+        return sorted(it for it in os.listdir(self.copies) if it.startswith("2"))
+
+    def restore(self, *words):
+        return ran(os.path.join(LIB, "restore"), *words, tools=self.tools)
+
+    def prepare(self, name):
+        return self.restore("prepare", os.path.join(self.copies, name), self.registry, self.program)
+
+
+@contextlib.contextmanager
+def room():
+    with tempfile.TemporaryDirectory() as folder:
+        yield Room(folder)
+
+
+ONE, TWO = (b"registry one", b"one"), (b"registry two", b"two")
+
+
+def backups(cases):
+    with room() as it:
+        cases.equal("backup: copied", it.copy()[0], 0)
+        status, told = it.keep(2)
+        cases.equal("backup: kept", (status, told.startswith("kept ")), (0, True))
+        first = it.kept()[0]
+        files = {name: gzip.decompress(read(os.path.join(it.copies, first, name)))
+                 for name in os.listdir(os.path.join(it.copies, first))}
+        want = {"registry.db.gz": ONE[0], "registry.db-wal.gz": ONE[1], "pci.ids.gz": ONE[0]}
+        cases.equal("backup: what is kept", files, want)
+        cases.equal("backup: the registry is as before", it.now(), ONE)
+        for year in (1990, 1991):
+            os.mkdir(os.path.join(it.copies, f"2{year}-01-01T000000Z"))
+        os.mkdir(os.path.join(it.copies, "mine"))
+        os.mkdir(os.path.join(it.copies, "new.left"))
+        time.sleep(1.1)
+        it.copy()
+        it.keep(2)
+        left = sorted(os.listdir(it.copies))
+        cases.equal("backup: the newest two are kept, and what is not its own", left[-1], "mine")
+        cases.equal("backup: so many", len(it.kept()), 2)
+        write(os.path.join(it.registry, "registry.db-wal"), "torn")
+        before = it.kept()
+        it.copy()
+        cases.equal("backup: one that does not open is not kept", (it.keep(1)[0], it.kept()), (1, before))
+        cases.equal("backup: nothing was copied", it.keep(1)[0], 1)
+    odd_files(cases)
+    broken_tools(cases)
+
+
+def odd_files(cases):
+    """Root follows no link of the service, and waits for no pipe."""
+    for name in ("registry.db", "registry.db-wal"):
+        with room() as it:
+            path = os.path.join(it.registry, name)
+            os.remove(path)
+            os.symlink("/etc/hostname", path)
+            cases.equal(f"backup: {name} is a link", (it.copy()[0], it.keep(1)[0], it.kept()), (1, 1, []))
+            os.remove(path)
+            os.mkfifo(path)
+            cases.equal(f"backup: {name} is a pipe", (it.copy()[0], it.keep(1)[0], it.kept()), (1, 1, []))
+    with room() as it:
+        os.remove(os.path.join(it.registry, "registry.db"))
+        cases.equal("backup: no registry", it.copy()[0], 1)
+
+
+def broken_tools(cases):
+    """Each tool fails in turn: older copies stay, and no half one is among them."""
+    for tool in ("cp", "mv", "gzip", "sync", "mktemp", "find", "stat", "date", "mkdir", "cat"):
+        with room() as it:
+            os.mkdir(os.path.join(it.copies, "2000-01-01T000000Z"))
+            os.symlink("/bin/false", os.path.join(it.tools, tool))
+            failed = it.copy()[0] != 0 or it.keep(1)[0] != 0
+            got = failed, "2000-01-01T000000Z" in it.kept(), it.now()
+            cases.equal(f"backup: without {tool}", got, (True, True, ONE))
+
+
+def restores(cases):
+    with room() as it:
+        it.copy()
+        it.keep(3)
+        name = it.kept()[0]
+        it.set("two")
+        write(os.path.join(it.mirror, "revision"), "7\n")
+        cases.equal("restore: prepared", (it.prepare(name)[0], it.now()), (0, TWO))
+        status, told = it.restore("swap", it.registry, it.mirror)
+        cases.equal("restore: swapped", (status, it.now(), "restored" in told), (0, ONE, True))
+        cases.equal("restore: the mirror begins anew", os.listdir(it.mirror), [])
+        old = [name for name in os.listdir(it.registry) if name.startswith("replaced.")]
+        where = [os.path.join(it.registry, old[0], name) for name in ("registry.db", "registry.db-wal")]
+        cases.equal("restore: the former one is kept", tuple(map(read, where)), TWO)
+        cases.equal("restore: nothing is prepared any more", it.restore("swap", it.registry, it.mirror)[0], 1)
+        bad = os.path.join(it.copies, "2000-01-01T000000Z")
+        shutil.copytree(os.path.join(it.copies, name), bad)
+        with gzip.open(os.path.join(bad, "registry.db-wal.gz"), "wb") as file:
+            file.write(b"torn")
+        cases.equal("restore: a copy that does not open", (it.prepare("2000-01-01T000000Z")[0], it.now()), (1, ONE))
+        for odd in ("none", "../registry", "a;b"):
+            cases.equal(f"restore: {odd}", (it.prepare(odd)[0], it.now()), (1, ONE))
+    swaps_stopped(cases)
+
+
+def swaps_stopped(cases):
+    """A swap is killed, or fails, at each of its calls: there is a registry.db at every moment, and
+    once it is settled the registry is the old one or the new one, with its own log."""
+    tools = ("mv", "cp", "ln", "rm", "sync", "mkdir", "find", "flock", "date")
+    outcomes = set()
+    for kind, body in (("killed", KILLS), ("failing", KILLS.replace("kill -KILL $PPID; sleep 1; ", ""))):
+        for number in range(1, 60):
+            with room() as it:
+                it.copy()
+                it.keep(1)
+                it.set("two")
+                it.prepare(it.kept()[0])
+                counter = os.path.join(it.folder, "counter")
+                write(counter, "")
+                for tool in tools:
+                    text = body.format(counter=counter, number=number, tool=shutil.which(tool))
+                    write(os.path.join(it.tools, tool), text, 0o755)
+                it.restore("swap", it.registry, it.mirror)
+                is_over = len(read(counter)) < number
+                for tool in tools:
+                    os.remove(os.path.join(it.tools, tool))
+                is_there = os.path.exists(os.path.join(it.registry, "registry.db"))
+                status = it.restore("settle", it.registry)[0]
+                outcomes.add(it.now())
+                got = is_there, status, it.now() in (ONE, TWO)
+                cases.equal(f"restore: {kind} at its call {number}", got, (True, 0, True))
+            if is_over:
+                break
+        cases.equal(f"restore: {kind} at every call", is_over, True)
+    cases.equal("restore: it was stopped before and after it stood", outcomes, {ONE, TWO})
+
+
+def run(cases):
+    linted(cases)
+    holds(cases)
+    backups(cases)
+    restores(cases)

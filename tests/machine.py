@@ -1,0 +1,281 @@
+"""The packages on a machine of their own: from `dpkg -i` to a moderated name in the published file,
+then stops, backup, restore, upgrade, removal and purge."""
+import os
+import re
+import subprocess
+import tempfile
+
+import built_packages
+import program
+from machine_room import Machine
+
+HOST = "pciids.example.org"
+UNITS = ("pciids", "pciids-http", "pciids-publish", "pciids-backup", "pciids-restore@x", "pciids-web")
+# The most that `systemd-analyze security` may say of a unit.
+EXPOSURE = 1.5
+LIMIT = 768 << 20
+ASK = "curl -s --max-time 60 --unix-socket /run/pciids/http.sock http://localhost"
+ASK_SITE = (
+    f"curl -s --max-time 60 --cacert /etc/pciids/certificate.pem"
+    f" --resolve {HOST}:443:127.0.0.1 --resolve {HOST}:80:127.0.0.1"
+)
+IS_UP = f"{ASK}/pending"
+MARK = "/run/pciids/stopped"
+HOLD = "/usr/lib/pciids-registry/hold"
+
+
+class Story:
+    """What the cases share: the machine, the passwords that were told, and how things are said."""
+
+    def __init__(self, cases, machine):
+        self.cases, self.machine, self.passwords = cases, machine, {}
+
+    def same(self, name, command, want, status=0):
+        """A command of the machine prints this and ends so."""
+        got = self.machine.run(command)
+        self.cases.equal(f"machine: {name}", (got[0], got[1].strip()), (status, want))
+
+    def works(self, name, command):
+        """A command of the machine ends with status 0. Returns what it prints."""
+        status, told = self.machine.run(command)
+        self.cases.equal(f"machine: {name}", (status, told if status else ""), (0, ""))
+        return told
+
+    def fails(self, name, command):
+        status, told = self.machine.run(command)
+        self.cases.equal(f"machine: {name} is refused", (status != 0, told if not status else ""), (True, ""))
+
+    def is_up(self, name):
+        """The server answers."""
+        self.cases.equal(f"machine: {name}", self.machine.until(IS_UP), True)
+
+    def post(self, account, path, form):
+        words = f"{ASK_SITE} -u {account}:{self.passwords[account]} -d '{form}'"
+        return self.machine.run(f"{words} 'https://{HOST}{path}?format=text'")[1].strip()
+
+
+def loosen(machine):
+    """A program that was built with a sanitizer does not start below the unit's limit of memory."""
+    words = ["prlimit", f"--as={LIMIT}", program.WHOLE, "--version"]
+    if subprocess.run(words, stdout=subprocess.DEVNULL, stderr=subprocess.DEVNULL).returncode == 0:
+        return
+    print("machine: the program needs more than LimitAS=768M to start: tried without that limit")
+    for unit in ("pciids", "pciids-backup", "pciids-restore@"):
+        machine.run(
+            f"mkdir -p /etc/systemd/system/{unit}.service.d;"
+            f" printf '[Service]\\nLimitAS=infinity\\nMemoryMax=8G\\n'"
+            f" > /etc/systemd/system/{unit}.service.d/test.conf"
+        )
+    machine.run("systemctl daemon-reload; systemctl restart pciids")
+
+
+def install(story):
+    for name in ("pciids", "pciids-registry"):
+        story.machine.put(built_packages.package(name), f"/root/{name}.deb")
+    story.works("installation", "dpkg -i /root/pciids.deb /root/pciids-registry.deb")
+    loosen(story.machine)
+    story.is_up("a new registry answers")
+    units = "pciids.service pciids-http.socket pciids-publish.timer pciids-backup.timer"
+    story.same("what is enabled", f"systemctl is-enabled {units}", "\n".join(["enabled"] * 4))
+    story.same("the web server waits for a certificate", "systemctl is-enabled pciids-web", "disabled", 1)
+    story.same("no unit failed", "systemctl --failed --plain --no-legend", "")
+    story.same(
+        "who owns what",
+        "stat -c '%A %U:%G %n' /run/pciids/http.sock /etc/pciids/passwords /var/lib/pciids"
+        " /var/lib/pciids/registry.db /var/backups/pciids",
+        "srw-rw---- root:pciids-web /run/pciids/http.sock\n"
+        "-rw-r----- root:pciids-web /etc/pciids/passwords\n"
+        "drwxr-x--- pciids:pciids /var/lib/pciids\n"
+        "-rw-r----- pciids:pciids /var/lib/pciids/registry.db\n"
+        "drwxr-x--- pciids:pciids /var/backups/pciids",
+    )
+
+
+def sandbox(story):
+    for unit in UNITS:
+        told = story.machine.run(f"systemd-analyze security --no-pager {unit}.service | tail -1")[1]
+        found = re.search(r": ([0-9.]+) ", told)
+        exposed = float(found[1]) if found else 10.0
+        story.cases.equal(f"machine: {unit} is exposed at {exposed}", exposed <= EXPOSURE, True)
+    ask = ASK + "/account -H 'X-Account: root' -d 'who=eve&rank=3'"
+    story.fails("the port, from the host", "curl -s --max-time 5 http://127.0.0.1:8086/pending")
+    for user in ("www-data", "nobody", "pciids"):
+        story.fails(f"the socket, by {user}", f"setpriv --reuid={user} --regid={user} --clear-groups {ask}")
+    story.works("the socket, by the web server", f"setpriv --reuid=pciids-web --regid=pciids-web --clear-groups {IS_UP}")
+    story.same("nothing of the service runs as root", "ps -eo user:20,args | grep -c '^root .*[/ ]pciids '", "0", 1)
+
+
+def accounts(story):
+    for name, rank in (("anna", "administrator"), ("carl", "contributor")):
+        told = story.works(f"an account for {name}", f"pciids-adduser {name} {rank}")
+        found = re.fullmatch(
+            rf"account {name}: is {rank} now\npassword of {name}: ([0-9a-f]{{32}})\n"
+            rf"It is shown this once. Log in as {name}; nothing has to be reloaded.\n",
+            told,
+        )
+        story.passwords[name] = found[1] if found else "none"
+    again = "account carl: was contributor before\npassword of carl: is as before"
+    story.same("the same account again", "pciids-adduser carl 0", again)
+    told = story.works("a new password", "pciids-adduser --new-password carl contributor")
+    story.passwords["carl"] = re.search(r"password of carl: ([0-9a-f]+)", told)[1]
+    story.same("a line for each", "cut -d: -f1 /etc/pciids/passwords", "anna\ncarl")
+    mode = "stat -c '%A %U:%G' /etc/pciids/passwords"
+    story.same("the passwords stay the web server's", mode, "-rw-r----- root:pciids-web")
+    for words in ("root 3", "Anna 1", "x 4", "-x", "anna", f"{'a' * 33} 0"):
+        story.same(f"pciids-adduser {words}", f"pciids-adduser {words} > /dev/null 2>&1", "", 2)
+
+
+def moderated(story):
+    """From a certificate to a name in the published file."""
+    story.works(
+        "a certificate",
+        f"openssl req -x509 -newkey rsa:2048 -nodes -days 1 -subj /CN={HOST}"
+        f" -addext subjectAltName=DNS:{HOST} -keyout /etc/pciids/key.pem"
+        " -out /etc/pciids/certificate.pem 2> /dev/null;"
+        " chgrp pciids-web /etc/pciids/key.pem; chmod 640 /etc/pciids/key.pem",
+    )
+    # The machine has no IPv6.
+    story.works("a site without IPv6", "sed -i '/listen \\[::\\]/d' /etc/pciids/nginx/pciids-site.conf")
+    story.works("the web server starts", "systemctl enable --now pciids-web")
+    page = f"{ASK_SITE} -H 'Accept: text/html' -o /dev/null -w '%{{http_code}} %{{redirect_url}}'"
+    up = story.machine.until(f"{ASK_SITE} -f -o /dev/null https://{HOST}/")
+    story.cases.equal("machine: the web server answers", up, True)
+    story.same("http leads to https", f"{page} http://{HOST}/vendors", f"301 https://{HOST}/vendors")
+    story.cases.equal("machine: a submission", story.post("carl", "/submit", "path=PC/8086&name=Intel"), "ok 1")
+    told = story.post("carl", "/approve", "num=1")
+    story.cases.equal("machine: a contributor does not decide", told, "refused 5 RankTooLow")
+    story.cases.equal("machine: an approval", story.post("anna", "/approve", "num=1"), "ok")
+    story.works("publishing", "systemctl start pciids-publish")
+    text = f"{ASK_SITE} https://{HOST}/pci.ids"
+    lines = "sed -e 's/[0-9.]\\{10\\}$/DAY/' -e 's/    20.*/ TIME/'"
+    want = "# PCI ID registry\n#\n#\tVersion: DAY\n#\tDate: TIME\n#\n8086  Intel"
+    story.same("the published file", f"{text} | {lines}", want)
+    story.same("the page of the vendor", f"{page} https://{HOST}/item/PC/8086", "200")
+    story.same("the page of no vendor", f"{page} https://{HOST}/item/PC/8087", "404")
+    story.same("a page of nothing", f"{page} https://{HOST}/nothing", "404")
+    where = f"{ASK_SITE} https://{HOST}/item/PC/8086 | grep -c '<h1>Intel</h1>'"
+    story.same("the vendor's name is in it", where, "1")
+
+
+def stops(story):
+    """A stop is a stop, and whatever is killed, the server comes back."""
+    hold = "systemctl is-active pciids"
+    story.works("a stop by hand", "systemctl stop pciids")
+    story.machine.run(f"{IS_UP}; systemctl start pciids-publish")
+    story.same("neither a request nor publishing starts it", hold, "inactive", 3)
+    story.works("a start by hand", "systemctl start pciids")
+    story.is_up("it answers then")
+    story.works("a job takes hold", f"{HOLD} take test")
+    story.machine.run(f"{IS_UP}; systemctl start pciids-publish pciids")
+    story.same("nothing starts the server while a job has it stopped", hold, "inactive", 3)
+    story.same("another job does not begin", "systemctl start pciids-backup 2> /dev/null", "", 1)
+    story.same("nor does it end the hold of the first", f"readlink {MARK}", "test running")
+    story.works("the job lets go", f"{HOLD} release test")
+    story.is_up("the server is back")
+    kill_backup(story)
+    story.works("the server killed", "systemctl kill -s KILL pciids")
+    story.is_up("it was started again")
+
+
+def kill_backup(story):
+    """A backup that hangs in its copy, with the server stopped, is killed."""
+    place = "/run/systemd/system/pciids-backup.service.d"
+    story.machine.run(
+        f"mkdir -p {place}; printf '[Service]\\nExecStartPre=/bin/sleep 600\\n' > {place}/hang.conf;"
+        " systemctl daemon-reload; systemctl start --no-block pciids-backup"
+    )
+    held = story.machine.until(f"test -L {MARK} && pgrep -x sleep")
+    story.cases.equal("machine: a backup has the server stopped", held, True)
+    story.works("the backup killed", "systemctl kill -s KILL pciids-backup")
+    story.is_up("the server is back after the backup was killed")
+    story.same("no mark is left", f"ls {MARK} 2> /dev/null", "", 2)
+    story.machine.run(f"rm -r {place}; systemctl daemon-reload; systemctl reset-failed")
+
+
+def kept(story):
+    """A backup of a running service, and back."""
+    story.works("a backup", "systemctl start pciids-backup")
+    story.is_up("the server is back after a backup")
+    copy = story.machine.run("ls /var/backups/pciids")[1].strip()
+    story.same("what a copy is", f"ls /var/backups/pciids/{copy}", "pci.ids.gz\nregistry.db-wal.gz\nregistry.db.gz")
+    story.cases.equal("machine: a later name", story.post("carl", "/submit", "path=PC/10ec&name=Realtek"), "ok 2")
+    story.cases.equal("machine: it is approved", story.post("anna", "/approve", "num=2"), "ok")
+    story.works("it is published", "systemctl start pciids-publish")
+    names = f"{ASK_SITE} https://{HOST}/pci.ids | grep -v '^#'"
+    story.same("both names", names, "10ec  Realtek\n8086  Intel")
+
+    story.machine.run("mkdir /var/backups/pciids/2000-01-01T000000Z; cd /var/backups/pciids/2000*;"
+                      " echo nothing | gzip > registry.db.gz; chmod -R a+rX .")
+    story.fails("a copy that does not open", "pciids-restore 2000-01-01T000000Z 2> /dev/null")
+    story.is_up("the server goes on after it")
+    story.same("the registry is as before", f"{ASK}/pci.ids", "# PCI ID registry\n10ec  Realtek\n8086  Intel")
+    story.fails("a copy that is none", "pciids-restore ../../etc 2> /dev/null")
+
+    story.works("a restore", f"pciids-restore {copy}")
+    story.is_up("the server is back after a restore")
+    story.same("the registry is as it was", f"{ASK}/pci.ids", "# PCI ID registry\n8086  Intel")
+    story.works("publishing after a restore", "systemctl start pciids-publish")
+    story.same("the published file follows", names, "8086  Intel")
+    story.same("the former registry is kept", "ls /var/lib/pciids/replaced.*", "registry.db\nregistry.db-wal")
+    story.machine.run("systemctl reset-failed; rm -r /var/backups/pciids/2000*")
+    return copy
+
+
+def upgraded(story, folder):
+    """Another version: the registry, the passwords and edited files stay."""
+    for name in ("pciids", "pciids-registry"):
+        story.machine.put(built_packages.repacked(name, "0.1.0+next", folder), f"/root/{name}-next.deb")
+    was = story.machine.run("systemctl show -p MainPID --value pciids")[1]
+    upgrade = "dpkg --force-confdef --force-confold -i /root/pciids-next.deb /root/pciids-registry-next.deb"
+    story.works("upgrade", upgrade)
+    story.is_up("the server answers after an upgrade")
+    now = story.machine.run("systemctl show -p MainPID --value pciids")[1]
+    story.cases.equal("machine: it was started again", was != now, True)
+    story.same("the registry stays", f"{ASK}/pci.ids", "# PCI ID registry\n8086  Intel")
+    story.same("an edited file stays", "grep -c 'listen \\[::\\]' /etc/pciids/nginx/pciids-site.conf", "0", 1)
+    story.same("an unedited one is the new one", "tail -1 /etc/pciids/nginx/pciids-limits.conf", "# Another version.")
+    story.machine.until(f"{ASK_SITE} -f -o /dev/null https://{HOST}/pending")
+    told = story.post("carl", "/submit", "path=PC/10de&name=NVIDIA")
+    story.cases.equal("machine: passwords stay", told, "ok 2")
+
+
+def removed(story, copy):
+    """What goes and what stays; an nginx of the host that was given the files is sound."""
+    story.machine.run(
+        "ln -s /etc/pciids/nginx/pciids-limits.conf /etc/nginx/conf.d/pciids.conf;"
+        " ln -s /etc/pciids/nginx/pciids-site.conf /etc/nginx/sites-enabled/pciids"
+    )
+    story.works("the host's nginx takes the site", "nginx -t 2>&1")
+    story.works("removal", "dpkg -r pciids-registry pciids")
+    story.works("the host's nginx is sound after removal", "nginx -t 2>&1")
+    story.same("no process is left", "ps -eo user:20,args | grep -c '^pciids'", "0", 1)
+    story.works("purge", "dpkg -P pciids-registry pciids")
+    story.works("the host's nginx is sound after purge", "nginx -t 2>&1")
+    story.same(
+        "what stays: the registry, its copies and the passwords",
+        "find /etc /usr /run /var/lib /var/log /var/cache /var/backups -maxdepth 3"
+        " ! -path /run/pciids \\( -name 'pciids*' -o -path '*/pciids/*' \\)"
+        " ! -path '*/dpkg/*' ! -name '*.pem' ! -path '*/replaced.*' ! -path '/var/backups/pciids/*/*' ! -path '*/journal/*' ! -path '/etc/systemd/*' | sort",
+        "/etc/pciids\n/etc/pciids/passwords\n/var/backups/pciids\n"
+        f"/var/backups/pciids/{copy}\n"
+        "/var/lib/pciids\n/var/lib/pciids/registry.db\n/var/lib/pciids/registry.db-wal",
+    )
+    left = "find /etc/systemd/system /var/lib/systemd -name '*pciids*' ! -name 'stamp-*' ! -name 'test.conf'"
+    story.same("no link of a unit stays", f"{left} ! -name '*.service.d'", "")
+
+
+def run(cases):
+    program.need("nginx", "openssl", "curl")
+    if not os.access(program.WHOLE, os.X_OK):
+        raise program.Skip("the program is not built")
+    built_packages.packages()
+    with tempfile.TemporaryDirectory() as folder, Machine() as machine:
+        story = Story(cases, machine)
+        install(story)
+        sandbox(story)
+        accounts(story)
+        moderated(story)
+        stops(story)
+        copy = kept(story)
+        upgraded(story, folder)
+        removed(story, copy)

@@ -1,0 +1,125 @@
+"""deploy/lib/publish by itself: the published file as distributions' tools take it, and the pages."""
+import os
+import shutil
+import subprocess
+import tempfile
+
+import built_packages
+from program import TOP
+
+PUBLISH = os.path.join(TOP, "deploy", "lib", "publish")
+TEXT = """# PCI ID registry
+8086  Intel
+\t1237  440FX <b>\u202e
+\t\t1af4 1100  Qemu
+1af4  Red Hat
+S 1af4
+\t1100  Generic
+C 01  Mass
+\t01  IDE
+\t\t80  Master
+"""
+# How scripts of distributions find the version and the date.
+READERS = {
+    "sed": "sed -n 's/^#\\s*Version: *//p' pci.ids",
+    "awk": "awk '/^#[\\t ]*Version:/ { print $3; exit }' pci.ids",
+    "date": "sed -n 's/^#\\tDate: *\\([0-9-]*\\) .*/\\1/p' pci.ids | tr - .",
+}
+
+
+class Press:
+    """`publish` with a mirror that copies a text of the test."""
+
+    def __init__(self, folder):
+        self.text = os.path.join(folder, "text")
+        self.copy, self.public, self.lib = (
+            os.path.join(folder, it) for it in ("copy", "public", "lib")
+        )
+        for it in (self.copy, self.public, self.lib):
+            os.mkdir(it)
+        shutil.copy(PUBLISH, os.path.join(self.lib, "publish"))
+        with open(os.path.join(self.lib, "mirror"), "w", encoding="utf-8") as file:
+            file.write(f'#!/bin/sh\ncp {self.text} "$2/pci.ids"\n')
+        os.chmod(os.path.join(self.lib, "mirror"), 0o755)
+
+    def run(self, text):
+        with open(self.text, "w", encoding="utf-8") as file:
+            file.write(text)
+        words = [os.path.join(self.lib, "publish"), "http://x", self.copy, self.public]
+        ran = subprocess.run([*words, built_packages.site()], capture_output=True, timeout=60)
+        return ran.returncode, ran.stdout.decode() + ran.stderr.decode()
+
+    def shell(self, command):
+        ran = subprocess.run(command, shell=True, cwd=self.public, capture_output=True, timeout=60)
+        return ran.returncode, ran.stdout.decode()
+
+    def read(self, name):
+        path = os.path.join(self.public, name)
+        if not os.path.exists(path):
+            return None
+        with open(path, encoding="utf-8") as file:
+            return file.read()
+
+
+def tools(cases, press):
+    day = press.shell("date -u +%Y.%m.%d")[1]
+    for name, command in READERS.items():
+        cases.equal(f"publish: the version, by {name}", press.shell(command), (0, day))
+    whole = press.read("pci.ids")
+    lines = [it for it in whole.splitlines(True) if it != "#\n" and not it.startswith("#\t")]
+    cases.equal("publish: the names", "".join(lines), TEXT)
+    for unpack in ("gzip", "bzip2"):
+        suffix = {"gzip": "gz", "bzip2": "bz2"}[unpack]
+        got = press.shell(f"{unpack} -dc pci.ids.{suffix}")
+        cases.equal(f"publish: {unpack}", got, (0, whole))
+    if shutil.which("lspci"):
+        cases.equal("publish: lspci", press.shell("lspci -i pci.ids > /dev/null")[0], 0)
+    else:
+        cases.skipped("publish: lspci", "lspci is not installed")
+    update = shutil.which("update-pciids")
+    if not update:
+        cases.skipped("publish: update-pciids", "update-pciids is not installed")
+        return
+    press.shell(
+        f"sed -e 's|^SRC=.*|SRC=file://{press.public}/pci.ids|'"
+        f" -e 's|^DEST=.*|DEST={press.copy}/updated|' {update} > {press.copy}/update"
+    )
+    cases.equal("publish: update-pciids", press.shell(f"sh {press.copy}/update -q")[0], 0)
+    cases.equal("publish: its file", press.shell(f"cat {press.copy}/updated"), (0, whole))
+
+
+def pages(cases, press):
+    found = press.shell("find item -type f | sort")[1].split()
+    want = "PC/1af4 PC/8086 PC/8086/1237 PD/01 PD/01/01".split()
+    cases.equal("publish: the pages", found, [f"item/{it}.html" for it in want])
+    page = press.read("item/PC/8086/1237.html")
+    for part in (
+        "<title>8086/1237 440FX &lt;b&gt;[U+202E]</title>",
+        "<h1>440FX &lt;b&gt;[U+202E]</h1>",
+        "<pre>\t1237  440FX &lt;b&gt;[U+202E]</pre>",
+        '<a href="/propose?path=PC/8086/1237">',
+        "<li>1af4 1100 Qemu</li>",
+        '<a href="/item/PC/8086">Intel</a>',
+    ):
+        cases.equal(f"publish: a page has {part}", part in page, True)
+    cases.equal("publish: no markup of a name", "<b>" in page, False)
+    generic = "<h2>Generic subsystems</h2>\n<ul>\n<li>1100 Generic</li>"
+    cases.equal("publish: generic ones", generic in press.read("item/PC/1af4.html"), True)
+    cases.equal("publish: 404", "No such page" in press.read("404.html"), True)
+
+
+def run(cases):
+    with tempfile.TemporaryDirectory() as folder:
+        press = Press(folder)
+        status, told = press.run(TEXT)
+        cases.equal("publish: the first run", (status, "published: 1 text" in told), (0, True))
+        tools(cases, press)
+        pages(cases, press)
+        path = os.path.join(press.public, "pci.ids")
+        os.utime(path, (1_000_000_000, 1_000_000_000))
+        cases.equal("publish: nothing new", press.run(TEXT), (0, ""))
+        cases.equal("publish: the file is as before", int(os.stat(path).st_mtime), 1_000_000_000)
+        status, told = press.run(TEXT.replace("1af4  Red Hat\nS 1af4\n\t1100  Generic\n", ""))
+        cases.equal("publish: a vendor is gone", (status, "1 removed" in told), (0, True))
+        cases.equal("publish: its page too", press.read("item/PC/1af4.html"), None)
+        cases.equal("publish: the new file", "Red Hat" in press.read("pci.ids"), False)
