@@ -1,6 +1,7 @@
 //! Words, paths and their texts, and readers and writers that are interrupted or fail.
 use pid_ident::{
-    Account, FaultyOutput, Input, Key, LineKind, Name, Output, Path, PathText, Plain, Text, WordFault, WriteFault, write_all, write_parts,
+    Account, FaultyOutput, Input, Key, LineKind, Name, Output, Path, PathText, Plain, Text,
+    WordFault, WriteFault, write_all, write_parts,
 };
 use std::io;
 use std::io::{ErrorKind, Read, Write};

@@ -3,6 +3,8 @@
 
 mod progress;
 
-pub use pid_file::{FAILED, LARGEST, TextEnd, Watched, check, end_of, tidy};
-pub use pid_file::{run_check, run_tidy, tell_end, tell_failed, tell_unread};
+pub use pid_file::{
+    FAILED, LARGEST, TextEnd, Watched, check, end_of, run_check, run_tidy, tell_end, tell_failed,
+    tell_unread, tidy,
+};
 pub use progress::{Counted, Progress};

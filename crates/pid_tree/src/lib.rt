@@ -4,7 +4,7 @@
 mod laws;
 
 pub use laws::labels_are_of_paths;
-pub use pid_file::{Tree, TreeRefusal};
 pub use pid_file::{
-    opened_block, write_behind, write_block, write_canonical, write_header, write_item,
+    Tree, TreeRefusal, opened_block, write_behind, write_block, write_canonical, write_header,
+    write_item,
 };
