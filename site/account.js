@@ -7,9 +7,18 @@ import { ranksOf } from "./detours.js";
 
 const PLACE = "held";
 const watchers = [];
-const others = globalThis.BroadcastChannel ? new BroadcastChannel("account") : null;
+const others = channel("account");
 let held = null;           // { name, secret, stays }
 let ranks = { least: 0, most: 3 };
+
+// Where a browser keeps nothing it may refuse this too: then each page is by itself.
+function channel(name) {
+  try {
+    return new BroadcastChannel(name);
+  } catch {
+    return null;
+  }
+}
 
 /** The account that is logged in, or null. */
 export const account = () => held?.name ?? null;
