@@ -28,7 +28,8 @@ export async function ranksOf(name, headers) {
   if (file.refusal?.refused === 4) return { least: 0, most: -1 };
   const known = recall("localStorage", `rank:${name}`);
   const least = known?.least >= 1 ? 1 : 0;
-  if (file.refusal?.refused === 5) return { least, most: known?.most === 0 ? 0 : 1 };
+  // Whoever was refused a decision here may have become a moderator since.
+  if (file.refusal?.refused === 5) return { least, most: 1 };
   return { least: 0, most: 3 };
 }
 

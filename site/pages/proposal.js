@@ -114,9 +114,11 @@ function withdrawal(it, done) {
 
 /** Sends a decision, and learns from its answer. Returns whether it was accepted. */
 export async function decide(it, needed, command) {
+  const by = account();
   const answer = await carryOut({ ...command, why: NEEDS_ACCOUNT });
-  if (answer?.value) learnRank(needed, true);
-  else if (answer?.refusal?.refused === 5) learnRank(needed, false);
+  const isSame = by === null || by === account();
+  if (isSame && answer?.value) learnRank(needed, true);
+  else if (isSame && answer?.refusal?.refused === 5) learnRank(needed, false);
   if (answer?.value && command.route === "/approve") learnName(it.path, it.name);
   return answer;
 }

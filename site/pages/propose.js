@@ -81,7 +81,7 @@ class Proposal {
     const before = draftOf().read();
     const given = parse(query.get("path") ?? "");
     const under = parse(query.get("under") ?? "");
-    const asked = KIND_WORDS[query.get("kind")] ? query.get("kind") : "device";
+    const asked = Object.hasOwn(KIND_WORDS, query.get("kind")) ? query.get("kind") : "device";
     const kind = before?.kind ?? given?.kind ?? asked;
     const digits = before ? [0, 1, 2, 3].map((it) => before[`number-${it}`])
       : given?.numbers ?? under?.numbers ?? [];
