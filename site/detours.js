@@ -142,11 +142,13 @@ export async function sinceOf(path) {
 const OWN = "own:";
 const ownKey = (name) => `${OWN}${name}`;
 
-/** Remembers a proposal that an account made here: { num, path, name }. */
-export function rememberOwn(name, one) {
-  const all = recall("localStorage", ownKey(name)) ?? [];
-  if (all.some((it) => it.num === one.num)) return;
-  keep("localStorage", ownKey(name), [one, ...all].slice(0, 500));
+/** Remembers the proposal that a command of the outbox made, with the answer's value. */
+export function rememberOwn({ account, body }, { num }) {
+  const all = recall("localStorage", ownKey(account)) ?? [];
+  if (all.some((it) => it.num === num)) return;
+  const fields = new URLSearchParams(body);
+  const one = { num, path: fields.get("path"), name: fields.get("name") };
+  keep("localStorage", ownKey(account), [one, ...all].slice(0, 500));
 }
 
 /** The proposals that an account made in this browser, the latest first. */

@@ -4,7 +4,7 @@
 import { account } from "../account.js";
 import { report } from "../bar.js";
 import { faultWords } from "../carry.js";
-import { forgetPending, rememberOwn } from "../detours.js";
+import { forgetPending } from "../detours.js";
 import { draftOf, keepDraft } from "../drafts.js";
 import { el, fill, link, several } from "../dom.js";
 import { askToLogIn } from "../login.js";
@@ -111,7 +111,6 @@ class Row {
     this.num = answer.value?.num;
     // A refused command keeps no reply: its key is free, and so is the row.
     if (answer.refusal || answer.certain) this.key = undefined;
-    if (this.num) rememberOwn(entry.account, { num: this.num, path: this.path, name });
     keepAll();
     this.show(this.num ? null : faultWords(answerWords(answer)));
     return answer;
