@@ -6,10 +6,20 @@ import { keep, recall } from "./kept.js";
 import { ranksOf } from "./detours.js";
 
 const PLACE = "held";
+const OUTS = "outs";
 const watchers = [];
-const others = globalThis.BroadcastChannel ? new BroadcastChannel("account") : null;
-let held = null;           // { name, secret, stays }
+const others = channel("account");
+let held = null;           // { name, secret, stays, outs }
 let ranks = { least: 0, most: 3 };
+
+// Where a browser keeps nothing it may refuse this too: then each page is by itself.
+function channel(name) {
+  try {
+    return new BroadcastChannel(name);
+  } catch {
+    return null;
+  }
+}
 
 /** The account that is logged in, or null. */
 export const account = () => held?.name ?? null;
@@ -22,6 +32,10 @@ export const authorization = () => (held ? { Authorization: `Basic ${held.secret
 
 /** Has a function called when somebody logs in or out: with true in the middle of something. */
 export const watchAccount = (watcher) => watchers.push(watcher);
+
+// How many log-outs this browser has seen: a page that was away when one was told, and comes back
+// with what it kept, knows by it.
+const outs = () => recall("localStorage", OUTS) ?? 0;
 
 const base64 = (text) => btoa(String.fromCharCode(...new TextEncoder().encode(text)));
 
@@ -42,7 +56,7 @@ export async function logIn({ name, password, stays, isBusy, isWanted }) {
   const Authorization = `Basic ${secret}`;
   const answer = await request("GET", "/whoami", { headers: { Authorization } });
   if (!answer.value || !isWanted()) return answer;
-  const one = { name: answer.value.account, secret, stays };
+  const one = { name: answer.value.account, secret, stays, outs: outs() };
   const its = await ranksOf(one.name, { Authorization });
   if (!isWanted()) return answer;
   if (stays) keep("sessionStorage", PLACE, { one, ranks: its });
@@ -58,6 +72,7 @@ function forgetAccount() {
 
 /** Logs out, here and in the other pages. */
 export function logOut() {
+  keep("localStorage", OUTS, outs() + 1);
   forgetAccount();
   others?.postMessage({ out: true });
 }
@@ -84,7 +99,9 @@ function hear({ data }) {
 /** Takes up who was logged in when the page was loaded before, or is in another page. */
 export function restoreAccount() {
   const before = recall("sessionStorage", PLACE);
-  if (before?.one) take(before.one, before.ranks, false);
+  if (before?.one?.outs === outs()) take(before.one, before.ranks, false);
+  else keep("sessionStorage", PLACE, null);
+  addEventListener("pageshow", () => { if (held && held.outs !== outs()) forgetAccount(); });
   if (!others) return;
   others.addEventListener("message", hear);
   if (!held) others.postMessage({ asks: true });

@@ -28,7 +28,8 @@ export async function ranksOf(name, headers) {
   if (file.refusal?.refused === 4) return { least: 0, most: -1 };
   const known = recall("localStorage", `rank:${name}`);
   const least = known?.least >= 1 ? 1 : 0;
-  if (file.refusal?.refused === 5) return { least, most: known?.most === 0 ? 0 : 1 };
+  // Whoever was refused a decision here may have become a moderator since.
+  if (file.refusal?.refused === 5) return { least, most: 1 };
   return { least: 0, most: 3 };
 }
 
@@ -141,11 +142,13 @@ export async function sinceOf(path) {
 const OWN = "own:";
 const ownKey = (name) => `${OWN}${name}`;
 
-/** Remembers a proposal that an account made here: { num, path, name }. */
-export function rememberOwn(name, one) {
-  const all = recall("localStorage", ownKey(name)) ?? [];
-  if (all.some((it) => it.num === one.num)) return;
-  keep("localStorage", ownKey(name), [one, ...all].slice(0, 500));
+/** Remembers the proposal that a command of the outbox made, with the answer's value. */
+export function rememberOwn({ account, body }, { num }) {
+  const all = recall("localStorage", ownKey(account)) ?? [];
+  if (all.some((it) => it.num === num)) return;
+  const fields = new URLSearchParams(body);
+  const one = { num, path: fields.get("path"), name: fields.get("name") };
+  keep("localStorage", ownKey(account), [one, ...all].slice(0, 500));
 }
 
 /** The proposals that an account made in this browser, the latest first. */

@@ -31,6 +31,10 @@ function typed() {
     clearTimeout(resting);
     resting = setTimeout(addressFollows, RESTS_AFTER);
     currentPage().search(box.value);
+  } else if (isSearch()) {
+    // The page is on its way: it begins with what is typed by now.
+    history.replaceState(history.state, "", searchHref());
+    refresh();
   } else if (box.value) go(searchHref(), { focus: false });
 }
 
@@ -39,7 +43,7 @@ function pasteLines(event) {
   const text = event.clipboardData.getData("text").trim();
   if (!text.includes("\n")) return;
   event.preventDefault();
-  box.value = text.replace(/\s*\n\s*/g, " | ");
+  box.value = text.split("\n").map((it) => it.trim()).filter(Boolean).join(" | ");
   typed();
 }
 

@@ -5,6 +5,7 @@ import { el, fill } from "./dom.js";
 import { troubleWords } from "./words.js";
 
 const dialog = document.getElementById("dialog");
+const ENTERED = "entered";
 
 function boxes() {
   const shared = { required: true, "aria-describedby": "log-fault" };
@@ -33,7 +34,7 @@ async function tryIt({ name, password, stays, fault, enter }, isBusy) {
   });
   enter.disabled = false;
   if (!isWanted()) return;
-  if (account()) dialog.close();
+  if (answer.value && account()) dialog.close(ENTERED);
   else {
     fill(fault, troubleWords(answer.trouble));
     password.select();
@@ -43,7 +44,7 @@ async function tryIt({ name, password, stays, fault, enter }, isBusy) {
 function formOf(fields, why, isBusy) {
   const { name, password, stays, fault, enter } = fields;
   const submit = (event) => { event.preventDefault(); tryIt(fields, isBusy); };
-  const cancel = () => dialog.close();
+  const cancel = () => dialog.close("");
   return el("form", { method: "dialog", onsubmit: submit },
     el("h2", { id: "dialog-title" }, "Log in"),
     why ? el("p", {}, why) : null,
@@ -60,16 +61,18 @@ function formOf(fields, why, isBusy) {
 /**
  * Asks for an account and a password.
  * @param {string} [why] what needs an account
- * @returns {Promise<boolean>} whether somebody is logged in
+ * @returns {Promise<boolean>} whether somebody was logged in before, or has logged in here; whoever
+ *   cancels has not, also where another tab logged in meanwhile
  */
 export function askToLogIn(why) {
   if (account()) return Promise.resolve(true);
   if (dialog.open) return Promise.resolve(false);
   const fields = boxes();
   return new Promise((resolve) => {
-    const close = () => { fill(dialog); resolve(account() !== null); };
+    const close = () => { fill(dialog); resolve(dialog.returnValue === ENTERED); };
     dialog.addEventListener("close", close, { once: true });
     fill(dialog, formOf(fields, why, why !== undefined));
+    dialog.returnValue = "";
     dialog.showModal();
     fields.name.focus();
   });

@@ -5,6 +5,7 @@
 
 import { account, authorization } from "./account.js";
 import { request } from "./api.js";
+import { rememberOwn } from "./detours.js";
 import { keep, keysOf, recall } from "./kept.js";
 
 const FRONT = "owed:";
@@ -37,7 +38,7 @@ const isThere = (key) => unkept.has(key) || recall("localStorage", FRONT + key) 
 
 /** The keys of entries that some tab is sending. */
 export async function keysAtWork() {
-  const held = (await navigator.locks?.query())?.held ?? [];
+  const { held = [] } = (await navigator.locks?.query().catch(() => null)) ?? {};
   const names = held.map((it) => it.name).filter((it) => it.startsWith(FRONT));
   return new Set([...names.map((it) => it.slice(FRONT.length)), ...working.keys()]);
 }
@@ -110,10 +111,20 @@ export function settle(entry) {
   return work.answer;
 }
 
-function locked(entry, call) {
-  if (!navigator.locks) return call();
-  return navigator.locks.request(FRONT + entry.key, { ifAvailable: true },
-    (lock) => (lock ? call() : { trouble: "elsewhere", certain: false }));
+// A browser that refuses to keep anything refuses locks too. What two tabs send under one key acts
+// once all the same.
+async function locked(entry, call) {
+  let isAnswered = false;
+  const go = (lock) => {
+    isAnswered = true;
+    return lock ? call() : { trouble: "elsewhere", certain: false };
+  };
+  try {
+    return await navigator.locks.request(FRONT + entry.key, { ifAvailable: true }, go);
+  } catch (fault) {
+    if (isAnswered) throw fault;
+    return call();
+  }
 }
 
 function send(entry, body) {
@@ -133,10 +144,11 @@ async function sendUntilKnown(entry, work) {
   for (let tries = 1; ; tries += 1) {
     if (!isThere(entry.key)) return { trouble: "forgotten", certain: !isInDoubt };
     const body = entry.body ?? files.get(entry.key);
-    if (body === undefined) return { trouble: "file", certain: !isInDoubt };
-    if (account() !== entry.account) return { trouble: "account", certain: !isInDoubt };
+    if (body === undefined) return gaveUp(entry, { trouble: "file" }, isInDoubt);
+    if (account() !== entry.account) return gaveUp(entry, { trouble: "account" }, isInDoubt);
     const answer = await send(entry, body);
     if (answer.value || answer.refusal) {
+      if (answer.value?.num) rememberOwn(entry, answer.value);
       forget(entry.key);
       return answer;
     }

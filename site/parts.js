@@ -30,8 +30,11 @@ export function failed(answer, again) {
       el("p", {}, link("/", "Start page"))];
   }
   const retry = el("button", { type: "button", class: "main", onclick: again }, "Try again");
-  // A server that was stopped is started again within a moment.
-  setTimeout(() => { if (retry.isConnected && !document.hidden) again(); }, TRIES_EVERY);
+  // A server that was stopped is started again within a moment. A page that isn't seen waits.
+  const tryLater = () => setTimeout(() => {
+    if (retry.isConnected) (document.hidden ? tryLater : again)();
+  }, TRIES_EVERY);
+  tryLater();
   return [title("No answer"), el("p", {}, troubleWords(trouble)),
     el("p", {}, retry, " It is also tried again by itself.")];
 }
@@ -85,4 +88,5 @@ export function copyButton(text) {
 }
 
 /** A text of several lines as one paragraph: the registry takes no line breaks. */
-export const oneParagraph = (text) => text.trim().replace(/\s*[\r\n]+\s*/g, " ");
+export const oneParagraph = (text) => (
+  text.split(/[\r\n]+/).map((it) => it.trim()).filter(Boolean).join(" "));

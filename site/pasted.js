@@ -37,7 +37,7 @@ export function devicesIn(text) {
   const found = [];
   for (const line of text.split(/\r?\n| \| /)) {
     const below = SUBSYSTEM.exec(line);
-    if (!below) found.push(...numbersIn(line).map((it) => it.filter(Boolean)));
+    if (!below) numbersIn(line).forEach((it) => found.push(it.filter(Boolean)));
     else if (found.length) {
       found.at(-1).splice(2, 2, ...below.slice(1).map((it) => it.toLowerCase()));
     }

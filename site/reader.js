@@ -109,6 +109,10 @@ function take(state, line) {
   return 0;
 }
 
+/** The bytes of a file that was chosen; of one that is too large only so many that it shows. */
+export const bytesOf = async (file) => (
+  new Uint8Array(await file.slice(0, MOST_BYTES + 1).arrayBuffer()));
+
 /**
  * Reads a file.
  * @param {Uint8Array} bytes

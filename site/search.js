@@ -89,7 +89,7 @@ function distance(whole, own, words) {
 
 // Distances are small numbers: each has its bucket, and the first are taken without sorting all.
 function byNames({ paths, texts, owns, worths }, query, seen) {
-  const words = query.split(/\s+/);
+  const words = [...new Set(query.split(/\s+/))];
   const buckets = [];
   for (let at = 0; at < paths.length; at += 1) {
     const far = distance(texts[at], owns[at], words);

@@ -10,7 +10,7 @@ const REFUSALS = {
   8: "It isn't pending any more: somebody decided on it or withdrew it meanwhile.",
   9: "Only its author can withdraw a proposal.",
   10: "Nobody decides on their own proposal, or sets their own rank.",
-  11: "What it would be under isn't in the registry yet. That has to be approved first.",
+  11: "The entry that it would be below isn't in the registry yet. That has to be approved first.",
   12: "Other entries are under this one. They have to be removed first.",
   13: "Nothing would change: it is so already.",
   15: "The registry is full.",
@@ -31,9 +31,9 @@ const REFUSALS = {
 /** The kinds of faults of a file. */
 export const KINDS = {
   1: "the line isn't UTF-8 text",
-  2: "it is deeper (has more tabs in front) than anything can be there",
-  3: "there is nothing that it could be under",
-  4: "the number isn't so many hex digits and then a space or a tab",
+  2: "it has more tabs in front than any entry there can have",
+  3: "there is no entry above it that it could belong to",
+  4: "it doesn't begin with a number of the right length, in hex digits, and a space or a tab",
   5: "there is no name after the number",
   6: "the name has a control character or is longer than 1,000 bytes",
   7: "an earlier line has the same number already",

@@ -2,12 +2,13 @@
 
 import { account, rank } from "../account.js";
 import { carryOut } from "../carry.js";
+import { keepDraft } from "../drafts.js";
 import { canonical } from "../canonical.js";
 import { counted, el, fill, link, several } from "../dom.js";
 import * as names from "../names.js";
 import { title } from "../parts.js";
 import { hrefOf } from "../paths.js";
-import { read } from "../reader.js";
+import { bytesOf, read } from "../reader.js";
 import { compared, shown } from "../shown.js";
 import { steadyButton } from "../steady.js";
 import { KINDS } from "../words.js";
@@ -24,7 +25,8 @@ export const check = (context) => new Check(context, false).page();
 export const load = (context) => new Check(context, true).page();
 
 function faultLines(bytes, faulty) {
-  const lines = new TextDecoder().decode(bytes).split("\n");
+  // A mark of the byte order is part of the first line, and shown with it.
+  const lines = new TextDecoder("utf-8", { ignoreBOM: true }).decode(bytes).split("\n");
   const from = Math.max(0, faulty - 1 - AROUND);
   const row = (line, at) => {
     const number = from + at + 1;
@@ -61,7 +63,7 @@ function differenceGroup(words, { count, rows }) {
 
 function differenceWords({ added, renamed, missing, same }) {
   return [
-    el("p", {}, `Beside the published file: ${counted(added.count)} new,`
+    el("p", {}, `Compared with the published file: ${counted(added.count)} new,`
       + ` ${counted(renamed.count)} with another name, ${counted(same)} the same,`
       + ` ${counted(missing.count)} only there.`),
     differenceGroup("new", added),
@@ -73,6 +75,7 @@ function differenceWords({ added, renamed, missing, same }) {
 class Check {
   constructor({ go }, isImport) {
     this.go = go;
+    this.turn = 0;
     this.isImport = isImport;
     this.result = el("div", { class: "result", role: "status" });
     this.place = el("div");
@@ -84,7 +87,9 @@ class Check {
   async takeFile(file) {
     if (!file) return;
     this.text.value = "";
-    await this.judge(file.name, new Uint8Array(await file.arrayBuffer()));
+    const mine = this.turn += 1;
+    const bytes = await bytesOf(file);
+    if (mine === this.turn) await this.judge(file.name, bytes);
   }
 
   fileBox() {
@@ -104,6 +109,7 @@ class Check {
   }
 
   async judge(name, bytes) {
+    const mine = this.turn += 1;
     const outcome = read(bytes);
     fill(this.place);
     URL.revokeObjectURL(this.href);
@@ -114,6 +120,8 @@ class Check {
     const save = el("a", { href: this.href, download: "pci.ids", class: "button" },
       "Save it in canonical form");
     const beside = await names.difference(outcome.names);
+    // Another file may have been judged meanwhile.
+    if (mine !== this.turn) return;
     fill(this.result,
       el("p", { class: "good" }, `${shownName(name)} has no fault: ${count}.`), spokeHere(),
       el("p", {}, save, " ", el("small", {}, "Comments, version and date are not in it.")),
@@ -154,15 +162,16 @@ class Check {
       event.preventDefault();
       this.judge("The text", new TextEncoder().encode(this.text.value));
     };
+    const typed = el("form", { onsubmit: submit },
+      el("label", { for: "paste" }, "Or its text"), this.text,
+      el("p", { class: "buttons" }, el("button", { class: "main" }, "Check")));
+    keepDraft(typed);
     return [
       title(this.isImport ? "Import" : "Check a file"),
       this.isImport ? importWords() : el("p", {}, "Is your ", el("code", {}, "pci.ids"),
         " in order, and what does it have that the registry hasn't? The file stays in your"
         + " browser."),
-      this.fileBox(),
-      el("form", { onsubmit: submit }, el("label", { for: "paste" }, "Or its text"), this.text,
-        el("p", { class: "buttons" }, el("button", { class: "main" }, "Check"))),
-      this.result, this.place,
+      this.fileBox(), typed, this.result, this.place,
       this.isImport ? null : el("p", {}, link("/load", "Import a file"), " (senior moderators)"),
     ];
   }

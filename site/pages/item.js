@@ -29,7 +29,8 @@ async function found(path) {
     ...chain.map((it) => ask(`/read/${it}`)),
   ]);
   const own = answers.at(-1);
-  if (own.trouble) return (await foundInFile(path, chain)) ?? { answer: own };
+  const silent = [own, children].find((it) => it.trouble);
+  if (silent && !own.refusal) return (await foundInFile(path, chain)) ?? { answer: silent };
   const known = new Map(chain.map((it, at) => [it, answers[at].value?.name]));
   return { answer: own, known, below: children.value ?? [] };
 }

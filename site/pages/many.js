@@ -2,14 +2,15 @@
 // loads the page again in the middle goes on where it stopped, and nothing is proposed twice.
 
 import { account } from "../account.js";
+import { report } from "../bar.js";
 import { faultWords } from "../carry.js";
-import { forgetPending, rememberOwn } from "../detours.js";
+import { forgetPending } from "../detours.js";
 import { draftOf, keepDraft } from "../drafts.js";
 import { el, fill, link, several } from "../dom.js";
 import { askToLogIn } from "../login.js";
 import * as names from "../names.js";
 import { begin, form, newKey, settle } from "../outbox.js";
-import { keep } from "../kept.js";
+import { keep, recall } from "../kept.js";
 import { oneParagraph, title } from "../parts.js";
 import { devicesIn } from "../pasted.js";
 import { hrefOf, parse } from "../paths.js";
@@ -20,12 +21,16 @@ import { answerWords } from "../words.js";
 import { nameFault, noteBox, noteFault } from "./proposing.js";
 
 const HERE = "/propose?many=yes";
-const NAMED = /^\s*([0-9a-f]{4}):([0-9a-f]{4})(?: ([0-9a-f]{4}):([0-9a-f]{4}))?\s+(\S.*?)\s*$/i;
+const ROWS = `draft:${HERE}#rows`;
+const NAMED = /^\s*([0-9a-f]{4}):([0-9a-f]{4})(?: ([0-9a-f]{4}):([0-9a-f]{4}))?\s+(\S.*)$/i;
 const OF_LSPCI = /\[[0-9a-f]{4}\]|\(rev |: /i;
 
-/** Has the page of many begin with these rows: { path, name }. */
+/** Has the page of many go on with these rows: { path, name }, behind those that aren't done. */
 export function beginMany(rows) {
-  keep("sessionStorage", `draft:${HERE}#rows`, rows);
+  const before = (recall("sessionStorage", ROWS) ?? []).filter((it) => !it.num);
+  const taken = new Set(before.filter((it) => it.key || it.name).map((it) => it.path));
+  const fresh = rows.filter((it) => !taken.has(it.path));
+  keep("sessionStorage", ROWS, [...before.filter((it) => taken.has(it.path)), ...fresh]);
   return HERE;
 }
 
@@ -33,21 +38,23 @@ const pathOf = ([a, b, c, d]) => (d ? `PC/${a}/${b}/${c}${d}` : `PC/${a}/${b}`);
 
 /** The rows that a text asks for: { path, name }, one for each path. */
 function rowsIn(text) {
-  const rows = text.split(/\r?\n/).flatMap((line) => {
+  const named = new Map();
+  const others = [];
+  for (const line of text.split(/\r?\n/)) {
     const found = NAMED.exec(line);
-    if (!found || OF_LSPCI.test(found[5])) return [];
-    const numbers = found.slice(1, 5).filter(Boolean).map((it) => it.toLowerCase());
-    return [{ path: pathOf(numbers), name: found[5] }];
-  });
-  const known = new Set(rows.map((it) => it.path));
-  const others = devicesIn(text).map((it) => ({ path: pathOf(it), name: "" }));
-  return [...rows, ...others.filter((it) => !known.has(it.path))];
+    const numbers = found?.slice(1, 5).filter(Boolean).map((it) => it.toLowerCase());
+    if (found && !OF_LSPCI.test(found[5])) named.set(pathOf(numbers), found[5].trimEnd());
+    else others.push(line);
+  }
+  const nameless = devicesIn(others.join("\n")).map(pathOf).filter((it) => !named.has(it));
+  return [...[...named].map(([path, name]) => ({ path, name })),
+    ...[...new Set(nameless)].map((path) => ({ path, name: "" }))];
 }
 
 /** A row: a path, what it is called now, and the name that is proposed. */
 class Row {
-  constructor({ path, name, key, num }, now, changed) {
-    Object.assign(this, { path, key, num, now, changed });
+  constructor({ path, name, key, by, num }, now, changed) {
+    Object.assign(this, { path, key, by, num, now, changed });
     this.place = el("div");
     this.box = el("input", {
       id: `name-${path}`, value: name ?? "", maxlength: 1_000, autocomplete: "off",
@@ -67,11 +74,13 @@ class Row {
 
   /** What is kept of it. */
   get kept() {
-    return { path: this.path, name: this.box.value, key: this.key, num: this.num };
+    return { path: this.path, name: this.box.value, key: this.key, by: this.by, num: this.num };
   }
 
+  // A key stands for the command of the account that sent it: another one's would be a second.
   get isOpen() {
-    return !this.num && this.box.value !== "" && this.box.value !== this.now;
+    const mayBeSent = !this.key || this.by === account();
+    return !this.num && mayBeSent && this.box.value !== "" && this.box.value !== this.now;
   }
 
   // A name whose outcome isn't known stays as it was sent: its key stands for it.
@@ -80,25 +89,28 @@ class Row {
     this.drop.hidden = this.box.readOnly;
     const done = this.num ? el("p", { class: "good" }, "Proposed as ",
       link(`/proposals/${this.num}`, `#${this.num}`), ".") : null;
-    const owed = this.key && !this.num ? faultWords("No answer came to this one yet.") : null;
+    const owed = this.key && !this.num
+      ? faultWords(`No answer came to this one yet. It was sent as ${this.by}.`) : null;
     fill(this.place, words ?? done ?? owed);
   }
 
   /** Sends it; resolves to the answer. `keepAll` keeps the rows before it is sent. */
   async send(note, keepAll) {
     const name = this.box.value;
+    const isInDoubt = this.key !== undefined;
     this.key ??= newKey();
+    this.by = account();
     this.show("");
     keepAll();
     const entry = await begin("/submit", form({ path: this.path, name, note }),
       `Propose “${spelled(name)}” for ${this.path}`, this.key);
     tellProgress(entry.key, this.place);
-    const answer = await settle(entry);
+    const answer = await settle({ ...entry, isInDoubt });
     endProgress(entry.key);
+    if (!this.place.isConnected) report(entry, answer);
     this.num = answer.value?.num;
     // A refused command keeps no reply: its key is free, and so is the row.
     if (answer.refusal || answer.certain) this.key = undefined;
-    if (this.num) rememberOwn(entry.account, { num: this.num, path: this.path, name });
     keepAll();
     this.show(this.num ? null : faultWords(answerWords(answer)));
     return answer;
@@ -181,11 +193,14 @@ class Many {
     }
   }
 
-  // One after the other; who leaves the page finds the rest where it was.
+  // One after the other; who leaves the page finds the rest where it was. What is left out, cleared
+  // or emptied meanwhile isn't sent, and nothing under an account that came in its place.
   async sendAll() {
     const note = oneParagraph(this.note.value);
+    const by = account();
     for (const row of this.rows.filter((it) => it.isOpen)) {
-      if (!this.list.isConnected) return;
+      if (!this.list.isConnected || account() !== by) return;
+      if (row.isDropped || !row.isOpen) continue;
       const answer = await row.send(note, () => this.keepAll());
       forgetPending();
       if (!answer.value && !answer.refusal) return;

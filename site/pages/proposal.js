@@ -4,7 +4,7 @@ import { account, learnRank, rank } from "../account.js";
 import { ask } from "../api.js";
 import { carryOut, faultWords } from "../carry.js";
 import { keepDraft } from "../drafts.js";
-import { el, fill, utf8Length } from "../dom.js";
+import { el, fill, link, several, utf8Length } from "../dom.js";
 import { learnName } from "../names.js";
 import { tell } from "../notice.js";
 import { chainOf, failed, kindOf, oneParagraph, title, wishOf } from "../parts.js";
@@ -14,6 +14,7 @@ import { steadyButton } from "../steady.js";
 import { RANKS, STATES } from "../words.js";
 
 const MOST_TEXT = 4_000;
+const MOST_REMARKS = 200;
 const NEEDS_ACCOUNT = "Decisions are made under an account.";
 
 /** The page of a proposal. */
@@ -24,13 +25,15 @@ export default async function proposal({ number, again }) {
   const chain = withParents(it.path);
   const answers = await Promise.all(chain.map((path) => ask(`/read/${path}`)));
   const names = new Map(chain.map((path, at) => [path, answers[at].value?.name]));
+  const own = answers.at(-1);
+  const isIdle = it.name === null ? own.refusal !== undefined : own.value?.name === it.name;
   const done = (words) => { tell(words, 4); again(); };
   const text = `Proposal ${it.num}: ${it.name === null ? "remove" : it.name} · ${it.path}`;
   return [
     title(text, `Proposal ${it.num} `,
       el("span", { class: `state ${it.state}` }, STATES[it.state])),
     facts(it, names),
-    it.state === "pending" ? decisions(it, names.get(it.path), done) : null,
+    it.state === "pending" ? decisions(it, isIdle, done) : null,
     el("section", {}, el("h2", {}, "Comments"), remarks(it), commentForm(it, done)),
   ];
 }
@@ -51,10 +54,17 @@ function facts(it, names) {
     it.reason ? row("Reason", shown(it.reason)) : null);
 }
 
+// Anybody with an account may comment, as often as they like: the page bears any number.
 function remarks(it) {
   if (it.remarks.length === 0) return el("p", { class: "none" }, "None yet.");
-  return el("ol", { class: "remarks" }, it.remarks.map((remark) => el("li", {},
-    el("b", {}, remark.author), el("p", { class: "words" }, shown(remark.text)))));
+  const latest = it.remarks.slice(-MOST_REMARKS);
+  const left = it.remarks.length - latest.length;
+  const all = link(`/submission/${it.num}?format=text`, "all as text");
+  return [
+    left ? el("p", {}, `The latest ${MOST_REMARKS}; ${several(left, "earlier one")}: `, all) : null,
+    el("ol", { class: "remarks", start: left + 1 }, latest.map((remark) => el("li", {},
+      el("b", {}, remark.author), el("p", { class: "words" }, shown(remark.text))))),
+  ];
 }
 
 function commentForm(it, done) {
@@ -87,7 +97,7 @@ function commentForm(it, done) {
 }
 
 // What an author may do, and what others may.
-function decisions(it, now, done) {
+function decisions(it, isIdle, done) {
   const needed = rankFor(it.path, it.name === null);
   if (!account()) {
     return el("p", { class: "aside" }, `Log in to comment, to withdraw your own, or, as a`
@@ -97,7 +107,7 @@ function decisions(it, now, done) {
   if (rank().most < needed) {
     return el("p", { class: "aside" }, `A ${RANKS[needed]} or above decides on this.`);
   }
-  return decision(it, needed, now, done);
+  return decision(it, needed, isIdle, done);
 }
 
 function withdrawal(it, done) {
@@ -114,9 +124,11 @@ function withdrawal(it, done) {
 
 /** Sends a decision, and learns from its answer. Returns whether it was accepted. */
 export async function decide(it, needed, command) {
+  const by = account();
   const answer = await carryOut({ ...command, why: NEEDS_ACCOUNT });
-  if (answer?.value) learnRank(needed, true);
-  else if (answer?.refusal?.refused === 5) learnRank(needed, false);
+  const isSame = by === null || by === account();
+  if (isSame && answer?.value) learnRank(needed, true);
+  else if (isSame && answer?.refusal?.refused === 5) learnRank(needed, false);
   if (answer?.value && command.route === "/approve") learnName(it.path, it.name);
   return answer;
 }
@@ -126,7 +138,7 @@ export const approvalWords = (it) => (
   it.name === null ? `Approve ${it.num}: remove ${it.path}`
     : `Approve ${it.num}: “${spelled(it.name)}” for ${it.path}`);
 
-function decision(it, needed, now, done) {
+function decision(it, needed, isIdle, done) {
   const place = el("div");
   const onclick = async () => {
     const answer = await decide(it, needed, {
@@ -148,7 +160,6 @@ function decision(it, needed, now, done) {
   const form = el("form", { class: "reject", onsubmit: submit },
     el("label", { for: "reason" }, "Reason"), reason, reject);
   const draft = keepDraft(form, "reason");
-  const isIdle = it.name === null ? now === undefined : now === it.name;
   return el("div", { class: "decide" },
     isIdle ? faultWords("Nothing would change: it is so already.") : null,
     el("p", { class: "buttons" }, approve), form, place);

@@ -1,9 +1,8 @@
 // Proposes a name, a better one, or a removal.
 
-import { account } from "../account.js";
 import { ask } from "../api.js";
 import { carryOut, faultWords } from "../carry.js";
-import { pendingAt, rememberOwn } from "../detours.js";
+import { pendingAt } from "../detours.js";
 import { draftOf, keepDraft } from "../drafts.js";
 import { el, fill, link } from "../dom.js";
 import { tell } from "../notice.js";
@@ -81,7 +80,7 @@ class Proposal {
     const before = draftOf().read();
     const given = parse(query.get("path") ?? "");
     const under = parse(query.get("under") ?? "");
-    const asked = KIND_WORDS[query.get("kind")] ? query.get("kind") : "device";
+    const asked = Object.hasOwn(KIND_WORDS, query.get("kind")) ? query.get("kind") : "device";
     const kind = before?.kind ?? given?.kind ?? asked;
     const digits = before ? [0, 1, 2, 3].map((it) => before[`number-${it}`])
       : given?.numbers ?? under?.numbers ?? [];
@@ -202,14 +201,12 @@ class Proposal {
     const name = this.remove.checked ? null : this.name.value;
     const wish = name === null ? { remove: "yes" } : { name };
     const words = name === null ? "to remove" : `“${spelled(name)}” for`;
-    const by = account();
     const answer = await carryOut({
       route: "/submit", fields: { path, ...wish, note: oneParagraph(this.note.value) },
       about: `Propose ${words} ${path}`, button: this.button, place: this.place,
       why: "Proposals are made under an account.",
     });
     if (!answer?.value) return;
-    rememberOwn(by ?? account(), { num: answer.value.num, path, name });
     this.draft.clear();
     tell(`Your proposal has the number ${answer.value.num}.`, 5);
     this.go(`/proposals/${answer.value.num}`);

@@ -221,6 +221,59 @@ def forgotten(cases, world, browser):
     cases.equal("once: and forget them", browser.owed(), [])
 
 
+def unkept(cases, world, browser):
+    """A browser that refuses storage and locks sends commands all the same."""
+    driver = browser.driver
+    made = driver.execute_cdp_cmd("Page.addScriptToEvaluateOnNewDocument", {"source": (
+        "const no = () => new DOMException('no', 'SecurityError');"
+        "LockManager.prototype.request = LockManager.prototype.query"
+        " = () => Promise.reject(no()); Storage.prototype.setItem = () => { throw no(); };"
+        "BroadcastChannel = class { constructor() { throw no(); } };")})
+    propose(browser, "a045", "Nothing is kept")
+    browser.click("form.propose button.main")
+    browser.heading("Proposal ")
+    cases.equal("once: a browser that keeps nothing", count(world, "a045"), 1)
+    driver.execute_cdp_cmd("Page.removeScriptToEvaluateOnNewDocument", made)
+
+
+def others_key(cases, world, browser):
+    """A row of many whose outcome is in doubt is sent again by its account alone, and acts once."""
+    world.spoiler.set("lose", left=50)
+    browser.go("/propose?many=yes&text=8086:a046%20In%20doubt")
+    browser.click("main > .buttons button.main")
+    browser.has("It isn't known yet", ".many")
+    browser.click(".many .waiting .buttons button:last-child")
+    browser.has("kept at the top", ".many")
+    world.spoiler.set("pass")
+    for name in ("dora", "alice"):
+        browser.click("#log")
+        browser.wait(lambda: browser.text("#log") == "Log in", "logged out")
+        browser.log_in(name)
+        browser.has("It was sent as alice", ".many")
+        hidden = browser.js("return document.querySelector('main > .buttons .main').hidden")
+        cases.equal(f"once: the row in doubt as {name}", hidden, name == "dora")
+    browser.click("main > .buttons button.main")
+    browser.has("Proposed as", ".many")
+    told = [it["author"] for it in world.pending("PC/8086/a046")]
+    cases.equal("once: one proposal, of its account", (told, browser.owed()), (["alice"], []))
+
+
+def logged_out_elsewhere(cases, browser):
+    """A page that was away while another tab logged out doesn't take its login up again."""
+    driver = browser.driver
+    first = driver.current_window_handle
+    driver.get(browser.base + "/pci.ids")
+    driver.switch_to.new_window("tab")
+    browser.go("/help").log_in("alice")
+    browser.click("#log")
+    driver.close()
+    driver.switch_to.window(first)
+    driver.back()
+    browser.ready()
+    cases.equal("once: logged out in another tab", browser.text("#log"), "Log in")
+    browser.log_in("alice")
+
+
 def drafts(cases, world, browser):
     """What was typed is there again after a reload, a key in the search box and Back, the skip
     link, and a decision on the same page."""
@@ -311,6 +364,9 @@ def run(cases):
         killed(cases, world, alice)
         late(cases, world, alice)
         forgotten(cases, world, alice)
+        unkept(cases, world, alice)
+        others_key(cases, world, alice)
+        logged_out_elsewhere(cases, alice)
         drafts(cases, world, alice)
         mona.click("#log")
         mona.wait(lambda: mona.text("#log") == "Log in", "logged out")
