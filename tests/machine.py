@@ -75,6 +75,7 @@ def install(story):
     story.works("installation", "dpkg -i /root/pciids.deb /root/pciids-registry.deb")
     loosen(story.machine)
     story.is_up("a new registry answers")
+    story.same("the way to its port is up", "systemctl is-active pciids-http", "active")
     units = "pciids.service pciids-http.socket pciids-publish.timer pciids-backup.timer"
     story.same("what is enabled", f"systemctl is-enabled {units}", "\n".join(["enabled"] * 4))
     story.same("the web server waits for a certificate", "systemctl is-enabled pciids-web", "disabled", 1)
@@ -234,7 +235,10 @@ def upgraded(story, folder):
     story.same("the registry stays", f"{ASK}/pci.ids", "# PCI ID registry\n8086  Intel")
     story.same("an edited file stays", "grep -c 'listen \\[::\\]' /etc/pciids/nginx/pciids-site.conf", "0", 1)
     story.same("an unedited one is the new one", "tail -1 /etc/pciids/nginx/pciids-limits.conf", "# Another version.")
-    story.machine.until(f"{ASK_SITE} -f -o /dev/null https://{HOST}/pending")
+    active = "systemctl is-active pciids-http pciids-web"
+    story.same("the web server goes on after an upgrade", active, "active\nactive")
+    up = story.machine.until(f"{ASK_SITE} -f -o /dev/null https://{HOST}/pending")
+    story.cases.equal("machine: the site answers after an upgrade", up, True)
     told = story.post("carl", "/submit", "path=PC/10de&name=NVIDIA")
     story.cases.equal("machine: passwords stay", told, "ok 2")
 
