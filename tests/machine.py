@@ -2,7 +2,6 @@
 then stops, backup, restore, upgrade, removal and purge."""
 import os
 import re
-import subprocess
 import tempfile
 
 import built_packages
@@ -13,7 +12,6 @@ HOST = "pciids.example.org"
 UNITS = ("pciids", "pciids-http", "pciids-publish", "pciids-backup", "pciids-restore@x", "pciids-web")
 # The most that `systemd-analyze security` may say of a unit.
 EXPOSURE = 1.5
-LIMIT = 768 << 20
 ASK = "curl -s --max-time 60 --unix-socket /run/pciids/http.sock http://localhost"
 ASK_SITE = (
     f"curl -s --max-time 60 --cacert /etc/pciids/certificate.pem"
@@ -54,26 +52,10 @@ class Story:
         return self.machine.run(f"{words} 'https://{HOST}{path}?format=text'")[1].strip()
 
 
-def loosen(machine):
-    """A program that was built with a sanitizer does not start below the unit's limit of memory."""
-    words = ["prlimit", f"--as={LIMIT}", program.WHOLE, "--version"]
-    if subprocess.run(words, stdout=subprocess.DEVNULL, stderr=subprocess.DEVNULL).returncode == 0:
-        return
-    print("machine: the program needs more than LimitAS=768M to start: tried without that limit")
-    for unit in ("pciids", "pciids-backup", "pciids-restore@"):
-        machine.run(
-            f"mkdir -p /etc/systemd/system/{unit}.service.d;"
-            f" printf '[Service]\\nLimitAS=infinity\\nMemoryMax=8G\\n'"
-            f" > /etc/systemd/system/{unit}.service.d/test.conf"
-        )
-    machine.run("systemctl daemon-reload; systemctl restart pciids")
-
-
 def install(story):
     for name in ("pciids", "pciids-registry"):
         story.machine.put(built_packages.package(name), f"/root/{name}.deb")
     story.works("installation", "dpkg -i /root/pciids.deb /root/pciids-registry.deb")
-    loosen(story.machine)
     story.is_up("a new registry answers")
     story.same("the way to its port is up", "systemctl is-active pciids-http", "active")
     units = "pciids.service pciids-http.socket pciids-publish.timer pciids-backup.timer"
