@@ -71,7 +71,7 @@ def linted(cases):
         cases.skipped("keeping: shellcheck", "shellcheck is not installed")
         return
     paths = [os.path.join(TOP, "deploy", it) for it in SCRIPTS]
-    for name in ("postinst", "prerm", "postrm"):
+    for name in ("prerm", "postrm"):
         paths.append(os.path.join(TOP, "debian", f"pciids-registry.{name}"))
     cases.equal("keeping: shellcheck", ran("shellcheck", *paths), (0, ""))
 
@@ -106,7 +106,8 @@ def holds(cases):
             cases.equal(f"hold: {state}, stopped", it.state(), ("inactive", ["stopped"]))
             cases.equal(f"hold: {state}, released", it.hold("release", "a"), 0)
             cases.equal(f"hold: {state}, running", it.state(), ("active", []))
-            cases.equal("hold: released once more", (it.hold("release", "a"), it.state()), (0, ("active", [])))
+            got = (it.hold("release", "a"), it.state())
+            cases.equal("hold: released once more", got, (0, ("active", [])))
     for state in ("inactive", "failed"):
         with held(state) as it:
             it.hold("take", "a")
@@ -120,7 +121,8 @@ def holds(cases):
         it.hold("take", "a")
         write(os.path.join(it.folder, "broken"), "")
         cases.equal("hold: a start that fails", it.hold("release", "a"), 1)
-        cases.equal("hold: the next release starts it", (it.hold("release", "a"), it.state()), (0, ("active", [])))
+        got = (it.hold("release", "a"), it.state())
+        cases.equal("hold: the next release starts it", got, (0, ("active", [])))
     # Whichever tool kills `take` or `release`, a `release` afterwards leaves a running server.
     for number in range(1, 12):
         with held("active") as it:
@@ -145,7 +147,8 @@ def killing(folder, tools, number):
     write(counter, "")
     for tool in tools:
         real = shutil.which(tool)
-        write(os.path.join(folder, tool), KILLS.format(counter=counter, number=number, tool=real), 0o755)
+        script = KILLS.format(counter=counter, number=number, tool=real)
+        write(os.path.join(folder, tool), script, 0o755)
 
     def has_killed():
         for tool in tools:
@@ -156,7 +159,7 @@ def killing(folder, tools, number):
 
 
 class Room:
-    """A registry, its copies and the folder of its mirror, with a program that stands for pciids."""
+    """A registry, its copies and the folder of its mirror; another program stands for pciids."""
 
     def __init__(self, folder):
         self.folder = folder
@@ -175,10 +178,12 @@ class Room:
 
     def now(self):
         """The registry's file and its log."""
-        return tuple(read(os.path.join(self.registry, it)) for it in ("registry.db", "registry.db-wal"))
+        names = ("registry.db", "registry.db-wal")
+        return tuple(read(os.path.join(self.registry, it)) for it in names)
 
     def copy(self):
-        return ran(os.path.join(LIB, "backup"), "copy", self.registry, self.copies, tools=self.tools)
+        backup = os.path.join(LIB, "backup")
+        return ran(backup, "copy", self.registry, self.copies, tools=self.tools)
 
     def keep(self, number):
         words = ("keep", self.copies, str(number), self.program)
@@ -227,7 +232,8 @@ def backups(cases):
         write(os.path.join(it.registry, "registry.db-wal"), "torn")
         before = it.kept()
         it.copy()
-        cases.equal("backup: one that does not open is not kept", (it.keep(1)[0], it.kept()), (1, before))
+        got = (it.keep(1)[0], it.kept())
+        cases.equal("backup: one that does not open is not kept", got, (1, before))
         cases.equal("backup: nothing was copied", it.keep(1)[0], 1)
     odd_files(cases)
     broken_tools(cases)
@@ -240,10 +246,12 @@ def odd_files(cases):
             path = os.path.join(it.registry, name)
             os.remove(path)
             os.symlink("/etc/hostname", path)
-            cases.equal(f"backup: {name} is a link", (it.copy()[0], it.keep(1)[0], it.kept()), (1, 1, []))
+            got = (it.copy()[0], it.keep(1)[0], it.kept())
+            cases.equal(f"backup: {name} is a link", got, (1, 1, []))
             os.remove(path)
             os.mkfifo(path)
-            cases.equal(f"backup: {name} is a pipe", (it.copy()[0], it.keep(1)[0], it.kept()), (1, 1, []))
+            got = (it.copy()[0], it.keep(1)[0], it.kept())
+            cases.equal(f"backup: {name} is a pipe", got, (1, 1, []))
     with room() as it:
         os.remove(os.path.join(it.registry, "registry.db"))
         cases.equal("backup: no registry", it.copy()[0], 1)
@@ -272,14 +280,17 @@ def restores(cases):
         cases.equal("restore: swapped", (status, it.now(), "restored" in told), (0, ONE, True))
         cases.equal("restore: the mirror begins anew", os.listdir(it.mirror), [])
         old = [name for name in os.listdir(it.registry) if name.startswith("replaced.")]
-        where = [os.path.join(it.registry, old[0], name) for name in ("registry.db", "registry.db-wal")]
+        names = ("registry.db", "registry.db-wal")
+        where = [os.path.join(it.registry, old[0], name) for name in names]
         cases.equal("restore: the former one is kept", tuple(map(read, where)), TWO)
-        cases.equal("restore: nothing is prepared any more", it.restore("swap", it.registry, it.mirror)[0], 1)
+        status = it.restore("swap", it.registry, it.mirror)[0]
+        cases.equal("restore: nothing is prepared any more", status, 1)
         bad = os.path.join(it.copies, "2000-01-01T000000Z")
         shutil.copytree(os.path.join(it.copies, name), bad)
         with gzip.open(os.path.join(bad, "registry.db-wal.gz"), "wb") as file:
             file.write(b"torn")
-        cases.equal("restore: a copy that does not open", (it.prepare("2000-01-01T000000Z")[0], it.now()), (1, ONE))
+        got = (it.prepare("2000-01-01T000000Z")[0], it.now())
+        cases.equal("restore: a copy that does not open", got, (1, ONE))
         for odd in ("none", "../registry", "a;b"):
             cases.equal(f"restore: {odd}", (it.prepare(odd)[0], it.now()), (1, ONE))
     swaps_stopped(cases)
@@ -290,7 +301,8 @@ def swaps_stopped(cases):
     once it is settled the registry is the old one or the new one, with its own log."""
     tools = ("mv", "cp", "ln", "rm", "sync", "mkdir", "find", "flock", "date")
     outcomes = set()
-    for kind, body in (("killed", KILLS), ("failing", KILLS.replace("kill -KILL $PPID; sleep 1; ", ""))):
+    fails = KILLS.replace("kill -KILL $PPID; sleep 1; ", "")
+    for kind, body in (("killed", KILLS), ("failing", fails)):
         for number in range(1, 60):
             with room() as it:
                 it.copy()

@@ -2,7 +2,6 @@
 then stops, backup, restore, upgrade, removal and purge."""
 import os
 import re
-import subprocess
 import tempfile
 
 import built_packages
@@ -10,10 +9,9 @@ import program
 from machine_room import Machine
 
 HOST = "pciids.example.org"
-UNITS = ("pciids", "pciids-http", "pciids-publish", "pciids-backup", "pciids-restore@x", "pciids-web")
+UNITS = ["pciids"] + [f"pciids-{it}" for it in ("http", "publish", "backup", "restore@x", "web")]
 # The most that `systemd-analyze security` may say of a unit.
 EXPOSURE = 1.5
-LIMIT = 768 << 20
 ASK = "curl -s --max-time 60 --unix-socket /run/pciids/http.sock http://localhost"
 ASK_SITE = (
     f"curl -s --max-time 60 --cacert /etc/pciids/certificate.pem"
@@ -43,7 +41,8 @@ class Story:
 
     def fails(self, name, command):
         status, told = self.machine.run(command)
-        self.cases.equal(f"machine: {name} is refused", (status != 0, told if not status else ""), (True, ""))
+        got = (status != 0, told if not status else "")
+        self.cases.equal(f"machine: {name} is refused", got, (True, ""))
 
     def is_up(self, name):
         """The server answers."""
@@ -54,30 +53,16 @@ class Story:
         return self.machine.run(f"{words} 'https://{HOST}{path}?format=text'")[1].strip()
 
 
-def loosen(machine):
-    """A program that was built with a sanitizer does not start below the unit's limit of memory."""
-    words = ["prlimit", f"--as={LIMIT}", program.WHOLE, "--version"]
-    if subprocess.run(words, stdout=subprocess.DEVNULL, stderr=subprocess.DEVNULL).returncode == 0:
-        return
-    print("machine: the program needs more than LimitAS=768M to start: tried without that limit")
-    for unit in ("pciids", "pciids-backup", "pciids-restore@"):
-        machine.run(
-            f"mkdir -p /etc/systemd/system/{unit}.service.d;"
-            f" printf '[Service]\\nLimitAS=infinity\\nMemoryMax=8G\\n'"
-            f" > /etc/systemd/system/{unit}.service.d/test.conf"
-        )
-    machine.run("systemctl daemon-reload; systemctl restart pciids")
-
-
 def install(story):
     for name in ("pciids", "pciids-registry"):
         story.machine.put(built_packages.package(name), f"/root/{name}.deb")
     story.works("installation", "dpkg -i /root/pciids.deb /root/pciids-registry.deb")
-    loosen(story.machine)
     story.is_up("a new registry answers")
+    story.same("the way to its port is up", "systemctl is-active pciids-http", "active")
     units = "pciids.service pciids-http.socket pciids-publish.timer pciids-backup.timer"
     story.same("what is enabled", f"systemctl is-enabled {units}", "\n".join(["enabled"] * 4))
-    story.same("the web server waits for a certificate", "systemctl is-enabled pciids-web", "disabled", 1)
+    enabled = "systemctl is-enabled pciids-web"
+    story.same("the web server waits for a certificate", enabled, "disabled", 1)
     story.same("no unit failed", "systemctl --failed --plain --no-legend", "")
     story.same(
         "who owns what",
@@ -91,6 +76,11 @@ def install(story):
     )
 
 
+def by(user):
+    """What stands before a command that another user runs."""
+    return f"setpriv --reuid={user} --regid={user} --clear-groups"
+
+
 def sandbox(story):
     for unit in UNITS:
         told = story.machine.run(f"systemd-analyze security --no-pager {unit}.service | tail -1")[1]
@@ -100,9 +90,10 @@ def sandbox(story):
     ask = ASK + "/account -H 'X-Account: root' -d 'who=eve&rank=3'"
     story.fails("the port, from the host", "curl -s --max-time 5 http://127.0.0.1:8086/pending")
     for user in ("www-data", "nobody", "pciids"):
-        story.fails(f"the socket, by {user}", f"setpriv --reuid={user} --regid={user} --clear-groups {ask}")
-    story.works("the socket, by the web server", f"setpriv --reuid=pciids-web --regid=pciids-web --clear-groups {IS_UP}")
-    story.same("nothing of the service runs as root", "ps -eo user:20,args | grep -c '^root .*[/ ]pciids '", "0", 1)
+        story.fails(f"the socket, by {user}", f"{by(user)} {ask}")
+    story.works("the socket, by the web server", f"{by('pciids-web')} {IS_UP}")
+    as_root = "ps -eo user:20,args | grep -c '^root .*[/ ]pciids '"
+    story.same("nothing of the service runs as root", as_root, "0", 1)
 
 
 def accounts(story):
@@ -135,13 +126,16 @@ def moderated(story):
         " chgrp pciids-web /etc/pciids/key.pem; chmod 640 /etc/pciids/key.pem",
     )
     # The machine has no IPv6.
-    story.works("a site without IPv6", "sed -i '/listen \\[::\\]/d' /etc/pciids/nginx/pciids-site.conf")
+    edit = "sed -i '/listen \\[::\\]/d' /etc/pciids/nginx/pciids-site.conf"
+    story.works("a site without IPv6", edit)
     story.works("the web server starts", "systemctl enable --now pciids-web")
     page = f"{ASK_SITE} -H 'Accept: text/html' -o /dev/null -w '%{{http_code}} %{{redirect_url}}'"
     up = story.machine.until(f"{ASK_SITE} -f -o /dev/null https://{HOST}/")
     story.cases.equal("machine: the web server answers", up, True)
-    story.same("http leads to https", f"{page} http://{HOST}/vendors", f"301 https://{HOST}/vendors")
-    story.cases.equal("machine: a submission", story.post("carl", "/submit", "path=PC/8086&name=Intel"), "ok 1")
+    address = f"{HOST}/vendors"
+    story.same("http leads to https", f"{page} http://{address}", f"301 https://{address}")
+    told = story.post("carl", "/submit", "path=PC/8086&name=Intel")
+    story.cases.equal("machine: a submission", told, "ok 1")
     told = story.post("carl", "/approve", "num=1")
     story.cases.equal("machine: a contributor does not decide", told, "refused 5 RankTooLow")
     story.cases.equal("machine: an approval", story.post("anna", "/approve", "num=1"), "ok")
@@ -181,7 +175,8 @@ def kill_backup(story):
     """A backup that hangs in its copy, with the server stopped, is killed."""
     place = "/run/systemd/system/pciids-backup.service.d"
     story.machine.run(
-        f"mkdir -p {place}; printf '[Service]\\nExecStartPre=/bin/sleep 600\\n' > {place}/hang.conf;"
+        f"mkdir -p {place};"
+        f" printf '[Service]\\nExecStartPre=/bin/sleep 600\\n' > {place}/hang.conf;"
         " systemctl daemon-reload; systemctl start --no-block pciids-backup"
     )
     held = story.machine.until(f"test -L {MARK} && pgrep -x sleep")
@@ -197,8 +192,10 @@ def kept(story):
     story.works("a backup", "systemctl start pciids-backup")
     story.is_up("the server is back after a backup")
     copy = story.machine.run("ls /var/backups/pciids")[1].strip()
-    story.same("what a copy is", f"ls /var/backups/pciids/{copy}", "pci.ids.gz\nregistry.db-wal.gz\nregistry.db.gz")
-    story.cases.equal("machine: a later name", story.post("carl", "/submit", "path=PC/10ec&name=Realtek"), "ok 2")
+    files = "pci.ids.gz\nregistry.db-wal.gz\nregistry.db.gz"
+    story.same("what a copy is", f"ls /var/backups/pciids/{copy}", files)
+    told = story.post("carl", "/submit", "path=PC/10ec&name=Realtek")
+    story.cases.equal("machine: a later name", told, "ok 2")
     story.cases.equal("machine: it is approved", story.post("anna", "/approve", "num=2"), "ok")
     story.works("it is published", "systemctl start pciids-publish")
     names = f"{ASK_SITE} https://{HOST}/pci.ids | grep -v '^#'"
@@ -208,7 +205,8 @@ def kept(story):
                       " echo nothing | gzip > registry.db.gz; chmod -R a+rX .")
     story.fails("a copy that does not open", "pciids-restore 2000-01-01T000000Z 2> /dev/null")
     story.is_up("the server goes on after it")
-    story.same("the registry is as before", f"{ASK}/pci.ids", "# PCI ID registry\n10ec  Realtek\n8086  Intel")
+    text = "# PCI ID registry\n10ec  Realtek\n8086  Intel"
+    story.same("the registry is as before", f"{ASK}/pci.ids", text)
     story.fails("a copy that is none", "pciids-restore ../../etc 2> /dev/null")
 
     story.works("a restore", f"pciids-restore {copy}")
@@ -216,7 +214,8 @@ def kept(story):
     story.same("the registry is as it was", f"{ASK}/pci.ids", "# PCI ID registry\n8086  Intel")
     story.works("publishing after a restore", "systemctl start pciids-publish")
     story.same("the published file follows", names, "8086  Intel")
-    story.same("the former registry is kept", "ls /var/lib/pciids/replaced.*", "registry.db\nregistry.db-wal")
+    former = "ls /var/lib/pciids/replaced.*"
+    story.same("the former registry is kept", former, "registry.db\nregistry.db-wal")
     story.machine.run("systemctl reset-failed; rm -r /var/backups/pciids/2000*")
     return copy
 
@@ -224,17 +223,23 @@ def kept(story):
 def upgraded(story, folder):
     """Another version: the registry, the passwords and edited files stay."""
     for name in ("pciids", "pciids-registry"):
-        story.machine.put(built_packages.repacked(name, "0.1.0+next", folder), f"/root/{name}-next.deb")
+        newer = built_packages.repacked(name, "0.1.0+next", folder)
+        story.machine.put(newer, f"/root/{name}-next.deb")
     was = story.machine.run("systemctl show -p MainPID --value pciids")[1]
-    upgrade = "dpkg --force-confdef --force-confold -i /root/pciids-next.deb /root/pciids-registry-next.deb"
-    story.works("upgrade", upgrade)
+    newer = "/root/pciids-next.deb /root/pciids-registry-next.deb"
+    story.works("upgrade", f"dpkg --force-confdef --force-confold -i {newer}")
     story.is_up("the server answers after an upgrade")
     now = story.machine.run("systemctl show -p MainPID --value pciids")[1]
     story.cases.equal("machine: it was started again", was != now, True)
     story.same("the registry stays", f"{ASK}/pci.ids", "# PCI ID registry\n8086  Intel")
-    story.same("an edited file stays", "grep -c 'listen \\[::\\]' /etc/pciids/nginx/pciids-site.conf", "0", 1)
-    story.same("an unedited one is the new one", "tail -1 /etc/pciids/nginx/pciids-limits.conf", "# Another version.")
-    story.machine.until(f"{ASK_SITE} -f -o /dev/null https://{HOST}/pending")
+    edited = "grep -c 'listen \\[::\\]' /etc/pciids/nginx/pciids-site.conf"
+    story.same("an edited file stays", edited, "0", 1)
+    unedited = "tail -1 /etc/pciids/nginx/pciids-limits.conf"
+    story.same("an unedited one is the new one", unedited, "# Another version.")
+    active = "systemctl is-active pciids-http pciids-web"
+    story.same("the web server goes on after an upgrade", active, "active\nactive")
+    up = story.machine.until(f"{ASK_SITE} -f -o /dev/null https://{HOST}/pending")
+    story.cases.equal("machine: the site answers after an upgrade", up, True)
     told = story.post("carl", "/submit", "path=PC/10de&name=NVIDIA")
     story.cases.equal("machine: passwords stay", told, "ok 2")
 
@@ -255,13 +260,14 @@ def removed(story, copy):
         "what stays: the registry, its copies and the passwords",
         "find /etc /usr /run /var/lib /var/log /var/cache /var/backups -maxdepth 3"
         " ! -path /run/pciids \\( -name 'pciids*' -o -path '*/pciids/*' \\)"
-        " ! -path '*/dpkg/*' ! -name '*.pem' ! -path '*/replaced.*' ! -path '/var/backups/pciids/*/*' ! -path '*/journal/*' ! -path '/etc/systemd/*' | sort",
+        " ! -path '*/dpkg/*' ! -name '*.pem' ! -path '*/replaced.*'"
+        " ! -path '/var/backups/pciids/*/*' ! -path '*/journal/*' | sort",
         "/etc/pciids\n/etc/pciids/passwords\n/var/backups/pciids\n"
         f"/var/backups/pciids/{copy}\n"
         "/var/lib/pciids\n/var/lib/pciids/registry.db\n/var/lib/pciids/registry.db-wal",
     )
-    left = "find /etc/systemd/system /var/lib/systemd -name '*pciids*' ! -name 'stamp-*' ! -name 'test.conf'"
-    story.same("no link of a unit stays", f"{left} ! -name '*.service.d'", "")
+    left = "find /etc/systemd/system /var/lib/systemd -name '*pciids*' ! -name 'stamp-*'"
+    story.same("no link of a unit stays", left, "")
 
 
 def run(cases):

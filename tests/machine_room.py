@@ -1,5 +1,6 @@
 """A machine for a test: this one's programs with systemd as the first process, in namespaces of its
 own. Its files are layers over /usr and /etc that go with it; nothing of the machine itself changes."""
+import fcntl
 import os
 import shutil
 import subprocess
@@ -27,6 +28,8 @@ exec systemd-nspawn -D . --register=no --keep-unit -q --private-network --hostna
     -b systemd.unit=basic.target systemd.show_status=no
 """
 
+LOCK = "/run/lock/pciids-test-machine"
+
 # Folders that the program needs beside /usr, such as that of its libraries; colons between them.
 NEEDS = [it for it in os.environ.get("PCIIDS_NEEDS", "").split(":") if it]
 
@@ -53,6 +56,9 @@ class Machine:
         why = why_not()
         if why:
             raise program.Skip(f"no machine to try it on: {why}")
+        # Two machines at once would have the same control groups, and kill each other's processes.
+        self.lock = open(LOCK, "w", encoding="utf-8")
+        fcntl.flock(self.lock, fcntl.LOCK_EX)
         self.folder = tempfile.mkdtemp()
         os.chmod(self.folder, 0o755)
         binds = [f"--bind-ro={it}" for it in NEEDS]
@@ -85,6 +91,7 @@ class Machine:
             self.process.kill()
             self.process.wait()
         self.log.close()
+        self.lock.close()
         shutil.rmtree(self.folder, ignore_errors=True)
 
     def said(self):
