@@ -55,8 +55,8 @@ class Story:
 
 def install(story):
     for name in ("pciids", "pciids-registry"):
-        story.machine.put(built_packages.package(name), f"/root/{name}.deb")
-    story.works("installation", "dpkg -i /root/pciids.deb /root/pciids-registry.deb")
+        story.machine.put(built_packages.package(name), f"/srv/{name}.deb")
+    story.works("installation", "dpkg -i /srv/pciids.deb /srv/pciids-registry.deb")
     story.is_up("a new registry answers")
     story.same("the way to its port is up", "systemctl is-active pciids-http", "active")
     units = "pciids.service pciids-http.socket pciids-publish.timer pciids-backup.timer"
@@ -224,9 +224,9 @@ def upgraded(story, folder):
     """Another version: the registry, the passwords and edited files stay."""
     for name in ("pciids", "pciids-registry"):
         newer = built_packages.repacked(name, "0.1.0+next", folder)
-        story.machine.put(newer, f"/root/{name}-next.deb")
+        story.machine.put(newer, f"/srv/{name}-next.deb")
     was = story.machine.run("systemctl show -p MainPID --value pciids")[1]
-    newer = "/root/pciids-next.deb /root/pciids-registry-next.deb"
+    newer = "/srv/pciids-next.deb /srv/pciids-registry-next.deb"
     story.works("upgrade", f"dpkg --force-confdef --force-confold -i {newer}")
     story.is_up("the server answers after an upgrade")
     now = story.machine.run("systemctl show -p MainPID --value pciids")[1]
