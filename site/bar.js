@@ -1,23 +1,28 @@
-// The bar at the top: commands whose outcome isn't known, and what came of those whose page was
-// left meanwhile.
+// The bar at the foot of the window: commands whose outcome isn't known, how their tries stand, and
+// what came of those whose page was left meanwhile. It lies over the page, so that nothing shifts
+// when it comes and goes.
 
 import { account } from "./account.js";
 import { el, fill, link } from "./dom.js";
 import { askToLogIn } from "./login.js";
 import { tell } from "./notice.js";
 import {
-  bringFile, forget, isWorking, keysAtWork, owed, settle, stateOf, wantsFile, watchOutbox,
+  bringFile, forget, isWorking, keysAtWork, leave, owed, settle, stateOf, wantsFile, watchOutbox,
 } from "./outbox.js";
-import { isTold, waitingWords } from "./progress.js";
 import { spelled } from "./shown.js";
-import { steadyButton } from "./steady.js";
-import { answerWords } from "./words.js";
+import { isTooSoon, steadyButton } from "./steady.js";
+import { answerWords, troubleWords } from "./words.js";
 
 const LOOKS_EVERY = 1_000;
+// What is answered at once isn't told of.
+const TOLD_AFTER = 1_000;
 const place = document.getElementById("owed");
 const reports = [];          // { about, answer }
-let drawn = "";
+const rows = new Map();      // what is shown, by the keys of entries
 let turn = 0;
+let changedAt = -Infinity;
+let lastTop = innerHeight;   // where the bar begins
+let touched = innerHeight;   // from where on something changed
 
 /** Tells what came of a command whose page isn't shown any more. */
 export function report(entry, answer) {
@@ -61,42 +66,119 @@ function fileBox(entry) {
   return [el("label", { for: box.id }, "Choose the same file again to ask:"), " ", box, " "];
 }
 
-function askWays(entry) {
-  const isOther = account() !== null && account() !== entry.account;
-  if (isOther) return `Log in as ${entry.account} to ask again. `;
-  if (wantsFile(entry)) return fileBox(entry);
-  return [steadyButton({ class: "small", onclick: () => askAgain(entry) }, "Ask again"), " "];
+const small = (onclick, words) => [steadyButton({ class: "small", onclick }, words), " "];
+const forgets = (entry) => small(() => forgetIt(entry), "Forget it");
+
+function triedWords(key) {
+  const state = stateOf(key);
+  if (!state) return "it is being sent.";
+  const when = state.wait < 1_000 ? "a moment" : `${Math.round(state.wait / 1_000)} s`;
+  return `${troubleWords(state.trouble)} It isn't known yet whether this was done. It is sent again`
+    + ` in ${when}, and however often it is sent, it acts once.`;
 }
 
-function entryRow(entry, isElsewhere) {
-  const name = [el("b", {}, spelled(entry.about)), `, by ${entry.account}: `];
-  const forgets = steadyButton({ class: "small", onclick: () => forgetIt(entry) }, "Forget it");
-  const state = stateOf(entry.key);
-  if (state) return el("div", {}, el("p", {}, name), waitingWords(state));
-  if (isWorking(entry.key)) return el("p", {}, name, "it is being sent.");
-  if (isElsewhere) return el("p", {}, name, "another tab is sending it. ", forgets);
-  return el("p", {}, name, "no answer came, so it isn't known whether it was done. ",
-    askWays(entry), forgets);
+// How it stands with a command: what is said of it, and what a person can do about it.
+const STANDS = {
+  tried: {
+    words: ({ key }) => triedWords(key),
+    ways: ({ key }) => [small(() => stateOf(key)?.now(), "Send now"),
+      small(() => leave(key), "Leave it for later")],
+  },
+  elsewhere: { words: () => "another tab is sending it.", ways: forgets },
+  other: {
+    words: ({ account: by }) => `no answer came. Log in as ${by} to ask again.`, ways: forgets,
+  },
+  file: {
+    words: () => "no answer came, so it isn't known whether it was done.",
+    ways: (entry) => [fileBox(entry), forgets(entry)],
+  },
+  owed: {
+    words: () => "no answer came, so it isn't known whether it was done.",
+    ways: (entry) => [small(() => askAgain(entry), "Ask again"), forgets(entry)],
+  },
+};
+
+function standOf(entry, atWork) {
+  if (isWorking(entry.key)) return "tried";
+  if (atWork.has(entry.key)) return "elsewhere";
+  if (account() !== null && account() !== entry.account) return "other";
+  return wantsFile(entry) ? "file" : "owed";
 }
+
+/** The row of an entry. Its buttons stay the same while it stands the same. */
+class Row {
+  constructor(entry) {
+    this.entry = entry;
+    this.words = el("span", { role: "status" });
+    this.ways = el("span");
+    this.element = el("p", {}, el("b", {}, spelled(entry.about)), `, by ${entry.account}: `,
+      this.words, " ", this.ways);
+  }
+
+  show(stand) {
+    // What is said between two tries stays for the next try: the row keeps its height.
+    const isTry = this.stand === "tried" && stand === "tried" && !stateOf(this.entry.key);
+    const words = isTry ? this.words.textContent : STANDS[stand].words(this.entry);
+    if (this.words.textContent !== words) this.words.textContent = words;
+    if (this.stand === stand) return;
+    this.stand = stand;
+    fill(this.ways, STANDS[stand].ways(this.entry));
+  }
+}
+
+// The first moment of a command isn't worth a word.
+const isYoung = (entry) => isWorking(entry.key) && !stateOf(entry.key)
+  && !rows.has(entry.key) && Math.abs(Date.now() - entry.at) < TOLD_AFTER;
 
 /** Draws the bar anew, where something in it has changed. */
 export async function drawBar() {
   const mine = turn += 1;
   const atWork = await keysAtWork();
   if (mine !== turn) return;
-  const entries = owed().filter((it) => !isTold(it.key));
-  const stateWord = (it) => stateOf(it.key)?.wait ?? (isWorking(it.key) ? "here" : "");
-  const now = JSON.stringify([
-    account(), reports.map((it) => it.about),
-    entries.map((it) => [it.key, atWork.has(it.key), stateWord(it), wantsFile(it)]),
-  ]);
-  if (now === drawn) return;
-  drawn = now;
-  place.hidden = entries.length + reports.length === 0;
-  fill(place, reports.map(reportRow),
-    entries.map((it) => entryRow(it, atWork.has(it.key) && !isWorking(it.key))));
+  const entries = owed().filter((it) => !isYoung(it));
+  const { offsetHeight: height } = place;
+  const now = [...reports, ...entries].map((it) => {
+    const key = it.key ?? it;
+    if (!rows.has(key)) rows.set(key, it.key ? new Row(it) : { element: reportRow(it) });
+    rows.get(key).show?.(standOf(it, atWork));
+    return rows.get(key).element;
+  });
+  const isOther = now.length !== place.childElementCount
+    || now.some((it, at) => it !== place.children[at]);
+  place.hidden = now.length === 0;
+  if (isOther) keepOnly(place, now);
+  if (isOther || place.offsetHeight !== height) settleDown();
+  for (const [key, { element }] of rows) if (!now.includes(element)) rows.delete(key);
 }
 
+// Moves nothing that is there already: the focus stays. Where what had it goes, it goes on.
+function keepOnly(parent, children) {
+  const hadFocus = parent.contains(document.activeElement);
+  for (const it of [...parent.children]) if (!children.includes(it)) it.remove();
+  children.forEach((it, at) => {
+    if (parent.children[at] !== it) parent.insertBefore(it, parent.children[at] ?? null);
+  });
+  if (!hadFocus || parent.contains(document.activeElement)) return;
+  (parent.querySelector("button") ?? document.querySelector("main h1"))?.focus();
+}
+
+function settleDown() {
+  changedAt = performance.now();
+  const top = place.hidden ? innerHeight : place.getBoundingClientRect().top;
+  touched = Math.min(top, lastTop);
+  lastTop = top;
+  document.documentElement.style.setProperty("--bar", `${place.offsetHeight}px`);
+}
+
+// A click that was meant for the bar as it was falls neither through to what it lay over nor onto
+// another of its buttons. A key (detail 0) is meant for what has the focus.
+function refuseFallen(event) {
+  if (!isTooSoon(changedAt) || event.detail === 0 || event.clientY < touched) return;
+  event.preventDefault();
+  event.stopPropagation();
+}
+
+addEventListener("click", refuseFallen, { capture: true });
 watchOutbox(drawBar);
 // No event tells that another tab was closed while it was sending.
 setInterval(() => { if (!document.hidden && owed().length) drawBar(); }, LOOKS_EVERY);

@@ -1,12 +1,12 @@
-// Carries out a command from a form or a button, and tells meanwhile how it stands.
+// Carries out a command from a form or a button. While its outcome isn't known the bar tells how it
+// stands.
 
 import { account } from "./account.js";
 import { report } from "./bar.js";
 import { forgetPending } from "./detours.js";
 import { el, fill } from "./dom.js";
 import { askToLogIn } from "./login.js";
-import { begin, form, settle } from "./outbox.js";
-import { endProgress, tellProgress } from "./progress.js";
+import { begin, form, newKey, settle } from "./outbox.js";
 import { isDead, setDead } from "./steady.js";
 import { answerWords } from "./words.js";
 
@@ -23,30 +23,38 @@ export const faultWords = (...words) => el("p", { class: "fault", role: "alert" 
  * @param {Uint8Array} [command.body] the file
  * @param {string} command.about what it does, in words
  * @param {HTMLElement} command.button
- * @param {HTMLElement} command.place where it is told how it stands
+ * @param {HTMLElement} command.place where it is told what stood in the way
  * @param {string} command.why why an account is needed
+ * @param {SentForm} [command.sent] the form whose text it sends
  */
-export async function carryOut({ route, fields, body, about, button, place, why }) {
+export async function carryOut({ route, fields, body, about, button, place, why, sent }) {
   if (isDead(button)) return null;
   setDead(button, true);
   try {
     if (!account() && !(await askToLogIn(why))) return null;
-    const entry = await begin(route, body ?? form(fields), about);
-    return await told(entry, place);
+    let entry = sent?.owed();
+    if (!entry) {
+      const key = newKey();
+      // Bound before it is kept: a form that is bound to nothing can be sent, and that once.
+      sent?.send(key);
+      entry = await begin(route, body ?? form(fields), about, key);
+    }
+    return told(entry, place, await settle(entry), sent);
   } finally {
     setDead(button, false);
   }
 }
 
-async function told(entry, place) {
-  tellProgress(entry.key, place);
-  const answer = await settle(entry);
-  endProgress(entry.key);
+function told(entry, place, answer, sent) {
   if (answer.value) forgetPending();
+  const isKnown = answer.value || answer.refusal || answer.certain
+    || answer.trouble === "forgotten";
+  if (isKnown) sent?.end(entry.key, Boolean(answer.value));
   if (!place.isConnected) {
     report(entry, answer);
     return null;
   }
-  fill(place, answer.value ? null : faultWords(answerWords(answer)));
+  if (sent?.owed()) sent.showOwed(answer.trouble);
+  else fill(place, answer.value ? null : faultWords(answerWords(answer)));
   return answer;
 }

@@ -17,12 +17,14 @@ const isSearch = () => location.pathname === "/search";
 
 const searchHref = () => `/search?q=${encodeURIComponent(box.value)}`;
 
-// The address follows when the hand rests: browsers ignore an address that changes too often.
+// The address follows, but not each key: browsers ignore one that changes too often.
 let resting = 0;
+let followedAt = -Infinity;
 function addressFollows() {
   if (resting && isSearch()) history.replaceState(history.state, "", searchHref());
   clearTimeout(resting);
   resting = 0;
+  followedAt = performance.now();
 }
 
 // The search follows what is typed, in place.
@@ -30,6 +32,7 @@ function typed() {
   if (isSearch() && currentPage()?.search) {
     clearTimeout(resting);
     resting = setTimeout(addressFollows, RESTS_AFTER);
+    if (performance.now() - followedAt > RESTS_AFTER) addressFollows();
     currentPage().search(box.value);
   } else if (isSearch()) {
     // The page is on its way: it begins with what is typed by now.
@@ -57,6 +60,7 @@ function startSearch() {
   box.addEventListener("input", typed);
   box.addEventListener("focus", () => load());
   box.addEventListener("blur", addressFollows);
+  addEventListener("pagehide", addressFollows);
   box.addEventListener("paste", pasteLines);
   box.addEventListener("keydown", (event) => {
     if (event.key !== "ArrowDown" || !firstFound()) return;
@@ -96,7 +100,8 @@ function showWho() {
   const name = account();
   log.textContent = name ? `Log out ${name}` : "Log in";
   log.title = name ? rankWords() : "";
-  mine.hidden = name === null;
+  // Its place is kept, so that the menu doesn't shift.
+  mine.classList.toggle("away", name === null);
 }
 
 // Who is in the middle of typing keeps the page that is there.

@@ -2,6 +2,7 @@
 
 import { counted, el, fill } from "./dom.js";
 import { hrefOf, ownNumber } from "./paths.js";
+import { note, notedOf } from "./place.js";
 import { shown } from "./shown.js";
 
 const CHUNK = 100;
@@ -56,21 +57,27 @@ export function itemList(items, what) {
   if (items.length === 0) return el("p", { class: "none" }, `No ${what}.`);
   const rows = new Rows(items);
   const all = [...items.keys()];
-  rows.show(all);
-  if (items.length < SHORT) return rows.list;
+  if (items.length < SHORT) {
+    rows.show(all);
+    return rows.list;
+  }
   const texts = items.map(({ path, name }) => `${ownNumber(path)} ${name}`.toLowerCase());
   const count = el("output", { "aria-live": "polite" }, counted(items.length));
   const box = el("input", {
     type: "search", id: `narrow-${what.replace(/\W/g, "-")}`, autocomplete: "off",
     spellcheck: "false",
   });
-  box.addEventListener("input", () => {
+  // Where the page is opened anew the list is whole again.
+  box.value = notedOf(box.id) ?? "";
+  const narrow = () => {
     const words = box.value.toLowerCase().split(/\s+/).filter(Boolean);
     const some = all.filter((it) => words.every((word) => texts[it].includes(word)));
     rows.show(some);
     const of = ` of ${counted(items.length)}`;
     fill(count, counted(some.length) + (words.length ? of : ""));
-  });
+  };
+  narrow();
+  box.addEventListener("input", () => { narrow(); note(box.id, box.value); });
   return [
     el("p", { class: "narrow" }, el("label", { for: box.id }, `Narrow the ${what}`), box, count),
     rows.list];

@@ -9,8 +9,16 @@ import { refuseHeldKeys } from "./steady.js";
 
 const QUIET_AFTER = 1_000;
 
+// A file that is dropped beside its place would take the place of the page.
+function keepPage(event) {
+  const isFile = event.dataTransfer?.types.includes("Files");
+  if (isFile && !event.target.matches?.("[type=file]")) event.preventDefault();
+}
+
 restoreAccount();
 refuseHeldKeys();
+addEventListener("dragover", keepPage);
+addEventListener("drop", keepPage);
 watchAccount(drawBar);
 watchPages(drawBar);
 startHeader();

@@ -1,12 +1,15 @@
 // Holds the names of the published file, and answers names.js.
 
 import { read } from "./reader.js";
-import { childrenOf, difference, indexOf, search } from "./search.js";
+import { childrenOf, difference, indexOf, learn, search } from "./search.js";
 
 const FRESH_FOR = 60_000;
+// A server that gives no names isn't asked again at each key press.
+const RESTS_FOR = 2_000;
 let index = null;
 let loading = null;
 let loadedAt = -Infinity;
+let failedAt = -Infinity;
 let tag = null;
 let date = null;
 
@@ -15,7 +18,7 @@ async function fetchNames() {
   if (!answer.ok) throw new Error("no pci.ids");
   const current = answer.headers.get("ETag");
   if (!index || current === null || current !== tag) {
-    const { names } = read(new Uint8Array(await answer.arrayBuffer()));
+    const { names } = read(new Uint8Array(await answer.arrayBuffer()), Infinity);
     if (!names) throw new Error("a faulty pci.ids");
     index = indexOf(names);
   }
@@ -26,8 +29,10 @@ async function fetchNames() {
 
 // Names that are at hand are used while newer ones can't be had.
 function load() {
-  if (index && performance.now() - loadedAt < FRESH_FOR) return Promise.resolve();
-  loading ??= fetchNames().catch(() => {}).finally(() => { loading = null; });
+  const now = performance.now();
+  if ((index && now - loadedAt < FRESH_FOR) || now - failedAt < RESTS_FOR) return Promise.resolve();
+  const rest = () => { failedAt = performance.now(); };
+  loading ??= fetchNames().catch(rest).finally(() => { loading = null; });
   return loading;
 }
 
@@ -38,11 +43,7 @@ const CALLS = {
     .map((it) => [it, index.names.get(it)]),
   childrenOf: (path) => childrenOf(index, path),
   difference: (theirs) => difference(theirs, index.names),
-  learnName: (path, name) => {
-    if (name === null) index.names.delete(path);
-    else index.names.set(path, name);
-    index = indexOf(index.names);
-  },
+  learnName: (path, name) => learn(index, path, name),
 };
 
 // A key press never waits for newer names: those at hand answer it.
@@ -51,5 +52,10 @@ const WAITS = ["load", "difference"];
 onmessage = async ({ data: { id, what, words } }) => {
   if (!index || WAITS.includes(what)) await load();
   else load();
-  postMessage({ id, answer: index ? CALLS[what](...words) : null });
+  let answer = null;
+  try {
+    if (index) answer = CALLS[what](...words);
+  } finally {
+    postMessage({ id, answer });
+  }
 };

@@ -1,5 +1,7 @@
 // The line at the foot of the window that says what just happened.
 
+import { el, fill } from "./dom.js";
+
 const place = document.getElementById("notice");
 let fading;
 
@@ -10,8 +12,9 @@ let fading;
  */
 export function tell(text, seconds = 0) {
   clearTimeout(fading);
-  place.textContent = text;
-  if (seconds) fading = setTimeout(() => { place.textContent = ""; }, seconds * 1000);
+  // Made anew each time: nothing of it moves.
+  fill(place, text ? el("span", {}, text) : null);
+  if (seconds) fading = setTimeout(() => fill(place), seconds * 1000);
 }
 
 /** Takes a text away, if it is the one that is shown. */

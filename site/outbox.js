@@ -9,6 +9,8 @@ import { rememberOwn } from "./detours.js";
 import { keep, keysOf, recall } from "./kept.js";
 
 const FRONT = "owed:";
+const ACTED = "acted:";
+const MOST_ACTED = 200;
 const WAITS = [500, 1_000, 2_000, 4_000, 8_000, 15_000];
 const MOST_ODD = 3;
 
@@ -28,13 +30,33 @@ export function owed() {
   return [...all.filter(isEntry), ...unkept.values()].sort((one, other) => one.at - other.at);
 }
 
-/** What this tab does about an entry now: null, or { trouble, wait, now, leave } while it waits. */
+/** What this tab does about an entry now: null, or { trouble, wait, now } while it waits. */
 export const stateOf = (key) => working.get(key)?.state ?? null;
 
 /** Whether this tab is sending an entry. */
 export const isWorking = (key) => working.has(key);
 
 const isThere = (key) => unkept.has(key) || recall("localStorage", FRONT + key) !== null;
+
+/** The entry of a key while its outcome isn't known, or null. */
+export const entryOf = (key) => unkept.get(key) ?? recall("localStorage", FRONT + key);
+
+// What was done is remembered for a while: a form whose text was sent asks for it after a reload,
+// and another tab may have had the answer.
+const acted = new Map();
+
+/** What an accepted command was answered: { num, at }; null where none is known. */
+export const actedOf = (key) => acted.get(key) ?? recall("localStorage", ACTED + key);
+
+function rememberActed(key, { num }) {
+  acted.set(key, { num, at: Date.now() });
+  keep("localStorage", ACTED + key, acted.get(key));
+  const all = keysOf("localStorage", ACTED);
+  if (all.length <= MOST_ACTED) return;
+  const age = (it) => recall("localStorage", it)?.at ?? 0;
+  all.sort((one, other) => age(one) - age(other)).slice(0, all.length - MOST_ACTED)
+    .forEach((it) => keep("localStorage", it, null));
+}
 
 /** The keys of entries that some tab is sending. */
 export async function keysAtWork() {
@@ -43,12 +65,20 @@ export async function keysAtWork() {
   return new Set([...names.map((it) => it.slice(FRONT.length)), ...working.keys()]);
 }
 
+/** Ends the tries of an entry after the one that is under way; it stays owed. */
+export function leave(key) {
+  const work = working.get(key);
+  if (!work) return;
+  work.isLeft = true;
+  work.state?.leave();
+}
+
 /** Gives an entry up: it isn't sent again, here or in another tab. */
 export function forget(key) {
   files.delete(key);
   unkept.delete(key);
   keep("localStorage", FRONT + key, null);
-  working.get(key)?.state?.leave();
+  leave(key);
   changed();
 }
 
@@ -149,14 +179,14 @@ async function sendUntilKnown(entry, work) {
     const answer = await send(entry, body);
     if (answer.value || answer.refusal) {
       if (answer.value?.num) rememberOwn(entry, answer.value);
+      if (answer.value) rememberActed(entry.key, answer.value);
       forget(entry.key);
       return answer;
     }
     isInDoubt ||= !answer.certain;
     if (isEnd(answer, tries)) return gaveUp(entry, answer, isInDoubt);
-    if (await isLeft(work, answer.trouble, tries)) {
-      return { trouble: isThere(entry.key) ? "left" : "forgotten", certain: false };
-    }
+    if (!work.isLeft) await beforeNext(work, answer.trouble, tries);
+    if (work.isLeft) return { trouble: isThere(entry.key) ? "left" : "forgotten", certain: false };
   }
 }
 
@@ -165,18 +195,18 @@ function gaveUp(entry, answer, isInDoubt) {
   return { ...answer, certain: !isInDoubt };
 }
 
-/** Waits before the next try; resolves to whether the person left it. */
-function isLeft(work, trouble, tries) {
+/** Waits before the next try, for as long as the person lets it. */
+function beforeNext(work, trouble, tries) {
   const wait = WAITS[Math.min(tries, WAITS.length) - 1] * (0.75 + Math.random() / 2);
   return new Promise((resolve) => {
-    const end = (isGivenUp) => {
+    const end = () => {
       clearTimeout(timer);
       work.state = null;
-      resolve(isGivenUp);
+      resolve();
       changed();
     };
-    const timer = setTimeout(() => end(false), wait);
-    work.state = { trouble, wait, now: () => end(false), leave: () => end(true) };
+    const timer = setTimeout(end, wait);
+    work.state = { trouble, wait, now: end, leave: end };
     changed();
   });
 }
@@ -187,7 +217,7 @@ export const form = (fields) => new URLSearchParams(fields).toString();
 // An entry that another tab forgot is not waited for any longer.
 addEventListener("storage", ({ key, newValue }) => {
   if (key?.startsWith(FRONT) && newValue === null) {
-    working.get(key.slice(FRONT.length))?.state?.leave();
+    leave(key.slice(FRONT.length));
   }
   changed();
 });

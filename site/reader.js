@@ -116,11 +116,12 @@ export const bytesOf = async (file) => (
 /**
  * Reads a file.
  * @param {Uint8Array} bytes
+ * @param {number} [mostBytes] the published file may be longer than a file that is imported
  * @returns {Object} { names }, a Map by paths in the order of the file; or { line, kind } of the
  *   first fault; or { isTooLarge }; or { hasTooMany } entries
  */
-export function read(bytes) {
-  if (bytes.length > MOST_BYTES) return { isTooLarge: true };
+export function read(bytes, mostBytes = MOST_BYTES) {
+  if (bytes.length > mostBytes) return { isTooLarge: true };
   const { lines, bad } = linesOf(bytes);
   const state = { names: new Map(), top: null, first: null, isFull: false };
   for (let at = 0; at < lines.length; at += 1) {

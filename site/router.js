@@ -4,6 +4,7 @@ import { el, fill, link } from "./dom.js";
 import { beEager } from "./lists.js";
 import { tell, untell } from "./notice.js";
 import { failed, title, titleOf } from "./parts.js";
+import { keepPlace } from "./place.js";
 
 const PAGES = [
   [/^\/$/, "home"],
@@ -20,7 +21,7 @@ const PAGES = [
   [/^\/load$/, "check", "load"],
   [/^\/mine$/, "mine"],
   [/^\/people$/, "people"],
-  [/^\/help$/, "help"],
+  [/^\/(help|about)$/, "help"],
 ];
 const LOADING = "Loading …";
 const LOADING_AFTER = 300;
@@ -45,7 +46,7 @@ export const watchPages = (watcher) => watchers.push(watcher);
 
 /** Loads the files of all pages, so that going to one needs no server. */
 export const loadPages = () => PAGES.forEach(([, file]) => {
-  import(`./pages/${file}.js`).catch(() => {});
+  fetchPage(file).catch(() => {});
 });
 
 // Addresses that people write in capitals, or with a slash at the end.
@@ -61,6 +62,18 @@ function absent() {
     el("p", {}, "There is nothing at this address. ", link("/", "Start page"))];
 }
 
+// A browser may keep it that a file couldn't be fetched: the next try has another address.
+const failures = new Map();
+async function fetchPage(file) {
+  const count = failures.get(file) ?? 0;
+  try {
+    return await import(`./pages/${file}.js${count ? `?${count}` : ""}`);
+  } catch (fault) {
+    failures.set(file, count + 1);
+    throw fault;
+  }
+}
+
 async function made(address, again) {
   const [form, file, name = "default"] = found(address.pathname) ?? [];
   if (!form) return absent();
@@ -68,7 +81,7 @@ async function made(address, again) {
     ...form.exec(address.pathname).groups, query: address.searchParams, go, again,
   };
   try {
-    return await (await import(`./pages/${file}.js`))[name](context);
+    return await (await fetchPage(file))[name](context);
   } catch (fault) {
     console.error(fault);
     return failed({ trouble: fault instanceof TypeError ? "offline" : "odd" }, again);
@@ -113,7 +126,7 @@ export const refresh = () => show({ focus: false, scroll: null });
 
 /** Goes to an address of this site. */
 export function go(href, how) {
-  history.replaceState({ scroll: scrollY }, "");
+  keepPlace();
   history.pushState({ scroll: 0 }, "", href);
   return show(how);
 }
@@ -134,7 +147,6 @@ export function startRouter() {
   addEventListener("popstate", (event) => {
     if (addressOf(location) !== shownAddress) show({ scroll: event.state?.scroll ?? 0 });
   });
-  addEventListener("pagehide", () => history.replaceState({ scroll: scrollY }, ""));
   document.addEventListener("click", followLink);
   return show({ focus: false, scroll: history.state?.scroll ?? 0 });
 }

@@ -6,6 +6,7 @@ import { devicesIn, pathsOf } from "./pasted.js";
 const WORTH = {
   vendor: 0, class: 1, device: 2, subclass: 3, generic: 4, interface: 5, subsystem: 6,
 };
+const LONGEST = 500;
 const ELSEWHERE = 40, IN_WORD = 20, LATER = 10, GOES_ON = 4;
 
 // Vendors come first, those with the most entries before the others; the rest in their order.
@@ -22,28 +23,49 @@ function ordered(names) {
     ...paths.filter((it) => !isVendor(it))];
 }
 
+// What is searched in for an item: its own name, and in the lines below it those above it.
+function textOf(path, names) {
+  const { kind, numbers } = parse(path);
+  const above = [parentOf(path)];
+  // A subsystem is found by its device's and by both vendors' names.
+  if (kind === "subsystem") above.push(`PC/${numbers[0]}`, `PC/${numbers[2]}`);
+  const low = (it) => names.get(it)?.toLowerCase() ?? "";
+  return [path, ...above.filter(Boolean)].map(low).join("\n");
+}
+
+function put(index, at, path) {
+  const { kind, numbers } = parse(path);
+  const text = textOf(path, index.names);
+  index.paths[at] = path;
+  index.texts[at] = text;
+  index.owns[at] = text.includes("\n") ? text.indexOf("\n") : text.length;
+  index.worths[at] = WORTH[kind];
+  if (kind !== "device") return;
+  if (!index.devices.has(numbers[1])) index.devices.set(numbers[1], new Set());
+  index.devices.get(numbers[1]).add(path);
+}
+
 /** What searches need to know of names, a Map by paths. */
 export function indexOf(names) {
-  const paths = ordered(names);
-  const texts = new Array(paths.length);
-  const owns = new Uint16Array(paths.length);
-  const worths = new Uint8Array(paths.length);
-  const devices = new Map();
-  const low = (path) => names.get(path)?.toLowerCase() ?? "";
-  for (const [at, path] of paths.entries()) {
-    const { kind, numbers } = parse(path);
-    const own = low(path);
-    const above = [parentOf(path)];
-    // A subsystem is found by its device's and by both vendors' names.
-    if (kind === "subsystem") above.push(`PC/${numbers[0]}`, `PC/${numbers[2]}`);
-    texts[at] = [own, ...above.filter(Boolean).map(low)].join("\n");
-    owns[at] = own.length;
-    worths[at] = WORTH[kind];
-    if (kind !== "device") continue;
-    if (!devices.has(numbers[1])) devices.set(numbers[1], []);
-    devices.get(numbers[1]).push(path);
+  const index = {
+    names, paths: [], texts: [], owns: [], worths: [], devices: new Map(), last: null,
+  };
+  ordered(names).forEach((path, at) => put(index, at, path));
+  return index;
+}
+
+/** Changes the name of one item, or adds or removes it; those below it are found as before. */
+export function learn(index, path, name) {
+  index.last = null;
+  const at = index.paths.indexOf(path);
+  if (name === null) {
+    index.names.delete(path);
+    if (at >= 0) index.texts[at] = "";
+    index.devices.get(parse(path).numbers[1])?.delete(path);
+  } else {
+    index.names.set(path, name);
+    put(index, at < 0 ? index.paths.length : at, path);
   }
-  return { names, paths, texts, owns, worths, devices };
 }
 
 /** The paths of vendors and classes that a bare number means, and the devices of that number. */
@@ -55,7 +77,7 @@ function bare(query, { names, devices }) {
     2: [`PD/${a}`], 4: [`PC/${digits}`, `PD/${a}/${b}`], 6: [`PD/${a}/${b}/${c}`],
     8: [`PC/${a}${b}/${c}${d}`],
   }[digits.length] ?? [];
-  return { first: means.filter((it) => names.has(it)), last: devices.get(digits) ?? [] };
+  return { first: means.filter((it) => names.has(it)), last: [...devices.get(digits) ?? []] };
 }
 
 /** The paths that the numbers in a query mean: { first, last, isPasted }. */
@@ -87,32 +109,58 @@ function distance(whole, own, words) {
   return sum;
 }
 
-// Distances are small numbers: each has its bucket, and the first are taken without sorting all.
-function byNames({ paths, texts, owns, worths }, query, seen) {
+// Who types on narrows what was found before: only that is searched then.
+function candidates({ last }, words) {
+  const isNarrower = last?.words.every((old) => words.some((it) => it.includes(old)));
+  return isNarrower ? last.found : null;
+}
+
+/**
+ * The items whose names have all words of a query: { first, count }, of which the first are the
+ * likeliest, at most so many. Distances are small numbers: each has its bucket.
+ */
+function byNames(index, query, seen, most) {
+  const { paths, texts, owns, worths } = index;
   const words = [...new Set(query.split(/\s+/))];
+  const among = candidates(index, words);
+  const total = among?.length ?? paths.length;
+  const found = new Int32Array(total);
   const buckets = [];
-  for (let at = 0; at < paths.length; at += 1) {
+  let count = 0;
+  for (let turn = 0; turn < total; turn += 1) {
+    const at = among ? among[turn] : turn;
     const far = distance(texts[at], owns[at], words);
-    if (far < 0 || seen.has(paths[at])) continue;
+    if (far < 0) continue;
+    found[count] = at;
+    count += 1;
     const isWhole = owns[at] === query.length && texts[at].startsWith(query);
-    (buckets[isWhole ? 0 : far + worths[at]] ??= []).push(paths[at]);
+    const bucket = buckets[isWhole ? 0 : far + worths[at]] ??= [];
+    if (bucket.length < most + seen.size) bucket.push(at);
   }
-  return buckets.filter(Boolean).flat();
+  index.last = { words, found: found.subarray(0, count) };
+  const first = [];
+  for (const bucket of buckets) {
+    for (const at of bucket ?? []) {
+      if (first.length < most && !seen.has(paths[at])) first.push(paths[at]);
+    }
+  }
+  const twice = [...seen].filter((it) => distance(textOf(it, index.names), 0, words) >= 0).length;
+  return { first, count: count - twice };
 }
 
 /** What is found for a text: { rows, count }, the likeliest first, at most so many rows. */
 export function search(index, text, most) {
-  const query = text.trim().toLowerCase();
+  const query = text.trim().slice(0, LONGEST).toLowerCase();
   if (!query) return { rows: [], count: 0 };
   const { first, last, isPasted } = numbered(text, index);
   const seen = new Set([...first, ...last]);
-  const named = isPasted ? [] : byNames(index, query, seen);
-  const all = [...first, ...named, ...last];
+  const named = isPasted ? { first: [], count: 0 } : byNames(index, query, seen, most);
+  const all = [...first, ...named.first, ...last];
   const nameOf = (path) => index.names.get(path);
   const rows = all.slice(0, most).map((path) => ({
     path, name: nameOf(path), above: withParents(path).slice(0, -1).map(nameOf),
   }));
-  return { rows, count: all.length };
+  return { rows, count: first.length + named.count + last.length };
 }
 
 /** The items directly below a path ("" for vendors and classes). */

@@ -64,7 +64,7 @@ const TROUBLES = {
   account: "Another account is logged in by now.",
   elsewhere: "Another tab is sending it.",
   forgotten: "It was forgotten in another tab, so it isn't sent again.",
-  left: "It isn't known whether this was done. It is kept at the top of the page.",
+  left: "It isn't known whether this was done. It is kept at the foot of the window.",
 };
 
 /** What stood in the way of an answer, in words. */

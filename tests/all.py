@@ -1,8 +1,10 @@
 """Tries the program against files and real peers, part by part. tests/run calls it."""
 import importlib
 import os
+import re
 import resource
 import signal
+import subprocess
 import sys
 import time
 import traceback
@@ -10,11 +12,18 @@ import traceback
 import program
 
 PARTS = (
-    "harness worked_rows words fault_gallery limits real_file lspci lookups registry disks migrate"
+    "harness building worked_rows words fault_gallery limits real_file lspci lookups registry disks migrate"
     " jobs progress stops refusing scripts manual documents tour serving loopback http_routes"
-    " serving_faults serving_memory proxy mirror memory keeping publishing front packages machine"
-    " site_reader site_story site_once site_safety site_access"
+    " serving_faults serving_memory proxy mirror memory keeping publishing front front_http2"
+    " caches packages installing machine machine_load"
+    " site_parts"
 ).split()
+# What site_parts runs, several at a time.
+OF_SITE = "site_reader site_story site_once site_kept site_safety site_access site_firefox".split()
+
+# Parts that mostly wait, each on its own. They are tried at once, each by a process of its own.
+AT_ONCE = "keeping publishing front front_http2 caches packages installing machine machine_load"
+AT_ONCE = AT_ONCE.split()
 
 # The parts that are tried in a browser have a folder to themselves.
 sys.path.append(os.path.join(os.path.dirname(os.path.abspath(__file__)), "site"))
@@ -38,7 +47,7 @@ script that calls it, since some parts refuse it memory or stop its disk.
 
 def parts_in_lines():
     lines = [""]
-    for name in PARTS:
+    for name in PARTS + OF_SITE:
         if len(lines[-1]) + len(name) > 96:
             lines.append("")
         lines[-1] += f" {name}"
@@ -92,9 +101,43 @@ def try_part(cases, name):
     print(f"{name}: {part.counts()}, {took}")
 
 
+def try_at_once(cases, names):
+    """Runs this file for each part, and prints what each of them does but its last line."""
+    words = [sys.executable, "-B", os.path.abspath(__file__)]
+    how = {"stdin": subprocess.DEVNULL, "stdout": subprocess.PIPE, "stderr": subprocess.STDOUT}
+    runs = [(name, subprocess.Popen([*words, name], **how)) for name in names]
+    try:
+        for name, run in runs:
+            *lines, last = run.communicate()[0].decode(errors="replace").splitlines() or [""]
+            print(*lines, sep="\n")
+            counts = re.fullmatch(r"(\d+) passed, (\d+) failed(?:, (\d+) skipped)?", last)
+            if counts is None:
+                print(f"FAILED {name}: its last line is {last!r}")
+            part = program.Cases()
+            part.passed, part.failed, part.left_out = (
+                (int(it or 0) for it in counts.groups()) if counts else (0, 1, 0)
+            )
+            cases.add(part)
+    finally:
+        for _, run in runs:
+            if run.poll() is None:
+                run.send_signal(signal.SIGINT)
+                run.wait()
+
+
+def try_named(cases, names):
+    """Tries parts in their order; those of AT_ONCE with the first of them."""
+    at_once = [it for it in names if it in AT_ONCE]
+    for name in names:
+        if len(at_once) < 2 or name not in at_once:
+            try_part(cases, name)
+        elif name == at_once[0]:
+            try_at_once(cases, at_once)
+
+
 def try_parts(cases, names, prepares):
     """Returns the exit status."""
-    unknown = [it for it in names if it not in PARTS]
+    unknown = [it for it in names if it not in PARTS + OF_SITE]
     if unknown:
         cases.failed += len(unknown)
         print(f"tests/run: unknown part: {', '.join(unknown)}\n{parts_in_lines()}", file=sys.stderr)
@@ -106,8 +149,7 @@ def try_parts(cases, names, prepares):
         cases.failed += 1
         print(fault)
     if not cases.failed:
-        for name in names or PARTS:
-            try_part(cases, name)
+        try_named(cases, names or PARTS)
     return int(cases.failed != 0)
 
 
@@ -130,6 +172,8 @@ def main(words):
 
 if __name__ == "__main__":
     ended = main(sys.argv[1:])
+    for call in program.AT_END:
+        call()
     sys.stdout.flush()
     # No thread that a part has left running prints anything after the last line.
     os._exit(ended)

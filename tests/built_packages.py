@@ -1,5 +1,5 @@
 """The Debian packages of the program under test, built once for all parts of a run."""
-import atexit
+import functools
 import os
 import shutil
 import subprocess
@@ -27,7 +27,7 @@ def site():
         return SITE
     if "site" not in _built:
         folder = tempfile.mkdtemp()
-        atexit.register(shutil.rmtree, folder, ignore_errors=True)
+        program.AT_END.append(functools.partial(shutil.rmtree, folder, ignore_errors=True))
         os.chmod(folder, 0o755)
         with open(os.path.join(folder, "index.html"), "w", encoding="utf-8") as file:
             file.write(STAND_IN)
@@ -51,7 +51,7 @@ def packages():
     program.need("dpkg-deb", "dpkg-buildpackage", "dh")
     if "packages" not in _built:
         folder = tempfile.mkdtemp()
-        atexit.register(shutil.rmtree, folder, ignore_errors=True)
+        program.AT_END.append(functools.partial(shutil.rmtree, folder, ignore_errors=True))
         os.chmod(folder, 0o755)
         told, status = build(folder)
         if status != 0:
@@ -82,5 +82,6 @@ def repacked(name, version, folder):
         with open(limits, "a", encoding="utf-8") as file:
             file.write("# Another version.\n")
     path = os.path.join(folder, f"{name}.deb")
-    subprocess.run(["dpkg-deb", "-b", tree, path], stdout=subprocess.DEVNULL, check=True)
+    words = ["dpkg-deb", "-Zgzip", "-z1", "-b", tree, path]
+    subprocess.run(words, stdout=subprocess.DEVNULL, check=True)
     return path

@@ -5,20 +5,31 @@ import re
 import shutil
 import subprocess
 
+import edit_list
+import reading_list
+import refusals
 from program import TOP
 
-# Pages that keep to 100 columns. Others follow as they are written anew.
-NARROW = (
-    "README.md",
-    "CHANGELOG.md",
-    "CONTRIBUTING.md",
-    "SECURITY.md",
-    "docs/INSTALL.md",
-    "docs/PROMISES.md",
-    "docs/SITE.md",
-)
-WIDEST = 100
+WIDEST, WIDEST_ROW, WIDEST_CELL = 100, 120, 100
 README_LINES = 130
+
+
+# What no page says: a word, and what to say in its place. Names in code are free.
+WORDS = (
+    (r"behind(?! (?:nginx|a proxy|caches)\b)", "after"),
+    (r"tells?|told|telling", "reports, prints, returns, answers, says"),
+    (r"(?:a|some|each|the) front of", "a prefix of"),
+    (r"wants? (?:of )?memory|memory (?:is|was|were) (?:short|wanted)", "out of memory"),
+    (r"(?:the|these|those) words (?:of (?:a|the) command|that no)", "the arguments"),
+    (r"named anew", "added or renamed"),
+    (r"(?:is|was|are|were|been) taken over|takes? \w+ over", "is upgraded, is migrated"),
+    (r"stands? beside|stood beside", "other tables are allowed"),
+    (r"(?:is|are|was|were) borne", "is allowed"),
+    (r"(?:in|by) pieces|piece by piece|cut anywhere", "in chunks of any size"),
+    (r"brings? (?:a|the|its) \w+ into", "imports"),
+    (r"stands? (?:at|in)|stood (?:at|in)", "is at, is in"),
+    (r"li(?:fe|ves)", "session"),
+)
 
 
 def text_of(name):
@@ -59,6 +70,28 @@ def broken_links(page):
             headings = re.findall(r"^#+ (.*)$", prose_of(file), re.M)
             if anchor not in map(anchor_of, headings):
                 yield target
+
+
+def wide_lines(page):
+    """The lines of a page that are too wide. What a program prints is shown as it is."""
+    kind = None
+    for line in text_of(page).splitlines():
+        if line.startswith("```"):
+            kind = line[3:] if kind is None else None
+        elif kind is None or kind in ("sh", "sql") or line.startswith("$ "):
+            cells = line.split(" | ") if kind is None and line.startswith("|") else []
+            widest = WIDEST_ROW if cells else WIDEST
+            if len(line) > widest or any(len(cell) > WIDEST_CELL for cell in cells):
+                yield line
+
+
+def words_to_change(page):
+    """The words of a page that stand on the list, each with its line and what to say."""
+    text = re.sub(r"^```.*?^```$|`[^`]*`|\]\([^)]*\)", lambda it: re.sub(r"[^\n]", " ", it[0]),
+                  text_of(page), flags=re.M | re.S)
+    for word, better in WORDS:
+        for found in re.finditer(rf"\b(?:{word})\b".replace(" ", r"\s+"), text, re.I):
+            yield text.count("\n", 0, found.start()) + 1, " ".join(found[0].split()), better
 
 
 def defined():
@@ -107,21 +140,160 @@ def missing_evidence():
     return named, missing
 
 
+def all_specs():
+    """The text of each file of specs, by its path."""
+    found = {}
+    for folder, _, files in os.walk(os.path.join(TOP, "crates")):
+        for file in files if "/specs" in folder[len(TOP):] else ():
+            if file.endswith(".antt"):
+                with open(os.path.join(folder, file), encoding="utf-8") as spec:
+                    found[os.path.join(folder, file)] = spec.read()
+    return found
+
+
+def misplaced_definitions():
+    """How many definitions docs/PROOFS.md names with their files, and those that are not there."""
+    count, missing, specs = 0, [], all_specs()
+    for said in re.findall(r"\*Defined\s+by\*(.*?)\*[A-Z]", text_of("docs/PROOFS.md"), re.S):
+        said = " ".join(said.split())
+        for path, names in re.findall(r"`([A-Z][\w/]+)` \(((?:`\w+`(?:, )?)+)", said):
+            texts = [text for at, text in specs.items() if at.endswith(f"/{path}.antt")]
+            for name in re.findall(r"\w+", names):
+                count += 1
+                if not any(re.search(rf"\b{name}\b", text) for text in texts):
+                    missing.append(f"{path}: {name}")
+    return count, missing
+
+
+def fields():
+    """The fields of all records in specs, and those of the records that they cite."""
+    own, cited = {}, {}
+    pattern = (r"^( *)(?:pub )?record (\w+)(.*?)(?=^ *(?:pub |abbrev |unfoldable )*"
+               r"(?:record|data|abbrev|unfoldable|module)\b|\Z)")
+    for text in all_specs().values():
+        for indent, name, body in re.findall(pattern, text, re.M | re.S):
+            names = re.findall(rf"^{indent} +pub (\w+) :", body, re.M)
+            own.setdefault(name, set()).update(names)
+            cited.setdefault(name, set()).update(re.findall(r"\b[A-Z]\w+", body))
+    return {name: names.union(*(own.get(it, set()) for it in cited[name]))
+            for name, names in own.items()}
+
+
+def contracts():
+    """The name and the contract of each function, in any crate."""
+    for folder, _, files in os.walk(os.path.join(TOP, "crates")):
+        for file in files if "/src" in folder[len(TOP):] else ():
+            with open(os.path.join(folder, file), encoding="utf-8") as source:
+                name, contract = None, []
+                for line in source:
+                    begins = re.match(r"( *)(?:pub(?:\(\w+\))? )?(?:const )?fn (\w+)", line)
+                    if begins:
+                        indent, name, contract = begins[1], begins[2], []
+                    contract.append(line)
+                    ends = begins and line.endswith("{\n") or line == indent + "{\n" if name else ""
+                    if name and (ends or line.endswith(";\n") and " = " not in line):
+                        yield name, "".join(contract)
+                        name = None
+
+
+def clauses():
+    """For all functions of a name: the names of their clauses, and of the fields of the records
+    that these cite."""
+    found, records = {}, fields()
+    for name, contract in contracts():
+        names = found.setdefault(name, set())
+        names.update(re.findall(r"^ *ensures (\w+) \{", contract, re.M))
+        for word in set(re.findall(r"\b[A-Z]\w+", contract.partition("ensures")[2])):
+            names |= records.get(word, set())
+    return found
+
+
+def missing_clauses():
+    """How many clauses docs/PROOFS.md names with their calls, and those that no such call has."""
+    count, missing, known = 0, [], clauses()
+    for said in re.findall(r"\*Carried\s+by\*(.*?)\*[A-Z]", text_of("docs/PROOFS.md") + "*E", re.S):
+        said = " ".join(said.split())
+        pattern = r"((?:`[\w:]+`(?:, )?)+): ((?:`\w+`(?:, )?)+)(?=[;.(]| \(|$)"
+        for calls, names in re.findall(pattern, said):
+            calls = [it for it in re.findall(r"(\w+)`", calls) if it in known]
+            for name in re.findall(r"\w+", names) if calls else ():
+                count += 1
+                if not any(name in known[it] for it in calls):
+                    missing.append(f"{', '.join(calls)}: {name}")
+    return count, missing
+
+
+def missing_words():
+    """How many definitions docs/GLOSSARY.md names, and those that are not in specs or sources."""
+    names = re.findall(r"`(\w+)`\)", text_of("docs/GLOSSARY.md"))
+    text = "".join(open(os.path.join(at, it), encoding="utf-8").read()
+                   for at, _, files in os.walk(os.path.join(TOP, "crates"))
+                   if re.search(r"/(specs|src)\b", at[len(TOP):])
+                   for it in files)
+    return len(names), [it for it in names if not re.search(rf"\b{it}\b", text)]
+
+
+def missing_paths():
+    """The files that CONTRIBUTING.md names under "How to add", and those that do not exist. A path
+    that begins with src/ or specs/ is of the crate that was named last."""
+    named, missing, crate = 0, [], ""
+    text = text_of("CONTRIBUTING.md").partition("`src/` and `specs/`")[2]
+    for path in re.findall(r"`([\w/.]+)`", text):
+        crate = path.partition("/")[0] if path.startswith("pid_") else crate
+        if path.startswith(("pid_", "src/", "specs/", "tests/")):
+            at = path if path.startswith("tests/") else os.path.join("crates", path)
+            if path.startswith(("src/", "specs/")):
+                at = os.path.join("crates", crate, path)
+            named += 1
+            if not os.path.exists(os.path.join(TOP, at)):
+                missing.append(at)
+    return named, missing
+
+
+def has_reader(page):
+    """Whether the first sentence of a page says for whom it is."""
+    first = text_of(page).split("\n\n")[1]
+    return page == "README.md" or first.startswith("For ")
+
+
 def run(cases):
     for page in pages():
+        cases.equal(f"{page}: says for whom it is", has_reader(page), True)
         cases.equal(f"{page}: links that lead nowhere", sorted(broken_links(page)), [])
-    for page in NARROW:
-        wide = [line for line in text_of(page).splitlines() if len(line) > WIDEST]
-        cases.equal(f"{page}: lines over {WIDEST} columns", wide, [])
+        cases.equal(f"{page}: lines and cells that are too wide", list(wide_lines(page)), [])
+        cases.equal(f"{page}: words to change", list(words_to_change(page)), [])
     lines = text_of("README.md").count("\n")
     cases.equal(f"README.md: at most {README_LINES} lines", lines <= README_LINES, True)
     count, missing = missing_calls(defined())
     cases.equal("promises: calls that no source defines", missing, [])
     cases.equal("promises: they name calls", count > 40, True)
+    count, missing = missing_paths()
+    cases.equal("CONTRIBUTING.md: files that do not exist", missing, [])
+    cases.equal("CONTRIBUTING.md: it names some", count > 50, True)
     count, missing = missing_evidence()
     cases.equal("SECURITY.md: tests and calls that do not exist", missing, [])
     cases.equal("SECURITY.md: it names some", count > 30, True)
-    kit = re.search(r"rattle-kit-\w+ (logic \w+)", text_of("README.md"))
+    cases.equal("REFUSALS.md: as the definitions have them", refusals.shown(), refusals.defined())
+    shown, printed = reading_list.shown_part(), reading_list.page_part()
+    cases.equal("PROMISES.md: what to read (run tests/reading_list.py)", shown == printed, True)
+    steps = set(re.findall(r"`(Steps/\w+)`", shown))
+    named = set(re.findall(r"`(Steps/\w+)`", text_of("docs/ARCHITECTURE.md")))
+    cases.equal("ARCHITECTURE.md: the steps that promises rest on", named, steps)
+    shown, printed = edit_list.shown_part(), edit_list.page_part()
+    cases.equal("PROOFS.md: wrong bodies (run tests/edit_list.py)", shown == printed, True)
+    count, missing = edit_list.unknown()
+    cases.equal("PROOFS.md: edits that no crate has", missing, [])
+    cases.equal("PROOFS.md: it names some", count > 100, True)
+    count, missing = misplaced_definitions()
+    cases.equal("PROOFS.md: definitions that are not in their files", missing, [])
+    cases.equal("PROOFS.md: it names definitions", count > 100, True)
+    count, missing = missing_clauses()
+    cases.equal("PROOFS.md: clauses that no call has", missing, [])
+    cases.equal("PROOFS.md: it names clauses", count > 200, True)
+    count, missing = missing_words()
+    cases.equal("GLOSSARY.md: words that no definition has", missing, [])
+    cases.equal("GLOSSARY.md: it names some", count > 30, True)
+    kit = re.search(r"`(logic \w+)`", text_of("README.md"))
     cases.equal("README.md: names the toolchain's line", kit is not None, True)
     if shutil.which("rt") is None:
         cases.skipped("README.md: the toolchain's line", "the command rt is missing")

@@ -1,181 +1,99 @@
-"""The nginx of deploy/nginx with the site in front of a recorder: what comes through of hostile
-requests, who is refused, and that slow clients hold nobody up. Traffic stays on loopback."""
+"""The nginx of deploy/nginx with the site: what comes through of hostile requests, who is refused,
+what one visitor and one account may take, and that slow clients hold nobody up."""
 import base64
-import os
-import re
-import resource
 import socket
-import ssl
-import subprocess
 import tempfile
-import threading
 import time
 
-import built_packages
-import program
-from http_server import ask_curl, free_port, to_end
-from program import TOP
+from front_room import HOST, Front, Recorder, basic, needed
 
-HOST = "pciids.example.org"
 SLOW = 1_000
 
+# Times that a test waits for, and a share of commands that it uses up before more of it comes.
+IN_SHORT = {
+    "pciids_limits": (("zone=pciids_accounts:4m rate=20r/m", "zone=pciids_accounts:4m rate=1r/m"),),
+    "pciids_site": (
+        ("client_header_timeout 10s", "client_header_timeout 4s"),
+        ("client_body_timeout 10s", "client_body_timeout 4s"),
+        ("zone=pciids_accounts burst=1000", "zone=pciids_accounts burst=40"),
+    ),
+}
 
-def placed(name, folder, port, behind):
-    """A file of deploy/nginx with the places and ports of a test."""
-    with open(os.path.join(TOP, "deploy", "nginx", name), encoding="utf-8") as file:
-        text = file.read()
-    for old, new in (
-        ("/usr/share/pciids-registry/site", built_packages.site()),
-        ("/var/lib/pciids-public", f"{folder}/public"),
-        ("/run/pciids-web", folder),
-        ("/var/log/pciids-web", folder),
-        ("/var/cache/pciids-web", folder),
-        ("/etc/pciids", folder),
-        ("unix:/run/pciids/http.sock", f"127.0.0.1:{behind}"),
-        ("listen 443", f"listen 127.0.0.1:{port}"),
-        ("listen 80;", f"listen 127.0.0.1:{free_port()};"),
-    ):
-        text = text.replace(old, new)
-    return re.sub(r"\n *listen \[::\].*", "", text)
-
-
-class Recorder(threading.Thread):
-    """Stands for the server: keeps each request, and answers `{"ok":true}`."""
-
-    def __init__(self):
-        super().__init__(daemon=True)
-        self.listener = socket.create_server(("127.0.0.1", 0), backlog=256)
-        self.port, self.seen = self.listener.getsockname()[1], []
-        self.start()
-
-    def run(self):
-        while True:
-            client, _ = self.listener.accept()
-            with client:
-                self.seen.append(self.request(client))
-                head = b"HTTP/1.1 200 OK\r\nContent-Type: application/json\r\n"
-                client.sendall(head + b'Content-Length: 11\r\nConnection: close\r\n\r\n{"ok":true}')
-
-    def request(self, client):
-        """All that came: more than the request itself, if something was smuggled with it."""
-        client.settimeout(5)
-        data = b""
-        while True:
-            head, end, body = data.partition(b"\r\n\r\n")
-            length = re.search(rb"(?i)\r\ncontent-length: *(\d+)", head)
-            if end and len(body) >= int(length[1] if length else 0):
-                break
-            data += client.recv(65536)
-        client.settimeout(0.05)
-        try:
-            data += client.recv(65536)
-        except TimeoutError:
-            pass
-        return data
-
-
-class Front:
-    def __init__(self, folder, behind):
-        self.folder, self.port = folder, free_port()
-        os.chmod(folder, 0o755)
-        os.makedirs(os.path.join(folder, "public", "item", "PC"))
-        os.mkdir(os.path.join(folder, "nginx"))
-        self.write("public/pci.ids.gz", "packed")
-        for name, text in (("pci.ids", "# PCI ID registry\nC 01  Mass\n"), ("404.html", "none")):
-            self.write(f"public/{name}", text)
-        self.write("public/item/PC/8086.html", "<h1>Intel</h1>")
-        # The password of alice is `pw-alice`, as pciids-adduser writes one.
-        hashed = subprocess.check_output(
-            ["perl", "-e", "print crypt('pw-alice', '$5$rounds=1000$salt$')"], text=True
-        )
-        self.write("passwords", f"alice:{hashed}\n")
-        self.certificate = os.path.join(folder, "certificate.pem")
-        words = ["openssl", "req", "-x509", "-newkey", "rsa:2048", "-nodes", "-days", "1"]
-        words += ["-subj", f"/CN={HOST}", "-addext", f"subjectAltName=DNS:{HOST}"]
-        words += ["-keyout", os.path.join(folder, "key.pem"), "-out", self.certificate]
-        subprocess.run(words, stderr=subprocess.DEVNULL, check=True)
-        for name in ("nginx", "pciids-limits", "pciids-headers", "pciids-site"):
-            self.write(f"nginx/{name}.conf", placed(f"{name}.conf", folder, self.port, behind))
-        subprocess.run(["chmod", "-R", "a+rX", folder], check=True)
-        self.errors = open(os.path.join(folder, "errors"), "wb")
-        self.process = subprocess.Popen(
-            ["nginx", "-e", "stderr", "-c", os.path.join(folder, "nginx", "nginx.conf")],
-            stderr=self.errors,
-        )
-        for _ in range(100):
-            with socket.socket() as knock:
-                if knock.connect_ex(("127.0.0.1", self.port)) == 0:
-                    break
-            time.sleep(0.05)
-
-    def write(self, name, text):
-        with open(os.path.join(self.folder, name), "w", encoding="utf-8") as file:
-            file.write(text)
-
-    def close(self):
-        self.process.terminate()
-        self.process.wait(timeout=30)
-        self.errors.close()
-
-    def curl(self, path, *words):
-        place = f"{HOST}:{self.port}"
-        words = ("--cacert", self.certificate, "--resolve", f"{place}:127.0.0.1", *words)
-        return ask_curl(*words, f"https://{place}{path}")
-
-    def raw(self, sent):
-        """What comes back for the bytes of a client that speaks HTTP/1.1."""
-        context = ssl.create_default_context(cafile=self.certificate)
-        client = socket.create_connection(("127.0.0.1", self.port), timeout=20)
-        with context.wrap_socket(client, server_hostname=HOST) as safe:
-            safe.sendall(sent)
-            safe.settimeout(1)
-            try:
-                return to_end(safe)
-            except (TimeoutError, OSError):
-                return b""
-
-
-LOGIN = b"Authorization: Basic " + base64.b64encode(b"alice:pw-alice") + b"\r\n"
+LOGIN = b"Authorization: %s\r\n" % basic("alice", "pw-alice").encode()
 POST = b"POST /submit HTTP/1.1\r\nHost: a\r\nConnection: close\r\n" + LOGIN
-SHORT = b"Content-Length: 3\r\n\r\na=b"
+ASK = b"GET /pending HTTP/1.1\r\nHost: a\r\n"
+BODY = b"Content-Length: 3\r\n\r\na=b"
 SECOND = b"POST /approve HTTP/1.1\r\nHost: a\r\nX-Account: root\r\nContent-Length: 5\r\n\r\nnum=1"
 CHUNKED = b"Transfer-Encoding: chunked\r\n"
+
+HALF_BODY = POST + b"Content-Length: 30\r\n\r\na=b"
+
+# What is sent, and how many requests may come through of it, at least and at most. RFC 9112 has a
+# server refuse a blank before a colon and lengths that differ or are none; it leaves it to a server
+# whether it refuses or repairs others.
 HOSTILE = {
-    "an account of the client": POST + b"X-Account: root\r\nX_Account: root\r\n" + SHORT,
-    "an account by obs-fold": POST + b"X-Foo: a\r\n X-Account: root\r\n" + SHORT,
-    "an account after a bare LF": POST + b"X-Foo: a\nX-Account: root\r\n" + SHORT,
-    "an account after a bare CR": POST + b"X-Foo: a\rX-Account: root\r\n" + SHORT,
-    "a space before the colon": POST + b"X-Account : root\r\n" + SHORT,
-    "a NUL in a name": POST + b"X-Account\0: root\r\n" + SHORT,
-    "both lengths": POST + b"Content-Length: 6\r\n" + CHUNKED + b"\r\n0\r\n\r\n" + SECOND,
-    "two lengths": POST + b"Content-Length: 30\r\n" + SHORT,
-    "a signed length": POST + b"Content-Length: +3\r\n\r\na=b",
-    "a huge length": POST + b"Content-Length: 18446744073709551619\r\n\r\na=b",
-    "trailers": POST + CHUNKED + b"\r\n3\r\na=b\r\n0\r\nX-Account: root\r\n\r\n",
-    "a chunk with a bare LF": POST + CHUNKED + b"\r\n3\na=b\n0\n\n" + SECOND,
-    "a longer body": POST + SHORT + SECOND,
-    "a request in the body of a question": b"GET /pending HTTP/1.1\r\nHost: a\r\nConnection: close\r\n"
-    b"Content-Length: %d\r\n\r\n" % len(SECOND) + SECOND,
-    "a request in the target": b"GET /pending HTTP/1.1\r\nX-Account: root\r\nHost: a\r\n\r\n",
-    "pipelined without a password": b"GET /pending HTTP/1.1\r\nHost: a\r\n\r\n" + SECOND,
-    "an odd method": b"GETX /submit HTTP/1.1\r\nHost: a\r\nX-Account: root\r\n" + SHORT,
+    "a command": (POST + BODY, 1, 1),
+    "an account of the client": (POST + b"X-Account: root\r\nX_Account: root\r\n" + BODY, 1, 1),
+    "an account by obs-fold": (POST + b"X-Foo: a\r\n X-Account: root\r\n" + BODY, 0, 1),
+    "an account after a bare LF": (POST + b"X-Foo: a\nX-Account: root\r\n" + BODY, 0, 1),
+    "an account after a bare CR": (POST + b"X-Foo: a\rX-Account: root\r\n" + BODY, 0, 1),
+    "a head of bare LF": (POST.replace(b"\r", b"") + b"X-Account: root\n" + BODY, 0, 1),
+    "a space before the colon": (POST + b"X-Account : root\r\n" + BODY, 0, 0),
+    "a NUL in a name": (POST + b"X-Account\0: root\r\n" + BODY, 0, 0),
+    "a NUL in a value": (POST + b"X-Foo: a\0b\r\n" + BODY, 0, 0),
+    "both lengths": (POST + b"Content-Length: 6\r\n" + CHUNKED + b"\r\n0\r\n\r\n" + SECOND, 0, 1),
+    "two codings": (POST + CHUNKED + CHUNKED + b"\r\n0\r\n\r\n" + SECOND, 0, 1),
+    "an unknown coding": (POST + b"Transfer-Encoding: xchunked\r\n\r\n0\r\n\r\n" + SECOND, 0, 0),
+    "two lengths": (POST + b"Content-Length: 30\r\n" + BODY, 0, 0),
+    "a list of lengths": (POST + b"Content-Length: 3, 3\r\n\r\na=b", 0, 0),
+    "a signed length": (POST + b"Content-Length: +3\r\n\r\na=b", 0, 0),
+    "a huge length": (POST + b"Content-Length: 18446744073709551619\r\n\r\na=b", 0, 0),
+    "a length that is not sent": (POST + b"Content-Length: 9\r\n\r\na=b", 0, 0),
+    "trailers": (POST + CHUNKED + b"\r\n3\r\na=b\r\n0\r\nX-Account: root\r\n\r\n", 0, 1),
+    "a chunk with a bare LF": (POST + CHUNKED + b"\r\n3\na=b\n0\n\n" + SECOND, 0, 1),
+    "a chunk of a signed length": (POST + CHUNKED + b"\r\n+3\r\na=b\r\n0\r\n\r\n" + SECOND, 0, 0),
+    "a longer body": (POST + BODY + SECOND, 1, 1),
+    "a request in the body of a question": (
+        ASK + b"Connection: close\r\nContent-Length: %d\r\n\r\n" % len(SECOND) + SECOND, 0, 1),
+    "an account of a question": (ASK + b"X-Account: root\r\nConnection: close\r\n\r\n", 1, 1),
+    "pipelined without a password": (ASK + b"\r\n" + SECOND, 1, 1),
+    "an odd method": (b"GETX /submit HTTP/1.1\r\nHost: a\r\nX-Account: root\r\n" + BODY, 0, 0),
+    "two of Host": (POST + b"Host: b\r\n" + BODY, 0, 0),
+    "half a head": (POST + b"X-Fo", 0, 0),
+    "half a line of a head": (b"POST /sub", 0, 0),
+    "a head without its end": (POST + b"Content-Length: 3\r\n", 0, 0),
+    "half a body": (HALF_BODY, 0, 0),
 }
+
+
+def faults_of(requests):
+    """What of a request must never come to the server: another account than that of the password,
+    none for a command, a password, a coding, or bytes beside a body."""
+    for it in requests:
+        is_command = not it.first.startswith(b"GET ")
+        if it.values(rb"x[-_]account") != [b"alice"] * is_command:
+            yield "account"
+        if not it.is_whole():
+            yield "body"
+        if it.values(b"transfer-encoding") or it.values(b"authorization"):
+            yield "field"
+
+
+def arrived(recorder, send):
+    """What came to the recorder of what a function sends."""
+    recorder.seen.clear()
+    send()
+    time.sleep(0.05)
+    return list(recorder.seen)
 
 
 def hostile(cases, front, recorder):
     """Whatever is sent, the registry sees one request at a time, of alice or of nobody."""
-    for name, sent in HOSTILE.items():
-        recorder.seen.clear()
-        front.raw(sent)
-        time.sleep(0.1)
-        accounts, extra = [], False
-        for data in recorder.seen:
-            head, _, body = data.partition(b"\r\n\r\n")
-            accounts += re.findall(rb"(?i)\nx[-_]account *: *(\S*)", head.replace(b"\r", b"\n"))
-            length = re.search(rb"(?i)\r\ncontent-length: *(\d+)", head)
-            extra |= len(body) != int(length[1] if length else 0)
-            extra |= b"transfer-encoding" in head.lower() or b"authorization" in head.lower()
-        cases.equal(f"front: {name}", (set(accounts) <= {b"alice"}, extra), (True, False))
+    for name, (sent, fewest, most) in HOSTILE.items():
+        seen = arrived(recorder, lambda: front.raw(sent))
+        cases.equal(f"front: {name}", list(faults_of(seen)), [])
+        is_right = fewest <= len(seen) <= most
+        cases.equal(f"front: {name}, {len(seen)} came through", is_right, True)
 
 
 def refusals(cases, front):
@@ -196,12 +114,19 @@ def refusals(cases, front):
     told = front.curl("/whoami", "-u", "alice:pw-alice")
     cases.equal("front: whoami", told, (200, "application/json", b'{"account":"alice"}'))
     cases.equal("front: whoami, a wrong password", front.curl("/whoami", "-u", "alice:no")[0], 401)
+    cases.equal("front: TLS 1.1", front.curl("/", "--tls-max", "1.1")[0], 0)
+    cases.equal("front: TLS 1.2", front.curl("/", "--tls-max", "1.2")[0], 200)
+
+
+def pages(cases, front):
     head = front.curl("/pci.ids", "-i")[2]
     cases.equal("front: HTTP/2", head[:11], b"HTTP/2 200 ")
     packed = front.curl("/pci.ids", "-i", "-H", "Accept-Encoding: gzip")[2].lower()
     for field in (b"etag: ", b"last-modified: ", b"cache-control: max-age=60", b"vary: "):
         cases.equal(f"front: {field.decode()}", field in packed, True)
-    cases.equal("front: TLS 1.1", front.curl("/", "--tls-max", "1.1")[0], 0)
+    absent = front.curl("/pci.ids.bz2", "-i")[2].lower()
+    got = (absent[:10], b"cache-control: max-age" in absent)
+    cases.equal("front: a refusal may not be kept", got, (b"http/2 404", False))
     page = ("-H", "Accept: text/html")
     for path, want in (
         ("/", 200),
@@ -213,45 +138,122 @@ def refusals(cases, front):
         ("/site/../passwords", 404),
         ("/site/%2e%2e/%2e%2e/passwords", 400),
         ("/pci.ids", 200),
+        ("/vendors/", 301),
     ):
         cases.equal(f"front: {path}", front.curl(path, *page, "--path-as-is")[0], want)
+    there = front.curl("/vendors/", "-i", "-H", "Host: evil.example")[2].lower()
+    found = [it for it in there.split(b"\r\n") if it.startswith(b"location: ")]
+    cases.equal("front: a redirect leads to no other host", found, [b"location: /vendors"])
 
 
 def limits(cases, front):
     """The text itself is asked for six times at once at most; the published file goes on."""
-    live = ("-H", "Cache-Control: no-cache")
+    live = ("-H", "Cache-Control: no-cache", "--interface", "127.0.0.2")
     told = [front.curl("/pci.ids", *live)[0] for _ in range(8)]
     cases.equal("front: the text, eight times", told, [200] * 6 + [429] * 2)
     cases.equal("front: the published file then", front.curl("/pci.ids")[0], 200)
+    here, there = "127.0.3.1", "127.0.3.2"
+    clients = [front.connect(here) for _ in range(16)]
+    for it in clients:
+        it.sendall(HALF_BODY)
+    time.sleep(0.2)
+    told = front.post("bob", here), front.post("bob", there)
+    cases.equal("front: a request beside sixteen open ones", told, (429, 200))
+    told = front.curl("/site/main.js", "--interface", here)[0]
+    cases.equal("front: a file of the site beside them", told, 200)
+    for it in clients:
+        it.close()
 
 
-def slow(cases, front):
-    """Connections that say nothing, and commands meanwhile."""
-    most = resource.getrlimit(resource.RLIMIT_NOFILE)
-    if most[0] < SLOW + 100:
-        resource.setrlimit(resource.RLIMIT_NOFILE, (min(SLOW + 500, most[1]), most[1]))
+def shares(cases, front):
+    """Commands of an account are counted wherever they come from, and a wrong password, or another
+    spelling of the right one, takes nobody's share."""
+    guesses = [basic("carol", f"pw-{number}") for number in range(45)]
+    told = {front.post("carol", "127.0.1.1", login=it) for it in guesses}
+    cases.equal("front: carol with wrong passwords", told, {401})
+    told = [front.post("carol", f"127.0.1.{number % 9 + 2}") for number in range(43)]
+    want = [200] * 41 + [429] * 2
+    cases.equal("front: carol's share, from nine addresses", told, want)
+    cases.equal("front: others have theirs", front.post("bob", "127.0.1.2"), 200)
+    words = ("--interface", "127.0.1.3", "-u", "carol:pw-carol")
+    cases.equal("front: her questions go on", front.curl("/pending", *words)[0], 200)
+    right = basic("carol", "pw-carol").removeprefix("Basic ")
+    cut = base64.b64encode(b"carol:pw-carol\0more").decode()
+    for name, login, want in (
+        ("another case of the scheme", f"bAsIc   {right}", 429),
+        ("no padding", f"Basic {right.rstrip('=')}", 400),
+        ("text after the padding", f"Basic {right}x", 400),
+        ("bits beyond the last byte", f"Basic {right[:-2]}t=", 400),
+        ("a NUL after the password", f"Basic {cut}", 400),
+        ("another scheme", f"Bearer {right}", 401),
+    ):
+        got = front.post("carol", "127.0.1.20", login=login)
+        cases.equal(f"front: a spent share, {name}", got, want)
+
+
+class Slow:
+    """A client that sends so much, and then nothing."""
+
+    # Half of them never speak TLS at all.
+    KINDS = (None, b"", None, ASK + b"X-F", None, HALF_BODY)
+
+    def __init__(self, front, number):
+        # No address may have more than 16 requests open at the registry.
+        self.kind, address = number % 6, f"127.0.2.{number % 120 + 1}"
+        self.sent = self.KINDS[self.kind]
+        if self.sent is None:
+            place = ("127.0.0.1", front.port)
+            self.client = socket.create_connection(place, timeout=20, source_address=(address, 0))
+        else:
+            self.client = front.connect(address)
+            self.client.sendall(self.sent)
+
+    def is_cut(self):
+        """The server closes the connection, within its time."""
+        self.client.settimeout(8)
+        try:
+            while self.client.recv(65536):
+                pass
+        except TimeoutError:
+            return False
+        except OSError:
+            return True
+        return True
+
+
+def slow(cases, front, recorder):
+    """Connections that say nothing or half of what they should, and commands meanwhile."""
     clients = []
+    recorder.seen.clear()
     try:
-        for _ in range(SLOW):
-            clients.append(socket.create_connection(("127.0.0.1", front.port), timeout=10))
-        told = [front.curl("/submit", "-u", "alice:pw-alice", "-d", "a=b")[0] for _ in range(10)]
+        for number in range(SLOW):
+            clients.append(Slow(front, number))
+        start = time.monotonic()
+        told = [front.post("bob", "127.0.0.9") for _ in range(10)]
+        took = time.monotonic() - start
         cases.equal(f"front: commands beside {SLOW} slow clients", told, [200] * 10)
+        cases.equal(f"front: in {took:.1f} s", took < 3, True)
+        cases.equal("front: nothing came of the slow ones", len(recorder.seen), 10)
+        for kind in (1, 3, 5):
+            cut = [it.is_cut() for it in clients if it.kind == kind]
+            name = ("a silent client", "half a head", "half a body")[kind // 2]
+            cases.equal(f"front: {name} is cut", cut.count(True), len(cut))
     finally:
-        for client in clients:
-            client.close()
+        for it in clients:
+            it.client.close()
 
 
 def run(cases):
-    program.need("nginx", "openssl", "curl", "perl")
-    if os.geteuid() != 0:
-        raise program.Skip("only root can start it")
+    needed()
     recorder = Recorder()
     with tempfile.TemporaryDirectory() as folder:
-        front = Front(folder, recorder.port)
+        front = Front(folder, recorder.port, **IN_SHORT)
         try:
             refusals(cases, front)
+            pages(cases, front)
             hostile(cases, front, recorder)
             limits(cases, front)
-            slow(cases, front)
+            shares(cases, front)
+            slow(cases, front, recorder)
         finally:
             front.close()

@@ -40,6 +40,12 @@ PARTS = {
     ),
     # There is no module for this one.
     "memory": (None, (0, 1, 0)),
+    # These are tried at once.
+    "front": ("def run(cases):\n    cases.equal('', 1, 1)\n", (1, 0, 0)),
+    "caches": (
+        "def run(cases):\n    cases.equal('', 1, 2)\n    cases.skipped('one', 'why')\n", (0, 1, 1)
+    ),
+    "machine": ("import os\ndef run(cases):\n    os._exit(0)\n", None),
 }
 
 # The last lines of runs, and what the gate reads in them.
@@ -73,9 +79,10 @@ def broken_parts(cases, folder):
                 file.write(text)
     lines, status = tried(folder, *PARTS)
     for name, (_, counts) in PARTS.items():
-        found = [line for line in lines if line.startswith(f"{name}: {line_of(*counts)}, ")]
+        start = f"{name}: {line_of(*counts)}, " if counts else f"FAILED {name}: its last line is "
+        found = [line for line in lines if line.startswith(start)]
         cases.equal(f"harness: the counts of a part like {name}", len(found), 1)
-    whole = line_of(*map(sum, zip(*(counts for _, counts in PARTS.values()))))
+    whole = line_of(*map(sum, zip(*(counts or (0, 1, 0) for _, counts in PARTS.values()))))
     cases.equal("harness: the last line and the status", (lines[-1], status), (whole, 1))
     lines, status = tried(folder, "words", "mirror")
     cases.equal("harness: all is well", (lines[-1], status), ("2 passed, 0 failed", 0))

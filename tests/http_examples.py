@@ -1,5 +1,6 @@
-"""The examples of docs/HTTP.md, in turn: each line '$ curl ..' is run and must print what stands behind it, and to the bytes of the
-first of two blocks that show CR and LF the server answers those of the second."""
+"""The examples of docs/HTTP.md, in turn: each line '$ curl ..' is run and must print what follows,
+and to the bytes of the first of two blocks that show CR and LF the server answers those of the
+second. A backslash at the end of a line continues a command."""
 import os
 import subprocess
 
@@ -9,7 +10,7 @@ PLACE = "127.0.0.1:8086"
 
 
 def blocks():
-    """The blocks of the page: what stands behind the three marks, and the lines."""
+    """The blocks of the page: what follows the three marks, and the lines."""
     kind = lines = None
     with open(os.path.join(TOP, "docs", "HTTP.md"), encoding="utf-8", newline="") as page:
         for line in page:
@@ -27,7 +28,9 @@ def commands(lines):
     """The commands of a block, and the text that each is to print."""
     found = []
     for line in lines:
-        if line.startswith("$ "):
+        if found and found[-1][0].endswith("\\") and not found[-1][1]:
+            found[-1][0] += "\n" + line.rstrip("\n")
+        elif line.startswith("$ "):
             found.append([line[2:].rstrip("\n"), ""])
         else:
             found[-1][1] += line

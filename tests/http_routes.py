@@ -1,12 +1,11 @@
 """Each route with each refusal that it can tell, asked of two servers alike: one answers in JSON, the other in text."""
 import json
 import os
-import re
 import shutil
 import tempfile
 
+import refusals
 from http_server import JSON, TEXT, Server
-from program import TOP
 from registry import asked, script
 
 MANY = b"".join(b"%04x  a\n" % vendor for vendor in range(65_536)) + b"".join(b"\t%04x  a\n" % device for device in range(34_465))
@@ -128,13 +127,6 @@ QUESTIONS = [
 ]
 
 
-def refusals():
-    """The word and the status of each refusal, as docs/HTTP.md has them."""
-    with open(os.path.join(TOP, "docs", "HTTP.md"), encoding="utf-8") as page:
-        rows = re.findall(r"^\| (\d+) \| (\w+) \| (\d{3}) [A-Z]", page.read(), re.M)
-    return {int(number): (word, int(status)) for number, word, status in rows}
-
-
 def line_of(it):
     """The line for one of a list."""
     if "num" not in it:
@@ -220,8 +212,8 @@ def run(cases):
     if shutil.which("curl") is None:
         cases.skipped("routes", "the package curl is not installed")
         return
-    known = refusals()
-    cases.equal("docs/HTTP.md: refusals", sorted(known), [*range(1, 6), *range(7, 19), *range(20, 29)])
+    known = refusals.shown()
+    cases.equal("docs/REFUSALS.md: the numbers", sorted(known), [*range(1, 6), *range(7, 19), *range(20, 29)])
     with tempfile.TemporaryDirectory() as folder:
         with Server(os.path.join(folder, "json")) as first, Server(os.path.join(folder, "text")) as second:
             ask_commands(cases, known, (first, second), COMMANDS, folder)

@@ -12,7 +12,7 @@ from program import TOP
 
 LIB = os.path.join(TOP, "deploy", "lib")
 SCRIPTS = ("mirror.sh", "build-deb", "bin/pciids-adduser", "bin/pciids-restore", "lib/hold")
-SCRIPTS += ("lib/backup", "lib/restore")
+SCRIPTS += ("lib/backup", "lib/restore", "completions/pciids.bash")
 
 # Stands for the program: a registry opens where its file and its log belong together.
 OPENS = """#!/bin/sh
@@ -39,7 +39,7 @@ esac
 # Stands for a tool in turn: the call with this number kills the script that makes it.
 KILLS = """#!/bin/sh
 echo >> "{counter}"
-if [ "$(wc -l < "{counter}")" -eq {number} ]; then kill -KILL $PPID; sleep 1; exit 1; fi
+if [ "$(wc -l < "{counter}")" -eq {number} ]; then kill -KILL $PPID; sleep 0.1; exit 1; fi
 exec {tool} "$@"
 """
 
@@ -301,7 +301,7 @@ def swaps_stopped(cases):
     once it is settled the registry is the old one or the new one, with its own log."""
     tools = ("mv", "cp", "ln", "rm", "sync", "mkdir", "find", "flock", "date")
     outcomes = set()
-    fails = KILLS.replace("kill -KILL $PPID; sleep 1; ", "")
+    fails = KILLS.replace("kill -KILL $PPID; sleep 0.1; ", "")
     for kind, body in (("killed", KILLS), ("failing", fails)):
         for number in range(1, 60):
             with room() as it:

@@ -1,5 +1,6 @@
-"""The packages on a machine of their own: from `dpkg -i` to a moderated name in the published file,
-then stops, backup, restore, upgrade, removal and purge."""
+"""The packages on a machine of their own: from `apt install` to a moderated name in the published
+file, then stops, backup, restore, upgrade, removal and purge. Each example of docs/OPERATE.md is
+run on the way."""
 import os
 import re
 import tempfile
@@ -7,9 +8,10 @@ import tempfile
 import built_packages
 import program
 from machine_room import Machine
+from program import TOP
 
 HOST = "pciids.example.org"
-UNITS = ["pciids"] + [f"pciids-{it}" for it in ("http", "publish", "backup", "restore@x", "web")]
+UNITS = ["pciids"] + [f"pciids-{it}" for it in "http publish backup restore@x web failed@x".split()]
 # The most that `systemd-analyze security` may say of a unit.
 EXPOSURE = 1.5
 ASK = "curl -s --max-time 60 --unix-socket /run/pciids/http.sock http://localhost"
@@ -22,11 +24,33 @@ MARK = "/run/pciids/stopped"
 HOLD = "/usr/lib/pciids-registry/hold"
 
 
+def examples():
+    """The blocks of shell commands of docs/OPERATE.md, each with its heading."""
+    with open(os.path.join(TOP, "docs", "OPERATE.md"), encoding="utf-8") as page:
+        sections = page.read().split("\n## ")[1:]
+    for section in sections:
+        for block in re.findall(r"^```sh\n(.*?)^```$", section, re.S | re.M):
+            yield section.partition("\n")[0], block
+
+
 class Story:
     """What the cases share: the machine, the passwords that were told, and how things are said."""
 
     def __init__(self, cases, machine):
         self.cases, self.machine, self.passwords = cases, machine, {}
+        self.examples = list(examples())
+
+    def example(self, heading, folder="/srv", **named):
+        """Runs the next block of a section of the document. Returns what it prints."""
+        found = next((it for it in self.examples if it[0] == heading), None)
+        self.cases.equal(f"machine: an example of '{heading}'", found is not None, True)
+        if not found:
+            return ""
+        self.examples.remove(found)
+        block = found[1]
+        for old, new in named.items():
+            block = block.replace(old, new)
+        return self.works(f"the example of '{heading}'", f"set -e; cd {folder}\n{block}")
 
     def same(self, name, command, want, status=0):
         """A command of the machine prints this and ends so."""
@@ -53,10 +77,15 @@ class Story:
         return self.machine.run(f"{words} 'https://{HOST}{path}?format=text'")[1].strip()
 
 
-def install(story):
+def put_packages(story):
     for name in ("pciids", "pciids-registry"):
-        story.machine.put(built_packages.package(name), f"/srv/{name}.deb")
-    story.works("installation", "dpkg -i /srv/pciids.deb /srv/pciids-registry.deb")
+        path = built_packages.package(name)
+        story.machine.put(path, f"/srv/{os.path.basename(path)}")
+
+
+def install(story):
+    put_packages(story)
+    story.example("Install")
     story.is_up("a new registry answers")
     story.same("the way to its port is up", "systemctl is-active pciids-http", "active")
     units = "pciids.service pciids-http.socket pciids-publish.timer pciids-backup.timer"
@@ -87,6 +116,9 @@ def sandbox(story):
         found = re.search(r": ([0-9.]+) ", told)
         exposed = float(found[1]) if found else 10.0
         story.cases.equal(f"machine: {unit} is exposed at {exposed}", exposed <= EXPOSURE, True)
+    units = "dpkg -L pciids-registry | grep -E 'system/[^/]*\\.(service|socket|timer)$'"
+    faults = f"systemd-analyze verify --man=no $({units}) 2>&1 | grep -i pciids"
+    story.same("the units have no fault", faults, "", 1)
     ask = ASK + "/account -H 'X-Account: root' -d 'who=eve&rank=3'"
     story.fails("the port, from the host", "curl -s --max-time 5 http://127.0.0.1:8086/pending")
     for user in ("www-data", "nobody", "pciids"):
@@ -97,13 +129,15 @@ def sandbox(story):
 
 
 def accounts(story):
+    told = story.example("Accounts")
     for name, rank in (("anna", "administrator"), ("carl", "contributor")):
-        told = story.works(f"an account for {name}", f"pciids-adduser {name} {rank}")
-        found = re.fullmatch(
-            rf"account {name}: is {rank} now\npassword of {name}: ([0-9a-f]{{32}})\n"
+        found = re.search(
+            rf"^account {name}: is {rank} now\npassword of {name}: ([0-9a-f]{{32}})\n"
             rf"It is shown this once. Log in as {name}; nothing has to be reloaded.\n",
             told,
+            re.M,
         )
+        story.cases.equal(f"machine: an account for {name}", found is not None, True)
         story.passwords[name] = found[1] if found else "none"
     again = "account carl: was contributor before\npassword of carl: is as before"
     story.same("the same account again", "pciids-adduser carl 0", again)
@@ -116,22 +150,25 @@ def accounts(story):
         story.same(f"pciids-adduser {words}", f"pciids-adduser {words} > /dev/null 2>&1", "", 2)
 
 
-def moderated(story):
-    """From a certificate to a name in the published file."""
+def web(story):
+    """The web server, with a certificate that the test makes."""
     story.works(
         "a certificate",
-        f"openssl req -x509 -newkey rsa:2048 -nodes -days 1 -subj /CN={HOST}"
-        f" -addext subjectAltName=DNS:{HOST} -keyout /etc/pciids/key.pem"
-        " -out /etc/pciids/certificate.pem 2> /dev/null;"
-        " chgrp pciids-web /etc/pciids/key.pem; chmod 640 /etc/pciids/key.pem",
+        f"cd /srv; openssl req -x509 -newkey ec -pkeyopt ec_paramgen_curve:P-256 -nodes -days 1"
+        f" -subj /CN={HOST} -addext subjectAltName=DNS:{HOST} -keyout privkey.pem"
+        " -out fullchain.pem 2> /dev/null",
     )
-    # The machine has no IPv6.
+    # The machine has no IPv6, and no nginx of its own that runs.
     edit = "sed -i '/listen \\[::\\]/d' /etc/pciids/nginx/pciids-site.conf"
     story.works("a site without IPv6", edit)
-    story.works("the web server starts", "systemctl enable --now pciids-web")
-    page = f"{ASK_SITE} -H 'Accept: text/html' -o /dev/null -w '%{{http_code}} %{{redirect_url}}'"
+    story.example("The web server")
     up = story.machine.until(f"{ASK_SITE} -f -o /dev/null https://{HOST}/")
     story.cases.equal("machine: the web server answers", up, True)
+
+
+def moderated(story):
+    """From a submission to a name in the published file."""
+    page = f"{ASK_SITE} -H 'Accept: text/html' -o /dev/null -w '%{{http_code}} %{{redirect_url}}'"
     address = f"{HOST}/vendors"
     story.same("http leads to https", f"{page} http://{address}", f"301 https://{address}")
     told = story.post("carl", "/submit", "path=PC/8086&name=Intel")
@@ -181,6 +218,7 @@ def kill_backup(story):
     )
     held = story.machine.until(f"test -L {MARK} && pgrep -x sleep")
     story.cases.equal("machine: a backup has the server stopped", held, True)
+    story.same("it does not run as root", "ps -o user= -C sleep", "pciids")
     story.works("the backup killed", "systemctl kill -s KILL pciids-backup")
     story.is_up("the server is back after the backup was killed")
     story.same("no mark is left", f"ls {MARK} 2> /dev/null", "", 2)
@@ -203,13 +241,20 @@ def kept(story):
 
     story.machine.run("mkdir /var/backups/pciids/2000-01-01T000000Z; cd /var/backups/pciids/2000*;"
                       " echo nothing | gzip > registry.db.gz; chmod -R a+rX .")
+    hook = "/etc/pciids/on-failure"
+    story.machine.run(f"printf '#!/bin/sh\\necho told of $1\\n' > {hook}; chmod 755 {hook}")
     story.fails("a copy that does not open", "pciids-restore 2000-01-01T000000Z 2> /dev/null")
+    name = "$(systemd-escape --template=pciids-restore@.service 2000-01-01T000000Z)"
+    said = story.machine.until(f"journalctl -q | grep -qF \"told of {name}\"", 20)
+    story.cases.equal("machine: the operator's program was told of it", said, True)
+    story.machine.run(f"rm {hook}")
     story.is_up("the server goes on after it")
     text = "# PCI ID registry\n10ec  Realtek\n8086  Intel"
     story.same("the registry is as before", f"{ASK}/pci.ids", text)
     story.fails("a copy that is none", "pciids-restore ../../etc 2> /dev/null")
 
-    story.works("a restore", f"pciids-restore {copy}")
+    told = story.example("Backup and restore", **{"2026-11-25T031700Z": copy})
+    story.cases.equal("machine: the copies are listed", copy in told.split(), True)
     story.is_up("the server is back after a restore")
     story.same("the registry is as it was", f"{ASK}/pci.ids", "# PCI ID registry\n8086  Intel")
     story.works("publishing after a restore", "systemctl start pciids-publish")
@@ -217,17 +262,15 @@ def kept(story):
     former = "ls /var/lib/pciids/replaced.*"
     story.same("the former registry is kept", former, "registry.db\nregistry.db-wal")
     story.machine.run("systemctl reset-failed; rm -r /var/backups/pciids/2000*")
-    return copy
 
 
 def upgraded(story, folder):
     """Another version: the registry, the passwords and edited files stay."""
     for name in ("pciids", "pciids-registry"):
         newer = built_packages.repacked(name, "0.1.0+next", folder)
-        story.machine.put(newer, f"/srv/{name}-next.deb")
+        story.machine.put(newer, f"/srv/next/{name}_next.deb")
     was = story.machine.run("systemctl show -p MainPID --value pciids")[1]
-    newer = "/srv/pciids-next.deb /srv/pciids-registry-next.deb"
-    story.works("upgrade", f"dpkg --force-confdef --force-confold -i {newer}")
+    story.example("Upgrade", "/srv/next")
     story.is_up("the server answers after an upgrade")
     now = story.machine.run("systemctl show -p MainPID --value pciids")[1]
     story.cases.equal("machine: it was started again", was != now, True)
@@ -244,7 +287,32 @@ def upgraded(story, folder):
     story.cases.equal("machine: passwords stay", told, "ok 2")
 
 
-def removed(story, copy):
+def imported(story):
+    """The names of Debian's file, by the other example of the installation."""
+    told = story.example("Install")
+    found = re.search(r"ok added=(\d+) renamed=1 same=0\n", told)
+    added = int(found[1]) if found else 0
+    story.cases.equal(f"machine: an import says {told!r}", added > 30_000, True)
+    intel = f"{ASK}/read/PC/8086?format=text"
+    story.same("a name of it", intel, "Intel Corporation")
+
+
+def distributed(story):
+    """What others fetch from the site: update-pciids of pciutils."""
+    story.works("publishing the import", "systemctl start pciids-publish")
+    story.machine.run(
+        f"echo 127.0.0.1 {HOST} >> /etc/hosts; mkdir -p /srv/copy;"
+        " echo cacert=/etc/pciids/certificate.pem > /srv/.curlrc;"
+        f" sed -e 's|^SRC=.*|SRC=https://{HOST}/pci.ids|' -e 's|^DEST=.*|DEST=/srv/pci.ids|'"
+        " /usr/sbin/update-pciids > /srv/update"
+    )
+    story.works("update-pciids", "HOME=/srv sh /srv/update -q 2>&1")
+    public = "/var/lib/pciids-public/pci.ids"
+    story.works("it has the published file", f"cmp /srv/pci.ids {public} 2>&1")
+    story.same("lspci takes it", "lspci -i /srv/pci.ids 2>&1 > /dev/null", "")
+
+
+def removed(story):
     """What goes and what stays; an nginx of the host that was given the files is sound."""
     story.machine.run(
         "ln -s /etc/pciids/nginx/pciids-limits.conf /etc/nginx/conf.d/pciids.conf;"
@@ -261,17 +329,17 @@ def removed(story, copy):
         "find /etc /usr /run /var/lib /var/log /var/cache /var/backups -maxdepth 3"
         " ! -path /run/pciids \\( -name 'pciids*' -o -path '*/pciids/*' \\)"
         " ! -path '*/dpkg/*' ! -name '*.pem' ! -path '*/replaced.*'"
-        " ! -path '/var/backups/pciids/*/*' ! -path '*/journal/*' | sort",
+        " ! -path '/var/backups/pciids/*' ! -path '*/journal/*' | sort",
         "/etc/pciids\n/etc/pciids/passwords\n/var/backups/pciids\n"
-        f"/var/backups/pciids/{copy}\n"
         "/var/lib/pciids\n/var/lib/pciids/registry.db\n/var/lib/pciids/registry.db-wal",
     )
+    story.same("both backups stay", "ls /var/backups/pciids | wc -l", "2")
     left = "find /etc/systemd/system /var/lib/systemd -name '*pciids*' ! -name 'stamp-*'"
     story.same("no link of a unit stays", left, "")
 
 
 def run(cases):
-    program.need("nginx", "openssl", "curl")
+    program.need("nginx", "openssl", "curl", "lspci", "update-pciids")
     if not os.access(program.WHOLE, os.X_OK):
         raise program.Skip("the program is not built")
     built_packages.packages()
@@ -280,8 +348,12 @@ def run(cases):
         install(story)
         sandbox(story)
         accounts(story)
+        web(story)
         moderated(story)
         stops(story)
-        copy = kept(story)
+        kept(story)
         upgraded(story, folder)
-        removed(story, copy)
+        imported(story)
+        distributed(story)
+        removed(story)
+        cases.equal("machine: examples of docs/OPERATE.md that were not run", story.examples, [])

@@ -1,5 +1,5 @@
 """A machine for a test: this one's programs with systemd as the first process, in namespaces of its
-own. Its files are layers over /usr and /etc that go with it; nothing of the machine itself changes."""
+own. Its files are layers over /usr and /etc that go with it; this one itself does not change."""
 import fcntl
 import os
 import shutil
@@ -16,6 +16,7 @@ cd "$1"
 mkdir -p root upper-usr work-usr upper-etc work-etc
 cd root
 mkdir -p usr etc var/lib var/log/nginx var/lib/nginx var/cache var/backups run tmp proc sys dev root
+mkdir -p var/lib/apt/lists/partial var/cache/apt/archives/partial var/log/apt
 for it in bin sbin lib lib64; do ln -s "usr/$it" "$it"; done
 mount -t overlay overlay -o "lowerdir=/usr,upperdir=$1/upper-usr,workdir=$1/work-usr" usr
 mount -t overlay overlay -o "lowerdir=/etc,upperdir=$1/upper-etc,workdir=$1/work-etc" etc
@@ -40,7 +41,8 @@ def is_merged():
 
 def why_not():
     """Why there can't be such a machine here, or None."""
-    missing = [it for it in ("systemd-nspawn", "unshare", "nsenter", "dpkg") if not shutil.which(it)]
+    tools = ("systemd-nspawn", "unshare", "nsenter", "dpkg")
+    missing = [it for it in tools if not shutil.which(it)]
     if missing:
         return f"{', '.join(missing)} not installed"
     if os.geteuid() != 0:

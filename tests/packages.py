@@ -41,7 +41,8 @@ def again(cases):
     sums = []
     with tempfile.TemporaryDirectory() as folder:
         for number in ("1", "2"):
-            told, status = built_packages.build(f"{folder}/{number}", SOURCE_DATE_EPOCH="1700000000")
+            when = {"SOURCE_DATE_EPOCH": "1700000000"}
+            told, status = built_packages.build(f"{folder}/{number}", **when)
             cases.equal("packages: built", (status, told if status else ""), (0, ""))
             run = subprocess.run(
                 "sha256sum *.deb", shell=True, cwd=f"{folder}/{number}", capture_output=True
@@ -54,10 +55,14 @@ def linted(cases):
     program.need("lintian")
     folder = built_packages.packages()
     changes = [it for it in os.listdir(folder) if it.endswith(".changes")]
-    words = ["lintian", "--fail-on", "none", "--tag-display-limit", "0", *changes]
+    words = ["lintian", "-I", "--fail-on", "none", "--tag-display-limit", "0", *changes]
     ran = subprocess.run(words, cwd=folder, capture_output=True, text=True, timeout=120)
-    found = re.findall(r"^[EW]: .*", ran.stdout, re.M)
-    cases.equal("packages: lintian", found, [])
+    # Of the program lintian knows what C compilers do, and it was built by another one. And some of
+    # its bytes happen to read as a misspelt word.
+    about_bytes = ("I: pciids: hardening-", "I: pciids: spelling-error-in-binary")
+    found = [it for it in re.findall(r"^[EWI]: .*", ran.stdout, re.M)
+             if not it.startswith(about_bytes)]
+    cases.equal("packages: lintian", (found, ran.returncode), ([], 0))
 
 
 def completed(cases):

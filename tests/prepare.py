@@ -21,6 +21,7 @@ PACKAGES = {
     "chromium": "chromium",
     "chromedriver": "chromium-driver",
     "/usr/lib/python3/dist-packages/selenium/webdriver": "python3-selenium",
+    "firefox-esr": "firefox-esr",
     "shellcheck": "shellcheck",
     "dh": "debhelper",
     "dpkg-buildpackage": "dpkg-dev",

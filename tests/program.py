@@ -36,6 +36,10 @@ def fault_of_installed():
     return None
 
 
+# What a run calls at its end: all.py does not end as Python programs do.
+AT_END = []
+
+
 class Skip(Exception):
     """Ends a part, the rest of which is counted as skipped. It says why."""
 

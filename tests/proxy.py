@@ -1,7 +1,6 @@
 """nginx in front of the server, by deploy/nginx.conf as it is but for its ports and places: who is taken to ask, and clients that are slow."""
 import json
 import os
-import re
 import shutil
 import socket
 import ssl
@@ -23,12 +22,6 @@ PATIENCE = 10
 def config():
     with open(os.path.join(TOP, "deploy", "nginx.conf"), encoding="utf-8") as file:
         return file.read()
-
-
-def shown_config():
-    """The configuration that docs/HTTP.md shows."""
-    with open(os.path.join(TOP, "docs", "HTTP.md"), encoding="utf-8") as page:
-        return re.search(r"^```nginx\n(.*?)^```$", page.read(), re.S | re.M)[1]
 
 
 def in_place(text, folder, port, behind):
@@ -273,7 +266,6 @@ def passed_on(cases, proxy, port):
 
 
 def run(cases):
-    cases.equal("docs/HTTP.md shows deploy/nginx.conf", shown_config(), config())
     cases.equal("deploy/nginx.conf has the ports and places that are known", in_place(config(), "/", 1, 2) is None, False)
     missing = [it for it in ("nginx", "htpasswd", "openssl", "curl") if shutil.which(it) is None]
     if missing or os.geteuid() != 0:

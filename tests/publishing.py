@@ -1,11 +1,13 @@
-"""deploy/lib/publish by itself: the published file as distributions' tools take it, and the pages."""
+"""deploy/lib/publish by itself: the published file as distributions' tools take it, and pages."""
 import os
+import re
 import shutil
 import subprocess
 import tempfile
 
 import built_packages
-from program import TOP
+import lspci
+from program import REAL_FILE, TOP, tidy
 
 PUBLISH = os.path.join(TOP, "deploy", "lib", "publish")
 TEXT = """# PCI ID registry
@@ -88,6 +90,53 @@ def tools(cases, press):
     cases.equal("publish: its file", press.shell(f"cat {press.copy}/updated"), (0, whole))
 
 
+def disorder(text):
+    """The first line whose number does not rise, by the rule of hwdata 0.394, check-pci-ids.py: the
+    numbers of vendors rise, and so do those of the devices of one vendor."""
+    vendor = device = -1
+    for line in text.splitlines():
+        if found := re.match(r"([0-9a-fA-F]{4})\s+.*\S", line):
+            if int(found[1], 16) <= vendor:
+                return line
+            vendor, device = int(found[1], 16), -1
+        elif found := re.match(r"\t([0-9a-fA-F]{4})\s+.*\S", line):
+            if int(found[1], 16) <= device:
+                return line
+            device = int(found[1], 16)
+    return None
+
+
+def hwdata(cases, press):
+    """The names of Debian's file, published, by the steps of `make check` of hwdata 0.394."""
+    if not shutil.which("lspci") or not os.path.exists(REAL_FILE):
+        cases.skipped("publish: hwdata's check", "the package pciutils or pci.ids is not installed")
+        return
+    with open(REAL_FILE, "rb") as file:
+        names = tidy(file.read()).out.decode()
+    cases.equal("publish: the real names", press.run(names)[0], 0)
+    with open(os.path.join(press.public, "dump"), "w", encoding="ascii") as file:
+        file.write(lspci.dump([(0x8086, 0x1237, 0x1AF4, 0x1100), (0x10DE, 0x0020, 0, 0)]))
+    show = "lspci -A dump -O dump.name=dump -i {} 2> {}.told | sed 's/^.*: //'"
+    shown = press.shell(show.format("pci.ids", "new"))
+    vendors = [it.split(" [")[0] for it in shown[1].splitlines()]
+    want = ["Intel Corporation 440FX - 82441FX PMC", "NVIDIA Corporation NV4"]
+    got = [it.startswith(of) for it, of in zip(vendors, want)], press.read("new.told")
+    cases.equal(f"publish: hwdata, lspci shows {vendors}", got, ([True, True], ""))
+    text = press.read("pci.ids")
+    cases.equal("publish: hwdata, the order", disorder(text), None)
+    cases.equal("publish: hwdata, UTF-8", press.shell("iconv -f UTF-8 pci.ids > /dev/null")[0], 0)
+    date = press.shell("grep 'Date:' pci.ids | cut -d ' ' -f 5")[1]
+    cases.equal("publish: hwdata, the date", date, press.shell("date -u +%F")[1])
+    # The same steps refuse what is not right.
+    swapped = text.replace("\n1002  ", "\n8086  Intel\n1002  ", 1)
+    cases.equal("publish: hwdata, out of order", disorder(swapped) is None, False)
+    broken = text.replace("\n8086  ", "\n8086x  ", 1)
+    with open(os.path.join(press.public, "broken"), "w", encoding="utf-8") as file:
+        file.write(broken)
+    press.shell(show.format("broken", "broken"))
+    cases.equal("publish: lspci refuses a fault", "Parse error" in press.read("broken.told"), True)
+
+
 def pages(cases, press):
     found = press.shell("find item -type f | sort")[1].split()
     want = "PC/1af4 PC/8086 PC/8086/1237 PD/01 PD/01/01".split()
@@ -123,3 +172,4 @@ def run(cases):
         cases.equal("publish: a vendor is gone", (status, "1 removed" in told), (0, True))
         cases.equal("publish: its page too", press.read("item/PC/1af4.html"), None)
         cases.equal("publish: the new file", "Red Hat" in press.read("pci.ids"), False)
+        hwdata(cases, press)

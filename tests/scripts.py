@@ -27,12 +27,12 @@ STOP = b"refused 16 Memory\n"
 
 
 def commands_in(blocks):
-    """The commands of blocks, each with what it prints."""
+    """The commands of blocks, each with what it prints. A backslash at its end continues a line."""
     commands = []
     for block in blocks:
-        for line in block.split("\n")[1:-1]:
+        for line in block.replace("\\\n", "\\\r").split("\n")[1:-1]:
             if line.startswith("$ "):
-                commands.append((line[2:], []))
+                commands.append((line[2:].replace("\r", "\n"), []))
             else:
                 commands[-1][1].append(line + "\n")
     return [(command, "".join(printed)) for command, printed in commands]

@@ -2,22 +2,27 @@
 
 import { account, rank } from "../account.js";
 import { ask } from "../api.js";
+import { faultWords } from "../carry.js";
 import { el, fill, link, several } from "../dom.js";
 import { tell } from "../notice.js";
-import { chainOf, kindOf, oneParagraph, wishOf } from "../parts.js";
+import { chainOf, kindOf, wishOf } from "../parts.js";
 import { parentOf, rankFor, withParents } from "../paths.js";
 import { compared, shown, spelled } from "../shown.js";
 import { steadyButton } from "../steady.js";
 import { RANKS, STATES } from "../words.js";
-import { approvalWords, decide } from "./proposal.js";
+import { approvalWords, decide, rejection, rejectionOf } from "./proposal.js";
 
 const ARMED_FOR = 3_000;
 
-/** A row, with what its buttons and keys do. */
+/**
+ * A row, with what its buttons and keys do. It is shown once it is known whole, and from then on
+ * nothing in it changes its place.
+ */
 export class Card {
   /**
    * @param {Object} it the proposal, as /pending has it
-   * @param {Object} around rivals: others on its path; decided, changed: called with what was
+   * @param {Object} around rivals: others on its path; read: the answer for a path; decided,
+   *   changed: called with what was
    */
   constructor(it, around) {
     this.it = it;
@@ -28,7 +33,7 @@ export class Card {
     this.isOwn = account() === it.author;
     this.mayDecide = account() !== null && !this.isOwn && rank().least >= 1
       && rank().most >= this.needed;
-    this.place = el("div");
+    this.place = el("div", { class: "said" });
     this.note = el("p", { class: "note" });
     this.above = el("p", { class: "under" });
     this.change = el("p", { class: "change" }, el("ins", {}, wishOf(it.name)));
@@ -40,20 +45,17 @@ export class Card {
   }
 
   makeButtons() {
-    const { num } = this.it;
     this.approve = steadyButton({ class: "main", onclick: () => this.doApprove() }, "Approve");
     this.openButton = steadyButton({ onclick: () => this.openReject() }, "Reject …");
-    this.reason = el("input", { id: `reason-${num}`, required: true, maxlength: 4_000 });
-    this.reject = steadyButton({}, "Reject");
-    this.form = el("form", {
-      class: "reject", hidden: true,
-      onsubmit: (event) => { event.preventDefault(); this.doReject(); },
-      onkeydown: (event) => {
-        if (event.key !== "Escape") return;
-        event.stopPropagation();
-        this.calm();
-      },
-    }, el("label", { for: this.reason.id }, "Reason"), this.reason, this.reject);
+    this.no = rejection(this.it, this.place, () => this.doReject());
+    Object.assign(this, { form: this.no.form, reason: this.no.reason, reject: this.no.reject });
+    this.form.addEventListener("keydown", (event) => {
+      if (event.key !== "Escape") return;
+      event.stopPropagation();
+      this.calm();
+    });
+    // A reason that was begun is shown again.
+    this.form.hidden = !this.no.sent.hasText;
     this.buttons = el("p", { class: "buttons" }, this.approve, this.openButton);
   }
 
@@ -68,8 +70,8 @@ export class Card {
       this.above, this.change, this.note,
       rivals.length ? el("p", { class: "fault" }, "Also pending for this number:", rivals) : null,
       this.warning,
-      this.mayDecide ? [this.buttons, this.form] : this.whyNot(),
-      this.place);
+      el("div", { class: "acts" }, this.mayDecide ? this.buttons : this.whyNot(), this.place),
+      this.mayDecide ? this.form : null);
   }
 
   whyNot() {
@@ -93,21 +95,44 @@ export class Card {
     this.setCurrent(this.row.tabIndex === 0);
   }
 
-  /** Asks what the item is called now, and for the note. */
+  /**
+   * Asks what the item is called now, and for the note; resolves to the answer that is missing, or
+   * to null.
+   */
   async look() {
+    const mine = this.turn = (this.turn ?? 0) + 1;
     const chain = withParents(this.it.path);
     const [own, ...answers] = await Promise.all([
       ask(`/submission/${this.it.num}`, { quiet: true }),
-      ...chain.map((it) => ask(`/read/${it}`, { quiet: true })),
+      ...chain.map((it) => this.around.read(it)),
     ]);
-    if (this.isDecided) return;
-    if (own.value) this.showNote(own.value);
+    const missing = [own, ...answers].find((it) => it.trouble);
+    if (missing || this.isDecided) return missing ?? null;
+    if (mine !== this.turn && this.row.isConnected) return null;
     const nameOf = (path) => answers[chain.indexOf(path)].value?.name;
+    if (this.row.isConnected) this.keepPlaces();
+    if (own.value) this.showNote(own.value);
     this.showAbove(nameOf);
-    if (answers.some((it) => it.trouble)) return;
     this.showChange(nameOf(this.it.path));
-    fill(this.warning, this.warningWords(nameOf));
+    this.showWarning(this.warningWords(nameOf));
     if (own.value && own.value.state !== "pending") this.setDecided(own.value.state);
+    return null;
+  }
+
+  // What changes in a row that is shown takes no more and no less room than before.
+  keepPlaces() {
+    for (const it of [this.above, this.change, this.note]) {
+      it.style.height = `${it.getBoundingClientRect().height}px`;
+      it.style.overflow = "auto";
+    }
+  }
+
+  showWarning(words) {
+    if (!this.row.isConnected) fill(this.warning, words);
+    else {
+      this.warning.classList.add("away");
+      fill(this.place, words ? faultWords(words) : null);
+    }
   }
 
   showNote({ note, remarks }) {
@@ -117,7 +142,10 @@ export class Card {
 
   showChange(now) {
     const { name } = this.it;
-    if (now === undefined) return;
+    if (now === undefined) {
+      fill(this.change, el("ins", {}, wishOf(name)));
+      return;
+    }
     const [was, wish] = name === null ? [shown(now), wishOf(null)] : compared(now, name);
     fill(this.change, el("del", {}, was), " ", el("ins", {}, wish));
   }
@@ -174,12 +202,8 @@ export class Card {
   }
 
   async doReject() {
-    const reason = oneParagraph(this.reason.value);
-    if (!reason) return;
-    await this.carry("rejected", {
-      route: "/reject", fields: { num: this.it.num, reason }, about: `Reject ${this.it.num}`,
-      button: this.reject,
-    });
+    const command = rejectionOf(this.it, this.no, this.place);
+    if (command) await this.carry("rejected", command);
   }
 
   async carry(state, command) {
@@ -199,11 +223,9 @@ export class Card {
     this.isDecided = true;
     this.disarm();
     this.row.classList.add("settled");
-    fill(this.warning);
     if (state) fill(this.place, el("span", { class: `state ${state}` }, STATES[state]));
     // The focus goes on before what has it is disabled.
     this.around.decided(this);
     for (const it of [this.approve, this.openButton, this.reason, this.reject]) it.disabled = true;
-    this.form.hidden = true;
   }
 }

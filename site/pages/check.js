@@ -17,6 +17,7 @@ import { beginMany } from "./many.js";
 const AROUND = 2;
 const LONGEST_LINE = 300;
 const FEW = 20;
+const SAVED_WITHIN = 60_000;
 
 /** The page that checks. */
 export const check = (context) => new Check(context, false).page();
@@ -112,12 +113,10 @@ class Check {
     const mine = this.turn += 1;
     const outcome = read(bytes);
     fill(this.place);
-    URL.revokeObjectURL(this.href);
     const fault = faultOf(shownName(name), bytes, outcome);
     if (fault) { fill(this.result, fault, spokeHere()); return; }
     const count = several(outcome.names.size, "entry").replace("entrys", "entries");
-    this.href = URL.createObjectURL(new Blob([canonical(outcome.names)], { type: "text/plain" }));
-    const save = el("a", { href: this.href, download: "pci.ids", class: "button" },
+    const save = el("button", { type: "button", onclick: () => saveCanonical(outcome.names) },
       "Save it in canonical form");
     const beside = await names.difference(outcome.names);
     // Another file may have been judged meanwhile.
@@ -171,10 +170,17 @@ class Check {
       this.isImport ? importWords() : el("p", {}, "Is your ", el("code", {}, "pci.ids"),
         " in order, and what does it have that the registry hasn't? The file stays in your"
         + " browser."),
-      this.fileBox(), typed, this.result, this.place,
       this.isImport ? null : el("p", {}, link("/load", "Import a file"), " (senior moderators)"),
+      this.fileBox(), typed, this.result, this.place,
     ];
   }
+}
+
+// The address of a text that is saved is given back once the browser has taken it.
+function saveCanonical(names) {
+  const href = URL.createObjectURL(new Blob([canonical(names)], { type: "text/plain" }));
+  el("a", { href, download: "pci.ids" }).click();
+  setTimeout(() => URL.revokeObjectURL(href), SAVED_WITHIN);
 }
 
 const shownName = (name) => (name.length > 80 ? `${name.slice(0, 80)}…` : name);

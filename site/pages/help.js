@@ -22,8 +22,8 @@ export default async function help() {
       + " import files; administrators give ranks. Nobody decides on their own proposal."),
     section("When no answer comes", "Each command is sent under a key of its own. While no answer"
       + " has come it is sent again, and however often it is sent, it acts once. If you leave or"
-      + " close the page meanwhile, the bar at the top offers to ask again the next time. What you"
-      + " have typed and not sent is kept while the tab is open."),
+      + " close the page meanwhile, the bar at the foot of the window offers to ask again the next"
+      + " time. What you have typed and not sent is kept while the tab is open."),
     section("Marks in names", "Letters that aren't Latin, characters that can't be seen and blanks"
       + " at an end have a small mark beside them, so that one name can't pass for another."),
     section("For programs", link("/pci.ids", "/pci.ids"), ", ",

@@ -3,7 +3,7 @@
 import { account } from "../account.js";
 import { ask } from "../api.js";
 import { ownProposals, pendingAt, sinceOf } from "../detours.js";
-import { counted, el, fill, link } from "../dom.js";
+import { counted, el, fill, link, several } from "../dom.js";
 import { itemList } from "../lists.js";
 import * as names from "../names.js";
 import {
@@ -48,12 +48,13 @@ export default async function item({ path, again }) {
   if (!answer.value) return failed(answer, again);
   const name = known.get(path);
   const history = el("div", { class: "history" });
-  // Waited for a moment, so that nothing shifts when it comes.
+  // Waited for a moment, so that it comes with the page.
   const wait = new Promise((go) => { setTimeout(go, SHORT_WAIT); });
   const [text] = await Promise.all([
     isCopy ? undefined : lspciText(path),
     isCopy ? null : Promise.race([showHistory(path, history), wait]),
   ]);
+  if (!isCopy && !history.firstChild) fill(history, historyPlace());
   return [
     crumbs(path, (it) => known.get(it)),
     heading(path, known),
@@ -100,8 +101,10 @@ function actions(path) {
       button(`path=${path}&remove=yes`, "Propose its removal"),
       BELOW[kind].map((it) => button(`under=${path}&kind=${it}`,
         `Propose a ${KIND_WORDS[it].toLowerCase()}`))),
-    el("p", { class: "aside" }, `A ${RANKS[rankFor(path, false)]} or above decides on names of`
-      + ` this kind, a ${RANKS[2]} or above on removals.`),
+    el("p", { class: "aside" }, rankFor(path, false) === 2
+      ? `A ${RANKS[2]} or above decides on names of this kind and on removals.`
+      : `A ${RANKS[1]} or above decides on names of this kind,`
+        + ` a ${RANKS[2]} or above on removals.`),
   ];
 }
 
@@ -129,25 +132,36 @@ function absent(path, known) {
   ];
 }
 
+const historyHeading = () => el("h2", {}, "Proposals and history");
+
+// What comes later finds its room.
+const later = () => el("div", { class: "said" });
+const historyPlace = () => [historyHeading(), later(), later()];
+
 // What was proposed for this path, and since when it has its name, as far as the registry tells.
 async function showHistory(path, place) {
   const [pending, named] = await Promise.all([pendingAt(path), sinceOf(path)]);
   const own = (account() ? ownProposals(account()) : []).filter((it) => it.path === path
     && !pending.some(({ num }) => num === it.num));
-  if (!pending.length && !own.length && !named) return;
   const rows = [
     ...pending.reverse().map((it) => proposalRow(it, `by ${it.author}, pending`)),
     ...own.map((it) => proposalRow(it, "by you")),
   ];
-  fill(place, el("h2", {}, "Proposals and history"),
-    rows.length ? el("ol", { class: "items" }, rows) : null,
-    sinceWords(named));
+  const list = rows.length ? el("ol", { class: "items" }, rows) : null;
+  const [first, second] = place.querySelectorAll(".said");
+  if (first) {
+    const words = `${several(rows.length, "proposal")} …`;
+    fill(first, sinceWords(named));
+    fill(second, list ? el("details", {}, el("summary", {}, words), list) : "No proposals.");
+  } else if (list || named) {
+    fill(place, historyHeading(), el("p", { class: "aside" }, sinceWords(named)), list);
+  }
 }
 
 function sinceWords(named) {
-  if (!named) return null;
+  if (!named) return "It isn't known since when it has its name.";
   const { since, revision } = named;
   const words = since === 0 ? "It had its name before the registry began to count its commands."
     : `Command ${counted(since)} of ${counted(revision)} gave it its name.`;
-  return el("p", { class: "aside" }, words, " ", link("/recent", "What changed lately"));
+  return [words, " ", link("/recent", "What changed lately")];
 }

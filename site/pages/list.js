@@ -1,7 +1,7 @@
 // Vendors, or classes. The registry answers both in one list.
 
 import { ask } from "../api.js";
-import { el } from "../dom.js";
+import { el, link } from "../dom.js";
 import { itemList } from "../lists.js";
 import { childrenOf } from "../names.js";
 import { copyWords, failed, title } from "../parts.js";
@@ -15,8 +15,8 @@ async function list({ again }, front, what, one) {
   return [
     title(what[0].toUpperCase() + what.slice(1)),
     isCopy ? copyWords() : null,
+    el("p", {}, link(`/propose?kind=${one}`, `Propose a ${one}`)),
     itemList(items, what),
-    el("p", {}, el("a", { class: "button", href: `/propose?kind=${one}` }, `Propose a ${one}`)),
   ];
 }
 

@@ -9,13 +9,12 @@ import { draftOf, keepDraft } from "../drafts.js";
 import { el, fill, link, several } from "../dom.js";
 import { askToLogIn } from "../login.js";
 import * as names from "../names.js";
-import { begin, form, newKey, settle } from "../outbox.js";
+import { actedOf, begin, form, isWorking, newKey, settle, watchOutbox } from "../outbox.js";
 import { keep, recall } from "../kept.js";
 import { oneParagraph, title } from "../parts.js";
 import { devicesIn } from "../pasted.js";
 import { hrefOf, parse } from "../paths.js";
-import { endProgress, tellProgress } from "../progress.js";
-import { shown, spelled } from "../shown.js";
+import { shown } from "../shown.js";
 import { setDead, isDead, steadyButton } from "../steady.js";
 import { answerWords } from "../words.js";
 import { nameFault, noteBox, noteFault } from "./proposing.js";
@@ -55,7 +54,7 @@ function rowsIn(text) {
 class Row {
   constructor({ path, name, key, by, num }, now, changed) {
     Object.assign(this, { path, key, by, num, now, changed });
-    this.place = el("div");
+    this.place = el("div", { class: "said" });
     this.box = el("input", {
       id: `name-${path}`, value: name ?? "", maxlength: 1_000, autocomplete: "off",
       oninput: changed,
@@ -94,6 +93,15 @@ class Row {
     fill(this.place, words ?? done ?? owed);
   }
 
+  /** Takes up an answer that came while this wasn't shown, or in another tab. */
+  hear() {
+    const done = this.key && !this.num && !isWorking(this.key) && actedOf(this.key);
+    if (!done) return false;
+    this.num = done.num;
+    this.show();
+    return true;
+  }
+
   /** Sends it; resolves to the answer. `keepAll` keeps the rows before it is sent. */
   async send(note, keepAll) {
     const name = this.box.value;
@@ -103,10 +111,8 @@ class Row {
     this.show("");
     keepAll();
     const entry = await begin("/submit", form({ path: this.path, name, note }),
-      `Propose “${spelled(name)}” for ${this.path}`, this.key);
-    tellProgress(entry.key, this.place);
+      `Propose “${name}” for ${this.path}`, this.key);
     const answer = await settle({ ...entry, isInDoubt });
-    endProgress(entry.key);
     if (!this.place.isConnected) report(entry, answer);
     this.num = answer.value?.num;
     // A refused command keeps no reply: its key is free, and so is the row.
@@ -117,13 +123,16 @@ class Row {
   }
 }
 
+let shownMany = null;
+watchOutbox(() => shownMany?.hear());
+
 /** All rows, and sending them one after the other. */
 class Many {
   constructor() {
     this.draft = draftOf("rows");
     this.rows = [];
     this.list = el("ol", { class: "many" });
-    this.place = el("div");
+    this.place = el("div", { class: "said" });
     this.count = el("p", { class: "count", role: "status" });
     this.text = el("textarea", { id: "pasted", rows: 5, class: "code", spellcheck: "false" });
     this.button = steadyButton({ class: "main", onclick: () => this.send() }, "Propose");
@@ -165,7 +174,15 @@ class Many {
     this.button.hidden = open === 0;
   }
 
+  hear() {
+    if (!this.list.isConnected) return;
+    const heard = this.rows.filter((it) => it.hear());
+    if (heard.length) this.changed();
+  }
+
+  // Who left this page and came back has another one, which is the one to be kept.
   keepAll() {
+    if (shownMany !== this) return;
     this.draft.write(this.rows.map((it) => it.kept));
   }
 
@@ -211,7 +228,9 @@ class Many {
 /** The page. */
 export default async function manyPage({ query }) {
   const all = new Many();
+  shownMany = all;
   await all.add(all.draft.read() ?? []);
+  all.rows.forEach((it) => it.hear());
   if (all.rows.length === 0 && query.get("text")) {
     all.text.value = query.get("text");
     await all.add(rowsIn(query.get("text").replaceAll(" | ", "\n")));
@@ -223,8 +242,8 @@ export default async function manyPage({ query }) {
   };
   return [
     title("Propose many"),
-    all.pasting, all.count, all.list, all.noting,
+    all.pasting, all.noting, all.count,
     el("p", { class: "buttons" }, all.button, steadyButton({ onclick: clear }, "Clear the list")),
-    all.place,
+    all.place, all.list,
   ];
 }

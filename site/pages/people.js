@@ -1,14 +1,14 @@
 import { carryOut } from "../carry.js";
-import { keepDraft } from "../drafts.js";
 import { el } from "../dom.js";
 import { tell } from "../notice.js";
 import { title } from "../parts.js";
+import { SentForm } from "../sent.js";
 import { steadyButton } from "../steady.js";
 import { RANKS } from "../words.js";
 
 /** Gives accounts their ranks. */
 export default async function people() {
-  const place = el("div");
+  const place = el("div", { class: "said" });
   const who = el("input", {
     id: "who-name", required: true, pattern: "[a-z0-9\\-]{1,32}", autocomplete: "off",
     autocapitalize: "off", spellcheck: "false", title: "1 to 32 of a to z, 0 to 9 and -",
@@ -21,17 +21,15 @@ export default async function people() {
     const name = who.value, word = RANKS[rank.value];
     const answer = await carryOut({
       route: "/account", fields: { who: name, rank: rank.value },
-      about: `Make ${name} a ${word}`, button, place, why: "This is for administrators.",
+      about: `Make ${name} a ${word}`, button, place, why: "This is for administrators.", sent,
     });
-    if (!answer?.value) return;
-    draft.clear();
-    tell(`${name} is a ${word} now.`, 5);
+    if (answer?.value) tell(`${name} is a ${word} now.`, 5);
   };
   const form = el("form", { onsubmit: submit },
     el("p", {}, el("label", { for: "who-name" }, "Account"), who),
     el("p", {}, el("label", { for: "who-rank" }, "Rank"), rank),
     el("p", { class: "buttons" }, button), place);
-  const draft = keepDraft(form);
+  const sent = new SentForm(form, place);
   return [
     title("Accounts"),
     el("p", {}, "An administrator gives an account its rank, and makes it where it is new. Its"

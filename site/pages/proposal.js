@@ -3,13 +3,13 @@
 import { account, learnRank, rank } from "../account.js";
 import { ask } from "../api.js";
 import { carryOut, faultWords } from "../carry.js";
-import { keepDraft } from "../drafts.js";
 import { el, fill, link, several, utf8Length } from "../dom.js";
 import { learnName } from "../names.js";
 import { tell } from "../notice.js";
 import { chainOf, failed, kindOf, oneParagraph, title, wishOf } from "../parts.js";
 import { rankFor, withParents } from "../paths.js";
-import { compared, shown, spelled } from "../shown.js";
+import { SentForm } from "../sent.js";
+import { compared, shown } from "../shown.js";
 import { steadyButton } from "../steady.js";
 import { RANKS, STATES } from "../words.js";
 
@@ -68,7 +68,7 @@ function remarks(it) {
 }
 
 function commentForm(it, done) {
-  const place = el("div");
+  const place = el("div", { class: "said" });
   const text = el("textarea", {
     id: "comment", rows: 3, required: true, "aria-describedby": "comment-hint",
   });
@@ -81,18 +81,16 @@ function commentForm(it, done) {
     if (fault) { fill(place, faultWords(fault)); return; }
     const answer = await carryOut({
       route: "/comment", fields: { num: it.num, text: words }, about: `Comment on ${it.num}`,
-      button, place, why: "Comments are made under an account.",
+      button, place, why: "Comments are made under an account.", sent,
     });
-    if (!answer?.value) return;
-    draft.clear();
-    done("Your comment is there.");
+    if (answer?.value) done("Your comment is there.");
   };
   const form = el("form", { onsubmit: submit },
     el("label", { for: "comment" }, "Your comment"), text,
     el("small", { id: "comment-hint" },
       "One paragraph: line breaks become spaces. Everybody can read it, and it stays."),
     el("p", { class: "buttons" }, button), place);
-  const draft = keepDraft(form, "comment");
+  const sent = new SentForm(form, place, "comment");
   return form;
 }
 
@@ -111,7 +109,7 @@ function decisions(it, isIdle, done) {
 }
 
 function withdrawal(it, done) {
-  const place = el("div");
+  const place = el("div", { class: "said" });
   const onclick = async () => {
     const answer = await carryOut({
       route: "/withdraw", fields: { num: it.num }, about: `Withdraw ${it.num}`, button, place,
@@ -122,10 +120,15 @@ function withdrawal(it, done) {
   return el("div", { class: "decide" }, el("p", { class: "buttons" }, button), place);
 }
 
-/** Sends a decision, and learns from its answer. Returns whether it was accepted. */
+const deciding = new Set();
+
+/** Sends a decision, one at a time on each proposal, and learns from the answer that it returns. */
 export async function decide(it, needed, command) {
+  if (deciding.has(it.num)) return null;
+  deciding.add(it.num);
   const by = account();
-  const answer = await carryOut({ ...command, why: NEEDS_ACCOUNT });
+  const answer = await carryOut({ ...command, why: NEEDS_ACCOUNT })
+    .finally(() => deciding.delete(it.num));
   const isSame = by === null || by === account();
   if (isSame && answer?.value) learnRank(needed, true);
   else if (isSame && answer?.refusal?.refused === 5) learnRank(needed, false);
@@ -136,10 +139,37 @@ export async function decide(it, needed, command) {
 /** What an approval does, in words that stand for themselves. */
 export const approvalWords = (it) => (
   it.name === null ? `Approve ${it.num}: remove ${it.path}`
-    : `Approve ${it.num}: “${spelled(it.name)}” for ${it.path}`);
+    : `Approve ${it.num}: “${it.name}” for ${it.path}`);
+
+/** The form of a reason, whose draft is the same in the queue and on the proposal's page. */
+export function rejection(it, place, onsubmit) {
+  const reason = el("input", {
+    id: `reason-${it.num}`, name: "reason", required: true, maxlength: MOST_TEXT,
+    autocomplete: "off",
+  });
+  const reject = steadyButton({}, "Reject");
+  const form = el("form", {
+    class: "reject", onsubmit: (event) => { event.preventDefault(); onsubmit(); },
+  }, el("label", { for: reason.id }, "Reason"), reason, reject);
+  const sent = new SentForm(form, place, "reason", `/proposals/${it.num}`);
+  return { form, reason, reject, sent };
+}
+
+/** The command that rejects, or null where there is no reason. */
+export function rejectionOf(it, { reason, reject, sent }, place) {
+  const words = oneParagraph(reason.value);
+  if (utf8Length(words) > MOST_TEXT) {
+    fill(place, faultWords("A reason has at most 4,000 bytes."));
+    return null;
+  }
+  return words === "" ? null : {
+    route: "/reject", fields: { num: it.num, reason: words }, about: `Reject ${it.num}`,
+    button: reject, place, sent,
+  };
+}
 
 function decision(it, needed, isIdle, done) {
-  const place = el("div");
+  const place = el("div", { class: "said" });
   const onclick = async () => {
     const answer = await decide(it, needed, {
       route: "/approve", fields: { num: it.num }, about: approvalWords(it), button: approve, place,
@@ -147,20 +177,11 @@ function decision(it, needed, isIdle, done) {
     if (answer?.value) done(`${it.num} is approved.`);
   };
   const approve = steadyButton({ class: "main", onclick }, "Approve");
-  const reason = el("input", { id: "reason", required: true, maxlength: MOST_TEXT });
-  const reject = steadyButton({}, "Reject");
-  const submit = async (event) => {
-    event.preventDefault();
-    const fields = { num: it.num, reason: oneParagraph(reason.value) };
-    const command = { route: "/reject", fields, about: `Reject ${it.num}`, button: reject, place };
-    if (!(await decide(it, needed, command))?.value) return;
-    draft.clear();
-    done(`${it.num} is rejected.`);
-  };
-  const form = el("form", { class: "reject", onsubmit: submit },
-    el("label", { for: "reason" }, "Reason"), reason, reject);
-  const draft = keepDraft(form, "reason");
+  const no = rejection(it, place, async () => {
+    const command = rejectionOf(it, no, place);
+    if (command && (await decide(it, needed, command))?.value) done(`${it.num} is rejected.`);
+  });
   return el("div", { class: "decide" },
     isIdle ? faultWords("Nothing would change: it is so already.") : null,
-    el("p", { class: "buttons" }, approve), form, place);
+    el("p", { class: "buttons" }, approve), no.form, place);
 }

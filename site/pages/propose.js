@@ -3,17 +3,22 @@
 import { ask } from "../api.js";
 import { carryOut, faultWords } from "../carry.js";
 import { pendingAt } from "../detours.js";
-import { draftOf, keepDraft } from "../drafts.js";
+import { draftOf } from "../drafts.js";
 import { el, fill, link } from "../dom.js";
 import { tell } from "../notice.js";
 import { oneParagraph, title, wishOf } from "../parts.js";
 import { devicesIn } from "../pasted.js";
 import { KIND_WORDS, NUMBERS, parse, pathOf, rankFor, withParents } from "../paths.js";
-import { shown, spelled } from "../shown.js";
+import { dropSent, SentForm } from "../sent.js";
+import { shown } from "../shown.js";
 import { steadyButton } from "../steady.js";
 import { RANKS } from "../words.js";
 import many from "./many.js";
 import { MOST_NAME, nameFault, noteBox, noteFault } from "./proposing.js";
+
+// Paths in addresses that people write may be in capitals.
+const parsed = (text) => parse((text ?? "").replace(/^(P[CDS]\/)(.*)$/i, (_, kind, rest) => (
+  kind.toUpperCase() + rest.toLowerCase())));
 
 /** The boxes of the numbers of a path. */
 class Numbers {
@@ -61,7 +66,7 @@ class Numbers {
     const [device] = devicesIn(text);
     const typed = /^[0-9a-f]+(?:[:\s/]+[0-9a-f]+)+$/i.exec(text)?.[0].split(/[:\s/]+/);
     const all = device ?? typed ?? [];
-    if (all.length < 2) return;
+    if (all.length < 2 || event.target.readOnly) return;
     event.preventDefault();
     all.forEach((it, more) => {
       const box = this.boxes()[(device ? 0 : at) + more];
@@ -77,9 +82,11 @@ class Proposal {
   constructor(query, go) {
     this.go = go;
     this.turn = 0;
+    this.now = null;         // the name of today, once it is known
+    dropSent();
     const before = draftOf().read();
-    const given = parse(query.get("path") ?? "");
-    const under = parse(query.get("under") ?? "");
+    const given = parsed(query.get("path"));
+    const under = parsed(query.get("under"));
     const asked = Object.hasOwn(KIND_WORDS, query.get("kind")) ? query.get("kind") : "device";
     const kind = before?.kind ?? given?.kind ?? asked;
     const digits = before ? [0, 1, 2, 3].map((it) => before[`number-${it}`])
@@ -88,8 +95,13 @@ class Proposal {
     this.numbers = new Numbers(kind, digits, () => this.look());
     this.makeFields(kind, query.get("remove") === "yes");
     this.makeForm();
-    this.draft = keepDraft(this.form);
+    this.sent = new SentForm(this.form, this.place);
+    this.show();
+  }
+
+  show() {
     this.name.disabled = this.remove.checked;
+    this.kind.value = this.numbers.kind;
     this.checkName();
     queueMicrotask(() => this.look());
   }
@@ -107,19 +119,24 @@ class Proposal {
     });
     this.nameFault = el("small", { id: "name-fault", class: "fault" });
     this.about = el("div", { class: "about", role: "status" });
-    this.place = el("div");
+    this.place = el("div", { class: "said" });
     this.button = steadyButton({ class: "main" }, "Propose");
   }
 
   makeForm() {
     const submit = (event) => { event.preventDefault(); this.send(); };
-    this.form = el("form", { class: "propose", novalidate: true, onsubmit: submit },
+    const reset = () => queueMicrotask(() => this.show());
+    const fields = el("div", { class: "fields" },
       el("p", {}, el("label", { for: "kind" }, "Kind"), this.kind),
-      this.numbers.element, this.about,
+      this.numbers.element,
       el("p", { class: "tick" }, this.remove, el("label", { for: "remove" }, "Remove the entry")),
       el("p", {}, el("label", { for: "name" }, "Name"), this.name, this.nameFault),
       el("div", {}, noteBox()),
       el("p", { class: "buttons" }, this.button), this.place);
+    // What is learned of the number comes late, so nothing is below it.
+    this.form = el("form", {
+      class: "propose", novalidate: true, onsubmit: submit, onreset: reset,
+    }, fields, this.about);
     this.note = this.form.querySelector("#note");
   }
 
@@ -143,6 +160,7 @@ class Proposal {
   async look() {
     const path = this.numbers.path();
     const mine = this.turn += 1;
+    this.now = null;
     if (!path) { fill(this.about); return; }
     const chain = withParents(path);
     const [pending, ...answers] = await Promise.all([
@@ -150,6 +168,7 @@ class Proposal {
     ]);
     if (mine !== this.turn) return;
     const now = answers.at(-1).value?.name;
+    this.now = now ?? null;
     fill(this.about, this.aboutWords(path, chain, answers, pending));
     // The present name is where a better one begins.
     const isFresh = !this.isFilled && this.name.value === ""
@@ -187,6 +206,7 @@ class Proposal {
     }
     if (!remove.checked && name.value === "") return [name, "There is no name."];
     if (!remove.checked && nameFault(name.value)) return [name, nameFault(name.value)];
+    if (!remove.checked && name.value === this.now) return [name, "It has that name already."];
     return noteFault(note.value) ? [note, noteFault(note.value)] : null;
   }
 
@@ -200,14 +220,13 @@ class Proposal {
     const path = this.numbers.path();
     const name = this.remove.checked ? null : this.name.value;
     const wish = name === null ? { remove: "yes" } : { name };
-    const words = name === null ? "to remove" : `“${spelled(name)}” for`;
+    const words = name === null ? "to remove" : `“${name}” for`;
     const answer = await carryOut({
       route: "/submit", fields: { path, ...wish, note: oneParagraph(this.note.value) },
       about: `Propose ${words} ${path}`, button: this.button, place: this.place,
-      why: "Proposals are made under an account.",
+      why: "Proposals are made under an account.", sent: this.sent,
     });
     if (!answer?.value) return;
-    this.draft.clear();
     tell(`Your proposal has the number ${answer.value.num}.`, 5);
     this.go(`/proposals/${answer.value.num}`);
   }
@@ -218,7 +237,7 @@ export default async function propose(context) {
   if (context.query.get("many") === "yes") return many(context);
   return [
     title("Propose"),
-    new Proposal(context.query, context.go).form,
     el("p", {}, link("/propose?many=yes", "Propose many at once")),
+    new Proposal(context.query, context.go).form,
   ];
 }

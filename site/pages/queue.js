@@ -1,14 +1,21 @@
 // What is pending, for going through it by keyboard.
 
 import { account, learnRank, rank } from "../account.js";
+import { ask } from "../api.js";
 import { forgetPending, pendingPage } from "../detours.js";
 import { el, fill, link, several } from "../dom.js";
 import { failed, title } from "../parts.js";
 import { isTooSoon } from "../steady.js";
+import { troubleWords } from "../words.js";
 import { Card } from "./card.js";
 
 const PAGE = 100;
-const AHEAD = "400px";
+// How far below the window rows are made, and how many are asked for at once.
+const AHEAD = 600;
+const AT_ONCE = 4;
+const FIRST_WAIT = 150;
+const TRIES_EVERY = 3_000;
+const SHOWN_WITHIN = 5_000;
 
 /** The keys of the list: what each does with the list and the row that has the focus. */
 const KEYS = {
@@ -29,19 +36,28 @@ class List {
     this.go = go;
     this.at = 0;
     this.since = 0;
+    this.made = performance.now();
+    this.reads = new Map();
     this.left = el("p", { class: "count", role: "status" });
     this.cards = all.map((it) => new Card(it, {
       rivals: all.filter(({ num, path }) => path === it.path && num !== it.num),
+      read: (path) => this.read(path),
       decided: (card) => this.decided(card),
       changed: (path) => this.changed(path),
     }));
-    this.element = el("ol", { class: "queue", "aria-label": "Pending proposals" },
-      this.cards.map((it) => it.row));
+    this.element = el("ol", { class: "queue", "aria-label": "Pending proposals" });
     this.element.addEventListener("keydown", (event) => this.press(event));
     this.element.addEventListener("focusin", (event) => this.follow(event));
+    this.rest = el("p");
+    this.whole = el("div", {}, this.element, this.rest);
     this.cards[0]?.setCurrent(true);
     this.count();
-    this.watch();
+  }
+
+  /** What a path is called, asked for once. */
+  read(path) {
+    if (!this.reads.has(path)) this.reads.set(path, ask(`/read/${path}`, { quiet: true }));
+    return this.reads.get(path);
   }
 
   count() {
@@ -50,16 +66,67 @@ class List {
     fill(this.left, `${several(open, "proposal")}${here} pending.`);
   }
 
-  /** Asks for notes and present names of the rows that come into sight. */
-  watch() {
-    const byRow = new Map(this.cards.map((it) => [it.row, it]));
-    const observer = new IntersectionObserver((seen) => {
-      for (const it of seen.filter((one) => one.isIntersecting)) {
-        observer.unobserve(it.target);
-        byRow.get(it.target).look();
+  /**
+   * Shows the rows in their order, each once its note and its present name are known: nothing is
+   * ever put in above one that is shown. Rows far below the window wait until they come near.
+   */
+  async showRows() {
+    const looks = [];
+    for (let at = 0; at < this.cards.length; at += 1) {
+      // What was asked for before somebody rested may be old.
+      if (await this.hasWaited()) {
+        looks.length = 0;
+        this.reads.clear();
       }
-    }, { rootMargin: AHEAD });
-    byRow.forEach((_, row) => observer.observe(row));
+      if (this.isLeft()) return;
+      for (let next = at; next < Math.min(at + AT_ONCE, this.cards.length); next += 1) {
+        looks[next] ??= this.cards[next].look();
+      }
+      for (let missing; (missing = await looks[at]);) {
+        this.sayRest(`${troubleWords(missing.trouble)} The other rows are asked for again.`);
+        await new Promise((go) => { setTimeout(go, TRIES_EVERY); });
+        if (this.isLeft()) return;
+        this.reads.clear();
+        looks[at] = this.cards[at].look();
+      }
+      this.element.append(this.cards[at].row);
+      this.sayRest(at + 1 < this.cards.length ? "More rows …" : this.nextPage());
+    }
+  }
+
+  nextPage() {
+    if (this.cards.length < PAGE) return null;
+    return el("a", { class: "button", href: `/queue?after=${this.cards.at(-1).it.num}` },
+      "Next page");
+  }
+
+  // What is said below the rows is made anew each time, and so never moves.
+  sayRest(words) {
+    const made = el("p", { class: "count" }, words);
+    this.rest.replaceWith(made);
+    this.rest = made;
+  }
+
+  // Also where another page came in its place before it was shown.
+  isLeft() {
+    this.wasShown ||= this.rest.isConnected;
+    const isLate = performance.now() - this.made > SHOWN_WITHIN;
+    return (this.wasShown || isLate) && !this.rest.isConnected;
+  }
+
+  // Resolves once the place of the next row is in the window or near, to whether that took a while.
+  hasWaited() {
+    if (!this.rest.isConnected || this.rest.getBoundingClientRect().top < innerHeight + AHEAD) {
+      return Promise.resolve(false);
+    }
+    return new Promise((go) => {
+      const observer = new IntersectionObserver((seen) => {
+        if (!seen.some((it) => it.isIntersecting) && this.rest.isConnected) return;
+        observer.disconnect();
+        go(true);
+      }, { rootMargin: `${AHEAD}px` });
+      observer.observe(this.rest);
+    });
   }
 
   setAt(at) {
@@ -72,6 +139,11 @@ class List {
 
   focus(at) {
     if (at < 0 || at >= this.cards.length) return;
+    // A row that isn't shown yet is brought near.
+    if (!this.cards[at].row.isConnected) {
+      this.rest.scrollIntoView({ block: "nearest" });
+      return;
+    }
     this.setAt(at);
     this.cards[at].row.focus();
     this.cards[at].row.scrollIntoView({ block: "nearest" });
@@ -106,12 +178,14 @@ class List {
     this.count();
     const at = this.cards.indexOf(card);
     const isThere = card.row.contains(document.activeElement);
-    const next = this.cards.findIndex((it, place) => place > at && !it.isDecided);
+    const next = this.cards.findIndex((it, place) => (
+      place > at && !it.isDecided && it.row.isConnected));
     if (isThere && at === this.at) this.focus(next >= 0 ? next : at);
   }
 
   changed(path) {
     const isNear = (it) => it === path || it.startsWith(`${path}/`);
+    this.reads.delete(path);
     this.cards.filter((it) => isNear(it.it.path) && !it.isDecided).forEach((it) => it.look());
   }
 }
@@ -141,14 +215,15 @@ export default async function queue({ query, again, go }) {
   if (!answer.value) return failed(answer, again);
   const all = answer.value;
   const list = new List(all, go);
-  const next = `/queue?after=${all.at(-1)?.num}`;
+  // The first rows come with the page, where they come at once.
+  const wait = new Promise((resolve) => { setTimeout(resolve, FIRST_WAIT); });
+  await Promise.race([list.showRows(), wait]);
   return [
     title("Queue"),
     list.left,
     rankOffer(again),
     all.length && rank().least >= 1 && account() ? keyWords() : null,
-    list.element,
-    all.length === PAGE ? el("p", {}, el("a", { class: "button", href: next }, "Next page")) : null,
     el("p", {}, link("/decided", "The latest proposals, decided ones too")),
+    list.whole,
   ];
 }

@@ -6,6 +6,7 @@ import { shown, spelled } from "../shown.js";
 import { title } from "../parts.js";
 
 const FIRST_WAIT = 60;
+const TRIES_EVERY = 3_000;
 
 function row({ path, name, above }) {
   const of = above.length ? [" of ", shown(above.join(" › "))] : null;
@@ -24,6 +25,7 @@ function countWords(text, { rows, count }) {
 /** The devices that were asked for by number and have no name. */
 async function nameless(text) {
   const devices = devicesIn(text);
+  if (devices.length === 0) return [];
   const known = await names.namesAt(devices.flatMap(pathsOf));
   return devices.filter((it) => !pathsOf(it).slice(-2).some((path) => known.has(path)));
 }
@@ -47,17 +49,18 @@ export default async function searchPage({ query }) {
   let turn = 0;
   const search = async (text) => {
     const mine = turn += 1;
-    const answer = await names.search(text);
+    const [answer, free] = await Promise.all([names.search(text), nameless(text)]);
     if (mine !== turn) return;
     if (!answer) {
       fill(count, "The names couldn't be fetched, so there is no search. ",
         link("/vendors", "Vendors"));
+      setTimeout(() => { if (mine === turn && count.isConnected) search(text); }, TRIES_EVERY);
       return;
     }
+    // All at once: an offer that came later would push down what was found.
     fill(list, answer.rows.map(row));
     fill(count, countWords(text, answer));
-    const free = await nameless(text);
-    if (mine === turn) fill(place, offer(text, free));
+    fill(place, offer(text, free));
   };
   const wait = new Promise((go) => { setTimeout(go, FIRST_WAIT); });
   await Promise.race([search(query.get("q") ?? ""), wait]);

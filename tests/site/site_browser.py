@@ -103,10 +103,21 @@ class Browser:
         """Clicks as a person does: no sooner than a hand can have seen what is there."""
         self.one(selector)
         time.sleep(0.55)
-        self.one(selector).click()
+        # Also what the bar at the foot of the window lies over.
+        self.js("document.querySelector(arguments[0])?.scrollIntoView({ block: 'center' })",
+                selector)
+        self.wait(lambda: self.one(selector).click() or True, f"{selector} to be clicked")
 
     def type(self, selector, *words):
         self.one(selector).send_keys(*words)
+
+    def all_rows(self, selector, count):
+        """Scrolls down until a list that grows has all its rows, and up again."""
+        def goes_down():
+            self.js("scrollTo(0, document.body.scrollHeight)")
+            return len(self.all(selector)) == count
+        self.wait(goes_down, f"{count} rows")
+        self.js("scrollTo(0, 0)")
 
     def put(self, selector, text):
         """Puts a text into a box at once, as pasting does."""

@@ -5,7 +5,7 @@ import threading
 import time
 
 from site_browser import Browser
-from site_world import World
+from site_world import World, items_of_file
 
 SETTLE = 0.7
 
@@ -25,7 +25,7 @@ def lost(cases, world, browser):
     world.spoiler.set("lose", left=3)
     propose(browser, "a001", "Lost three times")
     browser.click("form.propose button.main")
-    browser.has("It isn't known yet whether this was done")
+    browser.has("It isn't known yet whether this was done", "#owed")
     cases.equal("once: kept before its outcome is known", len(browser.owed()), 1)
     browser.heading("Proposal ", 30)
     cases.equal("once: lost three times, one proposal", count(world, "a001"), 1)
@@ -50,7 +50,7 @@ def reloaded(cases, world, browser):
     world.spoiler.set("lose", left=50)
     propose(browser, "a003", "Loaded anew between tries")
     browser.click("form.propose button.main")
-    browser.has("It isn't known yet")
+    browser.has("It isn't known yet", "#owed")
     browser.go("/")
     browser.has("no answer came", "#owed")
     world.spoiler.set("pass")
@@ -146,8 +146,8 @@ def queued(cases, world, browser):
 def elsewhere_decided(cases, world, browser):
     """Two clicks on a row that somebody else decided leave the other rows alone."""
     browser.go("/queue")
-    browser.wait(lambda: browser.all(".queue .buttons"), "buttons")
-    rows = len(browser.all(".queue > li"))
+    rows = len(world.pending())
+    browser.all_rows(".queue > li", rows)
     number = world.pending()[0]["num"]
     world.ask("/reject", {"num": number, "reason": "no"}, "root")
     time.sleep(SETTLE)
@@ -193,7 +193,7 @@ def forgotten(cases, world, browser):
     browser.go("/propose?path=PC/8086/a040")
     browser.type("#name", "Forgotten")
     browser.click("form.propose button.main")
-    browser.has("It isn't known yet")
+    browser.has("It isn't known yet", "#owed")
     first = driver.current_window_handle
     driver.switch_to.new_window("tab")
     browser.go("/help")
@@ -235,6 +235,13 @@ def unkept(cases, world, browser):
     browser.click("form.propose button.main")
     browser.heading("Proposal ")
     cases.equal("once: a browser that keeps nothing", count(world, "a045"), 1)
+    browser.go("/people")
+    browser.type("#who-name", "emil")
+    browser.click("main form button.main")
+    browser.has("rank is too low")
+    box = browser.js("const it = document.getElementById('who-name');"
+                     "return [it.value, it.readOnly]")
+    cases.equal("once: what was refused there can be mended", box, ["emil", False])
     driver.execute_cdp_cmd("Page.removeScriptToEvaluateOnNewDocument", made)
 
 
@@ -243,9 +250,9 @@ def others_key(cases, world, browser):
     world.spoiler.set("lose", left=50)
     browser.go("/propose?many=yes&text=8086:a046%20In%20doubt")
     browser.click("main > .buttons button.main")
-    browser.has("It isn't known yet", ".many")
-    browser.click(".many .waiting .buttons button:last-child")
-    browser.has("kept at the top", ".many")
+    browser.has("It isn't known yet", "#owed")
+    browser.click("#owed button:last-child")
+    browser.has("kept at the foot", ".many")
     world.spoiler.set("pass")
     for name in ("dora", "alice"):
         browser.click("#log")
@@ -320,7 +327,7 @@ def imports(cases, world, browser):
     world.spoiler.set("lose", left=50)
     revision = world.ask("/changes?since=9000000000000000000")["revision"]
     browser.click(".result button.main")
-    browser.has("It isn't known yet", "main", 40)
+    browser.has("It isn't known yet", "#owed", 40)
     browser.go("/help")
     browser.has("Choose the same file again", "#owed")
     world.spoiler.set("pass")
@@ -346,6 +353,13 @@ def stopped(cases, world, browser):
     cases.equal("stopped: an item from the published file", got, (True, True))
     browser.go("/vendors")
     cases.equal("stopped: all vendors", "2,3" in browser.text(".narrow output"), True)
+    vendors = [(path[3:], name) for path, name in items_of_file() if len(path) == 7]
+    has_words = lambda name: all(it in name.lower() for it in ("intel", "corp"))
+    want = [f"{number} {name}" for number, name in vendors if has_words(name)]
+    browser.put("#narrow-vendors", "intel corp")
+    rows = browser.wait(lambda: 0 < len(browser.all(".items [role=listitem]")) < 90
+                        and browser.text(".items").split("\n"), "fewer rows")
+    cases.equal("stopped: the list of vendors is narrowed", rows, want)
     browser.go("/queue")
     cases.equal("stopped: told plainly", browser.has("isn't running at the moment"), True)
     world.spoiler.set("pass")

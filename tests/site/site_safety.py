@@ -1,7 +1,10 @@
 """Hostile names, notes, remarks and reasons stay text; text that deceives is marked; the policy of
 the headers holds and reports nothing; without scripts the page leads to the texts of the API."""
 import json
+import os
+import re
 
+import program
 from http_server import ask_curl
 from site_browser import Browser
 from site_world import World
@@ -78,6 +81,7 @@ def deceiving(cases, world, browser):
     numbers = {text: world.submit("alice", f"PC/8086/de{at:02x}", text)
                for at, text in enumerate(DECEIVING)}
     browser.go("/queue")
+    browser.all_rows(".queue > li", len(world.pending()))
     for text, number in numbers.items():
         row = f"a[href='/proposals/{number}']"
         got = browser.js("return document.querySelector(arguments[0]).closest('li')"
@@ -137,6 +141,19 @@ def without_scripts(cases, world):
     cases.equal("safety: nothing inline", inline, [])
 
 
+def refusals(cases, browser):
+    """Each refusal that docs/REFUSALS.md lists has words of its own."""
+    with open(os.path.join(program.TOP, "docs", "REFUSALS.md"), encoding="utf-8") as file:
+        numbers = [int(it) for it in re.findall(r"^\| (\d+) \|", file.read(), re.M)]
+    words = browser.driver.execute_async_script(
+        "const [numbers, done] = arguments; import('/site/words.js').then((it) => done("
+        "numbers.map((refused) => it.refusalWords({ refused, word: 'Word', line: 3, kind: 7 }))))",
+        numbers)
+    plain = {it for it in words if "(Word)" not in it}
+    cases.equal("safety: each refusal in words", (len(plain), len(numbers) > 20),
+                (len(numbers), True))
+
+
 def secrets(cases, browser):
     """Without the tick the password is nowhere; a cancelled log-in logs nobody in."""
     browser.go("/")
@@ -168,3 +185,4 @@ def run(cases):
         policy(cases, world, browser)
         without_scripts(cases, world)
         secrets(cases, browser)
+        refusals(cases, browser)

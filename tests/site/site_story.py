@@ -79,7 +79,35 @@ def contributor(cases, world, browser):
     cases.equal("story: its author may withdraw and not decide", buttons, ["Withdraw"])
     browser.go("/mine")
     cases.equal("story: among her own", browser.has("Imaginary Controller"), True)
+    others(cases, world, browser)
     return number
+
+
+def others(cases, world, browser):
+    """A better name begins with the present one; a removal; and taking both back."""
+    present = world.ask("/read/PC/8086/1237")["name"]
+    value = "return document.getElementById('name').value"
+    browser.go("/propose?path=PC/8086/1237")
+    browser.wait(lambda: browser.js(value) == present, "the present name")
+    browser.click("form.propose button.main")
+    told = browser.has("It has that name already", "form.propose")
+    cases.equal("story: the name of today isn't proposed", told, True)
+    browser.type("#name", " B")
+    browser.click("form.propose button.main")
+    browser.heading("Proposal ")
+    got = [it["name"] for it in world.pending("PC/8086/1237")]
+    cases.equal("story: a better name", got, [f"{present} B"])
+    browser.click(".decide button")
+    browser.has("Withdrawn", "h1")
+    browser.go("/item/PC/8086/1237")
+    browser.click("a.button[href*='remove=yes']")
+    browser.has("is now", ".about")
+    browser.click("form.propose button.main")
+    browser.heading("Proposal ")
+    cases.equal("story: a removal", [it["name"] for it in world.pending("PC/8086/1237")], [None])
+    browser.click(".decide button")
+    browser.has("Withdrawn", "h1")
+    cases.equal("story: both taken back", world.pending("PC/8086/1237"), [])
 
 
 def moderator(cases, world, browser, number):

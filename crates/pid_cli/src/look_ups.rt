@@ -1,11 +1,10 @@
 //! Lookups in a pci.ids file.
 use crate::job_end::JobEnd;
 use crate::replies::print_answer;
+use pid_cli_words::LookUpWords;
+use pid_file::{LARGEST, TextEnd, tell_unread};
 use pid_ident::{Input, Output};
-use pid_lookup::{Args, BadField, args_of};
-use pid_text_lookup::look_up_in;
-use pid_texts::{LARGEST, TextEnd, tell_unread};
-use pid_words::LookUpWords;
+use pid_lookup::{Args, BadField, args_of, look_up_in};
 use std::alloc::{AllocError, Global};
 
 /// A lookup whose values were checked.

@@ -9,7 +9,7 @@ mod replies;
 mod running;
 mod serving;
 
-use pid_words::words_given;
+use pid_cli_words::words_given;
 use running::run_words;
 use std::process::ExitCode;
 

@@ -1,11 +1,11 @@
 //! The lines that jobs print.
 use crate::job_end::JobEnd;
 use itoa::Buffer;
+use pid_file::{FAILED, TextEnd, tell_end};
 use pid_ident::{Output, write_all, write_parts};
 use pid_lookup::{Answer, LookupRefusal, Unanswered};
 use pid_moderation::{Refusal, Reply, reply_line};
 use pid_tables::{Step, TableFault};
-use pid_texts::{FAILED, TextEnd, tell_end};
 use std::alloc::{AllocError, Global};
 
 /// The exit status if a command or a lookup is refused.

@@ -3,12 +3,12 @@ ghost use Rattle.std.specs.Prelude.{◌≡◌, ◌+◌, ◌≤◌};
 
 use crate::job_end::JobEnd;
 use itoa::Buffer;
-use pid_http::serve_stream;
+use pid_file::{FAILED, TextEnd, tell_end};
+use pid_http::{Routes, serve_with};
+use pid_http_listener::{ServingEnd, StreamServer, serve_on};
 use pid_http_stream::Served;
 use pid_ident::{Input, Output, WriteFault, write_all, write_parts};
 use pid_service::Registry;
-use pid_serving::{ServingEnd, StreamServer, serve_on};
-use pid_texts::FAILED;
 use sqlite::Alter;
 use std::alloc::Global;
 use std::net::{Ipv4Addr, SocketAddr, TcpListener};
@@ -24,11 +24,13 @@ pub struct Port {
 #[derive(Drop)]
 struct Server<'r, S: Alter + Drop> {
     alloc: Global,
+    routes: Routes,
     registry: &'r mut Registry<S>,
 }
 
 impl<S: Alter + Drop> StreamServer for Server<'_, S> {
-    ghost use Rattle.pid_http.specs.Known.{LivesOn, lives_further, lives_still};
+    ghost use Rattle.pid_http.specs.Known.{LivesOn};
+    ghost use Rattle.pid_http.specs.Steps.Going.{lives_further, lives_still};
     ghost use Rattle.pid_service.specs.Registries.{is_live};
 
     ghost live = { λ server. is_live server.registry.now };
@@ -44,7 +46,14 @@ impl<S: Alter + Drop> StreamServer for Server<'_, S> {
     }
 
     fn serve<I: Input, O: Output>(&mut self, input: &mut I, output: &mut O, turns: u64) -> Served {
-        serve_stream(self.alloc, self.registry, input, output, turns)
+        serve_with(
+            self.alloc,
+            &self.routes,
+            self.registry,
+            input,
+            output,
+            turns,
+        )
     }
 }
 
@@ -61,15 +70,14 @@ fn tell_socket<F: Output>(faults: &mut F) -> JobEnd {
 
 // Serves so many connections of a listener, and prints the number of streams that were started.
 fn serve_listener<S: Alter + Drop, O: Output, F: Output>(
-    alloc: Global,
-    registry: &mut Registry<S>,
+    server: Server<'_, S>,
     listener: &TcpListener,
     connections: u32,
     output: &mut O,
     faults: &mut F,
 ) -> JobEnd {
-    let mut server = Server { alloc, registry };
-    let serving = serve_on(alloc, listener, &mut server, connections);
+    let mut server = server;
+    let serving = serve_on(server.alloc, listener, &mut server, connections);
     let printed = print_count(b"served ", u64::from(serving.streams), output);
     match (serving.end, printed) {
         (ServingEnd::AcceptFault, _) => tell_socket(faults),
@@ -95,16 +103,17 @@ pub fn serve_registry<S: Alter + Drop, O: Output, F: Output>(
     let Ok(listener) = TcpListener::bind(rt, address) else {
         return tell_socket(faults);
     };
+    let Ok(routes) = Routes::new(rt.alloc()) else {
+        return JobEnd::Told(tell_end(TextEnd::Memory, faults));
+    };
+    let server = Server {
+        alloc: rt.alloc(),
+        routes,
+        registry,
+    };
     let number = u64::from(port.number);
     match print_count(b"listening on 127.0.0.1:", number, output) {
-        Ok(()) => serve_listener(
-            rt.alloc(),
-            registry,
-            &listener,
-            port.connections,
-            output,
-            faults,
-        ),
+        Ok(()) => serve_listener(server, &listener, port.connections, output, faults),
         Err(_) => JobEnd::FileFailed,
     }
 }

@@ -15,7 +15,7 @@ use Rattle.pid_file.specs.PathTexts.{IsPath, path_text, parent_of, path_cmp}
 use Rattle.pid_file.specs.Trees.{TreeMap, text_cmp}
 use Rattle.pid_file.specs.Items.{tree_of}
 use Rattle.pid_file.specs.Parents.{HasChild}
-use Rattle.pid_file.specs.Between.{HasNoneBetween}
+use Rattle.pid_file.specs.Steps.Between.{HasNoneBetween}
 use Rattle.pid_file.proofs.Kin.{same_path}
 use Rattle.pid_file.proofs.Maps.{same_texts, is_equal, get-tree}
 

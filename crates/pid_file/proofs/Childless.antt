@@ -8,7 +8,7 @@ use Rattle.pid_file.specs.declared.path.Path.TheVariants.{Vendor, Device, Subsys
 use Rattle.pid_file.specs.PathTexts.{IsPath, path_text, parent_of}
 use Rattle.pid_file.specs.Trees.{TreeMap}
 use Rattle.pid_file.specs.Parents.{HasChild}
-use Rattle.pid_file.specs.Between.{HasNoneBetween}
+use Rattle.pid_file.specs.Steps.Between.{HasNoneBetween}
 use Rattle.pid_file.proofs.Kin.{ordered_places}
 
 abbrev Childless : TreeMap → Path → Type 0

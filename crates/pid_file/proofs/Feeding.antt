@@ -23,7 +23,7 @@ use Rattle.pid_file.specs.Refusals.{refusal_at, IsRefusal}
 use Rattle.pid_file.specs.Progress.{Shows}
 use Rattle.pid_file.specs.Sinks.{Took, TookSome, Ends}
 use Rattle.pid_file.specs.Cutters.{Holds}
-use Rattle.pid_file.specs.LineEnds.{LineEnds, TookLine}
+use Rattle.pid_file.specs.Steps.LineEnds.{LineEnds, TookLine}
 use Rattle.pid_file.proofs.Cuts.{map_append, whole_line, open_behind, whole_same, open_longer, lines_split, lines_more, last_line, open_no_lf}
 
 or_else-assoc : (a b c : Option ReadRefusal) → or_else (or_else a b) c ≡ or_else a (or_else b c)

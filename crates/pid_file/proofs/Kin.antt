@@ -13,7 +13,7 @@ use Rattle.std.proofs.lemmas.Bool.Decides.{nat_tests}
 use Rattle.pid_file.specs.declared.path.Path.{Path}
 use Rattle.pid_file.specs.declared.path.Path.TheVariants.{Vendor, Device, Subsystem, Class, Subclass, ProgIf, Generic}
 use Rattle.pid_file.specs.PathTexts.{IsPath, path_text, path_cmp, parent_of}
-use Rattle.pid_file.specs.PathPlaces.{letter_of, numbers_of}
+use Rattle.pid_file.specs.Steps.PathPlaces.{letter_of, numbers_of}
 use Rattle.pid_file.proofs.PathOrder.{places_order}
 
 under_c : List ℕ → Option Path

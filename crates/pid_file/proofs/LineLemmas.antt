@@ -4,10 +4,11 @@ use mathlib.Core.Bool.{true≢false}
 use Rattle.std.specs.Str.{is_utf8, IsUtf8}
 use Rattle.pid_file.specs.Bytes.{is_empty}
 use Rattle.pid_file.specs.declared.line_kind.LineKind.TheVariants.{BadName}
-use Rattle.pid_file.specs.EntryLines.{name_fault}
+use Rattle.pid_file.specs.Steps.EntryLines.{name_fault}
 use Rattle.std.proofs.lemmas.Str.{IsUtf8-from_is_utf8}
 use Rattle.std.proofs.lemmas.Bool.Decides.{nat_tests}
-use Rattle.pid_file.specs.Columns.{is_hex, are_digits, begins_with_id, is_id}
+use Rattle.pid_file.specs.Columns.{is_hex, begins_with_id, is_id}
+use Rattle.pid_file.specs.Steps.Columns.{are_digits}
 use Rattle.pid_file.specs.Lines.{drop_cr}
 use Rattle.pid_file.specs.Marks.{trim_blanks}
 

@@ -17,7 +17,7 @@ use Rattle.pid_file.specs.Words.{is_name}
 use Rattle.pid_file.specs.Trees.{IsTree, text_cmp}
 use Rattle.pid_file.specs.Items.{item_of, tree_of}
 use Rattle.pid_file.specs.declared.whole.Above.{Above}
-use Rattle.pid_file.specs.Whole.{HasItem, AreIn, IsSound, AreSound}
+use Rattle.pid_file.specs.Steps.Whole.{HasItem, AreIn, IsSound, AreSound}
 use Rattle.pid_file.proofs.Between.{Items, value_in}
 use Rattle.pid_file.proofs.Kin.{same_path}
 use Rattle.pid_file.proofs.Maps.{same_texts, is_equal, get-tree, value-texts, if_some_weaker}

@@ -7,7 +7,9 @@ use Rattle.pid_file.specs.Sending.{SendsFront}
 use Rattle.pid_file.specs.Judgements.{IsGood}
 use Rattle.pid_file.specs.Told.{IsTold}
 use Rattle.pid_file.specs.declared.text_end.TextEnd.{TextEnd}
-use Rattle.pid_file.specs.declared.text_end.TextEnd.TheVariants.{Done, Line, TooManyEntries, TooLarge, Memory, ReadFault, WriteFault}
+use Rattle.pid_file.specs.declared.text_end.TextEnd.TheVariants.{Done, Line, TooManyEntries}
+use Rattle.pid_file.specs.declared.text_end.TextEnd.TheVariants.{TooLarge, Memory, ReadFault}
+use Rattle.pid_file.specs.declared.text_end.TextEnd.TheVariants.{WriteFault}
 
 -- the number of entries in a text
 abbrev pub count_of : List ℕ → ℕ
@@ -20,7 +22,8 @@ ok_line count = codes "ok " ++ decimal count ++ 10 ∷ []
 -- what was written, by the end: the count for a good text, or why there is none
 abbrev pub IsChecked : TextEnd → List ℕ → Option (List ℕ) → Option (List ℕ) → Type 0
 IsChecked Done text old new = IsGood text × Appends old new (ok_line (count_of text))
-IsChecked WriteFault text old new = (IsGood text × SendsFront old new (ok_line (count_of text))) ⊎ IsTold WriteFault text old new
+IsChecked WriteFault text old new = (IsGood text × SendsFront old new (ok_line (count_of text)))
+    ⊎ IsTold WriteFault text old new
 IsChecked (Line line kind) text old new = IsTold (Line line kind) text old new
 IsChecked TooManyEntries text old new = IsTold TooManyEntries text old new
 IsChecked TooLarge text old new = IsTold TooLarge text old new

@@ -1,5 +1,5 @@
--- The columns of a line: its identifiers in hex digits of either case, each with a space or a tab behind it, and behind blanks its name.
--- pci.ids(5) and the syntax header of the published file.
+-- The columns of a line: its identifiers in hex digits of either case, each with a space or a tab
+-- behind it, and behind blanks its name. pci.ids(5) and the syntax header of the published file.
 use Rattle.std.specs.Prelude.{ℕ, zero, suc, Bool, true, false, ◌&&◌, List, [], ◌∷◌, ◌++◌, take, drop, map, nat_lt}
 use Rattle.std.specs.Char.{digit_value, to_ascii_lowercase}
 use Rattle.pid_file.specs.Bytes.{is_blank, is_empty}
@@ -8,12 +8,6 @@ use Rattle.pid_file.specs.Marks.{trim_blanks}
 -- a hex digit, in either case
 abbrev pub is_hex : ℕ → Bool
 is_hex b = nat_lt (digit_value b) 16
-
--- n hex digits
-abbrev pub are_digits : ℕ → List ℕ → Bool
-are_digits zero bytes = true
-are_digits (suc n) [] = false
-are_digits (suc n) (b ∷ bs) = is_hex b && are_digits n bs
 
 -- n hex digits, and then a blank
 abbrev pub begins_with_id : ℕ → List ℕ → Bool
@@ -35,7 +29,8 @@ is_id (suc n) (b ∷ bs) = is_hex b && is_id n bs
 -- the digits of the identifiers, in lower case
 abbrev pub digits_in : List ℕ → List ℕ → List ℕ
 digits_in [] bytes = []
-digits_in (w ∷ ws) bytes = map to_ascii_lowercase (take w bytes) ++ digits_in ws (drop (suc w) bytes)
+digits_in (w ∷ ws) bytes = map to_ascii_lowercase (take w bytes) ++ digits_in ws
+    (drop (suc w) bytes)
 
 -- what stands behind the identifiers and blanks
 abbrev pub name_in : List ℕ → List ℕ → List ℕ

@@ -1,4 +1,5 @@
--- What a cutter holds of the text that it was fed. Callers need not open it: `new` gives it, and `feed` and `finish` take it.
+-- What a cutter holds of the text that it was fed. Callers need not open it: `new` gives it, and
+-- `feed` and `finish` take it.
 use Rattle.std.specs.Prelude.{◌≡◌, ℕ, List, reverse, Some, None}
 use Rattle.pid_file.specs.declared.refusal.ReadRefusal.{ReadRefusal}
 use Rattle.pid_file.specs.declared.refusal.ReadRefusal.TheVariants.{Memory}

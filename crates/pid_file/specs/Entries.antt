@@ -7,7 +7,8 @@ use Rattle.pid_file.specs.Trees.{text_cmp}
 use Rattle.pid_file.specs.Words.{is_name}
 use Rattle.pid_file.specs.LookingBack.{Item}
 
--- an entry behind others, the last of them first: a name at a path that none of them has, and whose parent is among them
+-- an entry behind others, the last of them first: a name at a path that none of them has, and whose
+-- parent is among them
 pub record IsNextEntry (entry : Item) (others : List Item) : Type 0 where
   pub path : Path
   pub text : IsTextOf entry.0 path

@@ -1,5 +1,6 @@
--- What a line is by its own bytes alone: whether it is skipped, how deep it stands, and what a line of depth 0 opens.
--- pci.ids(5) and the syntax header of the published file; blocks of generic subsystems behind `S` as pci.ids(5) describes and libpci reads them.
+-- What a line is by its own bytes alone: whether it is skipped, how deep it stands, and what a line
+-- of depth 0 opens. pci.ids(5) and the syntax header of the published file; blocks of generic
+-- subsystems behind `S` as pci.ids(5) describes and libpci reads them.
 use Rattle.std.specs.Prelude.{ℕ, suc, Bool, true, false, ◌&&◌, List, [], ◌∷◌, drop, nat_le, ◌==◌, if◌then◌else◌}
 use Rattle.pid_file.specs.Bytes.{is_blank}
 use Rattle.pid_file.specs.declared.line.Mark.{Mark}
@@ -35,9 +36,10 @@ is_capital b = nat_le 65 b && nat_le b 90
 abbrev pub mark_of_letter : ℕ → Mark
 mark_of_letter b = if b == 67 then Classes else (if b == 83 then Generics else Unknown)
 
--- what a line of depth 0 opens: a class behind `C` and a space, generic subsystems behind `S` and a space,
--- an unknown block behind another capital letter and a space, else a vendor. A nested line begins with a tab, which is
--- no capital: its mark is that of vendors, under which `inside` is what stands behind the tabs.
+-- what a line of depth 0 opens: a class behind `C` and a space, generic subsystems behind `S` and a
+-- space, an unknown block behind another capital letter and a space, else a vendor. A nested line
+-- begins with a tab, which is no capital: its mark is that of vendors, under which `inside` is what
+-- stands behind the tabs.
 abbrev pub mark : List ℕ → Mark
 mark [] = Devices
 mark (b ∷ []) = Devices

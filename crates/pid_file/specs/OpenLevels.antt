@@ -1,8 +1,6 @@
 -- What the open levels of a reader show of the lines that it has read, the nearest first.
--- Serves private functions alone; no promise rests on it.
-use Rattle.std.specs.Prelude.{◌≡◌, ℕ, true, false, List, [], ◌∷◌, ◌++◌, ◌==◌, if◌then◌else◌, Option, Some, None, Result, Ok, Err, codes, IsTrue}
-use Rattle.pid_file.specs.declared.line_kind.LineKind.{LineKind}
-use Rattle.pid_file.specs.declared.line_kind.LineKind.TheVariants.{TooDeep, NoParent}
+use Rattle.std.specs.Prelude.{◌≡◌, ℕ, true, false, List, [], ◌∷◌, ◌++◌}
+use Rattle.std.specs.Prelude.{Some, None, codes, IsTrue}
 use Rattle.pid_file.specs.declared.path.Path.{Path}
 use Rattle.pid_file.specs.declared.path.Path.TheVariants as paths
 use Rattle.pid_file.specs.Identifiers.{hex4, hex2}
@@ -10,10 +8,10 @@ use Rattle.pid_file.specs.PathTexts.{path_text}
 use Rattle.pid_file.specs.Words.{is_name}
 use Rattle.pid_file.specs.declared.line.Mark.{Mark}
 use Rattle.pid_file.specs.declared.line.Mark.TheVariants as marks
-use Rattle.pid_file.specs.declared.entry_line.Place.{Place}
-use Rattle.pid_file.specs.declared.entry_line.Place.TheVariants as places
 use Rattle.pid_file.specs.declared.open_levels.OpenLevels.{OpenLevels}
-use Rattle.pid_file.specs.declared.open_levels.OpenLevels.TheVariants.{Nothing, Unknown, Vendor, Device, Class, Subclass, Generics}
+use Rattle.pid_file.specs.declared.open_levels.OpenLevels.TheVariants.{Nothing, Unknown, Vendor}
+use Rattle.pid_file.specs.declared.open_levels.OpenLevels.TheVariants.{Device, Class, Subclass}
+use Rattle.pid_file.specs.declared.open_levels.OpenLevels.TheVariants.{Generics}
 use Rattle.pid_file.specs.declared.open_levels.Said.{Said}
 use Rattle.pid_file.specs.declared.open_levels.Said.TheVariants as said
 use Rattle.pid_file.specs.Marks.{depth, mark, inside}
@@ -53,41 +51,12 @@ abbrev pub IsOpenAt : OpenLevels → List (List ℕ) → Type 0
 IsOpenAt Nothing earlier = (above 1 earlier ≡ None) × (above 2 earlier ≡ None)
 IsOpenAt Unknown earlier = IsUnknown earlier
 IsOpenAt (Vendor v) earlier = Under earlier marks.Devices (codes "PC/" ++ hex4 v) × IsBare earlier
-IsOpenAt (Device v d) earlier = Under earlier marks.Devices (codes "PC/" ++ hex4 v) × Below earlier marks.Devices (hex4 d)
+IsOpenAt (Device v d) earlier = Under earlier marks.Devices (codes "PC/" ++ hex4 v)
+    × Below earlier marks.Devices (hex4 d)
 IsOpenAt (Class c) earlier = Under earlier marks.Classes (codes "PD/" ++ hex2 c) × IsBare earlier
-IsOpenAt (Subclass c s) earlier = Under earlier marks.Classes (codes "PD/" ++ hex2 c) × Below earlier marks.Classes (hex2 s)
+IsOpenAt (Subclass c s) earlier = Under earlier marks.Classes (codes "PD/" ++ hex2 c)
+    × Below earlier marks.Classes (hex2 s)
 IsOpenAt (Generics v) earlier = Under earlier marks.Generics (codes "PS/" ++ hex4 v)
-
--- what a line of depth 1, of depth 2, and of a greater one names below open levels; none where it is skipped
-abbrev pub first_below : OpenLevels → Result (Option Place) LineKind
-first_below Nothing = Err NoParent
-first_below Unknown = Ok None
-first_below (Vendor v) = Ok (Some (places.Device v))
-first_below (Device v d) = Ok (Some (places.Device v))
-first_below (Class c) = Ok (Some (places.Subclass c))
-first_below (Subclass c s) = Ok (Some (places.Subclass c))
-first_below (Generics v) = Ok (Some (places.Generic v))
-
-abbrev pub second_below : OpenLevels → Result (Option Place) LineKind
-second_below Nothing = Err NoParent
-second_below Unknown = Ok None
-second_below (Vendor v) = Err NoParent
-second_below (Device v d) = Ok (Some (places.Subsystem v d))
-second_below (Class c) = Err NoParent
-second_below (Subclass c s) = Ok (Some (places.ProgIf c s))
-second_below (Generics v) = Err TooDeep
-
-abbrev pub deeper_below : OpenLevels → Result (Option Place) LineKind
-deeper_below Unknown = Ok None
-deeper_below Nothing = Err TooDeep
-deeper_below (Vendor v) = Err TooDeep
-deeper_below (Device v d) = Err TooDeep
-deeper_below (Class c) = Err TooDeep
-deeper_below (Subclass c s) = Err TooDeep
-deeper_below (Generics v) = Err TooDeep
-
-abbrev pub below : OpenLevels → ℕ → Result (Option Place) LineKind
-below at depth = if depth == 1 then first_below at else (if depth == 2 then second_below at else deeper_below at)
 
 -- the entry that is said, if any
 abbrev pub items_of : Said → List Item
@@ -128,7 +97,8 @@ open_behind at (said.Block v) = Generics v
 open_behind at (said.Entry e) = open_below e.path
 
 -- what a line says behind others that leave these levels open
-pub record Says (at : OpenLevels) (earlier : List (List ℕ)) (line : List ℕ) (s : Said) : Type 0 where
+pub record Says (at : OpenLevels) (earlier : List (List ℕ)) (line : List ℕ)
+    (s : Said) : Type 0 where
   pub good : line_fault_of earlier line ≡ None
   pub entry : items_of s ≡ entry_of earlier line
   pub block : IsBlockOf s line

@@ -1,5 +1,5 @@
--- The parent and the children of a path in a tree. That a tree holds the parent of each of its paths is a choice of
--- this project, after the nesting of lines in pci.ids(5).
+-- The parent and the children of a path in a tree. That a tree holds the parent of each of its
+-- paths is a choice of this project, after the nesting of lines in pci.ids(5).
 use Rattle.std.specs.Prelude.{◌≡◌, Some, IsSome, IsNone, IsSomeAnd}
 use Rattle.std.specs.FinMap.{get}
 use Rattle.pid_file.specs.declared.path.Path.{Path}

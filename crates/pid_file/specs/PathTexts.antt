@@ -21,7 +21,8 @@ IsPath (Subclass c s) = (c < 2 ^ 8) × (s < 2 ^ 8)
 IsPath (ProgIf c s p) = (c < 2 ^ 8) × (s < 2 ^ 8) × (p < 2 ^ 8)
 IsPath (Generic v d) = (v < 2 ^ 16) × (d < 2 ^ 16)
 
--- the front of a path's text: PC for vendors and below, PD for classes and below, PS for generic subsystems
+-- the front of a path's text: PC for vendors and below, PD for classes and below, PS for generic
+-- subsystems
 abbrev pub front_of : Path → List ℕ
 front_of (Vendor v) = codes "PC"
 front_of (Device v d) = codes "PC"
@@ -46,7 +47,8 @@ abbrev pub slashed : List (List ℕ) → List ℕ
 slashed [] = []
 slashed (part ∷ parts) = 47 ∷ part ++ slashed parts
 
--- the text of a path: PC/8086, PC/8086/1237, PC/8086/1237/1af41100, PD/01, PD/01/01, PD/01/01/80, PS/1af4/1100
+-- the text of a path: PC/8086, PC/8086/1237, PC/8086/1237/1af41100, PD/01, PD/01/01, PD/01/01/80,
+-- PS/1af4/1100
 abbrev pub path_text : Path → List ℕ
 path_text path = front_of path ++ slashed (parts_of path)
 

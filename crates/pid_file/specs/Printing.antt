@@ -1,21 +1,24 @@
--- The canonical text of a tree. Its lines are lines of pci.ids(5); which lines there are, their order
--- and the two spaces before a name are choices of this project.
-use Rattle.std.specs.Prelude.{ℕ, Bool, false, not, ◌&&◌, List, [], ◌∷◌, ◌++◌, length, codes, ◌==◌, take, drop, if◌then◌else◌, Option, Some, None}
+-- The canonical text of a tree. Its lines are lines of pci.ids(5); which lines there are, their
+-- order and the two spaces before a name are choices of this project.
+use Rattle.std.specs.Prelude.{ℕ, Bool, false, not, ◌&&◌, List, [], ◌∷◌, ◌++◌, length, codes, ◌==◌}
+use Rattle.std.specs.Prelude.{take, drop, if◌then◌else◌, Option, Some, None}
 use Rattle.std.specs.Ordering.{is_eq}
 use Rattle.std.specs.FinMap.{entries}
 use Rattle.pid_file.specs.declared.path.Path.{Path}
 use Rattle.pid_file.specs.PathTexts.{path_text}
 use Rattle.pid_file.specs.Trees.{TreeMap, text_cmp}
 
--- What stands before the name in the line of an item: the label of its path, read off the path's text. It is meant for
--- texts of paths alone, whose length tells the kind: 7 bytes of a vendor, 12 of a device or a generic subsystem, 21 of a
--- subsystem, 5 of a class, 8 of a subclass, and else 11 of a programming interface. Labels.antt has it by kind, and
--- laws.rt says that the two are one (9 is a tab, 32 a space).
+-- What stands before the name in the line of an item: the label of its path, read off the path's
+-- text. It is meant for texts of paths alone, whose length tells the kind: 7 bytes of a vendor, 12
+-- of a device or a generic subsystem, 21 of a subsystem, 5 of a class, 8 of a subclass, and else 11
+-- of a programming interface. Labels.antt has it by kind, and laws.rt says that the two are one (9
+-- is a tab, 32 a space).
 abbrev pub label_of : List ℕ → List ℕ
 label_of path =
     -- a vendor: `8086` of PC/8086
     if length path == 7 then drop 3 path else
-    -- a device, and a generic subsystem: tab and `1237` of PC/8086/1237, tab and `1100` of PS/1af4/1100
+    -- a device, and a generic subsystem: tab and `1237` of PC/8086/1237, tab and `1100` of
+    -- PS/1af4/1100
     (if length path == 12 then 9 ∷ drop 8 path else
     -- a subsystem: two tabs and `1af4 1100` of PC/8086/1237/1af41100
     (if length path == 21 then 9 ∷ 9 ∷ take 4 (drop 13 path) ++ 32 ∷ drop 17 path else
@@ -30,8 +33,9 @@ label_of path =
 abbrev pub item_line : List ℕ × List ℕ → List ℕ
 item_line item = label_of item.0 ++ codes "  " ++ item.1
 
--- whether the path with this text is a generic subsystem: the second byte is an S (83), which among texts of paths only
--- those of generic subsystems have, as PS/1af4/1100; the others begin with PC or PD
+-- whether the path with this text is a generic subsystem: the second byte is an S (83), which among
+-- texts of paths only those of generic subsystems have, as PS/1af4/1100; the others begin with PC
+-- or PD
 abbrev pub is_generic : List ℕ → Bool
 is_generic [] = false
 is_generic (p ∷ []) = false
@@ -41,8 +45,8 @@ is_generic (p ∷ front ∷ rest) = front == 83
 abbrev pub block_line : List ℕ → List ℕ
 block_line path = codes "S " ++ take 4 (drop 3 path)
 
--- whether that line comes between an item and the next: the next is a generic subsystem, and the one before
--- is none of its vendor, whose first 7 bytes would be the same (PS/1af4 of PS/1af4/1100)
+-- whether that line comes between an item and the next: the next is a generic subsystem, and the
+-- one before is none of its vendor, whose first 7 bytes would be the same (PS/1af4 of PS/1af4/1100)
 abbrev pub opens_block : List ℕ → List ℕ → Bool
 opens_block before path = is_generic path && not (is_eq (text_cmp (take 7 before) (take 7 path)))
 
@@ -54,7 +58,8 @@ text_or_none (Some path) = path_text path
 -- the lines of items in order, which come behind an item whose path has the text `before`
 abbrev pub lines_behind : List ℕ → List (List ℕ × List ℕ) → List (List ℕ)
 lines_behind before [] = []
-lines_behind before (item ∷ items) = (if opens_block before item.0 then block_line item.0 ∷ [] else []) ++ item_line item ∷ lines_behind item.0 items
+lines_behind before (item ∷ items) = (if opens_block before item.0 then block_line item.0
+    ∷ [] else []) ++ item_line item ∷ lines_behind item.0 items
 
 -- the first line of every canonical text
 abbrev pub header : List ℕ
@@ -65,6 +70,7 @@ abbrev pub ended : List (List ℕ) → List ℕ
 ended [] = []
 ended (line ∷ lines) = line ++ 10 ∷ ended lines
 
--- the text of a tree: the header, and the lines of its items in the bytewise order of their paths' texts
+-- the text of a tree: the header, and the lines of its items in the bytewise order of their paths'
+-- texts
 abbrev pub print : TreeMap → List ℕ
 print t = ended (header ∷ lines_behind [] (entries t))

@@ -1,5 +1,4 @@
 -- What is kept of the lines that were read shows them, the last one first.
--- Serves private functions alone; no promise rests on it.
 use Rattle.std.specs.Prelude.{◌≡◌, ℕ, List, [], ◌∷◌, Option, Some, None, length}
 use Rattle.pid_file.specs.declared.path.Path.{Path}
 use Rattle.pid_file.specs.PathTexts.{path_text}
@@ -11,7 +10,8 @@ use Rattle.pid_file.specs.Numbered.{Numbered, as_told}
 use Rattle.pid_file.specs.OpenLevels.{IsOpenAt}
 use Rattle.pid_file.specs.SeenPaths.{IsRising, has_path, paths_of}
 
-pub record IsShown (at : OpenLevels) (seen : List Path) (lines : ℕ) (earlier : List (List ℕ)) : Type 0 where
+pub record IsShown (at : OpenLevels) (seen : List Path) (lines : ℕ)
+    (earlier : List (List ℕ)) : Type 0 where
   pub paths : (q : Path) → has_path seen q ≡ is_told earlier (path_text q)
   pub count : length seen ≡ length (entries_back earlier)
   pub levels : IsOpenAt at earlier

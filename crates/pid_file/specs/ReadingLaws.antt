@@ -1,5 +1,5 @@
--- Proofs alone, no definitions: the laws that the readers of this crate give for `stays` and `joins` of `Input`.
--- No reads leave a reader as it is, and some reads and then others are reads.
+-- Proofs alone, no definitions: the laws that the readers of this crate give for `stays` and
+-- `joins` of `Input`. No reads leave a reader as it is, and some reads and then others are reads.
 use Rattle.std.proofs.Common.{ℕ, List, [], ◌++◌, Option, Some, None, refl, sym, ap, ◌∙◌, append_assoc, arith}
 use Rattle.pid_file.specs.InputCalls.{HasUsed, StaysKept, HasReadOn, HasNoMore}
 
@@ -11,7 +11,8 @@ used_then : (a b c : Option (List ℕ)) → HasUsed a b → HasUsed b c → HasU
 used_then None b c p q = ([], tt)
 used_then (Some x) None c p q = absurd p.1
 used_then (Some x) (Some y) None p q = absurd q.1
-used_then (Some x) (Some y) (Some z) p q = (p.0 ++ q.0, p.1 ∙ ap (λ (l : List ℕ). p.0 ++ l) q.1 ∙ sym (append_assoc p.0 q.0 z))
+used_then (Some x) (Some y) (Some z) p q =
+    (p.0 ++ q.0, p.1 ∙ ap (λ (l : List ℕ). p.0 ++ l) q.1 ∙ sym (append_assoc p.0 q.0 z))
 
 fault_stays : {F : Type 0} (a : Option F) → StaysKept a a
 fault_stays None = tt
@@ -25,8 +26,14 @@ fault_then (Some f) (Some g) c p q = q ∙ p
 pub no_reads : {F : Type 0} (a : Option (List ℕ)) (f : Option F) (n : ℕ) → HasReadOn a a f f n n
 no_reads a f n = record { bytes = used_none a; fault = fault_stays f; count = omega arith }
 
-pub more_reads : {F : Type 0} (a b c : Option (List ℕ)) (f g h : Option F) (k m n : ℕ) → HasReadOn a b f g k m → HasReadOn b c g h m n → HasReadOn a c f h k n
-more_reads a b c f g h k m n p q = record { bytes = used_then a b c p.bytes q.bytes; fault = fault_then f g h p.fault q.fault; count = omega (arith, p.count, q.count) }
+pub more_reads : {F : Type 0} (a b c : Option (List ℕ)) (f g h : Option F) (k m n : ℕ)
+    → HasReadOn a b f g k m → HasReadOn b c g h m n → HasReadOn a c f h k n
+more_reads a b c f g h k m n p q = record {
+  bytes = used_then a b c p.bytes q.bytes;
+  fault = fault_then f g h p.fault q.fault;
+  count = omega
+      (arith, p.count, q.count);
+}
 
 pub no_more_stays : (a : Option ℕ) → HasNoMore a a
 no_more_stays None = refl

@@ -1,5 +1,4 @@
 -- The paths that were seen: a run that rises, and the rest.
--- Serves private functions alone; no promise rests on it.
 use Rattle.std.specs.Prelude.{◌≡◌, Bool, true, List, ◌++◌, if◌then◌else◌}
 use Rattle.std.specs.List.{list_any}
 use Rattle.std.specs.List.Sorted.{IsSorted}
@@ -22,4 +21,5 @@ IsRising run = IsSorted path_cmp run
 
 -- the paths with one more
 abbrev pub IsOneMore : List Path → Path → List Path → Type 0
-IsOneMore old p new = (q : Path) → has_path new q ≡ (if is_eq (path_cmp p q) then true else has_path old q)
+IsOneMore old p new = (q : Path) → has_path new q
+    ≡ (if is_eq (path_cmp p q) then true else has_path old q)

@@ -4,7 +4,9 @@ use Rattle.pid_file.specs.LineKinds.{number_of, word_of}
 use Rattle.pid_file.specs.declared.refusal.ReadRefusal.{ReadRefusal}
 use Rattle.pid_file.specs.declared.refusal.ReadRefusal.TheVariants as refusals
 use Rattle.pid_file.specs.declared.text_end.TextEnd.{TextEnd}
-use Rattle.pid_file.specs.declared.text_end.TextEnd.TheVariants.{Done, Line, TooManyEntries, TooLarge, Memory, ReadFault, WriteFault}
+use Rattle.pid_file.specs.declared.text_end.TextEnd.TheVariants.{Done, Line, TooManyEntries}
+use Rattle.pid_file.specs.declared.text_end.TextEnd.TheVariants.{TooLarge, Memory, ReadFault}
+use Rattle.pid_file.specs.declared.text_end.TextEnd.TheVariants.{WriteFault}
 
 -- the end for a refusal
 abbrev pub end_of : ReadRefusal → TextEnd
@@ -14,7 +16,8 @@ end_of refusals.Memory = Memory
 
 -- a line's number, and the number and the word of its fault: line 3: 7 Duplicate
 abbrev pub line_told : ℕ → ℕ → List ℕ → List ℕ
-line_told line number word = codes "line " ++ decimal line ++ codes ": " ++ decimal number ++ 32 ∷ word ++ 10 ∷ []
+line_told line number word = codes "line " ++ decimal line ++ codes ": " ++ decimal number ++ 32
+    ∷ word ++ 10 ∷ []
 
 -- the line that reports a fault of a text or out of memory, with its LF; nothing for the other ends
 abbrev pub fault_line : TextEnd → List ℕ

@@ -7,7 +7,9 @@ use Rattle.pid_file.specs.Judgements.{ReadsWithin}
 use Rattle.pid_file.specs.Sending.{SendsFront}
 use Rattle.pid_file.specs.Told.{IsTold}
 use Rattle.pid_file.specs.declared.text_end.TextEnd.{TextEnd}
-use Rattle.pid_file.specs.declared.text_end.TextEnd.TheVariants.{Done, Line, TooManyEntries, TooLarge, Memory, ReadFault, WriteFault}
+use Rattle.pid_file.specs.declared.text_end.TextEnd.TheVariants.{Done, Line, TooManyEntries}
+use Rattle.pid_file.specs.declared.text_end.TextEnd.TheVariants.{TooLarge, Memory, ReadFault}
+use Rattle.pid_file.specs.declared.text_end.TextEnd.TheVariants.{WriteFault}
 
 -- what the output and the writer of faults had taken before and after
 pub record Writers : Type 0 where

@@ -5,7 +5,9 @@ use Rattle.pid_file.specs.Sending.{SendsFront}
 use Rattle.pid_file.specs.Judgements.{IsFaultOf}
 use Rattle.pid_file.specs.TextEnds.{fault_line}
 use Rattle.pid_file.specs.declared.text_end.TextEnd.{TextEnd}
-use Rattle.pid_file.specs.declared.text_end.TextEnd.TheVariants.{Done, Line, TooManyEntries, TooLarge, Memory, ReadFault, WriteFault}
+use Rattle.pid_file.specs.declared.text_end.TextEnd.TheVariants.{Done, Line, TooManyEntries}
+use Rattle.pid_file.specs.declared.text_end.TextEnd.TheVariants.{TooLarge, Memory, ReadFault}
+use Rattle.pid_file.specs.declared.text_end.TextEnd.TheVariants.{WriteFault}
 
 -- the end is a fault of the text or out of memory, and its line was written
 pub record TellsFault (end : TextEnd) (text : List ℕ) (old new : Option (List ℕ)) : Type 0 where

@@ -17,5 +17,6 @@ TreeMap = FinMap text_cmp (List ℕ)
 -- each key is the text of a path whose parent is there too, and each value is a name
 pub record IsTree (t : TreeMap) : Type 0 where
   pub paths : (k : List ℕ) → IsSome (get t k) → (p : Path) × IsTextOf k p
-  pub parents : (p : Path) → IsPath p → IsSome (get t (path_text p)) → IfSome (parent_of p) (λ q. IsSome (get t (path_text q)))
+  pub parents : (p : Path) → IsPath p → IsSome (get t (path_text p))
+      → IfSome (parent_of p) (λ q. IsSome (get t (path_text q)))
   pub names : (k : List ℕ) → IfSome (get t k) (λ name. IsTrue (is_name name))

@@ -19,17 +19,26 @@ pub record IsWhole (limit : ℕ) (rest : Option (List ℕ)) (text : List ℕ) : 
   pub at_end : IsAtEnd rest
   pub short : length text ≤ limit
 
--- the sink took the entries of the lines up to one, none of which is refused, or it gave a fault at the entry of one
-abbrev pub TookOrFaulted : {S F : Type 0} → (S → Numbered → S → Type 0) → (S → Numbered → F → S → Type 0) → S → List (List ℕ) → S → Type 0
-TookOrFaulted {S} {F} takes faults old lines new = TookSome takes old lines new ⊎ ((fault : F) × FaultedAt takes faults old lines fault new)
+-- the sink took the entries of the lines up to one, none of which is refused, or it gave a fault at
+-- the entry of one
+abbrev pub TookOrFaulted : {S F : Type 0} → (S → Numbered → S → Type 0)
+    → (S → Numbered → F → S → Type 0) → S → List (List ℕ) → S → Type 0
+TookOrFaulted {S} {F} takes faults old lines new = TookSome takes old lines new
+    ⊎ ((fault : F) × FaultedAt takes faults old lines fault new)
 
--- the whole text was cut; or it is too long, and no more of it was read than shows that; or the input failed behind it
-abbrev pub CutsInput : {S F X : Type 0} → (S → Numbered → S → Type 0) → (S → Numbered → F → S → Type 0) → ℕ → Result X (InputEnd F) →
+-- the whole text was cut; or it is too long, and no more of it was read than shows that; or the
+-- input failed behind it
+abbrev pub CutsInput : {S F X : Type 0} → (S → Numbered → S → Type 0)
+    → (S → Numbered → F → S → Type 0) → ℕ → Result X (InputEnd F) →
     Option (List ℕ) → List ℕ → S → S → Type 0
-CutsInput takes faults limit (Ok x) rest text old new = IsWhole limit rest text × Ends {X = Unit {0}} takes faults (Ok tt) old (lines_of text) new
-CutsInput takes faults limit (Err (Cut end)) rest text old new = IsWhole limit rest text × Ends {X = Unit {0}} takes faults (Err end) old (lines_of text) new
-CutsInput takes faults limit (Err TooLong) rest text old new = (length text ≡ limit + 1) × TookOrFaulted takes faults old (lines_of text) new
-CutsInput takes faults limit (Err ReadFault) rest text old new = (length text ≤ limit) × TookOrFaulted takes faults old (lines_of text) new
+CutsInput takes faults limit (Ok x) rest text old new = IsWhole limit rest text
+    × Ends {X = Unit {0}} takes faults (Ok tt) old (lines_of text) new
+CutsInput takes faults limit (Err (Cut end)) rest text old new = IsWhole limit rest text
+    × Ends {X = Unit {0}} takes faults (Err end) old (lines_of text) new
+CutsInput takes faults limit (Err TooLong) rest text old new = (length text ≡ limit + 1)
+    × TookOrFaulted takes faults old (lines_of text) new
+CutsInput takes faults limit (Err ReadFault) rest text old new = (length text ≤ limit)
+    × TookOrFaulted takes faults old (lines_of text) new
 
 -- the same of a text that nobody wants
 abbrev pub SkipsInput : {X : Type 0} → ℕ → Result X SkipEnd → Option (List ℕ) → List ℕ → Type 0

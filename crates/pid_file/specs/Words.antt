@@ -4,9 +4,11 @@ use Rattle.std.specs.List.{list_all}
 use Rattle.std.specs.Str.{is_utf8}
 use Rattle.pid_file.specs.Bytes.{is_printed, is_empty, begins_blank}
 
--- a name of an item: UTF-8 of 1 to 1,000 bytes without control bytes but tabs, and with no blank in front
+-- a name of an item: UTF-8 of 1 to 1,000 bytes without control bytes but tabs, and with no blank in
+-- front
 abbrev pub is_name : List ℕ → Bool
-is_name bytes = is_utf8 bytes && not (is_empty bytes) && nat_le (length bytes) 1000 && not (begins_blank bytes) && list_all is_printed bytes
+is_name bytes = is_utf8 bytes && not (is_empty bytes) && nat_le (length bytes) 1000 && not
+    (begins_blank bytes) && list_all is_printed bytes
 
 -- a note, comment or reason: UTF-8 of at most 4,000 bytes without control bytes but tabs
 abbrev pub is_text : List ℕ → Bool
@@ -18,7 +20,8 @@ is_account_byte b = (nat_le 97 b && nat_le b 122) || (nat_le 48 b && nat_le b 57
 
 -- the name of an account: 1 to 32 such bytes
 abbrev pub is_account : List ℕ → Bool
-is_account bytes = not (is_empty bytes) && nat_le (length bytes) 32 && list_all is_account_byte bytes
+is_account bytes = not (is_empty bytes) && nat_le
+    (length bytes) 32 && list_all is_account_byte bytes
 
 -- visible ASCII: `!` to `~`
 abbrev pub is_key_byte : ℕ → Bool

@@ -23,4 +23,5 @@ count_of_reads p = p.reads
 
 -- what reads leave of it, by the bytes to come before and after; what was written stays
 abbrev pub GoesOn : {T : Type 0} → Option (List ℕ) → Option (List ℕ) → Plain T → Plain T → Type 0
-GoesOn old new a b = HasReadOn old new (kept_read_fault a) (kept_read_fault b) (count_of_reads a) (count_of_reads b) × (kept_write_fault b ≡ kept_write_fault a)
+GoesOn old new a b = HasReadOn old new (kept_read_fault a) (kept_read_fault b) (count_of_reads a)
+    (count_of_reads b) × (kept_write_fault b ≡ kept_write_fault a)

@@ -1,7 +1,11 @@
 //! Tests of bytes that the rules of words share.
 ghost use Rattle.std.specs.Prelude.{◌≡◌};
 ghost use Rattle.std.specs.List.{list_all};
-ghost use Rattle.pid_file.specs.Bytes.{is_printed as printed_byte, is_empty as no_bytes, begins_blank as blank_first};
+ghost use Rattle.pid_file.specs.Bytes.{
+  is_printed as printed_byte,
+  is_empty as no_bytes,
+  begins_blank as blank_first,
+};
 
 /// Whether there is no byte.
 pub fn is_empty(bytes: &[u8]) -> bool

@@ -1,5 +1,19 @@
 //! Counting the entries of a text, or finding its first fault.
-ghost use Rattle.std.specs.Prelude.{◌≡◌, ◌+◌, ◌≤◌, ℕ, [], List, IsSome, IfSome, IfErr, Err, Some, None, length};
+ghost use Rattle.std.specs.Prelude.{
+  ◌≡◌,
+  ◌+◌,
+  ◌≤◌,
+  ℕ,
+  [],
+  List,
+  IsSome,
+  IfSome,
+  IfErr,
+  Err,
+  Some,
+  None,
+  length,
+};
 ghost use Rattle.std.specs.Io.KnownBytes.{Consumes};
 ghost use Rattle.pid_file.specs.Sending.{Sends};
 ghost use Rattle.pid_file.specs.Checked.{IsChecked, ok_line};
@@ -19,12 +33,14 @@ use std::alloc::Global;
 /// Writes nothing if the input fails: only the returned end says so. Builds no tree. Reads at most
 /// one byte past `LARGEST`.
 pub fn check<I: Input, O: Output>(alloc: Global, input: &mut I, output: &mut O) -> TextEnd
-    ensures checked { IfSome (I.to_come input.old) (λ text. IsChecked result text (O.taken output.old) (O.taken output.new)) }
+    ensures checked { IfSome (I.to_come input.old)
+        (λ text. IsChecked result text (O.taken output.old) (O.taken output.new)) }
     ensures read_fault { result ≡ TextEnd.ReadFault → IsSome (I.read_fault input.new) }
     ensures read_fault_first { IsSome (I.read_fault input.new) → result ≡ TextEnd.ReadFault }
     ensures write_fault { result ≡ TextEnd.WriteFault → IsSome (O.write_fault output.new) }
     ensures goes { I.goes input.old input.new }
-    ensures stops { (front : List ℕ) × Consumes (I.to_come input.old) (I.to_come input.new) front × (length front ≤ LARGEST + 1) }
+    ensures stops { (front : List ℕ) × Consumes (I.to_come input.old) (I.to_come input.new) front
+        × (length front ≤ LARGEST + 1) }
 {
     let counted = count_input(alloc, LARGEST, input);
     write_counted(counted, output)
@@ -32,7 +48,8 @@ pub fn check<I: Input, O: Output>(alloc: Global, input: &mut I, output: &mut O) 
 
 // Writes the count, or why there is none.
 fn write_counted<O: Output>(counted: Result<u64, InputEnd<Never>>, output: &mut O) -> TextEnd
-    ensures checked { (text : List ℕ) → IsRead HasEntries LARGEST counted text → IsChecked result text (O.taken output.old) (O.taken output.new) }
+    ensures checked { (text : List ℕ) → IsRead HasEntries LARGEST counted text
+        → IsChecked result text (O.taken output.old) (O.taken output.new) }
     ensures read_fault { result ≡ TextEnd.ReadFault → counted ≡ Err InputEnd.ReadFault }
     ensures read_fault_first { counted ≡ Err InputEnd.ReadFault → result ≡ TextEnd.ReadFault }
     ensures write_fault { result ≡ TextEnd.WriteFault → IsSome (O.write_fault output.new) }

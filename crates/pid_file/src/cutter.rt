@@ -6,7 +6,7 @@ ghost use Rattle.pid_file.specs.Numbered.{numbered_of};
 ghost use Rattle.pid_file.specs.Sinks.{Took, Ends};
 ghost use Rattle.pid_file.specs.Progress.{Shows};
 ghost use Rattle.pid_file.specs.Cutters.{Holds, IsStopped, left_by};
-ghost use Rattle.pid_file.specs.LineEnds.{LineEnds};
+ghost use Rattle.pid_file.specs.Steps.LineEnds.{LineEnds};
 ghost use Rattle.pid_file.specs.declared.sink.CutEnd.TheVariants.{Refused};
 
 use crate::line::without_cr;
@@ -30,8 +30,10 @@ fn take_line<S: Sink>(
     line: &[u8],
     sink: &mut S,
 ) -> Result<(), CutEnd<S::Fault>>
-    ensures shows { (earlier : List (List ℕ)) → Shows progress.old earlier → OnOk result (Shows progress.new (line.now ∷ earlier)) }
-    ensures ends { (earlier : List (List ℕ)) → Shows progress.old earlier → LineEnds S.takes S.faults result earlier line.now sink.old sink.new }
+    ensures shows { (earlier : List (List ℕ)) → Shows progress.old earlier
+        → OnOk result (Shows progress.new (line.now ∷ earlier)) }
+    ensures ends { (earlier : List (List ℕ)) → Shows progress.old earlier
+        → LineEnds S.takes S.faults result earlier line.now sink.old sink.new }
 {
     match progress.judge(line) {
         Err(refusal) => Err(CutEnd::Refused(refusal)),
@@ -58,8 +60,11 @@ impl Cutter {
     // The open line ends with these bytes.
     fn end_line<S: Sink>(&mut self, front: &[u8], sink: &mut S) -> Result<(), CutEnd<S::Fault>>
         requires { ended_pieces front.now ≡ [] }
-        ensures holds { (text : List ℕ) → Holds self.old text → OnOk result (Holds self.new (text ++ (front.now ++ 10 ∷ []))) }
-        ensures ends { (text : List ℕ) → Holds self.old text → LineEnds S.takes S.faults result (reverse (whole_lines text)) (drop_cr (open_part text ++ front.now)) sink.old sink.new }
+        ensures holds { (text : List ℕ) → Holds self.old text
+            → OnOk result (Holds self.new (text ++ (front.now ++ 10 ∷ []))) }
+        ensures ends { (text : List ℕ) → Holds self.old text
+            → LineEnds S.takes S.faults result (reverse (whole_lines text))
+            (drop_cr (open_part text ++ front.now)) sink.old sink.new }
     {
         if self.line.is_empty() {
             return take_line(&mut self.progress, without_cr(front), sink);
@@ -74,8 +79,10 @@ impl Cutter {
 
     // Takes the next piece, where nothing was refused.
     fn go_on<S: Sink>(&mut self, piece: &[u8], sink: &mut S) -> Result<(), CutEnd<S::Fault>>
-        ensures holds { (text : List ℕ) → Holds self.old text → OnOk result (Holds self.new (text ++ piece.now)) }
-        ensures ends { (text : List ℕ) (start : S) → Holds self.old text → Took S.takes start (numbered_of (whole_lines text)) sink.old →
+        ensures holds { (text : List ℕ) → Holds self.old text
+            → OnOk result (Holds self.new (text ++ piece.now)) }
+        ensures ends { (text : List ℕ) (start : S) → Holds self.old text
+            → Took S.takes start (numbered_of (whole_lines text)) sink.old →
             Ends S.takes S.faults result start (whole_lines (text ++ piece.now)) sink.new }
     {
         let mut rest = piece;
@@ -89,16 +96,19 @@ impl Cutter {
         Ok(())
     }
 
-    /// Takes the next piece of the text, and hands the entries of the lines whose LF has come to the sink, up to the first
-    /// line that is refused.
+    /// Takes the next piece of the text, and hands the entries of the lines whose LF has come to
+    /// the sink, up to the first line that is refused.
     ///
-    /// After an error nothing more is read: `feed` and `finish` leave the sink as it is and give that refusal ever after,
-    /// or `Memory` where the sink faulted.
+    /// After an error nothing more is read: `feed` and `finish` leave the sink as it is and give
+    /// that refusal ever after, or `Memory` where the sink faulted.
     pub fn feed<S: Sink>(&mut self, piece: &[u8], sink: &mut S) -> Result<(), CutEnd<S::Fault>>
-        ensures stopped { (r : ReadRefusal) → IsStopped self.old r → (result ≡ Err (Refused r)) × (sink.new ≡ sink.old) × IsStopped self.new r }
+        ensures stopped { (r : ReadRefusal) → IsStopped self.old r
+            → (result ≡ Err (Refused r)) × (sink.new ≡ sink.old) × IsStopped self.new r }
         ensures stops { IfErr result (λ e. IsStopped self.new (left_by e)) }
-        ensures holds { (text : List ℕ) → Holds self.old text → OnOk result (Holds self.new (text ++ piece.now)) }
-        ensures ends { (text : List ℕ) (start : S) → Holds self.old text → Took S.takes start (numbered_of (whole_lines text)) sink.old →
+        ensures holds { (text : List ℕ) → Holds self.old text
+            → OnOk result (Holds self.new (text ++ piece.now)) }
+        ensures ends { (text : List ℕ) (start : S) → Holds self.old text
+            → Took S.takes start (numbered_of (whole_lines text)) sink.old →
             Ends S.takes S.faults result start (whole_lines (text ++ piece.now)) sink.new }
     {
         if let Some(refusal) = self.stopped {
@@ -117,11 +127,14 @@ impl Cutter {
         }
     }
 
-    /// The text has ended: a last line without LF is read too. After an error of `feed` its refusal is given again, or
+    /// The text has ended: a last line without LF is read too. After an error of `feed` its refusal
+    /// is given again, or
     /// `Memory` where the sink faulted, and the sink stays as it is.
     pub fn finish<S: Sink>(self, sink: &mut S) -> Result<(), CutEnd<S::Fault>>
-        ensures stopped { (r : ReadRefusal) → IsStopped self r → (result ≡ Err (Refused r)) × (sink.new ≡ sink.old) }
-        ensures ends { (text : List ℕ) (start : S) → Holds self text → Took S.takes start (numbered_of (whole_lines text)) sink.old →
+        ensures stopped { (r : ReadRefusal) → IsStopped self r
+            → (result ≡ Err (Refused r)) × (sink.new ≡ sink.old) }
+        ensures ends { (text : List ℕ) (start : S) → Holds self text
+            → Took S.takes start (numbered_of (whole_lines text)) sink.old →
             Ends S.takes S.faults result start (lines_of text) sink.new }
     {
         let Cutter {

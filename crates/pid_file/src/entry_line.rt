@@ -5,8 +5,9 @@ ghost use Rattle.std.specs.Char.{to_ascii_lowercase, digit_char};
 ghost use Rattle.pid_file.specs.Identifiers.{hex4, hex2};
 ghost use Rattle.pid_file.specs.Words.{is_name as name_test};
 ghost use Rattle.pid_file.specs.Marks.{trim_blanks as trimmed};
-ghost use Rattle.pid_file.specs.Columns.{is_hex, are_digits, begins_with_id, begins_with_ids, is_id, digits_in, name_in};
-ghost use Rattle.pid_file.specs.EntryLines.{name_fault, columns_fault, widths_of, IsPathAt};
+ghost use Rattle.pid_file.specs.Columns.{is_hex, begins_with_id, begins_with_ids, is_id, digits_in, name_in};
+ghost use Rattle.pid_file.specs.Steps.Columns.{are_digits};
+ghost use Rattle.pid_file.specs.Steps.EntryLines.{name_fault, columns_fault, widths_of, IsPathAt};
 
 use crate::identifier::{Id8, Id16};
 use crate::line::{is_blank, trim_blanks};
@@ -35,7 +36,8 @@ pub struct Named<'a> {
 
 // The value of a hex digit in either case.
 fn hex_value(digit: u8) -> Option<u16>
-    ensures { MatchOption result (is_hex digit ≡ false) (λ v. (v < 16) × (to_ascii_lowercase digit ≡ digit_char v) × (is_hex digit ≡ true)) }
+    ensures { MatchOption result (is_hex digit ≡ false)
+        (λ v. (v < 16) × (to_ascii_lowercase digit ≡ digit_char v) × (is_hex digit ≡ true)) }
 {
     match digit {
         b'0'..=b'9' => Some((digit - b'0') as u16),
@@ -49,7 +51,8 @@ fn hex_value(digit: u8) -> Option<u16>
 fn four_at(bytes: &[u8]) -> Option<(Id16, &[u8])>
     ensures none { result ≡ None → are_digits 4 bytes.now ≡ false }
     ensures some { IfSome result (λ x. are_digits 4 bytes.now ≡ true) }
-    ensures value { IfSome result (λ x. (x.0 < 2 ^ 16) × (map to_ascii_lowercase (take 4 bytes.now) ≡ hex4 x.0)) }
+    ensures value { IfSome result (λ x. (x.0 < 2 ^ 16)
+        × (map to_ascii_lowercase (take 4 bytes.now) ≡ hex4 x.0)) }
     ensures rest { IfSome result (λ x. x.1.now ≡ drop 4 bytes.now) }
 {
     let [a, b, c, d, behind @ ..] = bytes else {
@@ -65,7 +68,8 @@ fn four_at(bytes: &[u8]) -> Option<(Id16, &[u8])>
 fn id4_at(bytes: &[u8]) -> Option<(Id16, &[u8])>
     ensures none { result ≡ None → begins_with_id 4 bytes.now ≡ false }
     ensures some { IfSome result (λ x. begins_with_id 4 bytes.now ≡ true) }
-    ensures value { IfSome result (λ x. (x.0 < 2 ^ 16) × (map to_ascii_lowercase (take 4 bytes.now) ≡ hex4 x.0)) }
+    ensures value { IfSome result (λ x. (x.0 < 2 ^ 16)
+        × (map to_ascii_lowercase (take 4 bytes.now) ≡ hex4 x.0)) }
     ensures rest { IfSome result (λ x. x.1.now ≡ drop 5 bytes.now) }
 {
     let (number, rest) = four_at(bytes)?;
@@ -82,7 +86,8 @@ fn id4_at(bytes: &[u8]) -> Option<(Id16, &[u8])>
 fn id2_at(bytes: &[u8]) -> Option<(Id8, &[u8])>
     ensures none { result ≡ None → begins_with_id 2 bytes.now ≡ false }
     ensures some { IfSome result (λ x. begins_with_id 2 bytes.now ≡ true) }
-    ensures value { IfSome result (λ x. (x.0 < 2 ^ 8) × (map to_ascii_lowercase (take 2 bytes.now) ≡ hex2 x.0)) }
+    ensures value { IfSome result (λ x. (x.0 < 2 ^ 8)
+        × (map to_ascii_lowercase (take 2 bytes.now) ≡ hex2 x.0)) }
     ensures rest { IfSome result (λ x. x.1.now ≡ drop 3 bytes.now) }
 {
     let [a, b, blank, behind @ ..] = bytes else {
@@ -100,7 +105,8 @@ fn id2_at(bytes: &[u8]) -> Option<(Id8, &[u8])>
 pub fn vendor_of_block(bytes: &[u8]) -> Option<Id16>
     ensures none { result ≡ None → is_id 4 bytes.now ≡ false }
     ensures some { IfSome result (λ v. is_id 4 bytes.now ≡ true) }
-    ensures value { IfSome result (λ v. (v < 2 ^ 16) × (map to_ascii_lowercase (take 4 bytes.now) ≡ hex4 v)) }
+    ensures value { IfSome result (λ v. (v < 2 ^ 16)
+        × (map to_ascii_lowercase (take 4 bytes.now) ≡ hex4 v)) }
 {
     let (vendor, behind) = four_at(bytes)?;
     if !trim_blanks(behind).is_empty() {
@@ -113,7 +119,8 @@ pub fn vendor_of_block(bytes: &[u8]) -> Option<Id16>
 fn name_at(bytes: &[u8]) -> Result<&str, LineKind>
     ensures name { IfOk result (λ name. name.now ≡ trimmed bytes.now) }
     ensures good { IfOk result (λ name. IsTrue (name_test name.now)) }
-    ensures fault { MatchResult result (λ _. name_fault (trimmed bytes.now) ≡ None) (λ kind. name_fault (trimmed bytes.now) ≡ Some kind) }
+    ensures fault { MatchResult result (λ _. name_fault (trimmed bytes.now) ≡ None)
+        (λ kind. name_fault (trimmed bytes.now) ≡ Some kind) }
 {
     let name = trim_blanks(bytes);
     if name.is_empty() {
@@ -182,7 +189,8 @@ fn path_at(place: Place, bytes: &[u8]) -> Option<(Path, &[u8])>
 
 /// What the columns of an entry's line say.
 pub fn read_columns(place: Place, bytes: &[u8]) -> Result<Named<'_>, LineKind>
-    ensures path { IfOk result (λ said. IsPathAt place said.path (digits_in (widths_of place) bytes.now)) }
+    ensures path { IfOk result (λ said. IsPathAt place said.path
+        (digits_in (widths_of place) bytes.now)) }
     ensures name { IfOk result (λ said. said.name.now ≡ name_in (widths_of place) bytes.now) }
     ensures named { IfOk result (λ said. IsTrue (name_test said.name.now)) }
     ensures good { IfOk result (λ _. columns_fault (widths_of place) bytes.now ≡ None) }

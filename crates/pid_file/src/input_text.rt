@@ -2,7 +2,8 @@
 ghost use Rattle.std.specs.Prelude.{◌≡◌, ◌↔◌, ◌+◌, ◌≤◌, ℕ, List, Err, IsSome, IfSome, length};
 ghost use Rattle.std.specs.Io.KnownBytes.{Consumes};
 ghost use Rattle.pid_file.specs.Reading.{Reads};
-ghost use Rattle.pid_file.specs.InputTexts.{HasEntries, IsRead, without_fault};
+ghost use Rattle.pid_file.specs.InputTexts.{HasEntries, IsRead};
+ghost use Rattle.pid_file.specs.Steps.InputTexts.{without_fault};
 
 use crate::counter::{Counter, Never};
 use crate::io::Input;
@@ -28,15 +29,17 @@ fn end_of(end: InputEnd<AllocError>) -> InputEnd<Never>
     }
 }
 
-/// The tree of the input's text. A fault of the input is told before all else, and a text of more than `limit` bytes
-/// before what is refused in it. One byte past the limit is read, to know it, and no other.
+/// The tree of the input's text. A fault of the input is told before all else, and a text of more
+/// than `limit` bytes before what is refused in it. One byte past the limit is read, to know it,
+/// and no other.
 pub fn read_input<I: Input>(
     alloc: Global,
     limit: usize,
     input: &mut I,
 ) -> Result<Tree, InputEnd<Never>>
     ensures end { IfSome (I.to_come input.old) (λ text. IsRead Reads limit result text) }
-    ensures stops { (front : List ℕ) × Consumes (I.to_come input.old) (I.to_come input.new) front × (length front ≤ limit + 1) }
+    ensures stops { (front : List ℕ) × Consumes (I.to_come input.old) (I.to_come input.new) front
+        × (length front ≤ limit + 1) }
     ensures fault { result ≡ Err InputEnd.ReadFault → IsSome (I.read_fault input.new) }
     ensures fault_first { IsSome (I.read_fault input.new) → result ≡ Err InputEnd.ReadFault }
     ensures goes { I.goes input.old input.new }
@@ -51,15 +54,16 @@ pub fn read_input<I: Input>(
     }
 }
 
-/// The number of the entries of the input's text, without keeping their names. Faults are told as by `read_input`, and
-/// as much is read.
+/// The number of the entries of the input's text, without keeping their names. Faults are told as
+/// by `read_input`, and as much is read.
 pub fn count_input<I: Input>(
     alloc: Global,
     limit: usize,
     input: &mut I,
 ) -> Result<u64, InputEnd<Never>>
     ensures end { IfSome (I.to_come input.old) (λ text. IsRead HasEntries limit result text) }
-    ensures stops { (front : List ℕ) × Consumes (I.to_come input.old) (I.to_come input.new) front × (length front ≤ limit + 1) }
+    ensures stops { (front : List ℕ) × Consumes (I.to_come input.old) (I.to_come input.new) front
+        × (length front ≤ limit + 1) }
     ensures fault { result ≡ Err InputEnd.ReadFault → IsSome (I.read_fault input.new) }
     ensures fault_first { IsSome (I.read_fault input.new) → result ≡ Err InputEnd.ReadFault }
     ensures goes { I.goes input.old input.new }

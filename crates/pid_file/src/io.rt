@@ -1,5 +1,25 @@
 //! Readers and writers that keep their faults.
-ghost use Rattle.std.specs.Prelude.{◌≡◌, ℕ, ◌+◌, ◌-◌, ◌^◌, ◌<◌, ◌≤◌, min, length, List, Option, None, Some, IfOk, IfErr, IfSome, MatchResult, OnOk, drop};
+ghost use Rattle.std.specs.Prelude.{
+  ◌≡◌,
+  ℕ,
+  ◌+◌,
+  ◌-◌,
+  ◌^◌,
+  ◌<◌,
+  ◌≤◌,
+  min,
+  length,
+  List,
+  Option,
+  None,
+  Some,
+  IfOk,
+  IfErr,
+  IfSome,
+  MatchResult,
+  OnOk,
+  drop,
+};
 ghost use Rattle.std.specs.List.{flat_map};
 ghost use Rattle.std.specs.Io.KnownBytes.{ReadConsumes, WriteAppends, Appends, Keeps};
 ghost use Rattle.pid_file.specs.Sending.{Sends};
@@ -35,18 +55,22 @@ pub trait Input {
     /// How many reads were made, up to the greatest count.
     ghost reads: { Self → ℕ };
 
-    /// What calls of `read`, however many, may make of a reader: the reader before them, and the reader after.
+    /// What calls of `read`, however many, may make of a reader: the reader before them, and the
+    /// reader after.
     ///
-    /// Each function that is given `&mut I` for any reader `I` ensures `I.goes` of what it was given and what it
-    /// leaves. So a caller who lends a reader of a kind that it knows learns what it has back: one that gives at most
-    /// some bytes of another reader, for instance, is still over that other one, and used no more of it than it may.
+    /// Each function that is given `&mut I` for any reader `I` ensures `I.goes` of what it was
+    /// given and what it leaves. So a caller who lends a reader of a kind that it knows learns what
+    /// it has back: one that gives at most some bytes of another reader, for instance, is still
+    /// over that other one, and used no more of it than it may.
     ghost goes: { Self → Self → Type 0 };
 
-    /// Reads some bytes. None into a buffer with room is the end. A fault is kept: each later call gives it again.
+    /// Reads some bytes. None into a buffer with room is the end. A fault is kept: each later call
+    /// gives it again.
     fn read(&mut self, buffer: &mut [u8]) -> Result<usize, ReadFault>
         ensures room { IfOk result (λ n. n ≤ length buffer.new) }
         ensures bytes { ReadConsumes (to_come self.old) (to_come self.new) result buffer.new }
-        ensures fault { MatchResult result (λ _. read_fault self.new ≡ None) (λ f. read_fault self.new ≡ Some f) }
+        ensures fault { MatchResult result (λ _. read_fault self.new ≡ None)
+            (λ f. read_fault self.new ≡ Some f) }
         ensures kept { IfSome (read_fault self.old) (λ f. result ≡ Err f) }
         ensures count { reads self.new ≡ min (reads self.old + 1) (2 ^ 64 - 1) }
         ensures goes { goes self.old self.new };
@@ -68,12 +92,14 @@ pub trait Output {
     /// The fault that is kept.
     ghost write_fault: { Self → Option WriteFault };
 
-    /// Takes some of the bytes, at least one where there are any. A fault is kept: each later call gives it again.
+    /// Takes some of the bytes, at least one where there are any. A fault is kept: each later call
+    /// gives it again.
     fn write(&mut self, bytes: &[u8]) -> Result<usize, WriteFault>
         ensures room { IfOk result (λ n. n ≤ length bytes.now) }
         ensures some { IfOk result (λ n. 0 < length bytes.now → 0 < n) }
         ensures bytes { WriteAppends (taken self.old) (taken self.new) result bytes.now }
-        ensures fault { MatchResult result (λ _. write_fault self.new ≡ None) (λ f. write_fault self.new ≡ Some f) }
+        ensures fault { MatchResult result (λ _. write_fault self.new ≡ None)
+            (λ f. write_fault self.new ≡ Some f) }
         ensures kept { IfSome (write_fault self.old) (λ f. result ≡ Err f) };
 }
 
@@ -93,7 +119,8 @@ pub fn write_all<W: Output>(out: &mut W, bytes: &[u8]) -> Result<(), WriteFault>
 
 /// Writes the parts one after another, or a front of them at a fault.
 pub fn write_parts<W: Output>(out: &mut W, parts: &[&[u8]]) -> Result<(), WriteFault>
-    ensures sent { Sends result (W.taken out.old) (W.taken out.new) (flat_map (λ part. part.now) parts.now) }
+    ensures sent { Sends result (W.taken out.old) (W.taken out.new)
+        (flat_map (λ part. part.now) parts.now) }
     ensures fault { IfErr result (λ f. W.write_fault out.new ≡ Some f) }
 {
     for part in parts {

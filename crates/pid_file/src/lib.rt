@@ -1,8 +1,8 @@
 //! A file of PCI identifiers: its bytes, its entries, its tree, and its canonical text.
 //!
 //! All that the program needs without arguments, for `tidy` and for `check` stands here, and
-//! nothing that only a registry needs. `pid_ident`, `pid_tree`, `pid_reader` and `pid_texts` hand
-//! it on to the crates above.
+//! no code that only a registry needs. `pid_ident`, `pid_tree` and `pid_reader` hand it on to the
+//! crates above.
 #![tactic(auto)]
 
 mod bytes;

@@ -3,7 +3,14 @@ ghost use Rattle.std.specs.Prelude.{◌≡◌, ◌+◌, ◌≤◌, length};
 ghost use Rattle.std.specs.Str.{is_utf8 as utf8_bytes};
 ghost use Rattle.pid_file.specs.Bytes.{is_blank as blank_byte};
 ghost use Rattle.pid_file.specs.Lines.{drop_cr};
-ghost use Rattle.pid_file.specs.Marks.{trim_blanks as trimmed, is_idle as idle_line, depth, body, mark, behind_mark};
+ghost use Rattle.pid_file.specs.Marks.{
+  trim_blanks as trimmed,
+  is_idle as idle_line,
+  depth,
+  body,
+  mark,
+  behind_mark,
+};
 
 /// What a line of depth 0 opens.
 #[derive(Clone, Copy)]

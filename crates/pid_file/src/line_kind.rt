@@ -8,11 +8,13 @@ use std::fmt;
 pub enum LineKind {
     /// The bytes are not UTF-8.
     NotUtf8,
-    /// Too many tabs lead: three or more below a vendor or a class, two or more below the line of a block of generic subsystems.
+    /// Too many tabs lead: three or more below a vendor or a class, two or more below the line of a
+    /// block of generic subsystems.
     TooDeep,
     /// No line that it could belong to is open.
     NoParent,
-    /// The hex digits, or the space or tab behind them, are not there; or a block's line has more than blanks behind its digits.
+    /// The hex digits, or the space or tab behind them, are not there; or a block's line has more
+    /// than blanks behind its digits.
     BadId,
     /// Nothing stands behind the identifier and its blanks.
     NoName,

@@ -7,7 +7,8 @@ use crate::word_fault::WordFault;
 use std::alloc::{AllocError, Global};
 use std::marker::Model;
 
-/// A name of an item: text of 1 to 1,000 bytes that begins with no blank and holds no control byte but tabs. Blanks at its end belong to it.
+/// A name of an item: text of 1 to 1,000 bytes that begins with no blank and holds no control byte
+/// but tabs. Blanks at its end belong to it.
 #[derive(Debug, Drop)]
 pub struct Name {
     text: String,

@@ -4,8 +4,11 @@ ghost use Rattle.std.specs.Str.{is_utf8 as utf8_bytes};
 ghost use Rattle.pid_file.specs.Marks.{is_idle as idle_line, depth as tabs, body as behind_tabs};
 ghost use Rattle.pid_file.specs.Faults.{line_fault_of};
 ghost use Rattle.pid_file.specs.OpenLevels.{IsOpenAt, IsNamed, Says};
-ghost use Rattle.pid_file.specs.OpenLevels.{first_below as below_at_one, second_below as below_at_two, deeper_below as below_deeper, below as below_at};
-ghost use Rattle.pid_file.specs.OpenLevels.{open_below as levels_below, open_behind as levels_behind};
+ghost use Rattle.pid_file.specs.Steps.OpenLevels.{first_below as below_at_one, second_below as below_at_two, deeper_below as below_deeper, below as below_at};
+ghost use Rattle.pid_file.specs.OpenLevels.{
+  open_below as levels_below,
+  open_behind as levels_behind,
+};
 
 use crate::entry_line::{Named, Place, read_columns, vendor_of_block};
 use crate::identifier::{Id8, Id16};
@@ -106,9 +109,11 @@ fn read_nested<'b>(
     requires nested { (depth == 0) ≡ false }
     requires depth { tabs line.now ≡ depth }
     requires body { behind_tabs line.now ≡ body.now }
-    ensures says { (earlier : List (List ℕ)) → IsOpenAt levels earlier → IfOk result (λ s. Says levels earlier line.now s) }
+    ensures says { (earlier : List (List ℕ)) → IsOpenAt levels earlier
+        → IfOk result (λ s. Says levels earlier line.now s) }
     ensures named { IfOk result (λ s. IsNamed s) }
-    ensures fault { (earlier : List (List ℕ)) → IsOpenAt levels earlier → IfErr result (λ kind. line_fault_of earlier line.now ≡ Some kind) }
+    ensures fault { (earlier : List (List ℕ)) → IsOpenAt levels earlier
+        → IfErr result (λ kind. line_fault_of earlier line.now ≡ Some kind) }
 {
     let Some(place) = place_below(levels, depth)? else {
         return Ok(Said::Nothing);
@@ -122,9 +127,11 @@ fn read_head(line: &[u8]) -> Result<Said<'_>, LineKind>
     requires text { utf8_bytes line.now ≡ true }
     requires active { idle_line line.now ≡ false }
     requires flat { tabs line.now ≡ 0 }
-    ensures says { (levels : OpenLevels) (earlier : List (List ℕ)) → IfOk result (λ s. Says levels earlier line.now s) }
+    ensures says { (levels : OpenLevels) (earlier : List (List ℕ))
+        → IfOk result (λ s. Says levels earlier line.now s) }
     ensures named { IfOk result (λ s. IsNamed s) }
-    ensures fault { (earlier : List (List ℕ)) → IfErr result (λ kind. line_fault_of earlier line.now ≡ Some kind) }
+    ensures fault { (earlier : List (List ℕ))
+        → IfErr result (λ kind. line_fault_of earlier line.now ≡ Some kind) }
 {
     let (mark, behind) = split_mark(line);
     match mark {
@@ -146,9 +153,11 @@ fn read_head(line: &[u8]) -> Result<Said<'_>, LineKind>
 
 /// Reads a line below the open levels.
 pub fn read_line<'b>(levels: OpenLevels, line: &'b [u8]) -> Result<Said<'b>, LineKind>
-    ensures says { (earlier : List (List ℕ)) → IsOpenAt levels earlier → IfOk result (λ s. Says levels earlier line.now s) }
+    ensures says { (earlier : List (List ℕ)) → IsOpenAt levels earlier
+        → IfOk result (λ s. Says levels earlier line.now s) }
     ensures named { IfOk result (λ s. IsNamed s) }
-    ensures fault { (earlier : List (List ℕ)) → IsOpenAt levels earlier → IfErr result (λ kind. line_fault_of earlier line.now ≡ Some kind) }
+    ensures fault { (earlier : List (List ℕ)) → IsOpenAt levels earlier
+        → IfErr result (λ kind. line_fault_of earlier line.now ≡ Some kind) }
 {
     if !is_utf8(line) {
         return Err(LineKind::NotUtf8);

@@ -6,7 +6,8 @@ mod order;
 
 use crate::identifier::{Id8, Id16};
 
-/// Where an item stands: which vendor, device, subsystem, class, subclass, programming interface or generic subsystem.
+/// Where an item stands: which vendor, device, subsystem, class, subclass, programming interface or
+/// generic subsystem.
 ///
 /// Paths are ordered as the bytes of their texts.
 #[derive(Clone, Copy, Debug)]

@@ -6,7 +6,8 @@ use memchr::memchr;
 
 /// What stands before the first LF, and behind it; none where there is no LF.
 pub fn split_line(text: &[u8]) -> Option<(&[u8], &[u8])>
-    ensures parts { MatchOption result (ended_pieces text.now ≡ []) (λ x. (text.now ≡ x.0.now ++ 10 ∷ x.1.now) × (ended_pieces x.0.now ≡ [])) }
+    ensures parts { MatchOption result (ended_pieces text.now ≡ [])
+        (λ x. (text.now ≡ x.0.now ++ 10 ∷ x.1.now) × (ended_pieces x.0.now ≡ [])) }
     ensures shorter { IfSome result (λ x. length x.1.now < length text.now) }
 {
     let end = memchr(b'\n', text)?;

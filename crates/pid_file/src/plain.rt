@@ -2,7 +2,12 @@
 ghost use Rattle.std.specs.Prelude.{◌≡◌, ◌≢◌, ◌<◌, ◌≤◌, None, Some, Ok, Err, IfOk, IfErr, length};
 ghost use Rattle.std.specs.Io.KnownBytes.{ReadConsumes, WriteAppends};
 ghost use Rattle.std.specs.IoError.{error_kind};
-ghost use Rattle.pid_file.specs.Wrapping.{wrapped, kept_read_fault, kept_write_fault, count_of_reads};
+ghost use Rattle.pid_file.specs.Wrapping.{
+  wrapped,
+  kept_read_fault,
+  kept_write_fault,
+  count_of_reads,
+};
 
 use crate::io::{Input, Output, ReadFault, WriteFault};
 use std::io;
@@ -10,8 +15,8 @@ use std::io::{ErrorKind, Read, Write};
 
 /// A reader or a writer of std, with the fault that it gave.
 ///
-/// A call that a signal interrupts is made again, and counts as one. Every other error is the fault `Device`, and a
-/// write that takes none of some bytes is the fault `Zero`.
+/// A call that a signal interrupts is made again, and counts as one. Every other error is the fault
+/// `Device`, and a write that takes none of some bytes is the fault `Zero`.
 #[derive(Drop)]
 pub struct Plain<T> {
     inner: T,
@@ -48,7 +53,8 @@ impl<T> Plain<T> {
 fn read_said(read: io::Result<usize>) -> Option<Result<usize, ReadFault>>
     ensures good { IfOk read (λ n. result ≡ Some (Ok n)) }
     ensures again { IfErr read (λ e. error_kind e ≡ ErrorKind.Interrupted → result ≡ None) }
-    ensures fault { IfErr read (λ e. error_kind e ≢ ErrorKind.Interrupted → result ≡ Some (Err ReadFault.Device)) }
+    ensures fault { IfErr read (λ e. error_kind e ≢ ErrorKind.Interrupted
+        → result ≡ Some (Err ReadFault.Device)) }
 {
     match read {
         Ok(count) => Some(Ok(count)),
@@ -57,12 +63,14 @@ fn read_said(read: io::Result<usize>) -> Option<Result<usize, ReadFault>>
     }
 }
 
-// What a write of std is here, of so many bytes; none where a signal interrupted it, so that it is made again.
+// What a write of std is here, of so many bytes; none where a signal interrupted it, so that it is
+// made again.
 fn write_said(written: io::Result<usize>, bytes: usize) -> Option<Result<usize, WriteFault>>
     ensures good { IfOk written (λ n. (n ≡ 0 → bytes ≡ 0) → result ≡ Some (Ok n)) }
     ensures zero { IfOk written (λ n. n ≡ 0 → bytes ≢ 0 → result ≡ Some (Err WriteFault.Zero)) }
     ensures again { IfErr written (λ e. error_kind e ≡ ErrorKind.Interrupted → result ≡ None) }
-    ensures fault { IfErr written (λ e. error_kind e ≢ ErrorKind.Interrupted → result ≡ Some (Err WriteFault.Device)) }
+    ensures fault { IfErr written (λ e. error_kind e ≢ ErrorKind.Interrupted
+        → result ≡ Some (Err WriteFault.Device)) }
 {
     match written {
         Ok(0) if bytes != 0 => Some(Err(WriteFault::Zero)),
@@ -75,7 +83,8 @@ fn write_said(written: io::Result<usize>, bytes: usize) -> Option<Result<usize, 
 // What one read gives that no signal interrupts.
 fn read_once<R: Read>(reader: &mut R, buffer: &mut [u8]) -> Result<usize, ReadFault>
     ensures room { IfOk result (λ n. n ≤ length buffer.new) }
-    ensures bytes { ReadConsumes (R.remaining reader.old) (R.remaining reader.new) result buffer.new }
+    ensures bytes { ReadConsumes (R.remaining reader.old)
+        (R.remaining reader.new) result buffer.new }
 {
     for _ in 0..u64::MAX {
         if let Some(said) = read_said(reader.read(buffer)) {
@@ -113,9 +122,17 @@ impl<R: Read> Input for Plain<R> {
     // Reads leave what was written as it is.
     ghost goes = { λ a b. GoesOn (R.remaining (wrapped a)) (R.remaining (wrapped b)) a b };
 
-    ghost stays = { λ a. (no_reads (R.remaining (wrapped a)) (kept_read_fault a) (count_of_reads a), refl) };
+    ghost stays = { λ a. (
+      no_reads (R.remaining (wrapped a)) (kept_read_fault a)
+          (count_of_reads a),
+      refl,
+    ) };
 
-    ghost joins = { λ a b c p q. (more_reads _ (R.remaining (wrapped b)) _ _ (kept_read_fault b) _ _ (count_of_reads b) _ p.0 q.0, q.1 ∙ p.1) };
+    ghost joins = { λ a b c p q. (
+      more_reads _ (R.remaining (wrapped b)) _ _ (kept_read_fault b) _ _
+          (count_of_reads b) _ p.0 q.0,
+      q.1 ∙ p.1,
+    ) };
 
     fn read(&mut self, buffer: &mut [u8]) -> Result<usize, ReadFault> {
         self.reads = self.reads.saturating_add(1);

@@ -1,11 +1,33 @@
 //! The canonical text of a tree.
-ghost use Rattle.std.specs.Prelude.{◌≡◌, ◌≤◌, ◌∷◌, [], ◌++◌, codes, take, Some, IfErr, IfSome, is_some};
+ghost use Rattle.std.specs.Prelude.{
+  ◌≡◌,
+  ◌≤◌,
+  ◌∷◌,
+  [],
+  ◌++◌,
+  codes,
+  take,
+  Some,
+  IfErr,
+  IfSome,
+  is_some,
+};
 ghost use Rattle.pid_file.specs.Identifiers.{hex4 as four_digits};
 ghost use Rattle.pid_file.specs.PathTexts.{path_text};
 ghost use Rattle.pid_file.specs.Sending.{Sends};
 ghost use Rattle.std.specs.Ordering.{is_eq};
 ghost use Rattle.pid_file.specs.Trees.{text_cmp};
-ghost use Rattle.pid_file.specs.Printing.{block_line, ended, header, item_line, label_of, lines_behind, opens_block, print, text_or_none};
+ghost use Rattle.pid_file.specs.Printing.{
+  block_line,
+  ended,
+  header,
+  item_line,
+  label_of,
+  lines_behind,
+  opens_block,
+  print,
+  text_or_none,
+};
 
 use crate::identifier::{Id16, hex2, hex4};
 use crate::io::{Output, WriteFault, write_all, write_parts};
@@ -20,10 +42,12 @@ pub fn write_header<W: Output>(out: &mut W) -> Result<(), WriteFault>
     write_all(out, b"# PCI ID registry\n")
 }
 
-/// The vendor whose block the item opens, where one line comes before it: it is a generic subsystem, and the item before, if there is one, is none of that vendor.
+/// The vendor whose block the item opens, where one line comes before it: it is a generic
+/// subsystem, and the item before, if there is one, is none of that vendor.
 pub fn opened_block(before: Option<Path>, path: Path) -> Option<Id16>
     ensures opens { is_some result ≡ opens_block (text_or_none before) (path_text path) }
-    ensures vendor { IfSome result (λ vendor. block_line (path_text path) ≡ codes "S " ++ four_digits vendor) }
+    ensures vendor { IfSome result (λ vendor. block_line (path_text path)
+        ≡ codes "S " ++ four_digits vendor) }
 {
     let Path::Generic { vendor, .. } = path else {
         return None;
@@ -36,7 +60,8 @@ pub fn opened_block(before: Option<Path>, path: Path) -> Option<Id16>
 
 // Whether it is a generic subsystem of the vendor.
 fn is_generic_of(path: Path, vendor: Id16) -> bool
-    ensures { result ≡ is_eq (text_cmp (take 7 (path_text path)) (codes "PS/" ++ four_digits vendor)) }
+    ensures { result ≡ is_eq (text_cmp (take 7 (path_text path))
+        (codes "PS/" ++ four_digits vendor)) }
 {
     match path {
         Path::Generic { vendor: other, .. } => is_same_vendor(other, vendor),
@@ -52,7 +77,8 @@ fn is_same_vendor(vendor: Id16, other: Id16) -> bool
 
 /// Writes the line that stands before the generic subsystems of a vendor.
 pub fn write_block<W: Output>(vendor: Id16, out: &mut W) -> Result<(), WriteFault>
-    ensures sent { Sends result (W.taken out.old) (W.taken out.new) (ended ((codes "S " ++ four_digits vendor) ∷ [])) }
+    ensures sent { Sends result (W.taken out.old) (W.taken out.new)
+        (ended ((codes "S " ++ four_digits vendor) ∷ [])) }
     ensures fault { IfErr result (λ f. W.write_fault out.new ≡ Some f) }
 {
     let [a, b, c, d] = hex4(vendor);
@@ -61,7 +87,8 @@ pub fn write_block<W: Output>(vendor: Id16, out: &mut W) -> Result<(), WriteFaul
 
 /// Writes the line of an item.
 pub fn write_item<W: Output>(path: &Path, name: &str, out: &mut W) -> Result<(), WriteFault>
-    ensures sent { Sends result (W.taken out.old) (W.taken out.new) (ended (item_line (path_text path.now, name.now) ∷ [])) }
+    ensures sent { Sends result (W.taken out.old) (W.taken out.new)
+        (ended (item_line (path_text path.now, name.now) ∷ [])) }
     ensures fault { IfErr result (λ f. W.write_fault out.new ≡ Some f) }
 {
     let label = Label::of(*path);
@@ -133,14 +160,16 @@ impl Label {
     }
 }
 
-/// Writes the lines of an item that comes behind another, or is the first: that of the block that it opens, and its own.
+/// Writes the lines of an item that comes behind another, or is the first: that of the block that
+/// it opens, and its own.
 pub fn write_behind<W: Output>(
     before: Option<Path>,
     path: &Path,
     name: &str,
     out: &mut W,
 ) -> Result<(), WriteFault>
-    ensures sent { Sends result (W.taken out.old) (W.taken out.new) (ended (lines_behind (text_or_none before) ((path_text path.now, name.now) ∷ []))) }
+    ensures sent { Sends result (W.taken out.old) (W.taken out.new)
+        (ended (lines_behind (text_or_none before) ((path_text path.now, name.now) ∷ []))) }
     ensures fault { IfErr result (λ f. W.write_fault out.new ≡ Some f) }
 {
     if let Some(vendor) = opened_block(before, *path) {
@@ -149,8 +178,8 @@ pub fn write_behind<W: Output>(
     write_item(path, name, out)
 }
 
-/// Writes the text of a tree: the header, and the lines of each item in canonical order. Where the writer fails, a front of
-/// the text was written, and not all of it.
+/// Writes the text of a tree: the header, and the lines of each item in canonical order. Where the
+/// writer fails, a front of the text was written, and not all of it.
 pub fn write_canonical<W: Output>(tree: &Tree, out: &mut W) -> Result<(), WriteFault>
     ensures sent { Sends result (W.taken out.old) (W.taken out.new) (print tree.now) }
     ensures fault { IfErr result (λ f. W.write_fault out.new ≡ Some f) }

@@ -90,7 +90,8 @@ pub fn tell_end<F: Output>(end: TextEnd, faults: &mut F) -> u8
 /// the exit status says so.
 pub fn tell_failed<F: Output>(is_unread: bool, faults: &mut F) -> u8
     ensures status { result ≡ FAILED }
-    ensures told { is_unread ≡ false → TriesLine (F.taken faults.old) (F.taken faults.new) failed_line }
+    ensures told { is_unread ≡ false → TriesLine (F.taken faults.old)
+        (F.taken faults.new) failed_line }
     ensures silent { is_unread ≡ true → Keeps (F.taken faults.old) (F.taken faults.new) }
 {
     if !is_unread {

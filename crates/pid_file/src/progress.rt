@@ -1,5 +1,19 @@
 //! What is kept of the lines that were read.
-ghost use Rattle.std.specs.Prelude.{◌≡◌, ◌+◌, ◌∷◌, ℕ, [], List, None, Some, OnOk, IfOk, IfErr, IfSome, IsTrue};
+ghost use Rattle.std.specs.Prelude.{
+  ◌≡◌,
+  ◌+◌,
+  ◌∷◌,
+  ℕ,
+  [],
+  List,
+  None,
+  Some,
+  OnOk,
+  IfOk,
+  IfErr,
+  IfSome,
+  IsTrue,
+};
 ghost use Rattle.pid_file.specs.Words.{is_name};
 ghost use Rattle.pid_file.specs.Numbered.{numbered_at};
 ghost use Rattle.pid_file.specs.OpenLevels.{Says, IsNamed, open_behind};
@@ -53,10 +67,13 @@ impl Progress {
     // Takes what the line with this number says, which has no fault of its own.
     fn admit<'b>(&mut self, number: usize, said: Said<'b>) -> Result<Option<Entry<'b>>, ReadRefusal>
         requires { IsNamed said }
-        ensures taken { (earlier : List (List ℕ)) (line : List ℕ) → Shows self.old earlier → number ≡ self.old.lines + 1 → Says self.old.levels earlier line said.entry →
-            IfOk result (λ o. Shows self.new (line ∷ earlier) × (refusal_at earlier line ≡ None) × (given o ≡ numbered_at earlier line)) }
+        ensures taken { (earlier : List (List ℕ)) (line : List ℕ) → Shows self.old earlier
+            → number ≡ self.old.lines + 1 → Says self.old.levels earlier line said.entry →
+            IfOk result (λ o. Shows self.new (line ∷ earlier) × (refusal_at earlier line ≡ None)
+            × (given o ≡ numbered_at earlier line)) }
         ensures named { IfOk result (λ o. IfSome o (λ entry. IsTrue (is_name entry.name.now))) }
-        ensures refused { (earlier : List (List ℕ)) (line : List ℕ) → Shows self.old earlier → number ≡ self.old.lines + 1 → Says self.old.levels earlier line said.entry →
+        ensures refused { (earlier : List (List ℕ)) (line : List ℕ) → Shows self.old earlier
+            → number ≡ self.old.lines + 1 → Says self.old.levels earlier line said.entry →
             IfErr result (λ r. IsRefusal r (refusal_at earlier line)) }
     {
         match said {
@@ -97,9 +114,11 @@ impl Progress {
     /// Reads one more line: its entry, if it is one; or what is refused at it, or `Memory`.
     pub fn judge<'b>(&mut self, line: &'b [u8]) -> Result<Option<Entry<'b>>, ReadRefusal>
         ensures taken { (earlier : List (List ℕ)) → Shows self.old earlier →
-            IfOk result (λ o. Shows self.new (line.now ∷ earlier) × (refusal_at earlier line.now ≡ None) × (given o ≡ numbered_at earlier line.now)) }
+            IfOk result (λ o. Shows self.new (line.now ∷ earlier)
+            × (refusal_at earlier line.now ≡ None) × (given o ≡ numbered_at earlier line.now)) }
         ensures named { IfOk result (λ o. IfSome o (λ entry. IsTrue (is_name entry.name.now))) }
-        ensures refused { (earlier : List (List ℕ)) → Shows self.old earlier → IfErr result (λ r. IsRefusal r (refusal_at earlier line.now)) }
+        ensures refused { (earlier : List (List ℕ)) → Shows self.old earlier
+            → IfErr result (λ r. IsRefusal r (refusal_at earlier line.now)) }
     {
         let Some(number) = self.lines.checked_add(1) else {
             return Err(ReadRefusal::Memory);

@@ -1,5 +1,18 @@
 //! The paths of the entries that were read.
-ghost use Rattle.std.specs.Prelude.{◌≡◌, ◌+◌, ◌∷◌, ◌++◌, [], length, true, false, IsTrue, not, IfOk, if◌then◌else◌};
+ghost use Rattle.std.specs.Prelude.{
+  ◌≡◌,
+  ◌+◌,
+  ◌∷◌,
+  ◌++◌,
+  [],
+  length,
+  true,
+  false,
+  IsTrue,
+  not,
+  IfOk,
+  if◌then◌else◌,
+};
 ghost use Rattle.pid_file.specs.SeenPaths.{IsOneMore, IsRising, has_path, paths_of};
 
 use crate::path::Path;
@@ -38,8 +51,10 @@ impl Seen {
 
     // Whether the path is greater than all of the run.
     fn is_above_run(&self, path: &Path) -> bool
-        ensures absent { IsTrue result → IsRising self.now.run.items → has_path self.now.run.items path.now ≡ false }
-        ensures rising { IsTrue result → IsRising self.now.run.items → IsRising (self.now.run.items ++ path.now ∷ []) }
+        ensures absent { IsTrue result → IsRising self.now.run.items
+            → has_path self.now.run.items path.now ≡ false }
+        ensures rising { IsTrue result → IsRising self.now.run.items
+            → IsRising (self.now.run.items ++ path.now ∷ []) }
     {
         match self.run.last() {
             None => true,
@@ -63,9 +78,13 @@ impl Seen {
     /// One more path, and whether it was not seen before.
     pub fn insert(&mut self, path: Path) -> Result<bool, AllocError>
         ensures rising { IsRising self.old.run.items → IsRising self.new.run.items }
-        ensures added { IsRising self.old.run.items → IfOk result (λ added. added ≡ not (has_path (paths_of self.old) path)) }
-        ensures updates { IsRising self.old.run.items → IfOk result (λ added. IsTrue added → IsOneMore (paths_of self.old) path (paths_of self.new)) }
-        ensures len { IfOk result (λ added. IsTrue added → length (paths_of self.new) ≡ length (paths_of self.old) + 1) }
+        ensures added { IsRising self.old.run.items
+            → IfOk result (λ added. added ≡ not (has_path (paths_of self.old) path)) }
+        ensures updates { IsRising self.old.run.items
+            → IfOk result (λ added. IsTrue added
+            → IsOneMore (paths_of self.old) path (paths_of self.new)) }
+        ensures len { IfOk result (λ added. IsTrue added
+            → length (paths_of self.new) ≡ length (paths_of self.old) + 1) }
     {
         if self.is_above_run(&path) {
             if self.rest.contains(&path) {

@@ -21,7 +21,8 @@ pub trait Sink {
 
     type Fault;
 
-    /// The sink before, an entry (the number of its line, and with it the text of its path and its name), and the sink after.
+    /// The sink before, an entry (the number of its line, and with it the text of its path and its
+    /// name), and the sink after.
     ghost takes: { Self → Numbered → Self → Type 0 };
 
     /// The sink before, an entry, the fault, and the sink after.

@@ -71,7 +71,8 @@ impl TextEnd {
 }
 
 fn tell_line<W: Output>(line: usize, kind: LineKind, out: &mut W) -> Result<(), WriteFault>
-    ensures sent { Sends result (W.taken out.old) (W.taken out.new) (line_told line (number_of kind) (word_of kind)) }
+    ensures sent { Sends result (W.taken out.old) (W.taken out.new)
+        (line_told line (number_of kind) (word_of kind)) }
     ensures fault { IfErr result (λ f. W.write_fault out.new ≡ Some f) }
 {
     let mut line_digits = Buffer::new();

@@ -27,13 +27,16 @@ pub fn tidy<I: Input, O: Output, F: Output>(
     faults: &mut F,
 ) -> TextEnd
     ensures tidied { IfSome (I.to_come input.old) (λ text.
-        IsTidied result text (record { output = O.taken output.old; output_after = O.taken output.new; faults = F.taken faults.old; faults_after = F.taken faults.new })) }
+        IsTidied result text
+        (record { output = O.taken output.old; output_after = O.taken output.new; faults = F.taken faults.old; faults_after = F.taken faults.new })) }
     ensures read_fault { result ≡ TextEnd.ReadFault → IsSome (I.read_fault input.new) }
     ensures read_fault_first { IsSome (I.read_fault input.new) → result ≡ TextEnd.ReadFault }
-    ensures write_fault { result ≡ TextEnd.WriteFault → IsSome (O.write_fault output.new) ⊎ IsSome (F.write_fault faults.new) }
+    ensures write_fault { result ≡ TextEnd.WriteFault
+        → IsSome (O.write_fault output.new) ⊎ IsSome (F.write_fault faults.new) }
     ensures nothing_printed { PrintsNothing result (O.taken output.old) (O.taken output.new) }
     ensures goes { I.goes input.old input.new }
-    ensures stops { (front : List ℕ) × Consumes (I.to_come input.old) (I.to_come input.new) front × (length front ≤ LARGEST + 1) }
+    ensures stops { (front : List ℕ) × Consumes (I.to_come input.old) (I.to_come input.new) front
+        × (length front ≤ LARGEST + 1) }
 {
     let read = read_input(alloc, LARGEST, input);
     print_read(read, output, faults)
@@ -46,10 +49,12 @@ fn print_read<O: Output, F: Output>(
     faults: &mut F,
 ) -> TextEnd
     ensures tidied { (text : List ℕ) → IsRead Reads LARGEST read text →
-        IsTidied result text (record { output = O.taken output.old; output_after = O.taken output.new; faults = F.taken faults.old; faults_after = F.taken faults.new }) }
+        IsTidied result text
+        (record { output = O.taken output.old; output_after = O.taken output.new; faults = F.taken faults.old; faults_after = F.taken faults.new }) }
     ensures read_fault { result ≡ TextEnd.ReadFault → read ≡ Err InputEnd.ReadFault }
     ensures read_fault_first { read ≡ Err InputEnd.ReadFault → result ≡ TextEnd.ReadFault }
-    ensures write_fault { result ≡ TextEnd.WriteFault → IsSome (O.write_fault output.new) ⊎ IsSome (F.write_fault faults.new) }
+    ensures write_fault { result ≡ TextEnd.WriteFault
+        → IsSome (O.write_fault output.new) ⊎ IsSome (F.write_fault faults.new) }
     ensures nothing_printed { PrintsNothing result (O.taken output.old) (O.taken output.new) }
 {
     match read {

@@ -12,7 +12,8 @@ use crate::whole_input::InputEnd;
 /// Reports a fault of the text, or that memory ran out. Writes nothing if the reader failed. If the
 /// writer fails, that is the end.
 pub fn tell_unread<F: Output>(end: InputEnd<Never>, faults: &mut F) -> TextEnd
-    ensures told { (text : List ℕ) → IsUnread LARGEST end text → IsTold result text (F.taken faults.old) (F.taken faults.new) }
+    ensures told { (text : List ℕ) → IsUnread LARGEST end text
+        → IsTold result text (F.taken faults.old) (F.taken faults.new) }
     ensures read_fault { result ≡ TextEnd.ReadFault → end ≡ InputEnd.ReadFault }
     ensures read_fault_first { end ≡ InputEnd.ReadFault → result ≡ TextEnd.ReadFault }
     ensures write_fault { result ≡ TextEnd.WriteFault → IsSome (F.write_fault faults.new) }

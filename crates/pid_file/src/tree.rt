@@ -1,5 +1,20 @@
 //! A map from paths to names that holds the parent of each of its paths.
-ghost use Rattle.std.specs.Prelude.{◌≡◌, ◌≢◌, ◌↔◌, Err, Some, false, IsTrue, IsNone, IfOk, OnOk, OnErr, IsErrOf, map, reverse};
+ghost use Rattle.std.specs.Prelude.{
+  ◌≡◌,
+  ◌≢◌,
+  ◌↔◌,
+  Err,
+  Some,
+  false,
+  IsTrue,
+  IsNone,
+  IfOk,
+  OnOk,
+  OnErr,
+  IsErrOf,
+  map,
+  reverse,
+};
 ghost use Rattle.std.specs.BTreeMap.Range.{IsLeBy, IsInRange};
 ghost use Rattle.std.specs.FinMap as finite;
 ghost use Rattle.std.specs.Option.{option_copied};
@@ -7,7 +22,7 @@ ghost use Rattle.pid_file.specs.PathTexts.{path_text, path_cmp, parent_of, IsPat
 ghost use Rattle.pid_file.specs.Trees.{IsTree};
 ghost use Rattle.pid_file.specs.Items.{item_of, tree_of};
 ghost use Rattle.pid_file.specs.Parents.{LacksParent, HasChild};
-ghost use Rattle.pid_file.specs.Between.{HasNoneBetween};
+ghost use Rattle.pid_file.specs.Steps.Between.{HasNoneBetween};
 
 use crate::identifier::{Id8, Id16};
 use crate::name::Name;
@@ -63,11 +78,13 @@ impl Tree {
         }
     }
 
-    /// The tree of these items, which may come in any order; where they come in canonical order it is built in one pass.
-    /// Of items with one path the last stays. Where the parent of a path is not among them there is no tree.
+    /// The tree of these items, which may come in any order; where they come in canonical order it
+    /// is built in one pass. Of items with one path the last stays. Where the parent of a path is
+    /// not among them there is no tree.
     pub fn of_items(alloc: Global, items: Vec<(Path, Name)>) -> Result<Tree, TreeRefusal>
         ensures ok { IfOk result (λ t. t ≡ tree_of (reverse items.items)) }
-        ensures parent_missing { IsErrOf result TreeRefusal.ParentMissing → IsTree (tree_of (reverse items.items)) → ⊥ }
+        ensures parent_missing { IsErrOf result TreeRefusal.ParentMissing
+            → IsTree (tree_of (reverse items.items)) → ⊥ }
         ensures no_has_children { result ≢ Err TreeRefusal.HasChildren }
         ensures no_absent { result ≢ Err TreeRefusal.Absent }
     {
@@ -120,11 +137,12 @@ impl Tree {
         }
     }
 
-    /// Gives a path a name, which takes the place of the name that it may have. Where its parent is missing
-    /// (`ParentMissing`), and for want of memory, the tree stays as it was.
+    /// Gives a path a name, which takes the place of the name that it may have. Where its parent is
+    /// missing (`ParentMissing`), and for want of memory, the tree stays as it was.
     pub fn set(&mut self, path: Path, name: Name) -> Result<(), TreeRefusal>
         ensures ok { OnOk result (self.new ≡ finite.insert self.old (path_text path) name) }
-        ensures parent_missing { IsErrOf result TreeRefusal.ParentMissing ↔ LacksParent self.old path }
+        ensures parent_missing { IsErrOf result TreeRefusal.ParentMissing
+            ↔ LacksParent self.old path }
         ensures no_has_children { result ≢ Err TreeRefusal.HasChildren }
         ensures no_absent { result ≢ Err TreeRefusal.Absent }
         ensures err { OnErr result (self.new ≡ self.old) }
@@ -156,7 +174,8 @@ impl Tree {
 
     fn has_device(&self, vendor: Id16) -> bool
         ensures found { IsTrue result → HasChild self.now (Path.Vendor vendor) }
-        ensures none { result ≡ false → HasNoneBetween self.now (Path.Vendor vendor) (Path.Device vendor 0) (Path.Device vendor 65535) }
+        ensures none { result ≡ false → HasNoneBetween self.now (Path.Vendor vendor)
+            (Path.Device vendor 0) (Path.Device vendor 65535) }
     {
         let least = Path::Device { vendor, device: 0 };
         let greatest = Path::Device {
@@ -168,7 +187,8 @@ impl Tree {
 
     fn has_generic(&self, vendor: Id16) -> bool
         ensures found { IsTrue result → HasChild self.now (Path.Vendor vendor) }
-        ensures none { result ≡ false → HasNoneBetween self.now (Path.Vendor vendor) (Path.Generic vendor 0) (Path.Generic vendor 65535) }
+        ensures none { result ≡ false → HasNoneBetween self.now (Path.Vendor vendor)
+            (Path.Generic vendor 0) (Path.Generic vendor 65535) }
     {
         let least = Path::Generic { vendor, device: 0 };
         let greatest = Path::Generic {
@@ -180,7 +200,8 @@ impl Tree {
 
     fn has_subsystem(&self, vendor: Id16, device: Id16) -> bool
         ensures found { IsTrue result → HasChild self.now (Path.Device vendor device) }
-        ensures none { result ≡ false → HasNoneBetween self.now (Path.Device vendor device) (Path.Subsystem vendor device 0 0) (Path.Subsystem vendor device 65535 65535) }
+        ensures none { result ≡ false → HasNoneBetween self.now (Path.Device vendor device)
+            (Path.Subsystem vendor device 0 0) (Path.Subsystem vendor device 65535 65535) }
     {
         let least = Path::Subsystem {
             vendor,
@@ -199,7 +220,8 @@ impl Tree {
 
     fn has_subclass(&self, class: Id8) -> bool
         ensures found { IsTrue result → HasChild self.now (Path.Class class) }
-        ensures none { result ≡ false → HasNoneBetween self.now (Path.Class class) (Path.Subclass class 0) (Path.Subclass class 255) }
+        ensures none { result ≡ false → HasNoneBetween self.now (Path.Class class)
+            (Path.Subclass class 0) (Path.Subclass class 255) }
     {
         let least = Path::Subclass { class, subclass: 0 };
         let greatest = Path::Subclass {
@@ -211,7 +233,8 @@ impl Tree {
 
     fn has_progif(&self, class: Id8, subclass: Id8) -> bool
         ensures found { IsTrue result → HasChild self.now (Path.Subclass class subclass) }
-        ensures none { result ≡ false → HasNoneBetween self.now (Path.Subclass class subclass) (Path.ProgIf class subclass 0) (Path.ProgIf class subclass 255) }
+        ensures none { result ≡ false → HasNoneBetween self.now (Path.Subclass class subclass)
+            (Path.ProgIf class subclass 0) (Path.ProgIf class subclass 255) }
     {
         let least = Path::ProgIf {
             class,
@@ -241,11 +264,12 @@ impl Tree {
         false
     }
 
-    /// Takes a path and its name away. One that is not there (`Absent`), or has children (`HasChildren`), is refused, and the
-    /// tree stays as it was. Memory is never wanting.
+    /// Takes a path and its name away. One that is not there (`Absent`), or has children
+    /// (`HasChildren`), is refused, and the tree stays as it was. Memory is never wanting.
     pub fn remove(&mut self, path: &Path) -> Result<(), TreeRefusal>
         ensures ok { OnOk result (self.new ≡ finite.remove self.old (path_text path.now)) }
-        ensures absent { IsErrOf result TreeRefusal.Absent ↔ IsNone (finite.get self.old (path_text path.now)) }
+        ensures absent { IsErrOf result TreeRefusal.Absent
+            ↔ IsNone (finite.get self.old (path_text path.now)) }
         ensures has_children { IsErrOf result TreeRefusal.HasChildren ↔ HasChild self.old path.now }
         ensures no_parent_missing { result ≢ Err TreeRefusal.ParentMissing }
         ensures no_memory { result ≢ Err TreeRefusal.Memory }

@@ -41,7 +41,8 @@ impl TreeSink {
     /// The tree of the names, or why they give none; of a path that came twice it has the last.
     pub fn into_tree(self) -> Result<Tree, TreeFault>
         ensures ok { IfOk result (λ t. t ≡ tree_so_far self) }
-        ensures parent_missing { IsErrOf result TreeFault.ParentMissing → IsTree (tree_so_far self) → ⊥ }
+        ensures parent_missing { IsErrOf result TreeFault.ParentMissing → IsTree (tree_so_far self)
+            → ⊥ }
     {
         match Tree::of_items(self.alloc, self.items) {
             Ok(tree) => Ok(tree),

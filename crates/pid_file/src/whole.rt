@@ -3,7 +3,7 @@ ghost use Rattle.std.specs.Prelude.{◌≡◌, ◌↔◌, false, IsTrue, IfSome,
 ghost use Rattle.pid_file.specs.PathTexts.{IsPath, parent_of};
 ghost use Rattle.pid_file.specs.Trees.{IsTree};
 ghost use Rattle.pid_file.specs.Items.{tree_of};
-ghost use Rattle.pid_file.specs.Whole.{AreIn, AreSound, HasItem};
+ghost use Rattle.pid_file.specs.Steps.Whole.{AreIn, AreSound, HasItem};
 
 use crate::name::Name;
 use crate::path::Path;
@@ -38,7 +38,8 @@ impl Above {
         requires there { HasItem items.now.entries path }
         ensures kept { IfSome result (AreIn items.now.entries) }
         ensures parent { IfSome result (λ _. IfSome (parent_of path) (HasItem items.now.entries)) }
-        ensures lacking { IfNone result (IsSomeAnd (parent_of path) (λ q. HasItem items.now.entries q → ⊥)) }
+        ensures lacking { IfNone result (IsSomeAnd
+            (parent_of path) (λ q. HasItem items.now.entries q → ⊥)) }
         ensures in_range { IsPath path }
     {
         let Some(parent) = path.parent() else {

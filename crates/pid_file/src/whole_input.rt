@@ -1,5 +1,22 @@
 //! An input that is read to its end, up to a limit of bytes.
-ghost use Rattle.std.specs.Prelude.{◌≡◌, ◌++◌, ◌+◌, ◌<◌, ◌≤◌, ℕ, List, [], None, Ok, Err, IsSome, IfSome, IfOk, OnOk, length};
+ghost use Rattle.std.specs.Prelude.{
+  ◌≡◌,
+  ◌++◌,
+  ◌+◌,
+  ◌<◌,
+  ◌≤◌,
+  ℕ,
+  List,
+  [],
+  None,
+  Ok,
+  Err,
+  IsSome,
+  IfSome,
+  IfOk,
+  OnOk,
+  length,
+};
 ghost use Rattle.std.specs.Io.KnownBytes.{Consumes, IsAtEnd, Keeps};
 ghost use Rattle.pid_file.specs.Cutters.{Holds};
 ghost use Rattle.pid_file.specs.Lines.{lines_of};
@@ -59,11 +76,17 @@ pub fn next_piece<'b, I: Input>(
     room: usize,
     buffer: &'b mut [u8; BUFFER],
 ) -> Result<Option<&'b [u8]>, SkipEnd>
-    ensures piece { IfOk result (λ o. IfSome o (λ piece. Consumes (I.to_come input.old) (I.to_come input.new) piece.now)) }
-    ensures some { IfOk result (λ o. IfSome o (λ piece. (0 < length piece.now) × (length piece.now ≤ room))) }
-    ensures end { result ≡ Ok None → Consumes (I.to_come input.old) (I.to_come input.new) [] × IsAtEnd (I.to_come input.new) }
-    ensures long { result ≡ Err SkipEnd.TooLong → (front : List ℕ) × Consumes (I.to_come input.old) (I.to_come input.new) front × (length front ≡ room + 1) }
-    ensures failed { result ≡ Err SkipEnd.ReadFault → Keeps (I.to_come input.old) (I.to_come input.new) }
+    ensures piece { IfOk result (λ o. IfSome o
+        (λ piece. Consumes (I.to_come input.old) (I.to_come input.new) piece.now)) }
+    ensures some { IfOk result (λ o. IfSome o
+        (λ piece. (0 < length piece.now) × (length piece.now ≤ room))) }
+    ensures end { result ≡ Ok None → Consumes (I.to_come input.old) (I.to_come input.new) []
+        × IsAtEnd (I.to_come input.new) }
+    ensures long { result ≡ Err SkipEnd.TooLong
+        → (front : List ℕ) × Consumes (I.to_come input.old) (I.to_come input.new) front
+        × (length front ≡ room + 1) }
+    ensures failed { result ≡ Err SkipEnd.ReadFault
+        → Keeps (I.to_come input.old) (I.to_come input.new) }
     ensures fault { result ≡ Err SkipEnd.ReadFault → IsSome (I.read_fault input.new) }
     ensures fault_first { IsSome (I.read_fault input.new) → result ≡ Err SkipEnd.ReadFault }
     ensures goes { I.goes input.old input.new }
@@ -90,8 +113,10 @@ fn take_next<K: Sink>(
 ) -> Result<(), CutEnd<K::Fault>>
 where
     K::Fault: Drop,
-    ensures holds { (text : List ℕ) → OnOk outcome (Holds cutter.old text) → OnOk result (Holds cutter.new (text ++ piece.now)) }
-    ensures ends { (text : List ℕ) (start : K) → OnOk outcome (Holds cutter.old text) → Ends K.takes K.faults outcome start (whole_lines text) sink.old →
+    ensures holds { (text : List ℕ) → OnOk outcome (Holds cutter.old text)
+        → OnOk result (Holds cutter.new (text ++ piece.now)) }
+    ensures ends { (text : List ℕ) (start : K) → OnOk outcome (Holds cutter.old text)
+        → Ends K.takes K.faults outcome start (whole_lines text) sink.old →
         Ends K.takes K.faults result start (whole_lines (text ++ piece.now)) sink.new }
 {
     outcome?;
@@ -106,16 +131,18 @@ fn end_text<K: Sink>(
 ) -> Result<(), CutEnd<K::Fault>>
 where
     K::Fault: Drop,
-    ensures ends { (text : List ℕ) (start : K) → OnOk outcome (Holds cutter text) → Ends K.takes K.faults outcome start (whole_lines text) sink.old →
+    ensures ends { (text : List ℕ) (start : K) → OnOk outcome (Holds cutter text)
+        → Ends K.takes K.faults outcome start (whole_lines text) sink.old →
         Ends K.takes K.faults result start (lines_of text) sink.new }
 {
     outcome?;
     cutter.finish(sink)
 }
 
-/// Hands the entries of the input's text to the sink, in the order of their lines, until the text is refused or the
-/// sink faults. Whatever the outcome, the input is read to its end, or until more than `limit` bytes came: then no more
-/// is read. A fault of the input is told before all else, and a text that is too long before what the sink says.
+/// Hands the entries of the input's text to the sink, in the order of their lines, until the text
+/// is refused or the sink faults. Whatever the outcome, the input is read to its end, or until more
+/// than `limit` bytes came: then no more is read. A fault of the input is told before all else, and
+/// a text that is too long before what the sink says.
 pub fn cut_input<K: Sink, I: Input>(
     alloc: Global,
     limit: usize,
@@ -124,8 +151,10 @@ pub fn cut_input<K: Sink, I: Input>(
 ) -> Result<(), InputEnd<K::Fault>>
 where
     K::Fault: Drop,
-    ensures read { (text : List ℕ) × Consumes (I.to_come input.old) (I.to_come input.new) text × CutsInput K.takes K.faults limit result (I.to_come input.new) text sink.old sink.new }
-    ensures stops { (front : List ℕ) × Consumes (I.to_come input.old) (I.to_come input.new) front × (length front ≤ limit + 1) }
+    ensures read { (text : List ℕ) × Consumes (I.to_come input.old) (I.to_come input.new) text
+        × CutsInput K.takes K.faults limit result (I.to_come input.new) text sink.old sink.new }
+    ensures stops { (front : List ℕ) × Consumes (I.to_come input.old) (I.to_come input.new) front
+        × (length front ≤ limit + 1) }
     ensures fault { result ≡ Err InputEnd.ReadFault → IsSome (I.read_fault input.new) }
     ensures fault_first { IsSome (I.read_fault input.new) → result ≡ Err InputEnd.ReadFault }
     ensures goes { I.goes input.old input.new }

@@ -4,11 +4,11 @@ use Rattle.std.specs.Io.KnownBytes.{Appends}
 use Rattle.std.proofs.KnownBytes.{Appends-nil}
 use Rattle.std.proofs.Math.Seq.{take-append_seam}
 use Rattle.sqlite_trees.specs.declared.store.Store.{Ghosts}
-use Rattle.pid_export.proofs.ItemLines.{last_path, text_behind, text_joined}
-use Rattle.pid_export.specs.ItemTexts.{text_of_items}
+use Rattle.pid_service.proofs.ItemLines.{last_path, text_behind, text_joined}
+use Rattle.pid_service.specs.ItemTexts.{text_of_items}
 use Rattle.pid_ident.specs.Sending.{SendsFront}
 use Rattle.pid_file.specs.declared.io.WriteFault.{WriteFault}
-use Rattle.pid_lives.specs.Calls.{AreNothing}
+use Rattle.pid_service_laws.specs.Calls.{AreNothing}
 use Rattle.pid_moderation.specs.History.{History}
 use Rattle.pid_moderation.specs.Items.{Items}
 use Rattle.pid_moderation.specs.Views.{items_of}
@@ -26,19 +26,19 @@ use Rattle.pid_service.specs.declared.registry.Registry.{Registry}
 use Rattle.pid_tree.specs.Printing.{header, print}
 use Rattle.pid_http_stream.specs.Serving.{WritesFront}
 use Rattle.pid_http_stream.specs.declared.reply.Content.TheVariants.{Text}
-use Rattle.pid_http_stream.specs.declared.reply.Status.TheVariants.{Okay}
 use Rattle.pid_http_stream.specs.Leading.{Leads}
-use Rattle.pid_http.specs.Errands.{Exports}
-use Rattle.pid_http.specs.Handling.{Writes, WritesOver}
-use Rattle.pid_http.specs.Known.{Known, Live, Between, Down, IsKnown, LivesOn, Goes, Told, IsTold, calls_join}
+use Rattle.pid_http.specs.Errands.{Export}
+use Rattle.pid_http.specs.Steps.Handling.{Writes, WritesOver}
+use Rattle.pid_http.specs.Known.{Known, Live, Between, Down, IsKnown, LivesOn, Told, IsTold}
+use Rattle.pid_http.specs.Steps.Going.{Goes, calls_join}
 use Rattle.pid_http.specs.Serving.{IsPromised}
 
 -- the length of the text was told
 pub length_told : {S : Type 0} (store : Ghosts S) (old new : Registry S store) (n : ℕ) (lives : LivesOn store old new) → Answers store old new (Ok n) (λ h n. n ≡ length (print (tree_of h)))
-    → AreNothing lives.calls → Goes store old new (λ k calls now. IsPromised k Exports (record { status = Okay; content = Text }) n calls now)
+    → AreNothing lives.calls → Goes store old new (λ k calls now. IsPromised k Export (record { status = 200; content = Text }) n calls now)
 length_told store old new n lives a nothing = record { lives = lives; served = record { good = a.rests.clean; leads = leads } }
   where
-    leads : HasCleanDisk store new → (k : Known) → IsKnown store old k → (now : Known) × IsKnown store new now × IsPromised k Exports (record { status = Okay; content = Text }) n lives.calls now
+    leads : HasCleanDisk store new → (k : Known) → IsKnown store old k → (now : Known) × IsKnown store new now × IsPromised k Export (record { status = 200; content = Text }) n lives.calls now
     leads good (Live h) shows = let t = a.told good h shows in (Live h, t.1, (refl, record { status = refl; content = refl; length_is = t.0 }, nothing, refl))
     leads good (Between before behind) fails = let e = (a.failed fails.has_failed).0 in absurd cc
     leads good Down off = let e = (a.failed off).0 in absurd cc

@@ -3,7 +3,7 @@ use Rattle.std.proofs.Common.{◌≡◌, ℕ, List, [], Option, Some, None, Resu
 use Rattle.std.specs.Prelude.{◌⊎◌, MatchOption, option_copied}
 use Rattle.std.specs.Io.KnownBytes.{IsAtEnd}
 use Rattle.sqlite_trees.specs.declared.store.Store.{Ghosts}
-use Rattle.pid_lives.specs.Calls.{AreNothing, Call}
+use Rattle.pid_service_laws.specs.Calls.{AreNothing, Call}
 use Rattle.pid_http_stream.specs.Conducts.{StandsStill}
 use Rattle.pid_http_stream.specs.Handling.{IsAsked, IsBodyFor, MayReply}
 use Rattle.pid_http_stream.specs.Replies.{Answer}
@@ -12,24 +12,23 @@ use Rattle.pid_http_stream.specs.declared.handler.Reply.{Reply}
 use Rattle.pid_http_stream.specs.declared.handler.ReplyBody.{ReplyBody}
 use Rattle.pid_http_stream.specs.declared.handler.ReplyBody.TheVariants.{Bytes, Written}
 use Rattle.pid_http_stream.specs.declared.reply.ReplyHead.{ReplyHead}
-use Rattle.pid_requests.specs.Questions.{question}
-use Rattle.pid_requests.specs.Senders.{Sending, sender}
-use Rattle.pid_requests.specs.declared.question.Question.{Question}
-use Rattle.pid_requests.specs.declared.sender.Sender.{Sender}
-use Rattle.pid_http.specs.Errands.{Errand, errand_for, errand_of}
+use Rattle.pid_http_requests.specs.Questions.{Asking, question}
+use Rattle.pid_http_requests.specs.Senders.{Sending, sender}
+use Rattle.pid_http_requests.specs.declared.sender.Sender.{Sender}
+use Rattle.pid_http.specs.Errands.{Errand, errand_asked, errand_of}
 use Rattle.pid_http.specs.Known.{Told, ByCalls}
-use Rattle.pid_http.specs.Replying.{IsBodyMet, IsMetBehind, sending_in}
+use Rattle.pid_http.specs.Steps.Replying.{IsBodyMet, IsMetBehind, sending_in}
 use Rattle.pid_http.specs.Serving.{IsMet, serving}
 
 pub sender_is : (o : Option Sender) (x : Option Sending) → MatchOption o (x ≡ None) (λ s. x ≡ Some (record { account = s.account.now; key = option_copied s.key })) → sending_in o ≡ x
 sender_is None x e = sym e
 sender_is (Some s) x e = sym e
 
--- what the parts of a head ask is what the request comes to
-pub errand_is : (request : Request) (q : Question) (method target body : List ℕ) (s : Option Sending) → q ≡ question method target → method ≡ request.head.method → target ≡ request.head.target
-    → s ≡ sender (fields_of request.head) → body ≡ request.body → errand_for q s body ≡ errand_of request
+-- what a head asks is what the request comes to
+pub errand_is : (request : Request) (wanted : Asking) (body : List ℕ) (s : Option Sending) → wanted ≡ question request.head.method request.head.target
+    → s ≡ sender (fields_of request.head) → body ≡ request.body → errand_asked wanted s body ≡ errand_of request
 unfolding errand_of
-errand_is request q method target body s asked m t sends b = λ i. errand_for ((asked ∙ (λ j. question (m j) (t j))) i) (sends i) (b i)
+errand_is request wanted body s asked sends b = λ i. errand_asked (asked i) (sends i) (b i)
 
 module _ {S : Type 0} (store : Ghosts S) where
   body_for : (t u : Told store) (request : Request) (head : ReplyHead) (body : ReplyBody) → ByCalls store t u (λ calls. IsBodyMet t.known (errand_of request) head body calls u.known) → IsBodyFor (serving store) t request head body u

@@ -4,7 +4,7 @@ use Rattle.std.specs.Prelude.{◌⊎◌}
 use Rattle.std.specs.Io.KnownBytes.{Consumes, IsAtEnd}
 use Rattle.std.proofs.lemmas.List.{append-nil}
 use Rattle.sqlite_trees.specs.declared.store.Store.{Ghosts}
-use Rattle.pid_import.specs.Files.{file_reading}
+use Rattle.pid_tables.specs.Files.{file_reading}
 use Rattle.pid_moderation.specs.BeforeFile.{import_of}
 use Rattle.pid_moderation.specs.CheckTables.{most_file_bytes}
 use Rattle.pid_moderation.specs.History.{Asked, History}
@@ -22,15 +22,16 @@ use Rattle.pid_service.specs.declared.registry.Registry.{Registry}
 use Rattle.pid_http_stream.specs.Replies.{Answer}
 use Rattle.pid_http_stream.specs.BodyLengths.{longest_body}
 use Rattle.pid_http_stream.specs.declared.handler.Reply.{Reply}
-use Rattle.pid_requests.specs.declared.format.Format.{Format}
-use Rattle.pid_replies.specs.Outcomes.{outcome_answer}
-use Rattle.pid_replies.specs.Replying.{IsReplyOf}
-use Rattle.pid_lives.specs.Calls.{AreNothing, Call, obeyed}
-use Rattle.pid_lives.specs.Registries.{Does}
+use Rattle.pid_http_requests.specs.declared.format.Format.{Format}
+use Rattle.pid_http_replies.specs.Outcomes.{outcome_answer}
+use Rattle.pid_http_replies.specs.Replying.{IsReplyOf}
+use Rattle.pid_service_laws.specs.Calls.{AreNothing, Call, obeyed}
+use Rattle.pid_service_laws.specs.Registries.{Does}
 use Rattle.pid_service.specs.Lives.{import_sent, showing}
 use Rattle.pid_http.specs.Errands.{Errand, Obeys}
-use Rattle.pid_http.specs.Known.{Known, Live, Between, Down, IsKnown, LivesOn, Goes}
-use Rattle.pid_http.specs.Replying.{IsObeyed, IsMetBehind}
+use Rattle.pid_http.specs.Known.{Known, Live, Between, Down, IsKnown, LivesOn}
+use Rattle.pid_http.specs.Steps.Going.{Goes}
+use Rattle.pid_http.specs.Steps.Replying.{IsObeyed, IsMetBehind}
 use Rattle.pid_http.specs.Serving.{IsMet}
 use Rattle.pid_http.proofs.Meeting.{body_met, no_call, obeyed_met, obeys_so, one_call, turned}
 

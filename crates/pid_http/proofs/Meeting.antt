@@ -2,8 +2,8 @@
 use Rattle.std.proofs.Common.{◌≡◌, ℕ, Bool, true, false, List, [], ◌∷◌, ◌++◌, Option, Some, None, Result, Ok, Err, IfOk, refl, sym, ap, subst, ◌∙◌, inl, inr}
 use Rattle.std.specs.Prelude.{◌⊎◌, MatchResult}
 use Rattle.sqlite_trees.specs.declared.store.Store.{Ghosts}
-use Rattle.pid_lives.specs.Calls.{AreNothing, Call, nothing_sent, obeyed as sends}
-use Rattle.pid_lives.specs.Registries.{Does}
+use Rattle.pid_service_laws.specs.Calls.{AreNothing, Call, nothing_sent, obeyed as sends}
+use Rattle.pid_service_laws.specs.Registries.{Does}
 use Rattle.pid_moderation.specs.History.{Asked, History}
 use Rattle.pid_moderation.specs.Judgement.{after}
 use Rattle.pid_moderation.specs.declared.command.Command.{Command}
@@ -19,18 +19,20 @@ use Rattle.pid_service.specs.declared.registry.Registry.{Registry}
 use Rattle.pid_http_stream.specs.Leading.{Leads}
 use Rattle.pid_http_stream.specs.Replies.{Answer}
 use Rattle.pid_http_stream.specs.declared.handler.Reply.{Reply}
+use Rattle.pid_http_stream.specs.declared.head.Head.{Head}
 use Rattle.pid_http_stream.specs.declared.handler.ReplyBody.{ReplyBody}
 use Rattle.pid_http_stream.specs.declared.handler.ReplyBody.TheVariants.{Bytes, Written}
 use Rattle.pid_http_stream.specs.declared.reply.ReplyHead.{ReplyHead}
-use Rattle.pid_requests.specs.Senders.{Sending}
-use Rattle.pid_requests.specs.declared.format.Format.{Format}
-use Rattle.pid_replies.specs.Outcomes.{outcome_answer}
-use Rattle.pid_replies.specs.Replying.{IsReplyOf, IsBodyOf}
-use Rattle.pid_http.specs.Answering.{answer_over, history_behind, IsRefused, LacksForm}
+use Rattle.pid_http_requests.specs.Senders.{Sending}
+use Rattle.pid_http_requests.specs.declared.format.Format.{Format}
+use Rattle.pid_http_replies.specs.Outcomes.{outcome_answer}
+use Rattle.pid_http_replies.specs.Replying.{IsReplyOf, IsBodyOf}
+use Rattle.pid_http.specs.Answering.{answer_over, history_behind, IsRefused, LacksForm, Refused, AsEver, Short}
 use Rattle.pid_http.specs.Errands.{Errand, Answered, Denied, Obeys, command_in, commanded, imported}
-use Rattle.pid_http.specs.Known.{Known, Live, Between, Down, IsKnown, LivesOn, Goes, IsTold, ByCalls, calls_join}
-use Rattle.pid_http.specs.Replying.{IsObeyed, IsBodyMet, IsMetBy, answer_or}
-use Rattle.pid_http.specs.Serving.{IsMet, IsMetOver, AreCallsOver, FaultLeaves}
+use Rattle.pid_http.specs.Known.{Known, Live, Between, Down, IsKnown, LivesOn, IsTold, ByCalls}
+use Rattle.pid_http.specs.Steps.Going.{Goes, calls_join}
+use Rattle.pid_http.specs.Steps.Replying.{IsObeyed, IsBodyMet, IsMetBy, Replies, RepliesTo, answer_or}
+use Rattle.pid_http.specs.Serving.{IsMet, IsMetOver, AnsweredOver, NotAsked, NotDone, InDoubt, AreCallsOver, AreUndone}
 
 -- what only asks: its answer by what is found
 pub record IsQuestion {X : Type 0} (format : Format) (found : X → Answer) (Says : History → X → Type 0) (errand : Errand) : Type 0 where
@@ -45,8 +47,8 @@ same_history h errand none = ap (λ (c : Option Asked). Live (history_behind h c
 calls_over : (h : History) (errand : Errand) (calls : List Call) → command_in errand ≡ None → AreNothing calls → AreCallsOver h (command_in errand) calls
 calls_over h errand calls none nothing = subst (λ (c : Option Asked). AreCallsOver h c calls) (sym none) nothing
 
-fault_leaves : (h : History) (errand : Errand) (refusal : Refusal) (calls : List Call) → command_in errand ≡ None → AreNothing calls → FaultLeaves h (command_in errand) refusal calls (Live h)
-fault_leaves h errand refusal calls none nothing = subst (λ (c : Option Asked). FaultLeaves h c refusal calls (Live h)) (sym none) (nothing, refl)
+undone : (errand : Errand) (refusal : Refusal) (calls : List Call) → command_in errand ≡ None → AreNothing calls → AreUndone (command_in errand) refusal calls
+undone errand refusal calls none nothing = subst (λ (c : Option Asked). AreUndone c refusal calls) (sym none) nothing
 
 -- the reply is the answer
 pub body_met : (k now : Known) (errand : Errand) (head : ReplyHead) (body : ReplyBody) (given : Answer) (calls : List Call) → IsBodyOf head body given → IsMet k errand given calls now → IsBodyMet k errand head body calls now
@@ -60,22 +62,22 @@ is_met_by k now errand (Err e) given calls is m = (given, m)
 -- an answer for which the registry is not asked
 pub answered : (given : Answer) (k : Known) → IsMet k (Answered given) given [] k
 unfolding answer_over
-answered given (Live h) = inl (refl, tt, refl)
-answered given (Between before behind) = (inr (inl refl), tt, refl)
-answered given Down = (inr (inl refl), tt, refl)
+answered given (Live h) = AnsweredOver refl tt refl
+answered given (Between before behind) = (AsEver refl, tt, refl)
+answered given Down = (AsEver refl, tt, refl)
 
 -- the sender or the form is refused
 pub denied : (refusal : Refusal) (format : Format) (k : Known) → IsMet k (Denied refusal format) (outcome_answer format (Err refusal)) [] k
 unfolding answer_over
-denied refusal format (Live h) = inl (refl, tt, refl)
-denied refusal format (Between before behind) = (inr (inl refl), tt, refl)
-denied refusal format Down = (inr (inl refl), tt, refl)
+denied refusal format (Live h) = AnsweredOver refl tt refl
+denied refusal format (Between before behind) = (AsEver refl, tt, refl)
+denied refusal format Down = (AsEver refl, tt, refl)
 
 -- memory is short before the registry is asked
 lacks : (errand : Errand) (given : Answer) (k : Known) → LacksForm errand given → IsMet k errand given [] k
-lacks errand given (Live h) short = inr (inl (short, tt, refl))
-lacks errand given (Between before behind) short = (inr (inr short), tt, refl)
-lacks errand given Down short = (inr (inr short), tt, refl)
+lacks errand given (Live h) short = NotAsked short tt refl
+lacks errand given (Between before behind) short = (Short short, tt, refl)
+lacks errand given Down short = (Short short, tt, refl)
 
 -- for the form of a command, or for its sender
 pub short : (made : Result Command Refusal) (format : Format) (k : Known) → IsMet k (commanded format made) (outcome_answer format (Err refusals.Memory)) [] k
@@ -90,11 +92,12 @@ short_sender format (Some s) file k = lacks (imported format (Some s) file) (out
 -- a command that was obeyed
 pub obeyed_met : (c : Asked) (format : Format) (k now : Known) (result : Result Outcome Refusal) (calls : List Call) → IsObeyed c k result calls now → IsMet k (Obeys c format) (outcome_answer format result) calls now
 unfolding answer_over
-obeyed_met c format (Live h) now result calls (inl (e, by, same)) = inl (ap (outcome_answer format) e, by ∙ ap (λ (r : Result Outcome Refusal). sends c r true ∷ []) e, same)
+obeyed_met c format (Live h) now result calls (inl (e, by, same)) = AnsweredOver (ap (outcome_answer format) e) (by ∙ ap (λ (r : Result Outcome Refusal). sends c r true ∷ []) e) same
 obeyed_met c format (Live h) now (Ok reply) calls (inr (fault, where_now)) = absurd fault
-obeyed_met c format (Live h) now (Err e) calls (inr (fault, where_now)) = inr (inr (e, fault, (refl, refl), where_now))
-obeyed_met c format (Between before behind) now result calls (e, nothing, same) = (inl (refl, ap (outcome_answer format) e), nothing, same)
-obeyed_met c format Down now result calls (e, nothing, same) = (inl (refl, ap (outcome_answer format) e), nothing, same)
+obeyed_met c format (Live h) now (Err e) calls (inr (fault, inl (by, same))) = NotDone e fault (refl, refl) by same
+obeyed_met c format (Live h) now (Err e) calls (inr (fault, inr (by, same))) = InDoubt e c fault (refl, refl) refl by same
+obeyed_met c format (Between before behind) now result calls (e, nothing, same) = (Refused (refl, ap (outcome_answer format) e), nothing, same)
+obeyed_met c format Down now result calls (e, nothing, same) = (Refused (refl, ap (outcome_answer format) e), nothing, same)
 
 memory_or : (refusal : Refusal) (made : Result Command Refusal) → ((refusal ≡ refusals.Memory → ⊥) → made ≡ Err refusal) → (refusal ≡ refusals.Memory) ⊎ (made ≡ Err refusal)
 memory_or refusals.Memory made f = inl refl
@@ -175,8 +178,8 @@ module _ {S : Type 0} (store : Ghosts S) where
 
   over_history : {X : Type 0} (result : Result X Refusal) (Says : History → X → Type 0) (format : Format) (found : X → Answer) (errand : Errand) (calls : List Call) → AreNothing calls → IsQuestion format found Says errand
       → (h : History) → MatchResult result (Says h) IsFault → IsMetOver h errand (answer_or format found result) calls (Live h)
-  over_history (Ok x) Says format found errand calls nothing q h told = inl (q.over h x told, calls_over h errand calls q.no_command nothing, same_history h errand q.no_command)
-  over_history (Err e) Says format found errand calls nothing q h fault = inr (inr (e, fault, q.refused e, fault_leaves h errand e calls q.no_command nothing))
+  over_history (Ok x) Says format found errand calls nothing q h told = AnsweredOver (q.over h x told) (calls_over h errand calls q.no_command nothing) (same_history h errand q.no_command)
+  over_history (Err e) Says format found errand calls nothing q h fault = NotDone e fault (q.refused e) (undone errand e calls q.no_command nothing) refl
 
   -- the answer of one that has failed
   failed_so : {X : Type 0} (result : Result X Refusal) (format : Format) (found : X → Answer) (errand : Errand) → ((e : Refusal) → IsRefused errand e (outcome_answer format (Err e)))
@@ -190,10 +193,10 @@ module _ {S : Type 0} (store : Ghosts S) where
       let t = a.told good h shows in (Live h, t.1, over_history result Says format found errand calls nothing q h t.0)
   met old new result Says format found errand calls nothing q a good (Between before behind) fails =
       let d = down old new result Says a (Between before behind) fails.has_failed fails in
-      (Between before behind, d.1, (inl (failed_so result format found errand q.refused d.0), nothing, refl))
+      (Between before behind, d.1, (Refused (failed_so result format found errand q.refused d.0), nothing, refl))
   met old new result Says format found errand calls nothing q a good Down off =
       let d = down old new result Says a Down off off in
-      (Down, d.1, (inl (failed_so result format found errand q.refused d.0), nothing, refl))
+      (Down, d.1, (Refused (failed_so result format found errand q.refused d.0), nothing, refl))
 
   pub question_met : CallsLook → {X : Type 0} (old new : Registry S store) (result : Result X Refusal) (Says : History → X → Type 0) (format : Format) (found : X → Answer) (errand : Errand)
       → IsQuestion format found Says errand → Answers store old new result Says → Goes store old new (λ k calls now. IsMet k errand (answer_or format found result) calls now)
@@ -211,8 +214,8 @@ module _ {S : Type 0} (store : Ghosts S) where
       leads : HasCleanDisk store new → (k : Known) → IsKnown store old k → (now : Known) × IsKnown store new now × IsMet k errand given lives.calls now
       leads good (Live h) shows = over good h shows
       leads good (Between before behind) fails =
-          (Between before behind, subst (λ r. FailsBetween store r before behind) (sym (lives.rests fails.has_failed)) fails, (inl (failed fails.has_failed), nothing, refl))
-      leads good Down off = (Down, subst (λ r. is_live r ≡ false) (sym (lives.rests off)) off, (inl (failed off), nothing, refl))
+          (Between before behind, subst (λ r. FailsBetween store r before behind) (sym (lives.rests fails.has_failed)) fails, (Refused (failed fails.has_failed), nothing, refl))
+      leads good Down off = (Down, subst (λ r. is_live r ≡ false) (sym (lives.rests off)) off, (Refused (failed off), nothing, refl))
 
   pub turned : (old new : Registry S store) {P Q : Known → List Call → Known → Type 0} → ((k : Known) (calls : List Call) (now : Known) → P k calls now → Q k calls now) → Goes store old new P → Goes store old new Q
   turned old new f g = record {
@@ -228,13 +231,17 @@ module _ {S : Type 0} (store : Ghosts S) where
       → Goes store old new (λ k calls now. IsMetBy k errand result calls now)
   replied old new errand result given is goes = turned old new (λ k calls now m. is_met_by k now errand result given calls is m) goes
 
+  -- whoever sent it
+  pub whoever : {E : Type 0} (old new : Registry S store) (head : Head) (errand : Errand) (result : Result Reply E) → Replies store old new errand result → RepliesTo store old new head (λ _. errand) result
+  whoever old new head errand result g = turned old new (λ k calls now m request at. m) g
+
   -- a question of its own kind that is refused
   pub refused_call : CallsLook → {X : Type 0} (old new : Registry S store) (e : Refusal) (Says : History → X → Type 0) (format : Format) (errand : Errand)
       → ((x : Refusal) → IsRefused errand x (outcome_answer format (Err x))) → command_in errand ≡ None → Answers store old new (Err e) Says
       → Goes store old new (λ k calls now. IsMet k errand (outcome_answer format (Err e)) calls now)
   refused_call look {X} old new e Says format errand refused none a =
       from_call old new errand (outcome_answer format (Err e)) (asked_on look old new (Err e) Says a) (refl, tt) a.rests.clean
-      (λ good h shows. let t = a.told good h shows in (Live h, t.1, inr (inr (e, t.0, refused e, fault_leaves h errand e (nothing_sent ∷ []) none (refl, tt)))))
+      (λ good h shows. let t = a.told good h shows in (Live h, t.1, NotDone e t.0 (refused e) (undone errand e (nothing_sent ∷ []) none (refl, tt)) refl))
       (λ off. failed_so (Err e) format (λ (x : X). outcome_answer format (Err e)) errand refused (a.failed off).0)
 
   -- what is told of the registry within its life

@@ -2,9 +2,9 @@
 use Rattle.std.proofs.Common.{◌≡◌, ℕ, true, false, Bool, cond, List, [], ◌∷◌, ◌++◌, Option, Some, None, Result, Err, refl, sym, ap, subst, ◌∙◌, inl, inr, append_assoc}
 use Rattle.std.proofs.lemmas.List.{append-nil}
 use Rattle.sqlite_trees.specs.declared.store.Store.{Ghosts}
-use Rattle.pid_lives.specs.Calls.{AreNothing, Call, StopsAt, obeyed, sent_in}
-use Rattle.pid_lives.specs.Lives.{Sent, after_sent, commands_in}
-use Rattle.pid_lives.specs.Outcomes.{is_outcome}
+use Rattle.pid_service_laws.specs.Calls.{AreNothing, Call, StopsAt, obeyed, sent_in}
+use Rattle.pid_service_laws.specs.Lives.{Sent, after_sent, commands_in}
+use Rattle.pid_service_laws.specs.Outcomes.{is_outcome}
 use Rattle.pid_moderation.specs.History.{Asked, History}
 use Rattle.pid_moderation.specs.Judgement.{after, after_all, answer, judge}
 use Rattle.pid_moderation.specs.Views.{Views, views_of}
@@ -16,10 +16,10 @@ use Rattle.pid_http_stream.specs.Replies.{Answer}
 use Rattle.pid_http_stream.specs.Requests.{Request}
 use Rattle.pid_http.specs.Answering.{history_behind}
 use Rattle.pid_http.specs.Errands.{Errand, command_in, errand_of}
-use Rattle.pid_http.specs.Handling.{nothing_then}
+use Rattle.pid_http.specs.Steps.Handling.{nothing_then}
 use Rattle.pid_http.specs.Known.{Known, Live, Between, Told, ByCalls}
 use Rattle.pid_http.specs.Sending.{AreSomeOf, SendsSome, commands_of, if_any}
-use Rattle.pid_http.specs.Serving.{AreCallsOver, FaultLeaves, IsMet, IsMetOver, serving}
+use Rattle.pid_http.specs.Serving.{AreCallsOver, AreUndone, IsMet, IsMetOver, AnsweredOver, NotAsked, NotDone, InDoubt, serving}
 
 -- ---- calls one behind the other
 
@@ -101,17 +101,21 @@ fault_stops : (c : Asked) (refusal : Refusal) → IsFault refusal → StopsAt c 
 fault_stops c refusal (inl e) = subst (λ (r : Refusal). StopsAt c (obeyed c (Err r) false ∷ [])) (sym e) (inl (refl, tt))
 fault_stops c refusal (inr e) = subst (λ (r : Refusal). StopsAt c (obeyed c (Err r) false ∷ [])) (sym e) (inl (refl, tt))
 
-at_fault : (h : History) (o : Option Asked) (refusal : Refusal) (calls : List Call) (k : Known) → IsFault refusal → FaultLeaves h o refusal calls k → SendsSome h (if_any o) calls k
-at_fault h None refusal calls k fault (nothing, is) = quiet h [] calls k nothing is
-at_fault h (Some c) refusal calls k fault (inl (by, is)) =
+not_done : (h : History) (o : Option Asked) (refusal : Refusal) (calls : List Call) (k : Known) → IsFault refusal → AreUndone o refusal calls → k ≡ Live h → SendsSome h (if_any o) calls k
+not_done h None refusal calls k fault nothing is = quiet h [] calls k nothing is
+not_done h (Some c) refusal calls k fault by is =
     live_so h (c ∷ []) [] calls k (ap (λ (l : List Call). commands_in (sent_in l)) by ∙ fault_sends c refusal true fault) (none_of (c ∷ [])) is
-at_fault h (Some c) refusal calls k fault (inr (by, is)) =
+
+in_doubt : (h : History) (c : Asked) (refusal : Refusal) (calls : List Call) (k : Known) → IsFault refusal → calls ≡ obeyed c (Err refusal) false ∷ [] → k ≡ Between h (after h c) → SendsSome h (if_any (Some c)) calls k
+in_doubt h c refusal calls k fault by is =
     stopped_so h (c ∷ []) [] c calls k (ap (λ (l : List Call). commands_in (sent_in l)) by ∙ fault_sends c refusal false fault) (subst (StopsAt c) (sym by) (fault_stops c refusal fault)) (inr ([], refl, refl)) is
 
 met_sends : AreOutcomes → (h : History) (errand : Errand) (given : Answer) (calls : List Call) (k : Known) → IsMetOver h errand given calls k → SendsSome h (if_any (command_in errand)) calls k
-met_sends outcomes h errand given calls k (inl (e, by, is)) = over outcomes h (command_in errand) calls k by is
-met_sends outcomes h errand given calls k (inr (inl (short, nothing, is))) = quiet h (if_any (command_in errand)) calls k nothing is
-met_sends outcomes h errand given calls k (inr (inr (refusal, fault, refused, leaves))) = at_fault h (command_in errand) refusal calls k fault leaves
+met_sends outcomes h errand given calls k (AnsweredOver e by is) = over outcomes h (command_in errand) calls k by is
+met_sends outcomes h errand given calls k (NotAsked short nothing is) = quiet h (if_any (command_in errand)) calls k nothing is
+met_sends outcomes h errand given calls k (NotDone refusal fault refused undone is) = not_done h (command_in errand) refusal calls k fault undone is
+met_sends outcomes h errand given calls k (InDoubt refusal c fault refused command by is) =
+    subst (λ (o : Option Asked). SendsSome h (if_any o) calls k) (sym command) (in_doubt h c refusal calls k fault by is)
 
 -- ---- requests in turn
 

@@ -1,6 +1,6 @@
 -- What is served of a stream.
-use Rattle.std.proofs.Common.{ℕ, List, [], Option, Some, None, refl, inl}
-use Rattle.std.specs.Prelude.{IfSome}
+use Rattle.std.proofs.Common.{ℕ, List, [], Option, Some, None, refl, inl, arith}
+use Rattle.std.specs.Prelude.{⊤, IfSome}
 use Rattle.std.proofs.KnownBytes.{Appends-nil}
 use Rattle.sqlite_trees.specs.declared.store.Store.{Ghosts}
 use Rattle.pid_service.specs.Registries.{HasCleanDisk}
@@ -10,8 +10,16 @@ use Rattle.pid_http_stream.specs.MomentLaws.{since_none}
 use Rattle.pid_http_stream.specs.Moments.{AllSince, Moment}
 use Rattle.pid_http_stream.specs.Serving.{IsCaughtUp, IsServed}
 use Rattle.pid_http_stream.specs.declared.stream.StreamEnd.TheVariants.{Memory}
+use Rattle.pid_file.specs.declared.io.ReadFault.{ReadFault}
+use Rattle.pid_file.specs.declared.io.WriteFault.{WriteFault}
+use Rattle.pid_http_stream.specs.Causes.{EndsFor}
 use Rattle.pid_http.specs.Serving.{serving}
 use Rattle.pid_http.specs.Known.{Told, IsTold}
+
+-- no read was made
+pub memory_ends : (reads turns : ℕ) (read_fault : Option ReadFault) (write_fault : Option WriteFault)
+    → EndsFor Memory (record { read_fault = read_fault; write_fault = write_fault; stuck = ⊤; turns = turns; reads = reads; reads_after = reads })
+memory_ends reads turns read_fault write_fault = record { within = omega arith; cause = tt }
 
 module _ {S : Type 0} (store : Ghosts S) where
   none : (t : Told store) (taken to_come left : Option (List ℕ)) → IfSome to_come (λ stream. IsServed (serving store) (record { handler = t; handler_after = t; taken = taken; taken_after = taken }) stream left Memory 0)

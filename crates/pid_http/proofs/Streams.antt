@@ -3,8 +3,8 @@ use Rattle.std.proofs.Common.{◌≡◌, ◌⊎◌, ℕ, List, [], ◌∷◌, �
 use Rattle.std.proofs.lemmas.List.{append-nil}
 use Rattle.std.specs.Io.KnownBytes.{Consumes}
 use Rattle.sqlite_trees.specs.declared.store.Store.{Ghosts}
-use Rattle.pid_lives.specs.Calls.{AreNothing, Call, sent_in}
-use Rattle.pid_lives.specs.Lives.{commands_in}
+use Rattle.pid_service_laws.specs.Calls.{AreNothing, Call, sent_in}
+use Rattle.pid_service_laws.specs.Lives.{commands_in}
 use Rattle.pid_moderation.specs.History.{Asked, History}
 use Rattle.pid_http_stream.specs.Conducts.{StandsStill}
 use Rattle.pid_http_stream.specs.Laws.{RequestsStay}

@@ -1,5 +1,5 @@
 -- The answers to what requests come to, and the history behind them. Choices of this project.
-use Rattle.std.specs.Prelude.{◌≡◌, ◌⊎◌, ℕ, List, Option, Some, None, Result, Ok, Err, if◌then◌else◌}
+use Rattle.std.specs.Prelude.{◌≡◌, ℕ, List, Option, Some, None, Result, Ok, Err, if◌then◌else◌}
 use Rattle.pid_ident.specs.PathTexts.{path_text}
 use Rattle.pid_file.specs.declared.path.Path.{Path}
 use Rattle.pid_lookup.specs.declared.answer.Answer.{Answer as Found}
@@ -14,30 +14,29 @@ use Rattle.pid_moderation.specs.Views.{Remark, items_of, views_of}
 use Rattle.pid_moderation.specs.Writes.{tree_of}
 use Rattle.pid_moderation.specs.declared.refusal.Refusal.{Refusal}
 use Rattle.pid_moderation.specs.declared.refusal.Refusal.TheVariants.{NoSubmission, Memory, Failed}
-use Rattle.pid_rows.specs.TableRows.{Standing}
-use Rattle.pid_table_lists.specs.ChangePages.{changes_in, start_text}
-use Rattle.pid_table_lists.specs.Children.{children_of}
-use Rattle.pid_table_lists.specs.Discussions.{discussion_in}
-use Rattle.pid_table_lists.specs.PendingPages.{pending_in}
-use Rattle.pid_table_lists.specs.declared.pages.TheConstants.{PAGE}
+use Rattle.pid_moderation.specs.Submissions.{Standing, discussion_in}
+use Rattle.pid_moderation.specs.ChangePages.{changes_in, start_text}
+use Rattle.pid_moderation.specs.Children.{children_of}
+use Rattle.pid_moderation.specs.PendingPages.{pending_in}
+use Rattle.pid_moderation.specs.declared.lists.TheConstants.{PAGE}
 use Rattle.pid_tree.specs.Printing.{print}
 use Rattle.pid_http_stream.specs.Replies.{Answer, answer_with}
 use Rattle.pid_http_stream.specs.declared.reply.Content.TheVariants.{Text}
-use Rattle.pid_http_stream.specs.declared.reply.Status.TheVariants.{Okay}
-use Rattle.pid_requests.specs.declared.format.Format.{Format}
-use Rattle.pid_requests.specs.declared.look_up.LookUpQuery.{LookUpQuery}
-use Rattle.pid_replies.specs.ChangeAnswers.{changes_answer}
-use Rattle.pid_replies.specs.ItemAnswers.{item_answer, items_answer}
-use Rattle.pid_replies.specs.LookUpAnswers.{look_up_answer}
-use Rattle.pid_replies.specs.Outcomes.{outcome_answer, missing_answer}
-use Rattle.pid_replies.specs.PendingAnswers.{pending_answer}
-use Rattle.pid_replies.specs.SubmissionAnswers.{submission_answer}
-use Rattle.pid_http.specs.Errands.{Errand, Answered, Denied, Obeys, Exports, Reads, Lists, LooksUp, Shows, Waits, Follows, format_of, known_answer}
+use Rattle.pid_http_requests.specs.declared.format.Format.{Format}
+use Rattle.pid_http_requests.specs.declared.lookup.LookupQuery.{LookupQuery}
+use Rattle.pid_http_replies.specs.ChangeAnswers.{changes_answer}
+use Rattle.pid_http_replies.specs.ItemAnswers.{item_answer, children_answer}
+use Rattle.pid_http_replies.specs.LookupAnswers.{lookup_answer}
+use Rattle.pid_http_replies.specs.Outcomes.{outcome_answer, missing_answer}
+use Rattle.pid_http_replies.specs.PendingAnswers.{pending_answer}
+use Rattle.pid_http_replies.specs.SubmissionAnswers.{submission_answer}
+use Rattle.pid_http.specs.Errands.{Errand, Answered, Denied, Obeys, Export, Read, Children, Lookup}
+use Rattle.pid_http.specs.Errands.{Submission, Pending, Changes, format_of, known_answer}
 
 -- the item at a path, or that there is none
-abbrev pub named_answer : Path → Format → Option (List ℕ) → Answer
-named_answer path format None = missing_answer format
-named_answer path format (Some name) = item_answer format (path_text path, name)
+abbrev pub item_or_missing : Path → Format → Option (List ℕ) → Answer
+item_or_missing path format None = missing_answer format
+item_or_missing path format (Some name) = item_answer format (path_text path, name)
 
 -- none where nothing is at the path
 abbrev pub items_if : Option (List ℕ) → Items → Option Items
@@ -45,40 +44,46 @@ items_if None items = None
 items_if (Some name) items = Some items
 
 -- the items right below a path, where one is at that; without a path those at the top
-abbrev pub items_below : Option Path → Items → Option Items
-items_below None items = Some (children_of None items)
-items_below (Some path) items = items_if (name_at (path_text path) items) (children_of (Some (path_text path)) items)
+abbrev pub children_below : Option Path → Items → Option Items
+children_below None items = Some (children_of None items)
+children_below (Some path) items = items_if (name_at (path_text path) items)
+    (children_of (Some (path_text path)) items)
 
 -- the items below a path, or that nothing is at the path
-abbrev pub listed_answer : Format → Option Items → Answer
-listed_answer format None = missing_answer format
-listed_answer format (Some items) = items_answer format items
+abbrev pub children_or_missing : Format → Option Items → Answer
+children_or_missing format None = missing_answer format
+children_or_missing format (Some items) = children_answer format items
 
 -- what a look-up finds over the tree, unless its flags are bad
-abbrev pub looked_up : LookUpQuery → History → Result Found (LookupRefusal Refusal)
-looked_up l h = if is_bad l.flags then Err look_ups.BadFlags else Ok (answer_of (tree_of h) l.flags l.args l.size)
+abbrev pub lookup_in : LookupQuery → History → Result Found (LookupRefusal Refusal)
+lookup_in l h = if is_bad l.flags then Err look_ups.BadFlags else Ok
+    (answer_of (tree_of h) l.flags l.args l.size)
 
 -- the submission with a number and its remarks, or that there is none
-abbrev pub shown_answer : ℕ → Format → Option (Standing × List Remark) → Answer
-shown_answer number format None = outcome_answer format (Err NoSubmission)
-shown_answer number format (Some discussion) = submission_answer format number discussion
+abbrev pub submission_or_missing : ℕ → Format → Option (Standing × List Remark) → Answer
+submission_or_missing number format None = outcome_answer format (Err NoSubmission)
+submission_or_missing number format (Some discussion) = submission_answer format number discussion
 
 -- the canonical text of the tree
 abbrev pub text_answer : History → Answer
-text_answer h = answer_with Okay Text (print (tree_of h))
+text_answer h = answer_with 200 Text (print (tree_of h))
 
 -- the answer over a history
 unfoldable pub answer_over : History → Errand → Answer
 answer_over h (Answered given) = given
 answer_over h (Denied refusal format) = outcome_answer format (Err refusal)
 answer_over h (Obeys command format) = outcome_answer format (answer (judge (views_of h) command))
-answer_over h Exports = text_answer h
-answer_over h (Reads path format) = named_answer path format (name_at (path_text path) (items_of h))
-answer_over h (Lists above format) = listed_answer format (items_below above (items_of h))
-answer_over h (LooksUp look_up) = look_up_answer (looked_up look_up h)
-answer_over h (Shows number format) = shown_answer number format (discussion_in (views_of h) number)
-answer_over h (Waits number format) = pending_answer format (pending_in PAGE number (views_of h))
-answer_over h (Follows since after format) = changes_answer format (changes_in PAGE since (start_text after) (views_of h))
+answer_over h Export = text_answer h
+answer_over h (Read path format) = item_or_missing path format
+    (name_at (path_text path) (items_of h))
+answer_over h (Children above format) = children_or_missing format
+    (children_below above (items_of h))
+answer_over h (Lookup lookup) = lookup_answer (lookup_in lookup h)
+answer_over h (Submission number format) = submission_or_missing number format
+    (discussion_in (views_of h) number)
+answer_over h (Pending number format) = pending_answer format (pending_in PAGE number (views_of h))
+answer_over h (Changes since after format) = changes_answer format
+    (changes_in PAGE since (start_text after) (views_of h))
 
 -- the history behind it: only a command that is accepted adds to the one before
 abbrev pub history_behind : History → Option Asked → History
@@ -87,7 +92,8 @@ history_behind h (Some command) = after h command
 
 -- the registry was asked, and refused it for this reason
 abbrev pub IsRefused : Errand → Refusal → Answer → Type 0
-IsRefused errand refusal given = (known_answer errand ≡ None) × (given ≡ outcome_answer (format_of errand) (Err refusal))
+IsRefused errand refusal given = (known_answer errand ≡ None)
+    × (given ≡ outcome_answer (format_of errand) (Err refusal))
 
 -- Memory was short for a command's sender or form, before the registry was asked.
 abbrev pub LacksForm : Errand → Answer → Type 0
@@ -95,6 +101,11 @@ LacksForm (Denied refusal format) given = given ≡ outcome_answer format (Err M
 LacksForm (Obeys command format) given = given ≡ outcome_answer format (Err Memory)
 LacksForm errand given = ⊥
 
--- The answer of a registry that has failed: what it is asked it refuses for that. What it is not asked is answered as ever.
-abbrev pub IsFailedAnswer : Errand → Answer → Type 0
-IsFailedAnswer errand given = IsRefused errand Failed given ⊎ ((known_answer errand ≡ Some given) ⊎ LacksForm errand given)
+-- the answer of a registry that has failed
+pub data IsFailedAnswer (errand : Errand) (given : Answer) : Type 0 where
+  -- what it is asked it refuses for that
+  Refused : IsRefused errand Failed given → IsFailedAnswer errand given
+  -- what it is not asked is answered as ever
+  AsEver : known_answer errand ≡ Some given → IsFailedAnswer errand given
+  -- out of memory before it was asked
+  Short : LacksForm errand given → IsFailedAnswer errand given

@@ -3,5 +3,5 @@ pub mod Known
 pub mod Answering
 pub mod Serving
 pub mod Sending
-pub mod Replying
-pub mod Handling
+pub mod Streams
+pub mod Steps

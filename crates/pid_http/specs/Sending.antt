@@ -1,13 +1,16 @@
 -- What the requests of a stream send a registry within its life. Choices of this project.
 use Rattle.std.specs.Prelude.{◌≡◌, ◌⊎◌, ℕ, List, [], ◌∷◌, ◌++◌, Option, Some, None}
 use Rattle.sqlite_trees.specs.declared.store.Store.{Ghosts}
-use Rattle.pid_lives.specs.Calls.{Call, StopsAt, sent_in}
-use Rattle.pid_lives.specs.Lives.{after_sent, commands_in}
+use Rattle.pid_service_laws.specs.Calls.{Call, StopsAt, sent_in}
+use Rattle.pid_service_laws.specs.Lives.{after_sent, commands_in}
 use Rattle.pid_moderation.specs.History.{Asked, History}
 use Rattle.pid_moderation.specs.Judgement.{after}
 use Rattle.pid_http_stream.specs.Requests.{Request, IsRequest}
 use Rattle.pid_http.specs.Errands.{command_in, errand_of}
+use Rattle.pid_http_stream.specs.Serving.{IsServed, Outside}
+use Rattle.pid_http_stream.specs.declared.stream.StreamEnd.{StreamEnd}
 use Rattle.pid_http.specs.Known.{Known, Live, Between, Told, ByCalls}
+use Rattle.pid_http.specs.Serving.{serving}
 
 -- the command, if there is one
 abbrev pub if_any : Option Asked → List Asked
@@ -22,10 +25,12 @@ commands_of (request ∷ requests) = if_any (command_in (errand_of request)) ++ 
 -- these are some of all of them, in their order
 abbrev pub AreSomeOf : List Asked → List Asked → Type 0
 AreSomeOf some [] = some ≡ []
-AreSomeOf some (command ∷ all) = AreSomeOf some all ⊎ ((others : List Asked) × (some ≡ command ∷ others) × AreSomeOf others all)
+AreSomeOf some (command ∷ all) = AreSomeOf some all
+    ⊎ ((others : List Asked) × (some ≡ command ∷ others) × AreSomeOf others all)
 
--- The calls sent some of the commands, in their order, and the registry shows the history behind these. Or they stopped at a later one of
--- the commands, at which it failed: what a crash may leave shows the history behind those that were sent, or behind that one too.
+-- The calls sent some of the commands, in their order, and the registry shows the history behind
+-- these. Or they stopped at a later one of the commands, at which it failed: what a crash may leave
+-- shows the history behind those that were sent, or behind that one too.
 abbrev pub SendsSome : History → List Asked → List Call → Known → Type 0
 SendsSome h commands calls k =
     (AreSomeOf (commands_in (sent_in calls)) commands × (k ≡ Live (after_sent h (sent_in calls))))
@@ -35,10 +40,20 @@ SendsSome h commands calls k =
 -- the requests stand at the front of the stream, one behind the other
 abbrev pub StandInFront : List ℕ → List Request → Type 0
 StandInFront stream [] = Unit {0}
-StandInFront stream (request ∷ requests) = (behind : List ℕ) × IsRequest stream request behind × StandInFront behind requests
+StandInFront stream (request ∷ requests) = (behind : List ℕ) × IsRequest stream request behind
+    × StandInFront behind requests
 
 -- requests at the front of the stream sent some of their commands
-pub record SendsOf {S : Type 0} (store : Ghosts S) (h : History) (t u : Told store) (stream : List ℕ) : Type 0 where
+pub record SendsOf {S : Type 0} (store : Ghosts S) (h : History) (t u : Told store)
+    (stream : List ℕ) : Type 0 where
   pub requests : List Request
   pub stand : StandInFront stream requests
   pub sends : ByCalls store t u (λ calls. SendsSome h (commands_of requests) calls u.known)
+
+-- A stream that was served of a registry that showed a history sent it, whichever way it ended,
+-- commands of requests at its front.
+abbrev pub StreamsSend : {S : Type 0} (store : Ghosts S) → Type 0
+StreamsSend store = (o : Outside (Told store)) (h : History) (stream : List ℕ)
+    (left : Option (List ℕ)) (end : StreamEnd) (count : ℕ) → o.handler.known ≡ Live h
+    → IsServed (serving store) o stream left end count
+    → SendsOf store h o.handler o.handler_after stream

@@ -1,15 +1,15 @@
 //! Commands, each with its reply.
 ghost use Rattle.std.specs.Prelude.{◌≡◌, Err};
-ghost use Rattle.pid_import.specs.Files.{asks};
-ghost use Rattle.pid_requests.specs.Commands.{command_made};
+ghost use Rattle.pid_tables.specs.Files.{asks};
+ghost use Rattle.pid_http_requests.specs.Commands.{command_made};
 ghost use Rattle.pid_http.specs.Errands as errands;
 ghost use Rattle.pid_http.specs.Errands.{commanded, sent};
-ghost use Rattle.pid_http.specs.Replying.{Replies, sending_in, sending_of};
+ghost use Rattle.pid_http.specs.Steps.Replying.{Replies, sending_in, sending_of};
 
+use pid_http_replies::{outcome_reply, refusal_reply};
+use pid_http_requests::{Format, Sender, command_in};
 use pid_http_stream::Reply;
 use pid_moderation::{Command, Refusal, Verb};
-use pid_replies::{outcome_reply, refusal_reply};
-use pid_requests::{Format, Sender, command_in};
 use pid_service::{Registry, clauses_meet_lives};
 use sqlite::Alter;
 use std::alloc::{AllocError, Global};
@@ -21,7 +21,8 @@ fn obey<S: Alter + Drop>(
     command: Command,
     format: Format,
 ) -> Result<Reply, AllocError>
-    ensures { Replies S.Store registry.old registry.new (errands.Obeys (asks command) format) result }
+    ensures { Replies S.Store registry.old registry.new
+        (errands.Obeys (asks command) format) result }
 {
     clauses_meet_lives::<S>();
     let outcome = registry.obey(command);
@@ -37,7 +38,8 @@ fn command_of<S: Alter + Drop>(
     sender: Sender<'_>,
     body: &[u8],
 ) -> Result<Reply, AllocError>
-    ensures { Replies S.Store registry.old registry.new (commanded format (command_made verb (sending_of sender.entry) body.now)) result }
+    ensures { Replies S.Store registry.old registry.new
+        (commanded format (command_made verb (sending_of sender.entry) body.now)) result }
 {
     match command_in(alloc, verb, sender, body) {
         Err(refusal) => refusal_reply(alloc, format, refusal),
@@ -54,7 +56,8 @@ pub(crate) fn command<S: Alter + Drop>(
     sender: Option<Sender<'_>>,
     body: &[u8],
 ) -> Result<Reply, AllocError>
-    ensures { Replies S.Store registry.old registry.new (sent format (λ s. command_made verb s body.now) (sending_in sender.entry)) result }
+    ensures { Replies S.Store registry.old registry.new
+        (sent format (λ s. command_made verb s body.now) (sending_in sender.entry)) result }
 {
     match sender {
         None => refusal_reply(alloc, format, Refusal::BadText),

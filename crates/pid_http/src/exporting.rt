@@ -1,11 +1,12 @@
 //! The canonical text of all items, whose length is told before it is written.
 ghost use Rattle.std.specs.Prelude.{◌≡◌, Ok};
 ghost use Rattle.pid_http.specs.Errands as errands;
-ghost use Rattle.pid_http.specs.Replying.{Replies};
+ghost use Rattle.pid_http.specs.Steps.Replying.{Replies};
 
-use pid_http_stream::{Content, Reply, ReplyBody, ReplyHead, Status};
-use pid_replies::refusal_reply;
-use pid_requests::Format;
+use http::StatusCode;
+use pid_http_replies::refusal_reply;
+use pid_http_requests::Format;
+use pid_http_stream::{Content, Reply, ReplyBody, ReplyHead};
 use pid_service::{Registry, clauses_meet_lives};
 use sqlite::Alter;
 use std::alloc::{AllocError, Global};
@@ -15,13 +16,13 @@ pub(crate) fn export<S: Alter + Drop>(
     alloc: Global,
     registry: &mut Registry<S>,
 ) -> Result<Reply, AllocError>
-    ensures { Replies S.Store registry.old registry.new errands.Exports result }
+    ensures { Replies S.Store registry.old registry.new errands.Export result }
 {
     clauses_meet_lives::<S>();
     match registry.export_length() {
         Ok(length) => Ok(Reply {
             head: ReplyHead {
-                status: Status::Okay,
+                status: StatusCode::OK,
                 content: Content::Text,
             },
             body: ReplyBody::Written(length),

@@ -1,22 +1,28 @@
 //! The service as what answers the requests of a stream.
 ghost use Rattle.std.specs.Prelude.{◌≡◌, IfOk};
 
-use crate::answering::answer;
+use crate::dispatch::answer;
 use crate::importing::import;
 use crate::service::Service;
-use pid_export::items_print_as_their_tree;
+use pid_http_requests::{Format, Question, question_of, sender_of};
 use pid_http_stream::{BodyStop, Handler, Head, NoReply, Reply, Wanted};
 use pid_ident::{Input, Output};
-use pid_requests::{Question, question_of, sender_of};
-use pid_service::{ExportFault, clauses_meet_lives};
+use pid_service::{ExportFault, clauses_meet_lives, items_print_as_their_tree};
 use sqlite::Alter;
 
 impl<S: Alter + Drop> Handler for Service<'_, '_, S> {
     ghost use Rattle.std.specs.Prelude.{◌≡◌, refl};
-    ghost use Rattle.pid_http.specs.Handling.{Writes, exports_text, same_on};
-    ghost use Rattle.pid_http.specs.Known.{IsTold, LivesOn, Told, lives_further, lives_still};
+    ghost use Rattle.pid_http.specs.Steps.Handling.{Writes, exports_text, same_on};
+    ghost use Rattle.pid_http.specs.Known.{IsTold, LivesOn, Told};
+    ghost use Rattle.pid_http.specs.Steps.Going.{lives_further, lives_still};
     ghost use Rattle.pid_http.specs.Serving.{serving};
+    ghost use Rattle.pid_http_requests.specs.Questions.{question};
     ghost use Rattle.pid_service.specs.Registries.{HasCleanDisk};
+
+    type Question = Question;
+
+    /// The format of the reply to an import.
+    type Upload = Format;
 
     ghost View = { Told S.Store };
 
@@ -24,15 +30,10 @@ impl<S: Alter + Drop> Handler for Service<'_, '_, S> {
 
     ghost is_good = { λ a. HasCleanDisk S.Store a.registry.now };
 
-    ghost becomes = { λ a b. (b.registry.ghost_name ≡ a.registry.ghost_name) × LivesOn S.Store a.registry.now b.registry.now };
+    ghost becomes = { λ a b. (b.registry.ghost_name ≡ a.registry.ghost_name)
+        × LivesOn S.Store a.registry.now b.registry.now };
 
-    ghost answers = { (serving S.Store).answers };
-
-    ghost leaves = { (serving S.Store).leaves };
-
-    ghost gives_up = { (serving S.Store).gives_up };
-
-    ghost promises = { (serving S.Store).promises };
+    ghost conduct = { serving S.Store };
 
     ghost writes = { Writes S.Store };
 
@@ -40,40 +41,39 @@ impl<S: Alter + Drop> Handler for Service<'_, '_, S> {
 
     ghost stays = { λ a. (refl, lives_still a.registry.now) };
 
-    ghost joins = { λ a b c p q. (same_on a.registry.ghost_name b.registry.ghost_name c.registry.ghost_name p.0 q.0, lives_further a.registry.now b.registry.now c.registry.now p.1 q.1) };
+    ghost joins = { λ a b c p q. (
+      same_on a.registry.ghost_name b.registry.ghost_name c.registry.ghost_name p.0 q.0,
+      lives_further a.registry.now b.registry.now c.registry.now p.1 q.1,
+    ) };
 
-    fn wants(&self, head: &Head<'_>) -> Wanted {
+    ghost means = { λ wanted head. wanted ≡ question head.method head.target };
+
+    fn question(&self, head: &Head<'_>) -> Result<Wanted<Question, Format>, NoReply> {
         match question_of(self.alloc, self.routes, head.method(), head.target()) {
-            Ok(Question::Import { .. }) => Wanted::Streamed,
-            Ok(_) | Err(_) => Wanted::Buffered,
+            Ok(wanted) => Ok(wanted),
+            Err(_) => Err(NoReply),
         }
     }
 
-    fn answer(&mut self, head: &Head<'_>, body: &[u8]) -> Result<Reply, NoReply> {
-        match question_of(self.alloc, self.routes, head.method(), head.target()) {
-            Ok(question) => {
-                let sender = sender_of(head);
-                match answer(self.alloc, self.registry, question, sender, body) {
-                    Ok(reply) => Ok(reply),
-                    Err(_) => Err(NoReply),
-                }
-            }
+    fn answer(
+        &mut self,
+        question: Question,
+        head: &Head<'_>,
+        body: &[u8],
+    ) -> Result<Reply, NoReply> {
+        match answer(self.alloc, self.registry, question, head, body) {
+            Ok(reply) => Ok(reply),
             Err(_) => Err(NoReply),
         }
     }
 
     fn answer_streamed<B: Input>(
         &mut self,
+        format: Format,
         head: &Head<'_>,
         body: &mut B,
     ) -> Result<Reply, NoReply> {
-        match question_of(self.alloc, self.routes, head.method(), head.target()) {
-            Ok(Question::Import { format }) => {
-                let sender = sender_of(head);
-                import(self.alloc, self.registry, format, sender, body)
-            }
-            Ok(_) | Err(_) => Err(NoReply),
-        }
+        import(self.alloc, self.registry, format, sender_of(head), body)
     }
 
     fn write_body<W: Output>(&mut self, out: &mut W) -> Result<(), BodyStop> {

@@ -1,22 +1,28 @@
 //! Imports, whose file is the body of the request, read as it comes.
-ghost use Rattle.std.specs.Prelude.{◌≡◌, ◌≤◌, ℕ, List, [], length, Some, Err, IfOk, IfSome, option_copied};
+ghost use Rattle.std.specs.Prelude.{
+  ◌≡◌,
+  [],
+  Some,
+  Err,
+  IfOk,
+  IfSome,
+  option_copied,
+};
 ghost use Rattle.std.specs.Io.KnownBytes.{IsAtEnd};
-ghost use Rattle.pid_import.specs.Files.{file_reading};
+ghost use Rattle.pid_tables.specs.Files.{file_reading};
 ghost use Rattle.pid_moderation.specs.BeforeFile.{import_of};
-ghost use Rattle.pid_http_stream.specs.BodyLengths.{longest_body};
-ghost use Rattle.pid_replies.specs.Outcomes.{outcome_answer};
-ghost use Rattle.pid_replies.specs.Replying.{IsReplyOf};
+ghost use Rattle.pid_http_replies.specs.Outcomes.{outcome_answer};
+ghost use Rattle.pid_http_replies.specs.Replying.{MakesReply};
 ghost use Rattle.pid_http.specs.Errands as errands;
 ghost use Rattle.pid_http.specs.Errands.{imported};
-ghost use Rattle.pid_http.specs.Replying.{IsMetBehind, sending_in, sending_of};
-ghost use Rattle.pid_http.specs.Known.{Goes};
+ghost use Rattle.pid_http.specs.Steps.Replying.{RepliesToFile, sending_in, sending_of};
 
+use pid_http_replies::outcome_reply;
+use pid_http_requests::{Format, Sender};
 use pid_http_stream::{LONGEST_BODY, NoReply, Reply, discard};
 use pid_ident::{Account, Input, Key, WordFault};
 use pid_moderation::{Refusal, Reply as Outcome};
 use pid_reader::skip_input;
-use pid_replies::outcome_reply;
-use pid_requests::{Format, Sender};
 use pid_service::{ImportEnd, Registry, clauses_meet_lives};
 use sqlite::Alter;
 use std::alloc::Global;
@@ -26,7 +32,7 @@ fn reply_with(
     format: Format,
     outcome: Result<Outcome, Refusal>,
 ) -> Result<Reply, NoReply>
-    ensures { IfOk result (λ reply. IsReplyOf reply (outcome_answer format outcome)) }
+    ensures { MakesReply result (outcome_answer format outcome) }
 {
     match outcome_reply(alloc, format, outcome) {
         Ok(reply) => Ok(reply),
@@ -43,7 +49,7 @@ fn deny<B: Input>(
 ) -> Result<Reply, NoReply>
     ensures goes { B.goes body.old body.new }
     ensures whole { IfOk result (λ _. IsAtEnd (B.to_come body.new)) }
-    ensures replied { IfOk result (λ reply. IsReplyOf reply (outcome_answer format (Err refusal))) }
+    ensures replied { MakesReply result (outcome_answer format (Err refusal)) }
 {
     match discard(body) {
         Ok(()) => reply_with(alloc, format, Err(refusal)),
@@ -51,7 +57,8 @@ fn deny<B: Input>(
     }
 }
 
-// Refuses an import that the registry refused: what is left of a file that is too long is read to its end.
+// Refuses an import that the registry refused: what is left of a file that is too long is read to
+// its end.
 fn refuse<B: Input>(
     alloc: Global,
     format: Format,
@@ -61,7 +68,7 @@ fn refuse<B: Input>(
     ensures goes { B.goes body.old body.new }
     ensures whole { IfOk result (λ _. IsAtEnd (B.to_come body.new)) }
     ensures ended { B.to_come body.old ≡ Some [] → B.to_come body.new ≡ Some [] }
-    ensures replied { IfOk result (λ reply. IsReplyOf reply (outcome_answer format (Err refusal))) }
+    ensures replied { MakesReply result (outcome_answer format (Err refusal)) }
 {
     match skip_input(LONGEST_BODY, body) {
         Ok(()) => reply_with(alloc, format, Err(refusal)),
@@ -80,8 +87,9 @@ fn take_in<S: Alter + Drop, B: Input>(
 ) -> Result<Reply, NoReply>
     ensures goes { B.goes body.old body.new }
     ensures whole { IfOk result (λ _. IsAtEnd (B.to_come body.new)) }
-    ensures replied { Goes S.Store registry.old registry.new (λ k calls now. (file : List ℕ) → B.to_come body.old ≡ Some file → length file ≤ longest_body
-        → IsMetBehind k (errands.Obeys (import_of account key (file_reading file)) format) result (B.to_come body.new) calls now) }
+    ensures replied { RepliesToFile S.Store registry.old registry.new
+        (B.to_come body.old) (B.to_come body.new)
+        (λ file. errands.Obeys (import_of account key (file_reading file)) format) result }
 {
     clauses_meet_lives::<S>();
     match registry.import_from(account, key, body) {
@@ -106,7 +114,8 @@ fn key_of(alloc: Global, key: Option<&str>) -> Result<Option<Key>, WordFault>
 
 // The account and the key of a sender; none where there is no memory for them.
 fn owner_of(alloc: Global, sender: Sender<'_>) -> Option<(Account, Option<Key>)>
-    ensures { IfSome result (λ owner. (owner.0 ≡ sender.entry.account.now) × (owner.1 ≡ option_copied sender.entry.key)) }
+    ensures { IfSome result (λ owner. (owner.0 ≡ sender.entry.account.now)
+        × (owner.1 ≡ option_copied sender.entry.key)) }
 {
     match Account::of(alloc, sender.account) {
         Ok(account) => match key_of(alloc, sender.key) {
@@ -127,8 +136,9 @@ fn import_of_sender<S: Alter + Drop, B: Input>(
 ) -> Result<Reply, NoReply>
     ensures goes { B.goes body.old body.new }
     ensures whole { IfOk result (λ _. IsAtEnd (B.to_come body.new)) }
-    ensures replied { Goes S.Store registry.old registry.new (λ k calls now. (file : List ℕ) → B.to_come body.old ≡ Some file → length file ≤ longest_body
-        → IsMetBehind k (imported format (Some (sending_of sender.entry)) file) result (B.to_come body.new) calls now) }
+    ensures replied { RepliesToFile S.Store registry.old registry.new
+        (B.to_come body.old) (B.to_come body.new)
+        (imported format (Some (sending_of sender.entry))) result }
 {
     match owner_of(alloc, sender) {
         None => deny(alloc, format, Refusal::Memory, body),
@@ -136,7 +146,8 @@ fn import_of_sender<S: Alter + Drop, B: Input>(
     }
 }
 
-/// Has an import obeyed whose file is the body. The sender is judged first, but told only behind the body.
+/// Has an import obeyed whose file is the body. The sender is judged first, but told only behind
+/// the body.
 pub(crate) fn import<S: Alter + Drop, B: Input>(
     alloc: Global,
     registry: &mut Registry<S>,
@@ -146,8 +157,9 @@ pub(crate) fn import<S: Alter + Drop, B: Input>(
 ) -> Result<Reply, NoReply>
     ensures goes { B.goes body.old body.new }
     ensures whole { IfOk result (λ _. IsAtEnd (B.to_come body.new)) }
-    ensures replied { Goes S.Store registry.old registry.new (λ k calls now. (file : List ℕ) → B.to_come body.old ≡ Some file → length file ≤ longest_body
-        → IsMetBehind k (imported format (sending_in sender.entry) file) result (B.to_come body.new) calls now) }
+    ensures replied { RepliesToFile S.Store registry.old registry.new
+        (B.to_come body.old) (B.to_come body.new)
+        (imported format (sending_in sender.entry)) result }
 {
     match sender {
         None => deny(alloc, format, Refusal::BadText, body),

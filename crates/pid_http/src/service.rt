@@ -1,9 +1,5 @@
 //! A registry behind the routes.
-ghost use Rattle.std.specs.Prelude.{◌≡◌};
-ghost use Rattle.pid_requests.specs.Routes.{table};
-
-use matchit::Router;
-use pid_requests::Route;
+use pid_http_requests::Routes;
 use pid_service::Registry;
 use sqlite::Alter;
 use std::alloc::Global;
@@ -13,6 +9,5 @@ use std::alloc::Global;
 pub(crate) struct Service<'r, 't, S: Alter + Drop> {
     pub(crate) alloc: Global,
     pub(crate) registry: &'r mut Registry<S>,
-    pub(crate) routes: &'t Router<Route>,
-    ghost routed: { routes.now ≡ table },
+    pub(crate) routes: &'t Routes,
 }

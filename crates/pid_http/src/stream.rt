@@ -1,42 +1,111 @@
 //! A stream of requests over a registry.
-ghost use Rattle.std.specs.Prelude.{◌≡◌, None, ℕ, ◌+◌, ◌-◌, ◌^◌, ◌≤◌, IfSome, IsSome};
-ghost use Rattle.pid_http_stream.specs.Leading.{Leads};
+ghost use Rattle.std.specs.Prelude.{⊤};
+ghost use Rattle.pid_http_stream.specs.Causes.{EndsFor};
 ghost use Rattle.pid_http_stream.specs.Moments.{AllSince};
-ghost use Rattle.pid_http_stream.specs.Serving.{IsCaughtUp, IsServed};
-ghost use Rattle.pid_requests.specs.Routes.{table};
-ghost use Rattle.pid_http.specs.Known.{IsTold, LivesOn};
+ghost use Rattle.pid_http_stream.specs.Serving.{IsCaughtUp, IsServed, outside};
+ghost use Rattle.pid_http.specs.Known.{LivesOn};
 ghost use Rattle.pid_http.specs.Serving.{serving};
-ghost use Rattle.pid_service.specs.Registries.{HasCleanDisk};
+ghost use Rattle.pid_http.specs.Streams.{OverStream};
 
 use crate::service::Service;
-use matchit::Router;
+use pid_http_requests::Routes;
 use pid_http_stream::{Incoming, Served, StreamEnd, serve_stream as serve_requests};
 use pid_ident::Output;
-use pid_requests::{Route, build_routes};
 use pid_service::Registry;
 use sqlite::Alter;
 use std::alloc::Global;
 
-// Answers the requests of a stream by these routes.
-fn serve_by<S: Alter + Drop, I: Incoming<W>, W: Output>(
+/// Answers the requests of a stream over a registry, one after another, in at most so many reads.
+///
+/// Each reply is that to the request over the history that the registry shows then, and the writer
+/// has taken it before another read is made. What the calls of the registry's life send it are the
+/// commands of these requests, in their order. Where memory is short or the store fails the reply
+/// is that refusal; where the registry failed so at a command, each later request that asks
+/// something of it is told so, and it has to be opened anew. Bodies and replies are held in memory,
+/// but for the file of an import and the text of all items, which pass through in pieces (tested
+/// over sockets, no clause says it).
+///
+/// # How it ends
+///
+/// - `Clean`, `Closed`, `HeadFault`, `BodyFault`: all requests of the stream were answered, behind
+///   them the refusal of what is none.
+/// - `ReadFault`, `TurnsSpent`: the requests that came whole were answered.
+/// - `Memory`: the requests before were answered; the next may have been obeyed.
+/// - `WriteFault`: the requests before were answered, and a front of the next reply was written,
+///   which may be all of it where the writer failed behind it; the next may have been obeyed.
+/// - `StoreFault`: the same within the text of all items, which the store failed or memory cut
+///   short, over a writer that is good.
+///
+/// Where there is no memory for the routes it ends so before anything is read. A server makes them
+/// once, and calls `serve_with`.
+pub fn serve_stream<S: Alter + Drop, I: Incoming<W>, W: Output>(
     alloc: Global,
     registry: &mut Registry<S>,
-    routes: &Router<Route>,
     reader: &mut I,
     writer: &mut W,
     turns: u64,
 ) -> Served
-    requires { routes.now ≡ table }
-    ensures served { Leads (HasCleanDisk S.Store) (IsTold S.Store) registry.old registry.new (λ t u. IfSome (I.to_come reader.old) (λ stream. IsServed (serving S.Store)
-        (record { handler = t; handler_after = u; taken = W.taken writer.old; taken_after = W.taken writer.new }) stream (I.to_come reader.new) result.end result.answered)) }
-    ensures caught_up { Leads (HasCleanDisk S.Store) (IsTold S.Store) registry.old registry.new (λ t _. IfSome (I.to_come reader.old) (λ stream.
-        AllSince (IsCaughtUp (serving S.Store) t (W.taken writer.old) stream) (I.moments reader.old) (I.moments reader.new))) }
+    // The bytes are the replies to the stream's requests over the histories that the registry
+    // shows, and it shows the one behind them. The commands of the requests are what the calls of
+    // its life sent it. As `t` a reader takes what is told of the registry at the start: `start` is
+    // this registry, there are no `calls` yet, and `known` is `Live h` where it shows the history
+    // `h`, `Down` where it had failed earlier.
+    ensures served { OverStream S.Store registry.old registry.new (I.to_come reader.old)
+        (λ t u stream. IsServed (serving S.Store)
+        (outside t u (W.taken writer.old) (W.taken writer.new))
+        stream (I.to_come reader.new) result.end result.answered) }
+    // Whenever the reader was read, the requests that had come were answered, and the writer had
+    // taken the replies.
+    ensures caught_up { OverStream S.Store registry.old registry.new (I.to_come reader.old)
+        (λ t _ stream. AllSince (IsCaughtUp (serving S.Store) t (W.taken writer.old) stream)
+        (I.moments reader.old) (I.moments reader.new)) }
+    // Whatever the bytes are and wherever it ends, it is a part of the registry's life; and one
+    // that has failed stays as it is.
     ensures lives { LivesOn S.Store registry.old registry.new }
-    ensures reads { I.reads reader.new ≤ I.reads reader.old + turns }
-    ensures turns { result.end ≡ StreamEnd.TurnsSpent → I.reads reader.old + turns ≤ 2 ^ 64 - 1 → I.reads reader.new ≡ I.reads reader.old + turns }
-    ensures read_fault { result.end ≡ StreamEnd.ReadFault → IsSome (I.read_fault reader.new) }
-    ensures write_fault { result.end ≡ StreamEnd.WriteFault → IsSome (W.write_fault writer.new) }
-    ensures store_fault { result.end ≡ StreamEnd.StoreFault → W.write_fault writer.new ≡ None }
+    ensures ended { EndsFor result.end (record {
+      read_fault = I.read_fault reader.new;
+      write_fault = W.write_fault writer.new;
+      stuck = ⊤;
+      turns = turns;
+      reads = I.reads reader.old;
+      reads_after = I.reads reader.new;
+    }) }
+    ensures goes { I.goes reader.old reader.new }
+{
+    let Ok(routes) = Routes::new(alloc) else {
+        return Served {
+            answered: 0,
+            end: StreamEnd::Memory,
+        };
+    };
+    serve_with(alloc, &routes, registry, reader, writer, turns)
+}
+
+/// The same by routes that were made before.
+pub fn serve_with<S: Alter + Drop, I: Incoming<W>, W: Output>(
+    alloc: Global,
+    routes: &Routes,
+    registry: &mut Registry<S>,
+    reader: &mut I,
+    writer: &mut W,
+    turns: u64,
+) -> Served
+    ensures served { OverStream S.Store registry.old registry.new (I.to_come reader.old)
+        (λ t u stream. IsServed (serving S.Store)
+        (outside t u (W.taken writer.old) (W.taken writer.new))
+        stream (I.to_come reader.new) result.end result.answered) }
+    ensures caught_up { OverStream S.Store registry.old registry.new (I.to_come reader.old)
+        (λ t _ stream. AllSince (IsCaughtUp (serving S.Store) t (W.taken writer.old) stream)
+        (I.moments reader.old) (I.moments reader.new)) }
+    ensures lives { LivesOn S.Store registry.old registry.new }
+    ensures ended { EndsFor result.end (record {
+      read_fault = I.read_fault reader.new;
+      write_fault = W.write_fault writer.new;
+      stuck = ⊤;
+      turns = turns;
+      reads = I.reads reader.old;
+      reads_after = I.reads reader.new;
+    }) }
     ensures goes { I.goes reader.old reader.new }
 {
     let mut service = Service {
@@ -45,53 +114,4 @@ fn serve_by<S: Alter + Drop, I: Incoming<W>, W: Output>(
         routes,
     };
     serve_requests(alloc, &mut service, reader, writer, turns)
-}
-
-/// Answers the requests of a stream over a registry, one after another, in at most so many reads.
-///
-/// Each reply is that to the request over the history that the registry shows then, and the writer has taken it before another read is
-/// made. What the calls of the registry's life send it are the commands of these requests, in their order. Where memory is short or the store fails the reply is that refusal; where the registry failed so at a command, each later
-/// request that asks something of it is told so, and it has to be opened anew. Bodies and replies are held in memory, but for
-/// the file of an import and the text of all items, which pass through in pieces (tested over sockets, no clause says it).
-///
-/// # How it ends
-///
-/// - `Clean`, `Closed`, `HeadFault`, `BodyFault`: all requests of the stream were answered, behind them the refusal of what is none.
-/// - `ReadFault`, `TurnsSpent`: the requests that came whole were answered.
-/// - `Memory`: the requests before were answered; the next may have been obeyed.
-/// - `WriteFault`: the requests before were answered, and a front of the next reply was written, which may be all of it where the
-///   writer failed behind it; the next may have been obeyed.
-/// - `StoreFault`: the same within the text of all items, which the store failed or memory cut short, over a writer that is good.
-pub fn serve_stream<S: Alter + Drop, I: Incoming<W>, W: Output>(
-    alloc: Global,
-    registry: &mut Registry<S>,
-    reader: &mut I,
-    writer: &mut W,
-    turns: u64,
-) -> Served
-    // The bytes are the replies to the stream's requests over the histories that the registry shows, and it shows the one behind them.
-    // The commands of the requests are what the calls of its life sent it. As `t` a reader takes what is told of the registry at the
-    // start: `start` is this registry, there are no `calls` yet, and `known` is `Live h` where it shows the history `h`, `Down` where it
-    // had failed earlier.
-    ensures served { Leads (HasCleanDisk S.Store) (IsTold S.Store) registry.old registry.new (λ t u. IfSome (I.to_come reader.old) (λ stream. IsServed (serving S.Store)
-        (record { handler = t; handler_after = u; taken = W.taken writer.old; taken_after = W.taken writer.new }) stream (I.to_come reader.new) result.end result.answered)) }
-    // Whenever the reader was read, the requests that had come were answered, and the writer had taken the replies.
-    ensures caught_up { Leads (HasCleanDisk S.Store) (IsTold S.Store) registry.old registry.new (λ t _. IfSome (I.to_come reader.old) (λ stream.
-        AllSince (IsCaughtUp (serving S.Store) t (W.taken writer.old) stream) (I.moments reader.old) (I.moments reader.new))) }
-    // Whatever the bytes are and wherever it ends, it is a part of the registry's life; and one that has failed stays as it is.
-    ensures lives { LivesOn S.Store registry.old registry.new }
-    ensures reads { I.reads reader.new ≤ I.reads reader.old + turns }
-    ensures turns { result.end ≡ StreamEnd.TurnsSpent → I.reads reader.old + turns ≤ 2 ^ 64 - 1 → I.reads reader.new ≡ I.reads reader.old + turns }
-    ensures read_fault { result.end ≡ StreamEnd.ReadFault → IsSome (I.read_fault reader.new) }
-    ensures write_fault { result.end ≡ StreamEnd.WriteFault → IsSome (W.write_fault writer.new) }
-    ensures store_fault { result.end ≡ StreamEnd.StoreFault → W.write_fault writer.new ≡ None }
-    ensures goes { I.goes reader.old reader.new }
-{
-    let Ok(routes) = build_routes(alloc) else {
-        return Served {
-            answered: 0,
-            end: StreamEnd::Memory,
-        };
-    };
-    serve_by(alloc, registry, &routes, reader, writer, turns)
 }

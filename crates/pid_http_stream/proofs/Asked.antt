@@ -12,11 +12,11 @@ use Rattle.pid_http_stream.specs.BodyLengths.{longest_body}
 use Rattle.pid_http_stream.specs.Conducts.{Conduct, StandsStill}
 use Rattle.pid_http_stream.specs.Endings.{IsShort}
 use Rattle.pid_http_stream.specs.Handling.{MayReply, IsAsked}
-use Rattle.pid_http_stream.specs.Intakes.{IsWaiting, StandsAt}
+use Rattle.pid_http_stream.specs.Steps.Intakes.{IsWaiting, StandsAt}
 use Rattle.pid_http_stream.specs.MomentLaws.{since_so}
 use Rattle.pid_http_stream.specs.Moments.{AllSince}
 use Rattle.pid_http_stream.specs.Requests.{Request, IsRequest}
-use Rattle.pid_http_stream.specs.Steps.{IsAskedOver, Asks, whole_so, broken_so, asked_so}
+use Rattle.pid_http_stream.specs.Steps.Loop.{FrontHead, IsAskedOver, Asks, whole_so, broken_so, asked_so}
 use Rattle.pid_http_stream.specs.declared.asking.Asked.TheVariants as asked
 use Rattle.pid_http_stream.specs.declared.body_input.BodyFault.{BodyFault}
 use Rattle.pid_http_stream.specs.declared.body_input.BodyFault.TheVariants as faults
@@ -110,10 +110,10 @@ told_at P held headers spans w A B r s e told =
 
 pub reply_made : {H : Type 0} (conduct : Conduct H) (a b : H) (held : List ℕ) (headers : List HeaderSpan) (spans : RequestSpans) (w : ℕ) (A B : BodyState) → Reading held headers spans w A B → (reply : Reply)
     → B.wanted ≡ 0 → Told (λ request. MayReply conduct a request reply b) held headers spans A
-    → IfSome A.to_come (λ _. Asks conduct (record { a = a; b = b; input = A.to_come; input_after = B.to_come }) held headers spans w (asked.Reply reply))
+    → IfSome A.to_come (λ _. Asks conduct (record { a = a; b = b; input = A.to_come; input_after = B.to_come }) (record { held = held; headers = headers; spans = spans; content_length = w }) (asked.Reply reply))
 reply_made conduct a b held headers spans w A B r reply none told = by_known A.to_come refl
   where
-    by_known : (o : Option (List ℕ)) → A.to_come ≡ o → IfSome o (λ _. Asks conduct (record { a = a; b = b; input = A.to_come; input_after = B.to_come }) held headers spans w (asked.Reply reply))
+    by_known : (o : Option (List ℕ)) → A.to_come ≡ o → IfSome o (λ _. Asks conduct (record { a = a; b = b; input = A.to_come; input_after = B.to_come }) (record { held = held; headers = headers; spans = spans; content_length = w }) (asked.Reply reply))
     by_known None e = tt
     by_known (Some s) e =
         let k = known s B.to_come r.read.came (subst (λ (x : Option (List ℕ)). Consumes x B.to_come r.read.came) e r.read.consumed) in
@@ -131,7 +131,7 @@ Lacks conduct a b B request = StandsStill conduct a b ⊎ (IsAtEnd (option_map (
 
 pub no_memory : {H : Type 0} (conduct : Conduct H) (a b : H) (held : List ℕ) (headers : List HeaderSpan) (spans : RequestSpans) (w : ℕ) (A B : BodyState) → Reading held headers spans w A B
     → B.wanted ≡ 0 → Told (Lacks conduct a b B) held headers spans A
-    → IfSome A.to_come (λ _. Asks conduct (record { a = a; b = b; input = A.to_come; input_after = B.to_come }) held headers spans w asked.NoMemory)
+    → IfSome A.to_come (λ _. Asks conduct (record { a = a; b = b; input = A.to_come; input_after = B.to_come }) (record { held = held; headers = headers; spans = spans; content_length = w }) asked.NoMemory)
 no_memory conduct a b held headers spans w A B r none told = by_known A.to_come refl
   where
     lacks : (s more : List ℕ) → s ≡ r.read.came ++ more → Lacks conduct a b B (record { head = r.stands.found.0; body = body_of A s })
@@ -139,7 +139,7 @@ no_memory conduct a b held headers spans w A B r none told = by_known A.to_come 
     lacks s more e (inl stands) = inl stands
     lacks s more e (inr (end, left)) = inr (record { head = r.stands.found.0; body = body_of A s }, whole_request held headers spans w A B r s more none e, left)
 
-    by_known : (o : Option (List ℕ)) → A.to_come ≡ o → IfSome o (λ _. Asks conduct (record { a = a; b = b; input = A.to_come; input_after = B.to_come }) held headers spans w asked.NoMemory)
+    by_known : (o : Option (List ℕ)) → A.to_come ≡ o → IfSome o (λ _. Asks conduct (record { a = a; b = b; input = A.to_come; input_after = B.to_come }) (record { held = held; headers = headers; spans = spans; content_length = w }) asked.NoMemory)
     by_known None e = tt
     by_known (Some s) e =
         let k = known s B.to_come r.read.came (subst (λ (y : Option (List ℕ)). Consumes y B.to_come r.read.came) e r.read.consumed) in
@@ -177,10 +177,10 @@ is_left conduct a b held headers spans w A B r result s e some told whole =
 
 pub left_unread : {H E : Type 0} (conduct : Conduct H) (a b : H) (held : List ℕ) (headers : List HeaderSpan) (spans : RequestSpans) (w : ℕ) (A B : BodyState) (r : Reading held headers spans w A B) (result : Result Reply E)
     → 0 < B.wanted → Told (λ request. IsAsked conduct a request result (option_map (λ y. padded B.wanted (B.held ++ y)) B.to_come) b) held headers spans A → IfOk result (λ _. IsAtEnd (option_map (λ y. padded B.wanted (B.held ++ y)) B.to_come))
-    → IfSome A.to_come (λ _. Asks conduct (record { a = a; b = b; input = A.to_come; input_after = B.to_come }) held headers spans w asked.NoMemory)
+    → IfSome A.to_come (λ _. Asks conduct (record { a = a; b = b; input = A.to_come; input_after = B.to_come }) (record { held = held; headers = headers; spans = spans; content_length = w }) asked.NoMemory)
 left_unread {H} conduct a b held headers spans w A B r result some told whole = by_known A.to_come refl
   where
-    by_known : (o : Option (List ℕ)) → A.to_come ≡ o → IfSome o (λ _. Asks conduct (record { a = a; b = b; input = A.to_come; input_after = B.to_come }) held headers spans w asked.NoMemory)
+    by_known : (o : Option (List ℕ)) → A.to_come ≡ o → IfSome o (λ _. Asks conduct (record { a = a; b = b; input = A.to_come; input_after = B.to_come }) (record { held = held; headers = headers; spans = spans; content_length = w }) asked.NoMemory)
     by_known None e = tt
     by_known (Some s) e =
         let l = is_left conduct a b held headers spans w A B r result s e some told whole in
@@ -199,36 +199,36 @@ broken_short held headers spans w A B r fault off =
     (short_body (drop spans.len held) r.read.came r.read.used w r.n r.n_is
     (ap (λ (l : List ℕ). l ++ r.read.came) (sym r.held_is) ∙ r.read.given ∙ ap (λ (l : List ℕ). r.read.used ++ l) off.none_held ∙ append-nil r.read.used) (omega arith))
 
-broken_as : {H : Type 0} (conduct : Conduct H) (a b : H) (held : List ℕ) (headers : List HeaderSpan) (spans : RequestSpans) (all rest : List ℕ) (B : BodyState) (fault : BodyFault) (input : Option (List ℕ)) → HasBrokenOff B fault → StandsStill conduct a b → IsShort all
-    → IsAskedOver conduct (record { a = a; b = b; input = input; input_after = B.to_come }) held headers spans all rest (asked.Broken fault)
-broken_as conduct a b held headers spans all rest B faults.Short input off stands short = (stands, off.cause, short)
-broken_as conduct a b held headers spans all rest B faults.ReadFault input off stands short = (stands, inr short)
-broken_as conduct a b held headers spans all rest B faults.TurnsSpent input off stands short = (stands, inr short)
+broken_as : {H : Type 0} (conduct : Conduct H) (a b : H) (front : FrontHead) (came : List ℕ) (B : BodyState) (fault : BodyFault) (input : Option (List ℕ)) → HasBrokenOff B fault → StandsStill conduct a b → IsShort (front.held ++ came)
+    → IsAskedOver conduct (record { a = a; b = b; input = input; input_after = B.to_come }) (record { front = front; came = came }) (asked.Broken fault)
+broken_as conduct a b front came B faults.Short input off stands short = (stands, off.cause, short)
+broken_as conduct a b front came B faults.ReadFault input off stands short = (stands, inr short)
+broken_as conduct a b front came B faults.TurnsSpent input off stands short = (stands, inr short)
 
 -- the body broke off
 pub broken : {H E : Type 0} (conduct : Conduct H) (a b : H) (held : List ℕ) (headers : List HeaderSpan) (spans : RequestSpans) (w : ℕ) (A B : BodyState) (r : Reading held headers spans w A B) (result : Result Reply E) (fault : BodyFault)
     → B.fault ≡ Some fault → Told (λ request. IsAsked conduct a request result (option_map (λ y. padded B.wanted (B.held ++ y)) B.to_come) b) held headers spans A → IfOk result (λ _. IsAtEnd (option_map (λ y. padded B.wanted (B.held ++ y)) B.to_come))
-    → IfSome A.to_come (λ _. Asks conduct (record { a = a; b = b; input = A.to_come; input_after = B.to_come }) held headers spans w (asked.Broken fault))
+    → IfSome A.to_come (λ _. Asks conduct (record { a = a; b = b; input = A.to_come; input_after = B.to_come }) (record { held = held; headers = headers; spans = spans; content_length = w }) (asked.Broken fault))
 broken {H} conduct a b held headers spans w A B r result fault f told whole = by_known A.to_come refl
   where
-    by_known : (o : Option (List ℕ)) → A.to_come ≡ o → IfSome o (λ _. Asks conduct (record { a = a; b = b; input = A.to_come; input_after = B.to_come }) held headers spans w (asked.Broken fault))
+    by_known : (o : Option (List ℕ)) → A.to_come ≡ o → IfSome o (λ _. Asks conduct (record { a = a; b = b; input = A.to_come; input_after = B.to_come }) (record { held = held; headers = headers; spans = spans; content_length = w }) (asked.Broken fault))
     by_known None e = tt
     by_known (Some s) e =
         let off = broken_told held headers spans w A B r fault f in
         let l = is_left conduct a b held headers spans w A B r result s e off.wants told whole in
-        record { came = r.read.came; more = l.0; before = l.1.before; after = l.1.after; is = broken_as conduct a b held headers spans (held ++ r.read.came) (drop (spans.len + w) held) B fault A.to_come off l.1.stands (broken_short held headers spans w A B r fault off) }
+        record { came = r.read.came; more = l.0; before = l.1.before; after = l.1.after; is = broken_as conduct a b (record { held = held; headers = headers; spans = spans; content_length = w }) r.read.came B fault A.to_come off l.1.stands (broken_short held headers spans w A B r fault off) }
 
 -- ---- all of it, by what the code tells
 
 asked_whole : {H E : Type 0} (conduct : Conduct H) (a b : H) (held : List ℕ) (headers : List HeaderSpan) (spans : RequestSpans) (w : ℕ) (A B : BodyState) (r : Reading held headers spans w A B) (result : Result Reply E)
     → B.wanted ≡ 0 → Told (λ request. IsAsked conduct a request result (option_map (λ y. padded B.wanted (B.held ++ y)) B.to_come) b) held headers spans A
-    → IfSome A.to_come (λ _. Asks conduct (record { a = a; b = b; input = A.to_come; input_after = B.to_come }) held headers spans w (whole_so result))
+    → IfSome A.to_come (λ _. Asks conduct (record { a = a; b = b; input = A.to_come; input_after = B.to_come }) (record { held = held; headers = headers; spans = spans; content_length = w }) (whole_so result))
 asked_whole conduct a b held headers spans w A B r (Ok reply) none told = reply_made conduct a b held headers spans w A B r reply none told
 asked_whole conduct a b held headers spans w A B r (Err x) none told = no_memory conduct a b held headers spans w A B r none told
 
 asked_broken : {H E : Type 0} (conduct : Conduct H) (a b : H) (held : List ℕ) (headers : List HeaderSpan) (spans : RequestSpans) (w : ℕ) (A B : BodyState) (r : Reading held headers spans w A B) (result : Result Reply E) (fault : Option BodyFault)
     → B.fault ≡ fault → 0 < B.wanted → Told (λ request. IsAsked conduct a request result (option_map (λ y. padded B.wanted (B.held ++ y)) B.to_come) b) held headers spans A → IfOk result (λ _. IsAtEnd (option_map (λ y. padded B.wanted (B.held ++ y)) B.to_come))
-    → IfSome A.to_come (λ _. Asks conduct (record { a = a; b = b; input = A.to_come; input_after = B.to_come }) held headers spans w (broken_so fault))
+    → IfSome A.to_come (λ _. Asks conduct (record { a = a; b = b; input = A.to_come; input_after = B.to_come }) (record { held = held; headers = headers; spans = spans; content_length = w }) (broken_so fault))
 asked_broken conduct a b held headers spans w A B r result None e some told whole = left_unread conduct a b held headers spans w A B r result some told whole
 asked_broken conduct a b held headers spans w A B r result (Some fault) e some told whole = broken conduct a b held headers spans w A B r result fault e told whole
 
@@ -238,10 +238,10 @@ some_left (suc n) e = omega arith
 
 pub asked_is : {H E : Type 0} (conduct : Conduct H) (a b : H) (held : List ℕ) (headers : List HeaderSpan) (spans : RequestSpans) (w : ℕ) (A B : BodyState) (r : Reading held headers spans w A B) (result : Result Reply E)
     → Told (λ request. IsAsked conduct a request result (option_map (λ y. padded B.wanted (B.held ++ y)) B.to_come) b) held headers spans A → IfOk result (λ _. IsAtEnd (option_map (λ y. padded B.wanted (B.held ++ y)) B.to_come))
-    → IfSome A.to_come (λ _. Asks conduct (record { a = a; b = b; input = A.to_come; input_after = B.to_come }) held headers spans w (asked_so result B.wanted B.fault))
+    → IfSome A.to_come (λ _. Asks conduct (record { a = a; b = b; input = A.to_come; input_after = B.to_come }) (record { held = held; headers = headers; spans = spans; content_length = w }) (asked_so result B.wanted B.fault))
 asked_is {H} {E} conduct a b held headers spans w A B r result told whole = by_test (B.wanted == 0) refl
   where
-    by_test : (t : Bool) → (B.wanted == 0) ≡ t → IfSome A.to_come (λ _. Asks conduct (record { a = a; b = b; input = A.to_come; input_after = B.to_come }) held headers spans w (if t then whole_so result else broken_so B.fault))
+    by_test : (t : Bool) → (B.wanted == 0) ≡ t → IfSome A.to_come (λ _. Asks conduct (record { a = a; b = b; input = A.to_come; input_after = B.to_come }) (record { held = held; headers = headers; spans = spans; content_length = w }) (if t then whole_so result else broken_so B.fault))
     by_test true e = asked_whole conduct a b held headers spans w A B r result (eqb-true B.wanted 0 e) told
     by_test false e = asked_broken conduct a b held headers spans w A B r result B.fault refl (some_left B.wanted e) told whole
 

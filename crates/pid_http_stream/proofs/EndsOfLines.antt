@@ -4,7 +4,7 @@ use Rattle.std.specs.Prelude.{IsTrue, ◌↔◌, ◌==◌, not, ◌&&◌, if◌t
 use Rattle.std.proofs.lemmas.Bool.{eqb-true, eq-eqb}
 use Rattle.std.proofs.lemmas.List.Elements.{All-cons, All-nil, All-head, All-tail}
 use Rattle.pid_http_stream.specs.Leftovers.{AreLineEnds}
-use Rattle.pid_http_stream.specs.LineScans.{blank_after}
+use Rattle.pid_http_stream.specs.Steps.LineScans.{blank_after}
 
 -- what is scanned behind a CR does not begin with another
 abbrev Begins : Bool → List ℕ → Type 0

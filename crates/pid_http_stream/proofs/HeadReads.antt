@@ -9,7 +9,7 @@ use Rattle.std.proofs.lemmas.List.Elements.{All-nil, All-append}
 use Rattle.httparse.specs.Ascii.{line_feed}
 use Rattle.httparse.specs.Grammar.{HasNoRequest as HasNoRequestHead, MayBecomeRequest as MayBecomeHead}
 use Rattle.pid_http_stream.specs.Endings.{HasFault, IsNoHead}
-use Rattle.pid_http_stream.specs.Intakes.{ComesIn, IsWaiting}
+use Rattle.pid_http_stream.specs.Steps.Intakes.{ComesIn, IsWaiting}
 use Rattle.pid_http_stream.specs.Leftovers.{AreLineEnds}
 use Rattle.pid_http_stream.specs.MomentLaws.{since_then, since_so}
 use Rattle.pid_http_stream.specs.Moments.{Moment, AllSince, IsMoment}

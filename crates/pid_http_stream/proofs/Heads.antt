@@ -16,9 +16,9 @@ use Rattle.pid_http_stream.specs.Heads.{HasHead}
 use Rattle.pid_http_stream.specs.Leftovers.{AreLineEnds, IsLeftover}
 use Rattle.pid_http_stream.specs.Requests.{Request, IsRequest, HasNoRequest, fields_of}
 use Rattle.pid_http_stream.specs.Endings.{Says, IsShort, IsNoHead}
-use Rattle.pid_http_stream.specs.Intakes.{StandsAt}
+use Rattle.pid_http_stream.specs.Steps.Intakes.{StandsAt}
 use Rattle.pid_http_stream.specs.Unfinished.{HasNoLineEnd, IsUnfinished}
-use Rattle.pid_http_stream.specs.LineScans.{blank_after}
+use Rattle.pid_http_stream.specs.Steps.LineScans.{blank_after}
 use Rattle.pid_http_stream.proofs.EndsOfLines.{all_scanned}
 use Rattle.pid_http_stream.specs.declared.body_length.BodyLength.{BodyLength}
 use Rattle.pid_http_stream.specs.declared.body_length.BodyLength.TheVariants.{Bytes}

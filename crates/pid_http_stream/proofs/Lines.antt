@@ -6,26 +6,29 @@ use Rattle.pid_ident.specs.Sending.{Sends, SendsFront}
 use Rattle.std.specs.Io.KnownBytes.{Appends}
 use Rattle.std.proofs.KnownBytes.{Appends-trans}
 use Rattle.std.proofs.Math.Seq.{take-append-add}
+use Rattle.http.specs.StatusCode.{code_digits}
 use Rattle.pid_http_stream.specs.Conducts.{Conduct}
-use Rattle.pid_http_stream.specs.Replies.{Answer, answer_behind, status_line, type_line, allow_line, close_line, reply_head, reply_text}
+use Rattle.pid_http_stream.specs.Replies.{Answer, answer_behind, phrase_of, type_line, allow_line, close_line, reply_head, reply_text}
 use Rattle.pid_http_stream.specs.Requests.{Request}
 use Rattle.pid_http_stream.specs.Serving.{WritesFront, IsCutInBody}
 use Rattle.pid_http_stream.specs.Streams.{closes}
 use Rattle.pid_http_stream.specs.declared.reply.ReplyHead.{ReplyHead}
 
-nine : (a b c d e f g h i : List ℕ) → a ++ (b ++ (c ++ (d ++ (e ++ (f ++ (g ++ (h ++ (i ++ [])))))))) ≡ a ++ b ++ c ++ d ++ e ++ f ++ g ++ h ++ i
-nine a b c d e f g h i = simp (append_assoc, append-nil)
+in_one_list : (s p a b c d e f g h i j k : List ℕ) → s ++ (a ++ (p ++ (b ++ (c ++ (d ++ (e ++ (f ++ (g ++ (h ++ (i ++ (j ++ (k ++ []))))))))))))
+    ≡ s ++ a ++ p ++ b ++ c ++ d ++ e ++ f ++ g ++ h ++ i ++ j ++ k
+in_one_list s p a b c d e f g h i j k = simp (append_assoc, append-nil)
 
-pub in_one : {X E : Type 0} (r : Result X E) (old new : Option (List ℕ)) (a b c d e f g h i : List ℕ) → Sends r old new (a ++ (b ++ (c ++ (d ++ (e ++ (f ++ (g ++ (h ++ (i ++ [])))))))))
-    → Sends r old new (a ++ b ++ c ++ d ++ e ++ f ++ g ++ h ++ i)
-in_one r old new a b c d e f g h i s = subst (Sends r old new) (nine a b c d e f g h i) s
+pub in_one : {X E : Type 0} (r : Result X E) (old new : Option (List ℕ)) (s p a b c d e f g h i j k : List ℕ) → Sends r old new (s ++ (a ++ (p ++ (b ++ (c ++ (d ++ (e ++ (f ++ (g ++ (h ++ (i ++ (j ++ (k ++ [])))))))))))))
+    → Sends r old new (s ++ a ++ p ++ b ++ c ++ d ++ e ++ f ++ g ++ h ++ i ++ j ++ k)
+in_one r old new s p a b c d e f g h i j k x = subst (Sends r old new) (in_one_list s p a b c d e f g h i j k) x
 
-pub reply_is : {X E : Type 0} (r : Result X E) (old new : Option (List ℕ)) (answer : Answer) (closes : Bool) (status content len allow close : List ℕ) → status ≡ status_line answer.status → content ≡ type_line answer.content
-    → len ≡ decimal answer.told → allow ≡ allow_line answer.content → close ≡ close_line closes
-    → Sends r old new (status ++ content ++ codes "Content-Length: " ++ len ++ codes "\r\n" ++ allow ++ close ++ codes "\r\n" ++ answer.body)
+pub reply_is : {X E : Type 0} (r : Result X E) (old new : Option (List ℕ)) (answer : Answer) (closes : Bool) (digits phrase content len allow close : List ℕ) → digits ≡ code_digits answer.status → phrase ≡ phrase_of answer.status
+    → content ≡ type_line answer.content → len ≡ decimal answer.told → allow ≡ allow_line answer.content → close ≡ close_line closes
+    → Sends r old new (codes "HTTP/1.1 " ++ digits ++ codes " " ++ phrase ++ codes "\r\n" ++ content ++ codes "Content-Length: " ++ len ++ codes "\r\n" ++ allow ++ close ++ codes "\r\n" ++ answer.body)
     → Sends r old new (reply_text answer closes)
 unfolding reply_text
-reply_is r old new answer closes status content len allow close p q l a k s = subst (Sends r old new) (λ i. p i ++ q i ++ codes "Content-Length: " ++ l i ++ codes "\r\n" ++ a i ++ k i ++ codes "\r\n" ++ answer.body) s
+reply_is r old new answer closes digits phrase content len allow close p x q l a k s = subst (Sends r old new)
+    (λ i. codes "HTTP/1.1 " ++ p i ++ codes " " ++ x i ++ codes "\r\n" ++ q i ++ codes "Content-Length: " ++ l i ++ codes "\r\n" ++ a i ++ k i ++ codes "\r\n" ++ answer.body) s
 
 -- ---- a reply whose body is written by itself
 

@@ -4,12 +4,12 @@ use Rattle.std.specs.Prelude.{IfSome}
 use Rattle.std.specs.Io.KnownBytes.{Consumes, IsAtEnd}
 use Rattle.pid_http_stream.specs.Conducts.{Conduct}
 use Rattle.pid_http_stream.specs.Endings.{HasFault}
-use Rattle.pid_http_stream.specs.Intakes.{ComesIn, IsWaiting}
+use Rattle.pid_http_stream.specs.Steps.Intakes.{ComesIn, IsWaiting}
 use Rattle.pid_http_stream.specs.Leftovers.{IsLeftover}
 use Rattle.pid_http_stream.specs.MomentLaws.{since_then, since_so}
 use Rattle.pid_http_stream.specs.Moments.{Moment, AllSince}
 use Rattle.pid_http_stream.specs.Serving.{counted, AnswersFront, IsCaughtUp, IsServed}
-use Rattle.pid_http_stream.specs.Steps.{count_with, IsRefused, Steps, stop_end}
+use Rattle.pid_http_stream.specs.Steps.Loop.{count_with, IsRefused, Steps, stop_end}
 use Rattle.pid_http_stream.specs.Unfinished.{IsUnfinished}
 use Rattle.pid_http_stream.specs.declared.intake.Stop.{Stop}
 use Rattle.pid_http_stream.specs.declared.judging.StreamFault.{StreamFault}
@@ -45,7 +45,7 @@ loop_stopped conduct a b t u input mid left held after count stop serving c wait
 
 pub loop_open : {H : Type 0} (conduct : Conduct H) (a b c : H) (t u v input mid read left : Option (List ℕ)) (held after lent kept : List ℕ) (n count count_after : ℕ)
     → IfSome input (λ s. IsServing conduct (record { handler = a; handler_after = b; taken = t; taken_after = u }) s mid held count) → ComesIn held after mid read → lent ≡ after
-    → IfSome read (λ _. Steps conduct (record { a = b; b = c; input = read; input_after = left }) lent (drop n lent) u v answered.Open) → count_after ≡ counted (count + 1) → kept ≡ drop n after
+    → IfSome read (λ _. Steps conduct (record { handler = b; handler_after = c; taken = u; taken_after = v }) (record { input = read; input_after = left; held = lent; held_after = drop n lent }) answered.Open) → count_after ≡ counted (count + 1) → kept ≡ drop n after
     → IfSome input (λ s. IsServing conduct (record { handler = a; handler_after = c; taken = t; taken_after = v }) s left kept count_after)
 loop_open conduct a b c t u v input mid read left held after lent kept n count count_after serving came same step counts rest =
     if_some input _ _ (λ s x.
@@ -54,7 +54,7 @@ loop_open conduct a b c t u v input mid read left held after lent kept n count c
 
 pub loop_closed : {H : Type 0} (conduct : Conduct H) (a b c : H) (t u v input mid read left : Option (List ℕ)) (held after lent behind : List ℕ) (count count_after : ℕ)
     → IfSome input (λ s. IsServing conduct (record { handler = a; handler_after = b; taken = t; taken_after = u }) s mid held count) → ComesIn held after mid read → lent ≡ after
-    → IfSome read (λ _. Steps conduct (record { a = b; b = c; input = read; input_after = left }) lent behind u v answered.Closed) → count_after ≡ counted (count + 1)
+    → IfSome read (λ _. Steps conduct (record { handler = b; handler_after = c; taken = u; taken_after = v }) (record { input = read; input_after = left; held = lent; held_after = behind }) answered.Closed) → count_after ≡ counted (count + 1)
     → IfSome input (λ s. IsServed conduct (record { handler = a; handler_after = c; taken = t; taken_after = v }) s left Closed count_after)
 loop_closed conduct a b c t u v input mid read left held after lent behind count count_after serving came same step counts =
     if_some input _ _ (λ s x.
@@ -63,7 +63,7 @@ loop_closed conduct a b c t u v input mid read left held after lent behind count
 
 pub loop_ended : {H : Type 0} (conduct : Conduct H) (a b c : H) (t u v input mid read left : Option (List ℕ)) (held after lent behind : List ℕ) (count : ℕ) (end : StreamEnd)
     → IfSome input (λ s. IsServing conduct (record { handler = a; handler_after = b; taken = t; taken_after = u }) s mid held count) → ComesIn held after mid read → lent ≡ after
-    → IfSome read (λ _. Steps conduct (record { a = b; b = c; input = read; input_after = left }) lent behind u v (answered.Ended end))
+    → IfSome read (λ _. Steps conduct (record { handler = b; handler_after = c; taken = u; taken_after = v }) (record { input = read; input_after = left; held = lent; held_after = behind }) (answered.Ended end))
     → IfSome input (λ s. IsServed conduct (record { handler = a; handler_after = c; taken = t; taken_after = v }) s left end (count_with end count))
 loop_ended conduct a b c t u v input mid read left held after lent behind count end serving came same step =
     if_some input _ _ (λ s x.

@@ -6,12 +6,12 @@ use Rattle.std.proofs.lemmas.List.{append-nil}
 use Rattle.std.proofs.KnownBytes.{Appends-nil, Appends-trans, Consumes-trans}
 use Rattle.pid_http_stream.specs.Conducts.{Conduct, StandsStill, AreReplies}
 use Rattle.pid_http_stream.specs.Endings.{HasFault}
-use Rattle.pid_http_stream.specs.Intakes.{ComesIn}
+use Rattle.pid_http_stream.specs.Steps.Intakes.{ComesIn}
 use Rattle.pid_http_stream.specs.Leftovers.{IsLeftover}
 use Rattle.pid_http_stream.specs.Replies.{Answer, reply_text}
 use Rattle.pid_http_stream.specs.Requests.{Request, IsRequest}
 use Rattle.pid_http_stream.specs.Serving.{counted, Outside, WritesFront, RestsBehind, AnswersAll, AnswersFront, BreaksOff, StopsReading, LacksMemory, IsWrittenNext, IsServed}
-use Rattle.pid_http_stream.specs.Steps.{count_with, IsReplied, IsRefused, EndsWithin, Steps, stop_end}
+use Rattle.pid_http_stream.specs.Steps.Loop.{count_with, IsReplied, IsRefused, EndsWithin, Steps, stop_end}
 use Rattle.pid_http_stream.specs.Streams.{closes, Ending, clean, closed, faulty, Ends, Fronts, Splits}
 use Rattle.pid_http_stream.specs.Unfinished.{IsUnfinished}
 use Rattle.pid_http_stream.specs.declared.intake.Stop.{Stop}
@@ -107,11 +107,11 @@ count_snoc : (rs : List Request) (r : Request) (count after : ℕ) → count ≡
 count_snoc rs r count after e f = counted_more (length rs) count after e f ∙ ap counted (sym (length-append rs (r ∷ [])))
 
 -- a request was answered, and the stream goes on
-answered_open : {H : Type 0} (conduct : Conduct H) (a b c : H) (t u v : Option (List ℕ)) (stream : List ℕ) (left : Option (List ℕ)) (held behind : List ℕ) (count count_after : ℕ)
+answered_open : {H : Type 0} (conduct : Conduct H) (a b c : H) (t u v : Option (List ℕ)) (stream : List ℕ) (left : Option (List ℕ)) (held behind all : List ℕ) (count count_after : ℕ)
     → IsServing conduct (record { handler = a; handler_after = b; taken = t; taken_after = u }) stream left held count
-    → IsReplied conduct b c held behind u v false → count_after ≡ counted (count + 1)
+    → IsReplied conduct (record { handler = b; handler_after = c; taken = u; taken_after = v }) (record { came = held; behind = behind; all = all }) false → count_after ≡ counted (count + 1)
     → IsServing conduct (record { handler = a; handler_after = c; taken = t; taken_after = v }) stream left behind count_after
-answered_open conduct a b c t u v stream left held behind count count_after s r counts = record {
+answered_open conduct a b c t u v stream left held behind all count count_after s r counts = record {
   read = s.read;
   consumed = s.consumed;
   before = record {
@@ -127,11 +127,11 @@ answered_open conduct a b c t u v stream left held behind count count_after s r 
 -- one step of the loop
 pub steps_open : {H : Type 0} (conduct : Conduct H) (a b c : H) (t u v : Option (List ℕ)) (stream : List ℕ) (mid after : Option (List ℕ)) (held behind left : List ℕ) (count count_after : ℕ)
     → IsServing conduct (record { handler = a; handler_after = b; taken = t; taken_after = u }) stream mid held count
-    → Steps conduct (record { a = b; b = c; input = mid; input_after = after }) held behind u v answered.Open → count_after ≡ counted (count + 1) → left ≡ behind
+    → Steps conduct (record { handler = b; handler_after = c; taken = u; taken_after = v }) (record { input = mid; input_after = after; held = held; held_after = behind }) answered.Open → count_after ≡ counted (count + 1) → left ≡ behind
     → IsServing conduct (record { handler = a; handler_after = c; taken = t; taken_after = v }) stream after left count_after
 steps_open conduct a b c t u v stream mid after held behind left count count_after s step counts same =
     subst (λ (l : List ℕ). IsServing conduct (record { handler = a; handler_after = c; taken = t; taken_after = v }) stream after l count_after) (sym same)
-    (answered_open conduct a b c t u v stream after (held ++ step.came) behind count count_after (brought conduct _ stream mid after held step.came step.more count s step.before step.after) step.is counts)
+    (answered_open conduct a b c t u v stream after (held ++ step.came) behind ((held ++ step.came) ++ step.more) count count_after (brought conduct _ stream mid after held step.came step.more count s step.before step.after) step.is counts)
 
 -- ---- the ends
 
@@ -167,7 +167,7 @@ ends_clean conduct a b t u stream left held count s end rest =
 
 pub steps_closed : {H : Type 0} (conduct : Conduct H) (a b c : H) (t u v : Option (List ℕ)) (stream : List ℕ) (mid after : Option (List ℕ)) (held behind : List ℕ) (count count_after : ℕ)
     → IsServing conduct (record { handler = a; handler_after = b; taken = t; taken_after = u }) stream mid held count
-    → Steps conduct (record { a = b; b = c; input = mid; input_after = after }) held behind u v answered.Closed → count_after ≡ counted (count + 1)
+    → Steps conduct (record { handler = b; handler_after = c; taken = u; taken_after = v }) (record { input = mid; input_after = after; held = held; held_after = behind }) answered.Closed → count_after ≡ counted (count + 1)
     → AnswersAll conduct (record { handler = a; handler_after = c; taken = t; taken_after = v }) stream closed [] count_after
 steps_closed conduct a b c t u v stream mid after held behind count count_after s step counts =
     let f = front_of conduct _ stream after (held ++ step.came) step.more count (brought conduct _ stream mid after held step.came step.more count s step.before step.after) step.after in
@@ -253,26 +253,26 @@ ends_stopped conduct a b t u stream left held count stops.Memory s none =
     let w = whole stream left s.read s.consumed in
     lacks_memory conduct a b b t u u stream (held ++ w.0) count (front_of conduct _ stream left held w.0 count s w.1) (inl (inl refl)) refl
 
-within : {H : Type 0} (conduct : Conduct H) (a b c : H) (t u v : Option (List ℕ)) (stream : List ℕ) (left : Option (List ℕ)) (came more : List ℕ) (count : ℕ) (end : StreamEnd)
+within : {H : Type 0} (conduct : Conduct H) (a b c : H) (t u v : Option (List ℕ)) (stream : List ℕ) (left : Option (List ℕ)) (came behind more : List ℕ) (count : ℕ) (end : StreamEnd)
     → IsServing conduct (record { handler = a; handler_after = b; taken = t; taken_after = u }) stream left came count → left ≡ Some more
-    → EndsWithin conduct b c came (came ++ more) u v end
+    → EndsWithin conduct (record { handler = b; handler_after = c; taken = u; taken_after = v }) (record { came = came; behind = behind; all = came ++ more }) end
     → IsServed conduct (record { handler = a; handler_after = c; taken = t; taken_after = v }) stream left end (count_with end count)
-within conduct a b c t u v stream left came more count StoreFault s e (request, behind, is, cut) =
-    record { rest = came ++ more; mid = b; taken = u; before = front_of conduct _ stream left came more count s e; request = request; behind = behind; is = is; cut = cut }
-within conduct a b c t u v stream left came more count WriteFault s e (bytes, is, written) = breaks_off conduct a b c t u v stream (came ++ more) bytes count (front_of conduct _ stream left came more count s e) is written
-within conduct a b c t u v stream left came more count BodyFault s e (has, stands, written) =
+within conduct a b c t u v stream left came behind more count StoreFault s e (request, rest, is, cut) =
+    record { rest = came ++ more; mid = b; taken = u; before = front_of conduct _ stream left came more count s e; request = request; behind = rest; is = is; cut = cut }
+within conduct a b c t u v stream left came behind more count WriteFault s e (bytes, is, written) = breaks_off conduct a b c t u v stream (came ++ more) bytes count (front_of conduct _ stream left came more count s e) is written
+within conduct a b c t u v stream left came behind more count BodyFault s e (has, stands, written) =
     (BodyShort, refl, count, all_answered conduct a b c t u v stream (came ++ more) (faulty BodyShort) _ count (front_of conduct _ stream left came more count s e) has stands written, refl)
-within conduct a b c t u v stream left came more count ReadFault s e (stands, none, same) = stops_reading conduct a b c t u v stream left came count s stands none same
-within conduct a b c t u v stream left came more count TurnsSpent s e (stands, none, same) = stops_reading conduct a b c t u v stream left came count s stands none same
-within conduct a b c t u v stream left came more count Memory s e (after, same) = lacks_memory conduct a b c t u v stream (came ++ more) count (front_of conduct _ stream left came more count s e) after same
-within conduct a b c t u v stream left came more count Clean s e r = absurd r
-within conduct a b c t u v stream left came more count Closed s e r = absurd r
-within conduct a b c t u v stream left came more count HeadFault s e r = absurd r
+within conduct a b c t u v stream left came behind more count ReadFault s e (stands, none, same) = stops_reading conduct a b c t u v stream left came count s stands none same
+within conduct a b c t u v stream left came behind more count TurnsSpent s e (stands, none, same) = stops_reading conduct a b c t u v stream left came count s stands none same
+within conduct a b c t u v stream left came behind more count Memory s e (after, same) = lacks_memory conduct a b c t u v stream (came ++ more) count (front_of conduct _ stream left came more count s e) after same
+within conduct a b c t u v stream left came behind more count Clean s e r = absurd r
+within conduct a b c t u v stream left came behind more count Closed s e r = absurd r
+within conduct a b c t u v stream left came behind more count HeadFault s e r = absurd r
 
 -- the stream ends within a request
 pub steps_ended : {H : Type 0} (conduct : Conduct H) (a b c : H) (t u v : Option (List ℕ)) (stream : List ℕ) (mid after : Option (List ℕ)) (held behind : List ℕ) (count : ℕ) (end : StreamEnd)
     → IsServing conduct (record { handler = a; handler_after = b; taken = t; taken_after = u }) stream mid held count
-    → Steps conduct (record { a = b; b = c; input = mid; input_after = after }) held behind u v (answered.Ended end)
+    → Steps conduct (record { handler = b; handler_after = c; taken = u; taken_after = v }) (record { input = mid; input_after = after; held = held; held_after = behind }) (answered.Ended end)
     → IsServed conduct (record { handler = a; handler_after = c; taken = t; taken_after = v }) stream after end (count_with end count)
 steps_ended conduct a b c t u v stream mid after held behind count end s step =
-    within conduct a b c t u v stream after (held ++ step.came) step.more count end (brought conduct _ stream mid after held step.came step.more count s step.before step.after) step.after step.is
+    within conduct a b c t u v stream after (held ++ step.came) behind step.more count end (brought conduct _ stream mid after held step.came step.more count s step.before step.after) step.after step.is

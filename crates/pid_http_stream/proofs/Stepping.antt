@@ -1,28 +1,32 @@
 -- One request, from what its handler was asked to what was written.
 use Rattle.std.proofs.Common.{◌≡◌, ℕ, ◌+◌, ◌-◌, ◌^◌, ◌≤◌, Bool, true, false, List, [], ◌++◌, Option, Some, None, drop, refl, sym, ap, subst, ◌∙◌, arith, inl, inr}
-use Rattle.std.specs.Prelude.{IfSome, ◌⊎◌}
+use Rattle.std.specs.Prelude.{IfSome, IsSome, ◌⊎◌}
 use Rattle.std.specs.Io.KnownBytes.{Appends, IsAtEnd}
 use Rattle.std.proofs.lemmas.List.{append-nil}
 use Rattle.httparse.specs.Grammar.{RequestHead}
 use Rattle.httparse.specs.Spans.{IsRequestAt}
 use Rattle.httparse.specs.declared.spans.HeaderSpan.{HeaderSpan}
 use Rattle.httparse.specs.declared.spans.RequestSpans.{RequestSpans}
+use Rattle.pid_file.specs.declared.io.ReadFault.{ReadFault}
+use Rattle.pid_file.specs.declared.io.WriteFault.{WriteFault}
+use Rattle.pid_http_stream.specs.Causes.{LastState, HasCause, EndsFor}
 use Rattle.pid_http_stream.specs.Conducts.{Conduct, StandsStill}
 use Rattle.pid_http_stream.specs.Connections.{asks_to_close}
 use Rattle.pid_http_stream.specs.Endings.{IsShort}
 use Rattle.pid_http_stream.specs.Handling.{MayReply}
 use Rattle.pid_http_stream.specs.Replies.{reply_head, reply_text, fault_answer}
 use Rattle.pid_http_stream.specs.Requests.{Request, IsRequest, fields_of}
-use Rattle.pid_http_stream.specs.Steps.{Asks, IsSent, IsRefused, IsStep, EndsWithin, Steps, EndsBroken, answered_so, stop_end}
+use Rattle.pid_http_stream.specs.Steps.Intakes.{StopsFor}
+use Rattle.pid_http_stream.specs.Steps.Loop.{Asks, IsSent, IsRefused, IsStep, EndsSo, EndsWithin, Steps, EndsBroken, answered_so, stop_end}
 use Rattle.pid_http_stream.specs.Streams.{closes}
 use Rattle.pid_http_stream.specs.Bodies.{Turns, SpendsTurns}
 use Rattle.pid_http_stream.specs.declared.asking.Asked.TheVariants as asked
 use Rattle.pid_http_stream.specs.declared.body_input.BodyFault.{BodyFault}
 use Rattle.pid_http_stream.specs.declared.body_input.BodyFault.TheVariants as faults
 use Rattle.pid_http_stream.specs.declared.handler.Reply.{Reply}
-use Rattle.pid_http_stream.specs.declared.intake.HeadRead.TheVariants as heads
 use Rattle.pid_http_stream.specs.declared.intake.Stop.{Stop}
 use Rattle.pid_http_stream.specs.declared.intake.Stop.TheVariants as stops
+use Rattle.pid_http_stream.specs.declared.judging.StreamFault.{StreamFault}
 use Rattle.pid_http_stream.specs.declared.judging.StreamFault.TheVariants.{BodyShort}
 use Rattle.pid_http_stream.specs.declared.sending.Sent.{Sent}
 use Rattle.pid_http_stream.specs.declared.sending.Sent.TheVariants as sent
@@ -33,7 +37,7 @@ use Rattle.pid_http_stream.proofs.Heads.{IsRequest-append}
 
 -- a reply that was sent so far is this step
 sent_step : {H : Type 0} (conduct : Conduct H) (a c : H) (request : Request) (came more rest : List ℕ) (u v : Option (List ℕ)) (closing : Bool) (s : Sent) → IsRequest came request rest → closes request ≡ closing
-    → IsSent conduct a request c closing u v s → IsStep conduct a c came (came ++ more) rest u v (answered_so s closing)
+    → IsSent conduct (record { handler = a; handler_after = c; taken = u; taken_after = v }) (record { request = request; closing = closing }) s → IsStep conduct (record { handler = a; handler_after = c; taken = u; taken_after = v }) (record { came = came; behind = rest; all = came ++ more }) (answered_so s closing)
 sent_step conduct a c request came more rest u v true sent.Whole is e (answer, answered, written) =
     record { request = request; is = is; answer = answer; answered = answered; written = subst (λ (x : Bool). Appends u v (reply_text answer x)) (sym e) written; closes_so = e }
 sent_step conduct a c request came more rest u v false sent.Whole is e (answer, answered, written) =
@@ -49,10 +53,10 @@ if_known None P Q f p = tt
 if_known (Some x) P Q f p = f p
 
 pub replied_step : {H : Type 0} (conduct : Conduct H) (a b c : H) (input left u v : Option (List ℕ)) (held : List ℕ) (headers : List HeaderSpan) (spans : RequestSpans) (told : ℕ) (reply : Reply) (s : Sent) (closing : Bool)
-    → IfSome input (λ _. Asks conduct (record { a = a; b = b; input = input; input_after = left }) held headers spans told (asked.Reply reply))
-    → ((x : H) (request : Request) → MayReply conduct x request reply b → IsSent conduct x request c closing u v s)
+    → IfSome input (λ _. Asks conduct (record { a = a; b = b; input = input; input_after = left }) (record { held = held; headers = headers; spans = spans; content_length = told }) (asked.Reply reply))
+    → ((x : H) (request : Request) → MayReply conduct x request reply b → IsSent conduct (record { handler = x; handler_after = c; taken = u; taken_after = v }) (record { request = request; closing = closing }) s)
     → ((head : RequestHead) → IsRequestAt held headers spans head → closing ≡ asks_to_close head.minor (fields_of head))
-    → IfSome input (λ _. Steps conduct (record { a = a; b = c; input = input; input_after = left }) held (drop (spans.len + told) held) u v (answered_so s closing))
+    → IfSome input (λ _. Steps conduct (record { handler = a; handler_after = c; taken = u; taken_after = v }) (record { input = input; input_after = left; held = held; held_after = drop (spans.len + told) held }) (answered_so s closing))
 replied_step conduct a b c input left u v held headers spans told reply s closing asks sends closes_so = if_known input _ _ (λ x.
     record {
       came = x.came;
@@ -64,8 +68,8 @@ replied_step conduct a b c input left u v held headers spans told reply s closin
 
 -- memory was refused
 pub memory_step : {H : Type 0} (conduct : Conduct H) (a b : H) (input left u : Option (List ℕ)) (held : List ℕ) (headers : List HeaderSpan) (spans : RequestSpans) (told : ℕ)
-    → IfSome input (λ _. Asks conduct (record { a = a; b = b; input = input; input_after = left }) held headers spans told asked.NoMemory)
-    → IfSome input (λ _. Steps conduct (record { a = a; b = b; input = input; input_after = left }) held (drop (spans.len + told) held) u u (answered.Ended ends.Memory))
+    → IfSome input (λ _. Asks conduct (record { a = a; b = b; input = input; input_after = left }) (record { held = held; headers = headers; spans = spans; content_length = told }) asked.NoMemory)
+    → IfSome input (λ _. Steps conduct (record { handler = a; handler_after = b; taken = u; taken_after = u }) (record { input = input; input_after = left; held = held; held_after = drop (spans.len + told) held }) (answered.Ended ends.Memory))
 memory_step conduct a b input left u held headers spans told asks = if_known input _ _ (λ x.
     record { came = x.came; more = x.more; before = x.before; after = x.after; is = (lacks (held ++ x.came) x.more x.is, refl) }) asks
   where
@@ -77,28 +81,28 @@ memory_step conduct a b input left u held headers spans told asks = if_known inp
 no_more : (left : Option (List ℕ)) (came more : List ℕ) → left ≡ Some more → IsAtEnd left → came ++ more ≡ came
 no_more left came more e end = let none : more ≡ [] = subst IsAtEnd e end in ap (λ (l : List ℕ). came ++ l) none ∙ append-nil came
 
-short_ends : {H : Type 0} (conduct : Conduct H) (a b : H) (came all : List ℕ) (u v : Option (List ℕ)) (end : StreamEnd) → StandsStill conduct a b → IsShort all → IsRefused BodyShort u v end → EndsWithin conduct a b came all u v end
-short_ends conduct a b came all u v ends.BodyFault stands short (kind, written) = (short, stands, written)
-short_ends conduct a b came all u v ends.WriteFault stands short written = (reply_text (fault_answer BodyShort) true, inr (inr (BodyShort, short, refl, stands)), written)
-short_ends conduct a b came all u v ends.HeadFault stands short (kind, written) = absurd (cc kind)
-short_ends conduct a b came all u v ends.Clean stands short r = absurd r
-short_ends conduct a b came all u v ends.Closed stands short r = absurd r
-short_ends conduct a b came all u v ends.ReadFault stands short r = absurd r
-short_ends conduct a b came all u v ends.StoreFault stands short r = absurd r
-short_ends conduct a b came all u v ends.Memory stands short r = absurd r
-short_ends conduct a b came all u v ends.TurnsSpent stands short r = absurd r
+short_ends : {H : Type 0} (conduct : Conduct H) (a b : H) (came behind all : List ℕ) (u v : Option (List ℕ)) (end : StreamEnd) → StandsStill conduct a b → IsShort all → IsRefused BodyShort u v end → EndsWithin conduct (record { handler = a; handler_after = b; taken = u; taken_after = v }) (record { came = came; behind = behind; all = all }) end
+short_ends conduct a b came behind all u v ends.BodyFault stands short (kind, written) = (short, stands, written)
+short_ends conduct a b came behind all u v ends.WriteFault stands short written = (reply_text (fault_answer BodyShort) true, inr (inr (BodyShort, short, refl, stands)), written)
+short_ends conduct a b came behind all u v ends.HeadFault stands short (kind, written) = absurd (cc kind)
+short_ends conduct a b came behind all u v ends.Clean stands short r = absurd r
+short_ends conduct a b came behind all u v ends.Closed stands short r = absurd r
+short_ends conduct a b came behind all u v ends.ReadFault stands short r = absurd r
+short_ends conduct a b came behind all u v ends.StoreFault stands short r = absurd r
+short_ends conduct a b came behind all u v ends.Memory stands short r = absurd r
+short_ends conduct a b came behind all u v ends.TurnsSpent stands short r = absurd r
 
 -- the body broke off
 pub broken_step : {H : Type 0} (conduct : Conduct H) (a b : H) (input left u v : Option (List ℕ)) (held : List ℕ) (headers : List HeaderSpan) (spans : RequestSpans) (told : ℕ) (fault : BodyFault) (end : StreamEnd)
-    → IfSome input (λ _. Asks conduct (record { a = a; b = b; input = input; input_after = left }) held headers spans told (asked.Broken fault)) → EndsBroken fault u v end
-    → IfSome input (λ _. Steps conduct (record { a = a; b = b; input = input; input_after = left }) held (drop (spans.len + told) held) u v (answered.Ended end))
+    → IfSome input (λ _. Asks conduct (record { a = a; b = b; input = input; input_after = left }) (record { held = held; headers = headers; spans = spans; content_length = told }) (asked.Broken fault)) → EndsBroken fault u v end
+    → IfSome input (λ _. Steps conduct (record { handler = a; handler_after = b; taken = u; taken_after = v }) (record { input = input; input_after = left; held = held; held_after = drop (spans.len + told) held }) (answered.Ended end))
 broken_step conduct a b input left u v held headers spans told faults.Short end asks r = if_known input _ _ (λ x.
     record {
       came = x.came;
       more = x.more;
       before = x.before;
       after = x.after;
-      is = short_ends conduct a b (held ++ x.came) ((held ++ x.came) ++ x.more) u v end x.is.0 (subst IsShort (sym (no_more left (held ++ x.came) x.more x.after x.is.1)) x.is.2) r;
+      is = short_ends conduct a b (held ++ x.came) (drop (spans.len + told) held) ((held ++ x.came) ++ x.more) u v end x.is.0 (subst IsShort (sym (no_more left (held ++ x.came) x.more x.after x.is.1)) x.is.2) r;
     }) asks
 broken_step conduct a b input left u v held headers spans told faults.ReadFault end asks (e, same) = if_known input _ _ (λ x.
     record {
@@ -106,7 +110,7 @@ broken_step conduct a b input left u v held headers spans told faults.ReadFault 
       more = x.more;
       before = x.before;
       after = x.after;
-      is = subst (EndsWithin conduct a b (held ++ x.came) ((held ++ x.came) ++ x.more) u v) (sym e) (x.is.0, x.is.1, same);
+      is = subst (EndsWithin conduct (record { handler = a; handler_after = b; taken = u; taken_after = v }) (record { came = held ++ x.came; behind = drop (spans.len + told) held; all = (held ++ x.came) ++ x.more })) (sym e) (x.is.0, x.is.1, same);
     }) asks
 broken_step conduct a b input left u v held headers spans told faults.TurnsSpent end asks (e, same) = if_known input _ _ (λ x.
     record {
@@ -114,48 +118,71 @@ broken_step conduct a b input left u v held headers spans told faults.TurnsSpent
       more = x.more;
       before = x.before;
       after = x.after;
-      is = subst (EndsWithin conduct a b (held ++ x.came) ((held ++ x.came) ++ x.more) u v) (sym e) (x.is.0, x.is.1, same);
+      is = subst (EndsWithin conduct (record { handler = a; handler_after = b; taken = u; taken_after = v }) (record { came = held ++ x.came; behind = drop (spans.len + told) held; all = (held ++ x.came) ++ x.more })) (sym e) (x.is.0, x.is.1, same);
     }) asks
 
--- ---- which ends there can be
+-- ---- why the stream ends
 
-pub never_reads : (s : Sent) (closing : Bool) → answered_so s closing ≡ answered.Ended ends.ReadFault → ⊥
-never_reads sent.Whole true e = cc
-never_reads sent.Whole false e = cc
-never_reads sent.WriteFault closing e = cc
-never_reads sent.StoreFault closing e = cc
+-- where the reply was sent so far
+pub sent_ends : (x : LastState) (s : Sent) (closing : Bool) → x.reads_after ≤ x.reads + x.turns → (s ≡ sent.WriteFault → IsSome x.write_fault) → (s ≡ sent.StoreFault → x.write_fault ≡ None) → (s ≡ sent.StoreFault → x.stuck)
+    → EndsSo (answered_so s closing) x
+sent_ends x sent.Whole true few failed good stuck = tt
+sent_ends x sent.Whole false few failed good stuck = tt
+sent_ends x sent.WriteFault closing few failed good stuck = record { within = few; cause = failed refl }
+sent_ends x sent.StoreFault closing few failed good stuck = record { within = few; cause = (good refl, stuck refl) }
 
-pub never_spends : (s : Sent) (closing : Bool) → answered_so s closing ≡ answered.Ended ends.TurnsSpent → ⊥
-never_spends sent.Whole true e = cc
-never_spends sent.Whole false e = cc
-never_spends sent.WriteFault closing e = cc
-never_spends sent.StoreFault closing e = cc
+-- where a refusal was written
+pub refused_ends : (x : LastState) (fault : StreamFault) (u v : Option (List ℕ)) (end : StreamEnd) → x.reads_after ≤ x.reads + x.turns → IsRefused fault u v end → (end ≡ ends.WriteFault → IsSome x.write_fault) → EndsFor end x
+refused_ends x fault u v ends.HeadFault few r failed = record { within = few; cause = tt }
+refused_ends x fault u v ends.BodyFault few r failed = record { within = few; cause = tt }
+refused_ends x fault u v ends.WriteFault few r failed = record { within = few; cause = failed refl }
+refused_ends x fault u v ends.Clean few r failed = absurd r
+refused_ends x fault u v ends.Closed few r failed = absurd r
+refused_ends x fault u v ends.ReadFault few r failed = absurd r
+refused_ends x fault u v ends.StoreFault few r failed = absurd r
+refused_ends x fault u v ends.Memory few r failed = absurd r
+refused_ends x fault u v ends.TurnsSpent few r failed = absurd r
 
-pub writer_failed : (s : Sent) (closing : Bool) → answered_so s closing ≡ answered.Ended ends.WriteFault → s ≡ sent.WriteFault
-writer_failed sent.Whole true e = cc
-writer_failed sent.Whole false e = cc
-writer_failed sent.WriteFault closing e = refl
-writer_failed sent.StoreFault closing e = cc
+-- where a body broke off
+pub broken_ends : (x : LastState) (fault : BodyFault) (u v : Option (List ℕ)) (end : StreamEnd) → x.reads_after ≤ x.reads + x.turns → EndsBroken fault u v end
+    → (asked.Broken fault ≡ asked.Broken faults.ReadFault → IsSome x.read_fault) → (asked.Broken fault ≡ asked.Broken faults.TurnsSpent → HasCause ends.TurnsSpent x) → (end ≡ ends.WriteFault → IsSome x.write_fault) → EndsFor end x
+broken_ends x faults.Short u v end few r read spent failed = refused_ends x BodyShort u v end few r failed
+broken_ends x faults.ReadFault u v end few (e, same) read spent failed = subst (λ k. EndsFor k x) (sym e) (record { within = few; cause = read refl })
+broken_ends x faults.TurnsSpent u v end few (e, same) read spent failed = subst (λ k. EndsFor k x) (sym e) (record { within = few; cause = spent refl })
 
-pub reader_failed : (fault : BodyFault) (u v : Option (List ℕ)) (end : StreamEnd) → EndsBroken fault u v end → answered.Ended end ≡ answered.Ended ends.ReadFault → asked.Broken fault ≡ asked.Broken faults.ReadFault
-reader_failed faults.Short u v end r e = let same : end ≡ ends.ReadFault = cc in absurd (subst (IsRefused BodyShort u v) same r)
-reader_failed faults.ReadFault u v end r e = refl
-reader_failed faults.TurnsSpent u v end (f, same) e = cc
+-- where reading stopped
+pub stopped_ends : (x : LastState) (stop : Stop) (left : ℕ) → x.reads_after ≤ x.reads + x.turns → StopsFor stop x.read_fault left → (left ≡ 0 → HasCause ends.TurnsSpent x) → EndsFor (stop_end stop) x
+stopped_ends x stops.ReadFault left few why spent = record { within = few; cause = why }
+stopped_ends x stops.TurnsSpent left few why spent = record { within = few; cause = spent why }
+stopped_ends x stops.Memory left few why spent = record { within = few; cause = tt }
 
-pub turns_spent : (fault : BodyFault) (u v : Option (List ℕ)) (end : StreamEnd) → EndsBroken fault u v end → answered.Ended end ≡ answered.Ended ends.TurnsSpent → asked.Broken fault ≡ asked.Broken faults.TurnsSpent
-turns_spent faults.Short u v end r e = let same : end ≡ ends.TurnsSpent = cc in absurd (subst (IsRefused BodyShort u v) same r)
-turns_spent faults.ReadFault u v end (f, same) e = cc
-turns_spent faults.TurnsSpent u v end r e = refl
+pub turns_within : (a b : Turns) → SpendsTurns a b → b.reads ≤ a.reads + a.left
+turns_within a b s = let e = s.spent in omega (arith, e)
 
-pub stopped_reading : (stop : Stop) → stop_end stop ≡ ends.ReadFault → heads.Stopped stop ≡ heads.Stopped stops.ReadFault
-stopped_reading stops.ReadFault e = refl
-stopped_reading stops.TurnsSpent e = cc
-stopped_reading stops.Memory e = cc
+-- some turns were spent before
+cause_later : (rf : Option ReadFault) (wf : Option WriteFault) (stuck : Type 0) (a b : Turns) (n : ℕ) → SpendsTurns a b → (end : StreamEnd)
+    → HasCause end (record { read_fault = rf; write_fault = wf; stuck = stuck; turns = b.left; reads = b.reads; reads_after = n })
+    → HasCause end (record { read_fault = rf; write_fault = wf; stuck = stuck; turns = a.left; reads = a.reads; reads_after = n })
+cause_later rf wf stuck a b n s ends.Clean why = tt
+cause_later rf wf stuck a b n s ends.Closed why = tt
+cause_later rf wf stuck a b n s ends.HeadFault why = tt
+cause_later rf wf stuck a b n s ends.BodyFault why = tt
+cause_later rf wf stuck a b n s ends.ReadFault why = why
+cause_later rf wf stuck a b n s ends.WriteFault why = why
+cause_later rf wf stuck a b n s ends.StoreFault why = why
+cause_later rf wf stuck a b n s ends.Memory why = tt
+cause_later rf wf stuck a b n s ends.TurnsSpent why = λ few.
+    let e = s.exact few in
+    let room : b.reads + b.left ≤ 2 ^ 64 - 1 = omega (arith, e, few) in
+    why room ∙ e
 
-pub stopped_spent : (stop : Stop) → stop_end stop ≡ ends.TurnsSpent → heads.Stopped stop ≡ heads.Stopped stops.TurnsSpent
-stopped_spent stops.ReadFault e = cc
-stopped_spent stops.TurnsSpent e = refl
-stopped_spent stops.Memory e = cc
+pub ends_later : (rf : Option ReadFault) (wf : Option WriteFault) (stuck : Type 0) (a b : Turns) (n : ℕ) → SpendsTurns a b → (end : StreamEnd)
+    → EndsFor end (record { read_fault = rf; write_fault = wf; stuck = stuck; turns = b.left; reads = b.reads; reads_after = n })
+    → EndsFor end (record { read_fault = rf; write_fault = wf; stuck = stuck; turns = a.left; reads = a.reads; reads_after = n })
+ends_later rf wf stuck a b n s end x = record {
+  within = let few = x.within in let e = s.spent in omega (arith, few, e);
+  cause = cause_later rf wf stuck a b n s end x.cause;
+}
 
 -- all turns were spent, each on a read
 pub spent_exactly : (a b : Turns) → SpendsTurns a b → b.left ≡ 0 → a.reads + a.left ≤ 2 ^ 64 - 1 → b.reads ≡ a.reads + a.left

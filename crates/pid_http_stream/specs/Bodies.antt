@@ -1,6 +1,6 @@
--- Serves private functions alone; no promise rests on it.
 -- A reader of a request's body, and what reads leave of it.
-use Rattle.std.specs.Prelude.{◌≡◌, ℕ, zero, suc, ◌+◌, ◌-◌, ◌^◌, ◌<◌, ◌≤◌, List, [], ◌∷◌, ◌++◌, length, Option, Some, None, IfSome, IsSome}
+use Rattle.std.specs.Prelude.{◌≡◌, ℕ, zero, suc, ◌+◌, ◌-◌, ◌^◌, ◌<◌, ◌≤◌, List, [], ◌∷◌, ◌++◌}
+use Rattle.std.specs.Prelude.{length, Option, Some, None, IfSome, IsSome}
 use Rattle.std.specs.Io.KnownBytes.{Consumes, IsAtEnd}
 use Rattle.pid_file.specs.declared.io.ReadFault.{ReadFault}
 use Rattle.pid_file.specs.declared.io.ReadFault.TheVariants.{Device}
@@ -9,8 +9,8 @@ use Rattle.pid_http_stream.specs.Moments.{Moment, AllSince}
 use Rattle.pid_http_stream.specs.declared.body_input.BodyFault.{BodyFault}
 use Rattle.pid_http_stream.specs.declared.body_input.BodyFault.TheVariants as faults
 
--- the first n bytes, with zeros for those that are missing: a body that is short never comes to its end, for its reader
--- fails where they would stand
+-- the first n bytes, with zeros for those that are missing: a body that is short never comes to its
+-- end, for its reader fails where they would stand
 abbrev pub padded : ℕ → List ℕ → List ℕ
 padded zero bytes = []
 padded (suc n) [] = 0 ∷ padded n []
@@ -26,14 +26,17 @@ pub record Turns : Type 0 where
   pub reads : ℕ
   pub left : ℕ
 
+abbrev pub turns_at : ℕ → ℕ → Turns
+turns_at reads left = record { reads = reads; left = left }
+
 -- turns are spent on reads, one for each, as far as the reader counts
 pub record SpendsTurns (a b : Turns) : Type 0 where
   pub spent : b.reads + b.left ≤ a.reads + a.left
   pub exact : a.reads + a.left ≤ 2 ^ 64 - 1 → b.reads + b.left ≡ a.reads + a.left
   pub fewer : b.left ≤ a.left
 
--- the reader of a body: what came with the head, how many bytes are wanted, its fault, the reader under it, and what the writer
--- beside that had taken
+-- the reader of a body: what came with the head, how many bytes are wanted, its fault, the reader
+-- under it, and what the writer beside that had taken
 pub record BodyState : Type 0 where
   pub held : List ℕ
   pub wanted : ℕ

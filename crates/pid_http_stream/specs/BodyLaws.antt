@@ -1,5 +1,7 @@
--- Proofs alone, no definitions: the laws that the reader of a body gives for `stays` and `joins` of `Input`.
-use Rattle.std.proofs.Common.{◌≡◌, ℕ, ◌+◌, List, [], ◌++◌, Option, Some, None, refl, sym, ap, ◌∙◌, append_assoc, length, length-append, arith}
+-- Proofs alone, no definitions: the laws that the reader of a body gives for `stays` and `joins` of
+-- `Input`.
+use Rattle.std.proofs.Common.{◌≡◌, ℕ, ◌+◌, List, [], ◌++◌, Option, Some, None, refl, sym, ap, ◌∙◌}
+use Rattle.std.proofs.Common.{append_assoc, length, length-append, arith}
 use Rattle.std.proofs.lemmas.List.{append-nil}
 use Rattle.std.proofs.KnownBytes.{Consumes-nil, Consumes-trans}
 use Rattle.pid_ident.specs.InputCalls.{StaysKept}
@@ -45,12 +47,15 @@ no_body_reads s = record {
   moments = since_none (IsWithinBody s) s.moments;
 }
 
-within_first : (a b c : BodyState) → HasReadBody a b → (m : Moment) → IsWithinBody b m → IsWithinBody a m
+within_first : (a b c : BodyState) → HasReadBody a b → (m : Moment) → IsWithinBody b m
+    → IsWithinBody a m
 within_first a b c p m x = record {
   came = p.came ++ x.came;
   consumed = Consumes-trans a.to_come b.to_come m.to_come p.came x.came p.consumed x.consumed;
   wants =
-      let given : length a.held + length p.came ≡ length p.used + length b.held = sym (length-append a.held p.came) ∙ ap length p.given ∙ length-append p.used b.held in
+      let given : length a.held + length p.came
+      ≡ length p.used + length b.held = sym
+      (length-append a.held p.came) ∙ ap length p.given ∙ length-append p.used b.held in
       omega (arith, given, p.counted, x.wants, length-append p.came x.came);
   taken = x.taken ∙ p.taken;
 }
@@ -61,11 +66,15 @@ more_body_reads a b c p q = record {
   used = p.used ++ q.used;
   came = p.came ++ q.came;
   consumed = Consumes-trans a.to_come b.to_come c.to_come p.came q.came p.consumed q.consumed;
-  given = sym (append_assoc a.held p.came q.came) ∙ ap (λ (l : List ℕ). l ++ q.came) p.given ∙ append_assoc p.used b.held q.came ∙ ap (λ (l : List ℕ). p.used ++ l) q.given ∙ sym (append_assoc p.used q.used c.held);
+  given = sym (append_assoc a.held p.came q.came) ∙ ap
+      (λ (l : List ℕ). l ++ q.came) p.given ∙ append_assoc p.used b.held q.came ∙ ap
+      (λ (l : List ℕ). p.used ++ l) q.given ∙ sym (append_assoc p.used q.used c.held);
   counted = omega (arith, length-append p.used q.used, p.counted, q.counted);
   turns = more_turns a.turns b.turns c.turns p.turns q.turns;
   fault = kept_then a.fault b.fault c.fault p.fault q.fault;
   told = λ h. q.told (p.told h);
   taken = q.taken ∙ p.taken;
-  moments = since_then (IsWithinBody a) a.moments b.moments c.moments p.moments (since_so (IsWithinBody b) (IsWithinBody a) b.moments c.moments (within_first a b c p) q.moments);
+  moments = since_then (IsWithinBody a) a.moments b.moments c.moments p.moments
+      (since_so (IsWithinBody b) (IsWithinBody a) b.moments c.moments
+      (within_first a b c p) q.moments);
 }

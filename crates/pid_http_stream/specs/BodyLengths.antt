@@ -1,12 +1,15 @@
--- What the fields of a head say of the body's length: message framing by Content-Length (RFC 9112, section 6). The limit of
--- 4 MiB, and that no transfer encoding is taken, are choices of this project.
-use Rattle.std.specs.Prelude.{ℕ, Bool, ◌&&◌, nat_lt, nat_le, List, [], ◌∷◌, length, codes, if◌then◌else◌}
+-- What the fields of a head say of the body's length: message framing by Content-Length (RFC 9112,
+-- section 6). The limit of 4 MiB, and that no transfer encoding is taken, are choices of this
+-- project.
+use Rattle.std.specs.Prelude.{ℕ, Bool, ◌&&◌, nat_lt, nat_le, List, [], ◌∷◌, length, codes}
+use Rattle.std.specs.Prelude.{if◌then◌else◌}
 use Rattle.std.specs.List.{list_all}
 use Rattle.std.specs.Char.{is_ascii_digit}
 use Rattle.std.specs.Str.Parse.{digits_value}
 use Rattle.pid_http_stream.specs.FieldValues.{NamedValue, values_of}
 use Rattle.pid_http_stream.specs.declared.body_length.BodyLength.{BodyLength}
-use Rattle.pid_http_stream.specs.declared.body_length.BodyLength.TheVariants.{Encoded, Bad, TooLong, Bytes}
+use Rattle.pid_http_stream.specs.declared.body_length.BodyLength.TheVariants.{Encoded, Bad}
+use Rattle.pid_http_stream.specs.declared.body_length.BodyLength.TheVariants.{TooLong, Bytes}
 
 -- one or more decimal digits
 abbrev pub is_number : List ℕ → Bool
@@ -20,10 +23,12 @@ longest_body = 4194304
 abbrev pub length_said : List ℕ → BodyLength
 length_said value =
     if is_number value
-    then (if nat_le (digits_value 10 value) longest_body then Bytes (digits_value 10 value) else TooLong)
+    then (if nat_le (digits_value 10 value) longest_body then Bytes
+    (digits_value 10 value) else TooLong)
     else Bad
 
--- the length that the values of all Content-Length fields say; without one there is no body, and more than one is no length
+-- the length that the values of all Content-Length fields say; without one there is no body, and
+-- more than one is no length
 abbrev pub length_of_values : List (List ℕ) → BodyLength
 length_of_values [] = Bytes 0
 length_of_values (value ∷ []) = length_said value
@@ -36,4 +41,5 @@ length_unless_encoded (coding ∷ codings) lengths = Encoded
 
 -- what the fields of a head say
 unfoldable pub body_length : List NamedValue → BodyLength
-body_length fields = length_unless_encoded (values_of (codes "transfer-encoding") fields) (values_of (codes "content-length") fields)
+body_length fields = length_unless_encoded (values_of (codes "transfer-encoding") fields)
+    (values_of (codes "content-length") fields)

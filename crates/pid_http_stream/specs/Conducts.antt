@@ -1,18 +1,21 @@
--- What a handler of requests may do, over its own states: the relations that each handler tells of itself.
+-- What a handler of requests may do, over its own states: the relations that each handler tells of
+-- itself.
 use Rattle.std.specs.Prelude.{◌≡◌, ℕ, ◌⊎◌, List, [], ◌∷◌, ◌++◌}
 use Rattle.pid_http_stream.specs.Replies.{Answer, reply_text}
 use Rattle.pid_http_stream.specs.Requests.{Request}
 use Rattle.pid_http_stream.specs.Streams.{closes}
 use Rattle.pid_http_stream.specs.declared.reply.ReplyHead.{ReplyHead}
 
--- answers: how it may answer a request, and its state behind that
--- leaves: its state where a reply to a whole request lacks memory
--- gives_up: its state where it was asked and gave the request up, whose body it did not get whole
--- promises: what it may say of a body that it is to write itself, to a request, behind this head, so many bytes; and its state
+-- what may be known of a handler before a request and behind it
 pub record Conduct (H : Type 0) : Type 1 where
+  -- how it may answer a request
   pub answers : H → Request → Answer → H → Type 0
+  -- what it comes to where a whole request came, and memory for its reply is refused
   pub leaves : H → Request → H → Type 0
+  -- what it comes to where it gave a request up, whose body did not come whole
   pub gives_up : H → H → Type 0
+  -- what it may say of a body that it is to write itself: to a request, behind this head, so many
+  -- bytes
   pub promises : H → Request → ReplyHead → ℕ → H → Type 0
 
 -- no request was answered: it was not asked, or gave the request up
@@ -24,4 +27,5 @@ abbrev pub AreReplies : {H : Type 0} → Conduct H → H → List Request → Li
 AreReplies conduct a [] bytes b = (bytes ≡ []) × (a ≡ b)
 AreReplies {H} conduct a (request ∷ requests) bytes b =
     (mid : H) × (answer : Answer) × (later : List ℕ) × conduct.answers a request answer mid
-    × (bytes ≡ reply_text answer (closes request) ++ later) × AreReplies conduct mid requests later b
+    × (bytes ≡ reply_text answer (closes request) ++ later)
+    × AreReplies conduct mid requests later b

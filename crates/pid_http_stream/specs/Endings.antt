@@ -1,4 +1,5 @@
--- What is refused at the front of a stream where neither a request nor a leftover stands there: choices of this project.
+-- What is refused at the front of a stream where neither a request nor a leftover stands there:
+-- choices of this project.
 use Rattle.std.specs.Prelude.{◌≡◌, ℕ, ◌<◌, ◌⊎◌, List, length}
 use Rattle.httparse.specs.Grammar.{RequestHead}
 use Rattle.pid_http_stream.specs.BodyLengths.{body_length}
@@ -6,9 +7,11 @@ use Rattle.pid_http_stream.specs.Heads.{HasHead, HasNoHead}
 use Rattle.pid_http_stream.specs.Leftovers.{IsLeftover}
 use Rattle.pid_http_stream.specs.Requests.{fields_of}
 use Rattle.pid_http_stream.specs.declared.body_length.BodyLength.{BodyLength}
-use Rattle.pid_http_stream.specs.declared.body_length.BodyLength.TheVariants.{Encoded, Bad, TooLong, Bytes}
+use Rattle.pid_http_stream.specs.declared.body_length.BodyLength.TheVariants.{Encoded, Bad}
+use Rattle.pid_http_stream.specs.declared.body_length.BodyLength.TheVariants.{TooLong, Bytes}
 use Rattle.pid_http_stream.specs.declared.judging.StreamFault.{StreamFault}
-use Rattle.pid_http_stream.specs.declared.judging.StreamFault.TheVariants.{BadHead, Encoding, BodyTooLong, BodyShort}
+use Rattle.pid_http_stream.specs.declared.judging.StreamFault.TheVariants.{BadHead, Encoding}
+use Rattle.pid_http_stream.specs.declared.judging.StreamFault.TheVariants.{BodyTooLong, BodyShort}
 
 -- a head stands at the front, and says this of its body
 pub record Says (stream : List ℕ) (said : BodyLength) : Type 0 where

@@ -1,4 +1,5 @@
--- The fields of a head by their names, which are compared without regard to case (RFC 9110, section 5.1).
+-- The fields of a head by their names, which are compared without regard to case (RFC 9110, section
+-- 5.1).
 use Rattle.std.specs.Prelude.{ℕ, Bool, List, [], ◌∷◌, Option, Some, None, map, filter}
 use Rattle.std.specs.Str.{str_eq_ignore_ascii_case}
 

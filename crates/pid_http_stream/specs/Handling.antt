@@ -12,18 +12,24 @@ use Rattle.pid_http_stream.specs.declared.handler.ReplyBody.TheVariants.{Bytes, 
 
 -- the body is there, and the reply is an answer; or the handler promises to write it
 abbrev pub IsBodyFor : {H : Type 0} → Conduct H → H → Request → ReplyHead → ReplyBody → H → Type 0
-IsBodyFor conduct a request head (Bytes body) b = conduct.answers a request (answer_with head.status head.content body.items) b
+IsBodyFor conduct a request head (Bytes body) b = conduct.answers a request
+    (answer_with head.status head.content body.items) b
 IsBodyFor conduct a request head (Written told) b = conduct.promises a request head told b
 
 -- the handler may reply so
 abbrev pub MayReply : {H : Type 0} → Conduct H → H → Request → Reply → H → Type 0
 MayReply conduct a request reply b = IsBodyFor conduct a request reply.head reply.body b
 
--- a reply was made; or the request was given up, or its body came whole and memory lacked. left: what is left of its body
-abbrev pub IsAsked : {H E : Type 0} → Conduct H → H → Request → Result Reply E → Option (List ℕ) → H → Type 0
+-- a reply was made; or the request was given up, or its body came whole and memory lacked. left:
+-- what is left of its body
+abbrev pub IsAsked : {H E : Type 0} → Conduct H → H → Request → Result Reply E → Option (List ℕ) → H
+    → Type 0
 IsAsked conduct a request result left b =
-    MatchResult result (λ reply. MayReply conduct a request reply b) (λ _. StandsStill conduct a b ⊎ (IsAtEnd left × conduct.leaves a request b))
+    MatchResult result (λ reply. MayReply conduct a request reply b)
+    (λ _. StandsStill conduct a b ⊎ (IsAtEnd left × conduct.leaves a request b))
 
 -- the body was written whole; or a front of it
-abbrev pub WritesBody : {X E : Type 0} → Result X E → Option (List ℕ) → Option (List ℕ) → List ℕ → Type 0
-WritesBody result old new body = MatchResult result (λ _. Appends old new body) (λ _. WritesFront old new body)
+abbrev pub WritesBody : {X E : Type 0} → Result X E → Option (List ℕ) → Option (List ℕ) → List ℕ
+    → Type 0
+WritesBody result old new body = MatchResult result (λ _. Appends old new body)
+    (λ _. WritesFront old new body)

@@ -1,5 +1,5 @@
--- The head of a request at the front of a stream, by the grammar of RFC 9112, sections 2 to 5, as `httparse` keeps it. The two
--- limits are choices of this project.
+-- The head of a request at the front of a stream, by the grammar of RFC 9112, sections 2 to 5, as
+-- `httparse` keeps it. The two limits are choices of this project.
 use Rattle.std.specs.Prelude.{ℕ, ◌≤◌, List, length}
 use Rattle.httparse.specs.Grammar.{RequestHead, ReadsRequest, print_request}
 

@@ -5,8 +5,11 @@ use Rattle.pid_http_stream.specs.Streams.{Ending, Splits}
 
 -- a stream splits in one way: it has one list of requests, and one ending
 abbrev pub StreamsAreUnique : Type 0
-StreamsAreUnique = (stream : List ℕ) (requests others : List Request) (ending other : Ending) → Splits stream requests ending → Splits stream others other → (requests ≡ others) × (ending ≡ other)
+StreamsAreUnique = (stream : List ℕ) (requests others : List Request) (ending other : Ending)
+    → Splits stream requests ending → Splits stream others other
+    → (requests ≡ others) × (ending ≡ other)
 
 -- a request found in a front of a stream stands in all that goes on from there
 abbrev pub RequestsStay : Type 0
-RequestsStay = (front more : List ℕ) (request : Request) (behind : List ℕ) → IsRequest front request behind → IsRequest (front ++ more) request (behind ++ more)
+RequestsStay = (front more : List ℕ) (request : Request) (behind : List ℕ)
+    → IsRequest front request behind → IsRequest (front ++ more) request (behind ++ more)

@@ -2,8 +2,8 @@ pub mod FieldValues
 pub mod BodyLengths
 pub mod Heads
 pub mod Leftovers
-pub mod LineScans
 pub mod Requests
+pub mod HeadParts
 pub mod Endings
 pub mod Unfinished
 pub mod Connections
@@ -14,9 +14,9 @@ pub mod Moments
 pub mod MomentLaws
 pub mod Conducts
 pub mod Serving
+pub mod Causes
 pub mod Handling
 pub mod Laws
 pub mod Bodies
 pub mod BodyLaws
-pub mod Intakes
 pub mod Steps

@@ -1,4 +1,5 @@
--- A request at the front of a stream: its head, and a body of the length that the head says (RFC 9112, section 6.3).
+-- A request at the front of a stream: its head, and a body of the length that the head says (RFC
+-- 9112, section 6.3).
 use Rattle.std.specs.Prelude.{◌≡◌, ℕ, List, ◌++◌, length, map}
 use Rattle.httparse.specs.Grammar.{RequestHead}
 use Rattle.httparse.specs.Spans.{name_and_value}

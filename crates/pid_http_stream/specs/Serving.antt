@@ -1,18 +1,25 @@
--- What is read and written where the requests of a stream are answered in turn, by each way in which that may end.
-use Rattle.std.specs.Prelude.{◌≡◌, ℕ, ◌+◌, ◌-◌, ◌^◌, ◌≤◌, ◌⊎◌, min, Bool, true, false, List, [], ◌++◌, length, take, Option, Some}
+-- What is read and written where the requests of a stream are answered in turn, by each way in
+-- which that may end.
+use Rattle.std.specs.Prelude.{◌≡◌, ℕ, ◌+◌, ◌-◌, ◌^◌, ◌≤◌, ◌⊎◌, min, Bool, true, false, List, []}
+use Rattle.std.specs.Prelude.{◌++◌, length, take, Option, Some}
 use Rattle.std.specs.Io.KnownBytes.{Appends, Consumes}
 use Rattle.pid_http_stream.specs.Conducts.{Conduct, StandsStill, AreReplies}
 use Rattle.pid_http_stream.specs.Endings.{HasFault}
 use Rattle.pid_http_stream.specs.Moments.{Moment}
-use Rattle.pid_http_stream.specs.Replies.{Answer, answer_behind, reply_head, reply_text, fault_answer}
+use Rattle.pid_http_stream.specs.Replies.{Answer, answer_behind, reply_head, reply_text}
+use Rattle.pid_http_stream.specs.Replies.{fault_answer}
 use Rattle.pid_http_stream.specs.Requests.{Request, IsRequest, HasNoRequest}
 use Rattle.pid_http_stream.specs.Streams.{closes, Ending, clean, closed, faulty, Fronts, Splits}
 use Rattle.pid_http_stream.specs.Unfinished.{IsUnfinished}
 use Rattle.pid_http_stream.specs.declared.judging.StreamFault.{StreamFault}
-use Rattle.pid_http_stream.specs.declared.judging.StreamFault.TheVariants.{BadHead, Encoding, BodyTooLong, BodyShort}
+use Rattle.pid_http_stream.specs.declared.judging.StreamFault.TheVariants.{BadHead, Encoding}
+use Rattle.pid_http_stream.specs.declared.judging.StreamFault.TheVariants.{BodyTooLong, BodyShort}
 use Rattle.pid_http_stream.specs.declared.reply.ReplyHead.{ReplyHead}
 use Rattle.pid_http_stream.specs.declared.stream.StreamEnd.{StreamEnd}
-use Rattle.pid_http_stream.specs.declared.stream.StreamEnd.TheVariants.{Clean, Closed, HeadFault, BodyFault, ReadFault, WriteFault, StoreFault, Memory, TurnsSpent}
+use Rattle.pid_http_stream.specs.declared.stream.StreamEnd.TheVariants.{Clean, Closed, HeadFault}
+use Rattle.pid_http_stream.specs.declared.stream.StreamEnd.TheVariants.{BodyFault, ReadFault}
+use Rattle.pid_http_stream.specs.declared.stream.StreamEnd.TheVariants.{WriteFault, StoreFault}
+use Rattle.pid_http_stream.specs.declared.stream.StreamEnd.TheVariants.{Memory, TurnsSpent}
 
 -- a count that stops at its greatest value
 abbrev pub counted : ℕ → ℕ
@@ -25,11 +32,15 @@ pub record Outside (H : Type 0) : Type 0 where
   pub taken : Option (List ℕ)
   pub taken_after : Option (List ℕ)
 
+abbrev pub outside : {H : Type 0} → H → H → Option (List ℕ) → Option (List ℕ) → Outside H
+outside a b old new = record { handler = a; handler_after = b; taken = old; taken_after = new }
+
 -- a front of the bytes was written, perhaps all of them
 abbrev pub WritesFront : Option (List ℕ) → Option (List ℕ) → List ℕ → Type 0
 WritesFront old new bytes = (n : ℕ) × (n ≤ length bytes) × Appends old new (take n bytes)
 
--- behind the last request the handler is as it was; only where a body is short may it have been asked
+-- behind the last request the handler is as it was; only where a body is short may it have been
+-- asked
 abbrev pub RestsBehind : {H : Type 0} → Conduct H → Ending → H → H → Type 0
 RestsBehind conduct clean a b = a ≡ b
 RestsBehind conduct closed a b = a ≡ b
@@ -39,7 +50,8 @@ RestsBehind conduct (faulty BodyTooLong) a b = a ≡ b
 RestsBehind conduct (faulty BodyShort) a b = StandsStill conduct a b
 
 -- the whole stream was answered, and then this was written
-pub record AnswersAll {H : Type 0} (conduct : Conduct H) (o : Outside H) (stream : List ℕ) (ending : Ending) (tail : List ℕ) (count : ℕ) : Type 0 where
+pub record AnswersAll {H : Type 0} (conduct : Conduct H) (o : Outside H) (stream : List ℕ)
+    (ending : Ending) (tail : List ℕ) (count : ℕ) : Type 0 where
   pub requests : List Request
   pub replies : List ℕ
   pub last : H
@@ -50,7 +62,8 @@ pub record AnswersAll {H : Type 0} (conduct : Conduct H) (o : Outside H) (stream
   pub counts : count ≡ counted (length requests)
 
 -- the requests at the front of the stream were answered, up to this rest
-pub record AnswersFront {H : Type 0} (conduct : Conduct H) (o : Outside H) (stream rest : List ℕ) (count : ℕ) : Type 0 where
+pub record AnswersFront {H : Type 0} (conduct : Conduct H) (o : Outside H) (stream rest : List ℕ)
+    (count : ℕ) : Type 0 where
   pub requests : List Request
   pub replies : List ℕ
   pub fronts : Fronts stream requests rest
@@ -61,36 +74,45 @@ pub record AnswersFront {H : Type 0} (conduct : Conduct H) (o : Outside H) (stre
 -- these bytes are the reply to the request at the front of what is left
 abbrev pub IsReplyNext : {H : Type 0} → Conduct H → H → List ℕ → List ℕ → H → Type 0
 IsReplyNext conduct a rest bytes b =
-    (request : Request) × (behind : List ℕ) × (answer : Answer) × IsRequest rest request behind × conduct.answers a request answer b × (bytes ≡ reply_text answer (closes request))
+    (request : Request) × (behind : List ℕ) × (answer : Answer) × IsRequest rest request behind
+    × conduct.answers a request answer b × (bytes ≡ reply_text answer (closes request))
 
--- these bytes are the head of a reply to it, whose body the handler promised to write and was not asked for
+-- these bytes are the head of a reply to it, whose body the handler promised to write and was not
+-- asked for
 abbrev pub IsHeadNext : {H : Type 0} → Conduct H → H → List ℕ → List ℕ → H → Type 0
 IsHeadNext conduct a rest bytes b =
-    (request : Request) × (behind : List ℕ) × (head : ReplyHead) × (told : ℕ) × IsRequest rest request behind × conduct.promises a request head told b
+    (request : Request) × (behind : List ℕ) × (head : ReplyHead) × (told : ℕ)
+    × IsRequest rest request behind × conduct.promises a request head told b
     × (bytes ≡ reply_head head.status head.content told (closes request))
 
 -- these bytes are the refusal of what is left
 abbrev pub IsRefusalNext : {H : Type 0} → Conduct H → H → List ℕ → List ℕ → H → Type 0
 IsRefusalNext conduct a rest bytes b =
-    (fault : StreamFault) × HasFault rest fault × (bytes ≡ reply_text (fault_answer fault) true) × RestsBehind conduct (faulty fault) a b
+    (fault : StreamFault) × HasFault rest fault × (bytes ≡ reply_text (fault_answer fault) true)
+    × RestsBehind conduct (faulty fault) a b
 
 -- these bytes are what is written next
 abbrev pub IsWrittenNext : {H : Type 0} → Conduct H → H → List ℕ → List ℕ → H → Type 0
-IsWrittenNext conduct a rest bytes b = IsReplyNext conduct a rest bytes b ⊎ (IsHeadNext conduct a rest bytes b ⊎ IsRefusalNext conduct a rest bytes b)
+IsWrittenNext conduct a rest bytes b = IsReplyNext conduct a rest bytes b
+    ⊎ (IsHeadNext conduct a rest bytes b ⊎ IsRefusalNext conduct a rest bytes b)
 
--- the requests at the front of the stream were answered, and a front of what is written next stands behind their replies
-pub record BreaksOff {H : Type 0} (conduct : Conduct H) (o : Outside H) (stream : List ℕ) (count : ℕ) : Type 0 where
+-- the requests at the front of the stream were answered, and a front of what is written next stands
+-- behind their replies
+pub record BreaksOff {H : Type 0} (conduct : Conduct H) (o : Outside H) (stream : List ℕ)
+    (count : ℕ) : Type 0 where
   pub rest : List ℕ
   pub mid : H
   pub taken : Option (List ℕ)
-  pub before : AnswersFront conduct (record { handler = o.handler; handler_after = mid; taken = o.taken; taken_after = taken }) stream rest count
+  pub before : AnswersFront conduct
+      (outside o.handler mid o.taken taken) stream rest count
   pub bytes : List ℕ
   pub next_is : IsWrittenNext conduct mid rest bytes o.handler_after
   pub written : WritesFront taken o.taken_after bytes
 
--- a reply was cut within its body: the handler promised to write that itself, behind this head and of so many bytes; the head
--- was written whole, and a front of the body behind it
-pub record IsCutInBody {H : Type 0} (conduct : Conduct H) (a : H) (request : Request) (b : H) (old new : Option (List ℕ)) : Type 0 where
+-- a reply was cut within its body: the handler promised to write that itself, behind this head and
+-- of so many bytes; the head was written whole, and a front of the body behind it
+pub record IsCutInBody {H : Type 0} (conduct : Conduct H) (a : H) (request : Request) (b : H)
+    (old new : Option (List ℕ)) : Type 0 where
   pub head : ReplyHead
   pub told : ℕ
   pub middle : H
@@ -99,48 +121,61 @@ pub record IsCutInBody {H : Type 0} (conduct : Conduct H) (a : H) (request : Req
   pub answered : conduct.answers a request (answer_behind head told body) b
   pub count : ℕ
   pub front : count ≤ length body
-  pub written : Appends old new (reply_head head.status head.content told (closes request) ++ take count body)
+  pub written : Appends old new (reply_head head.status head.content told (closes request)
+      ++ take count body)
 
--- the requests at the front of the stream were answered, and the reply to the next was cut within its body
-pub record BreaksOffInBody {H : Type 0} (conduct : Conduct H) (o : Outside H) (stream : List ℕ) (count : ℕ) : Type 0 where
+-- the requests at the front of the stream were answered, and the reply to the next was cut within
+-- its body
+pub record BreaksOffInBody {H : Type 0} (conduct : Conduct H) (o : Outside H) (stream : List ℕ)
+    (count : ℕ) : Type 0 where
   pub rest : List ℕ
   pub mid : H
   pub taken : Option (List ℕ)
-  pub before : AnswersFront conduct (record { handler = o.handler; handler_after = mid; taken = o.taken; taken_after = taken }) stream rest count
+  pub before : AnswersFront conduct
+      (outside o.handler mid o.taken taken) stream rest count
   pub request : Request
   pub behind : List ℕ
   pub is : IsRequest rest request behind
   pub cut : IsCutInBody conduct mid request o.handler_after taken o.taken_after
 
--- what was read of the stream is the requests that were answered, and a rest that holds no whole request and nothing that is
--- refused: a request that has not come whole
-pub record StopsReading {H : Type 0} (conduct : Conduct H) (o : Outside H) (stream : List ℕ) (left : Option (List ℕ)) (count : ℕ) : Type 0 where
+-- what was read of the stream is the requests that were answered, and a rest that holds no whole
+-- request and nothing that is refused: a request that has not come whole
+pub record StopsReading {H : Type 0} (conduct : Conduct H) (o : Outside H) (stream : List ℕ)
+    (left : Option (List ℕ)) (count : ℕ) : Type 0 where
   pub read : List ℕ
   pub consumed : Consumes (Some stream) left read
   pub rest : List ℕ
   pub last : H
-  pub before : AnswersFront conduct (record { handler = o.handler; handler_after = last; taken = o.taken; taken_after = o.taken_after }) read rest count
+  pub before : AnswersFront conduct
+      (outside o.handler last o.taken o.taken_after) read rest count
   pub stands : StandsStill conduct last o.handler_after
   pub none : HasNoRequest rest
   pub unfinished : IsUnfinished rest
 
--- the requests at the front of the stream were answered; the handler stands still, or lacked memory for the reply to the next
-pub record LacksMemory {H : Type 0} (conduct : Conduct H) (o : Outside H) (stream : List ℕ) (count : ℕ) : Type 0 where
+-- the requests at the front of the stream were answered; the handler stands still, or lacked memory
+-- for the reply to the next
+pub record LacksMemory {H : Type 0} (conduct : Conduct H) (o : Outside H) (stream : List ℕ)
+    (count : ℕ) : Type 0 where
   pub rest : List ℕ
   pub mid : H
-  pub before : AnswersFront conduct (record { handler = o.handler; handler_after = mid; taken = o.taken; taken_after = o.taken_after }) stream rest count
-  pub after : StandsStill conduct mid o.handler_after ⊎ ((request : Request) × (behind : List ℕ) × IsRequest rest request behind × conduct.leaves mid request o.handler_after)
+  pub before : AnswersFront conduct
+      (outside o.handler mid o.taken o.taken_after) stream rest count
+  pub after : StandsStill conduct mid o.handler_after
+      ⊎ ((request : Request) × (behind : List ℕ) × IsRequest rest request behind
+      × conduct.leaves mid request o.handler_after)
 
--- a reader was read at this moment, as pipelining wants it (RFC 9112, section 9.3.2): the requests at the front of what had come
--- were answered, the writer had taken the replies, and behind them stood no whole request and nothing that is refused: a request
--- that had not come whole
-pub record IsCaughtUp {H : Type 0} (conduct : Conduct H) (start : H) (taken : Option (List ℕ)) (stream : List ℕ) (m : Moment) : Type 0 where
+-- a reader was read at this moment, as pipelining wants it (RFC 9112, section 9.3.2): the requests
+-- at the front of what had come were answered, the writer had taken the replies, and behind them
+-- stood no whole request and nothing that is refused: a request that had not come whole
+pub record IsCaughtUp {H : Type 0} (conduct : Conduct H) (start : H) (taken : Option (List ℕ))
+    (stream : List ℕ) (m : Moment) : Type 0 where
   pub read : List ℕ
   pub consumed : Consumes (Some stream) m.to_come read
   pub rest : List ℕ
   pub last : H
   pub count : ℕ
-  pub before : AnswersFront conduct (record { handler = start; handler_after = last; taken = taken; taken_after = m.taken }) read rest count
+  pub before : AnswersFront conduct
+      (outside start last taken m.taken) read rest count
   pub none : HasNoRequest rest
   pub unfinished : IsUnfinished rest
 
@@ -151,13 +186,17 @@ is_head_fault Encoding = true
 is_head_fault BodyTooLong = false
 is_head_fault BodyShort = false
 
--- all requests of the stream were answered, then its fault, and nothing else was written; the refusal is one reply more
+-- all requests of the stream were answered, then its fault, and nothing else was written; the
+-- refusal is one reply more
 abbrev pub RefusesLast : {H : Type 0} → Bool → Conduct H → Outside H → List ℕ → ℕ → Type 0
 RefusesLast of_head conduct o stream count =
-    (fault : StreamFault) × (is_head_fault fault ≡ of_head) × (answered : ℕ) × AnswersAll conduct o stream (faulty fault) (reply_text (fault_answer fault) true) answered × (count ≡ counted (answered + 1))
+    (fault : StreamFault) × (is_head_fault fault ≡ of_head) × (answered : ℕ)
+    × AnswersAll conduct o stream (faulty fault) (reply_text (fault_answer fault) true) answered
+    × (count ≡ counted (answered + 1))
 
 -- the stream was served, and so many replies were written whole: what is known at each end
-abbrev pub IsServed : {H : Type 0} → Conduct H → Outside H → List ℕ → Option (List ℕ) → StreamEnd → ℕ → Type 0
+abbrev pub IsServed : {H : Type 0} → Conduct H → Outside H → List ℕ → Option (List ℕ) → StreamEnd
+    → ℕ → Type 0
 IsServed conduct o stream left Clean count = AnswersAll conduct o stream clean [] count
 IsServed conduct o stream left Closed count = AnswersAll conduct o stream closed [] count
 IsServed conduct o stream left HeadFault count = RefusesLast true conduct o stream count

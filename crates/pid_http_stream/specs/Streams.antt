@@ -1,4 +1,5 @@
--- A whole stream: its requests one after another (pipelining, RFC 9112, section 9.3.2), and how it ends.
+-- A whole stream: its requests one after another (pipelining, RFC 9112, section 9.3.2), and how it
+-- ends.
 use Rattle.std.specs.Prelude.{◌≡◌, ℕ, ◌⊎◌, Bool, true, false, List, [], ◌∷◌}
 use Rattle.pid_http_stream.specs.Connections.{asks_to_close}
 use Rattle.pid_http_stream.specs.Endings.{HasFault}
@@ -25,15 +26,18 @@ Ends rest clean = IsLeftover rest
 Ends rest closed = ⊥
 Ends rest (faulty fault) = HasFault rest fault
 
--- these requests stand at the front of the stream, none of which closes it, and this rest behind them
+-- these requests stand at the front of the stream, none of which closes it, and this rest behind
+-- them
 abbrev pub Fronts : List ℕ → List Request → List ℕ → Type 0
 Fronts stream [] rest = stream ≡ rest
 Fronts stream (request ∷ requests) rest =
-    (behind : List ℕ) × IsRequest stream request behind × (closes request ≡ false) × Fronts behind requests rest
+    (behind : List ℕ) × IsRequest stream request behind × (closes request ≡ false)
+    × Fronts behind requests rest
 
 -- the whole stream is these requests, and ends so
 abbrev pub Splits : List ℕ → List Request → Ending → Type 0
 Splits stream [] ending = Ends stream ending
 Splits stream (request ∷ requests) ending =
     (behind : List ℕ) × IsRequest stream request behind
-    × (((closes request ≡ true) × (requests ≡ []) × (ending ≡ closed)) ⊎ ((closes request ≡ false) × Splits behind requests ending))
+    × (((closes request ≡ true) × (requests ≡ []) × (ending ≡ closed))
+    ⊎ ((closes request ≡ false) × Splits behind requests ending))

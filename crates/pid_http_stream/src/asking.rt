@@ -1,16 +1,30 @@
 //! One request over its reader: the body is read, and the handler asked.
-ghost use Rattle.std.specs.Prelude.{◌≡◌, ℕ, ◌+◌, ◌≤◌, List, length, take, drop, min, Some, IfOk, IfSome, IsSome};
+ghost use Rattle.std.specs.Prelude.{
+  ◌≡◌,
+  ℕ,
+  ◌+◌,
+  ◌≤◌,
+  List,
+  length,
+  take,
+  drop,
+  min,
+  Some,
+  IfOk,
+  IfSome,
+  IsSome,
+};
 ghost use Rattle.std.specs.Io.KnownBytes.{Consumes, IsAtEnd};
 ghost use Rattle.httparse.specs.Grammar.{RequestHead};
-ghost use Rattle.httparse.specs.Spans.{IsRequestAt};
-ghost use Rattle.pid_http_stream.specs.Bodies.{SpendsTurns};
+ghost use Rattle.pid_http_stream.specs.Bodies.{SpendsTurns, turns_at};
 ghost use Rattle.pid_http_stream.specs.BodyLengths.{longest_body};
 ghost use Rattle.pid_http_stream.specs.Handling.{IsAsked};
-ghost use Rattle.pid_http_stream.specs.Intakes.{IsWaiting, StandsAt};
+ghost use Rattle.pid_http_stream.specs.Steps.Intakes.{IsWaiting, StandsAt};
+ghost use Rattle.pid_http_stream.specs.HeadParts.{IsHeadOf};
 ghost use Rattle.pid_http_stream.specs.Leading.{Leads};
 ghost use Rattle.pid_http_stream.specs.Moments.{AllSince};
 ghost use Rattle.pid_http_stream.specs.Requests.{Request};
-ghost use Rattle.pid_http_stream.specs.Steps.{Asks, asked_so};
+ghost use Rattle.pid_http_stream.specs.Steps.Loop.{Asks, asked_so};
 
 use crate::body_input::{BodyFault, BodyInput};
 use crate::handler::{Handler, NoReply, Reply, Wanted};
@@ -32,7 +46,8 @@ pub(crate) enum Asked {
 
 // Reads a body to its end, of at most so many bytes.
 fn read_whole<B: Input>(alloc: Global, told: usize, body: &mut B) -> Result<Vec<u8>, NoReply>
-    ensures whole { IfOk result (λ v. Consumes (B.to_come body.old) (B.to_come body.new) v.items × IsAtEnd (B.to_come body.new)) }
+    ensures whole { IfOk result (λ v. Consumes (B.to_come body.old) (B.to_come body.new) v.items
+        × IsAtEnd (B.to_come body.new)) }
     ensures goes { B.goes body.old body.new }
 {
     let Ok(mut bytes) = Vec::with_capacity(alloc, told) else {
@@ -57,21 +72,24 @@ fn read_whole<B: Input>(alloc: Global, told: usize, body: &mut B) -> Result<Vec<
 fn ask_buffered<H: Handler, B: Input>(
     alloc: Global,
     handler: &mut H,
+    question: H::Question,
     head: &Head<'_>,
     told: usize,
     body: &mut B,
 ) -> Result<Reply, NoReply>
-    requires wanted { (h : RequestHead) → IsRequestAt head.now.bytes.now head.now.fields.now head.now.spans h → H.may_hold handler.old h }
+    requires asks { (h : RequestHead) → IsHeadOf head.now h
+        → H.means (Wanted.Buffered question) h }
     ensures goes { B.goes body.old body.new }
     ensures whole { IfOk result (λ _. IsAtEnd (B.to_come body.new)) }
     ensures becomes { H.becomes handler.old handler.new }
-    ensures answered { Leads H.is_good H.stands handler.old handler.new (λ v w. (request : Request) → IsRequestAt head.now.bytes.now head.now.fields.now head.now.spans request.head
+    ensures answered { Leads H.is_good H.stands handler.old handler.new
+        (λ v w. (request : Request) → IsHeadOf head.now request.head
         → B.to_come body.old ≡ Some request.body → length request.body ≤ longest_body
-        → IsAsked (record { answers = H.answers; leaves = H.leaves; gives_up = H.gives_up; promises = H.promises }) v request result (B.to_come body.new) w) }
+        → IsAsked H.conduct v request result (B.to_come body.new) w) }
 {
     match read_whole(alloc, told, body) {
         Err(end) => Err(end),
-        Ok(bytes) => handler.answer(head, &bytes),
+        Ok(bytes) => handler.answer(question, head, &bytes),
     }
 }
 
@@ -86,19 +104,23 @@ fn ask<H: Handler, B: Input>(
     ensures goes { B.goes body.old body.new }
     ensures whole { IfOk result (λ _. IsAtEnd (B.to_come body.new)) }
     ensures becomes { H.becomes handler.old handler.new }
-    ensures answered { Leads H.is_good H.stands handler.old handler.new (λ v w. (request : Request) → IsRequestAt head.now.bytes.now head.now.fields.now head.now.spans request.head
+    ensures answered { Leads H.is_good H.stands handler.old handler.new
+        (λ v w. (request : Request) → IsHeadOf head.now request.head
         → B.to_come body.old ≡ Some request.body → length request.body ≤ longest_body
-        → IsAsked (record { answers = H.answers; leaves = H.leaves; gives_up = H.gives_up; promises = H.promises }) v request result (B.to_come body.new) w) }
+        → IsAsked H.conduct v request result (B.to_come body.new) w) }
 {
-    match handler.wants(head) {
-        Wanted::Buffered => ask_buffered(alloc, handler, head, told, body),
-        Wanted::Streamed => handler.answer_streamed(head, body),
+    match handler.question(head) {
+        Err(end) => Err(end),
+        Ok(Wanted::Buffered(question)) => ask_buffered(alloc, handler, question, head, told, body),
+        Ok(Wanted::Streamed(upload)) => handler.answer_streamed(upload, head, body),
     }
 }
 
 // What came of a body with its head: at most so many of the bytes behind that.
 fn came_with<'b>(head: &Head<'b>, told: usize) -> &'b [u8]
-    ensures front { result.now ≡ take (min told (length (drop head.now.spans.len head.now.bytes.now))) (drop head.now.spans.len head.now.bytes.now) }
+    ensures front { result.now ≡ take (min told
+        (length (drop head.now.spans.len head.now.bytes.now)))
+        (drop head.now.spans.len head.now.bytes.now) }
     ensures fits { length result.now ≤ told }
 {
     let (_, behind) = head.bytes.split_at(head.spans.len);
@@ -123,8 +145,8 @@ fn asked_of(reply: Result<Reply, NoReply>, wanted: usize, fault: Option<BodyFaul
     }
 }
 
-/// Has a request answered whose head stands at the front of the bytes held, and whose body has so many bytes: those that came
-/// with the head, and then those of the reader.
+/// Has a request answered whose head stands at the front of the bytes held, and whose body has so
+/// many bytes: those that came with the head, and then those of the reader.
 pub(crate) fn ask_over<H: Handler, I: Incoming<W>, W: Output>(
     alloc: Global,
     handler: &mut H,
@@ -136,10 +158,19 @@ pub(crate) fn ask_over<H: Handler, I: Incoming<W>, W: Output>(
 ) -> Asked
     requires { StandsAt head.now.bytes.now head.now.fields.now head.now.spans told }
     ensures becomes { H.becomes handler.old handler.new }
-    ensures asked { Leads H.is_good H.stands handler.old handler.new (λ v w. IfSome (I.to_come input.old) (λ _. Asks (record { answers = H.answers; leaves = H.leaves; gives_up = H.gives_up; promises = H.promises })
-        (record { a = v; b = w; input = I.to_come input.old; input_after = I.to_come input.new }) head.now.bytes.now head.now.fields.now head.now.spans told result)) }
-    ensures turns { SpendsTurns (record { reads = I.reads input.old; left = left.old }) (record { reads = I.reads input.new; left = left.new }) }
-    ensures waits { AllSince (IsWaiting head.now.bytes.now (I.to_come input.old) (W.taken output.now)) (I.moments input.old) (I.moments input.new) }
+    ensures asked { Leads H.is_good H.stands handler.old handler.new
+        (λ v w. IfSome (I.to_come input.old) (λ _. Asks H.conduct
+        (record { a = v; b = w; input = I.to_come input.old; input_after = I.to_come input.new })
+        (record {
+          held = head.now.bytes.now;
+          headers = head.now.fields.now;
+          spans = head.now.spans;
+          content_length = told;
+        }) result)) }
+    ensures turns { SpendsTurns (turns_at (I.reads input.old) left.old)
+        (turns_at (I.reads input.new) left.new) }
+    ensures waits { AllSince (IsWaiting head.now.bytes.now (I.to_come input.old)
+        (W.taken output.now)) (I.moments input.old) (I.moments input.new) }
     ensures fault { result ≡ Asked.Broken BodyFault.ReadFault → IsSome (I.read_fault input.new) }
     ensures spent { result ≡ Asked.Broken BodyFault.TurnsSpent → left.new ≡ 0 }
     ensures goes { I.goes input.old input.new }

@@ -15,8 +15,8 @@ pub(crate) enum BodyFault {
     TurnsSpent,
 }
 
-/// The body of a request: what came with its head, and then the reader under it, up to the length that the head said. It keeps
-/// its fault.
+/// The body of a request: what came with its head, and then the reader under it, up to the length
+/// that the head said. It keeps its fault.
 #[derive(Drop)]
 pub(crate) struct BodyInput<'h, 'i, 'o, I: Incoming<W>, W: Output> {
     /// What came with the head and was not given yet.
@@ -39,23 +39,71 @@ pub(crate) struct BodyInput<'h, 'i, 'o, I: Incoming<W>, W: Output> {
 impl<I: Incoming<W>, W: Output> Input for BodyInput<'_, '_, '_, I, W> {
     ghost use Rattle.std.specs.Prelude.{◌≡◌, ◌++◌, option_map};
     ghost use Rattle.std.proofs.Common.{refl, ◌∙◌};
-    ghost use Rattle.pid_http_stream.specs.Bodies.{padded, fault_told, HasReadBody};
+    ghost use Rattle.pid_http_stream.specs.Bodies.{padded, fault_told, HasReadBody, turns_at};
     ghost use Rattle.pid_http_stream.specs.BodyLaws.{no_body_reads, more_body_reads};
 
-    ghost to_come = { λ b. option_map (λ s. padded b.wanted (b.held.now ++ s)) (I.to_come b.input.now) };
+    ghost to_come = { λ b. option_map (λ s. padded b.wanted (b.held.now ++ s))
+        (I.to_come b.input.now) };
 
     ghost read_fault = { λ b. fault_told b.fault };
 
     ghost reads = { λ b. b.reads };
 
-    ghost goes = { λ a b. (b.input.ghost_name ≡ a.input.ghost_name) × I.goes a.input.now b.input.now
+    ghost goes = { λ a b. (b.input.ghost_name ≡ a.input.ghost_name)
+        × I.goes a.input.now b.input.now
         × HasReadBody
-        (record { held = a.held.now; wanted = a.wanted; fault = a.fault; to_come = I.to_come a.input.now; kept = I.read_fault a.input.now; turns = record { reads = I.reads a.input.now; left = a.left }; moments = I.moments a.input.now; taken = W.taken a.output.now })
-        (record { held = b.held.now; wanted = b.wanted; fault = b.fault; to_come = I.to_come b.input.now; kept = I.read_fault b.input.now; turns = record { reads = I.reads b.input.now; left = b.left }; moments = I.moments b.input.now; taken = W.taken b.output.now }) };
+        (record {
+          held = a.held.now;
+          wanted = a.wanted;
+          fault = a.fault;
+          to_come = I.to_come a.input.now;
+          kept = I.read_fault a.input.now;
+          turns = turns_at (I.reads a.input.now) a.left;
+          moments = I.moments a.input.now;
+          taken = W.taken a.output.now;
+        })
+        (record {
+          held = b.held.now;
+          wanted = b.wanted;
+          fault = b.fault;
+          to_come = I.to_come b.input.now;
+          kept = I.read_fault b.input.now;
+          turns = turns_at (I.reads b.input.now) b.left;
+          moments = I.moments b.input.now;
+          taken = W.taken b.output.now;
+        }) };
 
-    ghost stays = { λ a. (refl, I.stays a.input.now, no_body_reads (record { held = a.held.now; wanted = a.wanted; fault = a.fault; to_come = I.to_come a.input.now; kept = I.read_fault a.input.now; turns = record { reads = I.reads a.input.now; left = a.left }; moments = I.moments a.input.now; taken = W.taken a.output.now })) };
+    ghost stays = { λ a. (
+      refl,
+      I.stays a.input.now,
+      no_body_reads
+          (record {
+            held = a.held.now;
+            wanted = a.wanted;
+            fault = a.fault;
+            to_come = I.to_come a.input.now;
+            kept = I.read_fault a.input.now;
+            turns = turns_at (I.reads a.input.now) a.left;
+            moments = I.moments a.input.now;
+            taken = W.taken a.output.now;
+          }),
+    ) };
 
-    ghost joins = { λ a b c p q. (q.0 ∙ p.0, I.joins a.input.now b.input.now c.input.now p.1 q.1, more_body_reads _ (record { held = b.held.now; wanted = b.wanted; fault = b.fault; to_come = I.to_come b.input.now; kept = I.read_fault b.input.now; turns = record { reads = I.reads b.input.now; left = b.left }; moments = I.moments b.input.now; taken = W.taken b.output.now }) _ p.2 q.2) };
+    ghost joins = { λ a b c p q. (
+      q.0 ∙ p.0,
+      I.joins a.input.now b.input.now c.input.now p.1 q.1,
+      more_body_reads _
+          (record {
+            held = b.held.now;
+            wanted = b.wanted;
+            fault = b.fault;
+            to_come = I.to_come b.input.now;
+            kept = I.read_fault b.input.now;
+            turns = turns_at (I.reads b.input.now) b.left;
+            moments = I.moments b.input.now;
+            taken = W.taken b.output.now;
+          }) _ p.2 q.2,
+    ) };
 
     fn read(&mut self, buffer: &mut [u8]) -> Result<usize, ReadFault> {
         self.reads = self.reads.saturating_add(1);

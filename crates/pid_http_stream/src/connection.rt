@@ -1,9 +1,26 @@
 //! Whether a request asks that the connection be closed behind its reply.
-ghost use Rattle.std.specs.Prelude.{◌≡◌, ℕ, ◌+◌, ◌<◌, ◌≤◌, List, All, length, map, codes, take, reverse};
+ghost use Rattle.std.specs.Prelude.{
+  ◌≡◌,
+  ℕ,
+  ◌+◌,
+  ◌<◌,
+  ◌≤◌,
+  List,
+  All,
+  length,
+  map,
+  codes,
+  take,
+  reverse,
+};
 ghost use Rattle.httparse.specs.Grammar.{skip_ows, is_ows, trim_ows};
 ghost use Rattle.httparse.specs.Spans.{header_bytes, IsHeaderWithin};
 ghost use Rattle.std.specs.Str.{str_eq_ignore_ascii_case};
-ghost use Rattle.pid_http_stream.specs.Connections.{is_close as is_close_word, has_close, asks_to_close as asks};
+ghost use Rattle.pid_http_stream.specs.Connections.{
+  is_close as is_close_word,
+  has_close,
+  asks_to_close as asks,
+};
 
 use crate::fields::is_field;
 use httparse::spans::HeaderSpan;

@@ -30,7 +30,8 @@ pub fn count_named(buf: &[u8], fields: &[HeaderSpan], name: &[u8]) -> usize
 /// The value of the first field with this name, in any case.
 pub fn first_named<'b>(buf: &'b [u8], fields: &[HeaderSpan], name: &[u8]) -> Option<&'b [u8]>
     requires { All (IsHeaderWithin (length buf.now)) fields.now }
-    ensures { option_copied result ≡ first_of (values_of name.now (map (header_bytes buf.now) fields.now)) }
+    ensures { option_copied result ≡ first_of
+        (values_of name.now (map (header_bytes buf.now) fields.now)) }
 {
     for field in fields {
         if is_field(buf, field, name) {

@@ -1,13 +1,6 @@
 //! The head of a request, over the bytes that hold it.
-ghost use Rattle.std.specs.Prelude.{◌≡◌, ℕ, ◌≤◌, length, take, map, All, option_copied, IsUtf8};
-ghost use Rattle.httparse.specs.Grammar.{RequestHead};
-ghost use Rattle.httparse.specs.Spans.{header_bytes, IsHeaderWithin, IsRequestWithin, IsRequestAt};
-ghost use Rattle.pid_http_stream.specs.Connections.{asks_to_close as asks};
-ghost use Rattle.pid_http_stream.specs.FieldValues.{values_of, first_of};
-ghost use Rattle.pid_http_stream.specs.Requests.{fields_of};
+ghost use Rattle.httparse.specs.Spans.{IsRequestWithin};
 
-use crate::connection::asks_to_close;
-use crate::fields::{count_named, first_named};
 use httparse::spans::{HeaderSpan, RequestSpans};
 
 /// The head of a request: where its parts stand in some bytes.
@@ -20,49 +13,4 @@ pub struct Head<'b> {
     /// Where the other parts stand.
     pub spans: RequestSpans,
     ghost within: { IsRequestWithin bytes.now fields.now spans },
-}
-
-impl<'b> Head<'b> {
-    /// The method, as it was sent.
-    pub fn method(&self) -> &'b [u8]
-        ensures { (head : RequestHead) → IsRequestAt self.now.bytes.now self.now.fields.now self.now.spans head → result.now ≡ head.method }
-    {
-        self.spans.method.of(self.bytes)
-    }
-
-    /// The target, as it was sent: UTF-8, and neither blank nor control byte in it.
-    pub fn target(&self) -> &'b [u8]
-        ensures { (head : RequestHead) → IsRequestAt self.now.bytes.now self.now.fields.now self.now.spans head → result.now ≡ head.target }
-    {
-        self.spans.path.of(self.bytes)
-    }
-
-    // Where the fields stand.
-    fn present(&self) -> &'b [HeaderSpan]
-        ensures value { result.now ≡ take self.now.spans.headers self.now.fields.now }
-        ensures within { All (IsHeaderWithin (length self.now.bytes.now)) result.now }
-    {
-        &self.fields[..self.spans.headers]
-    }
-
-    /// How many fields have this name, in any case.
-    pub fn count_named(&self, name: &[u8]) -> usize
-        ensures { (head : RequestHead) → IsRequestAt self.now.bytes.now self.now.fields.now self.now.spans head → result ≡ length (values_of name.now (fields_of head)) }
-    {
-        count_named(self.bytes, self.present(), name)
-    }
-
-    /// The value of the first field with this name, in any case, without the blanks around it.
-    pub fn first_named(&self, name: &[u8]) -> Option<&'b [u8]>
-        ensures { (head : RequestHead) → IsRequestAt self.now.bytes.now self.now.fields.now self.now.spans head → option_copied result ≡ first_of (values_of name.now (fields_of head)) }
-    {
-        first_named(self.bytes, self.present(), name)
-    }
-
-    /// Whether the request asks that the connection be closed behind its reply.
-    pub fn closes(&self) -> bool
-        ensures { (head : RequestHead) → IsRequestAt self.now.bytes.now self.now.fields.now self.now.spans head → result ≡ asks head.minor (fields_of head) }
-    {
-        asks_to_close(self.bytes, self.present(), self.spans.version)
-    }
 }

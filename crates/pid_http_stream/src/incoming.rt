@@ -1,13 +1,28 @@
 //! What comes in from a client, over the writer of what goes out to it.
-ghost use Rattle.std.specs.Prelude.{◌≡◌, ◌+◌, ◌-◌, ◌^◌, ◌≤◌, min, length, Some, Err, IfOk, IfSome, MatchResult};
+ghost use Rattle.std.specs.Prelude.{
+  ◌≡◌,
+  ◌+◌,
+  ◌-◌,
+  ◌^◌,
+  ◌≤◌,
+  min,
+  length,
+  Some,
+  Err,
+  IfOk,
+  IfSome,
+  MatchResult,
+};
 ghost use Rattle.std.specs.Io.KnownBytes.{ReadConsumes};
 ghost use Rattle.pid_http_stream.specs.Moments.{AllSince, IsMoment};
 
 use pid_ident::{Input, Output, ReadFault};
 
-/// A reader of what a client sends, which is shown the writer of the replies to it each time that it is read.
+/// A reader of what a client sends, which is shown the writer of the replies to it each time that
+/// it is read.
 ///
-/// So one that keeps account of these moments tells when replies go out. Each `Input` is one that keeps none.
+/// So one that keeps account of these moments tells when replies go out. Each `Input` is one that
+/// keeps none.
 pub trait Incoming<W: Output> {
     ghost use Rattle.std.specs.Prelude.{ℕ, List, Option, None};
     ghost use Rattle.pid_file.specs.declared.io.ReadFault.{ReadFault};
@@ -32,11 +47,13 @@ pub trait Incoming<W: Output> {
     fn read_behind(&mut self, output: &W, buffer: &mut [u8]) -> Result<usize, ReadFault>
         ensures room { IfOk result (λ n. n ≤ length buffer.new) }
         ensures bytes { ReadConsumes (to_come self.old) (to_come self.new) result buffer.new }
-        ensures fault { MatchResult result (λ _. read_fault self.new ≡ None) (λ f. read_fault self.new ≡ Some f) }
+        ensures fault { MatchResult result (λ _. read_fault self.new ≡ None)
+            (λ f. read_fault self.new ≡ Some f) }
         ensures kept { IfSome (read_fault self.old) (λ f. result ≡ Err f) }
         ensures count { reads self.new ≡ min (reads self.old + 1) (2 ^ 64 - 1) }
         ensures goes { goes self.old self.new }
-        ensures noted { AllSince (IsMoment (to_come self.old) (W.taken output.now)) (moments self.old) (moments self.new) };
+        ensures noted { AllSince (IsMoment (to_come self.old) (W.taken output.now))
+            (moments self.old) (moments self.new) };
 
     /// No read leaves it as it is.
     ghost stays: { (a : Self) → goes a a };

@@ -1,10 +1,33 @@
 //! What comes in from a reader, up to the end of a head.
-ghost use Rattle.std.specs.Prelude.{◌≡◌, ◌≢◌, ℕ, ◌+◌, ◌*◌, ◌<◌, ◌≤◌, List, length, take, ◌++◌, false, Option, IsSome, vec_len, vec_capacity};
+ghost use Rattle.std.specs.Prelude.{
+  ◌≡◌,
+  ℕ,
+  ◌+◌,
+  ◌*◌,
+  ◌≤◌,
+  List,
+  length,
+  take,
+  ◌++◌,
+  false,
+  Option,
+  vec_len,
+  vec_capacity,
+};
 ghost use Rattle.std.specs.Io.KnownBytes.{IsAtEnd};
 ghost use Rattle.httparse.specs.Grammar.{HasNoRequest as HasNoHeadYet};
 ghost use Rattle.httparse.specs.declared.spans.HeaderSpan.{HeaderSpan as FieldSpan};
-ghost use Rattle.pid_http_stream.specs.Bodies.{SpendsTurns};
-ghost use Rattle.pid_http_stream.specs.Intakes.{ComesIn, IsHeadRead, IsJudged, IsWaiting, StaysBut};
+ghost use Rattle.pid_file.specs.declared.io.ReadFault.{ReadFault};
+ghost use Rattle.pid_http_stream.specs.Bodies.{SpendsTurns, turns_at};
+ghost use Rattle.pid_http_stream.specs.Steps.Intakes.{
+  ComesIn,
+  FillStops,
+  HeadStops,
+  IsHeadRead,
+  IsJudged,
+  IsWaiting,
+  StaysBut,
+};
 ghost use Rattle.pid_http_stream.specs.Moments.{AllSince, IsMoment};
 ghost use Rattle.pid_http_stream.specs.Unfinished.{HasNoLineEnd, IsHeadUnfinished, IsUnfinished};
 
@@ -57,8 +80,8 @@ fn keep(held: &mut Vec<u8>, piece: &[u8]) -> Filled
     }
 }
 
-// Reads once, and keeps what came. Room is made first, so that nothing is read that can't be kept; and nothing is read while a
-// whole request is held, or what is refused.
+// Reads once, and keeps what came. Room is made first, so that nothing is read that can't be kept;
+// and nothing is read while a whole request is held, or what is refused.
 fn fill<I: Incoming<W>, W: Output>(
     held: &mut Vec<u8>,
     left: &mut u64,
@@ -66,15 +89,16 @@ fn fill<I: Incoming<W>, W: Output>(
     output: &W,
 ) -> Filled
     requires waits { IsUnfinished held.old.items }
-    ensures comes { ComesIn held.old.items held.new.items (I.to_come input.old) (I.to_come input.new) }
-    ensures stays { StaysBut held.old.items held.new.items result }
-    ensures end { result ≡ Filled.End → IsAtEnd (I.to_come input.new) }
-    ensures turns { SpendsTurns (record { reads = I.reads input.old; left = left.old }) (record { reads = I.reads input.new; left = left.new }) }
-    ensures pace { result ≡ Filled.Piece → left.new * READ_SIZE + length held.new.items ≤ left.old * READ_SIZE + length held.old.items }
-    ensures goes_on { result ≡ Filled.Piece → left.new < left.old }
-    ensures noted { AllSince (IsMoment (I.to_come input.old) (W.taken output.now)) (I.moments input.old) (I.moments input.new) }
-    ensures fault { result ≡ Filled.Stopped Stop.ReadFault → IsSome (I.read_fault input.new) }
-    ensures spent { result ≡ Filled.Stopped Stop.TurnsSpent → left.new ≡ 0 }
+    ensures comes { ComesIn held.old.items held.new.items (I.to_come input.old)
+        (I.to_come input.new) }
+    ensures stays { StaysBut held.old.items held.new.items (I.to_come input.new) result }
+    ensures piece { result ≡ Filled.Piece → (left.new + 1 ≡ left.old)
+        × (length held.new.items ≤ length held.old.items + READ_SIZE) }
+    ensures turns { SpendsTurns (turns_at (I.reads input.old) left.old)
+        (turns_at (I.reads input.new) left.new) }
+    ensures noted { AllSince (IsMoment (I.to_come input.old) (W.taken output.now))
+        (I.moments input.old) (I.moments input.new) }
+    ensures stopped { FillStops result (I.read_fault input.new) left.new }
     ensures goes { I.goes input.old input.new }
 {
     if *left == 0 {
@@ -108,9 +132,9 @@ fn ends_line(bytes: &[u8]) -> bool
 fn judge_end(held: &[u8]) -> HeadRead
     requires none { HasNoHeadYet held.now }
     requires short { length held.now ≤ LONGEST_HEAD }
-    ensures judged { (fields : List FieldSpan) → (left : Option (List ℕ)) → IsAtEnd left → IsHeadRead held.now fields left result }
-    ensures no_fault { result ≢ HeadRead.Stopped Stop.ReadFault }
-    ensures not_spent { result ≢ HeadRead.Stopped Stop.TurnsSpent }
+    ensures judged { (fields : List FieldSpan) → (left : Option (List ℕ)) → IsAtEnd left
+        → IsHeadRead held.now fields left result }
+    ensures stopped { (fault : Option ReadFault) (left : ℕ) → HeadStops result fault left }
 {
     if are_line_ends(held) {
         HeadRead::Nothing
@@ -119,8 +143,8 @@ fn judge_end(held: &[u8]) -> HeadRead
     }
 }
 
-// Judges what came, of which so many bytes hold no head. They are parsed anew only where a line ends behind these: no head ends
-// but with a line.
+// Judges what came, of which so many bytes hold no head. They are parsed anew only where a line
+// ends behind these: no head ends but with a line.
 fn judge_more(held: &[u8], before: usize, fields: &mut [HeaderSpan]) -> Judged
     requires wants { IsHeadUnfinished (take before held.now) }
     requires before { before ≤ length held.now }
@@ -144,13 +168,16 @@ pub(crate) fn read_head<I: Incoming<W>, W: Output>(
     fields: &mut [HeaderSpan],
 ) -> HeadRead
     requires { length fields.old ≡ MOST_FIELDS }
-    ensures comes { ComesIn held.old.items held.new.items (I.to_come input.old) (I.to_come input.new) }
+    ensures comes { ComesIn held.old.items held.new.items (I.to_come input.old)
+        (I.to_come input.new) }
     ensures head { IsHeadRead held.new.items fields.new (I.to_come input.new) result }
-    ensures turns { SpendsTurns (record { reads = I.reads input.old; left = left.old }) (record { reads = I.reads input.new; left = left.new }) }
-    ensures pace { left.new * READ_SIZE + length held.new.items ≤ left.old * READ_SIZE + length held.old.items }
-    ensures waits { AllSince (IsWaiting held.old.items (I.to_come input.old) (W.taken output.now)) (I.moments input.old) (I.moments input.new) }
-    ensures fault { result ≡ HeadRead.Stopped Stop.ReadFault → IsSome (I.read_fault input.new) }
-    ensures spent { result ≡ HeadRead.Stopped Stop.TurnsSpent → left.new ≡ 0 }
+    ensures turns { SpendsTurns (turns_at (I.reads input.old) left.old)
+        (turns_at (I.reads input.new) left.new) }
+    ensures pace { left.new * READ_SIZE + length held.new.items
+        ≤ left.old * READ_SIZE + length held.old.items }
+    ensures waits { AllSince (IsWaiting held.old.items (I.to_come input.old) (W.taken output.now))
+        (I.moments input.old) (I.moments input.new) }
+    ensures stopped { HeadStops result (I.read_fault input.new) left.new }
     ensures goes { I.goes input.old input.new }
 {
     let mut judged = judge(held, fields);

@@ -1,11 +1,25 @@
 //! What stands at the front of the bytes that came.
-ghost use Rattle.std.specs.Prelude.{◌≡◌, ◌↔◌, ℕ, ◌≤◌, ◌<◌, IsTrue, false, List, length, take, drop, map, All};
+ghost use Rattle.std.specs.Prelude.{
+  ◌≡◌,
+  ◌↔◌,
+  ℕ,
+  ◌≤◌,
+  ◌<◌,
+  IsTrue,
+  false,
+  List,
+  length,
+  take,
+  drop,
+  map,
+  All,
+};
 ghost use Rattle.httparse.specs.Grammar.{HasNoRequest as HasNoHeadYet};
 ghost use Rattle.httparse.specs.Spans.{header_bytes, IsRequestWithin, IsRequestOf};
 ghost use Rattle.httparse.specs.declared.spans.HeaderSpan.{HeaderSpan as FieldSpan};
-ghost use Rattle.pid_http_stream.specs.Intakes.{IsJudged};
+ghost use Rattle.pid_http_stream.specs.Steps.Intakes.{IsJudged};
 ghost use Rattle.pid_http_stream.specs.Leftovers.{AreLineEnds};
-ghost use Rattle.pid_http_stream.specs.LineScans.{blank_after};
+ghost use Rattle.pid_http_stream.specs.Steps.LineScans.{blank_after};
 ghost use Rattle.pid_http_stream.specs.Unfinished.{CanBeHead};
 
 use crate::body_length::{BodyLength, length_of};
@@ -21,7 +35,8 @@ pub const LONGEST_HEAD: usize = 16_384;
 /// Why a stream is refused.
 #[derive(Clone, Copy, Debug, PartialEq, Eq)]
 pub enum StreamFault {
-    /// What stands there is no head, has too many fields or is too long, or its Content-Length is no length.
+    /// What stands there is no head, has too many fields or is too long, or its Content-Length is
+    /// no length.
     BadHead,
     /// The body is sent in a transfer encoding.
     Encoding,

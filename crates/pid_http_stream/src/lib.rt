@@ -1,9 +1,12 @@
-//! A stream of HTTP requests, answered one after another by any handler (RFC 9112, message framing by Content-Length).
+//! A stream of HTTP requests, answered one after another by any handler (RFC 9112, message framing
+//! by Content-Length).
 //!
-//! `serve_stream` reads heads by `httparse`, judges them, hands each request to a `Handler` and writes its reply before it
-//! reads on. It holds one buffer for the head and one for the body, whatever a client sends: a head has at most 16,384 bytes
-//! and 32 fields, a body at most 4,194,304 bytes. A body that the handler wants as a stream is not held at all, and neither is
-//! the body of a reply that the handler writes itself.
+//! `serve_stream` reads heads by `httparse`, judges them, hands each request to a `Handler` and
+//!   writes its reply before it
+//! reads on. It holds one buffer for the head and one for the body, whatever a client sends: a head
+//! has at most 16,384 bytes and 32 fields, a body at most 4,194,304 bytes. A body that the handler
+//! wants as a stream is not held at all, and neither is the body of a reply that the handler writes
+//! itself.
 #![tactic(auto)]
 
 mod asking;
@@ -14,6 +17,7 @@ mod draining;
 mod fields;
 mod handler;
 mod head;
+mod head_parts;
 mod incoming;
 mod intake;
 mod judging;
@@ -30,5 +34,5 @@ pub use head::Head;
 pub use incoming::Incoming;
 pub use judging::{LONGEST_HEAD, MOST_FIELDS, StreamFault};
 pub use laws::{requests_stay, streams_are_unique};
-pub use reply::{Content, ReplyHead, Status};
+pub use reply::{Content, ReplyHead};
 pub use stream::{Served, StreamEnd, serve_stream};

@@ -1,26 +1,22 @@
 //! The bytes of a reply.
 ghost use Rattle.std.specs.Prelude.{◌≡◌, ◌++◌, codes, ℕ, IfErr, Some, true};
 ghost use Rattle.pid_ident.specs.Sending.{Sends};
-ghost use Rattle.pid_http_stream.specs.Replies.{Answer, status_line as line_of_status, type_line as line_of_type, allow_line as line_of_allow, close_line as line_of_close, reply_text, fault_answer, answer_with};
+ghost use Rattle.pid_http_stream.specs.Replies.{
+  Answer,
+  phrase_of as phrase_for,
+  type_line as line_of_type,
+  allow_line as line_of_allow,
+  close_line as line_of_close,
+  reply_text,
+  answer_behind,
+  fault_answer,
+  answer_with,
+};
 
 use crate::judging::StreamFault;
+use http::StatusCode;
 use itoa::Buffer;
 use pid_ident::{Output, WriteFault, write_parts};
-
-/// The statuses of replies.
-#[derive(Clone, Copy, Debug, PartialEq, Eq)]
-pub enum Status {
-    Okay,
-    BadRequest,
-    Forbidden,
-    NotFound,
-    MethodNotAllowed,
-    Conflict,
-    PayloadTooLarge,
-    UnprocessableEntity,
-    NotImplemented,
-    ServiceUnavailable,
-}
 
 /// What a reply's body is. Only a reply that names the methods allowed has none.
 #[derive(Clone, Copy, Debug, PartialEq, Eq)]
@@ -36,24 +32,17 @@ pub enum Content {
 /// A reply without its body.
 #[derive(Clone, Copy, Debug, PartialEq, Eq)]
 pub struct ReplyHead {
-    pub status: Status,
+    pub status: StatusCode,
     pub content: Content,
 }
 
-fn status_line(status: Status) -> &'static [u8]
-    ensures { result.now ≡ line_of_status status }
+// The phrase of a status; none where it has none.
+fn phrase_of(status: StatusCode) -> &'static [u8]
+    ensures { result.now ≡ phrase_for status }
 {
-    match status {
-        Status::Okay => b"HTTP/1.1 200 OK\r\n",
-        Status::BadRequest => b"HTTP/1.1 400 Bad Request\r\n",
-        Status::Forbidden => b"HTTP/1.1 403 Forbidden\r\n",
-        Status::NotFound => b"HTTP/1.1 404 Not Found\r\n",
-        Status::MethodNotAllowed => b"HTTP/1.1 405 Method Not Allowed\r\n",
-        Status::Conflict => b"HTTP/1.1 409 Conflict\r\n",
-        Status::PayloadTooLarge => b"HTTP/1.1 413 Payload Too Large\r\n",
-        Status::UnprocessableEntity => b"HTTP/1.1 422 Unprocessable Entity\r\n",
-        Status::NotImplemented => b"HTTP/1.1 501 Not Implemented\r\n",
-        Status::ServiceUnavailable => b"HTTP/1.1 503 Service Unavailable\r\n",
+    match status.canonical_reason() {
+        Some(phrase) => phrase.as_bytes(),
+        None => b"",
     }
 }
 
@@ -92,19 +81,27 @@ fn close_line(closes: bool) -> &'static [u8]
 fn write_lines<'x, W: Output>(
     out: &mut W,
     status: &'x [u8],
+    phrase: &'x [u8],
     content: &'x [u8],
     length: &'x [u8],
     allow: &'x [u8],
     close: &'x [u8],
     body: &'x [u8],
 ) -> Result<(), WriteFault>
-    ensures sent { Sends result (W.taken out.old) (W.taken out.new) (status.now ++ content.now ++ codes "Content-Length: " ++ length.now ++ codes "\r\n" ++ allow.now ++ close.now ++ codes "\r\n" ++ body.now) }
+    ensures sent { Sends result (W.taken out.old) (W.taken out.new)
+        (codes "HTTP/1.1 " ++ status.now ++ codes " " ++ phrase.now ++ codes "\r\n"
+        ++ content.now ++ codes "Content-Length: " ++ length.now ++ codes "\r\n"
+        ++ allow.now ++ close.now ++ codes "\r\n" ++ body.now) }
     ensures fault { IfErr result (λ f. W.write_fault out.new ≡ Some f) }
 {
     write_parts(
         out,
         &[
+            b"HTTP/1.1 ",
             status,
+            b" ",
+            phrase,
+            b"\r\n",
             content,
             b"Content-Length: ",
             length,
@@ -125,21 +122,24 @@ pub(crate) fn write_reply<W: Output>(
     closes: bool,
     out: &mut W,
 ) -> Result<(), WriteFault>
-    ensures sent { Sends result (W.taken out.old) (W.taken out.new) (reply_text (record { status = head.status; content = head.content; told = told; body = body.now }) closes) }
+    ensures sent { Sends result (W.taken out.old) (W.taken out.new)
+        (reply_text (answer_behind head told body.now) closes) }
     ensures fault { IfErr result (λ f. W.write_fault out.new ≡ Some f) }
 {
     let mut digits = Buffer::new();
     let length = digits.format(told).as_bytes();
-    let status = status_line(head.status);
+    let status = head.status.as_str().as_bytes();
+    let phrase = phrase_of(head.status);
     let content = type_line(head.content);
     let allow = allow_line(head.content);
     let close = close_line(closes);
-    write_lines(out, status, content, length, allow, close, body)
+    write_lines(out, status, phrase, content, length, allow, close, body)
 }
 
 // Writes a refusal, which ends its stream.
-fn write_refusal<W: Output>(status: Status, body: &[u8], out: &mut W) -> Result<(), WriteFault>
-    ensures sent { Sends result (W.taken out.old) (W.taken out.new) (reply_text (answer_with status Content.Json body.now) true) }
+fn write_refusal<W: Output>(status: StatusCode, body: &[u8], out: &mut W) -> Result<(), WriteFault>
+    ensures sent { Sends result (W.taken out.old) (W.taken out.new)
+        (reply_text (answer_with status Content.Json body.now) true) }
     ensures fault { IfErr result (λ f. W.write_fault out.new ≡ Some f) }
 {
     let content = Content::Json;
@@ -154,27 +154,28 @@ fn write_refusal<W: Output>(status: Status, body: &[u8], out: &mut W) -> Result<
 
 /// Writes the reply to a stream that ends with a fault.
 pub(crate) fn write_fault<W: Output>(fault: StreamFault, out: &mut W) -> Result<(), WriteFault>
-    ensures sent { Sends result (W.taken out.old) (W.taken out.new) (reply_text (fault_answer fault) true) }
+    ensures sent { Sends result (W.taken out.old) (W.taken out.new)
+        (reply_text (fault_answer fault) true) }
     ensures fault { IfErr result (λ f. W.write_fault out.new ≡ Some f) }
 {
     match fault {
         StreamFault::BadHead => write_refusal(
-            Status::BadRequest,
+            StatusCode::BAD_REQUEST,
             br#"{"ok":false,"refused":20,"word":"BadHead"}"#,
             out,
         ),
         StreamFault::Encoding => write_refusal(
-            Status::NotImplemented,
+            StatusCode::NOT_IMPLEMENTED,
             br#"{"ok":false,"refused":22,"word":"Encoding"}"#,
             out,
         ),
         StreamFault::BodyTooLong => write_refusal(
-            Status::PayloadTooLarge,
+            StatusCode::PAYLOAD_TOO_LARGE,
             br#"{"ok":false,"refused":21,"word":"BodyTooLong"}"#,
             out,
         ),
         StreamFault::BodyShort => write_refusal(
-            Status::BadRequest,
+            StatusCode::BAD_REQUEST,
             br#"{"ok":false,"refused":23,"word":"BodyShort"}"#,
             out,
         ),

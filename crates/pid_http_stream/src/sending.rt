@@ -5,7 +5,8 @@ ghost use Rattle.pid_http_stream.specs.Handling.{MayReply};
 ghost use Rattle.pid_http_stream.specs.Leading.{Leads};
 ghost use Rattle.pid_http_stream.specs.Replies.{answer_with, reply_head, reply_text};
 ghost use Rattle.pid_http_stream.specs.Requests.{Request};
-ghost use Rattle.pid_http_stream.specs.Steps.{IsSent, SendsText};
+ghost use Rattle.pid_http_stream.specs.Serving.{outside};
+ghost use Rattle.pid_http_stream.specs.Steps.Loop.{IsSent, SendsText};
 
 use crate::handler::{BodyStop, Handler, Reply, ReplyBody};
 use crate::reply::{ReplyHead, write_reply};
@@ -22,7 +23,8 @@ pub(crate) enum Sent {
 
 // Writes a reply whose body is there.
 fn send_bytes<W: Output>(head: ReplyHead, body: &[u8], closes: bool, out: &mut W) -> Sent
-    ensures sent { SendsText result (W.taken out.old) (W.taken out.new) (reply_text (answer_with head.status head.content body.now) closes) }
+    ensures sent { SendsText result (W.taken out.old) (W.taken out.new)
+        (reply_text (answer_with head.status head.content body.now) closes) }
     ensures fault { result ≡ Sent.WriteFault → IsSome (W.write_fault out.new) }
 {
     match write_reply(head, body.len() as u64, body, closes, out) {
@@ -33,7 +35,8 @@ fn send_bytes<W: Output>(head: ReplyHead, body: &[u8], closes: bool, out: &mut W
 
 // Writes the head of a reply.
 fn send_head<W: Output>(head: ReplyHead, told: u64, closes: bool, out: &mut W) -> Sent
-    ensures sent { SendsText result (W.taken out.old) (W.taken out.new) (reply_head head.status head.content told closes) }
+    ensures sent { SendsText result (W.taken out.old) (W.taken out.new)
+        (reply_head head.status head.content told closes) }
     ensures fault { result ≡ Sent.WriteFault → IsSome (W.write_fault out.new) }
 {
     match write_reply(head, told, b"", closes, out) {
@@ -63,8 +66,11 @@ fn send_written<H: Handler, W: Output>(
     out: &mut W,
 ) -> Sent
     ensures becomes { H.becomes handler.old handler.new }
-    ensures sent { Leads H.is_good H.stands handler.old handler.new (λ v w. (a : H.View) (request : Request) → H.promises a request head told v
-        → IsSent (record { answers = H.answers; leaves = H.leaves; gives_up = H.gives_up; promises = H.promises }) a request w closes (W.taken out.old) (W.taken out.new) result) }
+    ensures sent { Leads H.is_good H.stands handler.old handler.new
+        (λ v w. (a : H.View) (request : Request) → (H.conduct).promises a request head told v
+        → IsSent H.conduct
+        (outside a w (W.taken out.old) (W.taken out.new))
+        (record { request = request; closing = closes }) result) }
     ensures fault { result ≡ Sent.WriteFault → IsSome (W.write_fault out.new) }
     ensures store { result ≡ Sent.StoreFault → W.write_fault out.new ≡ None }
     ensures stuck { result ≡ Sent.StoreFault → H.cannot_go_on handler.new }
@@ -95,8 +101,11 @@ pub(crate) fn send<H: Handler, W: Output>(
     out: &mut W,
 ) -> Sent
     ensures becomes { H.becomes handler.old handler.new }
-    ensures sent { Leads H.is_good H.stands handler.old handler.new (λ v w. (a : H.View) (request : Request) → MayReply (record { answers = H.answers; leaves = H.leaves; gives_up = H.gives_up; promises = H.promises }) a request reply v
-        → IsSent (record { answers = H.answers; leaves = H.leaves; gives_up = H.gives_up; promises = H.promises }) a request w closes (W.taken out.old) (W.taken out.new) result) }
+    ensures sent { Leads H.is_good H.stands handler.old handler.new
+        (λ v w. (a : H.View) (request : Request) → MayReply H.conduct a request reply v
+        → IsSent H.conduct
+        (outside a w (W.taken out.old) (W.taken out.new))
+        (record { request = request; closing = closes }) result) }
     ensures fault { result ≡ Sent.WriteFault → IsSome (W.write_fault out.new) }
     ensures store { result ≡ Sent.StoreFault → W.write_fault out.new ≡ None }
     ensures stuck { result ≡ Sent.StoreFault → H.cannot_go_on handler.new }

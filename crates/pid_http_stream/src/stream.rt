@@ -1,11 +1,35 @@
 //! A stream of requests, answered one after another.
-ghost use Rattle.std.specs.Prelude.{◌≡◌, None, ℕ, ◌+◌, ◌-◌, ◌*◌, ◌^◌, ◌<◌, ◌≤◌, List, length, drop, IsSome, IfSome};
-ghost use Rattle.pid_http_stream.specs.Bodies.{SpendsTurns};
-ghost use Rattle.pid_http_stream.specs.Intakes.{IsWaiting, StandsAt};
+ghost use Rattle.std.specs.Prelude.{
+  ◌≡◌,
+  None,
+  ℕ,
+  ◌+◌,
+  ◌-◌,
+  ◌*◌,
+  ◌^◌,
+  ◌<◌,
+  ◌≤◌,
+  List,
+  length,
+  drop,
+  IsSome,
+  IfSome,
+};
+ghost use Rattle.pid_http_stream.specs.Bodies.{SpendsTurns, turns_at};
+ghost use Rattle.pid_http_stream.specs.Causes.{EndsFor, LastState};
+ghost use Rattle.pid_http_stream.specs.Steps.Intakes.{IsWaiting, StandsAt};
 ghost use Rattle.pid_http_stream.specs.Leading.{Leads};
 ghost use Rattle.pid_http_stream.specs.Moments.{AllSince};
-ghost use Rattle.pid_http_stream.specs.Serving.{IsCaughtUp, IsServed};
-ghost use Rattle.pid_http_stream.specs.Steps.{EndsBroken, IsRefused, Steps, answered_so, count_with, stop_end};
+ghost use Rattle.pid_http_stream.specs.Serving.{IsCaughtUp, IsServed, outside};
+ghost use Rattle.pid_http_stream.specs.Steps.Loop.{
+  EndsBroken,
+  EndsSo,
+  IsRefused,
+  Steps,
+  answered_so,
+  count_with,
+  stop_end,
+};
 
 use crate::asking::{Asked, ask_over};
 use crate::body_input::BodyFault;
@@ -35,8 +59,8 @@ pub enum StreamEnd {
     ReadFault,
     /// The writer failed, or took no byte; a front of the next reply was written.
     WriteFault,
-    /// The handler could not go on with a body that it wrote itself, and the writer is good; the head of the reply was written,
-    /// and a front of the body.
+    /// The handler could not go on with a body that it wrote itself, and the writer is good; the
+    /// head of the reply was written, and a front of the body.
     StoreFault,
     /// Memory was refused.
     Memory,
@@ -114,7 +138,8 @@ fn answered_by(sent: Sent, closes: bool) -> Answered
     }
 }
 
-// Serves the request whose head stands at the front of the bytes held, and whose body has so many bytes.
+// Serves the request whose head stands at the front of the bytes held, and whose body has so many
+// bytes.
 fn serve_request<H: Handler, I: Incoming<W>, W: Output>(
     alloc: Global,
     handler: &mut H,
@@ -126,16 +151,27 @@ fn serve_request<H: Handler, I: Incoming<W>, W: Output>(
 ) -> Answered
     requires { StandsAt head.now.bytes.now head.now.fields.now head.now.spans told }
     ensures becomes { H.becomes handler.old handler.new }
-    ensures stepped { Leads H.is_good H.stands handler.old handler.new (λ v w. IfSome (I.to_come input.old) (λ _. Steps (record { answers = H.answers; leaves = H.leaves; gives_up = H.gives_up; promises = H.promises })
-        (record { a = v; b = w; input = I.to_come input.old; input_after = I.to_come input.new }) head.now.bytes.now (drop (head.now.spans.len + told) head.now.bytes.now)
-        (W.taken out.old) (W.taken out.new) result)) }
-    ensures turns { SpendsTurns (record { reads = I.reads input.old; left = left.old }) (record { reads = I.reads input.new; left = left.new }) }
-    ensures waits { AllSince (IsWaiting head.now.bytes.now (I.to_come input.old) (W.taken out.old)) (I.moments input.old) (I.moments input.new) }
-    ensures read_fault { result ≡ Answered.Ended StreamEnd.ReadFault → IsSome (I.read_fault input.new) }
-    ensures write_fault { result ≡ Answered.Ended StreamEnd.WriteFault → IsSome (W.write_fault out.new) }
-    ensures store_fault { result ≡ Answered.Ended StreamEnd.StoreFault → W.write_fault out.new ≡ None }
-    ensures stuck { result ≡ Answered.Ended StreamEnd.StoreFault → H.cannot_go_on handler.new }
-    ensures spent { result ≡ Answered.Ended StreamEnd.TurnsSpent → left.new ≡ 0 }
+    ensures stepped { Leads H.is_good H.stands handler.old handler.new
+        (λ v w. IfSome (I.to_come input.old) (λ _. Steps H.conduct
+        (outside v w (W.taken out.old) (W.taken out.new))
+        (record {
+          input = I.to_come input.old;
+          input_after = I.to_come input.new;
+          held = head.now.bytes.now;
+          held_after = drop (head.now.spans.len + told) head.now.bytes.now;
+        }) result)) }
+    ensures turns { SpendsTurns (turns_at (I.reads input.old) left.old)
+        (turns_at (I.reads input.new) left.new) }
+    ensures waits { AllSince (IsWaiting head.now.bytes.now (I.to_come input.old) (W.taken out.old))
+        (I.moments input.old) (I.moments input.new) }
+    ensures ended { EndsSo result (record {
+      read_fault = I.read_fault input.new;
+      write_fault = W.write_fault out.new;
+      stuck = H.cannot_go_on handler.new;
+      turns = left.old;
+      reads = I.reads input.old;
+      reads_after = I.reads input.new;
+    }) }
     ensures goes { I.goes input.old input.new }
 {
     match ask_over(alloc, handler, head, told, input, left, out) {
@@ -176,9 +212,10 @@ fn with_refusal(answered: u64, end: StreamEnd) -> u64
 
 /// Answers the requests of a stream, one after another, in at most so many reads.
 ///
-/// Whenever it reads, the requests that came whole are answered, the writer has taken their replies, and nothing that is refused
-/// stands behind them. Where the writer takes all and neither memory, turns nor the store fail, the bytes written are the replies
-/// to the requests of the whole stream, in their order, however the bytes come cut; then the one refusal where the stream ends
+/// Whenever it reads, the requests that came whole are answered, the writer has taken their
+/// replies, and nothing that is refused stands behind them. Where the writer takes all and neither
+/// memory, turns nor the store fail, the bytes written are the replies to the requests of the whole
+/// stream, in their order, however the bytes come cut; then the one refusal where the stream ends
 /// with a fault.
 pub fn serve_stream<H: Handler, I: Incoming<W>, W: Output>(
     alloc: Global,
@@ -188,16 +225,22 @@ pub fn serve_stream<H: Handler, I: Incoming<W>, W: Output>(
     turns: u64,
 ) -> Served
     ensures becomes { H.becomes handler.old handler.new }
-    ensures served { Leads H.is_good H.stands handler.old handler.new (λ v w. IfSome (I.to_come input.old) (λ stream. IsServed (record { answers = H.answers; leaves = H.leaves; gives_up = H.gives_up; promises = H.promises })
-        (record { handler = v; handler_after = w; taken = W.taken output.old; taken_after = W.taken output.new }) stream (I.to_come input.new) result.end result.answered)) }
-    ensures caught_up { Leads H.is_good H.stands handler.old handler.new (λ v _. IfSome (I.to_come input.old) (λ stream.
-        AllSince (IsCaughtUp (record { answers = H.answers; leaves = H.leaves; gives_up = H.gives_up; promises = H.promises }) v (W.taken output.old) stream) (I.moments input.old) (I.moments input.new))) }
-    ensures reads { I.reads input.new ≤ I.reads input.old + turns }
-    ensures turns { result.end ≡ StreamEnd.TurnsSpent → I.reads input.old + turns ≤ 2 ^ 64 - 1 → I.reads input.new ≡ I.reads input.old + turns }
-    ensures read_fault { result.end ≡ StreamEnd.ReadFault → IsSome (I.read_fault input.new) }
-    ensures write_fault { result.end ≡ StreamEnd.WriteFault → IsSome (W.write_fault output.new) }
-    ensures store_fault { result.end ≡ StreamEnd.StoreFault → W.write_fault output.new ≡ None }
-    ensures stuck { result.end ≡ StreamEnd.StoreFault → H.cannot_go_on handler.new }
+    ensures served { Leads H.is_good H.stands handler.old handler.new
+        (λ v w. IfSome (I.to_come input.old) (λ stream. IsServed H.conduct
+        (outside v w (W.taken output.old) (W.taken output.new))
+        stream (I.to_come input.new) result.end result.answered)) }
+    ensures caught_up { Leads H.is_good H.stands handler.old handler.new
+        (λ v _. IfSome (I.to_come input.old) (λ stream. AllSince
+        (IsCaughtUp H.conduct v (W.taken output.old) stream)
+        (I.moments input.old) (I.moments input.new))) }
+    ensures ended { EndsFor result.end (record {
+      read_fault = I.read_fault input.new;
+      write_fault = W.write_fault output.new;
+      stuck = H.cannot_go_on handler.new;
+      turns = turns;
+      reads = I.reads input.old;
+      reads_after = I.reads input.new;
+    }) }
     ensures goes { I.goes input.old input.new }
 {
     let mut fields = [EMPTY_HEADER_SPAN; MOST_FIELDS];

@@ -3,7 +3,7 @@ use Rattle.std.proofs.Common.{◌≡◌, ℕ, ◌<◌, ◌^◌, List, [], ◌∷
 use Rattle.pid_file.specs.declared.path.Path.{Path}
 use Rattle.pid_file.specs.declared.path.Path.TheVariants.{Vendor, Device, Subsystem, Class, Subclass, ProgIf, Generic}
 use Rattle.pid_file.specs.PathTexts.{IsPath, parts_of, slashed}
-use Rattle.pid_file.specs.PathPlaces.{letter_of}
+use Rattle.pid_file.specs.Steps.PathPlaces.{letter_of}
 use Rattle.pid_file.specs.Identifiers.{hex4}
 
 -- no slash with four digits

@@ -1,7 +1,7 @@
 pub use Rattle.pid_file.specs.Identifiers
 pub use Rattle.pid_file.specs.PathTexts
 pub mod PathReading
-pub use Rattle.pid_file.specs.PathPlaces
+pub use Rattle.pid_file.specs.Steps.PathPlaces
 pub use Rattle.pid_file.specs.Bytes
 pub use Rattle.pid_file.specs.Words
 pub use Rattle.pid_file.specs.Trees

@@ -1,6 +1,8 @@
--- The path of a text, and the text of its parent, as functions that compute. A stranger need not read them: laws.rt
--- says that `path_of` gives the one path whose text it is, and `parent_text` the text of that path's parent.
-use Rattle.std.specs.Prelude.{ℕ, ◌+◌, ◌-◌, ◌*◌, ◌%◌, ◌==◌, ◌++◌, nat_le, if◌then◌else◌, List, length, take, drop, slice_index, Option, Some, None, codes}
+-- The path of a text, and the text of its parent, as functions that compute. A stranger need not
+-- read them: laws.rt says that `path_of` gives the one path whose text it is, and `parent_text` the
+-- text of that path's parent.
+use Rattle.std.specs.Prelude.{ℕ, ◌+◌, ◌-◌, ◌*◌, ◌%◌, ◌==◌, ◌++◌, nat_le, if◌then◌else◌, List}
+use Rattle.std.specs.Prelude.{length, take, drop, slice_index, Option, Some, None, codes}
 use Rattle.std.specs.Str.{bytes_eq}
 use Rattle.pid_file.specs.declared.path.Path.{Path}
 use Rattle.pid_file.specs.declared.path.Path.TheVariants.{Vendor, Device, Subsystem, Class, Subclass, ProgIf, Generic}
@@ -21,12 +23,15 @@ two_at i text = 16 * digit_at i text + digit_at (i + 1) text
 abbrev pub four_at : ℕ → List ℕ → ℕ
 four_at i text = 256 * two_at i text + two_at (i + 2) text
 
--- the only path that a text of this length and front may have: the second letter tells PC/8086/1237 from PS/8086/1237
+-- the only path that a text of this length and front may have: the second letter tells PC/8086/1237
+-- from PS/8086/1237
 abbrev pub candidate : List ℕ → Option Path
 candidate text =
     if length text == 7 then Some (Vendor (four_at 3 text))
-    else if length text == 12 then Some (if slice_index text 1 == 83 then Generic (four_at 3 text) (four_at 8 text) else Device (four_at 3 text) (four_at 8 text))
-    else if length text == 21 then Some (Subsystem (four_at 3 text) (four_at 8 text) (four_at 13 text) (four_at 17 text))
+    else if length text == 12 then Some (if slice_index text 1 == 83 then Generic (four_at 3 text)
+    (four_at 8 text) else Device (four_at 3 text) (four_at 8 text))
+    else if length text == 21 then Some (Subsystem (four_at 3 text) (four_at 8 text)
+    (four_at 13 text) (four_at 17 text))
     else if length text == 5 then Some (Class (two_at 3 text))
     else if length text == 8 then Some (Subclass (two_at 3 text) (two_at 6 text))
     else if length text == 11 then Some (ProgIf (two_at 3 text) (two_at 6 text) (two_at 9 text))
@@ -40,7 +45,8 @@ if_its_text text (Some path) = if bytes_eq (path_text path) text then Some path 
 abbrev pub path_of : List ℕ → Option Path
 path_of text = if_its_text text (candidate text)
 
--- the text of the parent of the path with this text, by its length: that of PC/8086/1237 and of PS/8086/1237 is PC/8086
+-- the text of the parent of the path with this text, by its length: that of PC/8086/1237 and of
+-- PS/8086/1237 is PC/8086
 abbrev pub parent_text : List ℕ → Option (List ℕ)
 parent_text text =
     if length text == 12 then Some (codes "PC" ++ take 5 (drop 2 text))

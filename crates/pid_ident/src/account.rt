@@ -25,7 +25,8 @@ impl Model for Account {
 }
 
 impl Account {
-    /// The text as the name of an account, kept byte for byte; `Bad` exactly where it breaks the rule.
+    /// The text as the name of an account, kept byte for byte; `Bad` exactly where it breaks the
+    /// rule.
     pub fn of(alloc: Global, text: &str) -> Result<Account, WordFault>
         ensures ok { IfOk result (λ word. word ≡ text.now) }
         ensures bad { IsErrOf result WordFault.Bad ↔ (account_test text.now ≡ false) }

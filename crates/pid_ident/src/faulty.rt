@@ -1,14 +1,31 @@
 //! A reader and a writer over memory that fail where a test wants it.
-ghost use Rattle.std.specs.Prelude.{◌≡◌, ◌↔◌, ℕ, ◌+◌, ◌-◌, ◌^◌, ◌<◌, ◌≤◌, min, max, length, [], true, false, IsTrue};
+ghost use Rattle.std.specs.Prelude.{
+  ◌≡◌,
+  ◌↔◌,
+  ℕ,
+  ◌+◌,
+  ◌-◌,
+  ◌^◌,
+  ◌<◌,
+  ◌≤◌,
+  min,
+  max,
+  length,
+  [],
+  true,
+  false,
+  IsTrue,
+};
 ghost use Rattle.std.specs.Prelude.{None, Some, Err, IfOk, IfErr, IfSome, MatchResult, is_err};
 ghost use Rattle.std.specs.Io.KnownBytes.{ReadConsumes, WriteAppends};
-ghost use Rattle.pid_ident.specs.Doubles.{calls_left, fails, one_less};
+ghost use Rattle.pid_ident.specs.Doubles.{ReadsAsMade, WritesAsMade, made, one_less};
 ghost use Rattle.pid_file.specs.InputCalls.{HasReadOn, HasNoMore};
 
 use pid_file::{Input, Output, ReadFault, WriteFault};
 use std::alloc::Global;
 
-/// A reader of given bytes, for tests: each call moves at most some bytes, and from one call on each fails.
+/// A reader of given bytes, for tests: each call moves at most some bytes, and from one call on
+/// each fails.
 #[derive(Drop)]
 pub struct FaultyInput<'a> {
     /// The bytes to come.
@@ -66,24 +83,35 @@ impl Input for FaultyInput<'_> {
     ghost reads = { λ i. i.reads };
 
     // It is made to fail as before, or sooner.
-    ghost goes = { λ a b. HasReadOn (Some a.rest.now) (Some b.rest.now) a.fault b.fault a.reads b.reads × (b.most ≡ a.most) × HasNoMore a.good_calls b.good_calls };
+    ghost goes = { λ a b. HasReadOn (Some a.rest.now)
+        (Some b.rest.now) a.fault b.fault a.reads b.reads × (b.most ≡ a.most)
+        × HasNoMore a.good_calls b.good_calls };
 
-    ghost stays = { λ a. (no_reads (Some a.rest.now) a.fault a.reads, refl, no_more_stays a.good_calls) };
+    ghost stays = { λ a.
+        (no_reads (Some a.rest.now) a.fault a.reads, refl, no_more_stays a.good_calls) };
 
-    ghost joins = { λ a b c p q. (more_reads _ (Some b.rest.now) _ _ b.fault _ _ b.reads _ p.0 q.0, q.1 ∙ p.1, no_more_then a.good_calls b.good_calls c.good_calls p.2 q.2) };
+    ghost joins = { λ a b c p q. (
+      more_reads _
+          (Some b.rest.now) _ _ b.fault _ _ b.reads _ p.0 q.0,
+      q.1 ∙ p.1,
+      no_more_then a.good_calls b.good_calls c.good_calls p.2 q.2,
+    ) };
 
     fn read(&mut self, buffer: &mut [u8]) -> Result<usize, ReadFault>
         ensures room { IfOk result (λ n. n ≤ length buffer.new) }
-        ensures bytes { ReadConsumes (Some self.old.rest.now) (Some self.new.rest.now) result buffer.new }
-        ensures fault { MatchResult result (λ _. self.new.fault ≡ None) (λ f. self.new.fault ≡ Some f) }
+        ensures bytes { ReadConsumes (Some self.old.rest.now)
+            (Some self.new.rest.now) result buffer.new }
+        ensures fault { MatchResult result (λ _. self.new.fault ≡ None)
+            (λ f. self.new.fault ≡ Some f) }
         ensures kept { IfSome self.old.fault (λ f. result ≡ Err f) }
         ensures count { self.new.reads ≡ min (self.old.reads + 1) (2 ^ 64 - 1) }
-        ensures goes { HasReadOn (Some self.old.rest.now) (Some self.new.rest.now) self.old.fault self.new.fault self.old.reads self.new.reads
+        ensures goes { HasReadOn (Some self.old.rest.now)
+            (Some self.new.rest.now) self.old.fault self.new.fault self.old.reads self.new.reads
             × (self.new.most ≡ self.old.most)
             × HasNoMore self.old.good_calls self.new.good_calls }
-        ensures fails { is_err result ≡ fails self.old.fault self.old.good_calls }
-        ensures calls { self.new.good_calls ≡ calls_left self.old.fault self.old.good_calls }
-        ensures moved { IfOk result (λ n. n ≡ min self.old.most (min (length buffer.new) (length self.old.rest.now))) }
+        ensures as_made { ReadsAsMade (made self.old.fault self.old.good_calls self.old.most)
+            (made self.new.fault self.new.good_calls self.new.most) result
+            (length buffer.new) (length self.old.rest.now) }
     {
         self.reads = self.reads.saturating_add(1);
         if let Some(fault) = self.fault {
@@ -116,8 +144,8 @@ fn is_spent(good_calls: &mut Option<u64>) -> bool
     }
 }
 
-/// A writer that keeps what it takes, for tests: each call takes at most some bytes, and from one call on each fails.
-/// Where it has no memory for the bytes, that is the fault `Device`.
+/// A writer that keeps what it takes, for tests: each call takes at most some bytes, and from one
+/// call on each fails. Where it has no memory for the bytes, that is the fault `Device`.
 #[derive(Drop)]
 pub struct FaultyOutput {
     /// The bytes that were taken.
@@ -173,14 +201,15 @@ impl Output for FaultyOutput {
     fn write(&mut self, bytes: &[u8]) -> Result<usize, WriteFault>
         ensures room { IfOk result (λ n. n ≤ length bytes.now) }
         ensures some { IfOk result (λ n. 0 < length bytes.now → 0 < n) }
-        ensures bytes { WriteAppends (Some self.old.taken.items) (Some self.new.taken.items) result bytes.now }
-        ensures fault { MatchResult result (λ _. self.new.fault ≡ None) (λ f. self.new.fault ≡ Some f) }
+        ensures bytes { WriteAppends (Some self.old.taken.items)
+            (Some self.new.taken.items) result bytes.now }
+        ensures fault { MatchResult result (λ _. self.new.fault ≡ None)
+            (λ f. self.new.fault ≡ Some f) }
         ensures kept { IfSome self.old.fault (λ f. result ≡ Err f) }
-        ensures fails { self.old.fault ≡ None → fails self.old.fault self.old.good_calls ≡ true → result ≡ Err self.old.last_fault }
-        ensures no_memory { fails self.old.fault self.old.good_calls ≡ false → IfErr result (λ f. f ≡ WriteFault.Device) }
-        ensures calls { self.new.good_calls ≡ calls_left self.old.fault self.old.good_calls }
-        ensures moved { IfOk result (λ n. n ≡ min self.old.most (length bytes.now)) }
-        ensures same { (self.new.most ≡ self.old.most) × (self.new.last_fault ≡ self.old.last_fault) }
+        ensures as_made { WritesAsMade (made self.old.fault self.old.good_calls self.old.most)
+            (made self.new.fault self.new.good_calls self.new.most) result
+            self.old.last_fault (length bytes.now) }
+        ensures same { self.new.last_fault ≡ self.old.last_fault }
     {
         if let Some(fault) = self.fault {
             return Err(fault);

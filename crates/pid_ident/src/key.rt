@@ -25,7 +25,8 @@ impl Model for Key {
 }
 
 impl Key {
-    /// The text as the key of a command, kept byte for byte; `Bad` exactly where it breaks the rule.
+    /// The text as the key of a command, kept byte for byte; `Bad` exactly where it breaks the
+    /// rule.
     pub fn of(alloc: Global, text: &str) -> Result<Key, WordFault>
         ensures ok { IfOk result (λ word. word ≡ text.now) }
         ensures bad { IsErrOf result WordFault.Bad ↔ (key_test text.now ≡ false) }

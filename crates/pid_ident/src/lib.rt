@@ -1,4 +1,5 @@
-//! Accounts, keys and other words of a registry, with the values of a file: what every layer speaks of.
+//! Accounts, keys and other words of a registry, with the values of a file: what every layer speaks
+//! of.
 #![tactic(auto)]
 
 mod account;

@@ -6,7 +6,8 @@ use pid_file::{WordFault, are_printed};
 use std::alloc::{AllocError, Global};
 use std::marker::Model;
 
-/// A note, a comment or a reason: text of at most 4,000 bytes that holds no control byte but tabs. It may be empty.
+/// A note, a comment or a reason: text of at most 4,000 bytes that holds no control byte but tabs.
+/// It may be empty.
 #[derive(Debug, Drop)]
 pub struct Text {
     text: String,
@@ -24,7 +25,8 @@ impl Model for Text {
 }
 
 impl Text {
-    /// The text as a note, a comment or a reason, kept byte for byte; `Bad` exactly where it breaks the rule.
+    /// The text as a note, a comment or a reason, kept byte for byte; `Bad` exactly where it breaks
+    /// the rule.
     pub fn of(alloc: Global, text: &str) -> Result<Text, WordFault>
         ensures ok { IfOk result (λ word. word ≡ text.now) }
         ensures bad { IsErrOf result WordFault.Bad ↔ (text_test text.now ≡ false) }

@@ -1,31 +1,14 @@
 -- Fields of strings and of their bytes, and the look-up that they say.
-use Rattle.std.proofs.Common.{◌≡◌, ℕ, Bool, true, false, cond, List, [], ◌∷◌, Option, Some, None, refl, sym, ap, ◌∙◌, String}
-use Rattle.std.specs.Prelude.{find, string_bytes, codes, unwrap_or, not, ◌||◌, ◌&&◌, is_none}
+use Rattle.std.proofs.Common.{◌≡◌, ℕ, true, false, cond, List, [], ◌∷◌, Some, None, refl, sym, ap, ◌∙◌, String}
+use Rattle.std.specs.Prelude.{string_bytes, codes, unwrap_or, not, ◌||◌, ◌&&◌, is_none}
 use Rattle.std.specs.List.{list_all, list_any}
-use Rattle.std.specs.Option.{option_map}
-use Rattle.std.specs.Str.{bytes_eq}
-use Rattle.pid_lookup.specs.Fields.{Fields, bytes_of, value_of, is_known, are_known, are_bad, flags_said, size_said, number_said, progif_said, look_up_in, look_up_said, LookUp, told}
+use Rattle.pid_form.specs.FormFields.{bytes_of}
+use Rattle.pid_form.specs.Fields.{Fields}
+use Rattle.pid_lookup.specs.Fields.{is_known, are_known, are_bad, flags_said, size_said, number_said, progif_said, look_up_in, look_up_said, LookUp, told}
 
 pub known_texts : {A : Type 0} (fields : List (String A × String A)) → list_all (λ f. is_known (string_bytes f.0)) fields ≡ are_known (bytes_of fields)
 known_texts [] = refl
 known_texts (f ∷ fields) = ap (λ b. is_known (string_bytes f.0) && b) (known_texts fields)
-
-one_found : {A : Type 0} (b : Bool) (f : String A × String A) (o : Option (String A × String A)) (p : Option (List ℕ × List ℕ)) → p ≡ option_map (λ g. (string_bytes g.0, string_bytes g.1)) o
-    → cond b (Some (string_bytes f.0, string_bytes f.1)) p ≡ option_map (λ g. (string_bytes g.0, string_bytes g.1)) (cond b (Some f) o)
-one_found true f o p e = refl
-one_found false f o p e = e
-
-found_texts : {A : Type 0} (name : List ℕ) (fields : List (String A × String A)) → find (λ f. bytes_eq f.0 name) (bytes_of fields)
-    ≡ option_map (λ g. (string_bytes g.0, string_bytes g.1)) (find (λ f. bytes_eq (string_bytes f.0) name) fields)
-found_texts name [] = refl
-found_texts name (f ∷ fields) = one_found (bytes_eq (string_bytes f.0) name) f _ _ (found_texts name fields)
-
-pub value_found : {A : Type 0} (name : List ℕ) (fields : List (String A × String A)) (f : String A × String A) → find (λ f. bytes_eq (string_bytes f.0) name) fields ≡ Some f
-    → value_of name (bytes_of fields) ≡ Some (string_bytes f.1)
-value_found name fields f e = ap (option_map (λ g. g.1)) (found_texts name fields ∙ ap (option_map (λ g. (string_bytes g.0, string_bytes g.1))) e)
-
-pub value_missing : {A : Type 0} (name : List ℕ) (fields : List (String A × String A)) → find (λ f. bytes_eq (string_bytes f.0) name) fields ≡ None → value_of name (bytes_of fields) ≡ None
-value_missing name fields e = ap (option_map (λ g. g.1)) (found_texts name fields ∙ ap (option_map (λ g. (string_bytes g.0, string_bytes g.1))) e)
 
 pub unknown : (fields : Fields) → are_known fields ≡ false → are_bad fields ≡ true
 unknown fields k = ap (λ b. not b || list_any is_none (

@@ -1,5 +1,9 @@
 pub mod AnswerLaws
 pub mod FieldTexts
 pub mod FoundTexts
-pub mod Numerals
+pub mod Questions
 mod Rows
+pub mod Answered
+pub mod Asking
+pub mod Entries
+pub mod CacheAgreeing

@@ -45,7 +45,8 @@ abbrev pub one_shown : Switches → Request → Args → Option (List ℕ) → O
 one_shown s request a name = one_text s (number_of request a) (word_of request) name
 
 -- two names with the number of their request
-abbrev pub pair_shown : Switches → Request → Args → Option (List ℕ) → Option (List ℕ) → Option (List ℕ)
+abbrev pub pair_shown : Switches → Request → Args → Option (List ℕ) → Option (List ℕ)
+    → Option (List ℕ)
 pair_shown s request a v d = pair_text s (number_of request a) v d
 
 -- MIXED, but where numbers stand alone
@@ -67,9 +68,11 @@ text_of named s requests.Subsystem a = one_shown s requests.Subsystem a (subsyst
 text_of named s requests.Class a = class_shown s a (subclass_name named a) (class_name named a)
 text_of named s requests.ProgIf a = one_shown s requests.ProgIf a (progif_name named a)
 text_of named s requests.VendorAndDevice a =
-    pair_shown s requests.VendorAndDevice a (named (Vendor a.vendor)) (named (Device a.vendor a.device))
+    pair_shown s requests.VendorAndDevice a (named (Vendor a.vendor))
+    (named (Device a.vendor a.device))
 text_of named s requests.SubvendorAndSubsystem a =
-    pair_shown s requests.SubvendorAndSubsystem a (named (Vendor a.subvendor)) (subsystem_name named a)
+    pair_shown s requests.SubvendorAndSubsystem a (named (Vendor a.subvendor))
+    (subsystem_name named a)
 
 abbrev pub invalid_request : List ℕ
 invalid_request = codes "<pci_lookup_name: invalid request>"

@@ -13,7 +13,8 @@ use Rattle.pid_lookup.specs.Found.{class_byte, subclass_byte, name_in}
 -- the entry under the device, the generic subsystem, and the device that may be its own subsystem
 abbrev pub subsystem_paths : Args → List Path
 subsystem_paths a =
-    Subsystem a.vendor a.device a.subvendor a.subdevice ∷ Generic a.subvendor a.subdevice ∷ Device a.vendor a.device ∷ []
+    Subsystem a.vendor a.device a.subvendor a.subdevice ∷ Generic a.subvendor a.subdevice
+    ∷ Device a.vendor a.device ∷ []
 
 abbrev pub paths_of : Request → Args → List Path
 paths_of requests.Vendor a = Vendor a.vendor ∷ []

@@ -1,33 +1,12 @@
 -- The fields of a look-up, pairs of a name and a value, by their bytes: a choice of this project.
-use Rattle.std.specs.Prelude.{ℕ, Bool, not, ◌&&◌, ◌||◌, nat_le, nat_lt, if◌then◌else◌}
-use Rattle.std.specs.Prelude.{List, [], ◌∷◌, length, map, find, count_by, Option, Some, None, is_none, unwrap_or, codes, String, string_bytes}
-use Rattle.std.specs.Char.{is_digit}
+use Rattle.std.specs.Prelude.{ℕ, Bool, not, ◌||◌, if◌then◌else◌, List, [], ◌∷◌}
+use Rattle.std.specs.Prelude.{Option, Some, None, is_none, unwrap_or, codes}
 use Rattle.std.specs.List.{list_all, list_any}
-use Rattle.std.specs.Option.{option_map}
 use Rattle.std.specs.Str.{bytes_eq}
-use Rattle.std.specs.Str.Parse.{digits_value}
+pub use Rattle.pid_form.specs.FormFields.{bytes_of}
+use Rattle.pid_form.specs.Fields.{Fields, is_twice, value}
+use Rattle.pid_form.specs.Numbers.{numeral}
 use Rattle.pid_lookup.specs.declared.args.Args.{Args}
-
--- names and values
-abbrev pub Fields : Type 0
-Fields = List (List ℕ × List ℕ)
-
--- fields by their bytes
-abbrev pub bytes_of : {A : Type 0} → List (String A × String A) → Fields
-bytes_of fields = map (λ field. (string_bytes field.0, string_bytes field.1)) fields
-
--- the number that a text of so many digits writes; hex digits may be in either case
-abbrev pub numeral : ℕ → ℕ → ℕ → List ℕ → Option ℕ
-numeral radix least most text =
-    if (nat_le least (length text) && nat_le (length text) most) && list_all (λ c. is_digit c radix) text then Some (digits_value radix text) else None
-
--- how often a field is there
-abbrev pub times : List ℕ → Fields → ℕ
-times name fields = count_by (λ field. bytes_eq field.0 name) fields
-
--- the value of the first field of this name
-abbrev pub value_of : List ℕ → Fields → Option (List ℕ)
-value_of name fields = option_map (λ field. field.1) (find (λ field. bytes_eq field.0 name) fields)
 
 -- a value by its rule, and what is said where there is none
 abbrev pub by_rule : (List ℕ → Option ℕ) → Option ℕ → Option (List ℕ) → Option ℕ
@@ -36,7 +15,8 @@ by_rule rule missing (Some value) = rule value
 
 -- what a field says: nothing where it is there more than once
 abbrev pub said : (List ℕ → Option ℕ) → Option ℕ → List ℕ → Fields → Option ℕ
-said rule missing name fields = if nat_lt 1 (times name fields) then None else by_rule rule missing (value_of name fields)
+said rule missing name fields = if is_twice name fields then None
+    else by_rule rule missing (value name fields)
 
 -- the flags: 1 to 8 hex digits, which must be there
 abbrev pub flags_said : Fields → Option ℕ
@@ -57,14 +37,17 @@ progif_said fields = said (numeral 16 2 2) (Some 0) (codes "progif") fields
 -- a name of one of the eight fields
 abbrev pub is_known : List ℕ → Bool
 is_known name =
-    bytes_eq name (codes "flags") || bytes_eq name (codes "size") || bytes_eq name (codes "vendor") || bytes_eq name (codes "device")
-    || bytes_eq name (codes "subvendor") || bytes_eq name (codes "subdevice") || bytes_eq name (codes "class") || bytes_eq name (codes "progif")
+    bytes_eq name (codes "flags") || bytes_eq name (codes "size") || bytes_eq name
+    (codes "vendor") || bytes_eq name (codes "device")
+    || bytes_eq name (codes "subvendor") || bytes_eq name (codes "subdevice") || bytes_eq name
+    (codes "class") || bytes_eq name (codes "progif")
 
 -- all fields have a known name
 abbrev pub are_known : Fields → Bool
 are_known fields = list_all (λ field. is_known field.0) fields
 
--- Bad fields: one is unknown, or one of the eight says nothing: it breaks its rule, is there twice, or is missing where it must be there.
+-- Bad fields: one is unknown, or one of the eight says nothing: it breaks its rule, is there twice,
+-- or is missing where it must be there.
 abbrev pub are_bad : Fields → Bool
 are_bad fields = not (are_known fields) || list_any is_none (
     flags_said fields ∷ size_said fields

@@ -16,7 +16,8 @@ bits_of requests.ProgIf = 0x10
 
 abbrev pub all_requests : List Request
 all_requests =
-    requests.Vendor ∷ requests.Device ∷ requests.VendorAndDevice ∷ requests.Subvendor ∷ requests.Subsystem
+    requests.Vendor ∷ requests.Device ∷ requests.VendorAndDevice ∷ requests.Subvendor
+    ∷ requests.Subsystem
     ∷ requests.SubvendorAndSubsystem ∷ requests.Class ∷ requests.ProgIf ∷ []
 
 -- what the low 16 bits ask for
@@ -40,6 +41,8 @@ switches_of flags = record {
   mixed = has flags 0x40000;
 }
 
--- Numbers alone and no numbers together ask for nothing, and no other bit above the low 16 is known: a choice of this project.
+-- Numbers alone and no numbers together ask for nothing, and no other bit above the low 16 is
+-- known: a choice of this project.
 abbrev pub is_bad : ℕ → Bool
-is_bad flags = ((switches_of flags).numeric && (switches_of flags).no_numbers) || has flags 0xfff80000
+is_bad flags = ((switches_of flags).numeric && (switches_of flags).no_numbers)
+    || has flags 0xfff80000

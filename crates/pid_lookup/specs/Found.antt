@@ -1,5 +1,7 @@
--- The names that a look-up is about, as libpci's names.c finds them (id_lookup_subsys and the cases of pci_lookup_name).
-use Rattle.std.specs.Prelude.{ℕ, ◌/◌, ◌%◌, Bool, true, false, not, ◌&&◌, ◌==◌, nat_lt, if◌then◌else◌, List, [], ◌∷◌, ◌++◌, Option, Some, None, codes}
+-- The names that a look-up is about, as libpci's names.c finds them (id_lookup_subsys and the cases
+-- of pci_lookup_name).
+use Rattle.std.specs.Prelude.{ℕ, ◌/◌, ◌%◌, Bool, true, false, not, ◌&&◌, ◌==◌, nat_lt}
+use Rattle.std.specs.Prelude.{if◌then◌else◌, List, [], ◌∷◌, ◌++◌, Option, Some, None, codes}
 use Rattle.std.specs.List.{join_with_byte}
 use Rattle.std.specs.FinMap.{get}
 use Rattle.pid_file.specs.declared.path.Path.{Path}
@@ -24,14 +26,20 @@ abbrev pub where_true : Bool → Option (List ℕ) → Option (List ℕ)
 where_true true name = name
 where_true false name = None
 
--- The subsystem: its entry under a device whose two numbers are above 0; else the generic subsystem;
--- else the device itself, where it is its own subsystem.
+-- the subsystem's entry under its device, whose two numbers are above 0
+abbrev pub under_device : (Path → Option (List ℕ)) → Args → Option (List ℕ)
+under_device named a = where_true (nat_lt 0 a.vendor && nat_lt 0 a.device)
+    (named (Subsystem a.vendor a.device a.subvendor a.subdevice))
+
+-- the device, where it is its own subsystem
+abbrev pub own_device : (Path → Option (List ℕ)) → Args → Option (List ℕ)
+own_device named a = where_true (a.subvendor == a.vendor && a.subdevice == a.device)
+    (named (Device a.vendor a.device))
+
+-- The subsystem: its entry under the device; else the generic subsystem; else the device itself.
 abbrev pub subsystem_name : (Path → Option (List ℕ)) → Args → Option (List ℕ)
 subsystem_name named a = first_there (
-    where_true (nat_lt 0 a.vendor && nat_lt 0 a.device) (named (Subsystem a.vendor a.device a.subvendor a.subdevice))
-    ∷ named (Generic a.subvendor a.subdevice)
-    ∷ where_true (a.subvendor == a.vendor && a.subdevice == a.device) (named (Device a.vendor a.device))
-    ∷ [])
+    under_device named a ∷ named (Generic a.subvendor a.subdevice) ∷ own_device named a ∷ [])
 
 -- the byte of the class, and that of the subclass
 abbrev pub class_byte : Args → ℕ
@@ -50,7 +58,8 @@ class_name named a = named (Class (class_byte a))
 abbrev pub word_at : ℕ → ℕ → List ℕ → List (List ℕ)
 word_at progif bit word = if has progif bit then word ∷ [] else []
 
--- The programming interface of an IDE controller in words: who masters the bus, and the modes of both channels.
+-- The programming interface of an IDE controller in words: who masters the bus, and the modes of
+-- both channels.
 abbrev pub ide_words : ℕ → List ℕ
 ide_words progif = join_with_byte 32 (
     word_at progif 0x80 (codes "Master")
@@ -59,7 +68,8 @@ ide_words progif = join_with_byte 32 (
     ++ word_at progif 0x02 (codes "PriP")
     ++ word_at progif 0x01 (codes "PriO"))
 
--- The programming interface: its entry; else, of an IDE controller (class 0101) with none of the bits 70 set, its words, which may be none.
+-- The programming interface: its entry; else, of an IDE controller (class 0101) with none of the
+-- bits 70 set, its words, which may be none.
 abbrev pub progif_name : (Path → Option (List ℕ)) → Args → Option (List ℕ)
 progif_name named a = first_there (
     named (ProgIf (class_byte a) (subclass_byte a) a.progif)

@@ -7,6 +7,13 @@ pub mod Asked
 pub mod TreeNames
 pub mod Fields
 pub mod Holders
+pub mod Questions
 pub mod Told
 pub mod Unanswered
 pub mod Steps
+pub mod AskedNames
+pub mod Kept
+pub mod InText
+pub mod CacheHashing
+pub mod CacheEntries
+pub mod CacheAgreement

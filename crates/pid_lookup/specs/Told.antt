@@ -1,14 +1,17 @@
 -- Of which holders of names the ends of a look-up come: a choice of this project.
-use Rattle.std.specs.Prelude.{◌≡◌, ℕ, false, Result, Ok, Err, IsSome, ⊤}
+use Rattle.std.specs.Prelude.{◌≡◌, ◌≢◌, ℕ, true, false, Result, Ok, Err}
+use Rattle.std.specs.Prelude.{IsErrOf, IsNone, IsSome, ⊤}
 use Rattle.pid_lookup.specs.declared.answering.LookupRefusal.{LookupRefusal}
 use Rattle.pid_lookup.specs.declared.answering.LookupRefusal.TheVariants.{BadFlags, Names, Memory}
 use Rattle.pid_lookup.specs.Flags.{switches_of, request_of}
 
--- a name must be asked for, where the flags are not bad: numbers do not stand alone, and there is a request
+-- a name must be asked for, where the flags are not bad: numbers do not stand alone, and there is a
+-- request
 abbrev pub NeedsNames : ℕ → Type 0
 NeedsNames flags = ((switches_of flags).numeric ≡ false) × IsSome (request_of flags)
 
--- An answer, or want of memory for it, comes only where the holder may tell; bad flags and a fault of the holder come of any.
+-- An answer, or want of memory for it, comes only where the holder may tell; bad flags and a fault
+-- of the holder come of any.
 abbrev pub TellsOnlyIf : {A F : Type 0} → Type 0 → Result A (LookupRefusal F) → Type 0
 TellsOnlyIf may (Ok answer) = may
 TellsOnlyIf may (Err BadFlags) = ⊤
@@ -18,3 +21,15 @@ TellsOnlyIf may (Err Memory) = may
 -- where a name must be asked for, a look-up tells only what a holder that may tell has told it
 abbrev pub IsToldBy : {A F : Type 0} → Type 0 → ℕ → Result A (LookupRefusal F) → Type 0
 IsToldBy may flags result = NeedsNames flags → TellsOnlyIf may result
+
+-- What a look-up takes of a holder of names.
+pub record AsksWhereNeeded {A F : Type 0} (may_give : F → Type 0) (may_tell : Type 0) (flags : ℕ)
+    (result : Result A (LookupRefusal F)) : Type 0 where
+  -- a fault of the holder is one that it may give
+  pub fault : (f : F) → IsErrOf result (Names f) → may_give f
+  -- none comes where numbers stand alone
+  pub unasked : (switches_of flags).numeric ≡ true → (f : F) → result ≢ Err (Names f)
+  -- nor where there is no request
+  pub unrequested : IsNone (request_of flags) → (f : F) → result ≢ Err (Names f)
+  -- where a name must be asked for, an answer comes only of a holder that may tell
+  pub told : IsToldBy may_tell flags result

@@ -1,4 +1,5 @@
--- Why a question has no answer, where no command is refused so: the number, the word and the line of each. Choices of this project.
+-- Why a question has no answer, where no command is refused so: the number, the word and the line
+-- of each. Choices of this project.
 use Rattle.std.specs.Prelude.{ℕ, List, codes}
 use Rattle.pid_lookup.specs.declared.unanswered.Unanswered.{Unanswered}
 use Rattle.pid_lookup.specs.declared.unanswered.Unanswered.TheVariants.{NoItem, BadFlags, NoAnswer}

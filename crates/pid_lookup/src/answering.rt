@@ -1,15 +1,15 @@
 //! The texts that libpci's `pci_lookup_name` gives.
-ghost use Rattle.std.specs.Prelude.{◌≡◌, ◌≢◌, ◌↔◌, true, false, Err, IfOk, IfErr, IsErrOf, IsNone};
+ghost use Rattle.std.specs.Prelude.{◌≡◌, ◌≢◌, ◌↔◌, true, false, Err, IfOk, IsErrOf};
 ghost use Rattle.std.specs.List.{flat_map};
 ghost use Rattle.pid_lookup.specs.declared.answering.LookupRefusal.TheVariants.{Memory};
 ghost use Rattle.pid_lookup.specs.Answers.{answer_of, cut_answer, number_of, text_of, word_of};
 ghost use Rattle.pid_lookup.specs.Cut.{cut as cut_text};
-ghost use Rattle.pid_lookup.specs.Flags.{is_bad, switches_of, request_of};
+ghost use Rattle.pid_lookup.specs.Flags.{is_bad};
 ghost use Rattle.pid_lookup.specs.Found.{name_in};
-ghost use Rattle.pid_lookup.specs.Holders.{Keeps};
+ghost use Rattle.pid_lookup.specs.Questions.{HaveCauses, IsStill, OfShown};
 ghost use Rattle.pid_lookup.specs.Steps.FoundTexts.{found_text};
 ghost use Rattle.pid_lookup.specs.Steps.Styles.{switches};
-ghost use Rattle.pid_lookup.specs.Told.{IsToldBy, TellsOnlyIf};
+ghost use Rattle.pid_lookup.specs.Told.{AsksWhereNeeded, TellsOnlyIf};
 
 use crate::answer::{Answer, AnswerText};
 use crate::args::Args;
@@ -44,15 +44,16 @@ impl<F> From<AllocError> for LookupRefusal<F> {
 
 /// The text for the flags and the arguments, as it fits into a buffer of `size` bytes.
 ///
-/// The low 16 bits of the flags say what is looked up, as libpci's `PCI_LOOKUP_VENDOR` and its kin do; above these
-/// `PCI_LOOKUP_NUMERIC`, `PCI_LOOKUP_NO_NUMBERS` and `PCI_LOOKUP_MIXED` say how.
+/// The low 16 bits of the flags say what is looked up, as libpci's `PCI_LOOKUP_VENDOR` and its kin
+/// do; above these `PCI_LOOKUP_NUMERIC`, `PCI_LOOKUP_NO_NUMBERS` and `PCI_LOOKUP_MIXED` say how.
 ///
-/// `BadFlags` comes exactly where the flags ask for numbers alone and for no numbers, or have an unknown bit. `Names` is a fault of
-/// the holder, and comes only where a name must be asked for; `Memory` comes where there is none for the answer. Behind an error,
-/// as behind an answer, the holder shows what it showed.
+/// `BadFlags` comes exactly where the flags ask for numbers alone and for no numbers, or have an
+/// unknown bit. `Names` is a fault of the holder, and comes only where a name must be asked for;
+/// `Memory` comes where there is none for the answer. After an error, as after an answer, the
+/// holder shows what it showed.
 ///
-/// Where the flags are good and a name must be asked for, an answer comes only of a holder that may tell; of another its fault is
-/// all that comes.
+/// Where the flags are good and a name must be asked for, an answer comes only of a holder that may
+/// tell; of another its fault is all that comes.
 pub fn lookup<N: Names>(
     alloc: Global,
     names: &mut N,
@@ -60,16 +61,13 @@ pub fn lookup<N: Names>(
     args: &Args,
     size: u32,
 ) -> Result<Answer, LookupRefusal<N::Fault>>
-    ensures answer { N.is_honest names.new → (s : N.Shown) → N.shows names.old s
-        → IfOk result (λ answer. answer ≡ answer_of (N.map_of s) flags args.now size) }
+    ensures answer { OfShown N.Names names.old names.new (λ s.
+        IfOk result (λ answer. answer ≡ answer_of (N.map_of s) flags args.now size)) }
     ensures bad_flags { IsErrOf result LookupRefusal.BadFlags ↔ (is_bad flags ≡ true) }
-    ensures fault { (f : _) → IsErrOf result (LookupRefusal.Names f) → N.may_give names.old f }
-    ensures caused { N.is_honest names.new → (s : N.Shown) → N.shows names.old s → (start : _) → N.only_asked start names.old
-        → (f : _) → IsErrOf result (LookupRefusal.Names f) → N.has_cause start names.new f }
-    ensures unasked { (switches_of flags).numeric ≡ true → (f : _) → result ≢ Err (LookupRefusal.Names f) }
-    ensures unrequested { IsNone (request_of flags) → (f : _) → result ≢ Err (LookupRefusal.Names f) }
-    ensures told { IsToldBy (N.may_tell names.old) flags result }
-    ensures kept { Keeps N.shows N.is_honest N.may_give N.may_tell N.only_asked names.old names.new }
+    ensures asks { AsksWhereNeeded (N.may_give names.old) (N.may_tell names.old) flags result }
+    ensures caused { HaveCauses N.Names names.old names.new
+        (λ f. IsErrOf result (LookupRefusal.Names f)) }
+    ensures kept { IsStill N.Names names.old names.new }
 {
     let Some(flags) = read_flags(flags) else {
         return Err(LookupRefusal::BadFlags);
@@ -95,15 +93,17 @@ fn answer_request<N: Names>(
     args: &Args,
     size: u32,
 ) -> Result<Answer, LookupRefusal<N::Fault>>
-    ensures answer { N.is_honest names.new → (s : N.Shown) → N.shows names.old s
-        → IfOk result (λ answer. answer ≡ cut_answer (text_of (name_in (N.map_of s)) (switches style) request args.now) size) }
-    ensures told { (switches style).numeric ≡ false → TellsOnlyIf (N.may_tell names.old) result }
+    ensures answer { OfShown N.Names names.old names.new (λ s.
+        IfOk result (λ answer. answer ≡ cut_answer
+        (text_of (name_in (N.map_of s)) (switches style) request args.now) size)) }
     ensures good_flags { result ≢ Err LookupRefusal.BadFlags }
-    ensures unasked { (switches style).numeric ≡ true → (f : _) → result ≢ Err (LookupRefusal.Names f) }
+    ensures told { (switches style).numeric ≡ false → TellsOnlyIf (N.may_tell names.old) result }
+    ensures unasked { (switches style).numeric ≡ true → (f : _)
+        → result ≢ Err (LookupRefusal.Names f) }
     ensures fault { (f : _) → IsErrOf result (LookupRefusal.Names f) → N.may_give names.old f }
-    ensures caused { N.is_honest names.new → (s : N.Shown) → N.shows names.old s → (start : _) → N.only_asked start names.old
-        → (f : _) → IsErrOf result (LookupRefusal.Names f) → N.has_cause start names.new f }
-    ensures kept { Keeps N.shows N.is_honest N.may_give N.may_tell N.only_asked names.old names.new }
+    ensures caused { HaveCauses N.Names names.old names.new
+        (λ f. IsErrOf result (LookupRefusal.Names f)) }
+    ensures kept { IsStill N.Names names.old names.new }
 {
     match style {
         Style::Numeric => Ok(show_number(alloc, request, args, size)?),
@@ -121,7 +121,8 @@ fn show_number(
     args: &Args,
     size: u32,
 ) -> Result<Answer, AllocError>
-    ensures { IfOk result (λ answer. answer ≡ Answer.Text (cut_text (number_of request args.now) size)) }
+    ensures { IfOk result (λ answer. answer
+        ≡ Answer.Text (cut_text (number_of request args.now) size)) }
 {
     let number = Digits::of(request, args);
     show_parts(alloc, &[number.as_bytes()], size)
@@ -147,7 +148,8 @@ fn show_found(
 }
 
 fn show_parts(alloc: Global, parts: &[&[u8]], size: u32) -> Result<Answer, AllocError>
-    ensures { IfOk result (λ answer. answer ≡ Answer.Text (cut_text (flat_map (λ part. part.now) parts.now) size)) }
+    ensures { IfOk result (λ answer. answer
+        ≡ Answer.Text (cut_text (flat_map (λ part. part.now) parts.now) size)) }
 {
     Ok(Answer::Text(AnswerText::of(cut(alloc, parts, size)?)))
 }

@@ -5,9 +5,11 @@ ghost use Rattle.pid_lookup.specs.Cut.{cut as cut_text};
 
 use std::alloc::{AllocError, Global};
 
-/// The text of the parts, as a buffer of `size` bytes with room for a 0 byte at its end would hold it.
+/// The text of the parts, as a buffer of `size` bytes with room for a 0 byte at its end would hold
+/// it.
 pub fn cut(alloc: Global, parts: &[&[u8]], size: u32) -> Result<Vec<u8>, AllocError>
-    ensures { IfOk result (λ text. text.items ≡ cut_text (flat_map (λ part. part.now) parts.now) size) }
+    ensures { IfOk result (λ text. text.items
+        ≡ cut_text (flat_map (λ part. part.now) parts.now) size) }
 {
     let size = size as usize;
     let length = total_length(parts);
@@ -38,7 +40,8 @@ fn total_length(parts: &[&[u8]]) -> usize
 
 // Pushes the first bytes of the parts, at most `limit`.
 fn push_front(text: &mut Vec<u8>, parts: &[&[u8]], limit: usize) -> Result<(), AllocError>
-    ensures { OnOk result (text.new.items ≡ text.old.items ++ take limit (flat_map (λ part. part.now) parts.now)) }
+    ensures { OnOk result (text.new.items
+        ≡ text.old.items ++ take limit (flat_map (λ part. part.now) parts.now)) }
 {
     let mut room = limit;
     for part in parts {

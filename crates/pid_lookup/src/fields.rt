@@ -1,24 +1,33 @@
 //! The fields of a look-up.
-ghost use Rattle.std.specs.Prelude.{◌≡◌, ◌↔◌, ◌<◌, ◌≤◌, ◌^◌, true, false, Some, find, count_by, string_bytes, IfOk, IfSome, IsNone, IsErr, nat_lt};
-ghost use Rattle.std.specs.Char.{is_digit};
+ghost use Rattle.std.specs.Prelude.{◌≡◌, ◌↔◌, true, Some, string_bytes, IfOk, IfSome, IsNone, IsErr};
 ghost use Rattle.std.specs.List.{list_all};
-ghost use Rattle.std.specs.Option.{option_copied};
-ghost use Rattle.std.specs.Str.{bytes_eq};
-ghost use Rattle.pid_lookup.specs.Fields.{bytes_of, numeral as numeral_of, times, value_of, flags_said, size_said, number_said, progif_said, is_known as known_name, are_bad, look_up_in, told};
+ghost use Rattle.pid_lookup.specs.Fields.{
+  bytes_of,
+  flags_said,
+  size_said,
+  number_said,
+  progif_said,
+  is_known as known_name,
+  are_bad,
+  look_up_in,
+  told,
+};
 
 use crate::args::Args;
+use pid_form::{is_twice, numeral, value};
 use thiserror::Error;
 
-/// A field of a look-up is unknown, there twice, missing where it must be there, or breaks its rule.
+/// A field of a look-up is unknown, there twice, missing where it must be there, or breaks its
+/// rule.
 #[derive(Clone, Copy, Debug, PartialEq, Eq, Error)]
 #[error("the fields of the look-up are bad")]
 pub struct BadField;
 
 /// The flags, the arguments and the size that fields, pairs of a name and a value, say.
 ///
-/// `flags` is 1 to 8 hex digits and must be there. `size` is 1 to 9 decimal digits, 1024 where it is missing.
-/// `vendor`, `device`, `subvendor`, `subdevice` and `class` are 4 hex digits, `progif` is 2, and 0 where they are missing.
-/// The order of the fields does not matter.
+/// `flags` is 1 to 8 hex digits and must be there. `size` is 1 to 9 decimal digits, 1024 where it is
+/// missing. `vendor`, `device`, `subvendor`, `subdevice` and `class` are 4 hex digits, `progif` is
+/// 2, and 0 where they are missing. The order of the fields does not matter.
 pub fn args_of(fields: &[(String, String)]) -> Result<(u32, Args, u32), BadField>
     ensures ok { IfOk result (λ look_up. look_up_in (bytes_of fields.now) ≡ Some (told look_up)) }
     ensures bad { IsErr result ↔ (are_bad (bytes_of fields.now) ≡ true) }
@@ -27,7 +36,8 @@ pub fn args_of(fields: &[(String, String)]) -> Result<(u32, Args, u32), BadField
 }
 
 fn read_fields(fields: &[(String, String)]) -> Option<(u32, Args, u32)>
-    ensures found { IfSome result (λ look_up. look_up_in (bytes_of fields.now) ≡ Some (told look_up)) }
+    ensures found { IfSome result (λ look_up. look_up_in (bytes_of fields.now)
+        ≡ Some (told look_up)) }
     ensures none { IsNone result ↔ (are_bad (bytes_of fields.now) ≡ true) }
 {
     if !are_known(fields) {
@@ -114,62 +124,4 @@ fn progif_of(fields: &[(String, String)]) -> Option<u8>
         Some(text) => Some(numeral(text, 16, 2, 2)? as u8),
         None => Some(0),
     }
-}
-
-// Whether a field is there more than once.
-fn is_twice(fields: &[(String, String)], name: &str) -> bool
-    ensures { result ≡ nat_lt 1 (times name.now (bytes_of fields.now)) }
-{
-    times_there(fields, name) > 1
-}
-
-fn times_there(fields: &[(String, String)], name: &str) -> usize
-    ensures { result ≡ count_by (λ field. bytes_eq (string_bytes field.0) name.now) fields.now }
-{
-    fields
-        .iter()
-        .filter(|field| field.0.as_str() == name)
-        .count()
-}
-
-// The value of the first field of the name.
-fn value<'a>(fields: &'a [(String, String)], name: &str) -> Option<&'a str>
-    ensures { option_copied result ≡ value_of name.now (bytes_of fields.now) }
-{
-    match first(fields, name) {
-        Some((_, value)) => Some(value.as_str()),
-        None => None,
-    }
-}
-
-fn first<'a>(fields: &'a [(String, String)], name: &str) -> Option<&'a (String, String)>
-    ensures { option_copied result ≡ find (λ field. bytes_eq (string_bytes field.0) name.now) fields.now }
-{
-    fields.iter().find(|field| field.0.as_str() == name)
-}
-
-// The number that a text of so many digits writes.
-fn numeral(text: &str, radix: u32, least: usize, most: usize) -> Option<u32>
-    requires some { 0 < least }
-    requires binary { 2 ≤ radix }
-    requires letters { radix ≤ 36 }
-    requires fits { radix ^ most ≤ 2 ^ 32 }
-    ensures value { result ≡ numeral_of radix least most text.now }
-    ensures bound { IfSome result (λ number. number < radix ^ most) }
-{
-    if text.len() < least || text.len() > most || !are_digits(text.as_bytes(), radix) {
-        return None;
-    }
-    match u32::from_str_radix(text, radix) {
-        Ok(number) => Some(number),
-        Err(_) => None,
-    }
-}
-
-fn are_digits(bytes: &[u8], radix: u32) -> bool
-    requires binary { 2 ≤ radix }
-    requires letters { radix ≤ 36 }
-    ensures { result ≡ list_all (λ c. is_digit c radix) bytes.now }
-{
-    bytes.iter().all(|b| char::from(*b).is_digit(radix))
 }

@@ -1,9 +1,15 @@
 //! The names that a request is about.
-ghost use Rattle.std.specs.Prelude.{◌≡◌, ◌&&◌, ◌==◌, not, nat_lt, IfOk, IfErr, IsSome};
+ghost use Rattle.std.specs.Prelude.{◌≡◌, ◌&&◌, ◌==◌, not, IfOk, IsSome};
 ghost use Rattle.pid_file.specs.declared.path.Path.TheVariants as paths;
-ghost use Rattle.pid_lookup.specs.Found.{name_in, where_true, subsystem_name, class_byte as class_half, subclass_byte as subclass_half};
+ghost use Rattle.pid_lookup.specs.Found.{
+  own_device,
+  subsystem_name,
+  under_device,
+  class_byte as class_half,
+  subclass_byte as subclass_half,
+};
 ghost use Rattle.pid_lookup.specs.Flags.{has};
-ghost use Rattle.pid_lookup.specs.Holders.{Keeps};
+ghost use Rattle.pid_lookup.specs.Steps.Asking.{Asks, AsksFor};
 ghost use Rattle.pid_lookup.specs.Steps.FoundTexts.{IsFor, nameless};
 
 use crate::args::Args;
@@ -26,13 +32,9 @@ pub enum Found {
 
 /// The names that a request is about.
 pub fn find<N: Names>(names: &mut N, request: Request, args: &Args) -> Result<Found, N::Fault>
-    ensures found { N.is_honest names.new → (s : N.Shown) → N.shows names.old s
-        → IfOk result (λ found. IsFor found (name_in (N.map_of s)) request args.now) }
+    ensures asks { Asks N.Names names.old names.new result
+        (λ named found. IsFor found named request args.now) }
     ensures told { IfOk result (λ _. N.may_tell names.old) }
-    ensures fault { IfErr result (λ f. N.may_give names.old f) }
-    ensures caused { N.is_honest names.new → (s : N.Shown) → N.shows names.old s → (start : _) → N.only_asked start names.old
-        → IfErr result (λ f. N.has_cause start names.new f) }
-    ensures kept { Keeps N.shows N.is_honest N.may_give N.may_tell N.only_asked names.old names.new }
 {
     match request {
         Request::Vendor => Ok(Found::One(find_vendor(names, args.vendor)?)),
@@ -47,25 +49,17 @@ pub fn find<N: Names>(names: &mut N, request: Request, args: &Args) -> Result<Fo
 }
 
 fn find_vendor<N: Names>(names: &mut N, vendor: Id16) -> Result<Option<Name>, N::Fault>
-    ensures found { N.is_honest names.new → (s : N.Shown) → N.shows names.old s
-        → IfOk result (λ name. name ≡ name_in (N.map_of s) (paths.Vendor vendor)) }
+    ensures asks { AsksFor N.Names names.old names.new result
+        (λ named. named (paths.Vendor vendor)) }
     ensures told { IfOk result (λ _. N.may_tell names.old) }
-    ensures fault { IfErr result (λ f. N.may_give names.old f) }
-    ensures caused { N.is_honest names.new → (s : N.Shown) → N.shows names.old s → (start : _) → N.only_asked start names.old
-        → IfErr result (λ f. N.has_cause start names.new f) }
-    ensures kept { Keeps N.shows N.is_honest N.may_give N.may_tell N.only_asked names.old names.new }
 {
     names.name_of(&Path::Vendor { vendor })
 }
 
 fn find_device<N: Names>(names: &mut N, args: &Args) -> Result<Option<Name>, N::Fault>
-    ensures found { N.is_honest names.new → (s : N.Shown) → N.shows names.old s
-        → IfOk result (λ name. name ≡ name_in (N.map_of s) (paths.Device args.now.vendor args.now.device)) }
+    ensures asks { AsksFor N.Names names.old names.new result
+        (λ named. named (paths.Device args.now.vendor args.now.device)) }
     ensures told { IfOk result (λ _. N.may_tell names.old) }
-    ensures fault { IfErr result (λ f. N.may_give names.old f) }
-    ensures caused { N.is_honest names.new → (s : N.Shown) → N.shows names.old s → (start : _) → N.only_asked start names.old
-        → IfErr result (λ f. N.has_cause start names.new f) }
-    ensures kept { Keeps N.shows N.is_honest N.may_give N.may_tell N.only_asked names.old names.new }
 {
     names.name_of(&Path::Device {
         vendor: args.vendor,
@@ -74,13 +68,9 @@ fn find_device<N: Names>(names: &mut N, args: &Args) -> Result<Option<Name>, N::
 }
 
 fn find_device_pair<N: Names>(names: &mut N, args: &Args) -> Result<Found, N::Fault>
-    ensures found { N.is_honest names.new → (s : N.Shown) → N.shows names.old s
-        → IfOk result (λ found. IsFor found (name_in (N.map_of s)) Request.VendorAndDevice args.now) }
+    ensures asks { Asks N.Names names.old names.new result
+        (λ named found. IsFor found named Request.VendorAndDevice args.now) }
     ensures told { IfOk result (λ _. N.may_tell names.old) }
-    ensures fault { IfErr result (λ f. N.may_give names.old f) }
-    ensures caused { N.is_honest names.new → (s : N.Shown) → N.shows names.old s → (start : _) → N.only_asked start names.old
-        → IfErr result (λ f. N.has_cause start names.new f) }
-    ensures kept { Keeps N.shows N.is_honest N.may_give N.may_tell N.only_asked names.old names.new }
 {
     let vendor = find_vendor(names, args.vendor)?;
     let device = find_device(names, args)?;
@@ -88,13 +78,9 @@ fn find_device_pair<N: Names>(names: &mut N, args: &Args) -> Result<Found, N::Fa
 }
 
 fn find_subsystem_pair<N: Names>(names: &mut N, args: &Args) -> Result<Found, N::Fault>
-    ensures found { N.is_honest names.new → (s : N.Shown) → N.shows names.old s
-        → IfOk result (λ found. IsFor found (name_in (N.map_of s)) Request.SubvendorAndSubsystem args.now) }
+    ensures asks { Asks N.Names names.old names.new result
+        (λ named found. IsFor found named Request.SubvendorAndSubsystem args.now) }
     ensures told { IfOk result (λ _. N.may_tell names.old) }
-    ensures fault { IfErr result (λ f. N.may_give names.old f) }
-    ensures caused { N.is_honest names.new → (s : N.Shown) → N.shows names.old s → (start : _) → N.only_asked start names.old
-        → IfErr result (λ f. N.has_cause start names.new f) }
-    ensures kept { Keeps N.shows N.is_honest N.may_give N.may_tell N.only_asked names.old names.new }
 {
     let vendor = find_vendor(names, args.subvendor)?;
     let device = find_subsystem(names, args)?;
@@ -102,13 +88,9 @@ fn find_subsystem_pair<N: Names>(names: &mut N, args: &Args) -> Result<Found, N:
 }
 
 fn find_subsystem<N: Names>(names: &mut N, args: &Args) -> Result<Option<Name>, N::Fault>
-    ensures found { N.is_honest names.new → (s : N.Shown) → N.shows names.old s
-        → IfOk result (λ name. name ≡ subsystem_name (name_in (N.map_of s)) args.now) }
+    ensures asks { AsksFor N.Names names.old names.new result
+        (λ named. subsystem_name named args.now) }
     ensures told { IfOk result (λ _. N.may_tell names.old) }
-    ensures fault { IfErr result (λ f. N.may_give names.old f) }
-    ensures caused { N.is_honest names.new → (s : N.Shown) → N.shows names.old s → (start : _) → N.only_asked start names.old
-        → IfErr result (λ f. N.has_cause start names.new f) }
-    ensures kept { Keeps N.shows N.is_honest N.may_give N.may_tell N.only_asked names.old names.new }
 {
     if let Some(name) = find_under_device(names, args)? {
         return Ok(Some(name));
@@ -121,14 +103,9 @@ fn find_subsystem<N: Names>(names: &mut N, args: &Args) -> Result<Option<Name>, 
 
 // The subsystem's entry under the device.
 fn find_under_device<N: Names>(names: &mut N, args: &Args) -> Result<Option<Name>, N::Fault>
-    ensures found { N.is_honest names.new → (s : N.Shown) → N.shows names.old s
-        → IfOk result (λ name. name ≡ where_true (nat_lt 0 args.now.vendor && nat_lt 0 args.now.device)
-        (name_in (N.map_of s) (paths.Subsystem args.now.vendor args.now.device args.now.subvendor args.now.subdevice))) }
+    ensures asks { AsksFor N.Names names.old names.new result
+        (λ named. under_device named args.now) }
     ensures told { IfOk result (λ name. IsSome name → N.may_tell names.old) }
-    ensures fault { IfErr result (λ f. N.may_give names.old f) }
-    ensures caused { N.is_honest names.new → (s : N.Shown) → N.shows names.old s → (start : _) → N.only_asked start names.old
-        → IfErr result (λ f. N.has_cause start names.new f) }
-    ensures kept { Keeps N.shows N.is_honest N.may_give N.may_tell N.only_asked names.old names.new }
 {
     if args.vendor == 0 || args.device == 0 {
         return Ok(None);
@@ -143,13 +120,9 @@ fn find_under_device<N: Names>(names: &mut N, args: &Args) -> Result<Option<Name
 
 // The subsystem's entry under no device.
 fn find_generic<N: Names>(names: &mut N, args: &Args) -> Result<Option<Name>, N::Fault>
-    ensures found { N.is_honest names.new → (s : N.Shown) → N.shows names.old s
-        → IfOk result (λ name. name ≡ name_in (N.map_of s) (paths.Generic args.now.subvendor args.now.subdevice)) }
+    ensures asks { AsksFor N.Names names.old names.new result
+        (λ named. named (paths.Generic args.now.subvendor args.now.subdevice)) }
     ensures told { IfOk result (λ _. N.may_tell names.old) }
-    ensures fault { IfErr result (λ f. N.may_give names.old f) }
-    ensures caused { N.is_honest names.new → (s : N.Shown) → N.shows names.old s → (start : _) → N.only_asked start names.old
-        → IfErr result (λ f. N.has_cause start names.new f) }
-    ensures kept { Keeps N.shows N.is_honest N.may_give N.may_tell N.only_asked names.old names.new }
 {
     names.name_of(&Path::Generic {
         vendor: args.subvendor,
@@ -159,13 +132,8 @@ fn find_generic<N: Names>(names: &mut N, args: &Args) -> Result<Option<Name>, N:
 
 // The device, where it is its own subsystem.
 fn find_own_device<N: Names>(names: &mut N, args: &Args) -> Result<Option<Name>, N::Fault>
-    ensures found { N.is_honest names.new → (s : N.Shown) → N.shows names.old s
-        → IfOk result (λ name. name ≡ where_true (args.now.subvendor == args.now.vendor && args.now.subdevice == args.now.device)
-        (name_in (N.map_of s) (paths.Device args.now.vendor args.now.device))) }
-    ensures fault { IfErr result (λ f. N.may_give names.old f) }
-    ensures caused { N.is_honest names.new → (s : N.Shown) → N.shows names.old s → (start : _) → N.only_asked start names.old
-        → IfErr result (λ f. N.has_cause start names.new f) }
-    ensures kept { Keeps N.shows N.is_honest N.may_give N.may_tell N.only_asked names.old names.new }
+    ensures asks { AsksFor N.Names names.old names.new result
+        (λ named. own_device named args.now) }
 {
     if !is_own_subsystem(args) {
         return Ok(None);
@@ -174,19 +142,16 @@ fn find_own_device<N: Names>(names: &mut N, args: &Args) -> Result<Option<Name>,
 }
 
 fn is_own_subsystem(args: &Args) -> bool
-    ensures { result ≡ (args.now.subvendor == args.now.vendor && args.now.subdevice == args.now.device) }
+    ensures { result ≡ (args.now.subvendor == args.now.vendor
+        && args.now.subdevice == args.now.device) }
 {
     args.subvendor == args.vendor && args.subdevice == args.device
 }
 
 fn find_class<N: Names>(names: &mut N, args: &Args) -> Result<Found, N::Fault>
-    ensures found { N.is_honest names.new → (s : N.Shown) → N.shows names.old s
-        → IfOk result (λ found. IsFor found (name_in (N.map_of s)) Request.Class args.now) }
+    ensures asks { Asks N.Names names.old names.new result
+        (λ named found. IsFor found named Request.Class args.now) }
     ensures told { IfOk result (λ _. N.may_tell names.old) }
-    ensures fault { IfErr result (λ f. N.may_give names.old f) }
-    ensures caused { N.is_honest names.new → (s : N.Shown) → N.shows names.old s → (start : _) → N.only_asked start names.old
-        → IfErr result (λ f. N.has_cause start names.new f) }
-    ensures kept { Keeps N.shows N.is_honest N.may_give N.may_tell N.only_asked names.old names.new }
 {
     let class = class_byte(args);
     let subclass = subclass_byte(args);
@@ -200,13 +165,9 @@ fn find_class<N: Names>(names: &mut N, args: &Args) -> Result<Found, N::Fault>
 }
 
 fn find_progif<N: Names>(names: &mut N, args: &Args) -> Result<Found, N::Fault>
-    ensures found { N.is_honest names.new → (s : N.Shown) → N.shows names.old s
-        → IfOk result (λ found. IsFor found (name_in (N.map_of s)) Request.ProgIf args.now) }
+    ensures asks { Asks N.Names names.old names.new result
+        (λ named found. IsFor found named Request.ProgIf args.now) }
     ensures told { IfOk result (λ _. N.may_tell names.old) }
-    ensures fault { IfErr result (λ f. N.may_give names.old f) }
-    ensures caused { N.is_honest names.new → (s : N.Shown) → N.shows names.old s → (start : _) → N.only_asked start names.old
-        → IfErr result (λ f. N.has_cause start names.new f) }
-    ensures kept { Keeps N.shows N.is_honest N.may_give N.may_tell N.only_asked names.old names.new }
 {
     let path = Path::ProgIf {
         class: class_byte(args),
@@ -221,7 +182,8 @@ fn find_progif<N: Names>(names: &mut N, args: &Args) -> Result<Found, N::Fault>
 
 // An interface that has no name.
 fn nameless_progif(args: &Args) -> Found
-    ensures { result ≡ nameless (args.now.class == 0x101 && not (has args.now.progif 0x70)) args.now.progif }
+    ensures { result ≡ nameless (args.now.class == 0x101 && not
+        (has args.now.progif 0x70)) args.now.progif }
 {
     if args.class == 0x101 && args.progif & 0x70 == 0 {
         Found::Ide(IdeWords::of(args.progif))

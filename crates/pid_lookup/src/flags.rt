@@ -1,6 +1,13 @@
 //! The flags of a look-up.
 ghost use Rattle.std.specs.Prelude.{◌≡◌, ◌↔◌, ◌&&◌, ◌==◌, not, true, find, IfSome, IsNone};
-ghost use Rattle.pid_lookup.specs.Flags.{Switches, bits_of, all_requests, request_of, switches_of, is_bad};
+ghost use Rattle.pid_lookup.specs.Flags.{
+  Switches,
+  bits_of,
+  all_requests,
+  request_of,
+  switches_of,
+  is_bad,
+};
 ghost use Rattle.pid_lookup.specs.Steps.Styles.{switches};
 ghost use Rattle.pid_lookup.specs.Answers.{with_numbers, word_of};
 
@@ -83,7 +90,8 @@ const UNKNOWN: u32 = 0xfff8_0000;
 // The style of three switches; none where numbers would stand alone and be missing.
 fn style_of(numeric: bool, no_numbers: bool, mixed: bool) -> Option<Style>
     ensures bad { IsNone result ↔ (((numeric && not mixed) && no_numbers) ≡ true) }
-    ensures style { IfSome result (λ style. switches style ≡ record { numeric = numeric && not mixed; no_numbers = no_numbers; mixed = mixed }) }
+    ensures style { IfSome result (λ style. switches style
+        ≡ record { numeric = numeric && not mixed; no_numbers = no_numbers; mixed = mixed }) }
 {
     match (numeric, no_numbers, mixed) {
         (_, false, true) => Some(Style::Mixed),

@@ -56,7 +56,8 @@ pub fn pair_parts<'a>(
     device: Option<&'a [u8]>,
 ) -> Option<Parts<'a>>
     ensures { option_map (λ parts. flat_map (λ part. part.now) parts.slices) result
-        ≡ pair_text (switches style) number.now (option_copied vendor.entry) (option_copied device.entry) }
+        ≡ pair_text (switches style) number.now (option_copied vendor.entry)
+        (option_copied device.entry) }
 {
     match (style, vendor, device) {
         (Style::Numeric, _, _) => Some(Parts {

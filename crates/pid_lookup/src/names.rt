@@ -8,10 +8,12 @@ use pid_ident::{Name, Path};
 
 /// A holder of names: a tree, or a registry over a disk.
 ///
-/// Where the holder is honest as a question ends, the name that it told is that of the map that it shows. A holder that may not tell
-/// answers every question with a fault, and so tells of no path that it has a name or that it has none.
+/// Where the holder is honest as a question ends, the name that it told is that of the map that it
+/// shows. A holder that may not tell answers every question with a fault, and so tells of no path
+/// that it has a name or that it has none.
 ///
-/// No question changes what is shown, which faults may come or whether it may tell, nor, honest or not, more of the holder than
+/// No question changes what is shown, which faults may come or whether it may tell, nor, honest or
+/// not, more of the holder than
 /// `only_asked` allows.
 pub trait Names {
     /// Why a question has no answer.
@@ -32,13 +34,16 @@ pub trait Names {
     /// Whether the holder may give this fault.
     ghost may_give: { Self → Self.Fault → Type 0 };
 
-    /// Whether the holder may tell that a path has a name, or that it has none: where not, each question gets a fault.
+    /// Whether the holder may tell that a path has a name, or that it has none: where not, each
+    /// question gets a fault.
     ghost may_tell: { Self → Type 0 } = { λ _. ⊤ };
 
-    /// Whether this fault has its cause between the first holder and the second, where the first was only asked for names since.
+    /// Whether this fault has its cause between the first holder and the second, where the first
+    /// was only asked for names since.
     ghost has_cause: { Self → Self → Self.Fault → Type 0 } = { λ _ _ _. ⊤ };
 
-    /// Whether a holder that was the first may be the second where it was asked for names, and nothing else was done to it.
+    /// Whether a holder that was the first may be the second where it was asked for names, and
+    /// nothing else was done to it.
     ghost only_asked: { Self → Self → Type 0 };
 
     /// A copy of the name of a path, and none where it has no name; or a fault.
@@ -47,7 +52,8 @@ pub trait Names {
             → IfOk result (λ name. name ≡ name_in (map_of s) path.now) }
         ensures told { IfOk result (λ _. may_tell self.old) }
         ensures fault { IfErr result (λ f. may_give self.old f) }
-        ensures caused { is_honest self.new → (s : Shown) → shows self.old s → (start : Self) → only_asked start self.old
+        ensures caused { is_honest self.new → (s : Shown) → shows self.old s → (start : Self)
+            → only_asked start self.old
             → IfErr result (λ f. has_cause start self.new f) }
         ensures kept { Keeps shows is_honest may_give may_tell only_asked self.old self.new };
 }

@@ -13,7 +13,11 @@ pub enum Unanswered {
 }
 
 impl Unanswered {
-    ghost use Rattle.pid_lookup.specs.Unanswered.{unanswered_number, unanswered_word, unanswered_line};
+    ghost use Rattle.pid_lookup.specs.Unanswered.{
+      unanswered_number,
+      unanswered_word,
+      unanswered_line,
+    };
 
     /// The number in replies.
     pub fn number(self) -> u8
@@ -37,7 +41,8 @@ impl Unanswered {
         }
     }
 
-    /// The line that tells it: `refused`, the number and the word, and `none` where a look-up has no answer.
+    /// The line that tells it: `refused`, the number and the word, and `none` where a look-up has
+    /// no answer.
     pub fn line(self) -> &'static str
         ensures { result.now ≡ unanswered_line self }
     {

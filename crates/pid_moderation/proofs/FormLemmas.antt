@@ -8,7 +8,7 @@ use Rattle.pid_moderation.specs.declared.refusal.Refusal.TheVariants.{BadText, M
 use Rattle.pid_moderation.specs.declared.verb.Verb.{Verb}
 use Rattle.pid_moderation.specs.Fields.{Fields}
 use Rattle.pid_moderation.specs.CheckTables.{Checks, first_failing}
-use Rattle.pid_moderation.specs.Following.{Follows}
+use Rattle.pid_moderation.specs.Steps.Following.{Follows}
 use Rattle.pid_moderation.specs.Forms.{has_fields, value_checks, form_checks, is_none_or, Says}
 
 abbrev refusal_in : Option (Bool × Refusal) → Option Refusal

@@ -2,7 +2,6 @@ pub mod WorkedRows
 pub mod Changing
 pub mod Deciding
 pub mod Passing
-pub mod FieldLemmas
 pub mod FormLemmas
 pub mod ItemLemmas
 pub mod WriteLemmas

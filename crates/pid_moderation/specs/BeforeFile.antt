@@ -16,7 +16,8 @@ import_of account key reading = record { account = account; key = key; deed = Im
 -- the import is answered so whatever its file reads to, if it is not too long, and changes nothing
 abbrev pub SettlesImport : History → List ℕ → Option (List ℕ) → Result Reply Refusal → Type 0
 SettlesImport h account key told = (reading : Reading) → reading ≢ TooLong
-    → (answer (judge (views_of h) (import_of account key reading)) ≡ told) × (after h (import_of account key reading) ≡ h)
+    → (answer (judge (views_of h) (import_of account key reading)) ≡ told)
+    × (after h (import_of account key reading) ≡ h)
 
 -- no reply is kept for the import, and no check before those of its file fails
 pub record WaitsForFile (f : Facts) : Type 0 where

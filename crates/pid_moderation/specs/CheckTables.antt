@@ -1,5 +1,6 @@
 -- The checks of each command with the refusal that each means, in order: choices of this project.
-use Rattle.std.specs.Prelude.{◌≡◌, ℕ, ◌+◌, Bool, length, true, false, not, ◌&&◌, nat_lt, nat_le, List, [], ◌∷◌, ◌++◌, find, Option, Some, None}
+use Rattle.std.specs.Prelude.{◌≡◌, ℕ, ◌+◌, Bool, length, true, false, not, ◌&&◌, nat_lt, nat_le}
+use Rattle.std.specs.Prelude.{List, [], ◌∷◌, ◌++◌, find, Option, Some, None}
 use Rattle.std.specs.Prelude.{is_none}
 use Rattle.std.specs.Option.{option_map}
 use Rattle.std.specs.Str.{bytes_eq}
@@ -17,11 +18,16 @@ use Rattle.pid_moderation.specs.declared.facts.Verdict.TheVariants as verdicts
 use Rattle.pid_moderation.specs.declared.rank.Rank.{Rank}
 use Rattle.pid_moderation.specs.declared.rank.Rank.TheVariants.{Senior, Administrator}
 use Rattle.pid_moderation.specs.declared.refusal.Refusal.{Refusal}
-use Rattle.pid_moderation.specs.declared.refusal.Refusal.TheVariants.{BadText, NoAccount, RankTooLow, NoSubmission, NotPending, NotAuthor}
-use Rattle.pid_moderation.specs.declared.refusal.Refusal.TheVariants.{OwnDecision, ParentMissing, HasChildren, NothingToDo, FileFault, Full}
+use Rattle.pid_moderation.specs.declared.refusal.Refusal.TheVariants.{BadText, NoAccount}
+use Rattle.pid_moderation.specs.declared.refusal.Refusal.TheVariants.{RankTooLow, NoSubmission}
+use Rattle.pid_moderation.specs.declared.refusal.Refusal.TheVariants.{NotPending, NotAuthor}
+use Rattle.pid_moderation.specs.declared.refusal.Refusal.TheVariants.{OwnDecision, ParentMissing}
+use Rattle.pid_moderation.specs.declared.refusal.Refusal.TheVariants.{HasChildren, NothingToDo}
+use Rattle.pid_moderation.specs.declared.refusal.Refusal.TheVariants.{FileFault, Full}
 use Rattle.pid_moderation.specs.declared.command.Act.{Act}
 use Rattle.pid_moderation.specs.declared.command.Act.TheVariants as acts
-use Rattle.pid_moderation.specs.History.{Reading, TooLong, Deed, Ranks, Submits, Comments, Withdraws, Approves, Rejects, Imports, Asked}
+use Rattle.pid_moderation.specs.History.{Reading, TooLong, Deed, Ranks, Submits, Comments}
+use Rattle.pid_moderation.specs.History.{Withdraws, Approves, Rejects, Imports, Asked}
 use Rattle.pid_moderation.specs.Items.{has_name}
 use Rattle.pid_moderation.specs.Ranks.{needed_rank, has_rank, is_rank}
 
@@ -48,7 +54,8 @@ abbrev pub leaves_children : Proposal → Bool → Bool
 leaves_children (proposals.Name name) has_children = false
 leaves_children proposals.Removal has_children = has_children
 
--- the limits of a registry: its items, its submissions, the remarks on one submission, the bytes of a file, and its revision
+-- the limits of a registry: its items, its submissions, the remarks on one submission, the bytes of
+-- a file, and its revision
 abbrev pub most_items : ℕ
 most_items = 100000
 
@@ -151,7 +158,8 @@ first_failing cs = option_map (λ c. c.1) (find (λ c. c.0) cs)
 
 -- FORM
 
--- an empty comment or reason, or a file too long: the file of an import is read here, so that `None` is one that is too long
+-- an empty comment or reason, or a file too long: the file of an import is read here, so that
+-- `None` is one that is too long
 abbrev pub is_ill_formed : Facts → Deed → Bool
 is_ill_formed f (Comments n text) = is_empty text
 is_ill_formed f (Rejects n reason) = is_empty reason
@@ -167,7 +175,8 @@ is_broken act = false
 
 -- the reading tells a file that is too long as such
 abbrev pub TellsLength : Act → Reading → Type 0
-TellsLength (acts.Import file) reading = nat_lt most_file_bytes (length file) ≡ true → reading ≡ TooLong
+TellsLength (acts.Import file) reading = nat_lt most_file_bytes (length file) ≡ true
+    → reading ≡ TooLong
 TellsLength act reading = Unit {0}
 
 -- REPLIES

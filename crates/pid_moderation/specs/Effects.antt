@@ -1,5 +1,6 @@
 -- What is answered and changed where all checks pass, by the facts.
-use Rattle.std.specs.Prelude.{◌≡◌, ◌≢◌, ℕ, ◌+◌, ◌-◌, is_none, List, [], Option, Some, None, Result, Ok, Err, MatchResult}
+use Rattle.std.specs.Prelude.{◌≡◌, ◌≢◌, ℕ, ◌+◌, ◌-◌, is_none, List, [], Option, Some, None, Result}
+use Rattle.std.specs.Prelude.{Ok, Err, MatchResult}
 use Rattle.std.specs.Option.{option_map}
 use Rattle.pid_moderation.specs.declared.command.Reply.{Reply}
 use Rattle.pid_moderation.specs.declared.command.Proposal.{Proposal}
@@ -17,12 +18,15 @@ use Rattle.pid_moderation.specs.declared.change.Edit.TheVariants.{Add, Rename, R
 use Rattle.pid_moderation.specs.declared.change.Write.{Write}
 use Rattle.pid_moderation.specs.declared.change.Receipt.{Receipt}
 use Rattle.pid_moderation.specs.declared.change.Effect.{Effect}
-use Rattle.pid_moderation.specs.declared.change.Effect.TheVariants.{Nothing, Ranked, Submitted, Remarked, Decided, Imported}
-use Rattle.pid_moderation.specs.History.{Deed, Ranks, Submits, Comments, Withdraws, Approves, Rejects, Imports, Asked, History}
+use Rattle.pid_moderation.specs.declared.change.Effect.TheVariants.{Nothing, Ranked, Submitted}
+use Rattle.pid_moderation.specs.declared.change.Effect.TheVariants.{Remarked, Decided, Imported}
+use Rattle.pid_moderation.specs.History.{Deed, Ranks, Submits, Comments, Withdraws, Approves}
+use Rattle.pid_moderation.specs.History.{Rejects, Imports, Asked, History}
 use Rattle.pid_moderation.specs.Items.{Items}
 use Rattle.pid_moderation.specs.Views.{views_of, pairs_of}
 use Rattle.pid_moderation.specs.Changes.{changed, with_pairs, Fits}
-use Rattle.pid_moderation.specs.Judgement.{Outcome, Refused, Repeated, Accepts, judge, judged, answer, after}
+use Rattle.pid_moderation.specs.Judgement.{Outcome, Refused, Repeated, Accepts, judge, judged}
+use Rattle.pid_moderation.specs.Judgement.{answer, after}
 
 -- what an import does: nothing where its file is not imported, as one that is too long (`None`)
 abbrev pub counted : Option Verdict → Effect
@@ -42,7 +46,12 @@ items_after (Rename name) items = items
 items_after Remove items = items - 1
 
 abbrev pub write_of : Facts → Named → Write
-write_of f s = record { path = s.path; edit = edit_of s.proposal f.present; items = items_after (edit_of s.proposal f.present) f.items }
+write_of f s = record {
+  path = s.path;
+  edit = edit_of s.proposal f.present;
+  items = items_after
+      (edit_of s.proposal f.present) f.items;
+}
 
 -- the place of one more remark
 abbrev pub next_place : Option Named → ℕ
@@ -51,7 +60,8 @@ next_place (Some s) = s.remarks + 1
 
 abbrev pub effect_of : List ℕ → Facts → Deed → Effect
 effect_of account f (Ranks who rank) = Ranked who rank (is_none f.who)
-effect_of account f (Submits path proposal note) = Submitted (f.submissions + 1) account path proposal note
+effect_of account f (Submits path proposal note) = Submitted
+    (f.submissions + 1) account path proposal note
 effect_of account f (Comments n text) = Remarked n (next_place f.named) account text
 effect_of account f (Withdraws n) = Decided n Withdrawn None
 effect_of account f (Approves n) = Decided n (Approved account) (option_map (write_of f) f.named)
@@ -63,7 +73,11 @@ receipt_of account None reply = None
 receipt_of account (Some key) reply = Some (record { account = account; key = key; reply = reply })
 
 abbrev pub change_of : Facts → Asked → Reply → Change
-change_of f c reply = record { effect = effect_of c.account f c.deed; receipt = receipt_of c.account c.key reply; revision = f.revision + 1 }
+change_of f c reply = record {
+  effect = effect_of c.account f c.deed;
+  receipt = receipt_of c.account c.key reply;
+  revision = f.revision + 1;
+}
 
 abbrev pub no_change : Facts → Change
 no_change f = record { effect = Nothing; receipt = None; revision = f.revision }
@@ -87,12 +101,15 @@ change_by f c (Repeated reply) = no_change f
 
 -- the outcome by the facts, with its change; or memory is short
 abbrev pub Decides : Facts → Asked → Result (Change × Reply) Refusal → Type 0
-Decides f c result = MatchResult result (λ d. (answer (judged f c) ≡ Ok d.1) × (d.0 ≡ change_by f c (judged f c))) (λ e. e ≢ Memory → answer (judged f c) ≡ Err e)
+Decides f c result = MatchResult result (λ d. (answer (judged f c) ≡ Ok d.1)
+    × (d.0 ≡ change_by f c (judged f c))) (λ e. e ≢ Memory → answer (judged f c) ≡ Err e)
 
 -- the change leads from what h shows to what it shows after c
 abbrev pub LeadsOn : History → Asked → Change → Type 0
-LeadsOn h c change = views_of (after h c) ≡ changed change (with_pairs (new_pairs (judge (views_of h) c) c.deed) (views_of h))
+LeadsOn h c change = views_of (after h c)
+    ≡ changed change (with_pairs (new_pairs (judge (views_of h) c) c.deed) (views_of h))
 
 -- the numbers of the change are those of what h shows, with the pairs of a file written
 abbrev pub FitsHistory : History → Asked → Change → Type 0
-FitsHistory h c change = Fits change (with_pairs (new_pairs (judge (views_of h) c) c.deed) (views_of h))
+FitsHistory h c change = Fits change (with_pairs (new_pairs (judge (views_of h) c) c.deed)
+    (views_of h))

@@ -7,9 +7,11 @@ use Rattle.pid_moderation.specs.declared.facts.Facts.{Facts}
 use Rattle.pid_moderation.specs.declared.facts.Named.{Named}
 use Rattle.pid_moderation.specs.declared.facts.Verdict.{Verdict}
 use Rattle.pid_moderation.specs.declared.facts.Verdict.TheVariants as verdicts
-use Rattle.pid_moderation.specs.History.{Reading, TooLong, Faulty, Good, Deed, Ranks, Submits, Comments, Withdraws, Approves, Rejects, Imports, Asked}
+use Rattle.pid_moderation.specs.History.{Reading, TooLong, Faulty, Good, Deed, Ranks, Submits}
+use Rattle.pid_moderation.specs.History.{Comments, Withdraws, Approves, Rejects, Imports, Asked}
 use Rattle.pid_ident.specs.PathReading.{parent_text}
-use Rattle.pid_moderation.specs.Items.{Items, name_at, holds_parent, has_children, imported, count_new, count_renamed, count_same}
+use Rattle.pid_moderation.specs.Items.{Items, name_at, holds_parent, has_children, imported}
+use Rattle.pid_moderation.specs.Items.{count_new, count_renamed, count_same}
 use Rattle.pid_moderation.specs.Views.{Views, submission_at}
 
 abbrev pub kept_in : Views → List ℕ → Option (List ℕ) → Option Reply
@@ -17,17 +19,28 @@ kept_in v account None = None
 kept_in v account (Some key) = v.kept account key
 
 abbrev pub named : Views → ℕ → Option Named
-named v n = option_map (λ s. record { author = s.author; path = s.path; proposal = s.proposal; state = v.state n; remarks = length (v.remarks n) }) (submission_at n v.submits)
+named v n = option_map
+    (λ s. record {
+      author = s.author;
+      path = s.path;
+      proposal = s.proposal;
+      state = v.state n;
+      remarks = length
+          (v.remarks n);
+    }) (submission_at n v.submits)
 
--- what a file comes to over these items, with how many items there are then; `None` of one that is too long
+-- what a file comes to over these items, with how many items there are then; `None` of one that is
+-- too long
 abbrev pub verdict : Items → Reading → Option Verdict
 verdict items TooLong = None
 verdict items (Faulty fault) = Some (verdicts.Faulty fault)
 verdict items (Good pairs) =
-    Some (verdicts.Good (count_new items pairs) (count_renamed items pairs) (count_same items pairs) (length (imported pairs items)))
+    Some (verdicts.Good (count_new items pairs) (count_renamed items pairs) (count_same items pairs)
+    (length (imported pairs items)))
 
--- What is known of every command: the caller's rank, the reply that is kept for it, and the revision. No more is looked at yet: `file` is
--- `None` here since it is not read yet, or the command has none.
+-- What is known of every command: the caller's rank, the reply that is kept for it, and the
+-- revision. No more is looked at yet: `file` is `None` here since it is not read yet, or the
+-- command has none.
 abbrev pub known : Views → List ℕ → Option (List ℕ) → Facts
 known v account key = record {
   rank = v.rank account;
@@ -82,7 +95,8 @@ looked_at v NoRows f = f
 abbrev pub facts_at : Views → List ℕ → Option (List ℕ) → Wanted → Facts
 facts_at v account key w = looked_at v w (known v account key)
 
--- and what the file of an import comes to: from here on `file` is `None` where it is too long, or the command is no import
+-- and what the file of an import comes to: from here on `file` is `None` where it is too long, or
+-- the command is no import
 abbrev pub with_file : Items → Deed → Facts → Facts
 with_file items (Imports reading) f = record f { file = verdict items reading }
 with_file items deed f = f

@@ -1,45 +1,48 @@
 -- The fields of each command and the rules that they keep: choices of this project.
-use Rattle.std.specs.Prelude.{◌≡◌, ◌≢◌, ℕ, ◌+◌, Bool, true, not, ◌&&◌, ◌||◌, ◌==◌, nat_le, if◌then◌else◌, List, [], ◌∷◌, ◌++◌, length, slice_index}
+use Rattle.std.specs.Prelude.{◌≡◌, ◌≢◌, ℕ, ◌+◌, Bool, true, not, ◌&&◌, ◌==◌, nat_le}
+use Rattle.std.specs.Prelude.{if◌then◌else◌, List, [], ◌∷◌, ◌++◌, length}
 use Rattle.std.specs.Prelude.{Option, Some, None, is_none, codes, Result, MatchResult}
-use Rattle.std.specs.List.{list_all}
 use Rattle.std.specs.Option.{option_map}
-use Rattle.std.specs.Char.{is_ascii_digit}
 use Rattle.std.specs.Str.{bytes_eq}
-use Rattle.std.specs.Str.Parse.{digits_value}
 use Rattle.pid_ident.specs.Bytes.{is_empty}
 use Rattle.pid_ident.specs.Words.{is_name, is_text, is_account, is_key}
 use Rattle.pid_file.specs.declared.path.Path.{Path}
 use Rattle.pid_moderation.specs.declared.rank.Rank.{Rank}
-use Rattle.pid_moderation.specs.declared.rank.Rank.TheVariants.{Contributor, Moderator, Senior, Administrator}
+use Rattle.pid_moderation.specs.declared.rank.Rank.TheVariants.{Contributor, Moderator, Senior}
+use Rattle.pid_moderation.specs.declared.rank.Rank.TheVariants.{Administrator}
 use Rattle.pid_moderation.specs.declared.refusal.Refusal.{Refusal}
-use Rattle.pid_moderation.specs.declared.refusal.Refusal.TheVariants.{BadPath, BadName, BadText, Memory}
+use Rattle.pid_moderation.specs.declared.refusal.Refusal.TheVariants.{BadPath, BadName, BadText}
+use Rattle.pid_moderation.specs.declared.refusal.Refusal.TheVariants.{Memory}
 use Rattle.pid_moderation.specs.declared.command.Proposal.{Proposal}
 use Rattle.pid_moderation.specs.declared.command.Proposal.TheVariants as proposals
 use Rattle.pid_moderation.specs.declared.command.Act.{Act}
 use Rattle.pid_moderation.specs.declared.command.Act.TheVariants as acts
 use Rattle.pid_moderation.specs.declared.command.Command.{Command}
 use Rattle.pid_moderation.specs.declared.verb.Verb.{Verb}
-use Rattle.pid_moderation.specs.declared.verb.Verb.TheVariants.{Account, Submit, Comment, Withdraw, Approve, Reject, Import}
-use Rattle.pid_moderation.specs.Fields.{Fields, times, is_once, value, text_at}
+use Rattle.pid_moderation.specs.declared.verb.Verb.TheVariants.{Account, Submit, Comment, Withdraw}
+use Rattle.pid_moderation.specs.declared.verb.Verb.TheVariants.{Approve, Reject, Import}
+use Rattle.pid_form.specs.Fields.{Fields, times, is_once, is_one_of, value, text_at}
+use Rattle.pid_form.specs.Numbers as numbers
 use Rattle.pid_ident.specs.PathReading.{path_of}
-use Rattle.pid_moderation.specs.CheckTables.{Checks, first_failing, most_submissions, most_file_bytes}
+use Rattle.pid_moderation.specs.CheckTables.{Checks, first_failing, most_submissions}
+use Rattle.pid_moderation.specs.CheckTables.{most_file_bytes}
 
--- one of two fields, once, and not the other
-abbrev pub is_one_of : List ℕ → List ℕ → Fields → Bool
-is_one_of name other fields = (is_once name fields && times other fields == 0) || (times name fields == 0 && is_once other fields)
-
--- each field of the verb once, and nothing else; a note may be missing, and a proposal is a name or a removal
+-- each field of the verb once, and nothing else; a note may be missing, and a proposal is a name or
+-- a removal
 abbrev pub has_fields : Verb → Fields → Bool
-has_fields Account fields = is_once (codes "who") fields && is_once (codes "rank") fields && length fields == 2
+has_fields Account fields = is_once (codes "who") fields && is_once
+    (codes "rank") fields && length fields == 2
 has_fields Submit fields =
     is_once (codes "path") fields
     && is_one_of (codes "name") (codes "remove") fields
     && nat_le (times (codes "note") fields) 1
     && length fields == 2 + times (codes "note") fields
-has_fields Comment fields = is_once (codes "num") fields && is_once (codes "text") fields && length fields == 2
+has_fields Comment fields = is_once (codes "num") fields && is_once
+    (codes "text") fields && length fields == 2
 has_fields Withdraw fields = is_once (codes "num") fields && length fields == 1
 has_fields Approve fields = is_once (codes "num") fields && length fields == 1
-has_fields Reject fields = is_once (codes "num") fields && is_once (codes "reason") fields && length fields == 2
+has_fields Reject fields = is_once (codes "num") fields && is_once
+    (codes "reason") fields && length fields == 2
 has_fields Import fields = is_once (codes "file") fields && length fields == 1
 
 -- `0` to `3`
@@ -51,13 +54,9 @@ rank_in text =
     else if bytes_eq text (codes "3") then Some Administrator
     else None
 
--- 1 to 10 decimal digits without a zero in front
-abbrev pub is_plain_number : List ℕ → Bool
-is_plain_number text = not (is_empty text) && nat_le (length text) 10 && list_all is_ascii_digit text && not (slice_index text 0 == 48)
-
 -- the number of a submission, 1 to 2,000,000,000
 abbrev pub number_in : List ℕ → Option ℕ
-number_in text = if is_plain_number text && nat_le (digits_value 10 text) most_submissions then Some (digits_value 10 text) else None
+number_in text = numbers.number_in 10 most_submissions text
 
 -- a name where there is one, else a removal
 abbrev pub proposal_in : Option (List ℕ) → Proposal
@@ -94,7 +93,11 @@ value_checks Reject fields =
     (is_none (number_in (text_at (codes "num") fields)), BadText)
     ∷ (not (is_remark (text_at (codes "reason") fields)), BadText)
     ∷ []
-value_checks Import fields = (not (nat_le (length (text_at (codes "file") fields)) most_file_bytes), BadText) ∷ []
+value_checks Import fields = (
+  not (nat_le
+      (length (text_at (codes "file") fields)) most_file_bytes),
+  BadText,
+) ∷ []
 
 -- the fields, then their values, then the account and the key
 abbrev pub form_checks : Verb → List ℕ → Option (List ℕ) → Fields → Checks
@@ -107,22 +110,31 @@ form_checks verb account key fields =
 
 -- what a proposal says: a name where there is one, else a removal
 abbrev pub submission_said : Fields → Path → Act
-submission_said fields path = acts.Submit path (proposal_in (value (codes "name") fields)) (text_at (codes "note") fields)
+submission_said fields path = acts.Submit path (proposal_in (value (codes "name") fields))
+    (text_at (codes "note") fields)
 
 -- what the fields say, where they pass the checks
 abbrev pub act_said : Verb → Fields → Option Act
 act_said Account fields =
-    option_map (λ rank. acts.Account (text_at (codes "who") fields) rank) (rank_in (text_at (codes "rank") fields))
-act_said Submit fields = option_map (submission_said fields) (path_of (text_at (codes "path") fields))
-act_said Comment fields = option_map (λ n. acts.Comment n (text_at (codes "text") fields)) (number_in (text_at (codes "num") fields))
-act_said Withdraw fields = option_map (λ n. acts.Withdraw n) (number_in (text_at (codes "num") fields))
-act_said Approve fields = option_map (λ n. acts.Approve n) (number_in (text_at (codes "num") fields))
-act_said Reject fields = option_map (λ n. acts.Reject n (text_at (codes "reason") fields)) (number_in (text_at (codes "num") fields))
+    option_map (λ rank. acts.Account (text_at (codes "who") fields) rank)
+    (rank_in (text_at (codes "rank") fields))
+act_said Submit fields = option_map (submission_said fields)
+    (path_of (text_at (codes "path") fields))
+act_said Comment fields = option_map (λ n. acts.Comment n (text_at (codes "text") fields))
+    (number_in (text_at (codes "num") fields))
+act_said Withdraw fields = option_map (λ n. acts.Withdraw n)
+    (number_in (text_at (codes "num") fields))
+act_said Approve fields = option_map (λ n. acts.Approve n)
+    (number_in (text_at (codes "num") fields))
+act_said Reject fields = option_map (λ n. acts.Reject n (text_at (codes "reason") fields))
+    (number_in (text_at (codes "num") fields))
 act_said Import fields = Some (acts.Import (text_at (codes "file") fields))
 
 abbrev pub command_said : Verb → List ℕ → Option (List ℕ) → Fields → Option Command
-command_said verb account key fields = option_map (λ act. record { account = account; key = key; act = act }) (act_said verb fields)
+command_said verb account key fields = option_map
+    (λ act. record { account = account; key = key; act = act }) (act_said verb fields)
 
 -- what is said, or the first check that fails; or memory is short
 abbrev pub Says : {X : Type 0} → Checks → Option X → Result X Refusal → Type 0
-Says cs said result = MatchResult result (λ x. (first_failing cs ≡ None) × (said ≡ Some x)) (λ e. e ≢ Memory → first_failing cs ≡ Some e)
+Says cs said result = MatchResult result (λ x. (first_failing cs ≡ None) × (said ≡ Some x))
+    (λ e. e ≢ Memory → first_failing cs ≡ Some e)

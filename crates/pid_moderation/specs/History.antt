@@ -9,8 +9,8 @@ use Rattle.pid_moderation.specs.declared.command.Command.{Command}
 use Rattle.pid_moderation.specs.declared.rank.Rank.{Rank}
 use Rattle.pid_moderation.specs.declared.refusal.FileFault.{FileFault}
 
--- what the file of an import reads to: paths with their names, in any order, since none stands there twice; or why it is
--- not imported. Other commands have no file
+-- what the file of an import reads to: paths with their names, in any order, since none stands
+-- there twice; or why it is not imported. Other commands have no file
 pub data Reading : Type 0 where
   TooLong : Reading
   Faulty : FileFault → Reading
@@ -46,15 +46,19 @@ deed_of (acts.Reject number reason) reading = Rejects number reason
 deed_of (acts.Import file) reading = Imports reading
 
 abbrev pub asked : Command → Reading → Asked
-asked command reading = record { account = command.account; key = command.key; deed = deed_of command.act reading }
+asked command reading = record {
+  account = command.account;
+  key = command.key;
+  deed = deed_of command.act reading;
+}
 
 -- a command that was accepted, and its reply
 pub record Accepted : Type 0 where
   pub asked : Asked
   pub reply : Reply
 
--- The accepted commands, the newest outermost. A history has a mark: its first commands, so many, were accepted before the registry began to
--- count changes, as those of a file that was taken over.
+-- The accepted commands, the newest outermost. A history has a mark: its first commands, so many,
+-- were accepted before the registry began to count changes, as those of a file that was taken over.
 pub data History : Type 0 where
   Begins : (mark : ℕ) → History
   More : (newest : Accepted) (before : History) → History

@@ -1,5 +1,6 @@
 -- Items: the texts of paths with their names, in the bytewise order of the texts.
-use Rattle.std.specs.Prelude.{ℕ, Bool, true, false, not, ◌&&◌, List, [], ◌∷◌, Option, Some, None, is_none, is_some, count_by}
+use Rattle.std.specs.Prelude.{ℕ, Bool, true, false, not, ◌&&◌, List, [], ◌∷◌, Option, Some, None}
+use Rattle.std.specs.Prelude.{is_none, is_some, count_by}
 use Rattle.std.specs.List.{list_any}
 use Rattle.std.specs.Str.{bytes_eq}
 use Rattle.std.specs.Ordering.{eq_by_cmp}
@@ -21,8 +22,8 @@ abbrev pub written : List ℕ → Proposal → Items → Items
 written path (Name name) items = put text_cmp path name items
 written path Removal items = where_key text_cmp (λ k. not (eq_by_cmp text_cmp path k)) items
 
--- the items after these pairs were put in turn, of which the last is the first here: where a path stands twice, its name is the one that
--- stands first
+-- the items after these pairs were put in turn, of which the last is the first here: where a path
+-- stands twice, its name is the one that stands first
 abbrev pub imported : Items → Items → Items
 imported [] items = items
 imported (pair ∷ pairs) items = put text_cmp pair.0 pair.1 (imported pairs items)
@@ -52,4 +53,5 @@ abbrev pub count_same : Items → Items → ℕ
 count_same items pairs = count_by (λ e. has_name e.1 (name_at e.0 items)) pairs
 
 abbrev pub count_renamed : Items → Items → ℕ
-count_renamed items pairs = count_by (λ e. is_some (name_at e.0 items) && not (has_name e.1 (name_at e.0 items))) pairs
+count_renamed items pairs = count_by (λ e. is_some (name_at e.0 items) && not
+    (has_name e.1 (name_at e.0 items))) pairs

@@ -23,7 +23,8 @@ unless_kept (Some reply) outcome = Repeated reply
 unless_kept None outcome = outcome
 
 abbrev pub judged : Facts → Asked → Outcome
-judged f c = if is_ill_formed f c.deed then Refused BadText else unless_kept f.kept (unless (first_failing (checks f c)) (reply_to f c.deed))
+judged f c = if is_ill_formed f c.deed then Refused BadText else unless_kept f.kept
+    (unless (first_failing (checks f c)) (reply_to f c.deed))
 
 abbrev pub judge : Views → Asked → Outcome
 judge v c = judged (facts_of v c) c

@@ -13,11 +13,13 @@ use Rattle.pid_moderation.specs.WellMade.{AreWellMade, IsFile}
 
 -- what well made commands lead to, from any beginning, is sound
 abbrev pub HistoriesAreSound : Type 0
-HistoriesAreSound = (mark : ℕ) (commands : List Asked) → AreWellMade commands → IsSound (after_all (Begins mark) commands)
+HistoriesAreSound = (mark : ℕ) (commands : List Asked) → AreWellMade commands
+    → IsSound (after_all (Begins mark) commands)
 
 -- of the commands of an account under a key at most one is accepted
 abbrev pub KeysStandOnce : Type 0
-KeysStandOnce = (mark : ℕ) (commands : List Asked) (account key : List ℕ) → times_under account key (after_all (Begins mark) commands) ≤ 1
+KeysStandOnce = (mark : ℕ) (commands : List Asked) (account key : List ℕ)
+    → times_under account key (after_all (Begins mark) commands) ≤ 1
 
 -- the items of a history are in the order of their paths
 abbrev pub ItemsAreSorted : Type 0
@@ -25,7 +27,8 @@ ItemsAreSorted = (h : History) → T (is_sorted text_cmp (items_of h))
 
 -- the revision stays within its limit, whatever is asked
 abbrev pub RevisionsAreWithin : Type 0
-RevisionsAreWithin = (h : History) (commands : List Asked) → revision_of h ≤ most_revision → revision_of (after_all h commands) ≤ most_revision
+RevisionsAreWithin = (h : History) (commands : List Asked) → revision_of h ≤ most_revision
+    → revision_of (after_all h commands) ≤ most_revision
 
 -- a tree of names, if it is not too large, is what a file may read to
 abbrev pub TreesAreFiles : Type 0

@@ -9,7 +9,6 @@ pub mod CheckTables
 pub mod Judgement
 pub mod Changes
 pub mod Effects
-pub mod Following
 pub mod BeforeFile
 pub mod Sound
 pub mod Keys
@@ -22,3 +21,9 @@ pub mod Forms
 pub mod Verbs
 pub mod ReplyLines
 pub mod Laws
+pub mod Submissions
+pub mod ItemPairs
+pub mod Children
+pub mod PendingPages
+pub mod ChangePages
+pub mod Steps

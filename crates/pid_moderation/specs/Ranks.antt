@@ -1,9 +1,11 @@
 -- Ranks of accounts, and what a decision on a proposal needs: choices of this project.
 use Rattle.std.specs.Prelude.{ℕ, Bool, true, false, nat_le, ◌==◌, Option, Some, None}
 use Rattle.pid_file.specs.declared.path.Path.{Path}
-use Rattle.pid_file.specs.declared.path.Path.TheVariants.{Vendor, Device, Subsystem, Class, Subclass, ProgIf, Generic}
+use Rattle.pid_file.specs.declared.path.Path.TheVariants.{Vendor, Device, Subsystem, Class}
+use Rattle.pid_file.specs.declared.path.Path.TheVariants.{Subclass, ProgIf, Generic}
 use Rattle.pid_moderation.specs.declared.rank.Rank.{Rank}
-use Rattle.pid_moderation.specs.declared.rank.Rank.TheVariants.{Contributor, Moderator, Senior, Administrator}
+use Rattle.pid_moderation.specs.declared.rank.Rank.TheVariants.{Contributor, Moderator, Senior}
+use Rattle.pid_moderation.specs.declared.rank.Rank.TheVariants.{Administrator}
 
 abbrev pub rank_number : Rank → ℕ
 rank_number Contributor = 0
@@ -21,7 +23,8 @@ naming_rank (Subclass c s) = Moderator
 naming_rank (ProgIf c s p) = Moderator
 naming_rank (Generic v d) = Moderator
 
--- the rank that decides on a proposal for the path: a senior on vendors, classes and removals, a moderator on other names
+-- the rank that decides on a proposal for the path: a senior on vendors, classes and removals, a
+-- moderator on other names
 abbrev pub needed_rank : Path → Bool → Rank
 needed_rank path true = Senior
 needed_rank path false = naming_rank path

@@ -1,8 +1,12 @@
 -- The number and the word of each refusal: choices of this project. The number 6 is not used.
 use Rattle.std.specs.Prelude.{ℕ, List, codes}
 use Rattle.pid_moderation.specs.declared.refusal.Refusal.{Refusal}
-use Rattle.pid_moderation.specs.declared.refusal.Refusal.TheVariants.{BadPath, BadName, BadText, NoAccount, RankTooLow, NoSubmission, NotPending}
-use Rattle.pid_moderation.specs.declared.refusal.Refusal.TheVariants.{NotAuthor, OwnDecision, ParentMissing, HasChildren, NothingToDo, FileFault}
+use Rattle.pid_moderation.specs.declared.refusal.Refusal.TheVariants.{BadPath, BadName, BadText}
+use Rattle.pid_moderation.specs.declared.refusal.Refusal.TheVariants.{NoAccount, RankTooLow}
+use Rattle.pid_moderation.specs.declared.refusal.Refusal.TheVariants.{NoSubmission, NotPending}
+use Rattle.pid_moderation.specs.declared.refusal.Refusal.TheVariants.{NotAuthor, OwnDecision}
+use Rattle.pid_moderation.specs.declared.refusal.Refusal.TheVariants.{ParentMissing, HasChildren}
+use Rattle.pid_moderation.specs.declared.refusal.Refusal.TheVariants.{NothingToDo, FileFault}
 use Rattle.pid_moderation.specs.declared.refusal.Refusal.TheVariants.{Full, Memory, Store, Failed}
 
 abbrev pub refusal_number : Refusal → ℕ

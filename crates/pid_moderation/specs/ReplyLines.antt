@@ -12,10 +12,12 @@ use Rattle.pid_moderation.specs.Refusals.{refusal_number, refusal_word}
 abbrev pub accepted_line : Reply → List ℕ
 accepted_line Done = codes "ok\n"
 accepted_line (Numbered n) = codes "ok " ++ decimal n ++ codes "\n"
-accepted_line (Counts added renamed same) = codes "ok added=" ++ decimal added ++ codes " renamed=" ++ decimal renamed ++ codes " same=" ++ decimal same ++ codes "\n"
+accepted_line (Counts added renamed same) = codes "ok added=" ++ decimal added ++ codes " renamed="
+    ++ decimal renamed ++ codes " same=" ++ decimal same ++ codes "\n"
 
 abbrev pub fault_words : FileFault → List ℕ
-fault_words (Line line kind) = codes "line=" ++ decimal line ++ codes " kind=" ++ decimal (line_kinds.number_of kind) ++ codes " " ++ line_kinds.word_of kind
+fault_words (Line line kind) = codes "line=" ++ decimal line ++ codes " kind=" ++ decimal
+    (line_kinds.number_of kind) ++ codes " " ++ line_kinds.word_of kind
 fault_words TooMany = codes "too many entries"
 
 -- what is said of a fault of the file
@@ -24,7 +26,8 @@ details (refusals.FileFault fault) = codes " " ++ fault_words fault
 details refusal = []
 
 abbrev pub refused_line : Refusal → List ℕ
-refused_line refusal = codes "refused " ++ decimal (refusal_number refusal) ++ codes " " ++ refusal_word refusal ++ details refusal ++ codes "\n"
+refused_line refusal = codes "refused " ++ decimal (refusal_number refusal) ++ codes " "
+    ++ refusal_word refusal ++ details refusal ++ codes "\n"
 
 abbrev pub reply_text : Result Reply Refusal → List ℕ
 reply_text (Ok reply) = accepted_line reply

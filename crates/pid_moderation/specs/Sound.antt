@@ -1,5 +1,6 @@
 -- What holds of every history that commands lead to: it is what the storage of a registry keeps.
-use Rattle.std.specs.Prelude.{◌≡◌, ℕ, ◌+◌, ◌≤◌, true, false, List, [], ◌∷◌, length, Option, Some, None, is_some, codes}
+use Rattle.std.specs.Prelude.{◌≡◌, ℕ, ◌+◌, ◌≤◌, true, false, List, [], ◌∷◌, length, Option, Some}
+use Rattle.std.specs.Prelude.{None, is_some, codes}
 use Rattle.std.specs.Str.{bytes_eq}
 use Rattle.pid_ident.specs.Bytes.{is_empty}
 use Rattle.pid_ident.specs.PathTexts.{IsPath}
@@ -8,10 +9,12 @@ use Rattle.pid_ident.specs.Trees.{IsTree}
 use Rattle.pid_moderation.specs.declared.command.Reply.{Reply}
 use Rattle.pid_moderation.specs.declared.command.Reply.TheVariants.{Done, Numbered, Counts}
 use Rattle.pid_moderation.specs.declared.facts.State.{State}
-use Rattle.pid_moderation.specs.declared.facts.State.TheVariants.{Pending, Approved, Rejected, Withdrawn}
+use Rattle.pid_moderation.specs.declared.facts.State.TheVariants.{Pending, Approved, Rejected}
+use Rattle.pid_moderation.specs.declared.facts.State.TheVariants.{Withdrawn}
 use Rattle.pid_moderation.specs.declared.rank.Rank.TheVariants.{Administrator}
 use Rattle.pid_moderation.specs.History.{Accepted, History, accepted_in}
-use Rattle.pid_moderation.specs.Views.{Submitted, Remark, rank_of, submits_of, submission_at, state_of, remarks_of, items_of, kept_of}
+use Rattle.pid_moderation.specs.Views.{Submitted, Remark, rank_of, submits_of, submission_at}
+use Rattle.pid_moderation.specs.Views.{state_of, remarks_of, items_of, kept_of}
 use Rattle.pid_moderation.specs.Writes.{tree_of}
 use Rattle.pid_moderation.specs.WellMade.{ProposesName}
 use Rattle.pid_moderation.specs.CheckTables.{most_items, most_submissions, most_remarks}
@@ -35,7 +38,8 @@ AreGoodSubmissions h (s ∷ ss) = IsGoodSubmission h s × AreGoodSubmissions h s
 abbrev pub IsDecidedByOther : History → List ℕ → State → Type 0
 IsDecidedByOther h author Pending = Unit {0}
 IsDecidedByOther h author (Approved decider) = (bytes_eq decider author ≡ false) × IsKnown decider h
-IsDecidedByOther h author (Rejected decider reason) = (bytes_eq decider author ≡ false) × IsKnown decider h × (is_text reason ≡ true) × (is_empty reason ≡ false)
+IsDecidedByOther h author (Rejected decider reason) = (bytes_eq decider author ≡ false)
+    × IsKnown decider h × (is_text reason ≡ true) × (is_empty reason ≡ false)
 IsDecidedByOther h author Withdrawn = Unit {0}
 
 -- the state of a submission; what is not yet submitted is pending
@@ -71,7 +75,8 @@ abbrev pub IsBy : List ℕ → Option Submitted → Type 0
 IsBy account None = ⊥
 IsBy account (Some s) = s.author ≡ account
 
--- a number is that of a submission of the account, and counts are those of a file that is not too large
+-- a number is that of a submission of the account, and counts are those of a file that is not too
+-- large
 abbrev pub IsOwnReply : History → List ℕ → Reply → Type 0
 IsOwnReply h account Done = Unit {0}
 IsOwnReply h account (Numbered n) = IsBy account (submission_at n (submits_of h))
@@ -97,4 +102,5 @@ pub record IsSound (h : History) : Type 0 where
   pub remarks : (n : ℕ) → IsRemarkedWell h (submission_at n (submits_of h)) (remarks_of n h)
   -- each command under a key has its reply kept, and what is kept is of its account
   pub receipts : HaveReceipts (accepted_in h) h
-  pub kept : (account key : List ℕ) (reply : Reply) → kept_of account key h ≡ Some reply → IsReceipt h account key reply
+  pub kept : (account key : List ℕ) (reply : Reply) → kept_of account key h ≡ Some reply
+      → IsReceipt h account key reply

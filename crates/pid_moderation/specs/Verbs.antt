@@ -2,7 +2,8 @@
 use Rattle.std.specs.Prelude.{ℕ, List, [], ◌∷◌, find, Option, codes}
 use Rattle.std.specs.Str.{bytes_eq}
 use Rattle.pid_moderation.specs.declared.verb.Verb.{Verb}
-use Rattle.pid_moderation.specs.declared.verb.Verb.TheVariants.{Account, Submit, Comment, Withdraw, Approve, Reject, Import}
+use Rattle.pid_moderation.specs.declared.verb.Verb.TheVariants.{Account, Submit, Comment, Withdraw}
+use Rattle.pid_moderation.specs.declared.verb.Verb.TheVariants.{Approve, Reject, Import}
 
 abbrev pub verb_word : Verb → List ℕ
 verb_word Account = codes "account"
@@ -15,4 +16,5 @@ verb_word Import = codes "import"
 
 -- the verb with this word
 abbrev pub verb_of : List ℕ → Option Verb
-verb_of word = find (λ v. bytes_eq word (verb_word v)) (Account ∷ Submit ∷ Comment ∷ Withdraw ∷ Approve ∷ Reject ∷ Import ∷ [])
+verb_of word = find (λ v. bytes_eq word (verb_word v))
+    (Account ∷ Submit ∷ Comment ∷ Withdraw ∷ Approve ∷ Reject ∷ Import ∷ [])

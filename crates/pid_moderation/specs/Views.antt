@@ -1,5 +1,6 @@
 -- What a history shows: each view is the last of, or a filter over, the accepted commands.
-use Rattle.std.specs.Prelude.{ℕ, zero, suc, ◌-◌, Bool, false, not, ◌&&◌, ◌==◌, if◌then◌else◌, List, [], ◌∷◌, ◌++◌, slice_get, Option, Some, None, codes}
+use Rattle.std.specs.Prelude.{ℕ, zero, suc, ◌-◌, Bool, false, not, ◌&&◌, ◌==◌, if◌then◌else◌, List}
+use Rattle.std.specs.Prelude.{[], ◌∷◌, ◌++◌, slice_get, Option, Some, None, codes}
 use Rattle.std.specs.Str.{bytes_eq}
 use Rattle.pid_ident.specs.PathTexts.{path_text}
 use Rattle.pid_file.specs.declared.path.Path.{Path}
@@ -8,8 +9,11 @@ use Rattle.pid_moderation.specs.declared.command.Reply.{Reply}
 use Rattle.pid_moderation.specs.declared.rank.Rank.{Rank}
 use Rattle.pid_moderation.specs.declared.rank.Rank.TheVariants.{Administrator}
 use Rattle.pid_moderation.specs.declared.facts.State.{State}
-use Rattle.pid_moderation.specs.declared.facts.State.TheVariants.{Pending, Approved, Rejected, Withdrawn}
-use Rattle.pid_moderation.specs.History.{Reading, TooLong, Faulty, Good, Deed, Ranks, Submits, Comments, Withdraws, Approves, Rejects, Imports, Begins, More, History, mark_of, count_of}
+use Rattle.pid_moderation.specs.declared.facts.State.TheVariants.{Pending, Approved, Rejected}
+use Rattle.pid_moderation.specs.declared.facts.State.TheVariants.{Withdrawn}
+use Rattle.pid_moderation.specs.History.{Reading, TooLong, Faulty, Good, Deed, Ranks, Submits}
+use Rattle.pid_moderation.specs.History.{Comments, Withdraws, Approves, Rejects, Imports, Begins}
+use Rattle.pid_moderation.specs.History.{More, History, mark_of, count_of}
 use Rattle.pid_moderation.specs.Items.{Items, name_at, has_name, written, imported}
 
 pub record Submitted : Type 0 where
@@ -50,7 +54,8 @@ rank_of a (Begins mark) = if bytes_eq a (codes "root") then Some Administrator e
 rank_of a (More e h) = ranked a e.asked.deed (rank_of a h)
 
 abbrev pub submitted : List ℕ → Deed → List Submitted → List Submitted
-submitted account (Submits path proposal note) before = before ++ record { author = account; path = path; proposal = proposal; note = note } ∷ []
+submitted account (Submits path proposal note) before = before
+    ++ record { author = account; path = path; proposal = proposal; note = note } ∷ []
 submitted account deed before = before
 
 -- the commands that submit
@@ -75,7 +80,8 @@ state_of n (Begins mark) = Pending
 state_of n (More e h) = decided n e.asked.account e.asked.deed (state_of n h)
 
 abbrev pub remarked : ℕ → List ℕ → Deed → List Remark → List Remark
-remarked n account (Comments m text) before = if n == m then before ++ record { author = account; text = text } ∷ [] else before
+remarked n account (Comments m text) before = if n == m then before
+    ++ record { author = account; text = text } ∷ [] else before
 remarked n account deed before = before
 
 -- the comments that name it
@@ -103,8 +109,10 @@ abbrev pub items_of : History → Items
 items_of (Begins mark) = []
 items_of (More e h) = itemized e.asked.deed (submits_of h) (items_of h)
 
-abbrev pub receipted : List ℕ → List ℕ → List ℕ → Option (List ℕ) → Reply → Option Reply → Option Reply
-receipted a k account (Some key) reply before = if bytes_eq a account && bytes_eq k key then Some reply else before
+abbrev pub receipted : List ℕ → List ℕ → List ℕ → Option (List ℕ) → Reply → Option Reply
+    → Option Reply
+receipted a k account (Some key) reply before = if bytes_eq a account
+    && bytes_eq k key then Some reply else before
 receipted a k account None reply before = before
 
 -- the reply to the command of the account under the key
@@ -121,10 +129,12 @@ abbrev pub is_named_anew : (before now : Option (List ℕ)) → Bool
 is_named_anew before None = false
 is_named_anew before (Some name) = not (has_name name before)
 
--- the number of the last command that added the item or changed its name, counted from the mark; 0 where that stands before the mark, or where there is none
+-- the number of the last command that added the item or changed its name, counted from the mark; 0
+-- where that stands before the mark, or where there is none
 abbrev pub since_of : List ℕ → History → ℕ
 since_of path (Begins mark) = 0
-since_of path (More e h) = if is_named_anew (name_at path (items_of h)) (name_at path (items_of (More e h))) then revision_of (More e h) else since_of path h
+since_of path (More e h) = if is_named_anew (name_at path (items_of h))
+    (name_at path (items_of (More e h))) then revision_of (More e h) else since_of path h
 
 abbrev pub views_of : History → Views
 views_of h = record {

@@ -1,7 +1,8 @@
 -- What the rows that are named stand for.
 use Rattle.pid_moderation.specs.declared.wants.Rows.{Rows}
 use Rattle.pid_moderation.specs.declared.wants.Rows.TheVariants as rows
-use Rattle.pid_moderation.specs.FactsOfViews.{Wanted, RankOf, SubmissionCount, SubmissionOf, ItemOf, NoRows}
+use Rattle.pid_moderation.specs.FactsOfViews.{Wanted, RankOf, SubmissionCount, SubmissionOf, ItemOf}
+use Rattle.pid_moderation.specs.FactsOfViews.{NoRows}
 
 abbrev pub wanted_by : Rows → Wanted
 wanted_by (rows.Rank who) = RankOf who.now

@@ -5,7 +5,8 @@ use Rattle.pid_ident.specs.Words.{is_name, is_text, is_account, is_key}
 use Rattle.pid_file.specs.declared.path.Path.{Path}
 use Rattle.pid_moderation.specs.declared.command.Proposal.{Proposal}
 use Rattle.pid_moderation.specs.declared.command.Proposal.TheVariants.{Name, Removal}
-use Rattle.pid_moderation.specs.History.{Reading, Deed, Ranks, Submits, Comments, Withdraws, Approves, Rejects, Imports, Asked}
+use Rattle.pid_moderation.specs.History.{Reading, Deed, Ranks, Submits, Comments, Withdraws}
+use Rattle.pid_moderation.specs.History.{Approves, Rejects, Imports, Asked}
 use Rattle.pid_ident.specs.PathReading.{parent_text}
 use Rattle.pid_moderation.specs.Items.{Items, name_at, holds_parent}
 use Rattle.pid_moderation.specs.Views.{pairs_of}
@@ -21,14 +22,16 @@ AllItems (e ∷ items) = IsItem e.0 e.1 × AllItems items
 
 -- the parent of each path is there
 pub record HoldsParents (items : Items) : Type 0 where
-  pub parents : (path : List ℕ) → is_some (name_at path items) ≡ true → holds_parent (parent_text path) items ≡ true
+  pub parents : (path : List ℕ) → is_some (name_at path items) ≡ true
+      → holds_parent (parent_text path) items ≡ true
 
 -- no path stands twice
 abbrev pub AreApart : Items → Type 0
 AreApart [] = Unit {0}
 AreApart (e ∷ pairs) = (name_at e.0 pairs ≡ None) × AreApart pairs
 
--- what a file reads to: names at paths, each path once, with the parent of each path, and not too many
+-- what a file reads to: names at paths, each path once, with the parent of each path, and not too
+-- many
 pub record IsFile (pairs : Items) : Type 0 where
   pub items : AllItems pairs
   pub apart : AreApart pairs
@@ -44,7 +47,8 @@ HasGoodFile reading = IsFile (pairs_of reading)
 
 abbrev pub IsWellMadeDeed : Deed → Type 0
 IsWellMadeDeed (Ranks who rank) = is_account who ≡ true
-IsWellMadeDeed (Submits path proposal note) = IsPath path × ProposesName proposal × (is_text note ≡ true)
+IsWellMadeDeed (Submits path proposal note) = IsPath path × ProposesName proposal
+    × (is_text note ≡ true)
 IsWellMadeDeed (Comments number text) = is_text text ≡ true
 IsWellMadeDeed (Withdraws number) = Unit {0}
 IsWellMadeDeed (Approves number) = Unit {0}

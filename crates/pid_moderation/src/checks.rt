@@ -1,15 +1,28 @@
 //! The tests that commands are checked by.
 ghost use Rattle.std.specs.Prelude.{◌≡◌, true, find, is_none};
 ghost use Rattle.pid_ident.specs.Bytes.{is_empty as no_bytes};
-ghost use Rattle.pid_moderation.specs.CheckTables.{first_failing as first_that_fails, is_pending as stands_pending, is_removal as removal};
-ghost use Rattle.pid_moderation.specs.CheckTables.{is_so as so_already, lacks_parent as parent_lacking, leaves_children as children_left};
-ghost use Rattle.pid_moderation.specs.CheckTables.{overflows as one_too_many, is_ill_formed as ill_formed, is_broken as broken_act, TellsLength};
+ghost use Rattle.pid_moderation.specs.CheckTables.{
+  first_failing as first_that_fails,
+  is_pending as stands_pending,
+  is_removal as removal,
+};
+ghost use Rattle.pid_moderation.specs.CheckTables.{
+  is_so as so_already,
+  lacks_parent as parent_lacking,
+  leaves_children as children_left,
+};
+ghost use Rattle.pid_moderation.specs.CheckTables.{
+  overflows as one_too_many,
+  is_ill_formed as ill_formed,
+  is_broken as broken_act,
+  TellsLength,
+};
 ghost use Rattle.pid_moderation.specs.Ranks.{has_rank as rank_reaches, is_rank as rank_equals};
 ghost use Rattle.pid_moderation.specs.History.{Reading, asked, deed_of};
 ghost use Rattle.pid_moderation.specs.Judgement.{judge, Refused};
 ghost use Rattle.pid_moderation.specs.Views.{Views};
 ghost use Rattle.pid_moderation.specs.Items.{has_name as names_so};
-ghost use Rattle.pid_moderation.specs.Following.{Follows};
+ghost use Rattle.pid_moderation.specs.Steps.Following.{Follows};
 
 use crate::command::{Act, Command, Proposal};
 use crate::facts::{Facts, State, Verdict};
@@ -170,8 +183,8 @@ pub fn is_missing(file: Option<Verdict>) -> bool
     file.is_none()
 }
 
-/// Whether a command breaks a rule that its type does not keep: an empty comment or reason, or a file too long. Of an import the
-/// facts have what its file comes to.
+/// Whether a command breaks a rule that its type does not keep: an empty comment or reason, or a
+/// file too long. Of an import the facts have what its file comes to.
 pub fn is_ill_formed(facts: &Facts, act: &Act) -> bool
     ensures { (reading : Reading) → result ≡ ill_formed facts.now (deed_of act.now reading) }
 {
@@ -186,11 +199,13 @@ pub fn is_ill_formed(facts: &Facts, act: &Act) -> bool
     }
 }
 
-/// Whether a command breaks a rule of form that its type does not keep, whatever the registry holds: an empty comment
-/// or reason, or a file that is too long. It is refused as `BadText`, before any kept reply.
+/// Whether a command breaks a rule of form that its type does not keep, whatever the registry
+/// holds: an empty comment or reason, or a file that is too long. It is refused as `BadText`,
+/// before any kept reply.
 pub fn breaks_form(command: &Command) -> bool
     ensures broken { result ≡ broken_act command.now.act }
-    ensures refused { (v : Views) (reading : Reading) → TellsLength command.now.act reading → result ≡ true →
+    ensures refused { (v : Views) (reading : Reading) → TellsLength command.now.act reading
+        → result ≡ true →
         judge v (asked command.now reading) ≡ Refused Refusal.BadText }
 {
     match &command.act {

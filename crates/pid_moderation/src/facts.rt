@@ -27,7 +27,8 @@ pub struct Named {
 /// What a file that is not too long comes to.
 #[derive(Clone, Copy, Debug, PartialEq, Eq)]
 pub enum Verdict {
-    /// How many of its paths are new, get another name, and have their names already; and how many items there are then.
+    /// How many of its paths are new, get another name, and have their names already; and how many
+    /// items there are then.
     Good {
         added: u32,
         renamed: u32,
@@ -61,7 +62,7 @@ pub struct Facts {
     pub has_parent: bool,
     /// Whether that path is the parent of an item.
     pub has_children: bool,
-    /// What the file of an import comes to. For `before_file` it is None, since the file is not read yet; for `decide` it is None
-    /// where the file is too long, and of every other command.
+    /// What the file of an import comes to. For `before_file` it is None, since the file is not
+    /// read yet; for `decide` it is None where the file is too long, and of every other command.
     pub file: Option<Verdict>,
 }

@@ -4,16 +4,24 @@ ghost use Rattle.pid_ident.specs.Words.{is_name as name_test};
 ghost use Rattle.std.specs.Str.{bytes_eq};
 ghost use Rattle.std.specs.Option.{option_copied};
 ghost use Rattle.pid_moderation.specs.Fields.{texts_of, value as value_in, text_at as text_in};
-ghost use Rattle.pid_moderation.specs.Forms.{has_fields as fields_there, value_checks, act_said, form_checks, command_said, proposal_in, is_none_or};
+ghost use Rattle.pid_moderation.specs.Forms.{
+  has_fields as fields_there,
+  value_checks,
+  act_said,
+  form_checks,
+  command_said,
+  proposal_in,
+  is_none_or,
+};
 ghost use Rattle.pid_moderation.specs.Forms.{number_in, Says};
 
 use crate::command::{Act, Command, Proposal};
 use crate::fields::{
-    account_in, file_in, is_once, is_one_of, key_in, name_in, note_in, number_said, rank_said,
-    remark_in, text_at, times, value,
+    account_in, file_in, key_in, name_in, note_in, rank_said, remark_in, submission_number,
 };
 use crate::refusal::Refusal;
 use crate::verb::Verb;
+use pid_form::{is_once, is_one_of, text_at, times, value};
 use pid_ident::{Path, PathText};
 use std::alloc::Global;
 
@@ -43,11 +51,12 @@ fn has_submit_fields(fields: &[(String, String)]) -> bool
 }
 
 fn number_at(fields: &[(String, String)]) -> Result<u32, Refusal>
-    ensures ok { IfOk result (λ n. number_in (text_in (codes "num") (texts_of fields.now)) ≡ Some n) }
+    ensures ok { IfOk result (λ n. number_in (text_in (codes "num") (texts_of fields.now))
+        ≡ Some n) }
     ensures err { IfErr result (λ e. (e ≡ Refusal.BadText) ×
         (number_in (text_in (codes "num") (texts_of fields.now)) ≡ None)) }
 {
-    match number_said(text_at(fields, "num")) {
+    match submission_number(text_at(fields, "num")) {
         Some(number) => Ok(number),
         None => Err(Refusal::BadText),
     }
@@ -66,7 +75,8 @@ fn account_act(alloc: Global, fields: &[(String, String)]) -> Result<Act, Refusa
 
 // The name that is proposed, or the removal.
 fn proposal(alloc: Global, fields: &[(String, String)]) -> Result<Proposal, Refusal>
-    ensures ok { IfOk result (λ proposal. (proposal ≡ proposal_in (value_in (codes "name") (texts_of fields.now))) ×
+    ensures ok { IfOk result (λ proposal.
+        (proposal ≡ proposal_in (value_in (codes "name") (texts_of fields.now))) ×
         (is_none_or name_test (value_in (codes "name") (texts_of fields.now)) ≡ true)) }
     ensures err { IfErr result (λ e. e ≢ Refusal.Memory → (e ≡ Refusal.BadName) ×
         (is_none_or name_test (value_in (codes "name") (texts_of fields.now)) ≡ false)) }
@@ -79,7 +89,8 @@ fn proposal(alloc: Global, fields: &[(String, String)]) -> Result<Proposal, Refu
 
 // Whether a removal, where there is one, is told by `yes`.
 fn is_removal_told(fields: &[(String, String)]) -> bool
-    ensures { result ≡ is_none_or (bytes_eq (codes "yes")) (value_in (codes "remove") (texts_of fields.now)) }
+    ensures { result ≡ is_none_or (bytes_eq (codes "yes"))
+        (value_in (codes "remove") (texts_of fields.now)) }
 {
     match value(fields, "remove") {
         Some(word) => "yes" == word,
@@ -133,7 +144,8 @@ fn import_act(alloc: Global, fields: &[(String, String)]) -> Result<Act, Refusal
 }
 
 fn act(alloc: Global, verb: Verb, fields: &[(String, String)]) -> Result<Act, Refusal>
-    ensures { Says (value_checks verb (texts_of fields.now)) (act_said verb (texts_of fields.now)) result }
+    ensures { Says (value_checks verb (texts_of fields.now))
+        (act_said verb (texts_of fields.now)) result }
 {
     match verb {
         Verb::Account => account_act(alloc, fields),
@@ -152,10 +164,12 @@ fn act(alloc: Global, verb: Verb, fields: &[(String, String)]) -> Result<Act, Re
     }
 }
 
-/// The command of an account, under a key where there is one, that the fields say; or the first form check that fails.
+/// The command of an account, under a key where there is one, that the fields say; or the first
+/// form check that fails.
 ///
-/// The fields are the names and values of a form, in any order: `who` and `rank` (`0` to `3`) of `account`; `path`,
-/// one of `name` and `remove` (`yes`), and where wanted `note` of `submit`; `num` and `text` of `comment`; `num` of
+/// The fields are the names and values of a form, in any order: `who` and `rank` (`0` to `3`) of
+/// `account`; `path`, one of `name` and `remove` (`yes`), and where wanted `note` of `submit`;
+/// `num` and `text` of `comment`; `num` of
 /// `withdraw` and `approve`; `num` and `reason` of `reject`; `file` of `import`.
 pub fn command_of(
     alloc: Global,

@@ -8,6 +8,7 @@ mod facts;
 mod fields;
 mod form;
 mod laws;
+mod lists;
 mod policy;
 mod rank;
 mod refusal;
@@ -19,15 +20,17 @@ pub use change::{Change, Edit, Effect, Receipt, Write};
 pub use checks::{FILE_BYTES, ITEMS, REMARKS, REVISIONS, SUBMISSIONS, breaks_form};
 pub use command::{Act, Command, File, Proposal, Reply};
 pub use facts::{Facts, Named, State, Verdict};
+pub use fields::submission_number;
 pub use form::command_of;
 pub use laws::{
     command_is_well_made, histories_are_sound, items_are_sorted, keys_stand_once,
     marks_judge_nothing, marks_stay, revisions_are_within, revisions_count,
     sinces_are_last_changes, taken_files_begin_anew, trees_are_files, trees_are_last_writes,
 };
+pub use lists::{ChangedItem, Changes, Comment, Discussion, Item, PAGE, Pending, Submission};
 pub use policy::{before_file, decide};
 pub use rank::{Rank, needed_rank};
 pub use refusal::{FileFault, Refusal};
-pub use reply_lines::reply_line;
+pub use reply_lines::{reply_line, write_reply_line};
 pub use verb::Verb;
 pub use wants::{Rows, needs};

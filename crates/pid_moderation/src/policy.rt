@@ -1,6 +1,36 @@
 //! The judgement of a command by facts.
-ghost use Rattle.std.specs.Prelude.{◌≡◌, ◌≢◌, ℕ, ◌+◌, false, true, List, [], ◌∷◌, Option, Some, None, IfOk, IfErr, IfSome, IfNone, is_none};
-ghost use Rattle.pid_moderation.specs.History.{Reading, History, asked, deed_of, Ranks, Submits, Comments, Withdraws, Approves, Rejects, Imports};
+ghost use Rattle.std.specs.Prelude.{
+  ◌≡◌,
+  ◌≢◌,
+  ℕ,
+  ◌+◌,
+  false,
+  true,
+  List,
+  [],
+  ◌∷◌,
+  Option,
+  Some,
+  None,
+  IfOk,
+  IfErr,
+  IfSome,
+  IfNone,
+  is_none,
+};
+ghost use Rattle.pid_moderation.specs.History.{
+  Reading,
+  History,
+  asked,
+  deed_of,
+  Ranks,
+  Submits,
+  Comments,
+  Withdraws,
+  Approves,
+  Rejects,
+  Imports,
+};
 ghost use Rattle.pid_moderation.specs.Views.{Views, views_of};
 ghost use Rattle.pid_moderation.specs.FactsOfViews.{NoRows, facts_at, facts_of};
 ghost use Rattle.pid_moderation.specs.CheckTables.{
@@ -20,8 +50,18 @@ ghost use Rattle.pid_moderation.specs.CheckTables.{
 };
 ghost use Rattle.pid_moderation.specs.Judgement.{judge, answer};
 ghost use Rattle.pid_moderation.specs.BeforeFile.{SettlesImport, WaitsForFile};
-ghost use Rattle.pid_moderation.specs.Effects.{effect_of, counted, edit_of, items_after, write_of, Decides, LeadsOn, FitsHistory, receipt_of};
-ghost use Rattle.pid_moderation.specs.Following.{Follows};
+ghost use Rattle.pid_moderation.specs.Effects.{
+  effect_of,
+  counted,
+  edit_of,
+  items_after,
+  write_of,
+  Decides,
+  LeadsOn,
+  FitsHistory,
+  receipt_of,
+};
+ghost use Rattle.pid_moderation.specs.Steps.Following.{Follows, Settles};
 ghost use Rattle.pid_moderation.specs.Revisions.{IsMarked};
 
 use crate::change::{Change, Edit, Effect, Receipt, Write};
@@ -38,7 +78,8 @@ use std::alloc::AllocError;
 
 // What is refused where no submission has the number.
 fn absent(facts: &Facts) -> Refusal
-    ensures { first_that_fails ((is_none facts.now.rank, Refusal.NoAccount) ∷ (true, Refusal.NoSubmission) ∷ []) ≡ Some result }
+    ensures { first_that_fails ((is_none facts.now.rank, Refusal.NoAccount)
+        ∷ (true, Refusal.NoSubmission) ∷ []) ≡ Some result }
 {
     if is_unknown(facts.rank) {
         Refusal::NoAccount
@@ -53,11 +94,7 @@ fn set_rank(
     who: &Account,
     rank: Rank,
 ) -> Result<(Effect, Reply), Refusal>
-    ensures { Follows ((is_none facts.now.rank, Refusal.NoAccount) ∷
-        later_checks account.now facts.now (Ranks who.now rank)) (
-          effect_of account.now facts.now (Ranks who.now rank),
-          reply_to facts.now (Ranks who.now rank),
-        ) result }
+    ensures { Settles facts.now account.now (Ranks who.now rank) result }
 {
     pass(&[
         (is_unknown(facts.rank), Refusal::NoAccount),
@@ -80,11 +117,7 @@ fn submit(
     proposal: &Proposal,
     note: &Text,
 ) -> Result<(Effect, Reply), Refusal>
-    ensures { Follows ((is_none facts.now.rank, Refusal.NoAccount) ∷
-        later_checks account.now facts.now (Submits path.now proposal.now note.now)) (
-          effect_of account.now facts.now (Submits path.now proposal.now note.now),
-          reply_to facts.now (Submits path.now proposal.now note.now),
-        ) result }
+    ensures { Settles facts.now account.now (Submits path.now proposal.now note.now) result }
 {
     pass(&[
         (is_unknown(facts.rank), Refusal::NoAccount),
@@ -107,11 +140,7 @@ fn comment(
     number: u32,
     text: &Text,
 ) -> Result<(Effect, Reply), Refusal>
-    ensures { Follows ((is_none facts.now.rank, Refusal.NoAccount) ∷
-        later_checks account.now facts.now (Comments number text.now)) (
-          effect_of account.now facts.now (Comments number text.now),
-          reply_to facts.now (Comments number text.now),
-        ) result }
+    ensures { Settles facts.now account.now (Comments number text.now) result }
 {
     let Some(named) = &facts.named else {
         return Err(absent(facts));
@@ -130,11 +159,7 @@ fn comment(
 }
 
 fn withdraw(facts: &Facts, account: &Account, number: u32) -> Result<(Effect, Reply), Refusal>
-    ensures { Follows ((is_none facts.now.rank, Refusal.NoAccount) ∷
-        later_checks account.now facts.now (Withdraws number)) (
-          effect_of account.now facts.now (Withdraws number),
-          reply_to facts.now (Withdraws number),
-        ) result }
+    ensures { Settles facts.now account.now (Withdraws number) result }
 {
     let Some(named) = &facts.named else {
         return Err(absent(facts));
@@ -239,11 +264,7 @@ fn write(facts: &Facts, named: &Named) -> Result<Write, AllocError>
 }
 
 fn approve(facts: &Facts, account: &Account, number: u32) -> Result<(Effect, Reply), Refusal>
-    ensures { Follows ((is_none facts.now.rank, Refusal.NoAccount) ∷
-        later_checks account.now facts.now (Approves number)) (
-          effect_of account.now facts.now (Approves number),
-          reply_to facts.now (Approves number),
-        ) result }
+    ensures { Settles facts.now account.now (Approves number) result }
 {
     let Some(named) = &facts.named else {
         return Err(absent(facts));
@@ -269,11 +290,7 @@ fn reject(
     number: u32,
     reason: &Text,
 ) -> Result<(Effect, Reply), Refusal>
-    ensures { Follows ((is_none facts.now.rank, Refusal.NoAccount) ∷
-        later_checks account.now facts.now (Rejects number reason.now)) (
-          effect_of account.now facts.now (Rejects number reason.now),
-          reply_to facts.now (Rejects number reason.now),
-        ) result }
+    ensures { Settles facts.now account.now (Rejects number reason.now) result }
 {
     let Some(named) = &facts.named else {
         return Err(absent(facts));
@@ -296,7 +313,8 @@ fn reject(
 // What an import is refused for, whatever its file comes to.
 #[tactic(auto, using(crate::proofs::NeverFailed::early_live))]
 fn import_refusal(facts: &Facts) -> Option<Refusal>
-    ensures first { result ≡ first_that_fails ((is_none facts.now.rank, Refusal.NoAccount) ∷ import_checks facts.now) }
+    ensures first { result ≡ first_that_fails
+        ((is_none facts.now.rank, Refusal.NoAccount) ∷ import_checks facts.now) }
     ensures alive { IfSome result (λ e. e ≢ Refusal.Failed) }
 {
     first_failing(&[
@@ -331,11 +349,8 @@ fn bring_in(file: Option<Verdict>) -> Result<(Effect, Reply), Refusal>
 }
 
 fn import(facts: &Facts) -> Result<(Effect, Reply), Refusal>
-    ensures { (reading : Reading) (account : List ℕ) → Follows ((is_none facts.now.rank, Refusal.NoAccount) ∷
-        later_checks account facts.now (Imports reading)) (
-          effect_of account facts.now (Imports reading),
-          reply_to facts.now (Imports reading),
-        ) result }
+    ensures { (reading : Reading) (account : List ℕ)
+        → Settles facts.now account (Imports reading) result }
 {
     match import_refusal(facts) {
         Some(refusal) => Err(refusal),
@@ -343,12 +358,13 @@ fn import(facts: &Facts) -> Result<(Effect, Reply), Refusal>
     }
 }
 
-/// What an import is answered before its file is read: the reply that is kept for it, or a refusal that no file changes
-/// but one that is too long. None where it depends on the file.
+/// What an import is answered before its file is read: the reply that is kept for it, or a refusal
+/// that no file changes but one that is too long. None where it depends on the file.
 pub fn before_file(facts: &Facts) -> Option<Result<Reply, Refusal>>
     // Whatever the file reads to, that is the answer, and the import changes nothing.
-    ensures settled { (h : History) (account : List ℕ) (key : Option (List ℕ)) →
-        facts.now ≡ facts_at (views_of h) account key NoRows → IfSome result (SettlesImport h account key) }
+    ensures settled { (h : History) (account : List ℕ) (key : Option (List ℕ))
+        → facts.now ≡ facts_at (views_of h) account key NoRows
+        → IfSome result (SettlesImport h account key) }
     // None where there is no kept reply, and no check before those of the file fails.
     ensures open { IfNone result (WaitsForFile facts.now) }
     // Whatever the facts are.
@@ -365,10 +381,8 @@ pub fn before_file(facts: &Facts) -> Option<Result<Reply, Refusal>>
 
 // The effect and the reply of a command that breaks no rule of form, and is new.
 fn effect(facts: &Facts, command: &Command) -> Result<(Effect, Reply), Refusal>
-    ensures { (reading : Reading) → let c = asked command.now reading in Follows (command_checks facts.now c) (
-      effect_of c.account facts.now c.deed,
-      reply_to facts.now c.deed,
-    ) result }
+    ensures { (reading : Reading) → let c = asked command.now reading in
+        Settles facts.now c.account c.deed result }
 {
     let account = &command.account;
     match &command.act {
@@ -396,11 +410,12 @@ fn next_revision(facts: &Facts) -> Result<u64, Refusal>
 
 // The effect, the reply and the number of such a command.
 fn accept(facts: &Facts, command: &Command) -> Result<(Effect, Reply, u64), Refusal>
-    ensures { (reading : Reading) → let c = asked command.now reading in Follows (checks_for facts.now c) (
-      effect_of c.account facts.now c.deed,
-      reply_to facts.now c.deed,
-      facts.now.revision + 1,
-    ) result }
+    ensures { (reading : Reading) → let c = asked command.now reading in Follows
+        (checks_for facts.now c) (
+          effect_of c.account facts.now c.deed,
+          reply_to facts.now c.deed,
+          facts.now.revision + 1,
+        ) result }
 {
     let (effect, reply) = effect(facts, command)?;
     let revision = next_revision(facts)?;
@@ -453,20 +468,27 @@ fn by_facts(facts: &Facts, command: &Command) -> Result<(Change, Reply), Refusal
     ))
 }
 
-/// Judges a command by the facts of a history: the reply with what it changes, or the first check that fails.
+/// Judges a command by the facts of a history: the reply with what it changes, or the first check
+/// that fails.
 pub fn decide(facts: &Facts, command: &Command) -> Result<(Change, Reply), Refusal>
     // The reply is that of the judgement.
-    ensures reply { (v : Views) (reading : Reading) → facts.now ≡ facts_of v (asked command.now reading) →
-        IfOk result (λ d. answer (judge v (asked command.now reading)) ≡ Ok d.1) }
+    ensures reply { (v : Views) (reading : Reading)
+        → facts.now ≡ facts_of v (asked command.now reading)
+        → IfOk result (λ d. answer (judge v (asked command.now reading)) ≡ Ok d.1) }
     // So is the refusal, unless memory is short.
-    ensures refusal { (v : Views) (reading : Reading) → facts.now ≡ facts_of v (asked command.now reading) →
-        IfErr result (λ e. e ≢ Refusal.Memory → answer (judge v (asked command.now reading)) ≡ Err e) }
+    ensures refusal { (v : Views) (reading : Reading)
+        → facts.now ≡ facts_of v (asked command.now reading)
+        → IfErr result (λ e. e ≢ Refusal.Memory
+        → answer (judge v (asked command.now reading)) ≡ Err e) }
     // The change leads from what a history shows to what it shows with the command.
-    ensures change { (h : History) (reading : Reading) → IsMarked h → facts.now ≡ facts_of (views_of h) (asked command.now reading) →
-        IfOk result (λ d. LeadsOn h (asked command.now reading) d.0) }
-    // The numbers are right: storage knows of each row whether it is there, and where a new one goes.
-    ensures fits { (h : History) (reading : Reading) → facts.now ≡ facts_of (views_of h) (asked command.now reading) →
-        IfOk result (λ d. FitsHistory h (asked command.now reading) d.0) }
+    ensures change { (h : History) (reading : Reading) → IsMarked h
+        → facts.now ≡ facts_of (views_of h) (asked command.now reading)
+        → IfOk result (λ d. LeadsOn h (asked command.now reading) d.0) }
+    // The numbers are right: storage knows of each row whether it is there, and where a new one
+    // goes.
+    ensures fits { (h : History) (reading : Reading)
+        → facts.now ≡ facts_of (views_of h) (asked command.now reading)
+        → IfOk result (λ d. FitsHistory h (asked command.now reading) d.0) }
     // And what the facts say is all of the change.
     ensures decides { (reading : Reading) → Decides facts.now (asked command.now reading) result }
     // Only a registry that has failed is told as such.

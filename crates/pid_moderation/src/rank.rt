@@ -1,6 +1,9 @@
 //! Ranks of accounts.
 ghost use Rattle.std.specs.Prelude.{◌≡◌};
-ghost use Rattle.pid_moderation.specs.Ranks.{needed_rank as rank_for, naming_rank as rank_for_naming};
+ghost use Rattle.pid_moderation.specs.Ranks.{
+  needed_rank as rank_for,
+  naming_rank as rank_for_naming,
+};
 
 use pid_ident::Path;
 
@@ -9,7 +12,8 @@ use pid_ident::Path;
 pub enum Rank {
     /// Submits, comments, and withdraws what it submitted.
     Contributor,
-    /// Decides on names of devices, subsystems, subclasses, programming interfaces and generic subsystems too.
+    /// Decides on names of devices, subsystems, subclasses, programming interfaces and generic
+    /// subsystems too.
     Moderator,
     /// Decides on names of vendors and classes and on removals too, and imports files.
     Senior,

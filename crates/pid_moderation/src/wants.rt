@@ -25,10 +25,12 @@ pub enum Rows<'a> {
 
 /// The rows that are looked at.
 pub fn needs(command: &Command) -> Rows<'_>
-    ensures rows { (reading : Reading) → wanted_by result ≡ wanted (deed_of command.now.act reading) }
+    ensures rows { (reading : Reading) → wanted_by result
+        ≡ wanted (deed_of command.now.act reading) }
     // What they show is all that a command without a file is judged by.
     ensures suffice { (v : Views) (reading : Reading) → is_import command.now.act ≡ false →
-        facts_of v (asked command.now reading) ≡ facts_at v command.now.account command.now.key (wanted_by result) }
+        facts_of v (asked command.now reading)
+        ≡ facts_at v command.now.account command.now.key (wanted_by result) }
 {
     match &command.act {
         Act::Account { who, .. } => Rows::Rank(who),

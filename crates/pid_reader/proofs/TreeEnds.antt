@@ -7,7 +7,7 @@ use Rattle.pid_file.specs.declared.tree_sink.TreeFault.TheVariants.{ParentMissin
 use Rattle.pid_file.specs.declared.sink.CutEnd.TheVariants.{Fault}
 use Rattle.pid_file.specs.Reading.{Reads, refused}
 use Rattle.pid_file.specs.TreeSinks.{tree_so_far}
-use Rattle.pid_reader.specs.Feeders.{IsTreeEnd}
+use Rattle.pid_reader.specs.Steps.Feeders.{IsTreeEnd}
 use Rattle.pid_reader.proofs.ReadTrees.{reads_tree}
 
 pub never_missing : (fault : TreeFault) (sink : TreeSink) (text : List ℕ) → Reads text (tree_so_far sink) → (fault ≡ ParentMissing → IsTree (tree_so_far sink) → ⊥) → IsTreeEnd (Fault fault) (refused text)

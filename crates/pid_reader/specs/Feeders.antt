@@ -1,16 +1,11 @@
 -- What a feeder holds of the text that it was fed, and why it gives up. Callers need not open it.
-use Rattle.std.specs.Prelude.{◌≡◌, ℕ, List, Option}
+use Rattle.std.specs.Prelude.{◌≡◌, ℕ, List}
 use Rattle.std.specs.FinMap.{empty}
 use Rattle.pid_file.specs.declared.refusal.ReadRefusal.{ReadRefusal}
-use Rattle.pid_file.specs.declared.sink.CutEnd.{CutEnd}
-use Rattle.pid_file.specs.declared.sink.CutEnd.TheVariants.{Refused, Fault}
-use Rattle.pid_file.specs.declared.tree_sink.TreeFault.{TreeFault}
-use Rattle.pid_file.specs.declared.tree_sink.TreeFault.TheVariants.{ParentMissing, Memory}
 use Rattle.pid_file.specs.declared.tree_sink.TreeSink.{TreeSink}
 use Rattle.pid_reader.specs.declared.feeder.Feeder.{Feeder}
 use Rattle.pid_file.specs.Numbered.{numbered_of}
 use Rattle.pid_file.specs.WholeLines.{whole_lines}
-use Rattle.pid_file.specs.Refusals.{IsRefusal}
 use Rattle.pid_file.specs.Sinks.{Took}
 use Rattle.pid_file.specs.Cutters.{Holds, IsStopped}
 use Rattle.pid_file.specs.TreeSinks.{SetsItem, tree_so_far}
@@ -25,9 +20,3 @@ pub record Feeds (f : Feeder) (text : List ℕ) : Type 0 where
 -- the feeder gives this refusal ever after
 abbrev pub GaveUp : Feeder → ReadRefusal → Type 0
 GaveUp f r = IsStopped f.cutter r
-
--- for a private function: why a whole text gives no tree: its refusal, or want of memory. That a parent is missing never comes.
-abbrev pub IsTreeEnd : CutEnd TreeFault → Option ReadRefusal → Type 0
-IsTreeEnd (Refused r) refusal = IsRefusal r refusal
-IsTreeEnd (Fault ParentMissing) refusal = ⊥
-IsTreeEnd (Fault Memory) refusal = Unit {0}

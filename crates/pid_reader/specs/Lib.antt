@@ -7,7 +7,7 @@ pub use Rattle.pid_file.specs.Faults
 pub use Rattle.pid_file.specs.Reading
 pub use Rattle.pid_file.specs.Numbered
 pub use Rattle.pid_file.specs.Entries
-pub use Rattle.pid_file.specs.EntryLines
+pub use Rattle.pid_file.specs.Steps.EntryLines
 pub use Rattle.pid_file.specs.OpenLevels
 pub use Rattle.pid_file.specs.WholeLines
 pub use Rattle.pid_file.specs.Refusals
@@ -15,10 +15,11 @@ pub use Rattle.pid_file.specs.Progress
 pub use Rattle.pid_file.specs.SeenPaths
 pub use Rattle.pid_file.specs.Sinks
 pub use Rattle.pid_file.specs.Cutters
-pub use Rattle.pid_file.specs.LineEnds
+pub use Rattle.pid_file.specs.Steps.LineEnds
 pub use Rattle.pid_file.specs.TreeSinks
 pub mod Feeders
 pub use Rattle.pid_file.specs.Counters
 pub mod LinesLeft
 pub use Rattle.pid_file.specs.WholeInputs
 pub use Rattle.pid_file.specs.InputTexts
+pub mod Steps

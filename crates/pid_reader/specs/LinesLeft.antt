@@ -13,14 +13,17 @@ abbrev pub as_ok : Numbered → Result Numbered LineFault
 as_ok entry = Ok entry
 
 -- a line with this fault or none is told: by its fault, or by its entry
-abbrev pub told_at : List (List ℕ) → List ℕ → Option LineKind → List (Result Numbered LineFault) → List (Result Numbered LineFault)
-told_at earlier line (Some kind) behind = Err (record { line = length earlier + 1; kind = kind }) ∷ []
+abbrev pub told_at : List (List ℕ) → List ℕ → Option LineKind → List (Result Numbered LineFault)
+    → List (Result Numbered LineFault)
+told_at earlier line (Some kind) behind = Err (record { line = length earlier + 1; kind = kind })
+    ∷ []
 told_at earlier line None behind = map as_ok (numbered_at earlier line) ++ behind
 
 -- what is told from some line on, with the lines before it, the nearest first
 abbrev pub told_from : List (List ℕ) → List (List ℕ) → List (Result Numbered LineFault)
 told_from earlier [] = []
-told_from earlier (line ∷ lines) = told_at earlier line (line_fault_of earlier line) (told_from (line ∷ earlier) lines)
+told_from earlier (line ∷ lines) = told_at earlier line (line_fault_of earlier line)
+    (told_from (line ∷ earlier) lines)
 
 -- the reader of lines stands behind these lines
 pub record Stands (l : Lines) (earlier : List (List ℕ)) : Type 0 where
@@ -43,12 +46,15 @@ pub record IsAtEnd (items : List (Result Numbered LineFault)) (new : Lines) : Ty
   pub left : HasLeft new []
 
 -- the first of these was given, and the others are left
-pub record GivesFirst (items : List (Result Numbered LineFault)) (first : Result Numbered LineFault) (new : Lines) : Type 0 where
+pub record GivesFirst (items : List (Result Numbered LineFault)) (first : Result Numbered LineFault)
+    (new : Lines) : Type 0 where
   pub behind : List (Result Numbered LineFault)
   pub are : items ≡ first ∷ behind
   pub left : HasLeft new behind
 
 -- one call: the first of what is left is given, or nothing is left now or later
 abbrev pub Gives : Lines → Option (Result Entry LineFault) → Lines → Type 0
-Gives old None new = (items : List (Result Numbered LineFault)) → HasLeft old items → IsAtEnd items new
-Gives old (Some x) new = (items : List (Result Numbered LineFault)) → HasLeft old items → GivesFirst items (told x) new
+Gives old None new = (items : List (Result Numbered LineFault)) → HasLeft old items
+    → IsAtEnd items new
+Gives old (Some x) new = (items : List (Result Numbered LineFault)) → HasLeft old items
+    → GivesFirst items (told x) new

@@ -4,7 +4,8 @@ ghost use Rattle.pid_file.specs.Reading.{Reads, refused, refusal_of};
 ghost use Rattle.pid_file.specs.WholeLines.{whole_lines};
 ghost use Rattle.pid_file.specs.Refusals.{IsRefusal};
 ghost use Rattle.pid_file.specs.Cutters.{left_by};
-ghost use Rattle.pid_reader.specs.Feeders.{Feeds, GaveUp, IsTreeEnd};
+ghost use Rattle.pid_reader.specs.Feeders.{Feeds, GaveUp};
+ghost use Rattle.pid_reader.specs.Steps.Feeders.{IsTreeEnd};
 ghost use Rattle.pid_file.specs.declared.sink.CutEnd.TheVariants.{Refused};
 
 use pid_file::{CutEnd, Cutter, ReadRefusal, Tree, TreeFault, TreeSink};
@@ -28,11 +29,15 @@ impl Feeder {
         }
     }
 
-    /// Takes the next piece of the text. The error is the first refusal among the lines whose LF has come, or `Memory`;
+    /// Takes the next piece of the text. The error is the first refusal among the lines whose LF
+    /// has come, or `Memory`;
     /// `feed` and `finish` give it ever after.
     pub fn feed(&mut self, piece: &[u8]) -> Result<(), ReadRefusal>
-        ensures feeds { (text : List ℕ) → Feeds self.old text → OnOk result (Feeds self.new (text ++ piece.now) × (refusal_of (whole_lines (text ++ piece.now)) ≡ None)) }
-        ensures refused { (text : List ℕ) → Feeds self.old text → IfErr result (λ r. IsRefusal r (refusal_of (whole_lines (text ++ piece.now)))) }
+        ensures feeds { (text : List ℕ) → Feeds self.old text
+            → OnOk result (Feeds self.new (text ++ piece.now)
+            × (refusal_of (whole_lines (text ++ piece.now)) ≡ None)) }
+        ensures refused { (text : List ℕ) → Feeds self.old text
+            → IfErr result (λ r. IsRefusal r (refusal_of (whole_lines (text ++ piece.now)))) }
         ensures stops { IfErr result (λ r. GaveUp self.new r) }
         ensures stopped { (r : ReadRefusal) → GaveUp self.old r → result ≡ Err r }
     {
@@ -45,8 +50,10 @@ impl Feeder {
 
     // The tree of the whole text, in which no parent is missing.
     fn end(self) -> Result<Tree, CutEnd<TreeFault>>
-        ensures read { (text : List ℕ) → Feeds self text → IfOk result (λ t. Reads text t × (refused text ≡ None)) }
-        ensures ends { (text : List ℕ) → Feeds self text → IfErr result (λ e. IsTreeEnd e (refused text)) }
+        ensures read { (text : List ℕ) → Feeds self text
+            → IfOk result (λ t. Reads text t × (refused text ≡ None)) }
+        ensures ends { (text : List ℕ) → Feeds self text
+            → IfErr result (λ e. IsTreeEnd e (refused text)) }
         ensures stopped { (r : ReadRefusal) → GaveUp self r → result ≡ Err (Refused r) }
     {
         let Feeder { cutter, mut sink } = self;
@@ -60,10 +67,13 @@ impl Feeder {
         }
     }
 
-    /// The text has ended: its tree; or its first refusal, or `Memory`. After an error of `feed` that is given again.
+    /// The text has ended: its tree; or its first refusal, or `Memory`. After an error of `feed`
+    /// that is given again.
     pub fn finish(self) -> Result<Tree, ReadRefusal>
-        ensures read { (text : List ℕ) → Feeds self text → IfOk result (λ t. Reads text t × (refused text ≡ None)) }
-        ensures refused { (text : List ℕ) → Feeds self text → IfErr result (λ r. IsRefusal r (refused text)) }
+        ensures read { (text : List ℕ) → Feeds self text
+            → IfOk result (λ t. Reads text t × (refused text ≡ None)) }
+        ensures refused { (text : List ℕ) → Feeds self text
+            → IfErr result (λ r. IsRefusal r (refused text)) }
         ensures stopped { (r : ReadRefusal) → GaveUp self r → result ≡ Err r }
     {
         match self.end() {

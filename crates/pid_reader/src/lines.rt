@@ -5,9 +5,11 @@ use crate::line_fault::LineFault;
 use crate::pieces::first_line;
 use pid_file::{Entry, OpenLevels, Said, read_line, without_cr};
 
-/// The entries of a text, line by line, up to the first line that has a fault of its own (a kind from NotUtf8 to BadName): that fault is the last item.
+/// The entries of a text, line by line, up to the first line that has a fault of its own (a kind
+/// from NotUtf8 to BadName): that fault is the last item.
 ///
-/// Whether a path comes twice, and whether the vendor of a block of generic subsystems is there, is left to `read_ids`, `Feeder` and `Cutter`.
+/// Whether a path comes twice, and whether the vendor of a block of generic subsystems is there, is
+/// left to `read_ids`, `Feeder` and `Cutter`.
 #[derive(Clone, Copy)]
 pub struct Lines<'a> {
     rest: &'a [u8],

@@ -5,11 +5,13 @@ ghost use Rattle.pid_file.specs.WholeInputs.{SkipsInput};
 
 use pid_file::{BUFFER, Input, SkipEnd, next_piece};
 
-/// Reads the input to its end, or until more than `limit` bytes came: then no more is read. A fault of the input is told
-/// before all else.
+/// Reads the input to its end, or until more than `limit` bytes came: then no more is read. A fault
+/// of the input is told before all else.
 pub fn skip_input<I: Input>(limit: usize, input: &mut I) -> Result<(), SkipEnd>
-    ensures read { (text : List ℕ) × Consumes (I.to_come input.old) (I.to_come input.new) text × SkipsInput limit result (I.to_come input.new) text }
-    ensures stops { (front : List ℕ) × Consumes (I.to_come input.old) (I.to_come input.new) front × (length front ≤ limit + 1) }
+    ensures read { (text : List ℕ) × Consumes (I.to_come input.old) (I.to_come input.new) text
+        × SkipsInput limit result (I.to_come input.new) text }
+    ensures stops { (front : List ℕ) × Consumes (I.to_come input.old) (I.to_come input.new) front
+        × (length front ≤ limit + 1) }
     ensures fault { result ≡ Err SkipEnd.ReadFault → IsSome (I.read_fault input.new) }
     ensures fault_first { IsSome (I.read_fault input.new) → result ≡ Err SkipEnd.ReadFault }
     ensures goes { I.goes input.old input.new }

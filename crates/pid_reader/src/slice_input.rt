@@ -37,11 +37,13 @@ impl Input for SliceInput<'_> {
 
     ghost reads = { λ i. i.reads };
 
-    ghost goes = { λ a b. HasReadOn {F = ReadFault} (Some a.rest.now) (Some b.rest.now) None None a.reads b.reads };
+    ghost goes = { λ a b. HasReadOn {F = ReadFault} (Some a.rest.now)
+        (Some b.rest.now) None None a.reads b.reads };
 
     ghost stays = { λ a. no_reads {F = ReadFault} (Some a.rest.now) None a.reads };
 
-    ghost joins = { λ a b c p q. more_reads {F = ReadFault} _ (Some b.rest.now) _ None None None _ b.reads _ p q };
+    ghost joins = { λ a b c p q. more_reads {F = ReadFault} _
+        (Some b.rest.now) _ None None None _ b.reads _ p q };
 
     fn read(&mut self, buffer: &mut [u8]) -> Result<usize, ReadFault> {
         self.reads = self.reads.saturating_add(1);

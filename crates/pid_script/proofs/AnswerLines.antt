@@ -11,7 +11,7 @@ use Rattle.pid_moderation.specs.ReplyLines.{details, refused_line, reply_text}
 use Rattle.pid_moderation.specs.Refusals.{refusal_number, refusal_word}
 use Rattle.pid_script.specs.declared.line_end.LineEnd.{LineEnd}
 use Rattle.pid_script.specs.declared.line_end.LineEnd.TheVariants.{Stopped, WriteFault}
-use Rattle.pid_script.specs.Saying.{Out, Says, SaysFront, IsAnswer, IsGiven, IsNothing, Tells, refusal_in}
+use Rattle.pid_script.specs.Steps.Saying.{Out, Says, SaysFront, IsAnswer, IsGiven, IsNothing, Tells, refusal_in}
 use Rattle.pid_script.specs.StopLines.{is_stop, IsStopText}
 use Rattle.pid_script.proofs.SayLemmas.{all_out, said_out, said_front}
 

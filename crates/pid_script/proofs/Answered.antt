@@ -12,11 +12,11 @@ use Rattle.pid_script.specs.declared.line_end.LineEnd.TheVariants.{Stopped, Writ
 use Rattle.pid_script.specs.declared.moderated.Moderated.{Ghosts}
 use Rattle.pid_script.specs.Calling.{CallsSend, CallsSendEither}
 use Rattle.pid_script.specs.Replies.{reply_to, command_of, commands_of_lines, history_after, replies}
-use Rattle.pid_script.specs.Saying.{Out, out, Says, LineEnds}
+use Rattle.pid_script.specs.Steps.Saying.{Out, out, Says, LineEnds}
 use Rattle.pid_script.specs.ScriptLines.{Ask, ask_of}
 use Rattle.pid_script.specs.Standing.{Stands, Becomes, BecomesEither, StopsBehind}
 use Rattle.pid_script.specs.StopLines.{IsBegun, StoppedBy, IsStopText}
-use Rattle.pid_script.specs.Progress.{Answered, Ended}
+use Rattle.pid_script.specs.Steps.Progress.{Answered, Ended}
 use Rattle.pid_script.specs.Scripts.{NoneTooLong, NoneCalls, AllButLast, Fits, CallsNot, passage, Answers, IsToldFor, BreaksOff}
 use Rattle.pid_script.proofs.SayLemmas.{Appends-nil, Appends-then, front-then}
 use Rattle.pid_script.proofs.Calling.{send_then, send_either}

@@ -15,8 +15,8 @@ use Rattle.pid_moderation.specs.Judgement.{after_all}
 use Rattle.pid_moderation.specs.ReplyLines.{refused_line}
 use Rattle.pid_moderation.specs.Writes.{tree_of}
 use Rattle.pid_moderation.specs.Faults.{IsFault}
-use Rattle.pid_lives.specs.Calls.{nothing_sent}
-use Rattle.pid_lives.specs.Registries.{Does}
+use Rattle.pid_service_laws.specs.Calls.{nothing_sent}
+use Rattle.pid_service_laws.specs.Registries.{Does}
 use Rattle.pid_file.specs.declared.path.Path.{Path}
 use Rattle.pid_ident.specs.PathTexts.{path_text}
 use Rattle.pid_moderation.specs.Items.{name_at}
@@ -29,7 +29,7 @@ use Rattle.pid_lookup.specs.Fields.{told as look_up_told}
 use Rattle.pid_script.specs.LookingUp.{LooksUp}
 use Rattle.pid_script.specs.Calling.{CallsSend}
 use Rattle.pid_script.specs.Replies.{reply_to, command_of, item_line, name_line, is_call, looked_up, answer_line, BAD_FLAGS}
-use Rattle.pid_script.specs.Saying.{Out, IsGiven, IsNothing, Tells, IsAnswer, refusal_in, refusal_of_names, GoesOn, Leaves, Sends, LineEnds}
+use Rattle.pid_script.specs.Steps.Saying.{Out, IsGiven, IsNothing, Tells, IsAnswer, refusal_in, refusal_of_names, GoesOn, Leaves, Sends, LineEnds}
 use Rattle.pid_script.specs.ScriptLines as lines
 use Rattle.pid_script.specs.ScriptLines.{Ask}
 use Rattle.pid_script.specs.Standing.{Stands, Becomes}

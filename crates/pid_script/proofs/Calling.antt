@@ -4,10 +4,10 @@ use Rattle.std.proofs.lemmas.List.{append-nil}
 use Rattle.pid_moderation.specs.declared.command.Reply.{Reply}
 use Rattle.pid_moderation.specs.declared.refusal.Refusal.{Refusal}
 use Rattle.pid_moderation.specs.History.{Asked}
-use Rattle.pid_lives.specs.Calls.{Call, nothing_sent, obeyed, sent_in}
-use Rattle.pid_lives.specs.Lives.{Sent, commands_in}
-use Rattle.pid_lives.specs.Outcomes.{is_outcome}
-use Rattle.pid_lives.specs.Registries.{Showing, CallsLead, Does}
+use Rattle.pid_service_laws.specs.Calls.{Call, nothing_sent, obeyed, sent_in}
+use Rattle.pid_service_laws.specs.Lives.{Sent, commands_in}
+use Rattle.pid_service_laws.specs.Outcomes.{is_outcome}
+use Rattle.pid_service_laws.specs.Registries.{Showing, CallsLead, Does}
 use Rattle.pid_script.specs.Calling.{CallsGo, CallsSend, CallsSendEither}
 
 lead_on : {R : Type 0} (w : Showing R) (a b c : R) (xs ys : List Call) → CallsLead w a xs b → CallsLead w b ys c → CallsLead w a (xs ++ ys) c

@@ -14,7 +14,7 @@ use Rattle.pid_moderation.specs.CheckTables.{first_failing}
 use Rattle.pid_moderation.specs.Fields.{value, text_at}
 use Rattle.pid_moderation.specs.Forms.{form_checks, command_said}
 use Rattle.pid_ident.specs.PathReading.{path_of}
-use Rattle.pid_fields.specs.FormFields.{fields_in}
+use Rattle.pid_form.specs.FormFields.{fields_in}
 use Rattle.pid_moderation.specs.History.{History}
 use Rattle.pid_moderation.specs.Writes.{tree_of}
 use Rattle.pid_moderation.specs.Faults.{IsFault}
@@ -23,7 +23,7 @@ use Rattle.pid_script.specs.declared.line_end.LineEnd.TheVariants.{Stopped, Writ
 use Rattle.pid_script.specs.declared.moderated.Moderated.{Ghosts}
 use Rattle.pid_script.specs.Asking.{command_asked, path_asked, other_fields, refused_or, path_checks}
 use Rattle.pid_script.specs.Replies.{is_call}
-use Rattle.pid_script.specs.Saying.{Out, IsGiven, IsNothing, Tells, refusal_in, refusal_of_names, GoesOn}
+use Rattle.pid_script.specs.Steps.Saying.{Out, IsGiven, IsNothing, Tells, refusal_in, refusal_of_names, GoesOn}
 use Rattle.pid_script.specs.ScriptLines as lines
 use Rattle.pid_script.specs.ScriptLines.{Ask}
 use Rattle.pid_script.specs.StopLines.{is_stop, IsBegun, StoppedBy, IsStopText}

@@ -14,13 +14,13 @@ use Rattle.pid_moderation.specs.Writes.{tree_of}
 use Rattle.pid_service.specs.declared.exporting.ExportFault.{ExportFault}
 use Rattle.pid_service.specs.declared.exporting.ExportFault.TheVariants.{Refused, Write}
 use Rattle.pid_moderation.specs.Faults.{IsFault}
-use Rattle.pid_lives.specs.Calls.{nothing_sent}
-use Rattle.pid_lives.specs.Registries.{Does}
+use Rattle.pid_service_laws.specs.Calls.{nothing_sent}
+use Rattle.pid_service_laws.specs.Registries.{Does}
 use Rattle.pid_script.specs.declared.line_end.LineEnd.{LineEnd}
 use Rattle.pid_script.specs.declared.line_end.LineEnd.TheVariants.{Stopped, WriteFault, TooLong}
 use Rattle.pid_script.specs.declared.moderated.Moderated.{Ghosts}
 use Rattle.pid_script.specs.Exporting.{Exports, TakesWholeFront}
-use Rattle.pid_script.specs.Saying.{out, IsGiven, IsNothing, Tells, IsAnswer, GoesOn, LineEnds}
+use Rattle.pid_script.specs.Steps.Saying.{out, IsGiven, IsNothing, Tells, IsAnswer, GoesOn, LineEnds}
 use Rattle.pid_script.specs.ScriptLines as lines
 use Rattle.pid_script.specs.Standing.{Stands}
 use Rattle.pid_script.specs.StopLines.{is_stop, StoppedBy, IsStopText}

@@ -6,7 +6,7 @@ use Rattle.std.specs.Str.{bytes_eq}
 use Rattle.std.proofs.lemmas.Bool.Decides.{nat_tests}
 use Rattle.std.proofs.lemmas.List.Folds.{find_at}
 use Rattle.pid_moderation.specs.Fields.{texts_of, value}
-use Rattle.pid_moderation.proofs.FieldLemmas.{value_found, value_missing}
+use Rattle.pid_form.proofs.FieldTexts.{value_found, value_missing}
 use Rattle.pid_script.specs.Asking.{is_key_field, other_fields}
 
 abbrev pub is_key : {A : Type 0} → String A × String A → Bool

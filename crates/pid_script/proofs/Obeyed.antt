@@ -12,18 +12,18 @@ use Rattle.pid_moderation.specs.Judgement.{after, after_all, judge}
 use Rattle.pid_moderation.specs.Judgement as judgement
 use Rattle.pid_moderation.specs.ReplyLines.{reply_text}
 use Rattle.pid_moderation.specs.Views.{views_of}
-use Rattle.pid_import.specs.Files.{asks}
+use Rattle.pid_tables.specs.Files.{asks}
 use Rattle.pid_moderation.specs.Faults.{IsFault}
-use Rattle.pid_lives.specs.Calls as lives
-use Rattle.pid_lives.specs.Outcomes.{is_outcome}
-use Rattle.pid_lives.specs.Registries.{CommandLeaves, Does}
+use Rattle.pid_service_laws.specs.Calls as lives
+use Rattle.pid_service_laws.specs.Outcomes.{is_outcome}
+use Rattle.pid_service_laws.specs.Registries.{CommandLeaves, Does}
 use Rattle.pid_script.specs.declared.line_end.LineEnd.{LineEnd}
 use Rattle.pid_script.specs.declared.line_end.LineEnd.TheVariants.{Stopped, WriteFault, TooLong}
 use Rattle.pid_script.specs.declared.moderated.Moderated.{Ghosts}
 use Rattle.pid_script.specs.Asking.{command_asked}
 use Rattle.pid_script.specs.Calling.{CallsSend, CallsSendEither}
 use Rattle.pid_script.specs.Replies.{those_sent, outcome_of, is_call}
-use Rattle.pid_script.specs.Saying.{Out, IsGiven, IsNothing, Tells, IsAnswer, refusal_in, GoesOn, Leaves, Sends, LineEnds}
+use Rattle.pid_script.specs.Steps.Saying.{Out, IsGiven, IsNothing, Tells, IsAnswer, refusal_in, GoesOn, Leaves, Sends, LineEnds}
 use Rattle.pid_script.specs.ScriptLines as lines
 use Rattle.pid_script.specs.ScriptLines.{Ask}
 use Rattle.pid_script.specs.Standing.{Stands, FailsAt}

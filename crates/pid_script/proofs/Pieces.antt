@@ -11,10 +11,10 @@ use Rattle.pid_file.proofs.Cuts.{whole_line, open_behind, whole_same, open_longe
 use Rattle.pid_script.specs.declared.line_end.LineEnd.{LineEnd}
 use Rattle.pid_script.specs.declared.line_end.LineEnd.TheVariants.{WriteFault}
 use Rattle.pid_script.specs.declared.moderated.Moderated.{Ghosts}
-use Rattle.pid_script.specs.Saying.{Out, out, Unfit, LineEnds}
+use Rattle.pid_script.specs.Steps.Saying.{Out, out, Unfit, LineEnds}
 use Rattle.pid_script.specs.ScriptLines.{ask_of}
 use Rattle.pid_script.specs.Standing.{Stands}
-use Rattle.pid_script.specs.Progress.{Answered, HasAnswered, Ended, Ends}
+use Rattle.pid_script.specs.Steps.Progress.{Answered, HasAnswered, Ended, Ends}
 use Rattle.pid_script.specs.Replies.{history_after}
 use Rattle.pid_script.specs.Calling.{CallsGo}
 use Rattle.pid_script.proofs.Calling.{go_still, go_then}

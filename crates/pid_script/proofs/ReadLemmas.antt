@@ -9,8 +9,8 @@ use Rattle.pid_script.specs.declared.line_end.LineEnd.{LineEnd}
 use Rattle.pid_script.specs.declared.line_end.LineEnd.TheVariants as line_ends
 use Rattle.pid_script.specs.declared.moderated.Moderated.{Ghosts}
 use Rattle.pid_script.specs.declared.script_end.ScriptEnd.TheVariants.{TurnsSpent}
-use Rattle.pid_script.specs.Progress.{HasAnswered, Ended, Ends, script_end}
-use Rattle.pid_script.specs.Saying.{Out, out}
+use Rattle.pid_script.specs.Steps.Progress.{HasAnswered, Ended, Ends, script_end}
+use Rattle.pid_script.specs.Steps.Saying.{Out, out}
 use Rattle.pid_script.specs.Scripts.{passage, IsCutOff, IsScript, BUFFER_ROOM, TakesAtMost}
 use Rattle.pid_script.specs.Standing.{Stands}
 use Rattle.pid_script.proofs.Answered.{answers_out}

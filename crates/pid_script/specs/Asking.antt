@@ -1,5 +1,6 @@
 -- The commands and the questions that the fields of forms say: choices of this project.
-use Rattle.std.specs.Prelude.{ℕ, Bool, not, ◌&&◌, ◌==◌, List, [], ◌∷◌, length, Option, Some, None, is_none, codes, Result, Ok, Err}
+use Rattle.std.specs.Prelude.{ℕ, Bool, not, ◌&&◌, ◌==◌, List, [], ◌∷◌, length, Option, Some, None}
+use Rattle.std.specs.Prelude.{is_none, codes, Result, Ok, Err}
 use Rattle.std.specs.List.{position_or_len, remove}
 use Rattle.std.specs.Str.{bytes_eq}
 use Rattle.pid_file.specs.declared.path.Path.{Path}
@@ -11,7 +12,7 @@ use Rattle.pid_moderation.specs.declared.verb.Verb.{Verb}
 use Rattle.pid_moderation.specs.CheckTables.{Checks, first_failing}
 use Rattle.pid_moderation.specs.Fields.{Fields, is_once, value, text_at}
 use Rattle.pid_moderation.specs.Forms.{form_checks, command_said}
-use Rattle.pid_fields.specs.FormFields.{fields_in}
+use Rattle.pid_form.specs.FormFields.{fields_in}
 use Rattle.pid_lookup.specs.Fields.{LookUp, look_up_in}
 
 -- the field of the key, which each verb may have
@@ -31,7 +32,8 @@ refused_or None (Some x) = Ok x
 -- the same for the fields of a form
 abbrev pub command_in : Verb → List ℕ → Fields → Result Command Refusal
 command_in verb account fields =
-    refused_or (first_failing (form_checks verb account (value (codes "key") fields) (other_fields fields)))
+    refused_or (first_failing (form_checks verb account (value (codes "key") fields)
+    (other_fields fields)))
     (command_said verb account (value (codes "key") fields) (other_fields fields))
 
 -- the command of an account that a form says, or the first form check that fails
@@ -40,11 +42,13 @@ command_asked verb account form = command_in verb account (fields_in form)
 
 -- the fields are a path alone, once; and it is a path
 abbrev pub path_checks : Fields → Checks
-path_checks fields = (not (is_once (codes "path") fields && length fields == 1), BadText) ∷ (is_none (path_of (text_at (codes "path") fields)), BadPath) ∷ []
+path_checks fields = (not (is_once (codes "path") fields && length fields == 1), BadText)
+    ∷ (is_none (path_of (text_at (codes "path") fields)), BadPath) ∷ []
 
 -- the path that the fields say, or the first of these checks that fails
 abbrev pub path_in : Fields → Result Path Refusal
-path_in fields = refused_or (first_failing (path_checks fields)) (path_of (text_at (codes "path") fields))
+path_in fields = refused_or (first_failing (path_checks fields))
+    (path_of (text_at (codes "path") fields))
 
 -- the path that a form says, in the field `path` alone
 unfoldable pub path_asked : List ℕ → Result Path Refusal

@@ -1,9 +1,9 @@
 -- The calls that a script makes of a registry, as lives tell them: choices of this project.
 use Rattle.std.specs.Prelude.{◌≡◌, ◌⊎◌, List}
 use Rattle.pid_moderation.specs.History.{Asked}
-use Rattle.pid_lives.specs.Calls.{Call, sent_in}
-use Rattle.pid_lives.specs.Lives.{commands_in}
-use Rattle.pid_lives.specs.Registries.{Showing, CallsLead}
+use Rattle.pid_service_laws.specs.Calls.{Call, sent_in}
+use Rattle.pid_service_laws.specs.Lives.{commands_in}
+use Rattle.pid_service_laws.specs.Registries.{Showing, CallsLead}
 
 -- `seen` is how lives see a registry
 module _ {R : Type 0} (seen : Showing R) where

@@ -1,5 +1,4 @@
 pub mod ScriptLines
-pub mod LineAsks
 pub mod Asking
 pub mod Replies
 pub mod Calling
@@ -10,5 +9,4 @@ pub mod Standing
 pub mod StopLines
 pub mod Scripts
 pub mod EndStatus
-pub mod Saying
-pub mod Progress
+pub mod Steps

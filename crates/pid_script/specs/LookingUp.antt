@@ -10,9 +10,11 @@ use Rattle.pid_lookup.specs.Flags.{is_bad}
 use Rattle.pid_moderation.specs.declared.refusal.Refusal.{Refusal}
 use Rattle.pid_moderation.specs.Faults.{IsFault}
 
--- the answer over the tree, where the flags are not bad; that they are bad; or want of memory or a fault of the store
+-- the answer over the tree, where the flags are not bad; that they are bad; or want of memory or a
+-- fault of the store
 abbrev pub LooksUp : Result Answer (LookupRefusal Refusal) → TreeMap → ℕ → Args → ℕ → Type 0
-LooksUp (Ok answer) tree flags args size = (is_bad flags ≡ false) × (answer ≡ answer_of tree flags args size)
+LooksUp (Ok answer) tree flags args size = (is_bad flags ≡ false)
+    × (answer ≡ answer_of tree flags args size)
 LooksUp (Err BadFlags) tree flags args size = is_bad flags ≡ true
 LooksUp (Err (Names refusal)) tree flags args size = IsFault refusal
 LooksUp (Err Memory) tree flags args size = Unit {0}

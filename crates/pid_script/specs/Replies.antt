@@ -1,8 +1,9 @@
 -- The replies to the lines of a script, and the history behind them: choices of this project.
-use Rattle.std.specs.Prelude.{ℕ, Bool, true, false, if◌then◌else◌, List, [], ◌∷◌, ◌++◌, Option, Some, None, is_some, codes, Result, Ok, Err, is_ok}
+use Rattle.std.specs.Prelude.{ℕ, Bool, true, false, if◌then◌else◌, List, [], ◌∷◌, ◌++◌, Option}
+use Rattle.std.specs.Prelude.{Some, None, is_some, codes, Result, Ok, Err, is_ok}
 use Rattle.pid_file.specs.declared.path.Path.{Path}
 use Rattle.pid_ident.specs.PathTexts.{path_text}
-use Rattle.pid_import.specs.Files.{asks}
+use Rattle.pid_tables.specs.Files.{asks}
 use Rattle.pid_lookup.specs.declared.answer.Answer.{Answer}
 use Rattle.pid_lookup.specs.declared.answer.Answer.TheVariants.{Text, NoAnswer}
 use Rattle.pid_lookup.specs.Answers.{answer_of}
@@ -54,7 +55,8 @@ item_line (Ok path) h = name_line (name_at (path_text path) (items_of h))
 -- what a look-up is answered
 abbrev pub looked_up : Option LookUp → History → List ℕ
 looked_up None h = refused_line BadText
-looked_up (Some l) h = if is_bad l.flags then BAD_FLAGS else answer_line (answer_of (tree_of h) l.flags l.args l.size)
+looked_up (Some l) h = if is_bad l.flags then BAD_FLAGS else answer_line
+    (answer_of (tree_of h) l.flags l.args l.size)
 
 -- the reply to what a line asks, over the history so far
 abbrev pub reply_to : Ask → History → List ℕ
@@ -103,4 +105,5 @@ history_after h lines = after_all h (commands_of_lines lines)
 -- the replies to lines, each over the history that the lines before it lead to
 abbrev pub replies : History → List (List ℕ) → List ℕ
 replies h [] = []
-replies h (line ∷ lines) = reply_to (ask_of line) h ++ replies (after_all h (command_of (ask_of line))) lines
+replies h (line ∷ lines) = reply_to (ask_of line) h ++ replies
+    (after_all h (command_of (ask_of line))) lines

@@ -1,5 +1,9 @@
--- What a script comes to: the replies to its lines, and how it ends. All are choices of this project.
-use Rattle.std.specs.Prelude.{◌≡◌, ◌⊎◌, ◌≤◌, length, ℕ, false, List, [], ◌∷◌, ◌++◌, Some, Option}
+-- What a script comes to: the replies to its lines, and how it ends. All are choices of this
+-- project.
+use Rattle.std.specs.Prelude.{◌≡◌, ◌⊎◌, ◌≤◌, ◌<◌, ◌+◌, ◌-◌, ◌*◌, ◌^◌, min, length, ℕ, false}
+use Rattle.std.specs.Prelude.{List, [], ◌∷◌, ◌++◌, Some, IsSome, Option}
+use Rattle.pid_file.specs.declared.io.ReadFault.{ReadFault as InputFault}
+use Rattle.pid_file.specs.declared.io.WriteFault.{WriteFault as OutputFault}
 use Rattle.std.specs.Io.KnownBytes.{Appends, Consumes}
 use Rattle.std.specs.List.{AllByRecursion}
 use Rattle.pid_ident.specs.Sending.{SendsFront}
@@ -8,7 +12,9 @@ use Rattle.pid_reader.specs.WholeLines.{whole_lines}
 use Rattle.pid_moderation.specs.History.{History}
 use Rattle.pid_script.specs.declared.moderated.Moderated.{Ghosts}
 use Rattle.pid_script.specs.declared.script_end.ScriptEnd.{ScriptEnd}
-use Rattle.pid_script.specs.declared.script_end.ScriptEnd.TheVariants.{Done, ReadFault, WriteFault, TooLong, Stopped, TurnsSpent}
+use Rattle.pid_script.specs.declared.script_end.ScriptEnd.TheVariants.{Done, ReadFault, WriteFault}
+use Rattle.pid_script.specs.declared.script_end.ScriptEnd.TheVariants.{TooLong, Stopped}
+use Rattle.pid_script.specs.declared.script_end.ScriptEnd.TheVariants.{TurnsSpent}
 use Rattle.pid_script.specs.ScriptLines as asks
 use Rattle.pid_script.specs.ScriptLines.{ask_of}
 use Rattle.pid_script.specs.Calling.{CallsSend, CallsSendEither}
@@ -25,6 +31,20 @@ pub record TakesAtMost (come come_now : Option (List ℕ)) (most : ℕ) : Type 0
   pub front : List ℕ
   pub taken : Consumes come come_now front
   pub bounded : length front ≤ most
+
+-- How many reads a script made: at most so many, each of at most 65,536 bytes, and all of them if
+-- they are what it ended by. The reader counts them, up to its greatest number.
+pub record MakesReads (end : ScriptEnd) (turns : ℕ) (reads reads_now : ℕ)
+    (come come_now : Option (List ℕ)) : Type 0 where
+  pub made : ℕ
+  pub within : made ≤ turns
+  pub counted : reads < 2 ^ 64 → reads_now ≡ min (reads + made) (2 ^ 64 - 1)
+  pub spent : end ≡ TurnsSpent → made ≡ turns
+  pub room : TakesAtMost come come_now (made * BUFFER_ROOM)
+
+-- the reader and the writer keep the faults that a script ended by
+abbrev pub KeepsFaults : ScriptEnd → Option InputFault → Option OutputFault → Type 0
+KeepsFaults end read write = (end ≡ ReadFault → IsSome read) × (end ≡ WriteFault → IsSome write)
 
 -- a line is not too long
 abbrev pub Fits : List ℕ → Type 0
@@ -52,7 +72,8 @@ AllButLast P [] = Unit {0}
 AllButLast P (line ∷ []) = Unit {0}
 AllButLast P (line ∷ next ∷ lines) = P line × AllButLast P (next ∷ lines)
 
--- the registry before the script and behind it, and what the writer had taken before and has taken now
+-- the registry before the script and behind it, and what the writer had taken before and has taken
+-- now
 pub record Passage (R : Type 0) : Type 0 where
   pub old : R
   pub new : R
@@ -64,8 +85,8 @@ abbrev pub passage : {R : Type 0} → R → R → Option (List ℕ) → Option (
 passage old new taken taken_now = record { old = old; new = new; taken = taken; taken_now = taken_now }
 
 module _ {R : Type 0} (registry : Ghosts R) where
-  -- Each of the lines got its reply, and the registry shows the history behind them; one that had failed was asked nothing. The
-  -- commands of the lines are those that calls sent.
+  -- Each of the lines got its reply, and the registry shows the history behind them; one that had
+  -- failed was asked nothing. The commands of the lines are those that calls sent.
   pub record Answers (h : History) (p : Passage R) (lines : List (List ℕ)) : Type 0 where
     pub fits : NoneTooLong lines
     pub told : Appends p.taken p.taken_now (replies h lines)
@@ -75,11 +96,13 @@ module _ {R : Type 0} (registry : Ghosts R) where
 
   -- what stops a script at a line, whose history is the one behind the lines before
   abbrev pub IsStop : R → History → History → List ℕ → List ℕ → Type 0
-  IsStop r h at line text = IsStopText (StoppedBy registry r h (ask_of line)) (IsBegun (ask_of line) at) text
+  IsStop r h at line text = IsStopText (StoppedBy registry r h (ask_of line))
+      (IsBegun (ask_of line) at) text
 
-  -- The lines before one got their replies. In place of its reply, or behind what was begun of it, the line of a refusal stands last;
-  -- and the registry shows the history before the line, or has failed at its command, which may stand. The commands that calls sent are
-  -- those of the lines before.
+  -- The lines before one got their replies. In place of its reply, or behind what was begun of it,
+  -- the line of a refusal stands last; and the registry shows the history before the line, or has
+  -- failed at its command, which may stand. The commands that calls sent are those of the lines
+  -- before.
   pub record StopsAtLine (h : History) (p : Passage R) (lines : List (List ℕ)) : Type 0 where
     pub before : List (List ℕ)
     pub line : List ℕ
@@ -90,7 +113,8 @@ module _ {R : Type 0} (registry : Ghosts R) where
     pub text : List ℕ
     pub stop : IsStop p.old h (history_after h before) line text
     pub told : Appends p.taken p.taken_now (replies h before ++ text)
-    pub leaves : StopsBehind registry p.old h p.new (history_after h before) (command_of (ask_of line))
+    pub leaves : StopsBehind registry p.old h p.new (history_after h before)
+        (command_of (ask_of line))
     pub calls : CallsSend registry.showing p.old (commands_of_lines before) p.new
 
   -- the lines before one got their replies, and that one is too long, and was told so
@@ -110,17 +134,20 @@ module _ {R : Type 0} (registry : Ghosts R) where
   abbrev pub IsToldFor : R → History → History → List (List ℕ) → List ℕ → Type 0
   IsToldFor r h at lines text =
       (text ≡ replies at lines)
-      ⊎ ((before : List (List ℕ)) × (line stop : List ℕ) × (lines ≡ before ++ line ∷ []) × IsStop r h (history_after at before) line stop × (text ≡ replies at before ++ stop))
+      ⊎ ((before : List (List ℕ)) × (line stop : List ℕ) × (lines ≡ before ++ line ∷ [])
+      × IsStop r h (history_after at before) line stop × (text ≡ replies at before ++ stop))
 
-  -- The replies to the lines before went out whole, and of those to the lines that wait a front and not all. Of these only the last
-  -- may be a command, whose reply so did not go out whole; the registry shows the history before it or behind it.
+  -- The replies to the lines before went out whole, and of those to the lines that wait a front and
+  -- not all. Of these only the last may be a command, whose reply so did not go out whole; the
+  -- registry shows the history before it or behind it.
   pub record BreaksOff (h : History) (p : Passage R) (lines : List (List ℕ)) : Type 0 where
     pub before : List (List ℕ)
     pub waiting : List (List ℕ)
     pub behind : List (List ℕ)
     pub parts : lines ≡ before ++ (waiting ++ behind)
     pub quiet : AllButLast CommandsNot waiting
-    -- so all lines but the last were answered: none of them is too long, and one that had failed was asked nothing by them
+    -- so all lines but the last were answered: none of them is too long, and one that had failed
+    -- was asked nothing by them
     pub fits : AllButLast Fits (before ++ waiting)
     pub lives : registry.has_failed p.old → AllButLast CallsNot (before ++ waiting)
     -- what the writer had taken with the replies to the lines before
@@ -129,11 +156,14 @@ module _ {R : Type 0} (registry : Ghosts R) where
     pub text : List ℕ
     pub is : IsToldFor p.old h (history_after h before) waiting text
     pub front : SendsFront between p.taken_now text
-    pub leaves : BecomesEither registry p.old h p.new (history_after h before) (history_after h (before ++ waiting))
-    pub calls : CallsSendEither registry.showing p.old (commands_of_lines before) (commands_of_lines (before ++ waiting)) p.new
+    pub leaves : BecomesEither registry p.old h p.new (history_after h before)
+        (history_after h (before ++ waiting))
+    pub calls : CallsSendEither registry.showing p.old (commands_of_lines before)
+        (commands_of_lines (before ++ waiting)) p.new
 
   -- part of the text was read, and its whole lines got their replies
-  pub record IsCutOff (h : History) (p : Passage R) (text : List ℕ) (rest : Option (List ℕ)) : Type 0 where
+  pub record IsCutOff (h : History) (p : Passage R) (text : List ℕ)
+      (rest : Option (List ℕ)) : Type 0 where
     pub front : List ℕ
     pub read : Consumes (Some text) rest front
     pub answers : Answers h p (whole_lines front)

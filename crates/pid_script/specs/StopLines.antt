@@ -12,7 +12,8 @@ use Rattle.pid_script.specs.Replies.{is_call}
 use Rattle.pid_script.specs.ScriptLines.{Ask, Nothing, Commands, Exports, Reads, LooksUp, Unclear, TooLong}
 use Rattle.pid_script.specs.WholeFronts.{IsWholeFront}
 
--- a refusal of memory, of the store, or of a registry that has failed: it judges nothing, and stops the script
+-- a refusal of memory, of the store, or of a registry that has failed: it judges nothing, and stops
+-- the script
 abbrev pub is_stop : Refusal → Bool
 is_stop Memory = true
 is_stop Store = true
@@ -34,8 +35,9 @@ IsBegun Unclear h = λ begun. begun ≡ []
 IsBegun TooLong h = λ begun. begun ≡ []
 
 module _ {R : Type 0} (registry : Ghosts R) where
-  -- Which answer stops a script: a live registry refuses for want of memory or because its store failed, one that has failed
-  -- refuses all; and memory may be short for the script itself, which is all that stops it where the registry is not asked.
+  -- Which answer stops a script: a live registry refuses for want of memory or because its store
+  -- failed, one that has failed refuses all; and memory may be short for the script itself, which
+  -- is all that stops it where the registry is not asked.
   pub record StoppedBy (r : R) (h : History) (ask : Ask) (refusal : Refusal) : Type 0 where
     pub stops : is_stop refusal ≡ true
     pub live : registry.showing.shows r h → IsFault refusal
@@ -43,7 +45,8 @@ module _ {R : Type 0} (registry : Ghosts R) where
     pub unasked : is_call ask ≡ false → refusal ≡ Memory
 
 -- the text of a stop in place of a reply: the line of such a refusal, behind what was begun
-pub record IsStopText (Cause : Refusal → Type 0) (Begun : List ℕ → Type 0) (text : List ℕ) : Type 0 where
+pub record IsStopText (Cause : Refusal → Type 0) (Begun : List ℕ → Type 0)
+    (text : List ℕ) : Type 0 where
   pub begun : List ℕ
   pub front : Begun begun
   pub refusal : Refusal

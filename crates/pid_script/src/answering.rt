@@ -4,8 +4,8 @@ ghost use Rattle.pid_moderation.specs.History.{History};
 ghost use Rattle.pid_script.specs.ScriptLines as asks;
 ghost use Rattle.pid_script.specs.ScriptLines.{ask_of};
 ghost use Rattle.pid_script.specs.Calling.{CallsGo};
-ghost use Rattle.pid_script.specs.Saying.{out, LineEnds};
-ghost use Rattle.pid_script.specs.Standing.{Stands};
+ghost use Rattle.pid_script.specs.Steps.Saying.{out, LineEnds};
+ghost use Rattle.pid_script.specs.Standing.{OverStanding, StaysClean};
 
 use crate::fields::{read_command, read_path};
 use crate::line::{LineAsk, line_asks};
@@ -31,10 +31,12 @@ fn obey<R: Moderated, O: Output>(
     account: &str,
     form: &str,
 ) -> Result<(), LineEnd>
-    ensures honest { R.showing.is_clean registry.new → R.showing.is_clean registry.old }
+    ensures honest { StaysClean R.Moderated registry.old registry.new }
     ensures calls { CallsGo R.showing registry.old registry.new }
-    ensures ends { R.showing.is_clean registry.new → (h : History) → Stands R.Moderated registry.old h
-        → LineEnds R.Moderated result (asks.Commands verb account.now form.now) h registry.old (out (O.taken output.old) held.old.items) registry.new (out (O.taken output.new) held.new.items) }
+    ensures ends { OverStanding R.Moderated registry.old registry.new (λ h.
+        LineEnds R.Moderated result (asks.Commands verb account.now form.now) h registry.old
+        (out (O.taken output.old) held.old.items) registry.new
+        (out (O.taken output.new) held.new.items)) }
     ensures fault { result ≡ Err LineEnd.WriteFault → IsSome (O.write_fault output.new) }
 {
     match read_command(alloc, verb, account, form) {
@@ -54,10 +56,12 @@ fn read<R: Moderated, O: Output>(
     held: &mut Vec<u8>,
     form: &str,
 ) -> Result<(), LineEnd>
-    ensures honest { R.showing.is_clean registry.new → R.showing.is_clean registry.old }
+    ensures honest { StaysClean R.Moderated registry.old registry.new }
     ensures calls { CallsGo R.showing registry.old registry.new }
-    ensures ends { R.showing.is_clean registry.new → (h : History) → Stands R.Moderated registry.old h
-        → LineEnds R.Moderated result (asks.Reads form.now) h registry.old (out (O.taken output.old) held.old.items) registry.new (out (O.taken output.new) held.new.items) }
+    ensures ends { OverStanding R.Moderated registry.old registry.new (λ h.
+        LineEnds R.Moderated result (asks.Reads form.now) h registry.old
+        (out (O.taken output.old) held.old.items) registry.new
+        (out (O.taken output.new) held.new.items)) }
     ensures fault { result ≡ Err LineEnd.WriteFault → IsSome (O.write_fault output.new) }
 {
     match read_path(alloc, form) {
@@ -77,10 +81,12 @@ fn look_up<R: Moderated, O: Output>(
     held: &mut Vec<u8>,
     form: &str,
 ) -> Result<(), LineEnd>
-    ensures honest { R.showing.is_clean registry.new → R.showing.is_clean registry.old }
+    ensures honest { StaysClean R.Moderated registry.old registry.new }
     ensures calls { CallsGo R.showing registry.old registry.new }
-    ensures ends { R.showing.is_clean registry.new → (h : History) → Stands R.Moderated registry.old h
-        → LineEnds R.Moderated result (asks.LooksUp form.now) h registry.old (out (O.taken output.old) held.old.items) registry.new (out (O.taken output.new) held.new.items) }
+    ensures ends { OverStanding R.Moderated registry.old registry.new (λ h.
+        LineEnds R.Moderated result (asks.LooksUp form.now) h registry.old
+        (out (O.taken output.old) held.old.items) registry.new
+        (out (O.taken output.new) held.new.items)) }
     ensures fault { result ≡ Err LineEnd.WriteFault → IsSome (O.write_fault output.new) }
 {
     match read_look_up(alloc, form) {
@@ -99,10 +105,12 @@ fn export<R: Moderated, O: Output>(
     output: &mut O,
     held: &mut Vec<u8>,
 ) -> Result<(), LineEnd>
-    ensures honest { R.showing.is_clean registry.new → R.showing.is_clean registry.old }
+    ensures honest { StaysClean R.Moderated registry.old registry.new }
     ensures calls { CallsGo R.showing registry.old registry.new }
-    ensures ends { R.showing.is_clean registry.new → (h : History) → Stands R.Moderated registry.old h
-        → LineEnds R.Moderated result asks.Exports h registry.old (out (O.taken output.old) held.old.items) registry.new (out (O.taken output.new) held.new.items) }
+    ensures ends { OverStanding R.Moderated registry.old registry.new (λ h.
+        LineEnds R.Moderated result asks.Exports h registry.old
+        (out (O.taken output.old) held.old.items) registry.new
+        (out (O.taken output.new) held.new.items)) }
     ensures fault { result ≡ Err LineEnd.WriteFault → IsSome (O.write_fault output.new) }
 {
     if let Err(end) = flush(output, held) {
@@ -123,10 +131,12 @@ pub fn answer_line<R: Moderated, O: Output>(
     held: &mut Vec<u8>,
     line: &[u8],
 ) -> Result<(), LineEnd>
-    ensures honest { R.showing.is_clean registry.new → R.showing.is_clean registry.old }
+    ensures honest { StaysClean R.Moderated registry.old registry.new }
     ensures calls { CallsGo R.showing registry.old registry.new }
-    ensures ends { R.showing.is_clean registry.new → (h : History) → Stands R.Moderated registry.old h
-        → LineEnds R.Moderated result (ask_of line.now) h registry.old (out (O.taken output.old) held.old.items) registry.new (out (O.taken output.new) held.new.items) }
+    ensures ends { OverStanding R.Moderated registry.old registry.new (λ h.
+        LineEnds R.Moderated result (ask_of line.now) h registry.old
+        (out (O.taken output.old) held.old.items) registry.new
+        (out (O.taken output.new) held.new.items)) }
     ensures fault { result ≡ Err LineEnd.WriteFault → IsSome (O.write_fault output.new) }
 {
     match line_asks(line) {

@@ -1,13 +1,48 @@
 //! What the fields of a line say.
-ghost use Rattle.std.specs.Prelude.{◌≡◌, ◌≢◌, ◌↔◌, ◌&&◌, ◌==◌, ℕ, true, false, codes, find, count_by, string_bytes, length, slice_index, Option, Some, None, Ok, Err, MatchResult, IfOk, IfErr, IsErr};
+ghost use Rattle.std.specs.Prelude.{
+  ◌≡◌,
+  ◌≢◌,
+  ◌↔◌,
+  ◌&&◌,
+  ◌==◌,
+  ℕ,
+  true,
+  false,
+  codes,
+  find,
+  count_by,
+  string_bytes,
+  length,
+  slice_index,
+  Option,
+  Some,
+  None,
+  Ok,
+  Err,
+  MatchResult,
+  IfOk,
+  IfErr,
+  IsErr,
+};
 ghost use Rattle.std.specs.Option.{option_copied, option_map};
 ghost use Rattle.std.specs.List.{position, position_or_len, remove};
 ghost use Rattle.std.specs.Str.{bytes_eq};
-ghost use Rattle.pid_moderation.specs.Fields.{Fields, texts_of, value as value_in, is_once as once_in, times as times_in};
+ghost use Rattle.pid_moderation.specs.Fields.{
+  Fields,
+  texts_of,
+  value as value_in,
+  is_once as once_in,
+};
 ghost use Rattle.pid_ident.specs.PathReading.{path_of};
-ghost use Rattle.pid_script.specs.Asking.{command_in, command_asked, other_fields, path_in as path_said, path_asked};
+ghost use Rattle.pid_script.specs.Asking.{
+  command_in,
+  command_asked,
+  other_fields,
+  path_in as path_said,
+  path_asked,
+};
 
-use pid_fields::fields_of;
+use pid_form::{fields_of, is_once, value};
 use pid_ident::{Path, PathText};
 use pid_moderation::{Command, Refusal, Verb, command_of};
 use std::alloc::Global;
@@ -20,7 +55,8 @@ fn key_place(fields: &[(String, String)]) -> Option<usize>
 
 // Takes the key out of the fields.
 fn take_key(fields: &mut Vec<(String, String)>) -> Option<String>
-    ensures key { option_map string_bytes result ≡ value_in (codes "key") (texts_of fields.old.items) }
+    ensures key { option_map string_bytes result
+        ≡ value_in (codes "key") (texts_of fields.old.items) }
     ensures others { texts_of fields.new.items ≡ other_fields (texts_of fields.old.items) }
 {
     let place = key_place(fields)?;
@@ -35,9 +71,11 @@ fn command_with(
     key: &Option<String>,
     fields: &[(String, String)],
 ) -> Result<Command, Refusal>
-    ensures ok { (all : Fields) → option_map string_bytes key.now ≡ value_in (codes "key") all → texts_of fields.now ≡ other_fields all
+    ensures ok { (all : Fields) → option_map string_bytes key.now ≡ value_in (codes "key") all
+        → texts_of fields.now ≡ other_fields all
         → IfOk result (λ c. command_in verb account.now all ≡ Ok c) }
-    ensures err { (all : Fields) → option_map string_bytes key.now ≡ value_in (codes "key") all → texts_of fields.now ≡ other_fields all
+    ensures err { (all : Fields) → option_map string_bytes key.now ≡ value_in (codes "key") all
+        → texts_of fields.now ≡ other_fields all
         → IfErr result (λ e. e ≢ Refusal.Memory → command_in verb account.now all ≡ Err e) }
 {
     match key {
@@ -54,41 +92,19 @@ pub fn read_command(
     form: &str,
 ) -> Result<Command, Refusal>
     ensures ok { IfOk result (λ c. command_asked verb account.now form.now ≡ Ok c) }
-    ensures err { IfErr result (λ e. e ≢ Refusal.Memory → command_asked verb account.now form.now ≡ Err e) }
+    ensures err { IfErr result (λ e. e ≢ Refusal.Memory
+        → command_asked verb account.now form.now ≡ Err e) }
 {
     let mut fields = fields_of(alloc, form)?;
     let key = take_key(&mut fields);
     command_with(alloc, verb, account, &key, &fields)
 }
 
-fn times(fields: &[(String, String)], name: &str) -> usize
-    ensures { result ≡ count_by (λ f. bytes_eq (string_bytes f.0) name.now) fields.now }
-{
-    fields
-        .iter()
-        .filter(|field| field.0.as_str() == name)
-        .count()
-}
-
-fn first<'a>(fields: &'a [(String, String)], name: &str) -> Option<&'a (String, String)>
-    ensures { option_copied result ≡ find (λ f. bytes_eq (string_bytes f.0) name.now) fields.now }
-{
-    fields.iter().find(|field| field.0.as_str() == name)
-}
-
-fn value<'a>(fields: &'a [(String, String)], name: &str) -> Option<&'a str>
-    ensures { option_copied result ≡ value_in name.now (texts_of fields.now) }
-{
-    match first(fields, name) {
-        Some(field) => Some(field.1.as_str()),
-        None => None,
-    }
-}
-
 fn is_path_alone(fields: &[(String, String)]) -> bool
-    ensures { result ≡ (once_in (codes "path") (texts_of fields.now) && length (texts_of fields.now) == 1) }
+    ensures { result ≡ (once_in (codes "path") (texts_of fields.now) && length
+        (texts_of fields.now) == 1) }
 {
-    times(fields, "path") == 1 && fields.len() == 1
+    is_once(fields, "path") && fields.len() == 1
 }
 
 fn path_of_text(text: &str) -> Option<Path>

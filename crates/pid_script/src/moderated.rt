@@ -9,9 +9,9 @@ ghost use Rattle.pid_moderation.specs.Views.{items_of};
 ghost use Rattle.pid_moderation.specs.Writes.{tree_of};
 ghost use Rattle.pid_moderation.specs.declared.refusal.Refusal.TheVariants.{Failed};
 ghost use Rattle.pid_moderation.specs.Faults.{IsFault};
-ghost use Rattle.pid_lives.specs.Calls.{nothing_sent, obeyed};
-ghost use Rattle.pid_lives.specs.Registries.{CommandLeaves, Does, Showing};
-ghost use Rattle.pid_import.specs.Files.{asks};
+ghost use Rattle.pid_service_laws.specs.Calls.{nothing_sent, obeyed};
+ghost use Rattle.pid_service_laws.specs.Registries.{CommandLeaves, Does, Showing};
+ghost use Rattle.pid_tables.specs.Files.{asks};
 ghost use Rattle.pid_script.specs.Exporting.{Exports};
 ghost use Rattle.pid_script.specs.LookingUp.{LooksUp};
 
@@ -22,12 +22,13 @@ use pid_service::ExportFault;
 
 /// A registry under moderation, as scripts ask it.
 ///
-/// What it tells and shows holds where its store gave back what was written to it, as the call ends. A registry that has
-/// failed answers `Failed` to all and stays as it is.
+/// What it tells and shows holds where its store gave back what was written to it, as the call
+/// ends. A registry that has failed answers `Failed` to all and stays as it is.
 pub trait Moderated {
-    ghost use Rattle.pid_lives.specs.Registries.{Showing};
+    ghost use Rattle.pid_service_laws.specs.Registries.{Showing};
 
-    /// Whether its store gave back what was written to it, which history it shows, and between which two it has failed.
+    /// Whether its store gave back what was written to it, which history it shows, and between
+    /// which two it has failed.
     ghost showing: { Showing Self };
 
     /// It has failed earlier.
@@ -36,18 +37,24 @@ pub trait Moderated {
     /// Obeys a command, or says why not.
     fn obey(&mut self, command: Command) -> Result<Reply, Refusal>
         ensures honest { showing.is_clean self.new → showing.is_clean self.old }
-        // To lives it is the call that obeys the command, with this answer. `live` says whether the registry is live behind it:
-        // with true it shows one history, and only with false may it have failed between two.
-        ensures calls { (live : Bool) × Does showing self.old (obeyed (asks command) result live) self.new }
-        ensures obeys { showing.is_clean self.new → (h : History) → showing.shows self.old h → CommandLeaves showing result self.new h (asks command) }
+        // To lives it is the call that obeys the command, with this answer. `live` says whether the
+        // registry is live behind it: with true it shows one history, and only with false may it
+        // have failed between two.
+        ensures calls { (live : Bool) × Does showing self.old
+            (obeyed (asks command) result live) self.new }
+        ensures obeys { showing.is_clean self.new → (h : History) → showing.shows self.old h
+            → CommandLeaves showing result self.new h (asks command) }
         ensures failed { has_failed self.old → (result ≡ Err Failed) × (self.new ≡ self.old) };
 
     /// The name of a path; or memory is short, or the store or the registry has failed.
     fn read(&mut self, path: &Path) -> Result<Option<Name>, Refusal>
         ensures honest { showing.is_clean self.new → showing.is_clean self.old }
         ensures calls { Does showing self.old nothing_sent self.new }
-        ensures kept { showing.is_clean self.new → (h : History) → showing.shows self.old h → showing.shows self.new h }
-        ensures told { showing.is_clean self.new → (h : History) → showing.shows self.old h → MatchResult result (λ name. name ≡ name_at (path_text path.now) (items_of h)) IsFault }
+        ensures kept { showing.is_clean self.new → (h : History) → showing.shows self.old h
+            → showing.shows self.new h }
+        ensures told { showing.is_clean self.new → (h : History) → showing.shows self.old h
+            → MatchResult result (λ name. name
+            ≡ name_at (path_text path.now) (items_of h)) IsFault }
         ensures failed { has_failed self.old → (result ≡ Err Failed) × (self.new ≡ self.old) };
 
     /// The text for flags and arguments, for a buffer of `size` bytes.
@@ -59,17 +66,25 @@ pub trait Moderated {
     ) -> Result<Answer, LookupRefusal<Refusal>>
         ensures honest { showing.is_clean self.new → showing.is_clean self.old }
         ensures calls { Does showing self.old nothing_sent self.new }
-        ensures kept { showing.is_clean self.new → (h : History) → showing.shows self.old h → showing.shows self.new h }
-        ensures told { showing.is_clean self.new → (h : History) → showing.shows self.old h → LooksUp result (tree_of h) flags args.now size }
-        ensures failed { has_failed self.old → (result ≡ Err (look_ups.Names Failed)) × (self.new ≡ self.old) };
+        ensures kept { showing.is_clean self.new → (h : History) → showing.shows self.old h
+            → showing.shows self.new h }
+        ensures told { showing.is_clean self.new → (h : History) → showing.shows self.old h
+            → LooksUp result (tree_of h) flags args.now size }
+        ensures failed { has_failed self.old
+            → (result ≡ Err (look_ups.Names Failed)) × (self.new ≡ self.old) };
 
-    /// Writes the canonical text, line by line. Where it is refused, what was written is whole lines of the text, or nothing.
-    /// Where the writer failed it may end within a line.
+    /// Writes the canonical text, line by line. Where it is refused, what was written is whole
+    /// lines of the text, or nothing. Where the writer failed it may end within a line.
     fn export<O: Output>(&mut self, out: &mut O) -> Result<(), ExportFault>
         ensures honest { showing.is_clean self.new → showing.is_clean self.old }
         ensures calls { Does showing self.old nothing_sent self.new }
-        ensures kept { showing.is_clean self.new → (h : History) → showing.shows self.old h → showing.shows self.new h }
-        ensures told { showing.is_clean self.new → (h : History) → showing.shows self.old h → Exports result (O.taken out.old) (O.taken out.new) (print (tree_of h)) }
-        ensures fault { (f : _) → IsErrOf result (ExportFault.Write f) → IsSome (O.write_fault out.new) }
-        ensures failed { has_failed self.old → (result ≡ Err (ExportFault.Refused Failed)) × (self.new ≡ self.old) × (O.taken out.new ≡ O.taken out.old) };
+        ensures kept { showing.is_clean self.new → (h : History) → showing.shows self.old h
+            → showing.shows self.new h }
+        ensures told { showing.is_clean self.new → (h : History) → showing.shows self.old h
+            → Exports result (O.taken out.old) (O.taken out.new) (print (tree_of h)) }
+        ensures fault { (f : _) → IsErrOf result (ExportFault.Write f)
+            → IsSome (O.write_fault out.new) }
+        ensures failed { has_failed self.old
+            → (result ≡ Err (ExportFault.Refused Failed)) × (self.new ≡ self.old)
+            × (O.taken out.new ≡ O.taken out.old) };
 }

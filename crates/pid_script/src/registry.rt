@@ -1,10 +1,9 @@
 //! The registry, as scripts ask it.
 use crate::moderated::Moderated;
-use pid_export::items_print_as_their_tree;
 use pid_ident::{Name, Output, Path};
 use pid_lookup::{Answer, Args, LookupRefusal};
 use pid_moderation::{Command, Refusal, Reply};
-use pid_service::{ExportFault, Registry, clauses_meet_lives};
+use pid_service::{ExportFault, Registry, clauses_meet_lives, items_print_as_their_tree};
 use sqlite::Alter;
 
 impl<S: Alter + Drop> Moderated for Registry<S> {

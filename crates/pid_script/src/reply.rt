@@ -1,11 +1,40 @@
 //! The replies to lines.
-ghost use Rattle.std.specs.Prelude.{◌≡◌, ◌++◌, ◌∷◌, ℕ, List, [], Option, true, false, if◌then◌else◌, Ok, Err, IfOk, IfErr, OnOk, IsSome, IsErrOf, MatchResult};
+ghost use Rattle.std.specs.Prelude.{
+  ◌≡◌,
+  ◌++◌,
+  ◌∷◌,
+  ℕ,
+  List,
+  [],
+  Option,
+  true,
+  false,
+  if◌then◌else◌,
+  Ok,
+  Err,
+  IfOk,
+  IfErr,
+  OnOk,
+  IsSome,
+  IsErrOf,
+  MatchResult,
+};
 ghost use Rattle.pid_lookup.specs.declared.answering.LookupRefusal.TheVariants as look_ups;
 ghost use Rattle.pid_moderation.specs.ReplyLines.{accepted_line, refused_line, details, reply_text};
 ghost use Rattle.pid_moderation.specs.declared.refusal.Refusal.TheVariants as refusals;
 ghost use Rattle.pid_lookup.specs.Flags.{is_bad};
 ghost use Rattle.pid_script.specs.StopLines.{is_stop as is_stopping};
-ghost use Rattle.pid_script.specs.Saying.{out, Tells, SaysText, IsGiven, IsNothing, IsAnswer, GoesOn, refusal_in, refusal_of_names};
+ghost use Rattle.pid_script.specs.Steps.Saying.{
+  out,
+  Tells,
+  SaysText,
+  IsGiven,
+  IsNothing,
+  IsAnswer,
+  GoesOn,
+  refusal_in,
+  refusal_of_names,
+};
 ghost use Rattle.pid_script.specs.Replies.{name_line, answer_line, BAD_FLAGS};
 
 use crate::line_end::LineEnd;
@@ -24,7 +53,9 @@ fn is_stop(refusal: Refusal) -> bool
 
 /// Says that memory is short, which takes none.
 pub fn stop_for_memory<O: Output>(output: &mut O, held: &mut Vec<u8>) -> LineEnd
-    ensures told { (reply : List ℕ) → Tells (IsGiven (Some Refusal.Memory)) IsNothing (Err result) reply (out (O.taken output.old) held.old.items) (out (O.taken output.new) held.new.items) }
+    ensures told { (reply : List ℕ) → Tells (IsGiven (Some Refusal.Memory)) IsNothing
+        (Err result) reply (out (O.taken output.old) held.old.items)
+        (out (O.taken output.new) held.new.items) }
     ensures fault { result ≡ LineEnd.WriteFault → IsSome (O.write_fault output.new) }
     ensures fits { result ≡ LineEnd.TooLong → ⊥ }
 {
@@ -36,7 +67,9 @@ pub fn stop_for_memory<O: Output>(output: &mut O, held: &mut Vec<u8>) -> LineEnd
 
 /// Says that a line is too long.
 pub fn refuse_long<O: Output>(output: &mut O, held: &mut Vec<u8>) -> LineEnd
-    ensures told { (given : Option Refusal) → Tells (IsGiven given) IsNothing (Err result) (refused_line refusals.BadText) (out (O.taken output.old) held.old.items) (out (O.taken output.new) held.new.items) }
+    ensures told { (given : Option Refusal)
+        → Tells (IsGiven given) IsNothing (Err result) (refused_line refusals.BadText)
+        (out (O.taken output.old) held.old.items) (out (O.taken output.new) held.new.items) }
     ensures fault { result ≡ LineEnd.WriteFault → IsSome (O.write_fault output.new) }
     ensures goes { result ≡ LineEnd.Stopped → ⊥ }
 {
@@ -57,7 +90,8 @@ fn stops(answer: Result<Reply, Refusal>) -> bool
 }
 
 fn say_lf<O: Output>(output: &mut O, held: &mut Vec<u8>) -> Result<(), LineEnd>
-    ensures told { SaysText result (out (O.taken output.old) held.old.items) (out (O.taken output.new) held.new.items) (10 ∷ []) }
+    ensures told { SaysText result (out (O.taken output.old) held.old.items)
+        (out (O.taken output.new) held.new.items) (10 ∷ []) }
     ensures end { IfErr result (λ e. e ≡ LineEnd.WriteFault) }
     ensures fault { result ≡ Err LineEnd.WriteFault → IsSome (O.write_fault output.new) }
 {
@@ -66,7 +100,8 @@ fn say_lf<O: Output>(output: &mut O, held: &mut Vec<u8>) -> Result<(), LineEnd>
 
 // Says a text and an LF.
 fn say_ended<O: Output>(output: &mut O, held: &mut Vec<u8>, text: &[u8]) -> Result<(), LineEnd>
-    ensures told { SaysText result (out (O.taken output.old) held.old.items) (out (O.taken output.new) held.new.items) (text.now ++ 10 ∷ []) }
+    ensures told { SaysText result (out (O.taken output.old) held.old.items)
+        (out (O.taken output.new) held.new.items) (text.now ++ 10 ∷ []) }
     ensures end { IfErr result (λ e. e ≡ LineEnd.WriteFault) }
     ensures fault { result ≡ Err LineEnd.WriteFault → IsSome (O.write_fault output.new) }
 {
@@ -83,7 +118,9 @@ fn say_line<O: Output>(
     word: &[u8],
     text: &[u8],
 ) -> Result<(), LineEnd>
-    ensures tells { (given : Option Refusal) → Tells (IsGiven given) IsNothing result (word.now ++ text.now ++ 10 ∷ []) (out (O.taken output.old) held.old.items) (out (O.taken output.new) held.new.items) }
+    ensures tells { (given : Option Refusal)
+        → Tells (IsGiven given) IsNothing result (word.now ++ text.now ++ 10 ∷ [])
+        (out (O.taken output.old) held.old.items) (out (O.taken output.new) held.new.items) }
     ensures end { IfErr result (λ e. e ≡ LineEnd.WriteFault) }
     ensures fault { result ≡ Err LineEnd.WriteFault → IsSome (O.write_fault output.new) }
 {
@@ -101,7 +138,9 @@ fn say_counts<O: Output>(
     renamed: u32,
     same: u32,
 ) -> Result<(), LineEnd>
-    ensures told { SaysText result (out (O.taken output.old) held.old.items) (out (O.taken output.new) held.new.items) (accepted_line (Reply.Counts added renamed same)) }
+    ensures told { SaysText result (out (O.taken output.old) held.old.items)
+        (out (O.taken output.new) held.new.items)
+        (accepted_line (Reply.Counts added renamed same)) }
     ensures end { IfErr result (λ e. e ≡ LineEnd.WriteFault) }
     ensures fault { result ≡ Err LineEnd.WriteFault → IsSome (O.write_fault output.new) }
 {
@@ -128,7 +167,8 @@ fn say_counts<O: Output>(
 
 // Says the line of a command that was done.
 fn say_accepted<O: Output>(output: &mut O, held: &mut Vec<u8>, reply: Reply) -> Result<(), LineEnd>
-    ensures told { SaysText result (out (O.taken output.old) held.old.items) (out (O.taken output.new) held.new.items) (accepted_line reply) }
+    ensures told { SaysText result (out (O.taken output.old) held.old.items)
+        (out (O.taken output.new) held.new.items) (accepted_line reply) }
     ensures end { IfErr result (λ e. e ≡ LineEnd.WriteFault) }
     ensures fault { result ≡ Err LineEnd.WriteFault → IsSome (O.write_fault output.new) }
 {
@@ -153,7 +193,8 @@ fn say_details<O: Output>(
     held: &mut Vec<u8>,
     refusal: Refusal,
 ) -> Result<(), LineEnd>
-    ensures told { SaysText result (out (O.taken output.old) held.old.items) (out (O.taken output.new) held.new.items) (details refusal ++ 10 ∷ []) }
+    ensures told { SaysText result (out (O.taken output.old) held.old.items)
+        (out (O.taken output.new) held.new.items) (details refusal ++ 10 ∷ []) }
     ensures end { IfErr result (λ e. e ≡ LineEnd.WriteFault) }
     ensures fault { result ≡ Err LineEnd.WriteFault → IsSome (O.write_fault output.new) }
 {
@@ -181,7 +222,8 @@ fn say_refused<O: Output>(
     held: &mut Vec<u8>,
     refusal: Refusal,
 ) -> Result<(), LineEnd>
-    ensures told { SaysText result (out (O.taken output.old) held.old.items) (out (O.taken output.new) held.new.items) (refused_line refusal) }
+    ensures told { SaysText result (out (O.taken output.old) held.old.items)
+        (out (O.taken output.new) held.new.items) (refused_line refusal) }
     ensures end { IfErr result (λ e. e ≡ LineEnd.WriteFault) }
     ensures fault { result ≡ Err LineEnd.WriteFault → IsSome (O.write_fault output.new) }
 {
@@ -200,7 +242,8 @@ fn say_answer<O: Output>(
     held: &mut Vec<u8>,
     answer: Result<Reply, Refusal>,
 ) -> Result<(), LineEnd>
-    ensures told { SaysText result (out (O.taken output.old) held.old.items) (out (O.taken output.new) held.new.items) (reply_text answer) }
+    ensures told { SaysText result (out (O.taken output.old) held.old.items)
+        (out (O.taken output.new) held.new.items) (reply_text answer) }
     ensures end { IfErr result (λ e. e ≡ LineEnd.WriteFault) }
     ensures fault { result ≡ Err LineEnd.WriteFault → IsSome (O.write_fault output.new) }
 {
@@ -210,13 +253,16 @@ fn say_answer<O: Output>(
     }
 }
 
-/// Says the line of an answer, with all that is held. What was answered is told, however short memory is.
+/// Says the line of an answer, with all that is held. What was answered is told, however short
+/// memory is.
 pub fn send_answer<O: Output>(
     output: &mut O,
     held: &mut Vec<u8>,
     answer: Result<Reply, Refusal>,
 ) -> Result<(), LineEnd>
-    ensures told { (reply : List ℕ) → IsAnswer reply answer → Tells (IsGiven (refusal_in answer)) IsNothing result reply (out (O.taken output.old) held.old.items) (out (O.taken output.new) held.new.items) }
+    ensures told { (reply : List ℕ) → IsAnswer reply answer
+        → Tells (IsGiven (refusal_in answer)) IsNothing result reply
+        (out (O.taken output.old) held.old.items) (out (O.taken output.new) held.new.items) }
     ensures goes_on { GoesOn result (refusal_in answer) }
     ensures empty { OnOk result (held.new.items ≡ []) }
     ensures fault { result ≡ Err LineEnd.WriteFault → IsSome (O.write_fault output.new) }
@@ -236,7 +282,9 @@ pub fn send_answer<O: Output>(
 
 /// Says that a line is not understood.
 pub fn send_bad_text<O: Output>(output: &mut O, held: &mut Vec<u8>) -> Result<(), LineEnd>
-    ensures told { (given : Option Refusal) → Tells (IsGiven given) IsNothing result (refused_line refusals.BadText) (out (O.taken output.old) held.old.items) (out (O.taken output.new) held.new.items) }
+    ensures told { (given : Option Refusal)
+        → Tells (IsGiven given) IsNothing result (refused_line refusals.BadText)
+        (out (O.taken output.old) held.old.items) (out (O.taken output.new) held.new.items) }
     ensures end { IfErr result (λ e. e ≡ LineEnd.WriteFault) }
     ensures fault { result ≡ Err LineEnd.WriteFault → IsSome (O.write_fault output.new) }
 {
@@ -249,8 +297,10 @@ pub fn send_name<O: Output>(
     held: &mut Vec<u8>,
     name: Result<Option<Name>, Refusal>,
 ) -> Result<(), LineEnd>
-    ensures told { (good : Option (List ℕ)) → IfOk name (λ name. name ≡ good) → IfErr name (λ e. is_stopping e ≡ true) →
-        Tells (IsGiven (refusal_in name)) IsNothing result (name_line good) (out (O.taken output.old) held.old.items) (out (O.taken output.new) held.new.items) }
+    ensures told { (good : Option (List ℕ)) → IfOk name (λ name. name ≡ good)
+        → IfErr name (λ e. is_stopping e ≡ true) →
+        Tells (IsGiven (refusal_in name)) IsNothing result (name_line good)
+        (out (O.taken output.old) held.old.items) (out (O.taken output.new) held.new.items) }
     ensures goes_on { GoesOn result (refusal_in name) }
     ensures fault { result ≡ Err LineEnd.WriteFault → IsSome (O.write_fault output.new) }
     ensures fits { result ≡ Err LineEnd.TooLong → ⊥ }
@@ -268,9 +318,13 @@ pub fn send_found<O: Output>(
     held: &mut Vec<u8>,
     found: Result<Answer, LookupRefusal<Refusal>>,
 ) -> Result<(), LineEnd>
-    ensures told { (flags : ℕ) (good : _) → IfOk found (λ answer. (is_bad flags ≡ false) × (answer ≡ good)) → (IsErrOf found look_ups.BadFlags → is_bad flags ≡ true) →
+    ensures told { (flags : ℕ) (good : _)
+        → IfOk found (λ answer. (is_bad flags ≡ false) × (answer ≡ good))
+        → (IsErrOf found look_ups.BadFlags → is_bad flags ≡ true) →
         ((e : _) → IsErrOf found (look_ups.Names e) → is_stopping e ≡ true) →
-        Tells (IsGiven (refusal_of_names found)) IsNothing result (if is_bad flags then BAD_FLAGS else answer_line good) (out (O.taken output.old) held.old.items) (out (O.taken output.new) held.new.items) }
+        Tells (IsGiven (refusal_of_names found)) IsNothing result
+        (if is_bad flags then BAD_FLAGS else answer_line good)
+        (out (O.taken output.old) held.old.items) (out (O.taken output.new) held.new.items) }
     ensures goes_on { GoesOn result (refusal_of_names found) }
     ensures fault { result ≡ Err LineEnd.WriteFault → IsSome (O.write_fault output.new) }
     ensures fits { result ≡ Err LineEnd.TooLong → ⊥ }

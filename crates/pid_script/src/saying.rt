@@ -1,13 +1,27 @@
 //! The text that is held for a writer.
 //!
-//! Replies are held until a command was answered, a read ends or there is no more room, so that many go out by one write.
-//! Where there is no memory to hold them they go out at once.
-ghost use Rattle.std.specs.Prelude.{◌≡◌, ◌≤◌, ◌++◌, length, true, false, [], Option, Err, IfErr, IsSome, OnOk, OnErr};
+//! Replies are held until a command was answered, a read ends or there is no more room, so that
+//! many go out by one write. Where there is no memory to hold them they go out at once.
+ghost use Rattle.std.specs.Prelude.{
+  ◌≡◌,
+  ◌≤◌,
+  ◌++◌,
+  length,
+  true,
+  false,
+  [],
+  Option,
+  Err,
+  IfErr,
+  IsSome,
+  OnOk,
+  OnErr,
+};
 ghost use Rattle.std.specs.Io.KnownBytes.{Appends};
 ghost use Rattle.std.specs.List.{flat_map};
 ghost use Rattle.pid_ident.specs.Sending.{SendsFront};
 ghost use Rattle.pid_moderation.specs.declared.refusal.Refusal.{Refusal};
-ghost use Rattle.pid_script.specs.Saying.{out, SaysText, Tells, IsGiven, IsNothing};
+ghost use Rattle.pid_script.specs.Steps.Saying.{out, SaysText, Tells, IsGiven, IsNothing};
 
 use crate::line_end::LineEnd;
 use pid_ident::{Output, write_all};
@@ -46,7 +60,8 @@ fn send<O: Output>(output: &mut O, text: &[u8]) -> Result<(), LineEnd>
 pub fn flush<O: Output>(output: &mut O, held: &mut Vec<u8>) -> Result<(), LineEnd>
     ensures sent { OnOk result (Appends (O.taken output.old) (O.taken output.new) held.old.items) }
     ensures empty { OnOk result (held.new.items ≡ []) }
-    ensures front { OnErr result (SendsFront (O.taken output.old) (O.taken output.new) held.old.items) }
+    ensures front { OnErr result (SendsFront (O.taken output.old)
+        (O.taken output.new) held.old.items) }
     ensures end { IfErr result (λ e. e ≡ LineEnd.WriteFault) }
     ensures fault { result ≡ Err LineEnd.WriteFault → IsSome (O.write_fault output.new) }
 {
@@ -59,8 +74,11 @@ pub fn flush<O: Output>(output: &mut O, held: &mut Vec<u8>) -> Result<(), LineEn
 
 /// Says a text: it is held behind what is held already, or goes out behind that.
 pub fn say<O: Output>(output: &mut O, held: &mut Vec<u8>, text: &[u8]) -> Result<(), LineEnd>
-    ensures told { SaysText result (out (O.taken output.old) held.old.items) (out (O.taken output.new) held.new.items) text.now }
-    ensures tells { (given : Option Refusal) → Tells (IsGiven given) IsNothing result text.now (out (O.taken output.old) held.old.items) (out (O.taken output.new) held.new.items) }
+    ensures told { SaysText result (out (O.taken output.old) held.old.items)
+        (out (O.taken output.new) held.new.items) text.now }
+    ensures tells { (given : Option Refusal)
+        → Tells (IsGiven given) IsNothing result text.now
+        (out (O.taken output.old) held.old.items) (out (O.taken output.new) held.new.items) }
     ensures end { IfErr result (λ e. e ≡ LineEnd.WriteFault) }
     ensures fault { result ≡ Err LineEnd.WriteFault → IsSome (O.write_fault output.new) }
 {
@@ -75,9 +93,11 @@ pub fn say<O: Output>(output: &mut O, held: &mut Vec<u8>, text: &[u8]) -> Result
 
 /// Says a text, and writes all that is held.
 pub fn say_all<O: Output>(output: &mut O, held: &mut Vec<u8>, text: &[u8]) -> Result<(), LineEnd>
-    ensures sent { OnOk result (Appends (O.taken output.old) (O.taken output.new) (held.old.items ++ text.now)) }
+    ensures sent { OnOk result (Appends (O.taken output.old) (O.taken output.new)
+        (held.old.items ++ text.now)) }
     ensures empty { OnOk result (held.new.items ≡ []) }
-    ensures front { OnErr result (SendsFront (O.taken output.old) (O.taken output.new) (held.old.items ++ text.now)) }
+    ensures front { OnErr result (SendsFront (O.taken output.old) (O.taken output.new)
+        (held.old.items ++ text.now)) }
     ensures end { IfErr result (λ e. e ≡ LineEnd.WriteFault) }
     ensures fault { result ≡ Err LineEnd.WriteFault → IsSome (O.write_fault output.new) }
 {
@@ -93,7 +113,8 @@ pub fn say_parts<O: Output>(
     held: &mut Vec<u8>,
     parts: &[&[u8]],
 ) -> Result<(), LineEnd>
-    ensures told { SaysText result (out (O.taken output.old) held.old.items) (out (O.taken output.new) held.new.items) (flat_map (λ part. part.now) parts.now) }
+    ensures told { SaysText result (out (O.taken output.old) held.old.items)
+        (out (O.taken output.new) held.new.items) (flat_map (λ part. part.now) parts.now) }
     ensures end { IfErr result (λ e. e ≡ LineEnd.WriteFault) }
     ensures fault { result ≡ Err LineEnd.WriteFault → IsSome (O.write_fault output.new) }
 {

@@ -1,13 +1,34 @@
 //! Scripts: lines of commands and questions, each with its reply.
-ghost use Rattle.std.specs.Prelude.{◌≡◌, ◌+◌, ◌*◌, ◌^◌, ◌-◌, ◌<◌, ◌≤◌, min, vec_capacity, ◌++◌, ℕ, List, [], Option, length, IsSome, IfSome, IfErr, OnOk, Err};
+ghost use Rattle.std.specs.Prelude.{
+  ◌≡◌,
+  ◌+◌,
+  ◌*◌,
+  ◌^◌,
+  ◌-◌,
+  ◌<◌,
+  ◌≤◌,
+  min,
+  vec_capacity,
+  ◌++◌,
+  ℕ,
+  List,
+  [],
+  Option,
+  length,
+  IsSome,
+  IfSome,
+  IfErr,
+  OnOk,
+  Err,
+};
 ghost use Rattle.pid_reader.specs.Lines.{drop_cr, lines_of};
 ghost use Rattle.pid_moderation.specs.History.{History};
 ghost use Rattle.pid_script.specs.ScriptLines.{ask_of};
-ghost use Rattle.pid_script.specs.Progress.{Answered, HasAnswered, Ended, Ends, script_end};
+ghost use Rattle.pid_script.specs.Steps.Progress.{Answered, HasAnswered, Ended, Ends, script_end};
 ghost use Rattle.pid_script.specs.Calling.{CallsGo};
-ghost use Rattle.pid_script.specs.Saying.{out, LineEnds, Unfit};
-ghost use Rattle.pid_script.specs.Scripts.{passage, IsScript, BUFFER_ROOM, TakesAtMost};
-ghost use Rattle.pid_script.specs.Standing.{Stands};
+ghost use Rattle.pid_script.specs.Steps.Saying.{out, LineEnds, Unfit};
+ghost use Rattle.pid_script.specs.Scripts.{passage, IsScript, KeepsFaults, MakesReads};
+ghost use Rattle.pid_script.specs.Standing.{OverStanding, StaysClean, Stands};
 
 use crate::answering::answer_line;
 use crate::line::LONGEST_LINE;
@@ -32,10 +53,12 @@ fn keep<O: Output>(
 ) -> Result<(), LineEnd>
     ensures kept { OnOk result (kept.new.items ≡ kept.old.items ++ piece.now) }
     // No more of a line is kept than the longest and its CR, however long it goes on.
-    ensures short { length kept.old.items ≤ LONGEST_LINE + 1 → OnOk result (length kept.new.items ≤ LONGEST_LINE + 1) }
+    ensures short { length kept.old.items ≤ LONGEST_LINE + 1
+        → OnOk result (length kept.new.items ≤ LONGEST_LINE + 1) }
     ensures silent { OnOk result (output.new ≡ output.old) }
     ensures still { OnOk result (held.new.items ≡ held.old.items) }
-    ensures unfit { IfErr result (λ e. Unfit e (kept.old.items ++ piece.now) (out (O.taken output.old) held.old.items) (out (O.taken output.new) held.new.items)) }
+    ensures unfit { IfErr result (λ e. Unfit e (kept.old.items ++ piece.now)
+        (out (O.taken output.old) held.old.items) (out (O.taken output.new) held.new.items)) }
     ensures fault { result ≡ Err LineEnd.WriteFault → IsSome (O.write_fault output.new) }
 {
     if (LONGEST_LINE + 1).saturating_sub(kept.len()) < piece.len() {
@@ -67,10 +90,13 @@ fn end_line<R: Moderated, O: Output>(
     ensures empty { OnOk result (kept.new.items ≡ []) }
     // The memory of a line that was kept is let go before the next one.
     ensures let_go { OnOk result (0 < length kept.old.items → vec_capacity kept.new ≡ 0) }
-    ensures honest { R.showing.is_clean registry.new → R.showing.is_clean registry.old }
+    ensures honest { StaysClean R.Moderated registry.old registry.new }
     ensures calls { CallsGo R.showing registry.old registry.new }
-    ensures ends { R.showing.is_clean registry.new → (h : History) → Stands R.Moderated registry.old h
-        → LineEnds R.Moderated result (ask_of (drop_cr (kept.old.items ++ front.now))) h registry.old (out (O.taken output.old) held.old.items) registry.new (out (O.taken output.new) held.new.items) }
+    ensures ends { OverStanding R.Moderated registry.old registry.new (λ h.
+        LineEnds R.Moderated result (ask_of
+        (drop_cr (kept.old.items ++ front.now))) h registry.old
+        (out (O.taken output.old) held.old.items) registry.new
+        (out (O.taken output.new) held.new.items)) }
     ensures fault { result ≡ Err LineEnd.WriteFault → IsSome (O.write_fault output.new) }
 {
     if kept.is_empty() {
@@ -93,14 +119,22 @@ fn take_lines<R: Moderated, O: Output>(
     kept: &mut Vec<u8>,
     piece: &[u8],
 ) -> Result<(), LineEnd>
-    ensures honest { R.showing.is_clean registry.new → R.showing.is_clean registry.old }
+    ensures honest { StaysClean R.Moderated registry.old registry.new }
     ensures calls { CallsGo R.showing registry.old registry.new }
-    ensures answered { R.showing.is_clean registry.new → (h : History) (start : Option (List ℕ)) (first : _) (text : List ℕ) → Stands R.Moderated first h
-        → HasAnswered R.Moderated h start first registry.old (out (O.taken output.old) held.old.items) kept.old.items text
-        → OnOk result (HasAnswered R.Moderated h start first registry.new (out (O.taken output.new) held.new.items) kept.new.items (text ++ piece.now)) }
-    ensures ended { R.showing.is_clean registry.new → (h : History) (start : Option (List ℕ)) (first : _) (text more : List ℕ) → Stands R.Moderated first h
-        → HasAnswered R.Moderated h start first registry.old (out (O.taken output.old) held.old.items) kept.old.items text
-        → IfErr result (λ e. Ended R.Moderated e h start first registry.new (out (O.taken output.new) held.new.items) (lines_of ((text ++ piece.now) ++ more))) }
+    ensures answered { R.showing.is_clean registry.new
+        → (h : History) (start : Option (List ℕ)) (first : _) (text : List ℕ)
+        → Stands R.Moderated first h
+        → HasAnswered R.Moderated h start first registry.old
+        (out (O.taken output.old) held.old.items) kept.old.items text
+        → OnOk result (HasAnswered R.Moderated h start first registry.new
+        (out (O.taken output.new) held.new.items) kept.new.items (text ++ piece.now)) }
+    ensures ended { R.showing.is_clean registry.new
+        → (h : History) (start : Option (List ℕ)) (first : _) (text more : List ℕ)
+        → Stands R.Moderated first h
+        → HasAnswered R.Moderated h start first registry.old
+        (out (O.taken output.old) held.old.items) kept.old.items text
+        → IfErr result (λ e. Ended R.Moderated e h start first registry.new
+        (out (O.taken output.new) held.new.items) (lines_of ((text ++ piece.now) ++ more))) }
     ensures fault { result ≡ Err LineEnd.WriteFault → IsSome (O.write_fault output.new) }
 {
     let mut rest = piece;
@@ -125,15 +159,23 @@ fn take_piece<R: Moderated, O: Output>(
     kept: &mut Vec<u8>,
     piece: &[u8],
 ) -> Result<(), LineEnd>
-    ensures honest { R.showing.is_clean registry.new → R.showing.is_clean registry.old }
+    ensures honest { StaysClean R.Moderated registry.old registry.new }
     ensures calls { CallsGo R.showing registry.old registry.new }
     ensures empty { OnOk result (held.new.items ≡ []) }
-    ensures answered { R.showing.is_clean registry.new → (h : History) (start : Option (List ℕ)) (first : _) (text : List ℕ) → Stands R.Moderated first h
-        → HasAnswered R.Moderated h start first registry.old (out (O.taken output.old) held.old.items) kept.old.items text
-        → OnOk result (HasAnswered R.Moderated h start first registry.new (out (O.taken output.new) held.new.items) kept.new.items (text ++ piece.now)) }
-    ensures ended { R.showing.is_clean registry.new → (h : History) (start : Option (List ℕ)) (first : _) (text more : List ℕ) → Stands R.Moderated first h
-        → HasAnswered R.Moderated h start first registry.old (out (O.taken output.old) held.old.items) kept.old.items text
-        → IfErr result (λ e. Ended R.Moderated e h start first registry.new (out (O.taken output.new) held.new.items) (lines_of ((text ++ piece.now) ++ more))) }
+    ensures answered { R.showing.is_clean registry.new
+        → (h : History) (start : Option (List ℕ)) (first : _) (text : List ℕ)
+        → Stands R.Moderated first h
+        → HasAnswered R.Moderated h start first registry.old
+        (out (O.taken output.old) held.old.items) kept.old.items text
+        → OnOk result (HasAnswered R.Moderated h start first registry.new
+        (out (O.taken output.new) held.new.items) kept.new.items (text ++ piece.now)) }
+    ensures ended { R.showing.is_clean registry.new
+        → (h : History) (start : Option (List ℕ)) (first : _) (text more : List ℕ)
+        → Stands R.Moderated first h
+        → HasAnswered R.Moderated h start first registry.old
+        (out (O.taken output.old) held.old.items) kept.old.items text
+        → IfErr result (λ e. Ended R.Moderated e h start first registry.new
+        (out (O.taken output.new) held.new.items) (lines_of ((text ++ piece.now) ++ more))) }
     ensures fault { result ≡ Err LineEnd.WriteFault → IsSome (O.write_fault output.new) }
 {
     if let Err(end) = take_lines(alloc, registry, output, held, kept, piece) {
@@ -150,14 +192,22 @@ fn answer_last<R: Moderated, O: Output>(
     held: &mut Vec<u8>,
     kept: &[u8],
 ) -> Result<(), LineEnd>
-    ensures honest { R.showing.is_clean registry.new → R.showing.is_clean registry.old }
+    ensures honest { StaysClean R.Moderated registry.old registry.new }
     ensures calls { CallsGo R.showing registry.old registry.new }
-    ensures answered { R.showing.is_clean registry.new → (h : History) (start : Option (List ℕ)) (first : _) (text : List ℕ) → Stands R.Moderated first h
-        → HasAnswered R.Moderated h start first registry.old (out (O.taken output.old) held.old.items) kept.now text
-        → OnOk result (Answered R.Moderated h start first registry.new (out (O.taken output.new) held.new.items) (lines_of text)) }
-    ensures ended { R.showing.is_clean registry.new → (h : History) (start : Option (List ℕ)) (first : _) (text : List ℕ) → Stands R.Moderated first h
-        → HasAnswered R.Moderated h start first registry.old (out (O.taken output.old) held.old.items) kept.now text
-        → IfErr result (λ e. Ended R.Moderated e h start first registry.new (out (O.taken output.new) held.new.items) (lines_of text)) }
+    ensures answered { R.showing.is_clean registry.new
+        → (h : History) (start : Option (List ℕ)) (first : _) (text : List ℕ)
+        → Stands R.Moderated first h
+        → HasAnswered R.Moderated h start first registry.old
+        (out (O.taken output.old) held.old.items) kept.now text
+        → OnOk result (Answered R.Moderated h start first registry.new
+        (out (O.taken output.new) held.new.items) (lines_of text)) }
+    ensures ended { R.showing.is_clean registry.new
+        → (h : History) (start : Option (List ℕ)) (first : _) (text : List ℕ)
+        → Stands R.Moderated first h
+        → HasAnswered R.Moderated h start first registry.old
+        (out (O.taken output.old) held.old.items) kept.now text
+        → IfErr result (λ e. Ended R.Moderated e h start first registry.new
+        (out (O.taken output.new) held.new.items) (lines_of text)) }
     ensures fault { result ≡ Err LineEnd.WriteFault → IsSome (O.write_fault output.new) }
 {
     if kept.is_empty() {
@@ -174,11 +224,15 @@ fn end_text<R: Moderated, O: Output>(
     held: &mut Vec<u8>,
     kept: &[u8],
 ) -> Result<(), LineEnd>
-    ensures honest { R.showing.is_clean registry.new → R.showing.is_clean registry.old }
+    ensures honest { StaysClean R.Moderated registry.old registry.new }
     ensures calls { CallsGo R.showing registry.old registry.new }
-    ensures ends { R.showing.is_clean registry.new → (h : History) (start : Option (List ℕ)) (first : _) (text : List ℕ) → Stands R.Moderated first h
-        → HasAnswered R.Moderated h start first registry.old (out (O.taken output.old) held.old.items) kept.now text
-        → Ends R.Moderated result h start first registry.new (out (O.taken output.new) held.new.items) text }
+    ensures ends { R.showing.is_clean registry.new
+        → (h : History) (start : Option (List ℕ)) (first : _) (text : List ℕ)
+        → Stands R.Moderated first h
+        → HasAnswered R.Moderated h start first registry.old
+        (out (O.taken output.old) held.old.items) kept.now text
+        → Ends R.Moderated result h start first registry.new
+        (out (O.taken output.new) held.new.items) text }
     ensures fault { result ≡ Err LineEnd.WriteFault → IsSome (O.write_fault output.new) }
 {
     if let Err(end) = answer_last(alloc, registry, output, held, kept) {
@@ -200,19 +254,23 @@ fn end_of(answered: Result<(), LineEnd>) -> ScriptEnd
 
 /// Answers the lines of a script, one after the other.
 ///
-/// A line ends with an LF, before which one CR is dropped; a last line without LF counts. It is a command
-/// (`VERB ACCOUNT FIELDS`), `export`, `read FIELDS` or `lookup FIELDS`; an empty line and a comment (`#`) get no reply, and
-/// any other line is refused as 3. After a refusal as 16, 17 or 18 nothing more is answered, nor after a line of more than
-/// 16,777,216 bytes. Want of memory for the script itself is refused as 16, which takes none.
+/// A line ends with an LF, before which one CR is dropped; a last line without LF counts. It is a
+/// command (`VERB ACCOUNT FIELDS`), `export`, `read FIELDS` or `lookup FIELDS`; an empty line and a
+/// comment (`#`) get no reply, and any other line is refused as 3. After a refusal as 16, 17 or 18
+/// nothing more is answered, nor after a line of more than 16,777,216 bytes. Want of memory for the
+/// script itself is refused as 16, which takes none.
 ///
-/// At most so many reads are made, each of at most 65,536 bytes. Replies are written at the latest when a command was
-/// answered and when a read is answered whole. A line costs memory only while it is open.
+/// At most so many reads are made, each of at most 65,536 bytes. Replies are written at the latest
+/// when a command was answered and when a read is answered whole. A line costs memory only while it
+/// is open.
 ///
-/// Over a `Registry` of `pid_service` the clauses read so, while the disk returns what was written. Let it show a history as
-/// the script begins. At `Done` it shows the history with the commands of all lines. At every other end it shows the history
-/// with those of the lines that were answered, or with that of the next line too, whose reply did not go out; or it has failed,
-/// and a crash leaves the one or the other. So a later opening finds each command whose reply went out whole. A registry that
-/// has failed before refuses the first line that asks something of it as 18, or as 16 where memory is short for the line, and stays as it is. The reply to a command takes no memory.
+/// Over a `Registry` of `pid_service` the clauses read so, while the disk returns what was written.
+/// Let it show a history as the script begins. At `Done` it shows the history with the commands of
+/// all lines. At every other end it shows the history with those of the lines that were answered,
+/// or with that of the next line too, whose reply did not go out; or it has failed, and a crash
+/// leaves the one or the other. So a later opening finds each command whose reply went out whole. A
+/// registry that has failed before refuses the first line that asks something of it as 18, or as 16
+/// where memory is short for the line, and stays as it is. The reply to a command takes no memory.
 pub fn run_script<R: Moderated, I: Input, O: Output>(
     alloc: Global,
     registry: &mut R,
@@ -220,17 +278,19 @@ pub fn run_script<R: Moderated, I: Input, O: Output>(
     output: &mut O,
     turns: u64,
 ) -> ScriptEnd
-    ensures honest { R.showing.is_clean registry.new → R.showing.is_clean registry.old }
-    // Whatever was read and written, calls lead from the one registry to the other, so that the script is part of a life.
+    ensures honest { StaysClean R.Moderated registry.old registry.new }
+    // Whatever was read and written, calls lead from the one registry to the other, so that the
+    // script is part of a life.
     ensures calls { CallsGo R.showing registry.old registry.new }
-    // The replies are those of the lines of the text, and the registry shows the history behind them.
-    ensures script { R.showing.is_clean registry.new → (h : History) → Stands R.Moderated registry.old h → IfSome (I.to_come input.old) (λ text.
-        IsScript R.Moderated result h (passage registry.old registry.new (O.taken output.old) (O.taken output.new)) text (I.to_come input.new)) }
-    ensures read_fault { result ≡ ScriptEnd.ReadFault → IsSome (I.read_fault input.new) }
-    ensures write_fault { result ≡ ScriptEnd.WriteFault → IsSome (O.write_fault output.new) }
-    ensures turns { I.reads input.old < 2 ^ 64 → (made : ℕ) × (made ≤ turns) × (I.reads input.new ≡ min (I.reads input.old + made) (2 ^ 64 - 1)) × (result ≡ ScriptEnd.TurnsSpent → made ≡ turns) }
-    // So many reads take at most 65,536 bytes each.
-    ensures room { (made : ℕ) × (made ≤ turns) × (I.reads input.old < 2 ^ 64 → I.reads input.new ≡ min (I.reads input.old + made) (2 ^ 64 - 1)) × TakesAtMost (I.to_come input.old) (I.to_come input.new) (made * BUFFER_ROOM) }
+    // The replies are those of the lines of the text, and the registry shows the history behind
+    // them.
+    ensures script { OverStanding R.Moderated registry.old registry.new (λ h.
+        IfSome (I.to_come input.old) (λ text.
+        IsScript R.Moderated result h (passage registry.old registry.new (O.taken output.old)
+        (O.taken output.new)) text (I.to_come input.new))) }
+    ensures faults { KeepsFaults result (I.read_fault input.new) (O.write_fault output.new) }
+    ensures reads { MakesReads result turns (I.reads input.old) (I.reads input.new)
+        (I.to_come input.old) (I.to_come input.new) }
     ensures goes { I.goes input.old input.new }
 {
     let mut buffer = [0u8; BUFFER];

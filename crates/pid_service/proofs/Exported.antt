@@ -3,10 +3,10 @@ use Rattle.std.proofs.Common.{◌≡◌, ℕ, List, Option, Result, Ok, Err, ref
 use Rattle.std.specs.Io.KnownBytes.{Appends}
 use Rattle.pid_ident.specs.Sending.{SendsFront}
 use Rattle.pid_file.specs.declared.io.WriteFault.{WriteFault}
-use Rattle.pid_export.specs.declared.exporting.ExportEnd.{ExportEnd}
-use Rattle.pid_export.specs.declared.exporting.ExportEnd.TheVariants as ends
-use Rattle.pid_export.specs.Exports.{Exports}
-use Rattle.pid_export.specs.ItemTexts.{text_of_items}
+use Rattle.pid_service.specs.declared.item_text.ExportEnd.{ExportEnd}
+use Rattle.pid_service.specs.declared.item_text.ExportEnd.TheVariants as ends
+use Rattle.pid_service.specs.Steps.Exports.{Exports}
+use Rattle.pid_service.specs.ItemTexts.{text_of_items}
 use Rattle.pid_moderation.specs.History.{History}
 use Rattle.pid_moderation.specs.Views.{items_of}
 use Rattle.pid_moderation.specs.Writes.{tree_of}
@@ -15,12 +15,13 @@ use Rattle.pid_service.specs.declared.exporting.ExportFault.{ExportFault}
 use Rattle.pid_service.specs.declared.exporting.ExportFault.TheVariants.{Refused, Write}
 use Rattle.sqlite.specs.Held.{Held}
 use Rattle.sqlite_trees.specs.declared.store.Store.{Ghosts}
-use Rattle.pid_import.specs.Faults.{refusal_for}
+use Rattle.pid_tables.specs.Faults.{refusal_for}
 use Rattle.pid_moderation.specs.declared.refusal.Refusal.{Refusal}
-use Rattle.pid_rows.specs.Clauses as clauses
-use Rattle.pid_rows.specs.declared.fault.TableFault.{TableFault}
+use Rattle.pid_tables_rows.specs.Clauses as clauses
+use Rattle.pid_tables_rows.specs.declared.fault.TableFault.{TableFault}
 use Rattle.pid_service.specs.Asking.{IsCausedAs}
-use Rattle.pid_service.specs.Exporting.{ExportsTree, IsToldAs}
+use Rattle.pid_service.specs.Exporting.{ExportsTree}
+use Rattle.pid_service.specs.Steps.Exporting.{IsToldAs}
 use Rattle.pid_service.proofs.Causes.{caused_as}
 
 pub whole_tree : (old new : Option (List ℕ)) (h : History) → text_of_items (items_of h) ≡ print (tree_of h) → Exports {X = Unit {0}} (Ok tt) old new (items_of h) → ExportsTree {X = Unit {0}} (Ok tt) old new h

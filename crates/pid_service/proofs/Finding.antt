@@ -7,17 +7,17 @@ use Rattle.pid_moderation.specs.History.{History, new_history}
 use Rattle.pid_moderation.specs.Items.{name_at}
 use Rattle.pid_moderation.specs.Revisions.{taken_over}
 use Rattle.pid_moderation.specs.Views.{Views, revision_of, since_of, views_of, without_numbers}
-use Rattle.pid_lives.specs.Registries.{Finds}
-use Rattle.pid_rows.specs.declared.fault.TableFault.{TableFault}
-use Rattle.pid_rows.specs.Clauses as clauses
-use Rattle.pid_rows.specs.Clauses.{AtRest}
-use Rattle.pid_rows.specs.Faults.{IsUntold}
+use Rattle.pid_service_laws.specs.Registries.{Finds}
+use Rattle.pid_tables_rows.specs.declared.fault.TableFault.{TableFault}
+use Rattle.pid_tables_rows.specs.Clauses as clauses
+use Rattle.pid_tables_rows.specs.Clauses.{AtRest}
+use Rattle.pid_tables_rows.specs.Faults.{IsMemoryOrStore}
 use Rattle.pid_tables.specs.Clauses.{IsOpened}
-use Rattle.pid_rows.specs.declared.version.Version.{Version}
-use Rattle.pid_rows.specs.declared.version.Version.TheVariants.{One, Two}
-use Rattle.pid_rows.specs.Leaves.{IsShown, found_in}
-use Rattle.pid_rows.specs.Schema.{schema_of}
-use Rattle.pid_rows.specs.Shows.{ShowsIn}
+use Rattle.pid_tables_rows.specs.declared.version.Version.{Version}
+use Rattle.pid_tables_rows.specs.declared.version.Version.TheVariants.{One, Two}
+use Rattle.pid_tables_rows.specs.Leaves.{IsShown, found_in}
+use Rattle.pid_tables_rows.specs.Schema.{schema_of}
+use Rattle.pid_tables_rows.specs.Shows.{ShowsIn}
 use Rattle.pid_tables.specs.declared.migration.Step.{Step}
 use Rattle.pid_tables.specs.Clauses.{ShowsOrBlank}
 use Rattle.pid_tables.specs.Creation.{IsBare}
@@ -100,7 +100,7 @@ module _ {S : Type 0} (store : Ghosts S) where
   }
 
   pub failure_untold : (ended : Registry S store) (conn back : Held S) (fault : TableFault) (h : History) → LeavesTablesTo store ended conn → OpensTo store conn (Err (fault, back)) → clauses.HasCleanDisk store back
-      → Shows store ended h ⊎ ((next : History) × FailsBetween store ended h next) → IsUntold fault
+      → Shows store ended h ⊎ ((next : History) × FailsBetween store ended h next) → IsMemoryOrStore fault
   failure_untold ended conn back fault h finds opens clean (inl shows) = (opens.opened h shows.history (finds.shown h shows) clean).0
   failure_untold ended conn back fault h finds opens clean (inr b) = elim (finds.either h b.0 b.1) [
     | inl shows ↦ (opens.opened h b.1.before shows clean).0
@@ -150,12 +150,12 @@ module _ {S : Type 0} (store : Ghosts S) where
   move_shows conn moved step h reached (inr (inl older)) moves clean = (moves.moved h reached older clean).1
   move_shows conn moved step h reached (inr (inr bare)) moves clean = subst (λ (g : History). AtRest store moved (views_of g)) (sym bare.1) (moves.created bare.0 clean).1
 
-  move_leaves : (conn back : Held S) (fault : TableFault) (h : History) → IsReached h → ShowsOrBlank store conn h → MovesTo store conn (Err (fault, back)) → clauses.HasCleanDisk store back → IsUntold fault × ShowsOrBlank store back h
+  move_leaves : (conn back : Held S) (fault : TableFault) (h : History) → IsReached h → ShowsOrBlank store conn h → MovesTo store conn (Err (fault, back)) → clauses.HasCleanDisk store back → IsMemoryOrStore fault × ShowsOrBlank store back h
   move_leaves conn back fault h reached (inl rest) moves clean = moves.already h reached rest clean
   move_leaves conn back fault h reached (inr (inl older)) moves clean = moves.moved h reached older clean
-  move_leaves conn back fault h reached (inr (inr bare)) moves clean = subst (λ (g : History). IsUntold fault × ShowsOrBlank store back g) (sym bare.1) (moves.created bare.0 clean)
+  move_leaves conn back fault h reached (inr (inr bare)) moves clean = subst (λ (g : History). IsMemoryOrStore fault × ShowsOrBlank store back g) (sym bare.1) (moves.created bare.0 clean)
 
-  pub move_untold : (conn back : Held S) (fault : TableFault) (h : History) → IsReached h → ShowsOrBlank store conn h → MovesTo store conn (Err (fault, back)) → clauses.HasCleanDisk store back → IsUntold fault
+  pub move_untold : (conn back : Held S) (fault : TableFault) (h : History) → IsReached h → ShowsOrBlank store conn h → MovesTo store conn (Err (fault, back)) → clauses.HasCleanDisk store back → IsMemoryOrStore fault
   move_untold conn back fault h reached shows moves clean = (move_leaves conn back fault h reached shows moves clean).0
 
   pub move_again : (conn back : Held S) (fault : TableFault) (h : History) → IsReached h → ShowsOrBlank store conn h → MovesTo store conn (Err (fault, back)) → clauses.HasCleanDisk store back → ShowsOrBlank store back h

@@ -5,8 +5,8 @@ use Rattle.pid_moderation.specs.declared.command.Reply.{Reply}
 use Rattle.pid_moderation.specs.declared.refusal.Refusal.{Refusal}
 use Rattle.pid_moderation.specs.declared.refusal.Refusal.TheVariants.{Failed}
 use Rattle.pid_moderation.specs.History.{Asked, History}
-use Rattle.pid_lives.specs.Calls.{nothing_sent, obeyed}
-use Rattle.pid_lives.specs.Registries.{Does}
+use Rattle.pid_service_laws.specs.Calls.{nothing_sent, obeyed}
+use Rattle.pid_service_laws.specs.Registries.{Does}
 use Rattle.pid_service.specs.declared.importing.ImportEnd.{ImportEnd}
 use Rattle.pid_service.specs.declared.importing.ImportEnd.TheVariants.{Refused, Body}
 use Rattle.pid_service.specs.declared.registry.Registry.{Registry}

@@ -13,18 +13,19 @@ use Rattle.pid_moderation.specs.CheckTables.{is_broken, most_file_bytes}
 use Rattle.pid_moderation.specs.History.{Asked, Deed, History, Imports, Reading, TooLong, asked, deed_of, is_import}
 use Rattle.pid_moderation.specs.Judgement.{judge, answer, after}
 use Rattle.pid_moderation.specs.Views.{items_of, views_of}
-use Rattle.pid_rows.specs.Clauses.{AtRest}
-use Rattle.pid_import.specs.declared.put_file.Stop.{Stop}
-use Rattle.pid_import.specs.declared.put_file.Stop.TheVariants as stops
-use Rattle.pid_import.specs.Clauses.{EndsImport}
-use Rattle.pid_import.specs.Files.{asks, file_reading, reading_of}
-use Rattle.pid_import.specs.Importing.{ReadsFile, Refuses}
-use Rattle.pid_import.specs.Judging.{IsSettled}
+use Rattle.pid_tables_rows.specs.Clauses.{AtRest}
+use Rattle.pid_tables.specs.declared.put_file.Stop.{Stop}
+use Rattle.pid_tables.specs.declared.put_file.Stop.TheVariants as stops
+use Rattle.pid_tables.specs.ImportClauses.{EndsImport}
+use Rattle.pid_tables.specs.Files.{asks, file_reading, reading_of}
+use Rattle.pid_tables.specs.Importing.{ReadsFile, Refuses}
+use Rattle.pid_tables.specs.Judging.{IsSettled}
 use Rattle.pid_service.specs.declared.importing.ImportEnd.{ImportEnd}
 use Rattle.pid_service.specs.declared.importing.ImportEnd.TheVariants as imports
 use Rattle.pid_service.specs.declared.registry.Registry.{Registry}
 use Rattle.pid_service.specs.Histories.{IsFault, IsReached, Shows}
-use Rattle.pid_service.specs.Importing.{AnswersPast, EndSpares, IsPlain, ObeysImport, ReadsImport}
+use Rattle.pid_service.specs.Importing.{ObeysImport, ReadsImport}
+use Rattle.pid_service.specs.Steps.Importing.{AnswersPast, EndSpares, IsPlain}
 use Rattle.pid_service.specs.KeptNames.{KeepsNames}
 use Rattle.pid_service.specs.Obeying.{Obeys}
 use Rattle.pid_service.specs.Registries.{connection, is_live}
@@ -57,6 +58,16 @@ fits text law short long = let over : most_file_bytes < length text = (law text)
 -- how much was read where it was stopped
 pub failed_read : (stop : Stop) (refusal told : Refusal) (rest : Option (List ℕ)) (text : List ℕ) → stop ≡ stops.Failed refusal → ReadsFile (Err stop) rest text → ReadsImport (Err (imports.Refused told)) rest text
 failed_read stop refusal told rest text is read = let so : ReadsFile (Err (stops.Failed refusal)) rest text = subst (λ (s : Stop). ReadsFile (Err s) rest text) is read in inl so
+
+pub body_read : (stop : Stop) (rest : Option (List ℕ)) (text : List ℕ) → stop ≡ stops.Body → ReadsFile (Err stop) rest text → ReadsImport (Err imports.Body) rest text
+body_read stop rest text is read = subst (λ (s : Stop). ReadsFile (Err s) rest text) is read
+
+whole_or_bad : (e : Refusal) (rest : Option (List ℕ)) (text : List ℕ) → ReadsFile (Err (stops.Refused e)) rest text → ReadsImport (Err (imports.Refused e)) rest text
+whole_or_bad e rest text (inl whole) = inl whole
+whole_or_bad e rest text (inr (bad, long)) = inr (inl bad, long)
+
+pub refused_read : (stop : Stop) (e : Refusal) (rest : Option (List ℕ)) (text : List ℕ) → stop ≡ stops.Refused e → ReadsFile (Err stop) rest text → ReadsImport (Err (imports.Refused e)) rest text
+refused_read stop e rest text is read = whole_or_bad e rest text (subst (λ (s : Stop). ReadsFile (Err s) rest text) is read)
 
 module _ {S : Type 0} (store : Ghosts S) where
   told_so : (r : Registry S store) (h : History) (c : Asked) (result : Result Reply Refusal) → Shows store r h → answer (judge (views_of h) c) ≡ result → after h c ≡ h → Obeys store result r h c
@@ -105,6 +116,14 @@ module _ {S : Type 0} (store : Ghosts S) where
 
   pub failed_obeyed : (old new : Registry S store) (h : History) (c : Asked) (e : Refusal) → Shows store old h → is_live new ≡ false → IsReached (after h c) → EndsImport store (connection new) (Err (stops.Failed e)) h c → ObeysImport store (Err (imports.Refused e)) new h c
   failed_obeyed old new h c e shows off reached stops = inr (stops.1, inr (record { has_failed = off; before = shows.history; next = reached; leaves = stops.0 }))
+
+  pub body_carried : (old new : Registry S store) (h : History) (c : Asked) (stop : Stop) → stop ≡ stops.Body → Shows store old h → is_live new ≡ is_live old → KeepsNames store new h
+      → EndsImport store (connection new) (Err stop) h c → ObeysImport store (Err imports.Body) new h c
+  body_carried old new h c stop is shows same names ends = body_obeyed old new h c shows same names (subst (λ (s : Stop). EndsImport store (connection new) (Err s) h c) is ends)
+
+  pub refused_carried : (old new : Registry S store) (h : History) (c : Asked) (stop : Stop) (e : Refusal) → stop ≡ stops.Refused e → Shows store old h → is_live new ≡ is_live old → KeepsNames store new h
+      → EndsImport store (connection new) (Err stop) h c → ObeysImport store (Err (imports.Refused e)) new h c
+  refused_carried old new h c stop e is shows same names ends = refused_obeyed old new h c e shows same names (subst (λ (s : Stop). EndsImport store (connection new) (Err s) h c) is ends)
 
   -- what stops it, told as a fault
   pub failed_carried : (old new : Registry S store) (h : History) (c : Asked) (stop : Stop) (refusal told : Refusal) → stop ≡ stops.Failed refusal → (IsFault refusal → told ≡ refusal) → Shows store old h → is_live new ≡ false → IsReached (after h c)

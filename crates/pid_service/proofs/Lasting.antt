@@ -1,17 +1,23 @@
 -- Whether a registry is live behind a call, on any disk.
-use Rattle.std.proofs.Common.{◌≡◌, ◌⊎◌, inl, inr, Bool, true, false, List, [], ◌∷◌, ◌++◌, Option, Some, None, Result, Ok, Err, IsErrAnd, is_some, refl, sym, subst, ◌∙◌}
-use Rattle.std.specs.Prelude.{IfSome, IsSomeAnd}
+use Rattle.std.proofs.Common.{◌≡◌, ◌≢◌, ◌⊎◌, ◌<◌, ◌≤◌, ℕ, arith, inl, inr, Bool, true, false, List, [], ◌∷◌, ◌++◌, Option, Some, None, Result, Ok, Err, IsErrAnd, is_some, refl, sym, subst, ◌∙◌}
+use Rattle.std.specs.Prelude.{IfErr, IfSome, IsSome, IsSomeAnd, MatchResult}
 use Rattle.std.specs.List.{AllByRecursion}
-use Rattle.pid_lives.specs.Outcomes.{is_outcome}
+use Rattle.pid_service_laws.specs.Outcomes.{is_outcome}
 use Rattle.pid_moderation.specs.declared.command.Reply.{Reply}
 use Rattle.pid_moderation.specs.declared.refusal.Refusal.{Refusal}
-use Rattle.pid_moderation.specs.declared.refusal.Refusal.TheVariants.{Memory, Store}
+use Rattle.pid_moderation.specs.declared.refusal.Refusal.TheVariants.{BadText, Failed, Memory, Store}
 use Rattle.pid_service.specs.declared.importing.ImportEnd.{ImportEnd}
 use Rattle.pid_service.specs.declared.importing.ImportEnd.TheVariants.{Refused, Body}
+use Rattle.pid_service.specs.Asking.{MayGive}
 use Rattle.pid_service.specs.Histories.{IsFault}
-use Rattle.pid_service.specs.Importing.{EndStaysLive, IsEndFault, leaves_live}
-use Rattle.pid_service.specs.Obeying.{StaysLive}
-use Rattle.pid_service.specs.Running.{fault_in}
+use Rattle.sqlite_trees.specs.declared.store.Store.{Ghosts}
+use Rattle.pid_service.specs.declared.registry.Registry.{Registry}
+use Rattle.pid_service.specs.Importing.{DoesNotTellFailed, EndLasts, ForgetsAll, IsEndFault, leaves_live}
+use Rattle.pid_service.specs.Obeying.{Lasts}
+use Rattle.pid_service.specs.Registries.{is_live}
+use Rattle.pid_service.specs.Steps.Importing.{EndStaysLive}
+use Rattle.pid_service.specs.Steps.Obeying.{StaysLive}
+use Rattle.pid_service.specs.Steps.Running.{fault_in}
 use Rattle.pid_service.proofs.Runs.{no_fault}
 
 no_outcome : (e : Refusal) → IsFault e → is_outcome (Err e) ≡ true → ⊥
@@ -21,33 +27,71 @@ no_outcome e (inr is) told = let no : is_outcome (Err Store) ≡ true = subst (�
 both : {X : Type 0} (before after : Bool) → after ≡ before → before ≡ true → after ≡ false → X
 both before after same on off = absurd (let no : true ≡ false = sym on ∙ sym same ∙ off in let bad : ⊥ = cc in bad)
 
-pub stays_live : (r : Result Reply Refusal) (before after : Bool) → StaysLive r before after → before ≡ true → is_outcome r ≡ true → after ≡ true
+stays_live : (r : Result Reply Refusal) (before after : Bool) → StaysLive r before after → before ≡ true → is_outcome r ≡ true → after ≡ true
 stays_live (Ok reply) before after same on told = same ∙ on
-stays_live (Err e) before after (inl fault) on told = absurd (no_outcome e fault told)
-stays_live (Err e) before after (inr same) on told = same ∙ on
+stays_live (Err e) before after (alive, inl fault) on told = absurd (no_outcome e fault told)
+stays_live (Err e) before after (alive, inr same) on told = same ∙ on
 
-pub fails_so : (r : Result Reply Refusal) (before after : Bool) → StaysLive r before after → before ≡ true → after ≡ false → IsErrAnd r IsFault
+fails_so : (r : Result Reply Refusal) (before after : Bool) → StaysLive r before after → before ≡ true → after ≡ false → IsErrAnd r IsFault
 fails_so (Ok reply) before after same on off = both before after same on off
-fails_so (Err e) before after (inl fault) on off = fault
-fails_so (Err e) before after (inr same) on off = both before after same on off
+fails_so (Err e) before after (alive, inl fault) on off = fault
+fails_so (Err e) before after (alive, inr same) on off = both before after same on off
 
-pub end_stays : (r : Result Reply ImportEnd) (before after : Bool) → EndStaysLive r before after → before ≡ true → leaves_live r ≡ true → after ≡ true
+alive_so : (r : Result Reply Refusal) (before after : Bool) → StaysLive r before after → IfErr r (λ e. e ≢ Failed)
+alive_so (Ok reply) before after same = tt
+alive_so (Err e) before after held = held.0
+
+end_stays : (r : Result Reply ImportEnd) (before after : Bool) → EndStaysLive r before after → before ≡ true → leaves_live r ≡ true → after ≡ true
 end_stays (Ok reply) before after same on told = same ∙ on
-end_stays (Err (Refused e)) before after (inl fault) on told = absurd (no_outcome e fault told)
-end_stays (Err (Refused e)) before after (inr same) on told = same ∙ on
+end_stays (Err (Refused e)) before after (alive, inl fault) on told = absurd (no_outcome e fault told)
+end_stays (Err (Refused e)) before after (alive, inr same) on told = same ∙ on
 end_stays (Err Body) before after same on told = same ∙ on
 
-pub end_fails : (r : Result Reply ImportEnd) (before after : Bool) → EndStaysLive r before after → before ≡ true → after ≡ false → IsErrAnd r IsEndFault
+end_fails : (r : Result Reply ImportEnd) (before after : Bool) → EndStaysLive r before after → before ≡ true → after ≡ false → IsErrAnd r IsEndFault
 end_fails (Ok reply) before after same on off = both before after same on off
-end_fails (Err (Refused e)) before after (inl fault) on off = fault
-end_fails (Err (Refused e)) before after (inr same) on off = both before after same on off
+end_fails (Err (Refused e)) before after (alive, inl fault) on off = fault
+end_fails (Err (Refused e)) before after (alive, inr same) on off = both before after same on off
 end_fails (Err Body) before after same on off = both before after same on off
 
+end_alive : (r : Result Reply ImportEnd) (before after : Bool) → EndStaysLive r before after → IfErr r DoesNotTellFailed
+end_alive (Ok reply) before after same = tt
+end_alive (Err (Refused e)) before after held = held.0
+end_alive (Err Body) before after same = tt
+
 -- what is not written stays as live
-pub still_live : (r : Result Reply ImportEnd) (live : Bool) → EndStaysLive r live live
-still_live (Ok reply) live = refl
-still_live (Err (Refused e)) live = inr refl
-still_live (Err Body) live = refl
+pub still_live : (r : Result Reply ImportEnd) → IfErr r DoesNotTellFailed → (live : Bool) → EndStaysLive r live live
+still_live (Ok reply) alive live = refl
+still_live (Err (Refused e)) alive live = (alive, inr refl)
+still_live (Err Body) alive live = refl
+
+-- a fault is not that a registry had failed
+fault_alive : (e : Refusal) → IsFault e → e ≢ Failed
+fault_alive e (inl is) = λ failed. let no : Memory ≡ Failed = sym is ∙ failed in let bad : ⊥ = cc in bad
+fault_alive e (inr is) = λ failed. let no : Store ≡ Failed = sym is ∙ failed in let bad : ⊥ = cc in bad
+
+pub not_failed : BadText ≢ Failed
+not_failed is = let bad : ⊥ = cc in bad
+
+-- a change was carried out, or could not be
+pub carried : (r : Result Reply Refusal) (before after : Bool) → MatchResult r (λ x. after ≡ before) (λ e. IsFault e × (after ≡ false)) → StaysLive r before after
+carried (Ok reply) before after same = same
+carried (Err e) before after (fault, off) = (fault_alive e fault, inl fault)
+
+module _ {S : Type 0} (store : Ghosts S) (old new : Registry S store) where
+  pub lasting : (r : Result Reply Refusal) → StaysLive r (is_live old) (is_live new) → Lasts store old new r
+  lasting r held = record {
+    alive = λ on. alive_so r (is_live old) (is_live new) held;
+    stays = stays_live r (is_live old) (is_live new) held;
+    fails = fails_so r (is_live old) (is_live new) held;
+  }
+
+  pub end_lasting : (r : Result Reply ImportEnd) → ForgetsAll store old new → EndStaysLive r (is_live old) (is_live new) → EndLasts store old new r
+  end_lasting r forgets held = record {
+    forgets = forgets;
+    alive = λ on. end_alive r (is_live old) (is_live new) held;
+    stays = end_stays r (is_live old) (is_live new) held;
+    fails = end_fails r (is_live old) (is_live new) held;
+  }
 
 -- ---- a list
 
@@ -72,3 +116,12 @@ some_fault (Some e) some is = is
 pub all_more : {X : Type 0} (P : X → Type 0) (xs : List X) (x : X) → AllByRecursion P xs → P x → AllByRecursion P (xs ++ x ∷ [])
 all_more P [] x all one = (one, tt)
 all_more P (y ∷ xs) x all one = (all.0, all_more P xs x all.1 one)
+
+-- a live registry gives a fault as it may
+pub given_live : (fault : Option Refusal) (live : Bool) → live ≡ true → IfSome fault IsFault → IfSome fault (MayGive live)
+given_live None live on is = tt
+given_live (Some e) live on is = record { alive = λ was. is; failed = λ off. absurd (let no : true ≡ false = sym on ∙ off in let bad : ⊥ = cc in bad) }
+
+pub most_so : (fault : Option Refusal) (n m : ℕ) → (fault ≡ None → n ≡ m) → (IsSome fault → n < m) → n ≤ m
+most_so None n m whole cut = let same = whole refl in omega (arith, same)
+most_so (Some e) n m whole cut = let less : n < m = cut refl in omega (arith, less)

@@ -13,3 +13,6 @@ pub mod Lasting
 pub mod ImportLives
 pub mod RunLives
 pub mod Questions
+pub mod ItemLines
+pub mod WalkEnds
+pub mod CountedLines

@@ -1,10 +1,11 @@
 -- What a registry shows after a command, by how far it came.
-use Rattle.std.proofs.Common.{◌≡◌, ◌⊎◌, inl, inr, false, Result, Ok, Err, IsErrAnd, refl, sym, subst, ap, ◌∙◌, arith}
+use Rattle.std.proofs.Common.{◌≡◌, ◌⊎◌, inl, inr, Bool, true, false, [], Result, Ok, Err, IfErr, IsErrAnd, MatchResult, refl, sym, subst, ap, ◌∙◌, arith}
+use Rattle.sqlite.specs.Held.{Held}
 use Rattle.sqlite_trees.specs.declared.store.Store.{Ghosts}
 use Rattle.pid_moderation.specs.declared.change.Change.{Change}
 use Rattle.pid_moderation.specs.declared.command.Reply.{Reply}
 use Rattle.pid_moderation.specs.declared.refusal.Refusal.{Refusal}
-use Rattle.pid_moderation.specs.declared.refusal.Refusal.TheVariants.{BadText}
+use Rattle.pid_moderation.specs.declared.refusal.Refusal.TheVariants.{BadText, Memory}
 use Rattle.pid_moderation.specs.Changes.{changed, Fits}
 use Rattle.pid_moderation.specs.declared.command.Act.{Act}
 use Rattle.pid_moderation.specs.declared.command.Act.TheVariants.{Account, Submit, Comment, Withdraw, Approve, Reject, Import}
@@ -14,14 +15,15 @@ use Rattle.pid_moderation.specs.Judgement.{judge, answer, after}
 use Rattle.pid_moderation.specs.Judgement as Outcomes
 use Rattle.pid_moderation.specs.Views.{Views, items_of, views_of}
 use Rattle.pid_moderation.specs.WellMade.{HasGoodFile, IsWellMade}
-use Rattle.pid_rows.specs.Clauses.{AtRest, LeavesEither}
-use Rattle.pid_name_cache.specs.Entries.{Entries}
+use Rattle.pid_tables_rows.specs.Clauses.{AtRest, LeavesEither}
+use Rattle.pid_lookup.specs.CacheEntries.{Entries}
 use Rattle.pid_service.specs.declared.judging.Judged.TheVariants.{Kept, Accepted}
 use Rattle.pid_service.specs.declared.registry.Registry.{Registry}
 use Rattle.pid_service.specs.Histories.{IsReached, Shows, IsFault}
-use Rattle.pid_service.specs.Judging.{Judges}
+use Rattle.pid_service.specs.Asking.{IsCausedAs}
+use Rattle.pid_service.specs.Steps.Judging.{IsJudgedFor, Judges}
 use Rattle.pid_service.specs.KeptNames.{AreNamesOf, kept_names}
-use Rattle.pid_service.specs.Obeying.{Obeys}
+use Rattle.pid_service.specs.Obeying.{Forgets, IsAnswered, IsRefusedFor, Obeys}
 use Rattle.pid_service.specs.Registries.{HasCleanDisk, OnlyReads, connection, is_live}
 use Rattle.pid_service.proofs.Judged.{refused_stays}
 
@@ -60,6 +62,27 @@ module _ {S : Type 0} (store : Ghosts S) where
       leaves = subst (λ (w : Views). LeavesEither store (connection new) (views_of h) w) (sym told.1) (either (views_of h) shows.tables told.2);
     }),
   )
+
+  -- a refusal that the judgement answers, or that has its cause in the call
+  pub judged_for : (old new : Held S) (live : Bool) (h : History) (c : Asked) (e : Refusal) → live ≡ true → IsJudgedFor store old new h c e
+      → (answer (judge (views_of h) c) ≡ Err e) ⊎ (((live ≡ true) × IsCausedAs store old new e) ⊎ ((live ≡ false) × IsAnswered h c))
+  judged_for old new live h c e on (inl told) = inl told
+  judged_for old new live h c e on (inr cause) = inr (inl (on, cause))
+
+  pub told_or_short : {X : Type 0} (old new : Held S) (h : History) (c : Asked) (r : Result X Refusal) → IfErr r (λ e. (answer (judge (views_of h) c) ≡ Err e) ⊎ (e ≡ Memory)) → IfErr r (IsJudgedFor store old new h c)
+  told_or_short old new h c (Ok x) told = tt
+  told_or_short old new h c (Err e) (inl told) = inl told
+  told_or_short old new h c (Err e) (inr is) = inr (subst (IsCausedAs store old new) (sym is) tt)
+
+  -- a fault of the change leaves the registry failed, over a command that the judgement answers
+  pub failed_over : (start new : Registry S store) (live : Bool) (h : History) (c : Asked) (change : Change) (reply : Reply) (r : Result Reply Refusal) → MatchResult r (λ x. is_live new ≡ live) (λ e. IsFault e × (is_live new ≡ false))
+      → Judges h c (Ok (Accepted change reply)) → IfErr r (IsRefusedFor store start new h c)
+  failed_over start new live h c change reply (Ok x) held told = tt
+  failed_over start new live h c change reply (Err e) (fault, off) told = inr (inr (off, (reply, told.0)))
+
+  pub spare_forgets : (new : Registry S store) (h : History) (c : Asked) → (kept_names new ≡ []) ⊎ (items_of (after h c) ≡ items_of h) → Forgets store new h c
+  spare_forgets new h c (inl none) = λ other. inl none
+  spare_forgets new h c (inr same) = λ other. absurd (other same)
 
   pub broken_form : (r : Registry S store) (h : History) (c : Asked) → Shows store r h → judge (views_of h) c ≡ Outcomes.Refused BadText → Obeys store (Err BadText) r h c
   broken_form r h c shows is =

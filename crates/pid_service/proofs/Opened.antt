@@ -7,26 +7,26 @@ use Rattle.sqlite_trees.specs.declared.store.Store.{Ghosts}
 use Rattle.sqlite.specs.Effect.{Database}
 use Rattle.pid_moderation.specs.History.{History, new_history}
 use Rattle.pid_moderation.specs.Views.{Views, views_of}
-use Rattle.pid_rows.specs.declared.fault.TableFault.{TableFault}
-use Rattle.pid_rows.specs.declared.fault.TableFault.TheVariants.{Memory, Store, NewerSchema, Damaged}
-use Rattle.pid_rows.specs.declared.version.Version.TheVariants.{One, Two}
-use Rattle.pid_rows.specs.Faults.{IsUntold}
-use Rattle.pid_rows.specs.Clauses as clauses
-use Rattle.pid_rows.specs.Leaves.{AtRest, OnlyReads, RestsIn}
-use Rattle.pid_table_check.specs.Checking.{Explains, Finds}
-use Rattle.pid_table_check.specs.Shapes.{HasSomeTable}
+use Rattle.pid_tables_rows.specs.declared.fault.TableFault.{TableFault}
+use Rattle.pid_tables_rows.specs.declared.fault.TableFault.TheVariants.{Memory, Store, NewerSchema, Damaged}
+use Rattle.pid_tables_rows.specs.declared.version.Version.TheVariants.{One, Two}
+use Rattle.pid_tables_rows.specs.Faults.{IsMemoryOrStore}
+use Rattle.pid_tables_rows.specs.Clauses as clauses
+use Rattle.pid_tables_rows.specs.Leaves.{AtRest, OnlyReads, RestsIn}
+use Rattle.pid_tables_check.specs.Checking.{Explains, Finds}
+use Rattle.pid_tables_check.specs.Shapes.{HasSomeTable}
 use Rattle.pid_tables.specs.AtOnce.{IsOneStep, IsTakenBack}
 use Rattle.pid_tables.specs.Clauses as tables
 use Rattle.pid_tables.proofs.AtOnceLemmas.{reads_back}
 use Rattle.pid_tables.specs.Creation.{RestsBare}
-use Rattle.pid_tables.specs.Steps.{Brings, Refuses}
-use Rattle.pid_name_cache.specs.Entries.{Entries}
+use Rattle.pid_tables.specs.Bringing.{Brings, Left, Raised, Refuses, Fails, Stays}
+use Rattle.pid_lookup.specs.CacheEntries.{Entries}
 use Rattle.pid_tables.specs.declared.migration.Step.{Step}
 use Rattle.pid_tables.specs.declared.migration.Step.TheVariants.{Created, Moved, Already}
 use Rattle.pid_tables.specs.ShowsOrBlank.{ShowsOrBlank}
 use Rattle.pid_service.specs.KeptNames.{AreNamesOf}
-use Rattle.pid_service.specs.Opening.{ExplainsNow, IsFound, MayHaveMade, KeepsViews}
-use Rattle.pid_rows.proofs.OnlyReading.{reads_then, rests_in_still}
+use Rattle.pid_service.specs.Opening.{ExplainsNow, ExplainsOpening, KeepsTables, OpensAtOnce, IsFound, MayHaveMade, KeepsViews}
+use Rattle.pid_tables_rows.proofs.OnlyReading.{reads_then, rests_in_still}
 
 -- what a step tells where the tables were not there, were in schema 1, and were in the schema of today
 pub record Steps (s : State) (h : History) (New : Type 0) (Old : Type 0) (Today : Type 0) : Type 0 where
@@ -41,13 +41,13 @@ step_rests s t h step (inr (inl older)) steps = (steps.moved older).1
 step_rests s t h step (inr (inr bare)) steps = subst (λ (g : History). AtRest t (views_of g)) (sym bare.1) (steps.created bare.0).1
 
 pub step_shown : (s t : State) (h : History) (e : TableFault) → ShowsOrBlank s h
-    → Steps s h (IsUntold e × RestsBare t) (IsUntold e × RestsIn One t (views_of h)) (IsUntold e × AtRest t (views_of h)) → IsUntold e × ShowsOrBlank t h
+    → Steps s h (IsMemoryOrStore e × RestsBare t) (IsMemoryOrStore e × RestsIn One t (views_of h)) (IsMemoryOrStore e × AtRest t (views_of h)) → IsMemoryOrStore e × ShowsOrBlank t h
 step_shown s t h e (inl rest) steps = let so = steps.already rest in (so.0, inl so.1)
 step_shown s t h e (inr (inl older)) steps = let so = steps.moved older in (so.0, inr (inl so.1))
 step_shown s t h e (inr (inr bare)) steps = let so = steps.created bare.0 in (so.0, inr (inr (so.1, bare.1)))
 
 -- tables at rest were judged
-pub judged_ready : {X : Type 0} (s t : State) (h : History) (r : Result X TableFault) → OnlyReads s t → AtRest s (views_of h) → IfErr r IsUntold → MatchResult r (λ x. AtRest t (views_of h)) (λ e. IsUntold e × ShowsOrBlank t h)
+pub judged_ready : {X : Type 0} (s t : State) (h : History) (r : Result X TableFault) → OnlyReads s t → AtRest s (views_of h) → IfErr r IsMemoryOrStore → MatchResult r (λ x. AtRest t (views_of h)) (λ e. IsMemoryOrStore e × ShowsOrBlank t h)
 judged_ready s t h (Ok x) reads rest untold = reads.kept (views_of h) rest
 judged_ready s t h (Err e) reads rest untold = (untold, inl (reads.kept (views_of h) rest))
 
@@ -63,7 +63,7 @@ Now new e = IsTrue new.is_open → Explains new.now e
 abbrev IsReady : {X : Type 0} → State → State → Result X TableFault → Type 0
 IsReady old new r = MatchResult r (λ x. IsFound old.now) (λ e. Refuses old e new ⊎ (Finds old.now (Some One) × Now new e))
 
-untold_explains : (d : Database) (e : TableFault) → IsUntold e → Explains d e
+untold_explains : (d : Database) (e : TableFault) → IsMemoryOrStore e → Explains d e
 untold_explains d Memory untold = tt
 untold_explains d Store untold = tt
 untold_explains d (NewerSchema n) untold = absurd untold
@@ -74,11 +74,11 @@ seen_still old new settled reads = (reads.same old.now (record { sees = λ opene
 
 same_judged : {X : Type 0} (old new : State) (r : Result X TableFault) → OnlyReads old new → Judged old.now r → IsReady old new r
 same_judged old new (Ok x) reads judged = (Two, judged)
-same_judged old new (Err e) reads explains = inl (inl (explains, reads))
+same_judged old new (Err e) reads explains = inl (Fails explains reads)
 
-shut_judged : {X : Type 0} (old new : State) (r : Result X TableFault) → OnlyReads old new → MatchResult r (λ x. ⊥) IsUntold → IsReady old new r
+shut_judged : {X : Type 0} (old new : State) (r : Result X TableFault) → OnlyReads old new → MatchResult r (λ x. ⊥) IsMemoryOrStore → IsReady old new r
 shut_judged old new (Ok x) reads untold = absurd untold
-shut_judged old new (Err e) reads untold = inl (inl (untold_explains old.now e untold, reads))
+shut_judged old new (Err e) reads untold = inl (Fails (untold_explains old.now e untold) reads)
 
 moved_found : {X : Type 0} (old mid new : State) (r : Result X TableFault) → (IsTrue new.is_open → new.now ≡ mid.now) → Judged mid.now r → Finds old.now (Some One) → IsReady old new r
 moved_found old mid new (Ok x) same judged found = (One, found)
@@ -89,12 +89,12 @@ open_or_shut true = inl refl
 open_or_shut false = inr refl
 
 pub told_then : {X : Type 0} (old mid new : State) (r : Result X TableFault) (step : Step) → (IsTrue old.is_open → old.now ≡ old.committed) → OnlyReads mid new → (IsTrue new.is_open → new.now ≡ mid.now)
-    → (mid.is_open ≡ false → MatchResult r (λ x. ⊥) IsUntold) → Judged mid.now r → Brings old step mid → IsReady old new r
-told_then old mid new r step settled reads same shut judged (inl (is, before)) = elim (open_or_shut mid.is_open) [
+    → (mid.is_open ≡ false → MatchResult r (λ x. ⊥) IsMemoryOrStore) → Judged mid.now r → Brings old step mid → IsReady old new r
+told_then old mid new r step settled reads same shut judged (Left is before) = elim (open_or_shut mid.is_open) [
   | inl opened ↦ same_judged old new r (reads_then old mid new before reads) (subst (λ (d : Database). Judged d r) (seen_still old mid settled before opened) judged)
   | inr closed ↦ shut_judged old new r (reads_then old mid new before reads) (shut closed)
 ]
-told_then old mid new r step settled reads same shut judged (inr (is, found)) = moved_found old mid new r same judged found
+told_then old mid new r step settled reads same shut judged (Raised is found) = moved_found old mid new r same judged found
 
 -- what was judged is so of what is seen then
 
@@ -128,18 +128,18 @@ seen_back old new settled back opened = (back.was_open opened, (back.same old.no
 -- a migration of tables that are not in schema 1, or do not keep its conditions, only reads
 
 pub brought_reads : (old mid : State) (step : Step) → Brings old step mid → ¬ (Finds old.now (Some One)) → OnlyReads old mid
-brought_reads old mid step (inl (is, reads)) none = reads
-brought_reads old mid step (inr (is, found)) none = absurd (none found)
+brought_reads old mid step (Left is reads) none = reads
+brought_reads old mid step (Raised is found) none = absurd (none found)
 
 pub refused_reads : (old mid : State) (e : TableFault) → Refuses old e mid → ¬ (Finds old.now (Some One)) → OnlyReads old mid
-refused_reads old mid e (inl (explains, reads)) none = reads
-refused_reads old mid e (inr (found, later)) none = absurd (none found)
+refused_reads old mid e (Fails explains reads) none = reads
+refused_reads old mid e (Stays found later) none = absurd (none found)
 
 -- where the judgement behind a migration fails
 
 made_found : (old mid : State) (step : Step) → (step ≡ Already → ⊥) → Brings old step mid → Finds old.now (Some One)
-made_found old mid step made (inl (is, reads)) = absurd (made is)
-made_found old mid step made (inr (is, found)) = found
+made_found old mid step made (Left is reads) = absurd (made is)
+made_found old mid step made (Raised is found) = found
 
 module _ {S : Type 0} (store : Ghosts S) where
   pub still_views : (old mid new : Held S) → clauses.OnlyReads store mid new → KeepsViews store old mid → KeepsViews store old new
@@ -169,3 +169,14 @@ explains_now mid new (Err e) same explains = λ opened. subst (λ d. Explains d 
 pub kept_ok : {X E P : Type 0} (r : Result X E) → P → IfOk r (λ _. P)
 kept_ok (Ok x) p = p
 kept_ok (Err e) p = tt
+
+-- a step of the opening, in the records of its contract
+module _ {S X : Type 0} {store : Ghosts S} {r : Result X TableFault} {a a' b b' : Held S} (start : a ≡ a') (end : b' ≡ b) where
+  pub at_once_of : OpensAtOnce store a b r → OpensAtOnce store a' b' r
+  at_once_of p = moved (λ x y. OpensAtOnce store x y r) start end p
+
+  pub explains_of : ExplainsOpening store a b r → ExplainsOpening store a' b' r
+  explains_of p = moved (λ x y. ExplainsOpening store x y r) start end p
+
+  pub kept_of : KeepsTables store a b r → KeepsTables store a' b' r
+  kept_of p = moved (λ x y. KeepsTables store x y r) start end p

@@ -12,7 +12,8 @@ use Rattle.pid_service.specs.Histories.{Shows, IsFault}
 use Rattle.pid_service.specs.KeptNames.{kept_names}
 use Rattle.pid_service.specs.Obeying.{Forgets, Obeys}
 use Rattle.pid_service.specs.declared.running.RunReport.{RunReport}
-use Rattle.pid_service.specs.Running.{EndsRun, ForgetsNext, ForgetsRun, LeaveItems, Runs, fault_in}
+use Rattle.pid_service.specs.Running.{EndsRun, ForgetsNext, ForgetsRun, LeaveItems, Runs}
+use Rattle.pid_service.specs.Steps.Running.{fault_in}
 use Rattle.pid_service.proofs.Judged.{refused_stays}
 
 -- one command more
@@ -114,6 +115,22 @@ module _ {S : Type 0} (store : Ghosts S) where
         replied = so.0 ∙ ap (λ n. answers h (take n all)) (sym count);
         ends = subst (λ n. EndsRun store report.fault (drop n all) new (after_all h (take n all))) (sym count)
             (subst (λ l. EndsRun store report.fault l new (after_all h (take i all))) (sym is) (by_fault r report.fault new (after_all h (take i all)) c rest (obeys so.1) same some));
+      }
+
+-- none was obeyed, for want of memory or of the store
+module _ {S : Type 0} (store : Ghosts S) {X : Type 0} (f : X → Asked) where
+  at_first : (r : Registry S store) (h : History) (cs : List X) (e : Refusal) → IsFault e → 0 < length cs → Shows store r h → EndsRun store (Some e) (map f cs) r h
+  at_first r h [] e fault less shows = absurd (omega (arith, less))
+  at_first r h (c ∷ cs) e fault less shows = (fault, inl shows)
+
+  pub runs_none : (report : RunReport) (r : Registry S store) (h : History) (cs : List X) (e : Refusal) → report.replies.items ≡ [] → report.fault ≡ Some e → IsFault e → length report.replies.items < length cs → Shows store r h
+      → Runs store report r h (map f cs)
+  runs_none report r h cs e none is fault less shows =
+      let count : length report.replies.items ≡ 0 = ap length none in
+      record {
+        replied = none ∙ ap (λ n. answers h (take n (map f cs))) (sym count);
+        ends = subst (λ n. EndsRun store report.fault (drop n (map f cs)) r (after_all h (take n (map f cs)))) (sym count)
+            (subst (λ (x : Option Refusal). EndsRun store x (map f cs) r h) (sym is) (at_first r h cs e fault (omega (arith, count, less)) shows));
       }
 
 -- names in memory

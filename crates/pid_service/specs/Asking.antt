@@ -1,15 +1,18 @@
--- What a registry answers to a question. It tells of the history that it shows, and goes on showing it.
-use Rattle.std.specs.Prelude.{◌≡◌, ◌⊎◌, Bool, true, false, Option, None, Result, Err, IfErr, MatchResult}
+-- What a registry answers to a question. It tells of the history that it shows, and goes on showing
+-- it.
+use Rattle.std.specs.Prelude.{◌≡◌, ◌⊎◌, Bool, true, false, Option, Some, None, Result, Err}
+use Rattle.std.specs.Prelude.{IfErr, MatchResult}
 use Rattle.sqlite.specs.Held.{Held}
 use Rattle.sqlite_trees.specs.declared.store.Store.{Ghosts}
 use Rattle.pid_moderation.specs.declared.refusal.Refusal.{Refusal}
-use Rattle.pid_moderation.specs.declared.refusal.Refusal.TheVariants.{Failed, Memory, NoSubmission, Store}
+use Rattle.pid_moderation.specs.declared.refusal.Refusal.TheVariants.{Failed, Memory, Store}
+use Rattle.pid_moderation.specs.declared.refusal.Refusal.TheVariants.{NoSubmission}
 use Rattle.pid_moderation.specs.History.{History}
-use Rattle.pid_rows.specs.Clauses as clauses
-use Rattle.pid_rows.specs.declared.fault.TableFault.TheVariants as faults
+use Rattle.pid_tables_rows.specs.Clauses as clauses
+use Rattle.pid_tables_rows.specs.declared.fault.TableFault.TheVariants as faults
 use Rattle.pid_service.specs.declared.registry.Registry.{Registry}
-use Rattle.pid_service.specs.Histories.{Shows, IsFault}
-use Rattle.pid_service.specs.Registries.{HasCleanDisk, OnlyReads, connection, is_live}
+use Rattle.pid_service.specs.Histories.{Shows, IsFault, OverHistory}
+use Rattle.pid_service.specs.Registries.{OnlyReads, connection, is_live}
 
 -- a live registry gives `Memory` and `Store` alone, one that has failed gives `Failed` alone
 pub record MayGive (live : Bool) (e : Refusal) : Type 0 where
@@ -22,11 +25,13 @@ IsMissing found e = ((e ≡ NoSubmission) × (found ≡ None)) ⊎ IsFault e
 
 module _ {S : Type 0} (store : Ghosts S) where
   -- the history that was shown is shown still, and is what is told
-  abbrev pub Tells : {X : Type 0} → Registry S store → Registry S store → Result X Refusal → (History → X → Type 0) → (History → Refusal → Type 0) → Type 0
-  Tells old new result Says Denies = HasCleanDisk store new → (h : History) → Shows store old h → MatchResult result (Says h) (Denies h) × Shows store new h
+  abbrev pub Tells : {X : Type 0} → Registry S store → Registry S store → Result X Refusal
+      → (History → X → Type 0) → (History → Refusal → Type 0) → Type 0
+  Tells old new result Says Denies = OverHistory store old new
+      (λ h. MatchResult result (Says h) (Denies h) × Shows store new h)
 
-  -- Memory may be short at any time. The store is told of where the disk failed or refused in the call, where a fault had shut the connection before,
-  -- or where a limit of steps was set.
+  -- Memory may be short at any time. The store is told of where the disk failed or refused in the
+  -- call, where a fault had shut the connection before, or where a limit of steps was set.
   abbrev pub IsCausedAs : Held S → Held S → Refusal → Type 0
   IsCausedAs old new Memory = Unit {0}
   IsCausedAs old new Store = clauses.IsCaused store old new faults.Store
@@ -37,10 +42,22 @@ module _ {S : Type 0} (store : Ghosts S) where
   HasCause old new e = IsCausedAs (connection old) (connection new) e
 
   -- A question. A registry that has failed answers nothing else, and stays as it is.
-  pub record Answers {X : Type 0} (old new : Registry S store) (result : Result X Refusal) (Says : History → X → Type 0) : Type 0 where
+  pub record Answers {X : Type 0} (old new : Registry S store) (result : Result X Refusal)
+      (Says : History → X → Type 0) : Type 0 where
     pub failed : is_live old ≡ false → (result ≡ Err Failed) × (new ≡ old)
     pub fault : IfErr result (MayGive (is_live old))
     pub lives : is_live new ≡ is_live old
     pub rests : OnlyReads store old new
     pub told : Tells old new result Says (λ h e. IsFault e)
-    pub caused : HasCleanDisk store new → (h : History) → Shows store old h → IfErr result (λ e. HasCause old new e)
+    pub caused : OverHistory store old new (λ h. IfErr result (λ e. HasCause old new e))
+
+  -- A question for something that may not be there, which is told as `NoSubmission`.
+  pub record Finds {X Y : Type 0} (old new : Registry S store) (result : Result X Refusal)
+      (found : History → Option Y) (means : X → Y) : Type 0 where
+    pub failed : is_live old ≡ false → (result ≡ Err Failed) × (new ≡ old)
+    pub fault : IfErr result (λ e. (e ≡ NoSubmission) ⊎ MayGive (is_live old) e)
+    pub lives : is_live new ≡ is_live old
+    pub rests : OnlyReads store old new
+    pub told : Tells old new result (λ h x. found h ≡ Some (means x)) (λ h e. IsMissing (found h) e)
+    pub caused : OverHistory store old new
+        (λ h. IfErr result (λ e. (e ≡ NoSubmission) ⊎ HasCause old new e))

@@ -1,27 +1,47 @@
 -- What a writer took of the text of a registry's items.
-use Rattle.std.specs.Prelude.{◌≡◌, ℕ, List, Option, Result, Ok, Err}
+use Rattle.std.specs.Prelude.{◌≡◌, ℕ, List, false, Option, Some, Result, Ok, Err}
 use Rattle.std.specs.Io.KnownBytes.{Appends}
+use Rattle.sqlite_trees.specs.declared.store.Store.{Ghosts}
+use Rattle.pid_file.specs.declared.io.Output as outputs
+use Rattle.pid_file.specs.declared.io.WriteFault.{WriteFault}
 use Rattle.pid_ident.specs.Sending.{SendsFront}
-use Rattle.pid_export.specs.declared.exporting.ExportEnd.{ExportEnd}
-use Rattle.pid_export.specs.declared.exporting.ExportEnd.TheVariants as ends
-use Rattle.pid_export.specs.Exports.{TakesWholeLines}
-use Rattle.pid_import.specs.Faults.{IsFault, refusal_for}
+use Rattle.pid_service.specs.Exports.{TakesWholeLines}
+use Rattle.pid_tables.specs.Faults.{IsFault}
 use Rattle.pid_moderation.specs.declared.refusal.Refusal.{Refusal}
+use Rattle.pid_moderation.specs.declared.refusal.Refusal.TheVariants.{Failed}
 use Rattle.pid_moderation.specs.History.{History}
 use Rattle.pid_moderation.specs.Views.{items_of}
 use Rattle.pid_moderation.specs.Writes.{tree_of}
 use Rattle.pid_tree.specs.Printing.{print}
 use Rattle.pid_service.specs.declared.exporting.ExportFault.{ExportFault}
 use Rattle.pid_service.specs.declared.exporting.ExportFault.TheVariants.{Refused, Write}
+use Rattle.pid_service.specs.declared.registry.Registry.{Registry}
+use Rattle.pid_service.specs.Asking.{HasCause, MayGive}
+use Rattle.pid_service.specs.Histories.{OverHistory, Shows}
+use Rattle.pid_service.specs.Registries.{OnlyReads, is_live}
 
--- the canonical text of the tree; where the writer failed a front of it that lacks some; and where memory was short or the store failed
--- whole lines of it, the first ones
-abbrev pub ExportsTree : {X : Type 0} → Result X ExportFault → Option (List ℕ) → Option (List ℕ) → History → Type 0
+-- the canonical text of the tree; where the writer failed a front of it that lacks some; and where
+-- memory was short or the store failed whole lines of it, the first ones
+abbrev pub ExportsTree : {X : Type 0} → Result X ExportFault → Option (List ℕ) → Option (List ℕ)
+    → History → Type 0
 ExportsTree (Ok x) old new h = Appends old new (print (tree_of h))
 ExportsTree (Err (Write fault)) old new h = SendsFront old new (print (tree_of h))
 ExportsTree (Err (Refused e)) old new h = IsFault e × TakesWholeLines old new (items_of h)
 
--- Serves private functions alone: how the end of an export of tables is told.
-abbrev pub IsToldAs : ExportEnd → ExportFault → Type 0
-IsToldAs (ends.Tables fault) told = (e : Refusal) × (told ≡ Refused e) × IsFault e × (e ≡ refusal_for fault)
-IsToldAs (ends.Write fault) told = told ≡ Write fault
+-- An export of a registry to a writer, whose trait says what it took and which fault it keeps.
+pub record IsExported {S W : Type 0} (store : Ghosts S) (writer : outputs.Ghosts W)
+    (old new : Registry S store) (before after : W) (result : Result (Unit {0}) ExportFault)
+    : Type 0 where
+  -- a registry that has failed answers nothing else, and writes nothing
+  pub failed : is_live old ≡ false → (result ≡ Err (Refused Failed)) × (new ≡ old)
+      × (writer.taken after ≡ writer.taken before)
+  pub lives : is_live new ≡ is_live old
+  pub rests : OnlyReads store old new
+  pub shown : (h : History) → Shows store old h → Shows store new h
+  pub printed : OverHistory store old new
+      (ExportsTree result (writer.taken before) (writer.taken after))
+  pub refused : (e : Refusal) → result ≡ Err (Refused e) → MayGive (is_live old) e
+  pub caused : OverHistory store old new
+      (λ h. (e : Refusal) → result ≡ Err (Refused e) → HasCause store old new e)
+  -- a fault of the writer is the one that it keeps
+  pub fault : (f : WriteFault) → result ≡ Err (Write f) → writer.write_fault after ≡ Some f

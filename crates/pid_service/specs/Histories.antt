@@ -1,19 +1,20 @@
 -- Histories that commands lead to, and registries that show them: choices of this project.
 use Rattle.std.specs.Prelude.{◌≡◌, ℕ, List, true, false}
 use Rattle.sqlite_trees.specs.declared.store.Store.{Ghosts}
-pub use Rattle.pid_import.specs.Faults.{IsFault}
+pub use Rattle.pid_tables.specs.Faults.{IsFault}
 use Rattle.pid_moderation.specs.History.{Asked, Begins, History}
 use Rattle.pid_moderation.specs.Judgement.{after_all}
 use Rattle.pid_moderation.specs.Revisions.{IsMarked}
 use Rattle.pid_moderation.specs.Views.{views_of}
 use Rattle.pid_moderation.specs.WellMade.{AreWellMade}
-use Rattle.pid_lives.specs.Registries.{Showing}
-use Rattle.pid_rows.specs.Clauses.{AtRest, LeavesEither}
+use Rattle.pid_service_laws.specs.Registries.{Showing}
+use Rattle.pid_tables_rows.specs.Clauses.{AtRest, LeavesEither}
 use Rattle.pid_service.specs.declared.registry.Registry.{Registry}
 use Rattle.pid_service.specs.Registries.{HasCleanDisk, connection, is_live}
 use Rattle.pid_service.specs.KeptNames.{KeepsNames}
 
--- Commands lead to the history from its beginning, at least as many accepted as its mark says. What the mark is no table tells.
+-- Commands lead to the history from its beginning, at least as many accepted as its mark says. What
+-- the mark is no table tells.
 pub record IsReached (h : History) : Type 0 where
   pub mark : ℕ
   pub commands : List Asked
@@ -22,20 +23,27 @@ pub record IsReached (h : History) : Type 0 where
   pub marked : IsMarked h
 
 module _ {S : Type 0} (store : Ghosts S) where
-  -- The registry is live, and outside a transaction its tables show the history, while no fault has shut the connection. So does everything that a crash may leave, and so
-  -- do the names that are kept in memory.
+  -- The registry is live, and outside a transaction its tables show the history, while no fault has
+  -- shut the connection. So does everything that a crash may leave, and so do the names that are
+  -- kept in memory.
   pub record Shows (r : Registry S store) (h : History) : Type 0 where
     pub lives : is_live r ≡ true
     pub history : IsReached h
     pub tables : AtRest store (connection r) (views_of h)
     pub names : KeepsNames store r h
 
-  -- The registry has failed. Everything that a crash may leave shows the one history or the other, and commands lead to both.
+  -- The registry has failed. Everything that a crash may leave shows the one history or the other,
+  -- and commands lead to both.
   pub record FailsBetween (r : Registry S store) (h after : History) : Type 0 where
     pub has_failed : is_live r ≡ false
     pub before : IsReached h
     pub next : IsReached after
     pub leaves : LeavesEither store (connection r) (views_of h) (views_of after)
+
+  -- while the disk returns what was written, this holds of the history that the registry showed
+  -- before a call
+  abbrev pub OverHistory : Registry S store → Registry S store → (History → Type 0) → Type 0
+  OverHistory old new Holds = HasCleanDisk store new → (h : History) → Shows old h → Holds h
 
   -- how lives see a registry
   abbrev pub showing : Showing (Registry S store)

@@ -3,8 +3,8 @@ use Rattle.sqlite_trees.specs.declared.store.Store.{Ghosts}
 use Rattle.pid_moderation.specs.History.{History}
 use Rattle.pid_moderation.specs.Items.{name_at}
 use Rattle.pid_moderation.specs.Views.{Views, views_of}
-use Rattle.pid_name_cache.specs.Agreement.{Agrees}
-use Rattle.pid_name_cache.specs.Entries.{Entries}
+use Rattle.pid_lookup.specs.CacheAgreement.{Agrees}
+use Rattle.pid_lookup.specs.CacheEntries.{Entries}
 use Rattle.pid_service.specs.declared.registry.Registry.{Registry}
 use Rattle.pid_service.specs.Registries.{HasCleanDisk}
 

@@ -1,42 +1,75 @@
 -- What a registry answers to a command, and what it shows afterwards.
-use Rattle.std.specs.Prelude.{◌≡◌, ◌≢◌, ◌⊎◌, Bool, true, false, [], Result, Ok, Err, IsErrAnd, MatchResult}
+use Rattle.std.specs.Prelude.{◌≡◌, ◌≢◌, ◌⊎◌, true, false, [], Result, Ok, Err, IfErr, IsErrAnd}
 use Rattle.sqlite_trees.specs.declared.store.Store.{Ghosts}
-use Rattle.pid_lives.specs.Registries.{CommandLeaves}
+use Rattle.pid_service_laws.specs.Outcomes.{is_outcome}
+use Rattle.pid_service_laws.specs.Registries.{CommandLeaves}
+use Rattle.pid_moderation.specs.declared.command.Command.{Command}
 use Rattle.pid_moderation.specs.declared.command.Reply.{Reply}
 use Rattle.pid_moderation.specs.declared.refusal.Refusal.{Refusal}
-use Rattle.pid_moderation.specs.History.{Asked, History}
+use Rattle.pid_moderation.specs.declared.refusal.Refusal.TheVariants.{BadText, Failed}
+use Rattle.pid_moderation.specs.CheckTables.{is_broken}
+use Rattle.pid_moderation.specs.History.{Asked, History, is_import}
 use Rattle.pid_moderation.specs.Judgement.{after, answer, judge}
 use Rattle.pid_moderation.specs.Views.{items_of, views_of}
+use Rattle.pid_tables.specs.Files.{asks}
 use Rattle.pid_service.specs.declared.registry.Registry.{Registry}
 use Rattle.pid_service.specs.Asking.{HasCause}
-use Rattle.pid_service.specs.Histories.{IsFault, Shows, showing}
+use Rattle.pid_service.specs.Histories.{IsFault, OverHistory, Shows, showing}
 use Rattle.pid_service.specs.KeptNames.{kept_names}
-use Rattle.pid_service.specs.Registries.{is_live}
+use Rattle.pid_service.specs.Registries.{HasCleanDisk, is_live}
 
--- What lives ask of a command (`CommandLeaves` of pid_lives). The answer is that of the judgement over the history, and the registry shows the
--- history after the command. Or memory was short or the store failed: while it was only read, then the registry shows the history as
--- before; or while it was written, then it has failed, and what a crash may leave shows the history before the command or after it.
-abbrev pub Obeys : {S : Type 0} → (store : Ghosts S) → Result Reply Refusal → Registry S store → History → Asked → Type 0
+-- What lives ask of a command (`CommandLeaves` of pid_service_laws). The answer is that of the
+-- judgement over the history, and the registry shows the history after the command. Or memory was
+-- short or the store failed: while it was only read, then the registry shows the history as before;
+-- or while it was written, then it has failed, and what a crash may leave shows the history before
+-- the command or after it.
+abbrev pub Obeys : {S : Type 0} → (store : Ghosts S) → Result Reply Refusal → Registry S store
+    → History → Asked → Type 0
 Obeys store result r h c = CommandLeaves (showing store) result r h c
 
 -- the judgement over the history accepts it, or answers a reply that is kept
 abbrev pub IsAnswered : History → Asked → Type 0
 IsAnswered h c = (reply : Reply) × (answer (judge (views_of h) c) ≡ Ok reply)
 
--- It is what the judgement over the history answers; or a fault that has its cause in the call and leaves the registry live; or one that fails
--- it, over a command that the judgement does not refuse.
-abbrev pub IsRefusedFor : {S : Type 0} → (store : Ghosts S) → Registry S store → Registry S store → History → Asked → Refusal → Type 0
-IsRefusedFor store old new h c e = (answer (judge (views_of h) c) ≡ Err e) ⊎ (((is_live new ≡ true) × HasCause store old new e) ⊎ ((is_live new ≡ false) × IsAnswered h c))
+-- It is what the judgement over the history answers; or a fault that has its cause in the call and
+-- leaves the registry live; or one that fails it, over a command that the judgement does not
+-- refuse.
+abbrev pub IsRefusedFor : {S : Type 0} → (store : Ghosts S) → Registry S store → Registry S store
+    → History → Asked → Refusal → Type 0
+IsRefusedFor store old new h c e = (answer (judge (views_of h) c) ≡ Err e)
+    ⊎ (((is_live new ≡ true) × HasCause store old new e) ⊎ ((is_live new ≡ false) × IsAnswered h c))
 
--- Of a command that leaves other items no name is kept in memory, unless the registry shows the history as before. So one that has failed keeps
--- no old name either.
+-- Of a command that leaves other items no name is kept in memory, unless the registry shows the
+-- history as before. So one that has failed keeps no old name either.
 abbrev pub Forgets : {S : Type 0} → (store : Ghosts S) → Registry S store → History → Asked → Type 0
 Forgets store r h c = items_of (after h c) ≢ items_of h → (kept_names r ≡ []) ⊎ Shows store r h
 
--- Serves private functions alone: the registry is as live as before, or memory was short or the store failed.
-abbrev pub StaysLive : {X : Type 0} → Result X Refusal → (before after : Bool) → Type 0
-StaysLive result before after = MatchResult result (λ _. after ≡ before) (λ e. IsFault e ⊎ (after ≡ before))
+module _ {S : Type 0} (store : Ghosts S) where
+  -- What becomes of a live registry that is to obey, whatever its disk does.
+  pub record Lasts (old new : Registry S store) (result : Result Reply Refusal) : Type 0 where
+    -- it does not answer that it had failed
+    pub alive : is_live old ≡ true → IfErr result (λ e. e ≢ Failed)
+    -- an outcome leaves it live
+    pub stays : is_live old ≡ true → is_outcome result ≡ true → is_live new ≡ true
+    -- and where it has failed since, memory was short or its store failed
+    pub fails : is_live old ≡ true → is_live new ≡ false → IsErrAnd result IsFault
 
--- Serves private functions alone: no name is kept in memory, or the items are left, or memory was short or the store failed.
-abbrev pub SparesNames : {S : Type 0} {store : Ghosts S} → Result Reply Refusal → Registry S store → History → Asked → Type 0
-SparesNames result r h c = (kept_names r ≡ []) ⊎ ((items_of (after h c) ≡ items_of h) ⊎ IsErrAnd result IsFault)
+  -- A command was obeyed.
+  pub record IsObeyed (old new : Registry S store) (command : Command)
+      (result : Result Reply Refusal) : Type 0 where
+    -- the disk had returned what was written before the call too
+    pub clean : HasCleanDisk store new → HasCleanDisk store old
+    -- a registry that has failed answers nothing else
+    pub failed : is_live old ≡ false → (result ≡ Err Failed) × (new ≡ old)
+    -- what breaks a rule of form is refused before all else
+    pub form : is_live old ≡ true → is_broken command.act ≡ true
+        → (result ≡ Err BadText) × (new ≡ old)
+    pub obeyed : OverHistory store old new (λ h. Obeys store result new h (asks command))
+    -- A command other than an import that is refused: the judgement refuses it; or a fault has its
+    -- cause in the call, and the registry is live still; or it has failed, over a command that the
+    -- judgement does not refuse.
+    pub caused : OverHistory store old new (λ h. is_import command.act ≡ false
+        → IfErr result (IsRefusedFor store old new h (asks command)))
+    -- where it leaves other items, no name is kept in memory
+    pub forgets : OverHistory store old new (λ h. Forgets store new h (asks command))
+    pub lasts : Lasts old new result

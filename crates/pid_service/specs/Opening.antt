@@ -1,42 +1,46 @@
 -- What becomes of a database that is opened, or moved to the schema of today.
-use Rattle.std.specs.Prelude.{◌≡◌, ◌⊎◌, IsTrue, Some, Result, MatchResult}
+use Rattle.std.specs.Prelude.{◌≡◌, ◌⊎◌, true, false, IsTrue, Some, Result, Ok, Err, IfErr, IfOk}
+use Rattle.std.specs.Prelude.{MatchResult}
 use Rattle.sqlite.specs.Held.{Held}
 use Rattle.sqlite.specs.Effect.{Database}
 use Rattle.sqlite_trees.specs.declared.store.Store.{Ghosts}
-use Rattle.pid_moderation.specs.History.{History}
+use Rattle.pid_moderation.specs.History.{History, new_history}
 use Rattle.pid_moderation.specs.Views.{Views, views_of}
-use Rattle.pid_rows.specs.declared.fault.TableFault.{TableFault}
-use Rattle.pid_rows.specs.declared.version.Version.{Version}
-use Rattle.pid_rows.specs.declared.version.Version.TheVariants.{One, Two}
-use Rattle.pid_rows.specs.Clauses as clauses
-use Rattle.pid_rows.specs.Clauses.{seen}
-use Rattle.pid_rows.specs.Faults.{IsUntold}
-use Rattle.pid_table_check.specs.Checking.{Explains, Finds}
-use Rattle.pid_table_check.specs.Shapes.{HasSomeTable}
+use Rattle.pid_tables_rows.specs.declared.fault.TableFault.{TableFault}
+use Rattle.pid_tables_rows.specs.declared.version.Version.{Version}
+use Rattle.pid_tables_rows.specs.declared.version.Version.TheVariants.{One, Two}
+use Rattle.pid_tables_rows.specs.Clauses as clauses
+use Rattle.pid_tables_rows.specs.Clauses.{seen}
+use Rattle.pid_tables_rows.specs.Faults.{IsMemoryOrStore, IsNotNewerSchema}
+use Rattle.pid_tables_check.specs.Checking.{Explains, Finds}
+use Rattle.pid_tables_check.specs.Shapes.{HasNoTable, HasSomeTable}
 use Rattle.pid_tables.specs.declared.migration.Step.{Step}
+use Rattle.pid_tables.specs.declared.migration.Step.TheVariants.{Created, Moved, Already}
+use Rattle.pid_tables.specs.Bringing.{NamesLatest}
 use Rattle.pid_tables.specs.Clauses as tables
 use Rattle.pid_service.specs.declared.registry.Registry.{Registry}
-use Rattle.pid_service.specs.Histories.{Shows}
+use Rattle.pid_service.specs.Histories.{IsReached, Shows}
 use Rattle.pid_service.specs.Registries as registries
+use Rattle.pid_service.specs.Registries.{connection, is_live}
 
 -- the tables are found to be a registry's, in some schema
 abbrev pub IsFound : Database → Type 0
 IsFound db = (version : Version) × Finds db (Some version)
 
 module _ {S : Type 0} (store : Ghosts S) where
-  -- a registry that shows the history; or memory was short or the store failed, and the connection that comes back still shows it, as does
-  -- everything that a crash may leave
+  -- a registry that shows the history; or memory was short or the store failed, and the connection
+  -- that comes back still shows it, as does everything that a crash may leave
   abbrev pub Opens : Result (Registry S store) (TableFault × Held S) → History → Type 0
   Opens result h = MatchResult result
       (λ r. registries.HasCleanDisk store r → Shows store r h)
-      (λ e. clauses.HasCleanDisk store e.1 → IsUntold e.0 × tables.ShowsOrBlank store e.1 h)
+      (λ e. clauses.HasCleanDisk store e.1 → IsMemoryOrStore e.0 × tables.ShowsOrBlank store e.1 h)
 
-  -- after this step the tables show the history in the schema of today; or memory was short or the store failed, and the connection that comes
-  -- back still shows it
+  -- after this step the tables show the history in the schema of today; or memory was short or the
+  -- store failed, and the connection that comes back still shows it
   abbrev pub StepsTo : Step → Result (Held S × Step) (TableFault × Held S) → History → Type 0
   StepsTo step result h = MatchResult result
       (λ r. clauses.HasCleanDisk store r.0 → (r.1 ≡ step) × clauses.AtRest store r.0 (views_of h))
-      (λ e. clauses.HasCleanDisk store e.1 → IsUntold e.0 × tables.ShowsOrBlank store e.1 h)
+      (λ e. clauses.HasCleanDisk store e.1 → IsMemoryOrStore e.0 × tables.ShowsOrBlank store e.1 h)
 
   -- while it is open, the tables keep all conditions of a registry in the schema of today
   abbrev pub KeepsConditions : Held S → Type 0
@@ -46,28 +50,175 @@ module _ {S : Type 0} (store : Ghosts S) where
   abbrev pub ExplainsNow : Held S → TableFault → Type 0
   ExplainsNow conn fault = IsTrue (clauses.is_open store conn) → Explains (seen store conn) fault
 
-  -- A migration that only reads or moves is refused, as `migrate` says; or tables of schema 1 were moved that kept all conditions, and the fault
-  -- tells what fails of what they became.
+  -- A migration that only reads or moves is refused, as `migrate` says; or tables of schema 1 were
+  -- moved that kept all conditions, and the fault tells what fails of what they became.
   abbrev pub RefusesToOpen : Held S → TableFault → Held S → Type 0
-  RefusesToOpen conn fault back = tables.Refuses store conn fault back ⊎ (Finds (seen store conn) (Some One) × ExplainsNow back fault)
+  RefusesToOpen conn fault back = tables.Refuses store conn fault back
+      ⊎ (Finds (seen store conn) (Some One) × ExplainsNow back fault)
 
   -- while it is open it was open, and sees what it saw
   abbrev pub SeesTheSame : Held S → Held S → Type 0
-  SeesTheSame old new = IsTrue (clauses.is_open store new) → IsTrue (clauses.is_open store old) × (seen store new ≡ seen store old)
+  SeesTheSame old new = IsTrue (clauses.is_open store new)
+      → IsTrue (clauses.is_open store old) × (seen store new ≡ seen store old)
 
-  -- whatever views tables of the one schema or the other showed, tables of the schema of today show them
+  -- whatever views tables of the one schema or the other showed, tables of the schema of today show
+  -- them
   abbrev pub KeepsViews : Held S → Held S → Type 0
-  KeepsViews old new = (version : Version) (v : Views) → clauses.RestsIn store version old v → clauses.RestsIn store Two new v
+  KeepsViews old new = (version : Version) (v : Views) → clauses.RestsIn store version old v
+      → clauses.RestsIn store Two new v
 
-  -- A step may have been made: there was no table, or tables of schema 1 kept all conditions. Views are shown as before, and the fault tells
-  -- what fails of what is seen now.
+  -- A step may have been made: there was no table, or tables of schema 1 kept all conditions. Views
+  -- are shown as before, and the fault tells what fails of what is seen now.
   pub record MayHaveMade (old : Held S) (fault : TableFault) (new : Held S) : Type 0 where
-    pub found : clauses.HasCleanDisk store new → HasSomeTable (seen store old).schema → Finds (seen store old) (Some One)
+    pub found : clauses.HasCleanDisk store new → HasSomeTable (seen store old).schema
+        → Finds (seen store old) (Some One)
     pub kept : clauses.HasCleanDisk store new → KeepsViews old new
     pub told : clauses.HasCleanDisk store new → ExplainsNow new fault
 
-  -- no registry: this is why, and the connection comes back as it was
-  abbrev pub Rejects : {X : Type 0} → (X → Held S) → Held S → Result X (TableFault × Held S) → (TableFault → Type 0) → Type 0
-  Rejects left conn result Why = MatchResult result
-      (λ r. ¬ (clauses.HasCleanDisk store (left r)))
-      (λ e. clauses.HasCleanDisk store e.1 → Why e.0 × clauses.OnlyReads store conn e.1)
+  -- no registry, and no step: this is why, and everything is as it was
+  abbrev pub Rejects : {X : Type 0} → Held S → Held S → Result X TableFault → (TableFault → Type 0)
+      → Type 0
+  Rejects old new result Why = MatchResult result (λ _. ⊥)
+      (λ e. Why e × clauses.OnlyReads store old new)
+
+  -- the connection that an opening leaves: the registry's, or the one that came back
+  abbrev pub left : Result (Registry S store) (TableFault × Held S) → Held S
+  left (Ok r) = connection r
+  left (Err e) = e.1
+
+  -- the connection that a migration leaves
+  abbrev pub moved_to : Result (Held S × Step) (TableFault × Held S) → Held S
+  moved_to (Ok r) = r.0
+  moved_to (Err e) = e.1
+
+  -- how an opening ended, without the connection
+  abbrev pub end_of : {X : Type 0} → Result X (TableFault × Held S) → Result (Unit {0}) TableFault
+  end_of (Ok x) = Ok tt
+  end_of (Err e) = Err e.0
+
+  -- the step of a migration, or its fault
+  abbrev pub step_of : Result (Held S × Step) (TableFault × Held S) → Result Step TableFault
+  step_of (Ok r) = Ok r.1
+  step_of (Err e) = Err e.0
+
+  -- What an opening leaves of a connection, whatever there is, also beside the tables.
+  pub record OpensAtOnce {X : Type 0} (old new : Held S) (result : Result X TableFault)
+      : Type 0 where
+    pub settled : new.in_transaction ≡ false
+    pub clean : clauses.HasCleanDisk store new → clauses.HasCleanDisk store old
+    -- a crash leaves what it left before, or all of one step
+    pub once : tables.IsOneStep store old new
+    -- After a fault nothing of the step is seen; or it may have been made, and the fault tells what
+    -- fails of what is seen now.
+    pub back : IfErr result (λ e. tables.IsTakenBack store old new ⊎ MayHaveMade old e new)
+
+  -- What an opening tells, by what there is, while the disk returns what was written.
+  pub record ExplainsOpening {X : Type 0} (old new : Held S) (result : Result X TableFault)
+      : Type 0 where
+    -- Some table: it is opened only where all keep the conditions of a registry in the schema that
+    -- they name. Of others the fault tells which one fails, and everything is as it was.
+    pub told : clauses.HasCleanDisk store new → HasSomeTable (seen store old).schema
+        → MatchResult result (λ _. IsFound (seen store old)) (λ e. RefusesToOpen old e new)
+    -- Some table, but none of schema 1 that keeps its conditions: nothing is written.
+    pub only_read : clauses.HasCleanDisk store new → HasSomeTable (seen store old).schema
+        → ¬ (Finds (seen store old) (Some One)) → clauses.OnlyReads store old new
+    -- Tables of schema 1 that show views, of a history or not: the fault tells what fails of them,
+    -- or, while the connection is open, of what they became.
+    pub explained : clauses.HasCleanDisk store new → (v : Views) → clauses.RestsIn store One old v
+        → IfErr result (λ e. Explains (seen store old) e ⊎ ExplainsNow new e)
+    -- No table, whatever else there is: a later schema is told only of what was made there.
+    pub bare : clauses.HasCleanDisk store new → HasNoTable (seen store old).schema
+        → IfErr result (λ e. IsNotNewerSchema e ⊎ ExplainsNow new e)
+    -- No table, but something else under the name of one.
+    pub met : clauses.HasCleanDisk store new → HasNoTable (seen store old).schema
+        → tables.IsMet store old → Rejects old new result IsNotNewerSchema
+    -- A connection that a fault has shut.
+    pub shut : clauses.HasCleanDisk store new → clauses.is_open store old ≡ false
+        → Rejects old new result IsMemoryOrStore
+
+  -- What is opened, whatever there was.
+  pub record KeepsTables {X : Type 0} (old new : Held S) (result : Result X TableFault)
+      : Type 0 where
+    -- it keeps all conditions of a registry in the schema of today
+    pub judged : clauses.HasCleanDisk store new → IfOk result (λ _. KeepsConditions new)
+    -- and shows the views that were shown, in whichever schema
+    pub kept : clauses.HasCleanDisk store new → IfOk result (λ _. KeepsViews old new)
+
+  -- The registry that is opened.
+  pub record OpensRegistry (conn : Held S) (result : Result (Registry S store)
+      (TableFault × Held S)) : Type 0 where
+    pub lives : IfOk result (λ r. is_live r ≡ true)
+    -- Tables that show a history are opened with that history, whichever schema they have. Where
+    -- there is no table, a new registry is made.
+    pub opened : (h : History) → IsReached h → tables.ShowsOrBlank store conn h → Opens result h
+    pub kept : KeepsTables conn (left result) (end_of result)
+
+  -- What a migration leaves of a connection, whatever there is, also beside the tables.
+  pub record MovesAtOnce (conn : Held S) (result : Result (Held S × Step) (TableFault × Held S))
+      : Type 0 where
+    pub settled : (moved_to result).in_transaction ≡ false
+    pub clean : clauses.HasCleanDisk store (moved_to result) → clauses.HasCleanDisk store conn
+    -- a crash leaves what it left before, or all of one step; and after a fault nothing of it is
+    -- seen
+    pub once : tables.IsOneStep store conn (moved_to result)
+    pub back : IfErr result (λ e. tables.IsTakenBack store conn e.1)
+    -- One that fails, or finds nothing to do, leaves all that is seen as it was.
+    pub unchanged : MatchResult result (λ r. r.1 ≡ Already → SeesTheSame conn r.0)
+        (λ e. SeesTheSame conn e.1)
+    -- Where nothing had to be done, nothing is; and a fault other than `Memory` and `Store` changes
+    -- nothing.
+    pub only_read : MatchResult result (λ r. r.1 ≡ Already → clauses.OnlyReads store conn r.0)
+        (λ e. clauses.HasCleanDisk store e.1 → ¬ (IsMemoryOrStore e.0)
+        → clauses.OnlyReads store conn e.1)
+
+  -- What was shown is shown afterwards.
+  pub record MovesShown (conn : Held S) (result : Result (Held S × Step) (TableFault × Held S))
+      : Type 0 where
+    pub created : tables.RestsBare store conn → StepsTo Created result new_history
+    pub moved : (h : History) → IsReached h → clauses.RestsIn store One conn (views_of h)
+        → StepsTo Moved result h
+    pub already : (h : History) → IsReached h → clauses.AtRest store conn (views_of h)
+        → StepsTo Already result h
+    -- Tables of schema 2 are only read, whatever a crash would leave in their place.
+    pub left_alone : (v : Views) → clauses.RestsIn store Two conn v
+        → clauses.HasCleanDisk store (moved_to result)
+        → clauses.OnlyReads store conn (moved_to result)
+        × MatchResult result (λ r. r.1 ≡ Already) (λ e. IsMemoryOrStore e.0)
+    -- Tables of schema 1 that show views, of a history or not: the fault tells what fails of them.
+    pub explained : (v : Views) → clauses.RestsIn store One conn v
+        → clauses.HasCleanDisk store (moved_to result)
+        → IfErr result (λ e. Explains (seen store conn) e.0)
+    -- Whatever views tables of the one schema or the other show, tables of schema 2 show them
+    -- afterwards.
+    pub kept : clauses.HasCleanDisk store (moved_to result)
+        → IfOk result (λ r. KeepsViews conn r.0)
+
+  -- Whatever the tables are, they are judged before anything is done.
+  pub record MovesJudged (conn : Held S) (result : Result (Held S × Step) (TableFault × Held S))
+      : Type 0 where
+    -- Those of schema 1 are judged before they are moved, and where a condition fails, the fault
+    -- tells which one, and everything is as it was.
+    pub told : clauses.HasCleanDisk store (moved_to result) → HasSomeTable (seen store conn).schema
+        → MatchResult result (λ r. tables.Brings store conn r.1 r.0)
+        (λ e. tables.Refuses store conn e.0 e.1)
+    -- `Already` is answered only where the labels show schema 2.
+    pub named : clauses.HasCleanDisk store (moved_to result)
+        → IfOk result (λ r. r.1 ≡ Already → NamesLatest (seen store conn))
+    -- Labels of schema 2 are handed on, as far as it is known what stood there.
+    pub latest : clauses.HasCleanDisk store (moved_to result)
+        → IfOk result (λ r. IsTrue (clauses.is_open store r.0)
+        → tables.HandsLatest store conn r.1 r.0)
+
+  -- Where there is no table, whatever else there is.
+  pub record MovesNone (conn : Held S) (result : Result (Held S × Step) (TableFault × Held S))
+      : Type 0 where
+    -- It answers no other step than that they were made, and tells of no later schema.
+    pub bare : clauses.HasCleanDisk store (moved_to result) → HasNoTable (seen store conn).schema
+        → MatchResult result (λ r. r.1 ≡ Created) (λ e. IsNotNewerSchema e.0)
+    -- Something else under the name of a table is refused,
+    pub met : clauses.HasCleanDisk store (moved_to result) → HasNoTable (seen store conn).schema
+        → tables.IsMet store conn
+        → Rejects conn (moved_to result) (step_of result) IsNotNewerSchema
+    -- and so is a connection that a fault has shut.
+    pub shut : clauses.HasCleanDisk store (moved_to result) → clauses.is_open store conn ≡ false
+        → Rejects conn (moved_to result) (step_of result) IsMemoryOrStore

@@ -1,8 +1,9 @@
--- What a registry holds, and what its connection says of it; `store` is `S.Store`, which says what the store means.
+-- What a registry holds, and what its connection says of it; `store` is `S.Store`, which says what
+-- the store means.
 use Rattle.std.specs.Prelude.{◌≡◌, Bool, false}
 use Rattle.sqlite.specs.Held.{Held}
 use Rattle.sqlite_trees.specs.declared.store.Store.{Ghosts}
-use Rattle.pid_rows.specs.Clauses as clauses
+use Rattle.pid_tables_rows.specs.Clauses as clauses
 use Rattle.pid_service.specs.declared.registry.Registry.{Registry}
 
 -- neither memory nor the store has failed it while it wrote
@@ -22,7 +23,8 @@ module _ {S : Type 0} (store : Ghosts S) where
   abbrev pub OnlyReads : Registry S store → Registry S store → Type 0
   OnlyReads old new = clauses.OnlyReads store (connection old) (connection new)
 
-  -- It was asked questions alone: it is live or has failed as before, what was at rest stays as it was, and one that has failed is the same.
+  -- It was asked questions alone: it is live or has failed as before, what was at rest stays as it
+  -- was, and one that has failed is the same.
   pub record OnlyAsked (start now : Registry S store) : Type 0 where
     pub lives : is_live now ≡ is_live start
     pub rests : OnlyReads start now

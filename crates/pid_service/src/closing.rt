@@ -2,7 +2,7 @@
 ghost use Rattle.std.specs.Prelude.{◌≡◌, ◌≤◌, false, length};
 ghost use Rattle.pid_moderation.specs.History.{History};
 ghost use Rattle.pid_moderation.specs.Views.{views_of};
-ghost use Rattle.pid_rows.specs.Clauses.{AtRest};
+ghost use Rattle.pid_tables_rows.specs.Clauses.{AtRest};
 ghost use Rattle.pid_service.specs.Histories.{Shows};
 ghost use Rattle.pid_service.specs.KeptNames.{kept_names};
 ghost use Rattle.pid_service.specs.Registries.{connection, is_live as lives};
@@ -26,7 +26,8 @@ impl<S: Alter + Drop> Registry<S> {
         self.names.len()
     }
 
-    /// Hands the connection back, outside a transaction. Of a registry that has failed, open the files anew.
+    /// Hands the connection back, outside a transaction. Of a registry that has failed, open the
+    /// files anew.
     pub fn close(self) -> Connection<S>
         ensures same { result ≡ connection self }
         ensures settled { result.in_transaction ≡ false }

@@ -2,11 +2,13 @@
 #![tactic(auto)]
 
 mod closing;
+mod export_sink;
 mod exporting;
 mod forgetting;
 mod importing;
+mod item_text;
 mod judging;
-mod laws;
+pub mod laws;
 mod lives;
 mod looking_up;
 mod names;
@@ -15,12 +17,14 @@ mod opening;
 mod reading;
 mod registry;
 mod running;
+mod text_length;
 mod writing;
 
 pub use exporting::ExportFault;
 pub use importing::ImportEnd;
 pub use laws::{
-    commands_lead_on, pages_tell_a_hundred, reached_histories_are_kept, taken_histories_are_reached,
+    commands_lead_on, items_print_as_their_tree, pages_tell_a_hundred, reached_histories_are_kept,
+    taken_histories_are_reached,
 };
 pub use lives::{
     clauses_meet_lives, first_openings_show_what_is_there, migrations_find_histories,
@@ -32,8 +36,10 @@ pub use registry::Registry;
 pub use running::RunReport;
 
 // What its callers need of the crates below.
-pub use pid_ident::{Account, Input, Key, Name, Output, Path};
-pub use pid_lookup::{Answer, Args, LookupRefusal, args_of};
-pub use pid_moderation::{Command, Refusal, Reply, command_of, reply_line};
-pub use pid_table_lists::{ChangedItem, Changes};
-pub use pid_tables::{Discussion, Item, Pending, Step, TableFault};
+pub use pid_ident::{Account, Input, Key, Name, Output, Path, Text};
+pub use pid_lookup::{Answer, Args, BadField, LookupRefusal, args_of};
+pub use pid_moderation::{
+    Act, ChangedItem, Changes, Command, Comment, Discussion, File, Item, Pending, Proposal, Rank,
+    Refusal, Reply, State, Submission, Verb, command_of, reply_line,
+};
+pub use pid_tables::{Step, TableFault};

@@ -5,15 +5,15 @@ ghost use Rattle.pid_moderation.specs.History.{History};
 ghost use Rattle.pid_moderation.specs.Items.{name_at};
 ghost use Rattle.pid_moderation.specs.Views.{items_of};
 ghost use Rattle.pid_service.specs.Asking.{HasCause};
-ghost use Rattle.pid_service.specs.Histories.{IsFault, Shows};
+ghost use Rattle.pid_service.specs.Histories.{IsFault, OverHistory, Shows};
 ghost use Rattle.pid_service.specs.Registries.{HasCleanDisk, OnlyReads, is_live as lives};
 
-use crate::laws::reached_histories_are_kept;
+use crate::laws;
 use crate::registry::Registry;
 use pid_ident::{Name, Path};
-use pid_import::refusal_of;
 use pid_lookup::Names;
 use pid_moderation::{Refusal, trees_are_last_writes};
+use pid_tables::refusal_of;
 use sqlite::Alter;
 
 impl<S: Alter + Drop> Registry<S> {
@@ -23,7 +23,8 @@ impl<S: Alter + Drop> Registry<S> {
         ensures clean { HasCleanDisk S.Store self.new → HasCleanDisk S.Store self.old }
         ensures lives { lives self.new ≡ lives self.old }
         ensures shown { (h : History) → Shows S.Store self.old h → Shows S.Store self.new h }
-        ensures found { HasCleanDisk S.Store self.new → (h : History) → Shows S.Store self.old h → IfSome result (λ r. IfOk r (λ name. name ≡ name_at (path_text path.now) (items_of h))) }
+        ensures found { OverHistory S.Store self.old self.new (λ h. IfSome result
+            (λ r. IfOk r (λ name. name ≡ name_at (path_text path.now) (items_of h)))) }
         ensures fault { IfSome result (λ r. IfErr r IsFault) }
         ensures caused { IfSome result (λ r. IfErr r (λ e. HasCause S.Store self.old self.new e)) }
     {
@@ -40,11 +41,13 @@ impl<S: Alter + Drop> Registry<S> {
         ensures clean { HasCleanDisk S.Store self.new → HasCleanDisk S.Store self.old }
         ensures lives { lives self.new ≡ lives self.old }
         ensures shown { (h : History) → Shows S.Store self.old h → Shows S.Store self.new h }
-        ensures found { HasCleanDisk S.Store self.new → (h : History) → Shows S.Store self.old h → IfOk result (λ name. name ≡ name_at (path_text path.now) (items_of h)) }
+        ensures found { OverHistory S.Store self.old self.new
+            (λ h. IfOk result (λ name. name ≡ name_at (path_text path.now) (items_of h))) }
         ensures fault { IfErr result IsFault }
-        ensures caused { HasCleanDisk S.Store self.new → (h : History) → Shows S.Store self.old h → IfErr result (λ e. HasCause S.Store self.old self.new e) }
+        ensures caused { OverHistory S.Store self.old self.new
+            (λ h. IfErr result (HasCause S.Store self.old self.new)) }
     {
-        reached_histories_are_kept();
+        laws::reached_histories_are_kept(); // proof only
         match self.tables.item(self.alloc, path) {
             Ok(name) => {
                 self.names.put(path, &name);
@@ -82,7 +85,7 @@ impl<S: Alter + Drop> Names for Registry<S> {
     ghost only_asked = { OnlyAsked S.Store };
 
     fn name_of(&mut self, path: &Path) -> Result<Option<Name>, Refusal> {
-        trees_are_last_writes();
+        trees_are_last_writes(); // proof only
         if !self.live {
             return Err(Refusal::Failed);
         }

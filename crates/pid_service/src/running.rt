@@ -1,12 +1,23 @@
 //! A list of commands in one call.
-ghost use Rattle.std.specs.Prelude.{◌≡◌, ◌<◌, ◌≤◌, ◌⊎◌, [], length, map, false, true, None, Some, IfSome, IsSome, IsSomeAnd, vec_capacity, vec_len};
+ghost use Rattle.std.specs.Prelude.{
+  ◌≡◌,
+  ◌≤◌,
+  ◌⊎◌,
+  [],
+  length,
+  map,
+  true,
+  IfSome,
+  IsSomeAnd,
+  vec_capacity,
+  vec_len,
+};
 ghost use Rattle.std.specs.List.{AllByRecursion};
-ghost use Rattle.pid_moderation.specs.History.{History};
-ghost use Rattle.pid_import.specs.Files.{asks};
-ghost use Rattle.pid_service.specs.Asking.{MayGive};
-ghost use Rattle.pid_service.specs.Histories.{IsFault, Shows};
+ghost use Rattle.pid_tables.specs.Files.{asks};
+ghost use Rattle.pid_service.specs.Histories.{IsFault, OverHistory};
 ghost use Rattle.pid_service.specs.Registries.{HasCleanDisk, is_live as lives};
-ghost use Rattle.pid_service.specs.Running.{ForgetsRun, DoesNotTellFailed, Runs, fault_in};
+ghost use Rattle.pid_service.specs.Running.{DoesNotTellFailed, ForgetsRun, IsRun, Runs};
+ghost use Rattle.pid_service.specs.Steps.Running.{CountsReplies, fault_in};
 
 use crate::registry::Registry;
 use pid_moderation::{Command, Refusal, Reply};
@@ -17,8 +28,8 @@ use sqlite::Alter;
 pub struct RunReport {
     /// The reply or the refusal of each command that was obeyed, from the first one on.
     pub replies: Vec<Result<Reply, Refusal>>,
-    /// `Memory` or `Store` at the command behind these, or `Failed` of a registry that had failed before; none where all were
-    /// obeyed.
+    /// `Memory` or `Store` at the command after these, or `Failed` of a registry that had failed
+    /// before; none where all were obeyed.
     pub fault: Option<Refusal>,
 }
 
@@ -45,12 +56,15 @@ impl<S: Alter + Drop> Registry<S> {
         requires room { length commands.now ≤ vec_capacity replies }
         ensures clean { HasCleanDisk S.Store self.new → HasCleanDisk S.Store self.old }
         ensures fault { IfSome result.fault IsFault }
-        ensures complete { result.fault ≡ None → length result.replies.items ≡ length commands.now }
-        ensures cut { IsSome result.fault → length result.replies.items < length commands.now }
-        ensures ran { HasCleanDisk S.Store self.new → (h : History) → Shows S.Store self.old h → Runs S.Store result self.new h (map asks commands.now) }
-        ensures forgets { HasCleanDisk S.Store self.new → (h : History) → Shows S.Store self.old h → ForgetsRun S.Store result self.new h (map asks commands.now) }
-        ensures held { lives self.old ≡ true → (lives self.new ≡ true) ⊎ IsSomeAnd result.fault IsFault }
-        ensures alive { lives self.old ≡ true → AllByRecursion DoesNotTellFailed result.replies.items }
+        ensures counts { CountsReplies result commands.now }
+        ensures ran { OverHistory S.Store self.old self.new
+            (λ h. Runs S.Store result self.new h (map asks commands.now)) }
+        ensures forgets { OverHistory S.Store self.old self.new
+            (λ h. ForgetsRun S.Store result self.new h (map asks commands.now)) }
+        ensures held { lives self.old ≡ true
+            → (lives self.new ≡ true) ⊎ IsSomeAnd result.fault IsFault }
+        ensures alive { lives self.old ≡ true
+            → AllByRecursion DoesNotTellFailed result.replies.items }
     {
         for command in commands {
             let outcome = self.obey_lent(command);
@@ -73,23 +87,10 @@ impl<S: Alter + Drop> Registry<S> {
 
     /// Obeys commands in order, up to the first at which memory is short or the store fails.
     ///
-    /// The memory for the replies is taken first, so that none is lost. A registry that has failed obeys nothing, with the fault `Failed`.
+    /// The memory for the replies is taken first, so that none is lost. A registry that has failed
+    /// obeys nothing, with the fault `Failed`.
     pub fn run(&mut self, commands: &[Command]) -> RunReport
-        ensures failed { lives self.old ≡ false → (result.replies.items ≡ []) × (result.fault ≡ Some Refusal.Failed) × (self.new ≡ self.old) }
-        ensures clean { HasCleanDisk S.Store self.new → HasCleanDisk S.Store self.old }
-        ensures fault { IfSome result.fault (MayGive (lives self.old)) }
-        // Whatever its disk does: where no fault is told each command has a reply, and where a live registry tells one some have none.
-        ensures complete { result.fault ≡ None → length result.replies.items ≡ length commands.now }
-        ensures cut { lives self.old ≡ true → IsSome result.fault → length result.replies.items < length commands.now }
-        ensures most { length result.replies.items ≤ length commands.now }
-        ensures ran { HasCleanDisk S.Store self.new → (h : History) → Shows S.Store self.old h → Runs S.Store result self.new h (map asks commands.now) }
-        // Where some command left other items, no name is kept in memory.
-        ensures forgets { HasCleanDisk S.Store self.new → (h : History) → Shows S.Store self.old h → ForgetsRun S.Store result self.new h (map asks commands.now) }
-        // Whatever its disk does: without a fault a live registry stays live, one that has failed since was short of memory, or its store failed,
-        ensures stays { lives self.old ≡ true → result.fault ≡ None → lives self.new ≡ true }
-        ensures fails { lives self.old ≡ true → lives self.new ≡ false → IsSomeAnd result.fault IsFault }
-        // and no live one replies that it had failed.
-        ensures alive { lives self.old ≡ true → AllByRecursion DoesNotTellFailed result.replies.items }
+        ensures { IsRun S.Store self.old self.new commands.now result }
     {
         if !self.live {
             return RunReport {

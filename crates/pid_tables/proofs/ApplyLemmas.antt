@@ -8,9 +8,10 @@ use Rattle.pid_moderation.specs.declared.change.Effect.TheVariants.{Nothing, Ran
 use Rattle.pid_moderation.specs.declared.change.Receipt.{Receipt}
 use Rattle.pid_moderation.specs.Changes.{affected, keeping, changed, FitsEffect, FitsReceipt}
 use Rattle.pid_moderation.specs.Views.{Views}
-use Rattle.pid_rows.specs.Shows.{Counts, ShowsCounting, Shows, counts_of}
-use Rattle.pid_rows.specs.Writes.{with_revision}
-use Rattle.pid_tables.specs.Applies.{IsCounted, recounted}
+use Rattle.pid_tables_rows.specs.Shows.{Counts, ShowsCounting, Shows, counts_of}
+use Rattle.pid_tables_rows.specs.Writes.{with_revision}
+use Rattle.pid_tables.specs.Applies.{IsCounted}
+use Rattle.pid_tables.specs.Steps.Applies.{recounted}
 
 -- meta has the counts of the changed views
 pub recounted_is : (n : ℕ) (e : Effect) (c : Counts) (v : Views) → IsCounted e c v → FitsEffect e v → recounted e c ≡ counts_of (affected n e v)

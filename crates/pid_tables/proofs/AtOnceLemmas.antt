@@ -1,5 +1,5 @@
 -- What calls that write in one transaction leave, whatever the database.
-use Rattle.std.proofs.Common.{◌≡◌, inl, inr, true, false, [], Ok, Err, Result, OnErr, IsTrue, refl, sym, subst, ◌∙◌}
+use Rattle.std.proofs.Common.{◌≡◌, inl, inr, true, false, [], Ok, Err, Result, IfErr, OnErr, IsTrue, refl, sym, subst, ◌∙◌}
 use Rattle.sqlite.proofs.Callers.{survives_begin}
 use Rattle.sqlite.proofs.StateLemmas.{survives_then}
 use Rattle.sqlite.specs.Held.{Held, state}
@@ -7,12 +7,16 @@ use Rattle.sqlite.specs.State.{State, HasCleanDisk, Survives}
 use Rattle.sqlite_trees.specs.declared.store.Store.{Ghosts}
 use Rattle.pid_moderation.specs.History.{new_history}
 use Rattle.pid_moderation.specs.Views.{views_of}
-use Rattle.pid_rows.specs.Leaves.{GoesOn, OnlyReads}
-use Rattle.pid_rows.specs.Shows.{Shows}
-use Rattle.pid_rows.proofs.GoingLemmas.{earlier}
-use Rattle.pid_rows.proofs.LeaveLemmas.{shows_found}
-use Rattle.pid_tables.specs.AtOnce.{IsOneStep, IsTakenBack}
+use Rattle.pid_tables_rows.specs.declared.fault.TableFault.{TableFault}
+use Rattle.pid_tables_rows.specs.Faults.{IsMemoryOrStore}
+use Rattle.pid_tables_rows.specs.Leaves.{GoesOn, OnlyReads}
+use Rattle.pid_tables_rows.specs.Shows.{Shows}
+use Rattle.pid_tables_rows.proofs.GoingLemmas.{earlier}
+use Rattle.pid_tables_rows.proofs.LeaveLemmas.{on_err, shows_found}
+use Rattle.pid_tables_rows.proofs.OnlyReading.{reads_then}
+use Rattle.pid_tables.specs.AtOnce.{IsOneStep, IsTakenBack, WritesAtOnce}
 use Rattle.pid_tables.specs.Creation.{AreMade, IsUndone, RestsBare}
+use Rattle.pid_tables.proofs.MoveLemmas.{all_err, never_told, or_never}
 
 -- ---- reads
 
@@ -43,6 +47,24 @@ reads_then_once a b c reads once = record {
 pub reads_then_back : {X E : Type 0} (a b c : State) (r : Result X E) → OnlyReads a b → OnErr r (IsTakenBack b c) → OnErr r (IsTakenBack a c)
 reads_then_back a b c (Ok x) reads back = tt
 reads_then_back a b c (Err e) reads back = record { was_open = λ opened. reads.was_open (back.was_open opened); same = λ d rest. back.same d (reads.same d rest) }
+
+pub reads_at_once : {X : Type 0} (old new : State) (r : Result X TableFault) → OnlyReads old new → WritesAtOnce old new r
+reads_at_once old new r reads = record {
+  settled = reads.settled;
+  clean = reads.clean;
+  once = reads_once old new reads;
+  back = on_err r (reads_back old new reads);
+  unchanged = λ clean. all_err r (λ e told. reads);
+}
+
+pub reads_then_at_once : {X : Type 0} (a b c : State) (r : Result X TableFault) → OnlyReads a b → WritesAtOnce b c r → WritesAtOnce a c r
+reads_then_at_once a b c r reads writes = record {
+  settled = writes.settled;
+  clean = λ clean. reads.clean (writes.clean clean);
+  once = reads_then_once a b c reads writes.once;
+  back = reads_then_back a b c r reads writes.back;
+  unchanged = λ clean. or_never r (λ more. reads_then a b c reads more) (writes.unchanged clean);
+}
 
 -- ---- a transaction that was to be committed
 
@@ -75,6 +97,16 @@ module _ {S X E : Type 0} (g : Ghosts S) (old mid end : Held S) (r : Result X E)
     pub commit_back : {Y F : Type 0} (ends : Result Y F) → (HasCleanDisk (state g end) → OnErr ends (IsUndone (state g mid) (state g end))) → OnErr ends (IsTakenBack (state g old) (state g end))
     commit_back (Ok x) undone = tt
     commit_back (Err e) undone = back undone
+
+    pub commit_at_once : {Y : Type 0} (ends : Result Y TableFault) → (state g end).in_transaction ≡ false → (HasCleanDisk (state g end) → OnErr ends (IsUndone (state g mid) (state g end)))
+        → (HasCleanDisk (state g end) → IfErr ends IsMemoryOrStore) → WritesAtOnce (state g old) (state g end) ends
+    commit_at_once ends ended undone untold = record {
+      settled = ended;
+      clean = λ clean. earlier (state g old) (state g end) whole clean;
+      once = committed_once;
+      back = commit_back ends undone;
+      unchanged = λ clean. never_told (OnlyReads (state g old) (state g end)) ends (untold clean);
+    }
 
     -- where there was no table: one may be left that shows the history of a new registry
     pub commit_bare : {Y F : Type 0} (ends : Result Y F) → (state g end).in_transaction ≡ false → (HasCleanDisk (state g end) → OnErr ends (IsUndone (state g mid) (state g end)))

@@ -18,27 +18,29 @@ use Rattle.sqlite.specs.Edit.{next_rowid, numbered}
 use Rattle.sqlite_rules.specs.declared.error.Rowids.TheVariants.{Chosen}
 use Rattle.pid_moderation.specs.declared.facts.State.TheVariants.{Pending}
 use Rattle.pid_moderation.specs.Views.{Views}
-use Rattle.pid_rows.specs.Schema.{pid_schema, no_schema, meta, account, item, submission, remark, receipt, item_since}
-use Rattle.pid_rows.specs.declared.version.Version.TheVariants.{Two}
-use Rattle.pid_rows.specs.PairRows.{Map, RowsAre}
-use Rattle.pid_rows.specs.TableRows.{number, meta_row}
+use Rattle.pid_tables_rows.specs.Schema.{pid_schema, no_schema, meta, account, item, submission, remark, receipt, item_since}
+use Rattle.pid_tables_rows.specs.declared.version.Version.TheVariants.{Two}
+use Rattle.pid_tables_rows.specs.PairRows.{Map, RowsAre}
+use Rattle.pid_tables_rows.specs.TableRows.{number, meta_row}
 use Rattle.sqlite.specs.Order.{Row}
-use Rattle.pid_rows.specs.Shows.{ShowsCounting, meta_of, standing_in, remark_in, counted_from_one}
-use Rattle.pid_rows.proofs.MapLemmas.{map_added}
-use Rattle.pid_rows.proofs.Keys.{meta_found, meta_plain, meta_cast}
-use Rattle.pid_rows.proofs.KeyTexts.{by_first, pair_terms, insert_meta_is}
-use Rattle.pid_rows.proofs.StatementTexts.{insert_meta}
-use Rattle.pid_rows.proofs.WriteLemmas.{cast_null}
-use Rattle.pid_rows.proofs.WriteRows.{Ran}
-use Rattle.pid_rows.proofs.WriteFaults.{create_writes}
-use Rattle.pid_rows.specs.declared.fault.TableFault.{TableFault}
-use Rattle.pid_rows.specs.Faults.{IsUntold}
-use Rattle.pid_rows.specs.Leaves.{GoesOn}
-use Rattle.pid_rows.specs.Queries.{IsWriteAs}
+use Rattle.pid_tables_rows.specs.Shows.{ShowsCounting, remark_in, counted_from_one}
+use Rattle.pid_tables_rows.specs.Steps.Shows.{meta_of}
+use Rattle.pid_moderation.specs.Submissions.{standing_in}
+use Rattle.pid_tables_rows.proofs.MapLemmas.{map_added}
+use Rattle.pid_tables_rows.proofs.Keys.{meta_found, meta_plain, meta_cast}
+use Rattle.pid_tables_rows.proofs.KeyTexts.{by_first, pair_terms, insert_meta_is}
+use Rattle.pid_tables_rows.proofs.StatementTexts.{insert_meta}
+use Rattle.pid_tables_rows.proofs.WriteLemmas.{cast_null}
+use Rattle.pid_tables_rows.proofs.WriteRows.{Ran}
+use Rattle.pid_tables_rows.proofs.WriteFaults.{create_writes}
+use Rattle.pid_tables_rows.specs.declared.fault.TableFault.{TableFault}
+use Rattle.pid_tables_rows.specs.Faults.{IsMemoryOrStore}
+use Rattle.pid_tables_rows.specs.Leaves.{GoesOn}
+use Rattle.pid_tables_rows.specs.Queries.{IsWriteAs}
 use Rattle.pid_tables.specs.Creation.{AreMade}
-use Rattle.pid_tables.specs.Making.{making, Creates, IsKnown, Makes, HasOnlyMeta, with_label}
-use Rattle.pid_rows.proofs.SetLemmas.{all_with, text_set}
-use Rattle.pid_rows.proofs.WriteLemmas.{went, same_value}
+use Rattle.pid_tables.specs.Steps.MakingTables.{making, Creates, IsKnown, Makes, HasOnlyMeta, with_label}
+use Rattle.pid_tables_rows.proofs.SetLemmas.{all_with, text_set}
+use Rattle.pid_tables_rows.proofs.WriteLemmas.{went, same_value}
 
 abbrev Empty : Trees → Table → Type 0
 Empty db t = db t.tree ≡ []
@@ -89,7 +91,7 @@ one_more ts text table it tables old new count made h =
 -- one CREATE TABLE inside a transaction
 pub made_one : {X : Type 0} (ts : List Table) (text : List ℕ) (table : Table) (r : Result X TableFault) (old new : State) → Creates ts text table → (making ts).tables ≡ ts → GoesOn old new r
     → (HasCleanDisk new → IsTrue old.in_transaction → OnOk r ((count : ℕ) × Executes text [] old new (Ok count)))
-    → (HasCleanDisk new → (schema : Schema) → (IsTrue old.is_open → old.now.schema ≡ schema) → IsWriteAs text (understood schema text) → IfErr r IsUntold) → Makes old new r ts (ts ++ table ∷ [])
+    → (HasCleanDisk new → (schema : Schema) → (IsTrue old.is_open → old.now.schema ≡ schema) → IsWriteAs text (understood schema text) → IfErr r IsMemoryOrStore) → Makes old new r ts (ts ++ table ∷ [])
 made_one ts text table (Ok x) old new it tables goes ran untold clean inside made = let h = ran clean inside in one_more ts text table it tables old new h.0 (made (goes.was_open clean (goes.going clean inside).0)) h.1
 made_one ts text table (Err e) old new it tables goes ran untold clean inside made = untold clean (making ts) (λ opened. (made opened).schema) (create_writes (making ts) text _ (command_is text _ it.known) (plain_is text _ it.known) (whole_is text _ it.known) it.defined)
 

@@ -2,8 +2,8 @@
 use Rattle.std.proofs.Common.{◌≡◌, ℕ, List, [], ◌∷◌, codes, refl}
 use Rattle.sqlite.specs.Listing.{understood}
 use Rattle.sqlite_tied.specs.Compute.{everything}
-use Rattle.pid_rows.specs.Schema.{meta, account, item, submission, remark, receipt, item_since, pid_schema}
-use Rattle.pid_tables.specs.Making.{making, Creates}
+use Rattle.pid_tables_rows.specs.Schema.{meta, account, item, submission, remark, receipt, item_since, pid_schema}
+use Rattle.pid_tables.specs.Steps.MakingTables.{making, Creates}
 
 abbrev pub create_meta : List ℕ
 create_meta = codes "CREATE TABLE meta (label TEXT NOT NULL PRIMARY KEY, value INTEGER NOT NULL) STRICT"

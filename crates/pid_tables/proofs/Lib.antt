@@ -13,3 +13,14 @@ pub mod SchemaNumbers
 pub mod MoveLemmas
 pub mod StandLemmas
 pub mod BringLemmas
+pub mod FileEntries
+pub mod Readings
+pub mod Counting
+pub mod Refused
+pub mod Judged
+pub mod FilePut
+pub mod InTurn
+pub mod ImportPuts
+pub mod PutInto
+pub mod BringIn
+pub mod WorkedRows

@@ -15,8 +15,8 @@ use Rattle.sqlite_resolve.specs.Compile.{first, is_attached, compiled, planned, 
 use Rattle.sqlite_resolve.specs.Lowering.{Checked, and_then}
 use Rattle.sqlite_syntax.specs.declared.statement.Parsed.{Parsed}
 use Rattle.sqlite_tied.specs.Compute.{everything}
-use Rattle.pid_rows.specs.Schema.{meta, account, item, submission, remark, receipt, item_since, pid_schema}
-use Rattle.pid_tables.specs.Making.{IsMaker, IsMakerOf, IsRefused}
+use Rattle.pid_tables_rows.specs.Schema.{meta, account, item, submission, remark, receipt, item_since, pid_schema}
+use Rattle.pid_tables.specs.Steps.MakingTables.{IsMaker, IsMakerOf, IsRefused}
 use Rattle.pid_tables.proofs.CreateTexts.{create_meta, create_account, create_item, create_submission, create_remark, create_receipt, create_item_since, meta_creates, account_creates, item_creates, submission_creates, remark_creates, receipt_creates, item_since_creates}
 
 abbrev MakesIfGiven : Checked Command → Type 0

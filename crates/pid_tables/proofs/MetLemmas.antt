@@ -22,17 +22,17 @@ use Rattle.sqlite_resolve.specs.declared.error.CompileError.{CompileError}
 use Rattle.sqlite_resolve.specs.declared.error.CompileError.TheVariants as compile
 use Rattle.sqlite_rules.specs.Lists.{Has}
 use Rattle.sqlite_schema.specs.Names.{same_name}
-use Rattle.pid_rows.specs.declared.fault.TableFault.{TableFault}
-use Rattle.pid_rows.specs.declared.fault.TableFault.TheVariants.{Memory, Store, NewerSchema, Damaged}
-use Rattle.pid_rows.specs.Faults.{fault_of, IsNotLater}
-use Rattle.pid_rows.specs.Causes.{IsCaused}
+use Rattle.pid_tables_rows.specs.declared.fault.TableFault.{TableFault}
+use Rattle.pid_tables_rows.specs.declared.fault.TableFault.TheVariants.{Memory, Store, NewerSchema, Damaged}
+use Rattle.pid_tables_rows.specs.Faults.{fault_of, IsNotNewerSchema}
+use Rattle.pid_tables_rows.specs.Causes.{IsCaused}
 use Rattle.pid_moderation.specs.Views.{Views}
-use Rattle.pid_rows.specs.Leaves.{AtRest, GoesOn, OnlyReads}
-use Rattle.pid_rows.specs.Schema.{pid_schema}
-use Rattle.pid_rows.proofs.CauseLemmas.{of_store, caused_first}
-use Rattle.pid_rows.proofs.WriteLemmas.{went, same_value}
+use Rattle.pid_tables_rows.specs.Leaves.{AtRest, GoesOn, OnlyReads}
+use Rattle.pid_tables_rows.specs.Schema.{pid_schema}
+use Rattle.pid_tables_rows.proofs.CauseLemmas.{of_store, caused_first}
+use Rattle.pid_tables_rows.proofs.WriteLemmas.{went, same_value}
 use Rattle.pid_tables.specs.Creation.{table_names, IsMet, IsMetFault}
-use Rattle.pid_tables.specs.Making.{IsMaker, IsKnown, IsMakerOf, IsRefused, TookNames}
+use Rattle.pid_tables.specs.Steps.MakingTables.{IsMaker, IsKnown, IsMakerOf, IsRefused, TookNames}
 use Rattle.pid_tables.proofs.CreateLemmas.{command_is, whole_is, plain_is}
 
 -- ---- names that are taken stay so
@@ -78,7 +78,7 @@ took text name old new it count h =
           subst (λ (d : Database). is_used d.schema other ≡ true) (sym now) (sequence_more first.0 all.0 other (lacks_sequence first.0.schema) first.2 made);
     }
 
-making_fault : (e : Error) → IsNotLater (fault_of e)
+making_fault : (e : Error) → IsNotNewerSchema (fault_of e)
 making_fault (SqliteFailure code.OutOfMemory) = tt
 making_fault (SqlInputError compile.OutOfMemory) = tt
 making_fault _ = tt
@@ -90,9 +90,9 @@ abbrev Failed : List ℕ → State → State → TableFault → Type 0
 Failed text old new fault = (e : Error) × (fault ≡ fault_of e) × ExecutesInside 0 text [] old new (Err e)
 
 pub taken : (text name : List ℕ) (old new : State) → IsMakerOf text name → (r : Result (Unit {0}) TableFault) → OnOk r (Ran text old new) → IfErr r (Failed text old new)
-    → MatchResult r (λ _. TookNames (name ∷ []) old.now.schema new.now.schema) IsNotLater
+    → MatchResult r (λ _. TookNames (name ∷ []) old.now.schema new.now.schema) IsNotNewerSchema
 taken text name old new it (Ok x) ran failed = took text name old new it ran.0 ran.1
-taken text name old new it (Err f) ran failed = subst IsNotLater (sym failed.1) (making_fault failed.0)
+taken text name old new it (Err f) ran failed = subst IsNotNewerSchema (sym failed.1) (making_fault failed.0)
 
 -- ---- one after the other
 
@@ -113,7 +113,7 @@ took_both ns ms a b c one two = record {
   kept = λ name used. two.kept name (one.kept name used);
 }
 
-pub took_then : (ns ms : List (List ℕ)) (a b c : Schema) → TookNames ns a b → (r : Result (Unit {0}) TableFault) → MatchResult r (λ _. TookNames ms b c) IsNotLater → MatchResult r (λ _. TookNames (ns ++ ms) a c) IsNotLater
+pub took_then : (ns ms : List (List ℕ)) (a b c : Schema) → TookNames ns a b → (r : Result (Unit {0}) TableFault) → MatchResult r (λ _. TookNames ms b c) IsNotNewerSchema → MatchResult r (λ _. TookNames (ns ++ ms) a c) IsNotNewerSchema
 took_then ns ms a b c one (Ok x) two = took_both ns ms a b c one two
 took_then ns ms a b c one (Err e) two = two
 
@@ -132,7 +132,7 @@ never : (r : Result Compiled CompileError) (c : Compiled) → IsRefused r → r 
 never (Ok d) c bad is = bad
 never (Err e) c bad is = cc
 
-shut_fault : (old new : State) (f : TableFault) → old.is_open ≡ false → IsNotLater f → IsMetFault old new f
+shut_fault : (old new : State) (f : TableFault) → old.is_open ≡ false → IsNotNewerSchema f → IsMetFault old new f
 shut_fault old new Memory shut h = tt
 shut_fault old new Store shut h = inr (inl shut)
 shut_fault old new (NewerSchema n) shut h = h
@@ -184,7 +184,7 @@ module _ (text : List ℕ) (old new : State) (bad : IsRefused (understood pid_sc
   met_fault has (Ok x) clean within goes ran failed = no_text (has (goes.was_open clean (goes.going clean within).0)) (SqliteFailure code.OutOfMemory) ran.1.0 ran.1.1.is
   met_fault has (Err f) clean within goes ran failed = elim (cases_Bool old.is_open) [
     | inl opened ↦ subst (IsMetFault old new) (sym failed.1) (inside (has opened) failed.0 failed.2)
-    | inr shut ↦ shut_fault old new f shut (subst IsNotLater (sym failed.1) (making_fault failed.0))
+    | inr shut ↦ shut_fault old new f shut (subst IsNotNewerSchema (sym failed.1) (making_fault failed.0))
   ]
 
 -- ---- a call that only fails

@@ -1,5 +1,5 @@
 -- What the move of the tables leaves.
-use Rattle.std.proofs.Common.{◌≡◌, inl, inr, true, false, Ok, Err, Result, IfErr, OnErr, IsTrue, refl, sym, subst, ◌∙◌}
+use Rattle.std.proofs.Common.{◌≡◌, inl, inr, true, false, Ok, Err, Result, IsErrAnd, IfErr, IfOk, OnErr, OnOk, IsTrue, refl, sym, subst, ◌∙◌}
 use Rattle.sqlite.proofs.Callers.{survives_begin}
 use Rattle.sqlite.proofs.StateLemmas.{survives_then}
 use Rattle.sqlite.specs.Effect.{Database}
@@ -9,17 +9,17 @@ use Rattle.sqlite.specs.Steps.{FailsToCommit}
 use Rattle.sqlite.specs.declared.error.Error.{Error}
 use Rattle.sqlite_trees.specs.declared.store.Store.{Ghosts}
 use Rattle.pid_moderation.specs.Views.{Views}
-use Rattle.pid_rows.specs.declared.fault.TableFault.{TableFault}
-use Rattle.pid_rows.specs.declared.fault.TableFault.TheVariants.{Memory, Store, NewerSchema, Damaged}
-use Rattle.pid_rows.specs.declared.version.Version.{Version}
-use Rattle.pid_rows.specs.declared.version.Version.TheVariants.{Two}
-use Rattle.pid_rows.specs.Causes.{IsCaused}
-use Rattle.pid_rows.specs.Faults.{IsUntold, IsNotLater}
-use Rattle.pid_rows.specs.Leaves.{GoesOn, RestsIn}
-use Rattle.pid_rows.specs.Shows.{Shows, ShowsIn}
-use Rattle.pid_rows.proofs.GoingLemmas.{earlier}
-use Rattle.pid_rows.proofs.LeaveLemmas.{shows_found}
-use Rattle.pid_table_check.proofs.Later.{untold_never}
+use Rattle.pid_tables_rows.specs.declared.fault.TableFault.{TableFault}
+use Rattle.pid_tables_rows.specs.declared.fault.TableFault.TheVariants.{Memory, Store, NewerSchema, Damaged}
+use Rattle.pid_tables_rows.specs.declared.version.Version.{Version}
+use Rattle.pid_tables_rows.specs.declared.version.Version.TheVariants.{Two}
+use Rattle.pid_tables_rows.specs.Causes.{IsCaused}
+use Rattle.pid_tables_rows.specs.Faults.{IsMemoryOrStore, IsNotNewerSchema}
+use Rattle.pid_tables_rows.specs.Leaves.{GoesOn, RestsIn}
+use Rattle.pid_tables_rows.specs.Shows.{Shows, ShowsIn}
+use Rattle.pid_tables_rows.proofs.GoingLemmas.{earlier}
+use Rattle.pid_tables_rows.proofs.LeaveLemmas.{shows_found}
+use Rattle.pid_tables_check.proofs.Later.{untold_never}
 use Rattle.pid_tables.specs.Creation.{IsUndone}
 
 -- a commit that failed gives back what was committed
@@ -59,18 +59,18 @@ failed_rests g version old mid end r (Err e) v law rest goes shows ended survive
 
 -- ---- faults
 
-pub caused_untold : (old new : State) (e : TableFault) → IsCaused old new e → IsUntold e
+pub caused_untold : (old new : State) (e : TableFault) → IsCaused old new e → IsMemoryOrStore e
 caused_untold old new Memory h = tt
 caused_untold old new Store h = tt
 caused_untold old new (NewerSchema n) h = h
 caused_untold old new Damaged h = h
 
 -- a fault that has a cause says nothing of the tables
-pub all_untold : {X : Type 0} (old new : State) (r : Result X TableFault) → IfErr r (IsCaused old new) → IfErr r IsUntold
+pub all_untold : {X : Type 0} (old new : State) (r : Result X TableFault) → IfErr r (IsCaused old new) → IfErr r IsMemoryOrStore
 all_untold old new (Ok x) h = tt
 all_untold old new (Err e) h = caused_untold old new e h
 
-pub all_never : {X : Type 0} (r : Result X TableFault) → IfErr r IsUntold → IfErr r IsNotLater
+pub all_never : {X : Type 0} (r : Result X TableFault) → IfErr r IsMemoryOrStore → IfErr r IsNotNewerSchema
 all_never (Ok x) h = tt
 all_never (Err e) h = untold_never e h
 
@@ -78,10 +78,19 @@ pub all_err : {X : Type 0} {P : TableFault → Type 0} (r : Result X TableFault)
 all_err (Ok x) f = tt
 all_err (Err e) f = f e
 
-pub never_told : {X : Type 0} (P : Type 0) (r : Result X TableFault) → IfErr r IsUntold → IfErr r (λ e. ¬ (IsUntold e) → P)
+pub never_told : {X : Type 0} (P : Type 0) (r : Result X TableFault) → IfErr r IsMemoryOrStore → IfErr r (λ e. ¬ (IsMemoryOrStore e) → P)
 never_told P (Ok x) h = tt
 never_told P (Err e) h = λ told. absurd (told h)
 
-pub or_never : {X P Q : Type 0} (r : Result X TableFault) → (P → Q) → IfErr r (λ e. ¬ (IsUntold e) → P) → IfErr r (λ e. ¬ (IsUntold e) → Q)
+pub or_never : {X P Q : Type 0} (r : Result X TableFault) → (P → Q) → IfErr r (λ e. ¬ (IsMemoryOrStore e) → P) → IfErr r (λ e. ¬ (IsMemoryOrStore e) → Q)
 or_never (Ok x) f h = tt
 or_never (Err e) f h = λ told. f (h told)
+
+-- a fault is no value
+pub not_ok : {X : Type 0} (r : Result X TableFault) (e : TableFault) (P : X → Type 0) → IsErrAnd r (λ y. y ≡ e) → IfOk r P
+not_ok (Ok x) e P h = absurd h
+not_ok (Err y) e P h = tt
+
+pub not_on_ok : {X : Type 0} (r : Result X TableFault) (e : TableFault) (P : Type 0) → IsErrAnd r (λ y. y ≡ e) → OnOk r P
+not_on_ok (Ok x) e P h = absurd h
+not_on_ok (Err y) e P h = tt

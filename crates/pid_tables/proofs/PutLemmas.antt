@@ -16,15 +16,15 @@ use Rattle.pid_moderation.specs.Changes.{with_items}
 use Rattle.pid_moderation.specs.Items.{Items, name_at, has_name}
 use Rattle.pid_moderation.specs.Views.{Views}
 use Rattle.pid_tables.specs.declared.putting.Put.TheVariants.{Added, Renamed, Same}
-use Rattle.pid_rows.specs.Answers.{name_row}
+use Rattle.pid_tables_rows.specs.Steps.Answers.{name_row}
 use Rattle.pid_tables.specs.Puts.{put_over}
-use Rattle.pid_rows.specs.Schema.{pid_schema}
-use Rattle.pid_rows.specs.Shows.{Counts, ShowsCounting}
-use Rattle.pid_rows.specs.Writes.{with_name}
+use Rattle.pid_tables_rows.specs.Schema.{pid_schema}
+use Rattle.pid_tables_rows.specs.Shows.{Counts, ShowsCounting}
+use Rattle.pid_tables_rows.specs.Writes.{with_name}
 use Rattle.std.proofs.lemmas.Bool.{cases_Bool}
-use Rattle.pid_rows.proofs.SetLemmas.{tied}
+use Rattle.pid_tables_rows.proofs.SetLemmas.{tied}
 use Rattle.pid_tables.proofs.ChangeLemmas.{same_items}
-use Rattle.pid_rows.proofs.ReadLemmas.{shows_still}
+use Rattle.pid_tables_rows.proofs.ReadLemmas.{shows_still}
 
 pub on_read : {X E : Type 0} (sql : List ℕ) (params : Row) (old new : State) (r : Result X E) (rows : X → List Row) (c : Counts) (v : Views) → IsPlain (understood pid_schema sql) → ShowsCounting c old.now v
     → IfOk r (λ x. Shown sql params old new (rows x)) → OnOk r (ShowsCounting c new.now v)

@@ -7,21 +7,21 @@ use Rattle.sqlite.specs.Order.{Row, column}
 use Rattle.sqlite.specs.State.{State, HasCleanDisk}
 use Rattle.sqlite.specs.declared.types.Value.TheVariants.{Text}
 use Rattle.pid_moderation.specs.Views.{Views}
-use Rattle.pid_rows.specs.declared.version.Version.{Version}
-use Rattle.pid_rows.specs.declared.version.Version.TheVariants.{One, Two}
-use Rattle.pid_rows.specs.declared.fault.TableFault.{TableFault}
-use Rattle.pid_rows.specs.declared.fault.TableFault.TheVariants.{Memory, Store, NewerSchema, Damaged}
-use Rattle.pid_rows.specs.Causes.{IsCaused}
-use Rattle.pid_rows.specs.Faults.{IsUntold}
-use Rattle.pid_rows.specs.Leaves.{OnlyReads}
-use Rattle.pid_rows.specs.LabelRows.{HasLabel, IsDamageOf, LacksNumber, ExplainsNumber, ShowsNumber}
-use Rattle.pid_rows.specs.PairRows.{IsPairRow}
-use Rattle.pid_rows.specs.Schema.{number_of}
-use Rattle.pid_rows.specs.Shows.{Counts, Numbers, ShowsKeeping, labels_of}
-use Rattle.pid_rows.specs.TableRows.{number, meta_row}
-use Rattle.pid_rows.proofs.Keys.{pos_same}
-use Rattle.pid_table_check.proofs.Asking.{IsSame, caused_then}
-use Rattle.pid_tables.specs.Steps.{is_latest}
+use Rattle.pid_tables_rows.specs.declared.version.Version.{Version}
+use Rattle.pid_tables_rows.specs.declared.version.Version.TheVariants.{One, Two}
+use Rattle.pid_tables_rows.specs.declared.fault.TableFault.{TableFault}
+use Rattle.pid_tables_rows.specs.declared.fault.TableFault.TheVariants.{Memory, Store, NewerSchema, Damaged}
+use Rattle.pid_tables_rows.specs.Causes.{IsCaused}
+use Rattle.pid_tables_rows.specs.Faults.{IsMemoryOrStore}
+use Rattle.pid_tables_rows.specs.Leaves.{OnlyReads}
+use Rattle.pid_tables_rows.specs.LabelRows.{HasLabel, IsDamageOf, LacksNumber, ExplainsNumber, ShowsNumber}
+use Rattle.pid_tables_rows.specs.PairRows.{IsPairRow}
+use Rattle.pid_tables_rows.specs.Schema.{number_of}
+use Rattle.pid_tables_rows.specs.Shows.{Counts, Numbers, ShowsKeeping, labels_of}
+use Rattle.pid_tables_rows.specs.TableRows.{number, meta_row}
+use Rattle.pid_tables_rows.proofs.Keys.{pos_same}
+use Rattle.pid_tables_check.proofs.Asking.{IsSame, caused_then}
+use Rattle.pid_tables.specs.Steps.Bringing.{is_latest}
 
 small : (version : Version) → number_of version < 2 ^ 32
 small One = omega arith
@@ -51,7 +51,7 @@ module _ {version : Version} {c : Counts} {numbers : Numbers} (db : Database) (v
       it.3 (number_of version, small version, ap (λ x. column x 2) pair.is ∙ ap number (labelled it.0 pair it.2))
 
   -- so it is told, where no fault hinders
-  pub number_told : (r : Result ℕ TableFault) → IfOk r (HasLabel db.trees (codes "schema")) → IfErr r (ExplainsNumber db.trees (codes "schema")) → MatchResult r (λ n. n ≡ number_of version) IsUntold
+  pub number_told : (r : Result ℕ TableFault) → IfOk r (HasLabel db.trees (codes "schema")) → IfErr r (ExplainsNumber db.trees (codes "schema")) → MatchResult r (λ n. n ≡ number_of version) IsMemoryOrStore
   number_told (Ok n) label bad = schema_told n label
   number_told (Err Memory) label bad = tt
   number_told (Err Store) label bad = tt
@@ -68,7 +68,7 @@ shown_second db n is shows = subst (ShowsNumber db (codes "schema")) (eqb-true n
 
 -- ---- what is told of the label, whatever the schema
 
-pub untold_damage : (This : Type 0) (e : TableFault) → IsUntold e → IsDamageOf This e
+pub untold_damage : (This : Type 0) (e : TableFault) → IsMemoryOrStore e → IsDamageOf This e
 untold_damage This Memory h = tt
 untold_damage This Store h = tt
 untold_damage This (NewerSchema n) h = h

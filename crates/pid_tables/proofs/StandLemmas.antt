@@ -10,24 +10,25 @@ use Rattle.sqlite.specs.Tree.{Trees}
 use Rattle.sqlite_rules.specs.Lists.{Has}
 use Rattle.pid_moderation.specs.CheckTables.{most_revision}
 use Rattle.pid_moderation.specs.Views.{Views}
-use Rattle.pid_rows.specs.declared.fault.TableFault.{TableFault}
-use Rattle.pid_rows.specs.declared.fault.TableFault.TheVariants.{Memory, Store, NewerSchema, Damaged}
-use Rattle.pid_rows.specs.declared.version.Version.{Version}
-use Rattle.pid_rows.specs.declared.version.Version.TheVariants.{One, Two}
-use Rattle.pid_rows.specs.Faults.{IsUntold}
-use Rattle.pid_rows.specs.LabelRows.{HasLabel, IsMetaFirst}
-use Rattle.pid_rows.specs.Leaves.{OnlyReads, RestsIn}
-use Rattle.pid_rows.specs.Schema.{more_tables, schema_of}
-use Rattle.pid_rows.specs.Shows.{ShowsIn}
-use Rattle.pid_rows.proofs.LabelLemmas.{label_stored}
-use Rattle.pid_rows.proofs.TurnLemmas.{has_mapped, permuted}
-use Rattle.pid_table_check.specs.Checking.{Explains, Finds, IsRegistry}
-use Rattle.pid_table_check.specs.Conditions.{columns, label_row, rows_in}
-use Rattle.pid_table_check.specs.Shapes.{HasNoTable, HasSomeTable, HasTables, IsMadeFirst}
-use Rattle.pid_table_check.proofs.Complete.{as_six, made_first}
-use Rattle.pid_table_check.proofs.Stored.{stored}
-use Rattle.pid_table_check.proofs.WholeTexts.{meta_is}
-use Rattle.pid_tables.specs.Steps.{IsStanding, NamesLatest, ShowsLatest}
+use Rattle.pid_tables_rows.specs.declared.fault.TableFault.{TableFault}
+use Rattle.pid_tables_rows.specs.declared.fault.TableFault.TheVariants.{Memory, Store, NewerSchema, Damaged}
+use Rattle.pid_tables_rows.specs.declared.version.Version.{Version}
+use Rattle.pid_tables_rows.specs.declared.version.Version.TheVariants.{One, Two}
+use Rattle.pid_tables_rows.specs.Faults.{IsMemoryOrStore}
+use Rattle.pid_tables_rows.specs.LabelRows.{HasLabel, IsMetaFirst}
+use Rattle.pid_tables_rows.specs.Leaves.{OnlyReads, RestsIn}
+use Rattle.pid_tables_rows.specs.Schema.{more_tables, schema_of}
+use Rattle.pid_tables_rows.specs.Shows.{ShowsIn}
+use Rattle.pid_tables_rows.proofs.LabelLemmas.{label_stored}
+use Rattle.pid_tables_rows.proofs.TurnLemmas.{has_mapped, permuted}
+use Rattle.pid_tables_check.specs.Checking.{Explains, Finds, IsRegistry}
+use Rattle.pid_tables_check.specs.Conditions.{columns, label_row, rows_in}
+use Rattle.pid_tables_check.specs.Shapes.{HasNoTable, HasSomeTable, HasTables, IsMadeFirst}
+use Rattle.pid_tables_check.proofs.Complete.{as_six, made_first}
+use Rattle.pid_tables_check.proofs.Stored.{stored}
+use Rattle.pid_tables_check.proofs.WholeTexts.{meta_is}
+use Rattle.pid_tables.specs.Bringing.{NamesLatest, ShowsLatest}
+use Rattle.pid_tables.specs.Steps.Bringing.{IsStanding, Named, Found}
 
 -- where nothing was uncommitted, reads see the same
 pub seen_still : (old new : State) → (IsTrue old.is_open → old.now ≡ old.committed) → OnlyReads old new → IsTrue new.is_open → new.now ≡ old.now
@@ -35,24 +36,24 @@ seen_still old new settled reads = (reads.same old.now (record { sees = λ opene
 
 -- ---- what the check tells
 
-pub untold_explains : (db : Database) (e : TableFault) → IsUntold e → Explains db e
+pub untold_explains : (db : Database) (e : TableFault) → IsMemoryOrStore e → Explains db e
 untold_explains db Memory h = tt
 untold_explains db Store h = tt
 untold_explains db (NewerSchema n) h = absurd h
 untold_explains db Damaged h = absurd h
 
-pub untold_told : {X : Type 0} (P : X → Type 0) (Q : TableFault → Type 0) (db : Database) (r : Result X TableFault) → MatchResult r P (λ fault. IsUntold fault × Q fault) → IfErr r (Explains db)
+pub untold_told : {X : Type 0} (P : X → Type 0) (Q : TableFault → Type 0) (db : Database) (r : Result X TableFault) → MatchResult r P (λ fault. IsMemoryOrStore fault × Q fault) → IfErr r (Explains db)
 untold_told P Q db (Ok x) h = tt
 untold_told P Q db (Err e) h = untold_explains db e h.0
 
 -- what it tells behind reads is so of what was before them
-pub told_before : (old mid : State) (r : Result (Option Version) TableFault) → (IsTrue mid.is_open → mid.now ≡ old.now) → (mid.is_open ≡ false → MatchResult r (λ _. ⊥) IsUntold)
+pub told_before : (old mid : State) (r : Result (Option Version) TableFault) → (IsTrue mid.is_open → mid.now ≡ old.now) → (mid.is_open ≡ false → MatchResult r (λ _. ⊥) IsMemoryOrStore)
     → MatchResult r (Finds mid.now) (Explains mid.now) → MatchResult r (Finds old.now) (Explains old.now)
 told_before old mid (Ok x) same shut told = elim (cases_Bool mid.is_open) [ inl opened ↦ subst (λ (d : Database). Finds d x) (same opened) told | inr closed ↦ absurd (shut closed) ]
 told_before old mid (Err e) same shut told = elim (cases_Bool mid.is_open) [ inl opened ↦ subst (λ (d : Database). Explains d e) (same opened) told | inr closed ↦ untold_explains old.now e (shut closed) ]
 
 pub as_standing : (db : Database) (r : Result (Option Version) TableFault) → MatchResult r (Finds db) (Explains db) → MatchResult r (IsStanding db) (Explains db)
-as_standing db (Ok x) told = inr told
+as_standing db (Ok x) told = Found told
 as_standing db (Err e) told = told
 
 -- each schema has a table
@@ -61,7 +62,7 @@ tables_some One schema has = (_, inl refl, has.0 _ (inl refl))
 tables_some Two schema has = (_, inl refl, has.0 _ (inl refl))
 
 -- where there is no table, it finds none
-pub none_found : (db : Database) (r : Result (Option Version) TableFault) → HasNoTable db.schema → MatchResult r (Finds db) (Explains db) → MatchResult r (λ found. found ≡ None) IsUntold
+pub none_found : (db : Database) (r : Result (Option Version) TableFault) → HasNoTable db.schema → MatchResult r (Finds db) (Explains db) → MatchResult r (λ found. found ≡ None) IsMemoryOrStore
 none_found db (Ok None) none told = refl
 none_found db (Ok (Some version)) none told = absurd (none (tables_some version db.schema told.0))
 none_found db (Err Memory) none told = tt
@@ -76,9 +77,9 @@ pub none_within : (n : ℕ) → n ≡ 0 → n ≤ most_revision
 none_within n is = omega (arith, is)
 
 pub good_found : (version : Version) (s : State) (v : Views) (r : Result (Option Version) TableFault) → RestsIn version s v → (ShowsIn version s.now v → IsRegistry version s.now)
-    → (s.is_open ≡ false → MatchResult r (λ _. ⊥) IsUntold)
-    → ((schema : Version) → IsMadeFirst schema s.now.schema → MatchResult r (λ found. (found ≡ Some schema) ↔ IsRegistry schema s.now) (λ fault. IsRegistry schema s.now → IsUntold fault))
-    → MatchResult r (λ found. found ≡ Some version) IsUntold
+    → (s.is_open ≡ false → MatchResult r (λ _. ⊥) IsMemoryOrStore)
+    → ((schema : Version) → IsMadeFirst schema s.now.schema → MatchResult r (λ found. (found ≡ Some schema) ↔ IsRegistry schema s.now) (λ fault. IsRegistry schema s.now → IsMemoryOrStore fault))
+    → MatchResult r (λ found. found ≡ Some version) IsMemoryOrStore
 good_found version s v (Ok x) rest good shut stored = elim (cases_Bool s.is_open) [
   | inl opened ↦ let shows = rest.shows opened in (stored version (subst (IsMadeFirst version) (sym shows.schema) (made_first version))).1 (good shows)
   | inr closed ↦ absurd (shut closed)
@@ -122,11 +123,7 @@ names_latest db shown = record { shown = shown; stored = latest_stored db shown 
 found_latest : (db : Database) → Finds db (Some Two) → ShowsLatest db
 found_latest db finds = let it = finds.1 in inr (it.0.meta, it.1.meta, it.2.counts.labels.there (codes "schema", 2) (inl refl))
 
-pub named_found : (s : State) (r : Result (Option Version) TableFault) → MatchResult r (Finds s.now) (Explains s.now) → IfOk r (λ found. found ≡ Some Two → NamesLatest s.now)
-named_found s (Ok x) told = λ is. names_latest s.now (found_latest s.now (subst (Finds s.now) is told))
-named_found s (Err e) told = tt
-
-pub named_still : (old mid : State) (r : Result (Option Version) TableFault) → (IsTrue mid.is_open → mid.now ≡ old.now) → (mid.is_open ≡ false → MatchResult r (λ _. ⊥) IsUntold)
-    → IfOk r (λ found. found ≡ Some Two → NamesLatest mid.now) → IfOk r (λ found. found ≡ Some Two → NamesLatest old.now)
-named_still old mid (Ok x) same shut named = λ is. elim (cases_Bool mid.is_open) [ inl opened ↦ subst NamesLatest (same opened) (named is) | inr closed ↦ absurd (shut closed) ]
-named_still old mid (Err e) same shut named = named
+-- and where it stands
+pub standing_latest : (db : Database) (found : Option Version) → IsStanding db found → found ≡ Some Two → NamesLatest db
+standing_latest db found (Named is names) two = names
+standing_latest db found (Found finds) two = names_latest db (found_latest db (subst (Finds db) two finds))

@@ -1,11 +1,13 @@
 -- When a change may be applied to tables.
-use Rattle.std.specs.Prelude.{◌≡◌, length, Some, None}
+use Rattle.std.specs.Prelude.{◌≡◌, length}
 use Rattle.pid_moderation.specs.declared.change.Effect.{Effect}
-use Rattle.pid_moderation.specs.declared.change.Effect.TheVariants.{Nothing, Ranked, Submitted, Remarked, Decided, Imported}
+use Rattle.pid_moderation.specs.declared.change.Effect.TheVariants.{Nothing, Ranked, Submitted}
+use Rattle.pid_moderation.specs.declared.change.Effect.TheVariants.{Remarked, Decided, Imported}
 use Rattle.pid_moderation.specs.Views.{Views}
-use Rattle.pid_rows.specs.Shows.{Counts, counts_of}
+use Rattle.pid_tables_rows.specs.Shows.{Counts, counts_of}
 
--- meta has the counts of the views; of a file whose items are written one by one it has yet to learn how many there are
+-- meta has the counts of the views; of a file whose items are written one by one it has yet to
+-- learn how many there are
 abbrev pub IsCounted : Effect → Counts → Views → Type 0
 IsCounted (Imported items) c v = c.submissions ≡ length v.submits
 IsCounted Nothing c v = c ≡ counts_of v
@@ -13,13 +15,3 @@ IsCounted (Ranked who rank is_new) c v = c ≡ counts_of v
 IsCounted (Submitted number author path proposal note) c v = c ≡ counts_of v
 IsCounted (Remarked number place author text) c v = c ≡ counts_of v
 IsCounted (Decided number state write) c v = c ≡ counts_of v
-
--- the counts that an effect leaves
-abbrev pub recounted : Effect → Counts → Counts
-recounted (Imported items) c = record c { items = items }
-recounted Nothing c = c
-recounted (Ranked who rank is_new) c = c
-recounted (Submitted number author path proposal note) c = record c { submissions = number }
-recounted (Remarked number place author text) c = c
-recounted (Decided number state None) c = c
-recounted (Decided number state (Some w)) c = record c { items = w.items }

@@ -1,29 +1,20 @@
--- What clauses say of a connection while tables are made or moved: the words of Creation, AtOnce, Making, ShowsOrBlank and Steps, said of
--- what the connections show; `store` is `S.Store`.
-use Rattle.std.specs.Prelude.{ℕ, List, Result}
+-- What clauses say of a connection while tables are made or moved: the words of Creation, AtOnce,
+-- Bringing, Making and ShowsOrBlank, said of what the connections show; `store` is `S.Store`.
+use Rattle.std.specs.Prelude.{ℕ, List, Option, Result}
 use Rattle.sqlite.specs.Held.{Held, state}
 use Rattle.sqlite.specs.State as states
-use Rattle.sqlite.specs.Table.{Table}
 use Rattle.sqlite_trees.specs.declared.store.Store.{Ghosts}
 use Rattle.pid_moderation.specs.History.{History}
-use Rattle.pid_rows.specs.declared.fault.TableFault.{TableFault}
+use Rattle.pid_tables_rows.specs.declared.fault.TableFault.{TableFault}
+use Rattle.pid_tables_rows.specs.declared.version.Version.{Version}
 use Rattle.pid_tables.specs.declared.migration.Step.{Step}
 use Rattle.pid_tables.specs.AtOnce as at_once
+use Rattle.pid_tables.specs.Bringing as bringing
 use Rattle.pid_tables.specs.Creation as creation
-use Rattle.pid_tables.specs.Making as making
+use Rattle.pid_tables.specs.SchemaNumbers as numbers
 use Rattle.pid_tables.specs.ShowsOrBlank as shows
-use Rattle.pid_tables.specs.Steps as steps
 
 module _ {S : Type 0} (store : Ghosts S) where
-  abbrev pub Makes : {X : Type 0} → Held S → Held S → Result X TableFault → List Table → List Table → Type 0
-  Makes old new result before after = making.Makes (state store old) (state store new) result before after
-
-  abbrev pub Takes : {X : Type 0} → Held S → Held S → Result X TableFault → List (List ℕ) → Type 0
-  Takes old new result names = making.Takes (state store old) (state store new) result names
-
-  abbrev pub FindsTables : {X : Type 0} → Held S → Held S → Result X TableFault → Type 0
-  FindsTables old new result = making.FindsTables (state store old) (state store new) result
-
   abbrev pub IsBlank : Held S → Type 0
   IsBlank conn = creation.IsBlank (state store conn)
 
@@ -45,14 +36,35 @@ module _ {S : Type 0} (store : Ghosts S) where
   abbrev pub IsTakenBack : Held S → Held S → Type 0
   IsTakenBack old new = at_once.IsTakenBack (state store old) (state store new)
 
+  abbrev pub WritesAtOnce : {X : Type 0} → Held S → Held S → Result X TableFault → Type 0
+  WritesAtOnce old new result = at_once.WritesAtOnce (state store old) (state store new) result
+
+  abbrev pub MakesNew : {X : Type 0} → Held S → Held S → Result X TableFault → Type 0
+  MakesNew old new result = creation.MakesNew (state store old) (state store new) result
+
+  abbrev pub MakesNothing : {X : Type 0} → Held S → Held S → Result X TableFault → Type 0
+  MakesNothing old new result = creation.MakesNothing (state store old) (state store new) result
+
+  abbrev pub TellsSchema : Held S → Held S → Result ℕ TableFault → Type 0
+  TellsSchema old new result = numbers.TellsSchema (state store old) (state store new) result
+
   abbrev pub Brings : Held S → Step → Held S → Type 0
-  Brings old step new = steps.Brings (state store old) step (state store new)
+  Brings old step new = bringing.Brings (state store old) step (state store new)
 
   abbrev pub HandsLatest : Held S → Step → Held S → Type 0
-  HandsLatest old step new = steps.HandsLatest (state store old) step (state store new)
+  HandsLatest old step new = bringing.HandsLatest (state store old) step (state store new)
 
   abbrev pub Refuses : Held S → TableFault → Held S → Type 0
-  Refuses old fault new = steps.Refuses (state store old) fault (state store new)
+  Refuses old fault new = bringing.Refuses (state store old) fault (state store new)
+
+  abbrev pub MigratesShown : Held S → Held S → Result Step TableFault → Type 0
+  MigratesShown old new result = bringing.MigratesShown (state store old) (state store new) result
+
+  abbrev pub MigratesJudged : Held S → Held S → Result Step TableFault → Type 0
+  MigratesJudged old new result = bringing.MigratesJudged (state store old) (state store new) result
+
+  abbrev pub MigratesNone : Held S → Held S → Result Step TableFault → Type 0
+  MigratesNone old new result = bringing.MigratesNone (state store old) (state store new) result
 
   abbrev pub ShowsOrBlank : Held S → History → Type 0
   ShowsOrBlank conn h = shows.ShowsOrBlank (state store conn) h

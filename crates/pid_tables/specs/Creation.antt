@@ -1,5 +1,6 @@
 -- A database before its tables are made, and what the making leaves.
 use Rattle.std.specs.Prelude.{◌≡◌, ◌⊎◌, ℕ, true, false, List, [], ◌∷◌, fold, IsTrue, codes}
+use Rattle.std.specs.Prelude.{Result, IfErr, OnErr, OnOk, MatchResult}
 use Rattle.std.specs.List.{AllByRecursion}
 use Rattle.sqlite.specs.Change.{created, is_used}
 use Rattle.sqlite.specs.Effect.{Database, IsDatabase}
@@ -9,13 +10,14 @@ use Rattle.sqlite.specs.Table.{Table}
 use Rattle.sqlite.specs.Tree.{Trees}
 use Rattle.sqlite_rules.specs.Lists.{Has}
 use Rattle.pid_moderation.specs.History.{new_history}
-use Rattle.pid_moderation.specs.Views.{views_of}
-use Rattle.pid_rows.specs.declared.fault.TableFault.{TableFault}
-use Rattle.pid_rows.specs.declared.fault.TableFault.TheVariants.{Memory, Store, NewerSchema, Damaged}
-use Rattle.pid_rows.specs.Causes.{IsCaused}
-use Rattle.pid_rows.specs.Schema.{no_schema}
-use Rattle.pid_rows.specs.Shows.{Shows}
-use Rattle.pid_rows.specs.Leaves.{as_found}
+use Rattle.pid_moderation.specs.Views.{Views, views_of}
+use Rattle.pid_tables_rows.specs.declared.fault.TableFault.{TableFault}
+use Rattle.pid_tables_rows.specs.declared.fault.TableFault.TheVariants.{Memory, Store, NewerSchema, Damaged}
+use Rattle.pid_tables_rows.specs.Causes.{IsCaused}
+use Rattle.pid_tables_rows.specs.Faults.{IsMemoryOrStore, IsNotNewerSchema}
+use Rattle.pid_tables_rows.specs.Schema.{no_schema}
+use Rattle.pid_tables_rows.specs.Shows.{Shows}
+use Rattle.pid_tables_rows.specs.Leaves.{AtRest, OnlyReads, as_found}
 
 -- the schema that the tables make, in this order
 abbrev pub making : List Table → Schema
@@ -30,7 +32,8 @@ pub record AreMade (tables : List Table) (db : Database) : Type 0 where
 abbrev pub IsBare : Trees → Type 0
 IsBare db = IsDatabase (record { schema = no_schema; trees = db })
 
--- outside a transaction, while it is open, the database has no table, and nor has anything that a crash may leave
+-- outside a transaction, while it is open, the database has no table, and nor has anything that a
+-- crash may leave
 pub record IsBlank (s : State) : Type 0 where
   pub settled : s.in_transaction ≡ false
   pub same : IsTrue s.is_open → s.now ≡ s.committed
@@ -45,9 +48,11 @@ pub record IsUndone (old new : State) : Type 0 where
 
 -- everything that a crash may leave has no table, or shows the history of a new registry
 pub record LeavesBareOrNew (s : State) : Type 0 where
-  pub each : HasCleanDisk s → (db : Trees) → s.may_leave db → IsBare db ⊎ Shows (as_found db) (views_of new_history)
+  pub each : HasCleanDisk s → (db : Trees) → s.may_leave db
+      → IsBare db ⊎ Shows (as_found db) (views_of new_history)
 
--- the same, but a crash may leave the new registry: one could not be made, and the next call may try again
+-- the same, but a crash may leave the new registry: one could not be made, and the next call may
+-- try again
 pub record RestsBare (s : State) : Type 0 where
   pub settled : s.in_transaction ≡ false
   pub same : IsTrue s.is_open → s.now ≡ s.committed
@@ -55,11 +60,13 @@ pub record RestsBare (s : State) : Type 0 where
   pub leaves : LeavesBareOrNew s
 
 abbrev pub table_names : List (List ℕ)
-table_names = codes "meta" ∷ codes "account" ∷ codes "item" ∷ codes "submission" ∷ codes "remark" ∷ codes "receipt" ∷ codes "item_since" ∷ []
+table_names = codes "meta" ∷ codes "account" ∷ codes "item" ∷ codes "submission" ∷ codes "remark"
+    ∷ codes "receipt" ∷ codes "item_since" ∷ []
 
 -- some table, index or view has the name of one of the seven, or the connection is shut
 abbrev pub IsMet : State → Type 0
-IsMet s = IsTrue s.is_open → (name : List ℕ) × Has table_names name × (is_used s.now.schema name ≡ true)
+IsMet s = IsTrue s.is_open → (name : List ℕ) × Has table_names name
+    × (is_used s.now.schema name ≡ true)
 
 -- tables of a registry are there already, which is told as damage; else a fault has its cause
 abbrev pub IsMetFault : State → State → TableFault → Type 0
@@ -67,3 +74,20 @@ IsMetFault old new Memory = Unit {0}
 IsMetFault old new Store = IsCaused old new Store
 IsMetFault old new (NewerSchema n) = ⊥
 IsMetFault old new Damaged = Unit {0}
+
+-- Where there is no table, a new registry is made. After a fault there is still none, and it tells
+-- nothing of the rows.
+pub record MakesNew {X : Type 0} (old new : State) (result : Result X TableFault) : Type 0 where
+  pub made : RestsBare old → OnOk result (AtRest new (views_of new_history))
+  pub untold : HasCleanDisk new → RestsBare old → IfErr result IsMemoryOrStore
+  pub bare : RestsBare old → OnErr result (RestsBare new)
+
+-- Where a name is taken, or a fault has shut the connection, nothing is made. So tables that show
+-- views go on to show them.
+pub record MakesNothing {X : Type 0} (old new : State) (result : Result X TableFault)
+    : Type 0 where
+  pub rests : IsMet old → OnlyReads old new
+  pub refused : HasCleanDisk new → IsMet old → MatchResult result (λ _. ⊥) IsNotNewerSchema
+  pub shut : HasCleanDisk new → old.is_open ≡ false
+      → MatchResult result (λ _. ⊥) IsMemoryOrStore
+  pub kept : (v : Views) → AtRest old v → AtRest new v

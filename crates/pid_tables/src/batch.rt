@@ -1,27 +1,70 @@
 //! One transaction on the tables, which writes a whole change.
-ghost use Rattle.std.specs.Prelude.{◌≡◌, ◌+◌, true, false, length, is_none, IsSome, IsTrue, IfOk, IfErr, OnOk, OnErr, MatchResult};
+ghost use Rattle.std.specs.Prelude.{
+  ◌≡◌,
+  ◌+◌,
+  true,
+  false,
+  length,
+  is_none,
+  IsSome,
+  IsTrue,
+  IfOk,
+  IfErr,
+  OnOk,
+  OnErr,
+};
 ghost use Rattle.pid_ident.specs.PathTexts.{path_text};
 ghost use Rattle.pid_moderation.specs.Items.{name_at};
 ghost use Rattle.pid_moderation.specs.Views.{Views, submission_at};
-ghost use Rattle.pid_moderation.specs.Changes.{edited, with_items, affected, changed, FitsEdit, FitsEffect, FitsWrite, Fits};
-ghost use Rattle.pid_rows.specs.Faults.{IsUntold};
-ghost use Rattle.pid_rows.specs.Shows.{Counts, ShowsCounting, Shows, counts_of};
-ghost use Rattle.pid_rows.specs.Writes.{with_rank, with_name, with_revision, with_submission};
+ghost use Rattle.pid_moderation.specs.Changes.{
+  edited,
+  with_items,
+  affected,
+  changed,
+  FitsEdit,
+  FitsEffect,
+  FitsWrite,
+  Fits,
+};
+ghost use Rattle.pid_tables_rows.specs.Faults.{IsMemoryOrStore};
+ghost use Rattle.pid_tables_rows.specs.Shows.{Counts, Shows, counts_of};
+ghost use Rattle.pid_tables_rows.specs.Writes.{
+  with_rank,
+  with_name,
+  with_revision,
+  with_submission,
+};
 ghost use Rattle.pid_tables.specs.Puts.{put_over};
-ghost use Rattle.pid_tables.specs.Applies.{IsCounted, recounted};
+ghost use Rattle.pid_tables.specs.Applies.{IsCounted};
+ghost use Rattle.pid_tables.specs.Steps.Applies.{recounted};
+ghost use Rattle.pid_tables.specs.Steps.Clauses.{WritesChange};
 ghost use Rattle.pid_tables.specs.Clauses.{IsUndone};
-ghost use Rattle.pid_rows.specs.Clauses.{AtRest, ChangesTo, GoesOn, HasCleanDisk, Holds, IsCaused, LeadsTo, LeavesEither, Survives, Within, Written, is_open, seen};
+ghost use Rattle.pid_tables_rows.specs.Clauses.{
+  AtRest,
+  ChangesTo,
+  GoesOn,
+  HasCleanDisk,
+  Holds,
+  IsCaused,
+  LeadsTo,
+  LeavesEither,
+  Survives,
+  Within,
+  Written,
+  is_open,
+  seen,
+};
 
 use crate::putting::{Put, put_text};
 use pid_ident::{Account, Path, PathText, Text};
 use pid_moderation::{Change, Edit, Effect, Proposal, Rank, Receipt, State, Write};
-use pid_rows::TableFault;
-use pid_rows::account::{add_account, change_rank};
-use pid_rows::item::{add_item, remove_item, rename_item};
-use pid_rows::meta::{count_items, count_submissions, set_revision, touch};
-use pid_rows::receipt::keep_reply;
-use pid_rows::remark::add_remark;
-use pid_rows::submission::{add_submission, decide};
+use pid_tables_rows::TableFault;
+use pid_tables_rows::account::{add_account, change_rank};
+use pid_tables_rows::item::{add_item, remove_item, rename_item};
+use pid_tables_rows::meta::{count_items, count_submissions, set_revision, touch};
+use pid_tables_rows::receipt::keep_reply;
+use pid_tables_rows::remark::add_remark;
+use pid_tables_rows::submission::{add_submission, decide};
 use sqlite::{Alter, Connection, Transaction};
 use std::alloc::Global;
 
@@ -36,7 +79,8 @@ fn set_rank<S: Alter>(
 ) -> Result<(), TableFault>
     ensures same_reference { batch.new.conn.ghost_name ≡ batch.old.conn.ghost_name }
     ensures goes { GoesOn S.Store batch.old.conn.now batch.new.conn.now result }
-    ensures shows { ChangesTo S.Store batch.old.conn.now batch.new.conn.now result (λ v. is_new ≡ is_none (v.rank who.now)) (with_rank who.now rank) }
+    ensures shows { ChangesTo S.Store batch.old.conn.now batch.new.conn.now result
+        (λ v. is_new ≡ is_none (v.rank who.now)) (with_rank who.now rank) }
 {
     if is_new {
         add_account(batch, who.as_str(), rank)
@@ -56,8 +100,14 @@ fn submit<S: Alter>(
 ) -> Result<(), TableFault>
     ensures same_reference { batch.new.conn.ghost_name ≡ batch.old.conn.ghost_name }
     ensures goes { GoesOn S.Store batch.old.conn.now batch.new.conn.now result }
-    ensures shows { LeadsTo S.Store batch.old.conn.now batch.new.conn.now result (λ v. number ≡ length v.submits + 1) (λ c. record c { submissions = number })
-        (with_submission (record { author = author.now; path = path; proposal = proposal.now; note = note.now })) }
+    ensures shows { LeadsTo S.Store batch.old.conn.now batch.new.conn.now result
+        (λ v. number ≡ length v.submits + 1) (λ c. record c { submissions = number })
+        (with_submission (record {
+          author = author.now;
+          path = path;
+          proposal = proposal.now;
+          note = note.now;
+        })) }
 {
     add_submission(batch, alloc, number, author, path, proposal, note)?;
     count_submissions(batch, number)
@@ -71,7 +121,8 @@ fn edit_item<S: Alter>(
 ) -> Result<(), TableFault>
     ensures same_reference { batch.new.conn.ghost_name ≡ batch.old.conn.ghost_name }
     ensures goes { GoesOn S.Store batch.old.conn.now batch.new.conn.now result }
-    ensures shows { ChangesTo S.Store batch.old.conn.now batch.new.conn.now result (λ v. FitsEdit edit.now (name_at path.now v.items))
+    ensures shows { ChangesTo S.Store batch.old.conn.now batch.new.conn.now result
+        (λ v. FitsEdit edit.now (name_at path.now v.items))
         (λ v. with_items revision (edited path.now edit.now v.items) v) }
 {
     match edit {
@@ -89,7 +140,9 @@ fn write_item<S: Alter>(
 ) -> Result<(), TableFault>
     ensures same_reference { batch.new.conn.ghost_name ≡ batch.old.conn.ghost_name }
     ensures goes { GoesOn S.Store batch.old.conn.now batch.new.conn.now result }
-    ensures shows { LeadsTo S.Store batch.old.conn.now batch.new.conn.now result (λ v. FitsEdit write.now.edit (name_at (path_text write.now.path) v.items)) (λ c. record c { items = write.now.items })
+    ensures shows { LeadsTo S.Store batch.old.conn.now batch.new.conn.now result
+        (λ v. FitsEdit write.now.edit (name_at (path_text write.now.path) v.items))
+        (λ c. record c { items = write.now.items })
         (λ v. with_items revision (edited (path_text write.now.path) write.now.edit v.items) v) }
 {
     let path = write.path.path_text(alloc)?;
@@ -108,7 +161,8 @@ fn decision<S: Alter>(
     ensures same_reference { batch.new.conn.ghost_name ≡ batch.old.conn.ghost_name }
     ensures goes { GoesOn S.Store batch.old.conn.now batch.new.conn.now result }
     ensures shows { LeadsTo S.Store batch.old.conn.now batch.new.conn.now result
-        (λ v. IsSome (submission_at number v.submits) × FitsWrite write.now v.items) (recounted (Effect.Decided number state.now write.now))
+        (λ v. IsSome (submission_at number v.submits) × FitsWrite write.now v.items)
+        (recounted (Effect.Decided number state.now write.now))
         (affected revision (Effect.Decided number state.now write.now)) }
 {
     decide(batch, number, state)?;
@@ -126,7 +180,8 @@ fn write_effect<S: Alter>(
 ) -> Result<(), TableFault>
     ensures same_reference { batch.new.conn.ghost_name ≡ batch.old.conn.ghost_name }
     ensures goes { GoesOn S.Store batch.old.conn.now batch.new.conn.now result }
-    ensures shows { LeadsTo S.Store batch.old.conn.now batch.new.conn.now result (λ v. FitsEffect effect.now v) (recounted effect.now) (affected revision effect.now) }
+    ensures shows { LeadsTo S.Store batch.old.conn.now batch.new.conn.now result
+        (λ v. FitsEffect effect.now v) (recounted effect.now) (affected revision effect.now) }
 {
     match effect {
         Effect::Nothing => touch(batch),
@@ -161,7 +216,8 @@ fn write_counted<S: Alter>(
 ) -> Result<(), TableFault>
     ensures same_reference { batch.new.conn.ghost_name ≡ batch.old.conn.ghost_name }
     ensures goes { GoesOn S.Store batch.old.conn.now batch.new.conn.now result }
-    ensures shows { LeadsTo S.Store batch.old.conn.now batch.new.conn.now result (λ v. FitsEffect effect.now v) (recounted effect.now)
+    ensures shows { LeadsTo S.Store batch.old.conn.now batch.new.conn.now result
+        (λ v. FitsEffect effect.now v) (recounted effect.now)
         (λ v. with_revision revision (affected revision effect.now v)) }
 {
     write_effect(batch, alloc, effect, revision)?;
@@ -175,8 +231,7 @@ fn write_change<S: Alter>(
 ) -> Result<(), TableFault>
     ensures same_reference { batch.new.conn.ghost_name ≡ batch.old.conn.ghost_name }
     ensures goes { GoesOn S.Store batch.old.conn.now batch.new.conn.now result }
-    ensures shows { HasCleanDisk S.Store batch.new.conn.now → IsTrue batch.old.conn.now.in_transaction → (counts : Counts) (v : Views) → ShowsCounting counts (seen S.Store batch.old.conn.now) v
-        → IsCounted change.now.effect counts v → Fits change.now v → MatchResult result (λ _. Shows (seen S.Store batch.new.conn.now) (changed change.now v)) IsUntold }
+    ensures shows { WritesChange S.Store batch.old.conn.now batch.new.conn.now result change.now }
 {
     write_counted(batch, alloc, &change.effect, change.revision)?;
     match &change.receipt {
@@ -190,13 +245,15 @@ pub fn begin<S: Alter>(conn: &mut Connection<S>) -> Batch<'_, S>
     requires { conn.old.in_transaction ≡ false }
     ensures same_reference { result.conn.ghost_name ≡ conn.entry.ghost_name }
     ensures unchanged { result.conn.now ≡ record conn.old { in_transaction = true } }
-    ensures begun { (v : Views) → AtRest S.Store conn.old v → Within S.Store result.conn.now (counts_of v) v v }
+    ensures begun { (v : Views) → AtRest S.Store conn.old v
+        → Within S.Store result.conn.now (counts_of v) v v }
 {
     conn.transaction()
 }
 
-/// Gives a path a name within the transaction, and answers what it was to it. Where the name is not the one that is there, the path gets
-/// the number of the change, `revision`. The count of items and the revision follow with the change.
+/// Gives a path a name within the transaction, and answers what it was to it. Where the name is not
+/// the one that is there, the path gets the number of the change, `revision`. The count of items
+/// and the revision follow with the change.
 pub fn put<S: Alter>(
     batch: &mut Batch<'_, S>,
     alloc: Global,
@@ -206,12 +263,17 @@ pub fn put<S: Alter>(
 ) -> Result<Put, TableFault>
     ensures same_reference { batch.new.conn.ghost_name ≡ batch.old.conn.ghost_name }
     ensures survives { Survives S.Store batch.old.conn.now batch.new.conn.now (λ _. ⊥) }
-    ensures holds { (c : Counts) (v w : Views) → Within S.Store batch.old.conn.now c v w → Holds S.Store batch.new.conn.now v }
-    ensures written { (c : Counts) (v w : Views) → Within S.Store batch.old.conn.now c v w → OnOk result (Written S.Store batch.new.conn.now c v (with_name revision (path_text path.now) name.now w)) }
-    ensures told { HasCleanDisk S.Store batch.new.conn.now → (c : Counts) (v w : Views) → Within S.Store batch.old.conn.now c v w
+    ensures holds { (c : Counts) (v w : Views) → Within S.Store batch.old.conn.now c v w
+        → Holds S.Store batch.new.conn.now v }
+    ensures written { (c : Counts) (v w : Views) → Within S.Store batch.old.conn.now c v w
+        → OnOk result (Written S.Store batch.new.conn.now c v
+        (with_name revision (path_text path.now) name.now w)) }
+    ensures told { HasCleanDisk S.Store batch.new.conn.now → (c : Counts) (v w : Views)
+        → Within S.Store batch.old.conn.now c v w
         → IfOk result (λ put. put ≡ put_over name.now (name_at (path_text path.now) w.items)) }
-    ensures untold { HasCleanDisk S.Store batch.new.conn.now → IsTrue (is_open S.Store batch.old.conn.now) → (c : Counts) (v w : Views)
-        → Within S.Store batch.old.conn.now c v w → IfErr result IsUntold }
+    ensures untold { HasCleanDisk S.Store batch.new.conn.now
+        → IsTrue (is_open S.Store batch.old.conn.now) → (c : Counts) (v w : Views)
+        → Within S.Store batch.old.conn.now c v w → IfErr result IsMemoryOrStore }
 {
     let path = path.path_text(alloc)?;
     put_text(batch, path.as_str(), name, revision)
@@ -219,8 +281,9 @@ pub fn put<S: Alter>(
 
 /// Writes a whole change, with its receipt and its revision.
 ///
-/// On tables that show views to which the numbers of the change fit, it leaves tables that show the changed views. The
-/// items of a file are put one by one before. After a fault the transaction is given up: roll it back.
+/// On tables that show views to which the numbers of the change fit, it leaves tables that show the
+/// changed views. The items of a file are put one by one before. After a fault the transaction is
+/// given up: roll it back.
 pub fn apply<S: Alter>(
     batch: &mut Batch<'_, S>,
     alloc: Global,
@@ -228,11 +291,16 @@ pub fn apply<S: Alter>(
 ) -> Result<(), TableFault>
     ensures same_reference { batch.new.conn.ghost_name ≡ batch.old.conn.ghost_name }
     ensures survives { Survives S.Store batch.old.conn.now batch.new.conn.now (λ _. ⊥) }
-    ensures holds { (c : Counts) (v w : Views) → Within S.Store batch.old.conn.now c v w → Holds S.Store batch.new.conn.now v }
-    ensures applied { (c : Counts) (v w : Views) → Within S.Store batch.old.conn.now c v w → IsCounted change.now.effect c w → Fits change.now w
-        → OnOk result (Written S.Store batch.new.conn.now (counts_of (changed change.now w)) v (changed change.now w)) }
-    ensures untold { HasCleanDisk S.Store batch.new.conn.now → IsTrue (is_open S.Store batch.old.conn.now) → (c : Counts) (v w : Views) → Within S.Store batch.old.conn.now c v w
-        → IsCounted change.now.effect c w → Fits change.now w → IfErr result IsUntold }
+    ensures holds { (c : Counts) (v w : Views) → Within S.Store batch.old.conn.now c v w
+        → Holds S.Store batch.new.conn.now v }
+    ensures applied { (c : Counts) (v w : Views) → Within S.Store batch.old.conn.now c v w
+        → IsCounted change.now.effect c w → Fits change.now w
+        → OnOk result (Written S.Store batch.new.conn.now (counts_of (changed change.now w)) v
+        (changed change.now w)) }
+    ensures untold { HasCleanDisk S.Store batch.new.conn.now
+        → IsTrue (is_open S.Store batch.old.conn.now) → (c : Counts) (v w : Views)
+        → Within S.Store batch.old.conn.now c v w
+        → IsCounted change.now.effect c w → Fits change.now w → IfErr result IsMemoryOrStore }
 {
     write_change(batch, alloc, change)
 }
@@ -240,13 +308,23 @@ pub fn apply<S: Alter>(
 /// Lets what the transaction wrote stand, all of it or nothing.
 pub fn commit<S: Alter>(batch: Batch<'_, S>) -> Result<(), TableFault>
     ensures ended { batch.exit.0.now.in_transaction ≡ false }
-    ensures survives { Survives S.Store batch.entry.conn.now batch.exit.0.now (λ db. db ≡ (seen S.Store batch.entry.conn.now).trees) }
-    ensures stands { (w : Views) → (HasCleanDisk S.Store batch.entry.conn.now → IsTrue (is_open S.Store batch.entry.conn.now) × Shows (seen S.Store batch.entry.conn.now) w)
+    ensures survives { Survives S.Store batch.entry.conn.now batch.exit.0.now
+        (λ db. db ≡ (seen S.Store batch.entry.conn.now).trees) }
+    ensures stands { (w : Views) → (HasCleanDisk S.Store batch.entry.conn.now
+        → IsTrue (is_open S.Store batch.entry.conn.now)
+        × Shows (seen S.Store batch.entry.conn.now) w)
         → OnOk result (AtRest S.Store batch.exit.0.now w) }
-    ensures either { (v w : Views) → Written S.Store batch.entry.conn.now (counts_of w) v w → LeavesEither S.Store batch.exit.0.now v w }
-    ensures caused { HasCleanDisk S.Store batch.exit.0.now → IsTrue batch.entry.conn.now.in_transaction → IfErr result (IsCaused S.Store batch.entry.conn.now batch.exit.0.now) }
-    ensures given_back { (v w : Views) → Written S.Store batch.entry.conn.now (counts_of w) v w → OnErr result (IsTrue (is_open S.Store batch.exit.0.now) → Shows (seen S.Store batch.exit.0.now) v) }
-    ensures undone { HasCleanDisk S.Store batch.exit.0.now → IsTrue batch.entry.conn.now.in_transaction → OnErr result (IsUndone S.Store batch.entry.conn.now batch.exit.0.now) }
+    ensures either { (v w : Views) → Written S.Store batch.entry.conn.now (counts_of w) v w
+        → LeavesEither S.Store batch.exit.0.now v w }
+    ensures caused { HasCleanDisk S.Store batch.exit.0.now
+        → IsTrue batch.entry.conn.now.in_transaction
+        → IfErr result (IsCaused S.Store batch.entry.conn.now batch.exit.0.now) }
+    ensures given_back { (v w : Views) → Written S.Store batch.entry.conn.now (counts_of w) v w
+        → OnErr result (IsTrue (is_open S.Store batch.exit.0.now)
+        → Shows (seen S.Store batch.exit.0.now) v) }
+    ensures undone { HasCleanDisk S.Store batch.exit.0.now
+        → IsTrue batch.entry.conn.now.in_transaction
+        → OnErr result (IsUndone S.Store batch.entry.conn.now batch.exit.0.now) }
 {
     batch.commit()?;
     Ok(())
@@ -254,12 +332,13 @@ pub fn commit<S: Alter>(batch: Batch<'_, S>) -> Result<(), TableFault>
 
 /// Gives the transaction up, and commits nothing.
 ///
-/// Where the tables showed views before it, they show the same again, and so does whatever a crash leaves. A roll back that fails shuts
-/// the connection, which then shows nothing.
+/// Where the tables showed views before it, they show the same again, and so does whatever a crash
+/// leaves. A roll back that fails shuts the connection, which then shows nothing.
 pub fn roll_back<S: Alter>(batch: Batch<'_, S>)
     ensures ended { batch.exit.0.now.in_transaction ≡ false }
     ensures survives { Survives S.Store batch.entry.conn.now batch.exit.0.now (λ _. ⊥) }
-    ensures given_back { (v : Views) → Holds S.Store batch.entry.conn.now v → AtRest S.Store batch.exit.0.now v }
+    ensures given_back { (v : Views) → Holds S.Store batch.entry.conn.now v
+        → AtRest S.Store batch.exit.0.now v }
 {
     batch.rollback();
 }

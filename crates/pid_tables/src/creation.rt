@@ -1,24 +1,50 @@
 //! Makes the tables in a database that has none.
-ghost use Rattle.std.specs.Prelude.{◌≡◌, ℕ, [], ◌∷◌, ◌++◌, false, None, List, IfErr, MatchResult, OnErr, OnOk, IsTrue, codes};
+ghost use Rattle.std.specs.Prelude.{
+  ◌≡◌,
+  ℕ,
+  [],
+  ◌∷◌,
+  ◌++◌,
+  false,
+  None,
+  List,
+  IfErr,
+  MatchResult,
+  IsTrue,
+  codes,
+};
 ghost use Rattle.sqlite.specs.Listing.{understood};
 ghost use Rattle.sqlite.specs.Table.{Table};
-ghost use Rattle.pid_moderation.specs.History.{new_history};
-ghost use Rattle.pid_moderation.specs.Views.{Views, views_of};
-ghost use Rattle.pid_rows.specs.Schema as tables;
-ghost use Rattle.pid_rows.specs.Schema.{pid_schema};
-ghost use Rattle.pid_rows.specs.Faults.{IsUntold, IsNotLater};
-ghost use Rattle.pid_rows.specs.PairRows.{Map};
-ghost use Rattle.pid_rows.specs.Shows.{Shows, meta_of};
-ghost use Rattle.pid_tables.specs.Creation.{AreMade, table_names};
-ghost use Rattle.pid_tables.specs.Making.{making, Creates, IsMakerOf, IsRefused, HasOnlyMeta, with_label};
-ghost use Rattle.pid_rows.specs.Clauses.{AtRest, GoesOn, HasCleanDisk, OnlyReads, is_open, seen};
-ghost use Rattle.pid_tables.specs.Clauses.{FindsTables, IsMet, IsMetFault, IsOneStep, IsTakenBack, Makes, RestsBare, Takes};
+ghost use Rattle.pid_moderation.specs.Views.{Views};
+ghost use Rattle.pid_tables_rows.specs.Schema.{pid_schema};
+ghost use Rattle.pid_tables_rows.specs.Faults.{IsMemoryOrStore, IsNotNewerSchema};
+ghost use Rattle.pid_tables_rows.specs.PairRows.{Map};
+ghost use Rattle.pid_tables_rows.specs.Steps.Shows.{meta_of};
+ghost use Rattle.pid_tables.specs.Creation.{table_names};
+ghost use Rattle.pid_tables.specs.Steps.MakingTables.{
+  making,
+  Creates,
+  IsMakerOf,
+  IsRefused,
+  HasOnlyMeta,
+  with_label,
+};
+ghost use Rattle.pid_tables.specs.Steps.Making.{
+  AddsLabels,
+  MakesRegistry,
+  all_tables,
+  first_tables,
+  six_tables,
+};
+ghost use Rattle.pid_tables_rows.specs.Clauses.{AtRest, GoesOn, HasCleanDisk, seen};
+ghost use Rattle.pid_tables.specs.Clauses.{IsMet, IsMetFault, MakesNew, MakesNothing, WritesAtOnce};
+ghost use Rattle.pid_tables.specs.Steps.Clauses.{FindsTables, Makes, Takes};
 
 use crate::batch::commit;
 use pid_moderation::Rank;
-use pid_rows::TableFault;
-use pid_rows::account::add_account;
-use pid_rows::run::write_one;
+use pid_tables_rows::TableFault;
+use pid_tables_rows::account::add_account;
+use pid_tables_rows::run::write_one;
 use sqlite::types::ToSql;
 use sqlite::{Alter, Connection, Transaction};
 
@@ -27,32 +53,41 @@ const META: &str =
     "CREATE TABLE meta (label TEXT NOT NULL PRIMARY KEY, value INTEGER NOT NULL) STRICT";
 
 const ACCOUNT: &str =
-    "CREATE TABLE account (name TEXT NOT NULL PRIMARY KEY, rank INTEGER NOT NULL CHECK (rank BETWEEN 0 AND 3)) STRICT";
+    "CREATE TABLE account (name TEXT NOT NULL PRIMARY KEY, rank INTEGER NOT NULL CHECK (rank \
+        BETWEEN 0 AND 3)) STRICT";
 
 const ITEM: &str = "CREATE TABLE item (path TEXT NOT NULL PRIMARY KEY, name TEXT NOT NULL) STRICT";
 
 const SUBMISSION: &str =
-    "CREATE TABLE submission (num INTEGER NOT NULL PRIMARY KEY, author TEXT NOT NULL REFERENCES account(name), \
-        path TEXT NOT NULL, form INTEGER NOT NULL CHECK (form BETWEEN 0 AND 1), name TEXT NOT NULL, note TEXT NOT NULL, \
-        state INTEGER NOT NULL CHECK (state BETWEEN 0 AND 3), decider TEXT NOT NULL, reason TEXT NOT NULL) STRICT";
+    "CREATE TABLE submission (num INTEGER NOT NULL PRIMARY KEY, author TEXT NOT NULL REFERENCES \
+        account(name), path TEXT NOT NULL, form INTEGER NOT NULL CHECK (form BETWEEN 0 AND 1), \
+        name TEXT NOT NULL, note TEXT NOT NULL, state INTEGER NOT NULL CHECK (state BETWEEN 0 AND \
+        3), decider TEXT NOT NULL, reason TEXT NOT NULL) STRICT";
 
 const REMARK: &str =
-    "CREATE TABLE remark (num INTEGER NOT NULL REFERENCES submission(num), seq INTEGER NOT NULL, author TEXT NOT NULL REFERENCES account(name), body TEXT NOT NULL, PRIMARY KEY (num, seq)) STRICT";
+    "CREATE TABLE remark (num INTEGER NOT NULL REFERENCES submission(num), seq INTEGER NOT NULL, \
+        author TEXT NOT NULL REFERENCES account(name), body TEXT NOT NULL, PRIMARY KEY (num, seq)) \
+        STRICT";
 
 const RECEIPT: &str =
-    "CREATE TABLE receipt (account TEXT NOT NULL REFERENCES account(name), token TEXT NOT NULL, kind INTEGER NOT NULL, \
-        a INTEGER NOT NULL, b INTEGER NOT NULL, c INTEGER NOT NULL, PRIMARY KEY (account, token)) STRICT";
+    "CREATE TABLE receipt (account TEXT NOT NULL REFERENCES account(name), token TEXT NOT NULL, \
+        kind INTEGER NOT NULL, a INTEGER NOT NULL, b INTEGER NOT NULL, c INTEGER NOT NULL, PRIMARY \
+        KEY (account, token)) STRICT";
 
 const ITEM_SINCE: &str =
-    "CREATE TABLE item_since (path TEXT NOT NULL PRIMARY KEY REFERENCES item(path) ON DELETE CASCADE, since INTEGER NOT NULL) STRICT";
+    "CREATE TABLE item_since (path TEXT NOT NULL PRIMARY KEY REFERENCES item(path) ON DELETE \
+        CASCADE, since INTEGER NOT NULL) STRICT";
 
 fn make_table<S: Alter>(tx: &mut Transaction<'_, S>, sql: &str) -> Result<(), TableFault>
     ensures same_reference { tx.new.conn.ghost_name ≡ tx.old.conn.ghost_name }
     ensures goes { GoesOn S.Store tx.old.conn.now tx.new.conn.now result }
-    ensures made { (before : List Table) (table : Table) → Creates before sql.now table → (making before).tables ≡ before
+    ensures made { (before : List Table) (table : Table) → Creates before sql.now table
+        → (making before).tables ≡ before
         → Makes S.Store tx.old.conn.now tx.new.conn.now result before (before ++ table ∷ []) }
-    ensures takes { (name : List ℕ) → IsMakerOf sql.now name → Takes S.Store tx.old.conn.now tx.new.conn.now result (name ∷ []) }
-    ensures met { IsRefused (understood pid_schema sql.now) → FindsTables S.Store tx.old.conn.now tx.new.conn.now result }
+    ensures takes { (name : List ℕ) → IsMakerOf sql.now name
+        → Takes S.Store tx.old.conn.now tx.new.conn.now result (name ∷ []) }
+    ensures met { IsRefused (understood pid_schema sql.now)
+        → FindsTables S.Store tx.old.conn.now tx.new.conn.now result }
 {
     write_one(tx, sql, &[])
 }
@@ -60,8 +95,9 @@ fn make_table<S: Alter>(tx: &mut Transaction<'_, S>, sql: &str) -> Result<(), Ta
 fn make_first<S: Alter>(tx: &mut Transaction<'_, S>) -> Result<(), TableFault>
     ensures same_reference { tx.new.conn.ghost_name ≡ tx.old.conn.ghost_name }
     ensures goes { GoesOn S.Store tx.old.conn.now tx.new.conn.now result }
-    ensures made { Makes S.Store tx.old.conn.now tx.new.conn.now result [] (tables.meta ∷ tables.account ∷ tables.item ∷ []) }
-    ensures takes { Takes S.Store tx.old.conn.now tx.new.conn.now result (codes "meta" ∷ codes "account" ∷ codes "item" ∷ []) }
+    ensures made { Makes S.Store tx.old.conn.now tx.new.conn.now result [] first_tables }
+    ensures takes { Takes S.Store tx.old.conn.now tx.new.conn.now result
+        (codes "meta" ∷ codes "account" ∷ codes "item" ∷ []) }
     ensures met { FindsTables S.Store tx.old.conn.now tx.new.conn.now result }
 {
     make_table(tx, META)?;
@@ -72,9 +108,9 @@ fn make_first<S: Alter>(tx: &mut Transaction<'_, S>) -> Result<(), TableFault>
 fn make_rest<S: Alter>(tx: &mut Transaction<'_, S>) -> Result<(), TableFault>
     ensures same_reference { tx.new.conn.ghost_name ≡ tx.old.conn.ghost_name }
     ensures goes { GoesOn S.Store tx.old.conn.now tx.new.conn.now result }
-    ensures made { Makes S.Store tx.old.conn.now tx.new.conn.now result (tables.meta ∷ tables.account ∷ tables.item ∷ [])
-        (tables.meta ∷ tables.account ∷ tables.item ∷ tables.submission ∷ tables.remark ∷ tables.receipt ∷ []) }
-    ensures takes { Takes S.Store tx.old.conn.now tx.new.conn.now result (codes "submission" ∷ codes "remark" ∷ codes "receipt" ∷ []) }
+    ensures made { Makes S.Store tx.old.conn.now tx.new.conn.now result first_tables six_tables }
+    ensures takes { Takes S.Store tx.old.conn.now tx.new.conn.now result
+        (codes "submission" ∷ codes "remark" ∷ codes "receipt" ∷ []) }
 {
     make_table(tx, SUBMISSION)?;
     make_table(tx, REMARK)?;
@@ -84,8 +120,7 @@ fn make_rest<S: Alter>(tx: &mut Transaction<'_, S>) -> Result<(), TableFault>
 fn make_tables<S: Alter>(tx: &mut Transaction<'_, S>) -> Result<(), TableFault>
     ensures same_reference { tx.new.conn.ghost_name ≡ tx.old.conn.ghost_name }
     ensures goes { GoesOn S.Store tx.old.conn.now tx.new.conn.now result }
-    ensures made { Makes S.Store tx.old.conn.now tx.new.conn.now result []
-        (tables.meta ∷ tables.account ∷ tables.item ∷ tables.submission ∷ tables.remark ∷ tables.receipt ∷ tables.item_since ∷ []) }
+    ensures made { Makes S.Store tx.old.conn.now tx.new.conn.now result [] all_tables }
     ensures takes { Takes S.Store tx.old.conn.now tx.new.conn.now result table_names }
     ensures met { FindsTables S.Store tx.old.conn.now tx.new.conn.now result }
 {
@@ -101,9 +136,12 @@ fn add_label<S: Alter>(
 ) -> Result<(), TableFault>
     ensures same_reference { tx.new.conn.ghost_name ≡ tx.old.conn.ghost_name }
     ensures goes { GoesOn S.Store tx.old.conn.now tx.new.conn.now result }
-    ensures never { IfErr result IsNotLater }
-    ensures added { HasCleanDisk S.Store tx.new.conn.now → IsTrue tx.old.conn.now.in_transaction → (m : Map (List ℕ) ℕ) → HasOnlyMeta m (seen S.Store tx.old.conn.now) → m label.now ≡ None
-        → MatchResult result (λ _. HasOnlyMeta (with_label label.now value m) (seen S.Store tx.new.conn.now)) IsUntold }
+    ensures never { IfErr result IsNotNewerSchema }
+    ensures added { HasCleanDisk S.Store tx.new.conn.now → IsTrue tx.old.conn.now.in_transaction
+        → (m : Map (List ℕ) ℕ) → HasOnlyMeta m (seen S.Store tx.old.conn.now)
+        → m label.now ≡ None
+        → MatchResult result (λ _. HasOnlyMeta (with_label label.now value m)
+        (seen S.Store tx.new.conn.now)) IsMemoryOrStore }
 {
     let label = label.to_sql();
     let value = value.to_sql();
@@ -117,9 +155,9 @@ fn add_label<S: Alter>(
 fn add_labels<S: Alter>(tx: &mut Transaction<'_, S>) -> Result<(), TableFault>
     ensures same_reference { tx.new.conn.ghost_name ≡ tx.old.conn.ghost_name }
     ensures goes { GoesOn S.Store tx.old.conn.now tx.new.conn.now result }
-    ensures never { IfErr result IsNotLater }
-    ensures added { HasCleanDisk S.Store tx.new.conn.now → IsTrue tx.old.conn.now.in_transaction → HasOnlyMeta (λ _. None) (seen S.Store tx.old.conn.now)
-        → MatchResult result (λ _. HasOnlyMeta (meta_of (record { items = 0; submissions = 0 }) 0) (seen S.Store tx.new.conn.now)) IsUntold }
+    ensures never { IfErr result IsNotNewerSchema }
+    ensures added { AddsLabels S.Store tx.old.conn.now tx.new.conn.now result (λ _. None)
+        (meta_of (record { items = 0; submissions = 0 }) 0) }
 {
     add_label(tx, "revision", 0)?;
     add_label(tx, "submissions", 0)?;
@@ -130,10 +168,11 @@ fn add_labels<S: Alter>(tx: &mut Transaction<'_, S>) -> Result<(), TableFault>
 fn fill<S: Alter>(tx: &mut Transaction<'_, S>) -> Result<(), TableFault>
     ensures same_reference { tx.new.conn.ghost_name ≡ tx.old.conn.ghost_name }
     ensures goes { GoesOn S.Store tx.old.conn.now tx.new.conn.now result }
-    ensures filled { HasCleanDisk S.Store tx.new.conn.now → IsTrue tx.old.conn.now.in_transaction
-        → (IsTrue (is_open S.Store tx.old.conn.now) → AreMade [] (seen S.Store tx.old.conn.now)) → MatchResult result (λ _. Shows (seen S.Store tx.new.conn.now) (views_of new_history)) IsUntold }
-    ensures never { HasCleanDisk S.Store tx.new.conn.now → IsTrue tx.old.conn.now.in_transaction → IfErr result IsNotLater }
-    ensures refused { HasCleanDisk S.Store tx.new.conn.now → IsTrue tx.old.conn.now.in_transaction → IsMet S.Store tx.old.conn.now → MatchResult result (λ _. ⊥) IsNotLater }
+    ensures filled { MakesRegistry S.Store tx.old.conn.now tx.new.conn.now result }
+    ensures never { HasCleanDisk S.Store tx.new.conn.now → IsTrue tx.old.conn.now.in_transaction
+        → IfErr result IsNotNewerSchema }
+    ensures refused { HasCleanDisk S.Store tx.new.conn.now → IsTrue tx.old.conn.now.in_transaction
+        → IsMet S.Store tx.old.conn.now → MatchResult result (λ _. ⊥) IsNotNewerSchema }
     ensures met { FindsTables S.Store tx.old.conn.now tx.new.conn.now result }
 {
     make_tables(tx)?;
@@ -141,30 +180,24 @@ fn fill<S: Alter>(tx: &mut Transaction<'_, S>) -> Result<(), TableFault>
     add_account(tx, "root", Rank::Administrator)
 }
 
-/// Makes the tables of a new registry in a database that has none, in one transaction: `root` is an administrator, and
-/// there is nothing else.
+/// Makes the tables of a new registry in a database that has none, in one transaction: `root` is an
+/// administrator, and there is nothing else.
 ///
-/// In a database with no table at all, whatever it answers, a crash leaves that, or the new registry whole; after a fault the
-/// connection has no table, and a further call may make them. Where a name is taken that one of the tables wants, it answers
-/// `Damaged`, or else `Memory` or `Store`, and changes nothing. Beside tables of other names the new ones are made, all in one
+/// In a database with no table at all, whatever it answers, a crash leaves that, or the new
+/// registry whole; after a fault the connection has no table, and a further call may make them.
+/// Where a name is taken that one of the tables wants, it answers
+/// `Damaged`, or else `Memory` or `Store`, and changes nothing. Beside tables of other names the
+///   new ones are made, all in one
 /// step, or after a fault none of them; what they then are together, no clause says.
 pub fn create<S: Alter>(conn: &mut Connection<S>) -> Result<(), TableFault>
     requires { conn.old.in_transaction ≡ false }
-    ensures settled { conn.new.in_transaction ≡ false }
-    ensures clean { HasCleanDisk S.Store conn.new → HasCleanDisk S.Store conn.old }
-    ensures made { RestsBare S.Store conn.old → OnOk result (AtRest S.Store conn.new (views_of new_history)) }
-    ensures untold { HasCleanDisk S.Store conn.new → RestsBare S.Store conn.old → IfErr result IsUntold }
-    ensures bare { RestsBare S.Store conn.old → OnErr result (RestsBare S.Store conn.new) }
-    // Whatever the database.
-    ensures once { IsOneStep S.Store conn.old conn.new }
-    ensures back { OnErr result (IsTakenBack S.Store conn.old conn.new) }
-    ensures never { HasCleanDisk S.Store conn.new → IfErr result IsNotLater }
-    ensures shut { HasCleanDisk S.Store conn.new → is_open S.Store conn.old ≡ false → MatchResult result (λ _. ⊥) IsUntold }
-    ensures rests { IsMet S.Store conn.old → OnlyReads S.Store conn.old conn.new }
-    ensures refused { HasCleanDisk S.Store conn.new → IsMet S.Store conn.old → MatchResult result (λ _. ⊥) IsNotLater }
-    ensures kept { (v : Views) → AtRest S.Store conn.old v → AtRest S.Store conn.new v }
-    ensures met { HasCleanDisk S.Store conn.new → (v : Views) → AtRest S.Store conn.old v → MatchResult result (λ _. ⊥) (IsMetFault S.Store conn.old conn.new) }
-    ensures unchanged { HasCleanDisk S.Store conn.new → IfErr result (λ fault. ¬ (IsUntold fault) → OnlyReads S.Store conn.old conn.new) }
+    // Whatever the database, it is one step.
+    ensures at_once { WritesAtOnce S.Store conn.old conn.new result }
+    ensures makes { MakesNew S.Store conn.old conn.new result }
+    ensures spares { MakesNothing S.Store conn.old conn.new result }
+    ensures met { HasCleanDisk S.Store conn.new → (v : Views) → AtRest S.Store conn.old v
+        → MatchResult result (λ _. ⊥) (IsMetFault S.Store conn.old conn.new) }
+    ensures never { HasCleanDisk S.Store conn.new → IfErr result IsNotNewerSchema }
 {
     let mut batch = conn.transaction();
     fill(&mut batch)?;

@@ -3,21 +3,27 @@ ghost use Rattle.std.specs.Prelude.{◌≡◌, false, length, Some};
 ghost use Rattle.sqlite.specs.Held.{state};
 ghost use Rattle.pid_ident.specs.PathReading.{parent_text};
 ghost use Rattle.pid_ident.specs.PathTexts.{path_text};
-ghost use Rattle.pid_moderation.specs.FactsOfViews.{kept_in as kept_for, named as named_in, known as known_of, with_item as facts_with, facts_at};
+ghost use Rattle.pid_moderation.specs.FactsOfViews.{
+  kept_in as kept_for,
+  named as named_in,
+  known as known_of,
+  with_item as facts_with,
+  facts_at,
+};
 ghost use Rattle.pid_moderation.specs.Items.{name_at, holds_parent, has_children as are_children};
 ghost use Rattle.pid_moderation.specs.Wants.{wanted_by};
 ghost use Rattle.pid_moderation.specs.WellMade.{AllItems, HoldsParents};
-ghost use Rattle.pid_rows.specs.Clauses.{Reads};
+ghost use Rattle.pid_tables_rows.specs.Clauses.{Reads};
 
 use pid_ident::{Account, Key, Name, Path, PathText};
-use pid_moderation::{Facts, Named, Rank, Reply, Rows};
-use pid_rows::TableFault;
-use pid_rows::account::rank;
-use pid_rows::item::{has_children, item_name};
-use pid_rows::meta::{items, revision, submissions};
-use pid_rows::receipt::kept_reply;
-use pid_rows::remark::remark_count;
-use pid_rows::submission::{Submission, standing};
+use pid_moderation::{Facts, Named, Rank, Reply, Rows, Submission};
+use pid_tables_rows::TableFault;
+use pid_tables_rows::account::rank;
+use pid_tables_rows::item::{has_children, item_name};
+use pid_tables_rows::meta::{items, revision, submissions};
+use pid_tables_rows::receipt::kept_reply;
+use pid_tables_rows::remark::remark_count;
+use pid_tables_rows::submission::standing;
 use sqlite::{Alter, Connection};
 use std::alloc::Global;
 
@@ -27,7 +33,8 @@ fn kept<S: Alter>(
     key: &Option<Key>,
 ) -> Result<Option<Reply>, TableFault>
     requires { conn.old.in_transaction ≡ false }
-    ensures { Reads S.Store conn.old conn.new result (λ v reply. reply ≡ kept_for v account.now key.now) }
+    ensures { Reads S.Store conn.old conn.new result
+        (λ v reply. reply ≡ kept_for v account.now key.now) }
 {
     match key {
         None => Ok(None),
@@ -41,7 +48,8 @@ fn known<S: Alter>(
     key: &Option<Key>,
 ) -> Result<Facts, TableFault>
     requires { conn.old.in_transaction ≡ false }
-    ensures { Reads S.Store conn.old conn.new result (λ v facts. facts ≡ known_of v account.now key.now) }
+    ensures { Reads S.Store conn.old conn.new result
+        (λ v facts. facts ≡ known_of v account.now key.now) }
 {
     let rank = rank(conn, account.as_str())?;
     let kept = kept(conn, account, key)?;
@@ -62,7 +70,14 @@ fn known<S: Alter>(
 }
 
 fn named_as(found: Submission, remarks: u32) -> Named
-    ensures { result ≡ record { author = found.author; path = found.path; proposal = found.proposal; state = found.state; remarks = remarks } }
+    ensures { result
+        ≡ record {
+          author = found.author;
+          path = found.path;
+          proposal = found.proposal;
+          state = found.state;
+          remarks = remarks;
+        } }
 {
     let Submission {
         author,
@@ -124,7 +139,8 @@ fn kin<S: Alter>(
     ensures parent { Reads S.Store conn.old conn.new result
         (λ v kin. kin.0 ≡ holds_parent (parent_text (path_text path)) v.items) }
     ensures children { Reads S.Store conn.old conn.new result
-        (λ v kin. AllItems v.items → HoldsParents v.items → kin.1 ≡ are_children (path_text path) v.items) }
+        (λ v kin. AllItems v.items → HoldsParents v.items
+        → kin.1 ≡ are_children (path_text path) v.items) }
 {
     let parent = has_parent(conn, alloc, path)?;
     let children = has_children(conn, alloc, path)?;
@@ -137,8 +153,10 @@ fn present<S: Alter>(
     path: Path,
 ) -> Result<(u32, Option<Name>), TableFault>
     requires { conn.old.in_transaction ≡ false }
-    ensures count { Reads S.Store conn.old conn.new result (λ v present. present.0 ≡ length v.items) }
-    ensures name { Reads S.Store conn.old conn.new result (λ v present. present.1 ≡ name_at (path_text path) v.items) }
+    ensures count { Reads S.Store conn.old conn.new result
+        (λ v present. present.0 ≡ length v.items) }
+    ensures name { Reads S.Store conn.old conn.new result
+        (λ v present. present.1 ≡ name_at (path_text path) v.items) }
 {
     let text = path.path_text(alloc)?;
     let count = items(conn)?;
@@ -174,7 +192,8 @@ fn with_item<S: Alter>(
 ) -> Result<Facts, TableFault>
     requires { conn.old.in_transaction ≡ false }
     ensures { Reads S.Store conn.old conn.new result
-        (λ v all. AllItems v.items → HoldsParents v.items → all ≡ facts_with v (named_in v number) facts) }
+        (λ v all. AllItems v.items → HoldsParents v.items
+        → all ≡ facts_with v (named_in v number) facts) }
 {
     match named(conn, alloc, number)? {
         None => Ok(facts),
@@ -192,7 +211,8 @@ pub(crate) fn gather_facts<S: Alter>(
 ) -> Result<Facts, TableFault>
     requires { conn.old.in_transaction ≡ false }
     ensures { Reads S.Store conn.old conn.new result
-        (λ v facts. AllItems v.items → HoldsParents v.items → facts ≡ facts_at v account.now key.now (wanted_by rows.entry)) }
+        (λ v facts. AllItems v.items → HoldsParents v.items
+        → facts ≡ facts_at v account.now key.now (wanted_by rows.entry)) }
 {
     let mut facts = known(conn, account, key)?;
     match rows {

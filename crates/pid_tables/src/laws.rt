@@ -1,41 +1,74 @@
 //! Laws of the definitions. Each is the contract of a function that does nothing of its own.
-ghost use Rattle.pid_moderation.specs.History.{History};
+ghost use Rattle.pid_moderation.specs.History.{History, TooLong, asked, is_import};
 ghost use Rattle.pid_moderation.specs.Sound.{IsSound};
 ghost use Rattle.pid_moderation.specs.Views.{Views, views_of, items_of};
-ghost use Rattle.pid_moderation.specs.WellMade.{AllItems, HoldsParents};
-ghost use Rattle.pid_rows.specs.Causes.{IsReadable};
-ghost use Rattle.pid_rows.specs.Leaves.{as_found, found_in};
-ghost use Rattle.pid_rows.specs.Schema.{schema_of};
-ghost use Rattle.pid_rows.specs.declared.version.Version.{Version};
-ghost use Rattle.pid_rows.specs.Shows.{AreViews, Shows, ShowsIn};
+ghost use Rattle.pid_moderation.specs.WellMade.{AllItems, HoldsParents, HasGoodFile, IsFile};
+ghost use Rattle.pid_tables_rows.specs.Causes.{IsReadable};
+ghost use Rattle.pid_tables_rows.specs.Leaves.{as_found, found_in};
+ghost use Rattle.pid_tables_rows.specs.Schema.{schema_of};
+ghost use Rattle.pid_tables_rows.specs.declared.version.Version.{Version};
+ghost use Rattle.pid_tables_rows.specs.Shows.{AreViews, Shows, ShowsIn};
 ghost use Rattle.pid_tables.specs.Creation.{IsBare};
-ghost use Rattle.pid_rows.specs.Clauses.{AtRest, OnlyReads, RestsIn, seen};
+ghost use Rattle.pid_tables_rows.specs.Clauses.{AtRest, OnlyReads, RestsIn, seen};
 ghost use Rattle.pid_tables.specs.Clauses.{IsBlank, IsOpened, ShowsOrBlank};
+ghost use Rattle.std.specs.Prelude.{◌≡◌, ◌↔◌, ◌<◌, ℕ, List, length, true, None};
+ghost use Rattle.pid_moderation.specs.declared.command.Command.{Command};
+ghost use Rattle.pid_moderation.specs.CheckTables.{most_file_bytes};
+ghost use Rattle.pid_reader.specs.Lines.{lines_of};
+ghost use Rattle.pid_reader.specs.Reading.{entries_of, refused};
+ghost use Rattle.pid_tables.specs.Files.{IsBroken, file_reading};
 
+use pid_ident::parents_have_texts;
 use pid_moderation::{trees_are_files, trees_are_last_writes};
+use pid_reader::laws::texts_tell_entries;
 use sqlite::{Alter, Connection};
 
-/// The views of every sound history, as that of each registry is, keep what tables ask of views, and their items are a
-/// tree, as `gather` asks.
+/// The views of every sound history, as that of each registry is, keep what tables ask of views,
+/// and their items are a tree, as `gather` asks.
 pub fn views_of_sound_histories()
     ensures views { (h : History) → IsSound h → AreViews (views_of h) }
     ensures readable { (h : History) → IsSound h → IsReadable (views_of h) }
     ensures items { (h : History) → IsSound h → AllItems (items_of h) }
     ensures parents { (h : History) → IsSound h → HoldsParents (items_of h) }
 {
-    trees_are_files();
-    trees_are_last_writes();
+    trees_are_files(); // proof only
+    trees_are_last_writes(); // proof only
 }
 
-/// A connection that has just found trees which show views is at rest on them, in the schema in which they do; where it found no
-/// table, it is blank.
+/// A connection that has just found trees which show views is at rest on them, in the schema in
+/// which they do; where it found no table, it is blank.
 pub fn opened_tables_rest<S: Alter>(conn: &Connection<S>)
-    ensures shown { (v : Views) → IsOpened S.Store conn.now → Shows (as_found (seen S.Store conn.now).trees) v → AtRest S.Store conn.now v }
-    ensures rests { (version : Version) (v : Views) → IsOpened S.Store conn.now → ShowsIn version (found_in (schema_of version) (seen S.Store conn.now).trees) v → RestsIn S.Store version conn.now v }
-    ensures bare { IsOpened S.Store conn.now → IsBare (seen S.Store conn.now).trees → IsBlank S.Store conn.now }
+    ensures shown { (v : Views) → IsOpened S.Store conn.now
+        → Shows (as_found (seen S.Store conn.now).trees) v → AtRest S.Store conn.now v }
+    ensures rests { (version : Version) (v : Views) → IsOpened S.Store conn.now
+        → ShowsIn version (found_in (schema_of version) (seen S.Store conn.now).trees) v
+        → RestsIn S.Store version conn.now v }
+    ensures bare { IsOpened S.Store conn.now → IsBare (seen S.Store conn.now).trees
+        → IsBlank S.Store conn.now }
 {}
 
 /// A read leaves what was shown, also where there is no table.
 pub fn reads_keep_what_is_shown<S: Alter>(old: &Connection<S>, new: &Connection<S>)
-    ensures { (h : History) → OnlyReads S.Store old.now new.now → ShowsOrBlank S.Store old.now h → ShowsOrBlank S.Store new.now h }
+    ensures { (h : History) → OnlyReads S.Store old.now new.now → ShowsOrBlank S.Store old.now h
+        → ShowsOrBlank S.Store new.now h }
+{}
+
+/// The entries of a text that is refused nowhere are a file: names at paths, with the parent of
+/// each, not too many, and no path twice. So what each file reads to is that of a well made import.
+pub fn texts_read_to_files()
+    ensures entries { (text : List ℕ) → refused text ≡ None → IsFile (entries_of (lines_of text)) }
+    ensures readings { (text : List ℕ) → HasGoodFile (file_reading text) }
+{
+    texts_tell_entries(); // proof only
+    parents_have_texts(); // proof only
+}
+
+/// A file of more than 4,194,304 bytes, and no other, reads to one that is too long. Its import is
+/// refused, and changes nothing.
+pub fn long_files_are_refused()
+    ensures readings { (text : List ℕ) → (file_reading text ≡ TooLong)
+        ↔ (most_file_bytes < length text) }
+    ensures refused { (h : History) (command : Command) (text : List ℕ)
+        → is_import command.act ≡ true → most_file_bytes < length text
+        → IsBroken h (asked command (file_reading text)) }
 {}

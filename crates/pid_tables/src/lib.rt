@@ -3,20 +3,28 @@
 
 mod batch;
 mod creation;
+mod faults;
 mod gather;
+mod judging;
 mod laws;
 mod migration;
+mod put_file;
+mod put_sink;
 mod putting;
 mod tables;
+mod tally;
 
 pub use batch::{Batch, apply, begin, commit, put, roll_back};
 pub use creation::create;
-pub use laws::{opened_tables_rest, reads_keep_what_is_shown, views_of_sound_histories};
+pub use faults::refusal_of;
+pub use judging::{Early, judge_import};
+pub use laws::{
+    long_files_are_refused, opened_tables_rest, reads_keep_what_is_shown, texts_read_to_files,
+    views_of_sound_histories,
+};
 pub use migration::{Step, migrate};
-pub use pid_rows::item::Item;
-pub use pid_rows::remark::Comment;
-pub use pid_rows::submission::Submission;
-pub use pid_rows::{TableFault, Version};
-pub use pid_table_lists::{ChangedItem, Changes, Discussion, EachEnd, PAGE, Pending};
+pub use pid_tables_lists::EachEnd;
+pub use pid_tables_rows::{TableFault, Version};
+pub use put_file::{Stop, bring_in};
 pub use putting::Put;
 pub use tables::Tables;

@@ -1,17 +1,16 @@
 //! Items of a file, put one by one within a transaction.
-ghost use Rattle.std.specs.Prelude.{◌≡◌, None, IfOk, option_map, slice_get};
+ghost use Rattle.std.specs.Prelude.{◌≡◌, option_map, slice_get};
 ghost use Rattle.pid_moderation.specs.Items.{name_at};
-ghost use Rattle.pid_moderation.specs.Views.{Views};
-ghost use Rattle.pid_rows.specs.Answers.{name_row};
+ghost use Rattle.pid_tables_rows.specs.Steps.Answers.{name_row};
 ghost use Rattle.pid_tables.specs.Puts.{put_over};
-ghost use Rattle.pid_rows.specs.Shows.{Counts, ShowsCounting};
-ghost use Rattle.pid_rows.specs.Writes.{with_name};
-ghost use Rattle.pid_rows.specs.Clauses.{ChangesTo, GoesOn, HasCleanDisk, seen};
+ghost use Rattle.pid_tables.specs.Steps.Clauses.{TellsWithin};
+ghost use Rattle.pid_tables_rows.specs.Writes.{with_name};
+ghost use Rattle.pid_tables_rows.specs.Clauses.{ChangesTo, GoesOn};
 
-use pid_rows::TableFault;
-use pid_rows::item::{add_item, rename_item};
-use pid_rows::run::read_inside;
-use pid_rows::value::is_text_at;
+use pid_tables_rows::TableFault;
+use pid_tables_rows::item::{add_item, rename_item};
+use pid_tables_rows::run::read_inside;
+use pid_tables_rows::value::is_text_at;
 use sqlite::types::ToSql;
 use sqlite::{Alter, Row, Transaction};
 
@@ -32,9 +31,10 @@ fn names_inside<S: Alter>(
 ) -> Result<Vec<Row>, TableFault>
     ensures same_reference { batch.new.conn.ghost_name ≡ batch.old.conn.ghost_name }
     ensures goes { GoesOn S.Store batch.old.conn.now batch.new.conn.now result }
-    ensures shows { ChangesTo S.Store batch.old.conn.now batch.new.conn.now result (λ v. Unit {0}) (λ v. v) }
-    ensures found { HasCleanDisk S.Store batch.new.conn.now → (c : Counts) (v : Views) → ShowsCounting c (seen S.Store batch.old.conn.now) v
-        → IfOk result (λ rows. slice_get rows.items 0 ≡ option_map name_row (name_at path.now v.items)) }
+    ensures shows { ChangesTo S.Store batch.old.conn.now batch.new.conn.now result (λ v. Unit {0})
+        (λ v. v) }
+    ensures found { TellsWithin S.Store batch.old.conn.now batch.new.conn.now result
+        (λ v rows. slice_get rows.items 0 ≡ option_map name_row (name_at path.now v.items)) }
 {
     let path = path.to_sql();
     read_inside(batch, "SELECT name FROM item WHERE path = ?1", &[path])
@@ -47,9 +47,10 @@ fn compare<S: Alter>(
 ) -> Result<Put, TableFault>
     ensures same_reference { batch.new.conn.ghost_name ≡ batch.old.conn.ghost_name }
     ensures goes { GoesOn S.Store batch.old.conn.now batch.new.conn.now result }
-    ensures shows { ChangesTo S.Store batch.old.conn.now batch.new.conn.now result (λ v. Unit {0}) (λ v. v) }
-    ensures found { HasCleanDisk S.Store batch.new.conn.now → (c : Counts) (v : Views) → ShowsCounting c (seen S.Store batch.old.conn.now) v
-        → IfOk result (λ put. put ≡ put_over name.now (name_at path.now v.items)) }
+    ensures shows { ChangesTo S.Store batch.old.conn.now batch.new.conn.now result (λ v. Unit {0})
+        (λ v. v) }
+    ensures found { TellsWithin S.Store batch.old.conn.now batch.new.conn.now result
+        (λ v put. put ≡ put_over name.now (name_at path.now v.items)) }
 {
     let rows = names_inside(batch, path)?;
     match rows.first() {
@@ -72,9 +73,10 @@ pub(crate) fn put_text<S: Alter>(
 ) -> Result<Put, TableFault>
     ensures same_reference { batch.new.conn.ghost_name ≡ batch.old.conn.ghost_name }
     ensures goes { GoesOn S.Store batch.old.conn.now batch.new.conn.now result }
-    ensures shows { ChangesTo S.Store batch.old.conn.now batch.new.conn.now result (λ v. Unit {0}) (with_name revision path.now name.now) }
-    ensures told { HasCleanDisk S.Store batch.new.conn.now → (c : Counts) (v : Views) → ShowsCounting c (seen S.Store batch.old.conn.now) v
-        → IfOk result (λ put. put ≡ put_over name.now (name_at path.now v.items)) }
+    ensures shows { ChangesTo S.Store batch.old.conn.now batch.new.conn.now result (λ v. Unit {0})
+        (with_name revision path.now name.now) }
+    ensures told { TellsWithin S.Store batch.old.conn.now batch.new.conn.now result
+        (λ v put. put ≡ put_over name.now (name_at path.now v.items)) }
 {
     match compare(batch, path, name)? {
         Put::Added => {

@@ -1,5 +1,18 @@
 //! The tables of a registry, over a connection.
-ghost use Rattle.std.specs.Prelude.{◌≡◌, ◌≤◌, ◌↔◌, codes, false, Some, length, map, IfOk, IsTrue, option_map, IfErr, MatchResult, OnOk};
+ghost use Rattle.std.specs.Prelude.{
+  ◌≡◌,
+  ◌≤◌,
+  ◌↔◌,
+  false,
+  Some,
+  length,
+  map,
+  IsTrue,
+  option_map,
+  IfErr,
+  MatchResult,
+  OnOk,
+};
 ghost use Rattle.std.specs.Option.{option_copied};
 ghost use Rattle.pid_moderation.specs.History.{History};
 ghost use Rattle.pid_moderation.specs.Sound.{IsSound};
@@ -10,37 +23,43 @@ ghost use Rattle.pid_moderation.specs.FactsOfViews.{facts_at};
 ghost use Rattle.pid_moderation.specs.Items.{name_at};
 ghost use Rattle.pid_moderation.specs.Wants.{wanted_by};
 ghost use Rattle.pid_moderation.specs.WellMade.{AllItems, HoldsParents};
-ghost use Rattle.pid_table_check.specs.Checking.{Explains, Finds, IsRegistry};
-ghost use Rattle.pid_table_check.specs.Shapes.{HasNoTable, HasSomeTable, IsMadeFirst};
-ghost use Rattle.pid_rows.specs.Causes.{IsReadable};
-ghost use Rattle.pid_rows.specs.Faults.{IsUntold, IsNotLater};
-ghost use Rattle.pid_rows.specs.LabelRows.{ExplainsNumber, HasLabel, IsDamageOf, ShowsNoNumber, ShowsNumber};
-ghost use Rattle.pid_rows.specs.declared.version.Version.TheVariants.{One};
-ghost use Rattle.pid_rows.specs.ItemPairs.{pair_of};
-ghost use Rattle.pid_table_lists.specs.ChangePages.{AreHeld, changes_in, page_of, start_text};
-ghost use Rattle.pid_table_lists.specs.Children.{children_of};
-ghost use Rattle.pid_table_lists.specs.Discussions.{discussion_in, shown_of};
-ghost use Rattle.pid_table_lists.specs.EachItem.{TakesEach, TakesSome, placed_from};
-ghost use Rattle.pid_table_lists.specs.PendingPages.{pending_in, told_of};
-ghost use Rattle.pid_rows.specs.Clauses.{AtRest, HasCleanDisk, OnlyReads, Reads, RestsIn, Tells, is_open, seen};
-ghost use Rattle.pid_table_lists.specs.Clauses.{IsCausedEnd};
+ghost use Rattle.pid_tables_check.specs.Checking.{Explains, Finds, IsRegistry};
+ghost use Rattle.pid_tables_check.specs.Shapes.{IsMadeFirst};
+ghost use Rattle.pid_tables_rows.specs.Causes.{IsReadable};
+ghost use Rattle.pid_tables_rows.specs.Faults.{IsMemoryOrStore, IsNotNewerSchema};
+ghost use Rattle.pid_moderation.specs.ItemPairs.{pair_of};
+ghost use Rattle.pid_moderation.specs.ChangePages.{AreHeld, changes_in, page_of, start_text};
+ghost use Rattle.pid_moderation.specs.Children.{children_of};
+ghost use Rattle.pid_moderation.specs.Submissions.{discussion_in, discussion_of};
+ghost use Rattle.pid_tables_lists.specs.EachItem.{TakesEach, TakesSome, placed_from};
+ghost use Rattle.pid_moderation.specs.PendingPages.{pending_in, told_of};
+ghost use Rattle.pid_tables_rows.specs.Clauses.{
+  AtRest,
+  HasCleanDisk,
+  OnlyReads,
+  Reads,
+  RestsIn,
+  Tells,
+  is_open,
+  seen,
+};
+ghost use Rattle.pid_tables_lists.specs.Clauses.{IsCausedEnd};
+ghost use Rattle.pid_tables.specs.Clauses.{TellsSchema};
 
 use crate::gather::gather_facts;
 use pid_ident::{Account, Key, Name, Path, PathText};
-use pid_moderation::{Facts, Rows};
+use pid_moderation::{Changes, Discussion, Facts, Item, PAGE, Pending, Rows};
 use pid_reader::Sink;
-use pid_rows::item::{Item, item_name};
-use pid_rows::meta::{items, schema_number};
-use pid_rows::{TableFault, Version};
-use pid_table_check::{check, has_some_table, sound_histories_are_registries};
-use pid_table_lists::{
-    Changes, Discussion, EachEnd, PAGE, Pending, changes_page, children, discussed, each_item,
-    pending_page,
-};
+use pid_tables_check::{check, has_some_table, sound_histories_are_registries};
+use pid_tables_lists::{EachEnd, changes_page, children, discussed, each_item, pending_page};
+use pid_tables_rows::item::item_name;
+use pid_tables_rows::meta::{items, schema_number};
+use pid_tables_rows::{TableFault, Version};
 use sqlite::{Alter, Connection};
 use std::alloc::Global;
 
-/// The tables of a registry, over a connection that is at rest between calls. A read leaves them as they are.
+/// The tables of a registry, over a connection that is at rest between calls. A read leaves them as
+/// they are.
 ///
 /// A transaction is begun on `conn`, by `begin`.
 #[derive(Drop)]
@@ -74,30 +93,35 @@ impl<S: Alter + Drop> Tables<S> {
         item_name(&mut self.conn, alloc, path.as_str())
     }
 
-    /// Hands all items to a sink, in the canonical order, one at a time: no list of them is made. The line of an entry is its
-    /// place among them, counted from 1.
+    /// Hands all items to a sink, in the canonical order, one at a time: no list of them is made.
+    /// The line of an entry is its place among them, counted from 1.
     ///
-    /// Where it fails, the sink took the items before one, in their order, and faulted at that one, or was handed no more: nothing that it
-    /// took is taken back.
+    /// Where it fails, the sink took the items before one, in their order, and faulted at that one,
+    /// or was handed no more: nothing that it took is taken back.
     pub fn each_item<K: Sink>(&mut self, sink: &mut K) -> Result<(), EachEnd<K::Fault>>
         requires { self.old.conn.in_transaction ≡ false }
         ensures rests { OnlyReads S.Store self.old.conn self.new.conn }
-        ensures told { HasCleanDisk S.Store self.new.conn → (v : Views) → AtRest S.Store self.old.conn v → TakesEach K.takes K.faults result (placed_from 1 v.items) sink.old sink.new }
+        ensures told { HasCleanDisk S.Store self.new.conn → (v : Views)
+            → AtRest S.Store self.old.conn v
+            → TakesEach K.takes K.faults result (placed_from 1 v.items) sink.old sink.new }
         ensures some { TakesSome K.takes K.faults result sink.old sink.new }
-        ensures caused { HasCleanDisk S.Store self.new.conn → (v : Views) → AtRest S.Store self.old.conn v → IsReadable v → IfErr result (IsCausedEnd S.Store self.old.conn self.new.conn) }
+        ensures caused { HasCleanDisk S.Store self.new.conn → (v : Views)
+            → AtRest S.Store self.old.conn v → IsReadable v
+            → IfErr result (IsCausedEnd S.Store self.old.conn self.new.conn) }
     {
         each_item(&mut self.conn, sink)
     }
 
-    /// The items directly below a path, in the canonical order, which puts the generic subsystems of a vendor behind its devices.
-    /// Without a path, the vendors and the classes.
+    /// The items directly below a path, in the canonical order, which puts the generic subsystems
+    /// of a vendor behind its devices. Without a path, the vendors and the classes.
     ///
-    /// Vendors and classes are found by a walk over all items. It holds of views whose paths are paths, as those of every
-    /// history are.
+    /// Vendors and classes are found by a walk over all items. It holds of views whose paths are
+    /// paths, as those of every history are.
     pub fn children(&mut self, alloc: Global, above: Option<Path>) -> Result<Vec<Item>, TableFault>
         requires { self.old.conn.in_transaction ≡ false }
         ensures { Reads S.Store self.old.conn self.new.conn result
-            (λ v items. AllItems v.items → map pair_of items.items ≡ children_of (option_map path_text above) v.items) }
+            (λ v items. AllItems v.items
+            → map pair_of items.items ≡ children_of (option_map path_text above) v.items) }
     {
         children(&mut self.conn, alloc, above)
     }
@@ -110,13 +134,13 @@ impl<S: Alter + Drop> Tables<S> {
     ) -> Result<Option<Discussion>, TableFault>
         requires { self.old.conn.in_transaction ≡ false }
         ensures { Reads S.Store self.old.conn self.new.conn result
-            (λ v d. option_map shown_of d ≡ discussion_in v number) }
+            (λ v d. option_map discussion_of d ≡ discussion_in v number) }
     {
         discussed(&mut self.conn, alloc, number)
     }
 
-    /// The first pending submissions whose numbers are above a number, `PAGE` at most. From 0 on, and then from the last number
-    /// that was told, pages go through all that are pending.
+    /// The first pending submissions whose numbers are above a number, `PAGE` at most. From 0 on,
+    /// and then from the last number that was told, pages go through all that are pending.
     pub fn pending_page(&mut self, alloc: Global, after: u32) -> Result<Vec<Pending>, TableFault>
         requires { self.old.conn.in_transaction ≡ false }
         ensures { Reads S.Store self.old.conn self.new.conn result
@@ -125,10 +149,12 @@ impl<S: Alter + Drop> Tables<S> {
         pending_page(&mut self.conn, alloc, after)
     }
 
-    /// The first items whose names were changed by a command behind this number, and whose paths come behind that path, `PAGE` at most;
-    /// with the revision. From no path on, and then from the last path that was told, pages go through all of them.
+    /// The first items whose names were changed by a command behind this number, and whose paths
+    /// come behind that path, `PAGE` at most; with the revision. From no path on, and then from the
+    /// last path that was told, pages go through all of them.
     ///
-    /// It holds of views whose numbers SQLite holds, as those of every history do whose revision is within its limit.
+    /// It holds of views whose numbers SQLite holds, as those of every history do whose revision is
+    /// within its limit.
     pub fn changes_page(
         &mut self,
         alloc: Global,
@@ -137,7 +163,8 @@ impl<S: Alter + Drop> Tables<S> {
     ) -> Result<Changes, TableFault>
         requires { self.old.conn.in_transaction ≡ false }
         ensures { Reads S.Store self.old.conn self.new.conn result
-            (λ v changes. AreHeld v → page_of changes ≡ changes_in PAGE since (start_text (option_copied after.entry)) v) }
+            (λ v changes. AreHeld v → page_of changes
+            ≡ changes_in PAGE since (start_text (option_copied after.entry)) v) }
     {
         changes_page(&mut self.conn, alloc, since, after)
     }
@@ -150,8 +177,8 @@ impl<S: Alter + Drop> Tables<S> {
         items(&mut self.conn)
     }
 
-    /// The facts that a command of the account under the key is judged by: what `rows` names, as `needs` answers it, and no
-    /// more. What the file of an import comes to is not among them.
+    /// The facts that a command of the account under the key is judged by: what `rows` names, as
+    /// `needs` answers it, and no more. What the file of an import comes to is not among them.
     ///
     /// It holds of views whose items are a tree, as those of every history are.
     pub fn gather(
@@ -163,52 +190,60 @@ impl<S: Alter + Drop> Tables<S> {
     ) -> Result<Facts, TableFault>
         requires { self.old.conn.in_transaction ≡ false }
         ensures { Reads S.Store self.old.conn self.new.conn result
-            (λ v facts. AllItems v.items → HoldsParents v.items → facts ≡ facts_at v account.now key.now (wanted_by rows.entry)) }
+            (λ v facts. AllItems v.items → HoldsParents v.items
+            → facts ≡ facts_at v account.now key.now (wanted_by rows.entry)) }
     {
         gather_facts(&mut self.conn, alloc, account, key, rows)
     }
 
-    /// The schema of the tables, where they are those of some registry, and `None` where there is no table: every row is read and
-    /// judged.
+    /// The schema of the tables, where they are those of some registry, and `None` where there is
+    /// no table: every row is read and judged.
     ///
-    /// `Damaged` where a table or a column lacks, or a row breaks a condition of a registry in the schema of its tables; `NewerSchema`
-    /// where the labels have a later schema, which is judged before. `docs/STORAGE.md` has the conditions.
+    /// `Damaged` where a table or a column lacks, or a row breaks a condition of a registry in the
+    ///   schema of its tables; `NewerSchema`
+    /// where the labels have a later schema, which is judged before. `docs/STORAGE.md` has the
+    /// conditions.
     pub fn check(&mut self, alloc: Global) -> Result<Option<Version>, TableFault>
         requires { self.old.conn.in_transaction ≡ false }
         ensures rests { OnlyReads S.Store self.old.conn self.new.conn }
-        ensures shut { HasCleanDisk S.Store self.new.conn → is_open S.Store self.old.conn ≡ false → MatchResult result (λ x. ⊥) IsUntold }
-        // Whatever the schema: what it tells is so of the rows that the queries of the tables answer.
-        ensures told { HasCleanDisk S.Store self.new.conn → MatchResult result (Finds (seen S.Store self.old.conn)) (Explains (seen S.Store self.old.conn)) }
-        // Where the tables of a schema were made first, whatever else stands behind them: it finds the schema exactly where storage has
-        // a registry in it.
-        ensures stored { HasCleanDisk S.Store self.new.conn → (schema : Version) → IsMadeFirst schema (seen S.Store self.old.conn).schema
-            → MatchResult result (λ found. (found ≡ Some schema) ↔ IsRegistry schema (seen S.Store self.old.conn)) (λ fault. IsRegistry schema (seen S.Store self.old.conn) → IsUntold fault) }
-        // Tables that show a sound history, whose revision is within its limit, are neither damaged nor of a later schema.
-        ensures good { HasCleanDisk S.Store self.new.conn → (h : History) → IsSound h → revision_of h ≤ most_revision → (schema : Version) → RestsIn S.Store schema self.old.conn (views_of h)
-            → MatchResult result (λ found. found ≡ Some schema) IsUntold }
+        ensures shut { HasCleanDisk S.Store self.new.conn → is_open S.Store self.old.conn ≡ false
+            → MatchResult result (λ x. ⊥) IsMemoryOrStore }
+        // Whatever the schema: what it tells is so of the rows that the queries of the tables
+        // answer.
+        ensures told { HasCleanDisk S.Store self.new.conn
+            → MatchResult result (Finds (seen S.Store self.old.conn))
+            (Explains (seen S.Store self.old.conn)) }
+        // Where the tables of a schema were made first, whatever else stands behind them: it finds
+        // the schema exactly where storage has a registry in it.
+        ensures stored { HasCleanDisk S.Store self.new.conn → (schema : Version)
+            → IsMadeFirst schema (seen S.Store self.old.conn).schema
+            → MatchResult result (λ found. (found ≡ Some schema)
+            ↔ IsRegistry schema (seen S.Store self.old.conn))
+            (λ fault. IsRegistry schema (seen S.Store self.old.conn) → IsMemoryOrStore fault) }
+        // Tables that show a sound history, whose revision is within its limit, are neither damaged
+        // nor of a later schema.
+        ensures good { HasCleanDisk S.Store self.new.conn → (h : History) → IsSound h
+            → revision_of h ≤ most_revision → (schema : Version)
+            → RestsIn S.Store schema self.old.conn (views_of h)
+            → MatchResult result (λ found. found ≡ Some schema) IsMemoryOrStore }
     {
-        sound_histories_are_registries();
+        sound_histories_are_registries(); // proof only
         check(&mut self.conn, alloc)
     }
 
-    /// The number of the schema, as the labels have it, and 0 where none of its tables is there, whatever others are.
+    /// The number of the schema, as the labels have it, and 0 where none of its tables is there,
+    /// whatever others are.
     ///
-    /// What the labels have is what the query of the label answers first, whatever stands beside its tables; where that is no number of
-    /// 32 bits, the tables are `Damaged`.
+    /// What the labels have is what the query of the label answers first, whatever stands beside
+    /// its tables; where that is no number of 32 bits, the tables are `Damaged`.
     pub fn version(&mut self) -> Result<u32, TableFault>
         requires { self.old.conn.in_transaction ≡ false }
         ensures rests { OnlyReads S.Store self.old.conn self.new.conn }
         ensures told { Tells S.Store self.old.conn self.new.conn result (λ v n. n ≡ 2) }
-        ensures earlier { HasCleanDisk S.Store self.new.conn → (v : Views) → RestsIn S.Store One self.old.conn v → MatchResult result (λ n. n ≡ 1) IsUntold }
-        ensures was_open { HasCleanDisk S.Store self.new.conn → OnOk result (IsTrue (is_open S.Store self.old.conn)) }
-        ensures none { HasCleanDisk S.Store self.new.conn → HasNoTable (seen S.Store self.old.conn).schema → MatchResult result (λ n. n ≡ 0) IsUntold }
-        // Where some table is there, whatever else is.
-        ensures shown { HasCleanDisk S.Store self.new.conn → HasSomeTable (seen S.Store self.old.conn).schema
-            → MatchResult result (ShowsNumber (seen S.Store self.old.conn) (codes "schema")) (IsDamageOf (ShowsNoNumber (seen S.Store self.old.conn) (codes "schema"))) }
-        // The same by what storage has, where the tables of a schema were made first.
-        ensures labelled { HasCleanDisk S.Store self.new.conn → (schema : Version) → IsMadeFirst schema (seen S.Store self.old.conn).schema → IfOk result (HasLabel (seen S.Store self.old.conn).trees (codes "schema")) }
-        ensures refused { HasCleanDisk S.Store self.new.conn → (schema : Version) → IsMadeFirst schema (seen S.Store self.old.conn).schema → IfErr result (ExplainsNumber (seen S.Store self.old.conn).trees (codes "schema")) }
-        ensures never { IfErr result IsNotLater }
+        ensures shown { TellsSchema S.Store self.old.conn self.new.conn result }
+        ensures was_open { HasCleanDisk S.Store self.new.conn
+            → OnOk result (IsTrue (is_open S.Store self.old.conn)) }
+        ensures never { IfErr result IsNotNewerSchema }
     {
         if has_some_table(&mut self.conn)? {
             schema_number(&mut self.conn)

@@ -1,12 +1,18 @@
-//! The bytewise order of the texts of paths, without the texts: the letter of the front decides, and then the numbers.
+//! The bytewise order of the texts of paths, without the texts: the letter of the front decides,
+//! and then the numbers.
 ghost use Rattle.std.specs.Prelude.{◌≡◌, Some, slice_get};
 ghost use Rattle.std.specs.Ordering.{on, eq_by_cmp, as_partial_cmp};
-ghost use Rattle.std.specs.Cmp.{on_total, eq_by_cmp_equiv, partial_equiv_from_equiv, partial_order_from_own_ties};
+ghost use Rattle.std.specs.Cmp.{
+  on_total,
+  eq_by_cmp_equiv,
+  partial_equiv_from_equiv,
+  partial_order_from_own_ties,
+};
 ghost use Rattle.std.specs.Cmp.Lexicographic.{nat_list_cmp_total};
 ghost use Rattle.std.specs.Cmp.Rules.{comparing};
 ghost use Rattle.std.proofs.Common.{refl, rules};
 ghost use Rattle.pid_file.specs.PathTexts.{IsPath, path_text, path_cmp};
-ghost use Rattle.pid_file.specs.PathPlaces.{letter_of, numbers_of, rest_cmp};
+ghost use Rattle.pid_file.specs.Steps.PathPlaces.{letter_of, numbers_of, rest_cmp};
 
 use super::Path;
 use std::cmp::Ordering;
@@ -82,7 +88,8 @@ fn compare_rests(mine: Path, theirs: Path) -> Ordering
 impl PartialEq for Path {
     ghost eq = { eq_by_cmp path_cmp };
 
-    ghost laws = { partial_equiv_from_equiv (eq_by_cmp_equiv (on_total path_text nat_list_cmp_total)) };
+    ghost laws = { partial_equiv_from_equiv
+        (eq_by_cmp_equiv (on_total path_text nat_list_cmp_total)) };
 
     fn eq(&self, other: &Path) -> bool {
         self.cmp(other).is_eq()

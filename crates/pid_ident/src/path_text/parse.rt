@@ -2,7 +2,7 @@
 ghost use Rattle.std.specs.Prelude.{◌≡◌, ◌<◌, ◌^◌, ◌++◌, ◌∷◌, ℕ, List, IfSome, IfNone};
 ghost use Rattle.std.specs.Char.{digit_char};
 ghost use Rattle.pid_file.specs.PathTexts.{IsPath, IsTextOf, parts_of, slashed};
-ghost use Rattle.pid_file.specs.PathPlaces.{letter_of};
+ghost use Rattle.pid_file.specs.Steps.PathPlaces.{letter_of};
 ghost use Rattle.pid_file.specs.Identifiers.{hex4 as four_digits, hex2 as two_digits};
 
 use pid_file::{Id8, Id16, Path};
@@ -25,8 +25,10 @@ pub fn read_path(text: &[u8]) -> Option<Path>
 
 // What stands behind `PC`.
 fn device_path(parts: &[u8]) -> Option<Path>
-    ensures found { IfSome result (λ p. IsPath p × (letter_of p ≡ 67) × (parts.now ≡ slashed (parts_of p))) }
-    ensures none { IfNone result ((p : Path) → IsPath p → letter_of p ≡ 67 → parts.now ≡ slashed (parts_of p) → ⊥) }
+    ensures found { IfSome result (λ p. IsPath p × (letter_of p ≡ 67)
+        × (parts.now ≡ slashed (parts_of p))) }
+    ensures none { IfNone result ((p : Path) → IsPath p → letter_of p ≡ 67
+        → parts.now ≡ slashed (parts_of p) → ⊥) }
 {
     let (vendor, rest) = split_part4(parts)?;
     if rest.is_empty() {
@@ -51,8 +53,10 @@ fn device_path(parts: &[u8]) -> Option<Path>
 
 // What stands behind `PD`.
 fn class_path(parts: &[u8]) -> Option<Path>
-    ensures found { IfSome result (λ p. IsPath p × (letter_of p ≡ 68) × (parts.now ≡ slashed (parts_of p))) }
-    ensures none { IfNone result ((p : Path) → IsPath p → letter_of p ≡ 68 → parts.now ≡ slashed (parts_of p) → ⊥) }
+    ensures found { IfSome result (λ p. IsPath p × (letter_of p ≡ 68)
+        × (parts.now ≡ slashed (parts_of p))) }
+    ensures none { IfNone result ((p : Path) → IsPath p → letter_of p ≡ 68
+        → parts.now ≡ slashed (parts_of p) → ⊥) }
 {
     let (class, rest) = split_part2(parts)?;
     if rest.is_empty() {
@@ -75,8 +79,10 @@ fn class_path(parts: &[u8]) -> Option<Path>
 
 // What stands behind `PS`.
 fn generic_path(parts: &[u8]) -> Option<Path>
-    ensures found { IfSome result (λ p. IsPath p × (letter_of p ≡ 83) × (parts.now ≡ slashed (parts_of p))) }
-    ensures none { IfNone result ((p : Path) → IsPath p → letter_of p ≡ 83 → parts.now ≡ slashed (parts_of p) → ⊥) }
+    ensures found { IfSome result (λ p. IsPath p × (letter_of p ≡ 83)
+        × (parts.now ≡ slashed (parts_of p))) }
+    ensures none { IfNone result ((p : Path) → IsPath p → letter_of p ≡ 83
+        → parts.now ≡ slashed (parts_of p) → ⊥) }
 {
     let (vendor, rest) = split_part4(parts)?;
     let (device, rest) = split_part4(rest)?;
@@ -88,8 +94,10 @@ fn generic_path(parts: &[u8]) -> Option<Path>
 
 // The number of a slash and four digits, and what follows them.
 fn split_part4(text: &[u8]) -> Option<(Id16, &[u8])>
-    ensures found { IfSome result (λ x. (x.0 < 2 ^ 16) × (text.now ≡ 47 ∷ four_digits x.0 ++ x.1.now)) }
-    ensures none { IfNone result ((n : ℕ) (rest : List ℕ) → n < 2 ^ 16 → text.now ≡ 47 ∷ four_digits n ++ rest → ⊥) }
+    ensures found { IfSome result (λ x. (x.0 < 2 ^ 16)
+        × (text.now ≡ 47 ∷ four_digits x.0 ++ x.1.now)) }
+    ensures none { IfNone result ((n : ℕ) (rest : List ℕ) → n < 2 ^ 16
+        → text.now ≡ 47 ∷ four_digits n ++ rest → ⊥) }
 {
     let [b'/', digits @ ..] = text else {
         return None;
@@ -100,7 +108,8 @@ fn split_part4(text: &[u8]) -> Option<(Id16, &[u8])>
 // The number of four digits, and what follows them.
 fn split4(text: &[u8]) -> Option<(Id16, &[u8])>
     ensures found { IfSome result (λ x. (x.0 < 2 ^ 16) × (text.now ≡ four_digits x.0 ++ x.1.now)) }
-    ensures none { IfNone result ((n : ℕ) (rest : List ℕ) → n < 2 ^ 16 → text.now ≡ four_digits n ++ rest → ⊥) }
+    ensures none { IfNone result ((n : ℕ) (rest : List ℕ) → n < 2 ^ 16
+        → text.now ≡ four_digits n ++ rest → ⊥) }
 {
     let [a, b, c, d, rest @ ..] = text else {
         return None;
@@ -111,8 +120,10 @@ fn split4(text: &[u8]) -> Option<(Id16, &[u8])>
 
 // The number of a slash and two digits, and what follows them.
 fn split_part2(text: &[u8]) -> Option<(Id8, &[u8])>
-    ensures found { IfSome result (λ x. (x.0 < 2 ^ 8) × (text.now ≡ 47 ∷ two_digits x.0 ++ x.1.now)) }
-    ensures none { IfNone result ((n : ℕ) (rest : List ℕ) → n < 2 ^ 8 → text.now ≡ 47 ∷ two_digits n ++ rest → ⊥) }
+    ensures found { IfSome result (λ x. (x.0 < 2 ^ 8)
+        × (text.now ≡ 47 ∷ two_digits x.0 ++ x.1.now)) }
+    ensures none { IfNone result ((n : ℕ) (rest : List ℕ) → n < 2 ^ 8
+        → text.now ≡ 47 ∷ two_digits n ++ rest → ⊥) }
 {
     let [b'/', a, b, rest @ ..] = text else {
         return None;

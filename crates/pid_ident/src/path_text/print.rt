@@ -19,7 +19,8 @@ pub fn front(path: Path) -> &'static str
 
 /// Writes each part behind a slash.
 pub fn push_parts(text: &mut String, path: Path) -> Result<(), AllocError>
-    ensures { OnOk result (string_bytes text.new ≡ string_bytes text.old ++ slashed (parts_of path)) }
+    ensures { OnOk result (string_bytes text.new
+        ≡ string_bytes text.old ++ slashed (parts_of path)) }
 {
     match path {
         Path::Vendor { vendor } => push_part4(text, vendor),
@@ -56,14 +57,16 @@ pub fn push_parts(text: &mut String, path: Path) -> Result<(), AllocError>
 }
 
 fn push_part4(text: &mut String, number: Id16) -> Result<(), AllocError>
-    ensures { OnOk result (string_bytes text.new ≡ string_bytes text.old ++ 47 ∷ four_digits number) }
+    ensures { OnOk result (string_bytes text.new
+        ≡ string_bytes text.old ++ 47 ∷ four_digits number) }
 {
     text.push('/')?;
     push4(text, number)
 }
 
 fn push_part2(text: &mut String, number: Id8) -> Result<(), AllocError>
-    ensures { OnOk result (string_bytes text.new ≡ string_bytes text.old ++ 47 ∷ two_digits number) }
+    ensures { OnOk result (string_bytes text.new
+        ≡ string_bytes text.old ++ 47 ∷ two_digits number) }
 {
     text.push('/')?;
     let [a, b] = hex2(number);

@@ -23,5 +23,7 @@ nameless true progif = found.Ide (ide_words progif)
 nameless false progif = found.One None
 
 -- it is what the request is about: however it is shown, its text is that of the request
-pub record IsFor (found : Found) (named : Path → Option (List ℕ)) (request : Request) (a : Args) : Type 0 where
-  pub shown : (s : Switches) → found_text s (number_of request a) (word_of request) found ≡ text_of named s request a
+pub record IsFor (found : Found) (named : Path → Option (List ℕ)) (request : Request)
+    (a : Args) : Type 0 where
+  pub shown : (s : Switches) → found_text s (number_of request a) (word_of request) found
+      ≡ text_of named s request a

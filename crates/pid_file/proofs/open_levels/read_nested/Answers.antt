@@ -1,6 +1,6 @@
 use Rattle.std.proofs.Common.{◌≡◌, ◌∙◌, sym, Ok, Some}
 use Rattle.std.proofs.lemmas.Result.{err_from_is_err_and}
-use Rattle.pid_file.specs.OpenLevels.{below}
+use Rattle.pid_file.specs.Steps.OpenLevels.{below}
 use Rattle.pid_file.proofs.LineSays.{entry_read, fault_read, place_is, inside_nested}
 use Rattle.pid_file.proofs.open_levels.read_nested.Goals as goal
 

@@ -1,6 +1,6 @@
-use Rattle.pid_requests.specs.Commands.{command_made}
+use Rattle.pid_http_requests.specs.Commands.{command_made}
 use Rattle.pid_http.specs.Errands.{commanded}
-use Rattle.pid_http.specs.Replying.{sending_of}
+use Rattle.pid_http.specs.Steps.Replying.{sending_of}
 use Rattle.pid_http.proofs.Meeting.{form_refused, no_call, replied}
 use Rattle.pid_http.proofs.commanding.command_of.Goals as goal
 

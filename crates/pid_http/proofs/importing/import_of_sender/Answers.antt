@@ -1,5 +1,5 @@
 use Rattle.pid_http.specs.Errands.{imported}
-use Rattle.pid_http.specs.Replying.{sending_of}
+use Rattle.pid_http.specs.Steps.Replying.{sending_of}
 use Rattle.std.specs.Prelude.{Some}
 use Rattle.pid_http.proofs.Imports.{denied_behind, of_owner}
 use Rattle.pid_http.proofs.Meeting.{short_sender}

@@ -1,5 +1,5 @@
-use Rattle.pid_http.specs.Known.{lives_still}
-use Rattle.pid_http.proofs.Served.{none_read, none_served}
+use Rattle.pid_http.specs.Steps.Going.{lives_still}
+use Rattle.pid_http.proofs.Served.{memory_ends, none_read, none_served}
 use Rattle.pid_http.proofs.stream.serve_stream.Goals as goal
 
 pub returns-in_default-clause-served : goal.returns-in_default-clause-served
@@ -10,3 +10,6 @@ returns-in_default-clause-caught_up g c = none_read _ _ _ (g.I.Incoming.to_come 
 
 pub returns-in_default-clause-lives : goal.returns-in_default-clause-lives
 returns-in_default-clause-lives g c = lives_still _
+
+pub returns-in_default-clause-ended : goal.returns-in_default-clause-ended
+returns-in_default-clause-ended g c = memory_ends (g.I.Incoming.reads c.args.reader.now) c.args.turns _ _

@@ -1,6 +1,6 @@
 use Rattle.std.proofs.Common.{rules, refl, sym, subst, arith, inl}
 use Rattle.pid_http_stream.specs.BodyLaws.{more_turns}
-use Rattle.pid_http_stream.specs.Intakes.{IsHeadRead}
+use Rattle.pid_http_stream.specs.Steps.Intakes.{IsHeadRead}
 use Rattle.pid_http_stream.specs.Unfinished.{IsUnfinished}
 use Rattle.pid_http_stream.proofs.HeadReads.{comes_then, any_faulty, waits_on}
 use Rattle.pid_http_stream.proofs.intake.read_head.Goals as goal
@@ -10,7 +10,7 @@ reading-preserved g c = record {
   comes = comes_then _ _ _ _ _ _ c.reading.invariant.comes c.in-Piece.ensures.comes;
   judged = search rules;
   turns = more_turns _ _ _ c.reading.invariant.turns c.in-Piece.ensures.turns;
-  pace = omega (arith, c.reading.invariant.pace, c.in-Piece.ensures.pace refl);
+  pace = let p = c.in-Piece.ensures.piece refl in omega (arith, c.reading.invariant.pace, p.0, p.1);
   room = search rules;
   waits = waits_on _ _ _ _ _ _ _ _ c.reading.invariant.comes (inl (rw c.in-More.is at c.reading.invariant.judged)) c.reading.invariant.waits c.in-Piece.ensures.noted;
   goes = g.met.I.Incoming.joins _ _ _ c.reading.invariant.goes c.in-Piece.ensures.goes;
@@ -35,13 +35,10 @@ pub returns-in-End-clause-turns : goal.returns-in-End-clause-turns
 returns-in-End-clause-turns g c = more_turns _ _ _ c.reading.invariant.turns c.in-End.ensures.turns
 
 pub returns-in-End-clause-head : goal.returns-in-End-clause-head
-returns-in-End-clause-head g c = subst (λ l. IsHeadRead l c.reading.fields (g.I.Incoming.to_come c.fill.new.input) c.judge_end.result) c.deref-in-End.ensures.value (c.judge_end.ensures.judged _ _ (c.in-End.ensures.end refl))
+returns-in-End-clause-head g c = subst (λ l. IsHeadRead l c.reading.fields (g.I.Incoming.to_come c.fill.new.input) c.judge_end.result) c.deref-in-End.ensures.value (c.judge_end.ensures.judged _ _ c.in-End.ensures.stays.1)
 
-pub returns-in-End-clause-fault : goal.returns-in-End-clause-fault
-returns-in-End-clause-fault g c = λ e. absurd (c.judge_end.ensures.no_fault e)
-
-pub returns-in-End-clause-spent : goal.returns-in-End-clause-spent
-returns-in-End-clause-spent g c = λ e. absurd (c.judge_end.ensures.not_spent e)
+pub returns-in-End-clause-stopped : goal.returns-in-End-clause-stopped
+returns-in-End-clause-stopped g c = c.judge_end.ensures.stopped _ _
 
 pub returns-in-Stopped-clause-waits : goal.returns-in-Stopped-clause-waits
 returns-in-Stopped-clause-waits g c = waits_on _ _ _ _ _ _ _ _ c.reading.invariant.comes (inl (rw c.in-More.is at c.reading.invariant.judged)) c.reading.invariant.waits c.in-Stopped.ensures.noted

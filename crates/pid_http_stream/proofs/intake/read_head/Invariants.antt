@@ -1,6 +1,6 @@
 use Rattle.std.proofs.Common.{◌≡◌, ◌+◌, ◌*◌, ◌≤◌, length}
 use Rattle.pid_http_stream.specs.Bodies.{SpendsTurns}
-use Rattle.pid_http_stream.specs.Intakes.{ComesIn, IsJudged, IsWaiting}
+use Rattle.pid_http_stream.specs.Steps.Intakes.{ComesIn, IsJudged, IsWaiting}
 use Rattle.pid_http_stream.specs.Moments.{AllSince}
 use Rattle.pid_http_stream.specs.declared.intake.TheConstants.{READ_SIZE}
 use Rattle.pid_http_stream.specs.declared.judging.TheConstants.{MOST_FIELDS}

@@ -1,5 +1,5 @@
 use Rattle.std.proofs.Common.{◌≡◌, drop, false}
-use Rattle.pid_http_stream.specs.LineScans.{blank_after}
+use Rattle.pid_http_stream.specs.Steps.LineScans.{blank_after}
 use Rattle.pid_http_stream.proofs.judging.scan_line_ends.Given as goal
 
 abbrev pub invariant-loop-byte : goal.invariant-loop-byte

@@ -3,4 +3,4 @@ use Rattle.pid_http_stream.proofs.Lines.{in_one}
 use Rattle.pid_http_stream.proofs.reply.write_lines.Goals as goal
 
 pub returns-clause-sent : goal.returns-clause-sent
-returns-clause-sent g c = in_one _ _ _ c.args.status.now c.args.content.now (codes "Content-Length: ") c.args.length.now (codes "\r\n") c.args.allow.now c.args.close.now (codes "\r\n") c.args.body.now c.write_parts.ensures.sent
+returns-clause-sent g c = in_one _ _ _ (codes "HTTP/1.1 ") (codes " ") c.args.status.now c.args.phrase.now (codes "\r\n") c.args.content.now (codes "Content-Length: ") c.args.length.now (codes "\r\n") c.args.allow.now c.args.close.now (codes "\r\n") c.args.body.now c.write_parts.ensures.sent

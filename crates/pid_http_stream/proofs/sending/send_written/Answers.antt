@@ -31,3 +31,6 @@ returns-else-has_failed-clause-sent g c = turned _ _ _ _
     cut_in_body _ a v w request c.args.head c.args.told written.0 c.args.closes _ _ _ _ promised (g.met.H.Handler.kept a request c.args.head c.args.told v written.0 w promised written.1)
     c.in-Whole.ensures.sent written.2 c.has_failed.ensures.taken)
     c.in-Err-Store.ensures.written
+
+pub returns-in-WriteFault-clause-becomes : goal.returns-in-WriteFault-clause-becomes
+returns-in-WriteFault-clause-becomes g c = g.met.H.Handler.stays _

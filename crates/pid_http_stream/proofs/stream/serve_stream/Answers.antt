@@ -2,6 +2,7 @@ use Rattle.std.proofs.Common.{rules, arith}
 use Rattle.pid_http_stream.specs.BodyLaws.{more_turns}
 use Rattle.pid_http_stream.proofs.Leading.{turned, joined, beside}
 use Rattle.pid_http_stream.proofs.Looping.{loop_nothing, loop_faulty, loop_stopped, loop_open, loop_closed, loop_ended, loop_waits, loop_waits_within}
+use Rattle.pid_http_stream.proofs.Stepping.{refused_ends, stopped_ends, ends_later, spent_exactly, turns_within}
 use Rattle.pid_http_stream.proofs.stream.serve_stream.Goals as goal
 
 pub returns-in-Nothing-clause-served : goal.returns-in-Nothing-clause-served
@@ -52,3 +53,20 @@ returns-in-Closed-clause-caught_up g c = joined _ _ _ _ _ _ (λ u v w past step.
 
 pub returns-in-Ended-clause-caught_up : goal.returns-in-Ended-clause-caught_up
 returns-in-Ended-clause-caught_up g c = joined _ _ _ _ _ _ (λ u v w past step. past) (beside _ _ _ _ _ (λ u v w serving past. loop_waits_within _ _ _ _ _ _ _ _ _ _ _ _ _ _ _ _ serving past c.in-Head.ensures.waits c.in-Head.ensures.comes c.deref.ensures.value c.in-Ended.ensures.waits) c.serving.invariant.serving c.serving.invariant.caught_up) c.in-Ended.ensures.stepped
+
+pub returns-in-Nothing-clause-ended : goal.returns-in-Nothing-clause-ended
+returns-in-Nothing-clause-ended g c = record { within = turns_within _ _ (more_turns _ _ _ c.serving.invariant.turns c.in-Nothing.ensures.turns); cause = tt }
+
+pub returns-in-Faulty-clause-ended : goal.returns-in-Faulty-clause-ended
+returns-in-Faulty-clause-ended g c = refused_ends _ _ _ _ _ (turns_within _ _ (more_turns _ _ _ c.serving.invariant.turns c.in-Faulty.ensures.turns)) c.refuse-end.ensures.refused c.refuse-end.ensures.fault
+
+pub returns-in-Stopped-clause-ended : goal.returns-in-Stopped-clause-ended
+returns-in-Stopped-clause-ended g c =
+    let turns = more_turns _ _ _ c.serving.invariant.turns c.in-Stopped.ensures.turns in
+    rw c.end_of-end.ensures (stopped_ends _ c.in-Stopped.stop _ (turns_within _ _ turns) c.in-Stopped.ensures.stopped (λ none few. spent_exactly _ _ turns none few))
+
+pub returns-in-Closed-clause-ended : goal.returns-in-Closed-clause-ended
+returns-in-Closed-clause-ended g c = record { within = turns_within _ _ (more_turns _ _ _ c.serving.invariant.turns (more_turns _ _ _ c.read_head.ensures.turns c.serve_request.ensures.turns)); cause = tt }
+
+pub returns-in-Ended-clause-ended : goal.returns-in-Ended-clause-ended
+returns-in-Ended-clause-ended g c = ends_later _ _ _ _ _ _ (more_turns _ _ _ c.serving.invariant.turns c.read_head.ensures.turns) _ c.in-Ended.ensures.ended

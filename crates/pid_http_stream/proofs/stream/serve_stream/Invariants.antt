@@ -11,9 +11,9 @@ use Rattle.pid_http_stream.proofs.stream.serve_stream.Given as goal
 
 abbrev pub invariant-serving : goal.invariant-serving
 invariant-serving g l = record {
-  serving : Leads g.H.Handler.is_good g.H.Handler.stands l.fn.handler l.handler (λ v w. IfSome (g.I.Incoming.to_come l.fn.input) (λ s. IsServing (record { answers = g.H.Handler.answers; leaves = g.H.Handler.leaves; gives_up = g.H.Handler.gives_up; promises = g.H.Handler.promises })
+  serving : Leads g.H.Handler.is_good g.H.Handler.stands l.fn.handler l.handler (λ v w. IfSome (g.I.Incoming.to_come l.fn.input) (λ s. IsServing g.H.Handler.conduct
       (record { handler = v; handler_after = w; taken = g.W.Output.taken l.fn.output; taken_after = g.W.Output.taken l.output }) s (g.I.Incoming.to_come l.input) l.held.items l.answered));
-  caught_up : Leads g.H.Handler.is_good g.H.Handler.stands l.fn.handler l.handler (λ v _. IfSome (g.I.Incoming.to_come l.fn.input) (λ s. AllSince (IsCaughtUp (record { answers = g.H.Handler.answers; leaves = g.H.Handler.leaves; gives_up = g.H.Handler.gives_up; promises = g.H.Handler.promises })
+  caught_up : Leads g.H.Handler.is_good g.H.Handler.stands l.fn.handler l.handler (λ v _. IfSome (g.I.Incoming.to_come l.fn.input) (λ s. AllSince (IsCaughtUp g.H.Handler.conduct
       v (g.W.Output.taken l.fn.output) s) (g.I.Incoming.moments l.fn.input) (g.I.Incoming.moments l.input)));
   becomes : g.H.Handler.becomes l.fn.handler l.handler;
   room : length l.fields ≡ MOST_FIELDS;

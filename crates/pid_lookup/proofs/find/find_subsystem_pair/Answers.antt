@@ -1,9 +1,17 @@
 use Rattle.pid_lookup.specs.Found.{name_in}
 use Rattle.pid_lookup.proofs.FoundTexts.{for_subsystem_pair}
+use Rattle.pid_lookup.proofs.Questions.{kept_through}
 use Rattle.pid_lookup.proofs.find.find_subsystem_pair.Goals as goal
 
-pub returns-clause-found : goal.returns-clause-found
-returns-clause-found g c = λ honest s shown.
-    for_subsystem_pair (name_in (g.N.Names.map_of s)) c.args.args.now c.in_ok-vendor.vendor c.in_ok-device.device
-    (c.in_ok-vendor.ensures.found (c.in_ok-device.ensures.kept.was_honest honest) s shown)
-    (c.in_ok-device.ensures.found honest s (c.in_ok-vendor.ensures.kept.shown s shown))
+pub returns-clause-asks : goal.returns-clause-asks
+returns-clause-asks g c =
+    let first = c.in_ok-vendor.ensures.asks in
+    let second = c.in_ok-device.ensures.asks in
+    record {
+      found = λ honest s shown. for_subsystem_pair (name_in (g.N.Names.map_of s)) c.args.args.now c.in_ok-vendor.vendor c.in_ok-device.device
+          (first.found (second.kept.was_honest honest) s shown)
+          (second.found honest s (first.kept.shown s shown));
+      fault = tt;
+      caused = λ honest s shown start only. tt;
+      kept = kept_through g.N.Names first.kept second.kept;
+    }

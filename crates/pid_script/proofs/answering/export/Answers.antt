@@ -1,5 +1,5 @@
 use Rattle.pid_script.proofs.Exported.{export_unheld, export_whole, export_broken, export_refused, write_told, refused_told, fault_same, not_write, which_refusal}
-use Rattle.pid_lives.specs.Calls.{nothing_sent}
+use Rattle.pid_service_laws.specs.Calls.{nothing_sent}
 use Rattle.pid_script.proofs.Calling.{go_one, go_still}
 use Rattle.pid_script.proofs.answering.export.Goals as goal
 

@@ -5,11 +5,11 @@ use Rattle.pid_moderation.specs.Items.{name_at}
 use Rattle.pid_moderation.specs.Views.{items_of}
 use Rattle.pid_script.specs.Asking.{path_asked}
 use Rattle.pid_script.specs.Replies.{item_line}
-use Rattle.pid_script.specs.Saying.{out}
+use Rattle.pid_script.specs.Steps.Saying.{out}
 use Rattle.pid_script.specs.ScriptLines as lines
 use Rattle.pid_script.proofs.Asked.{form_refused, named}
 use Rattle.pid_script.proofs.Causes.{path_no_stop}
-use Rattle.pid_lives.specs.Calls.{nothing_sent}
+use Rattle.pid_service_laws.specs.Calls.{nothing_sent}
 use Rattle.pid_script.proofs.Calling.{go_one, go_still}
 use Rattle.pid_script.proofs.answering.read.Goals as goal
 

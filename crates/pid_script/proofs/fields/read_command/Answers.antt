@@ -1,7 +1,7 @@
 use Rattle.std.proofs.Common.{◌≡◌, ap, ◌∙◌}
 use Rattle.std.specs.Prelude.{codes}
 use Rattle.pid_moderation.specs.Fields.{texts_of, value}
-use Rattle.pid_fields.specs.FormFields.{fields_in}
+use Rattle.pid_form.specs.FormFields.{fields_in}
 use Rattle.pid_script.specs.Asking.{command_asked, other_fields}
 use Rattle.pid_script.proofs.fields.read_command.Goals as goal
 

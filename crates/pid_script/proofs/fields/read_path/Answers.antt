@@ -1,6 +1,6 @@
 use Rattle.std.proofs.Common.{◌≡◌, ap, ◌∙◌}
 use Rattle.pid_moderation.specs.Fields.{texts_of}
-use Rattle.pid_fields.specs.FormFields.{fields_in}
+use Rattle.pid_form.specs.FormFields.{fields_in}
 use Rattle.pid_script.specs.Asking.{path_asked, path_in}
 use Rattle.pid_script.proofs.Cases.{is_ok, is_err}
 use Rattle.pid_script.proofs.fields.read_path.Goals as goal

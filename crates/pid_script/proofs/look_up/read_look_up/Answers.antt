@@ -1,7 +1,7 @@
 use Rattle.std.proofs.Common.{◌≡◌, Some, None, cond, refl, sym, ap, ◌∙◌}
 use Rattle.pid_lookup.specs.Fields.{bytes_of, look_up_in, look_up_said}
 use Rattle.pid_moderation.specs.Fields.{texts_of}
-use Rattle.pid_fields.specs.FormFields.{fields_in}
+use Rattle.pid_form.specs.FormFields.{fields_in}
 use Rattle.pid_script.specs.Asking.{look_up_asked}
 use Rattle.pid_script.proofs.look_up.read_look_up.Goals as goal
 

@@ -2,7 +2,7 @@ use Rattle.std.proofs.Common.{◌≡◌, [], ◌∷◌, ◌++◌, ap, ◌∙◌,
 use Rattle.std.specs.Prelude.{codes, decimal}
 use Rattle.pid_moderation.specs.Refusals.{refusal_number, refusal_word}
 use Rattle.pid_moderation.specs.ReplyLines.{details}
-use Rattle.pid_script.specs.Saying.{out, SaysFront, SaysText}
+use Rattle.pid_script.specs.Steps.Saying.{out, SaysFront, SaysText}
 use Rattle.pid_script.proofs.AnswerLines.{refusal_parts}
 use Rattle.pid_script.proofs.SayLemmas.{front_within, said_more}
 use Rattle.pid_script.proofs.reply.say_refused.Goals as goal

@@ -1,6 +1,6 @@
 use Rattle.std.proofs.Common.{◌≡◌, Err, subst, rules}
 use Rattle.std.specs.Io.KnownBytes.{Appends}
-use Rattle.pid_script.specs.Saying.{out}
+use Rattle.pid_script.specs.Steps.Saying.{out}
 use Rattle.pid_script.proofs.SayLemmas.{tells_said, sent_behind, unsent_front}
 use Rattle.pid_script.proofs.saying.say.Goals as goal
 

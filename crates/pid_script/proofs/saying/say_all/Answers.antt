@@ -1,4 +1,4 @@
-use Rattle.pid_script.specs.Saying.{out}
+use Rattle.pid_script.specs.Steps.Saying.{out}
 use Rattle.pid_script.proofs.SayLemmas.{out_front}
 use Rattle.pid_script.proofs.saying.say_all.Goals as goal
 

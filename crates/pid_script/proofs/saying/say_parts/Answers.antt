@@ -1,4 +1,4 @@
-use Rattle.pid_script.specs.Saying.{out}
+use Rattle.pid_script.specs.Steps.Saying.{out}
 use Rattle.pid_script.proofs.SayLemmas.{says_nothing, says_part, part_front}
 use Rattle.pid_script.proofs.saying.say_parts.Goals as goal
 

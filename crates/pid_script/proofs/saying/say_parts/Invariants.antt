@@ -1,7 +1,7 @@
 -- The parts so far were said.
 use Rattle.std.proofs.Common.{take}
 use Rattle.std.specs.List.{flat_map}
-use Rattle.pid_script.specs.Saying.{out, Says}
+use Rattle.pid_script.specs.Steps.Saying.{out, Says}
 use Rattle.pid_script.proofs.saying.say_parts.Given as goal
 
 abbrev pub invariant-loop-part : goal.invariant-loop-part

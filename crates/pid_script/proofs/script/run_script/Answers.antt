@@ -1,6 +1,6 @@
 use Rattle.std.proofs.Common.{◌≡◌, ℕ, ◌+◌, List, length, take, Err, sym, ◌∙◌, subst, arith, rules, IfSome}
-use Rattle.pid_script.specs.Progress.{HasAnswered}
-use Rattle.pid_script.specs.Saying.{out}
+use Rattle.pid_script.specs.Steps.Progress.{HasAnswered}
+use Rattle.pid_script.specs.Steps.Saying.{out}
 use Rattle.pid_script.specs.Scripts.{passage, IsScript}
 use Rattle.pid_script.proofs.ReadLemmas.{none_read, read_more, one_more, cut_off, turns_over, all_read, ended, not_spent, consumed_none, piece_fits, took_more, took_none}
 use Rattle.pid_script.proofs.Calling.{go_then}
@@ -25,16 +25,14 @@ returns-in_default-clause-script g c = λ honest h stands.
     cut_off g.R.Moderated h (g.O.Output.taken c.args.output.now) c.args.registry.now c.loop-turn.registry (out (g.O.Output.taken c.loop-turn.output) c.loop-turn.held.items) c.loop-turn.kept.items c.loop-turn.invariant.0.front (g.I.Input.to_come c.args.input.now) (g.I.Input.to_come c.loop-turn.input) (g.I.Input.to_come c.read.new.self)
     c.loop-turn.invariant.0.consumed c.in_default.ensures.bytes c.loop-turn.invariant.0.empty (c.loop-turn.invariant.0.answered honest h stands)
 
-pub returns-in_default-clause-turns : goal.returns-in_default-clause-turns
-returns-in_default-clause-turns g c = λ small. (c.loop-turn._turn + 1, omega (arith, c.loop-turn-test.true), one_more _ _ _ _ (c.loop-turn.invariant.0.counted small) c.read.ensures.count, λ e. absurd cc)
-
-pub returns-in_default-clause-room : goal.returns-in_default-clause-room
-returns-in_default-clause-room g c = (
-  c.loop-turn._turn + 1,
-  omega (arith, c.loop-turn-test.true),
-  (λ small. one_more _ _ _ _ (c.loop-turn.invariant.0.counted small) c.read.ensures.count),
-  took_none c.loop-turn.invariant.0.front c.loop-turn._turn (g.I.Input.to_come c.args.input.now) (g.I.Input.to_come c.loop-turn.input) (g.I.Input.to_come c.read.new.self) c.loop-turn.invariant.0.consumed c.loop-turn.invariant.0.bounded c.in_default.ensures.bytes,
-)
+pub returns-in_default-clause-reads : goal.returns-in_default-clause-reads
+returns-in_default-clause-reads g c = record {
+  made = c.loop-turn._turn + 1;
+  within = omega (arith, c.loop-turn-test.true);
+  counted = λ small. one_more _ _ _ _ (c.loop-turn.invariant.0.counted small) c.read.ensures.count;
+  spent = λ e. absurd cc;
+  room = took_none c.loop-turn.invariant.0.front c.loop-turn._turn (g.I.Input.to_come c.args.input.now) (g.I.Input.to_come c.loop-turn.input) (g.I.Input.to_come c.read.new.self) c.loop-turn.invariant.0.consumed c.loop-turn.invariant.0.bounded c.in_default.ensures.bytes;
+}
 
 pub returns-in_default-clause-goes : goal.returns-in_default-clause-goes
 returns-in_default-clause-goes g c = g.met.I.Input.joins _ _ _ c.loop-turn.invariant.1 c.read.ensures.goes
@@ -53,17 +51,14 @@ returns-then-count-eq0-clause-script g c = λ honest h stands.
     (c.end_text.ensures.ends honest h taken c.args.registry.now c.loop-turn.invariant.0.front stands
     (subst (λ (l : List ℕ). HasAnswered g.R.Moderated h taken c.args.registry.now c.loop-turn.registry (out (g.O.Output.taken c.loop-turn.output) c.loop-turn.held.items) l c.loop-turn.invariant.0.front) (sym c.deref.ensures.value) (c.loop-turn.invariant.0.answered was h stands))))
 
-pub returns-then-count-eq0-clause-turns : goal.returns-then-count-eq0-clause-turns
-returns-then-count-eq0-clause-turns g c = λ small. (c.loop-turn._turn + 1, omega (arith, c.loop-turn-test.true), one_more _ _ _ _ (c.loop-turn.invariant.0.counted small) c.read.ensures.count, λ e. absurd (not_spent c.end_text.result (sym c.end_of.ensures ∙ e)))
-
-pub returns-then-count-eq0-clause-room : goal.returns-then-count-eq0-clause-room
-returns-then-count-eq0-clause-room g c =
-    let whole : length c.read.new.buffer ≡ 65536 = search rules in (
-      c.loop-turn._turn + 1,
-      omega (arith, c.loop-turn-test.true),
-      (λ small. one_more _ _ _ _ (c.loop-turn.invariant.0.counted small) c.read.ensures.count),
-      took_more c.loop-turn.invariant.0.front (take c.in-Ok.count c.read.new.buffer) c.loop-turn._turn (g.I.Input.to_come c.args.input.now) (g.I.Input.to_come c.loop-turn.input) (g.I.Input.to_come c.read.new.self) c.loop-turn.invariant.0.consumed c.loop-turn.invariant.0.bounded c.in-Ok.ensures.bytes.0 (piece_fits c.in-Ok.count c.read.new.buffer whole),
-    )
+pub returns-then-count-eq0-clause-reads : goal.returns-then-count-eq0-clause-reads
+returns-then-count-eq0-clause-reads g c = let whole : length c.read.new.buffer ≡ 65536 = search rules in record {
+  made = c.loop-turn._turn + 1;
+  within = omega (arith, c.loop-turn-test.true);
+  counted = λ small. one_more _ _ _ _ (c.loop-turn.invariant.0.counted small) c.read.ensures.count;
+  spent = λ e. absurd (not_spent c.end_text.result (sym c.end_of.ensures ∙ e));
+  room = took_more c.loop-turn.invariant.0.front (take c.in-Ok.count c.read.new.buffer) c.loop-turn._turn (g.I.Input.to_come c.args.input.now) (g.I.Input.to_come c.loop-turn.input) (g.I.Input.to_come c.read.new.self) c.loop-turn.invariant.0.consumed c.loop-turn.invariant.0.bounded c.in-Ok.ensures.bytes.0 (piece_fits c.in-Ok.count c.read.new.buffer whole);
+}
 
 pub returns-then-count-eq0-clause-goes : goal.returns-then-count-eq0-clause-goes
 returns-then-count-eq0-clause-goes g c = g.met.I.Input.joins _ _ _ c.loop-turn.invariant.1 c.read.ensures.goes
@@ -80,17 +75,14 @@ returns-in-Err-clause-script g c = λ honest h stands.
     c.loop-turn.invariant.0.consumed c.in-Ok.ensures.bytes.0
     (λ more. c.in-Err.ensures.ended honest h taken c.args.registry.now c.loop-turn.invariant.0.front more stands (c.loop-turn.invariant.0.answered was h stands)))
 
-pub returns-in-Err-clause-turns : goal.returns-in-Err-clause-turns
-returns-in-Err-clause-turns g c = λ small. (c.loop-turn._turn + 1, omega (arith, c.loop-turn-test.true), one_more _ _ _ _ (c.loop-turn.invariant.0.counted small) c.read.ensures.count, λ e. absurd (not_spent (Err c.in-Err.end) (sym c.end_of-in-Err.ensures ∙ e)))
-
-pub returns-in-Err-clause-room : goal.returns-in-Err-clause-room
-returns-in-Err-clause-room g c =
-    let whole : length c.read.new.buffer ≡ 65536 = search rules in (
-      c.loop-turn._turn + 1,
-      omega (arith, c.loop-turn-test.true),
-      (λ small. one_more _ _ _ _ (c.loop-turn.invariant.0.counted small) c.read.ensures.count),
-      took_more c.loop-turn.invariant.0.front (take c.in-Ok.count c.read.new.buffer) c.loop-turn._turn (g.I.Input.to_come c.args.input.now) (g.I.Input.to_come c.loop-turn.input) (g.I.Input.to_come c.read.new.self) c.loop-turn.invariant.0.consumed c.loop-turn.invariant.0.bounded c.in-Ok.ensures.bytes.0 (piece_fits c.in-Ok.count c.read.new.buffer whole),
-    )
+pub returns-in-Err-clause-reads : goal.returns-in-Err-clause-reads
+returns-in-Err-clause-reads g c = let whole : length c.read.new.buffer ≡ 65536 = search rules in record {
+  made = c.loop-turn._turn + 1;
+  within = omega (arith, c.loop-turn-test.true);
+  counted = λ small. one_more _ _ _ _ (c.loop-turn.invariant.0.counted small) c.read.ensures.count;
+  spent = λ e. absurd (not_spent (Err c.in-Err.end) (sym c.end_of-in-Err.ensures ∙ e));
+  room = took_more c.loop-turn.invariant.0.front (take c.in-Ok.count c.read.new.buffer) c.loop-turn._turn (g.I.Input.to_come c.args.input.now) (g.I.Input.to_come c.loop-turn.input) (g.I.Input.to_come c.read.new.self) c.loop-turn.invariant.0.consumed c.loop-turn.invariant.0.bounded c.in-Ok.ensures.bytes.0 (piece_fits c.in-Ok.count c.read.new.buffer whole);
+}
 
 pub returns-in-Err-clause-goes : goal.returns-in-Err-clause-goes
 returns-in-Err-clause-goes g c = g.met.I.Input.joins _ _ _ c.loop-turn.invariant.1 c.read.ensures.goes
@@ -99,8 +91,14 @@ pub returns-clause-script : goal.returns-clause-script
 returns-clause-script g c = λ honest h stands.
     turns_over g.R.Moderated h (g.O.Output.taken c.args.output.now) c.args.registry.now c.loop-turn.registry (out (g.O.Output.taken c.loop-turn.output) c.loop-turn.held.items) c.loop-turn.kept.items c.loop-turn.invariant.0.front (g.I.Input.to_come c.args.input.now) (g.I.Input.to_come c.loop-turn.input) c.loop-turn.invariant.0.consumed c.loop-turn.invariant.0.empty (c.loop-turn.invariant.0.answered honest h stands)
 
-pub returns-clause-room : goal.returns-clause-room
-returns-clause-room g c = (c.loop-turn._turn, omega (arith, c.loop-turn-test.false), (λ small. c.loop-turn.invariant.0.counted small), record { front = c.loop-turn.invariant.0.front; taken = c.loop-turn.invariant.0.consumed; bounded = c.loop-turn.invariant.0.bounded })
+pub returns-clause-reads : goal.returns-clause-reads
+returns-clause-reads g c = record {
+  made = c.loop-turn._turn;
+  within = omega (arith, c.loop-turn-test.false);
+  counted = λ small. c.loop-turn.invariant.0.counted small;
+  spent = λ e. omega (arith, c.loop-turn-test.false);
+  room = record { front = c.loop-turn.invariant.0.front; taken = c.loop-turn.invariant.0.consumed; bounded = c.loop-turn.invariant.0.bounded };
+}
 
 pub returns-in_default-clause-calls : goal.returns-in_default-clause-calls
 returns-in_default-clause-calls g c = c.loop-turn.invariant.0.calls

@@ -3,7 +3,7 @@ use Rattle.pid_moderation.specs.declared.change.Receipt.{Receipt}
 use Rattle.pid_moderation.specs.Changes.{affected, changed, keeping}
 use Rattle.pid_moderation.specs.Items.{Items, name_at}
 use Rattle.pid_moderation.specs.Views.{Views}
-use Rattle.pid_name_cache.specs.Agreement.{Agrees}
+use Rattle.pid_lookup.specs.CacheAgreement.{Agrees}
 use Rattle.pid_service.proofs.forgetting.forget_for.Goals as goal
 
 kept_items : (r : Option Receipt) (v : Views) → (keeping r v).items ≡ v.items
@@ -15,11 +15,6 @@ returns-then-not-writes_items-clause-right c v names =
     let off : c.writes_items.result ≡ false = search rules in
     let same : (changed c.args.change.now v).items ≡ v.items = kept_items c.args.change.now.receipt (affected c.args.change.now.revision c.args.change.now.effect v) ∙ c.writes_items.ensures c.args.change.now.revision v off in
     subst (λ (items : Items). Agrees c.args.names.now (λ path. name_at path items)) (sym same) names
-
-pub returns-then-not-writes_items-clause-forgets : goal.returns-then-not-writes_items-clause-forgets
-returns-then-not-writes_items-clause-forgets c v other =
-    let off : c.writes_items.result ≡ false = search rules in
-    absurd (other (kept_items c.args.change.now.receipt (affected c.args.change.now.revision c.args.change.now.effect v) ∙ c.writes_items.ensures c.args.change.now.revision v off))
 
 pub returns-then-not-writes_items-clause-spares : goal.returns-then-not-writes_items-clause-spares
 returns-then-not-writes_items-clause-spares c =

@@ -1,6 +1,6 @@
 use Rattle.std.proofs.Common.{sym, subst}
 use Rattle.pid_moderation.specs.Writes.{tree_of}
-use Rattle.pid_lives.specs.CrashPrefix.{IsAfterPrefixes}
+use Rattle.pid_service_laws.specs.CrashPrefix.{IsAfterPrefixes}
 use Rattle.pid_service.specs.Histories.{Shows}
 use Rattle.pid_service.proofs.lives.reopened_registries_show_prefixes.Goals as goal
 

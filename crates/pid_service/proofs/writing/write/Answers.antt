@@ -1,8 +1,8 @@
 use Rattle.std.proofs.Common.{◌≡◌, OnOk, OnErr, rules, subst}
 use Rattle.pid_moderation.specs.Changes.{changed}
-use Rattle.pid_rows.specs.Clauses.{AtRest, LeavesEither}
-use Rattle.pid_rows.specs.Shows.{counts_of}
-use Rattle.pid_rows.proofs.LeaveLemmas.{on_err}
+use Rattle.pid_tables_rows.specs.Clauses.{AtRest, LeavesEither}
+use Rattle.pid_tables_rows.specs.Shows.{counts_of}
+use Rattle.pid_tables_rows.proofs.LeaveLemmas.{on_err}
 use Rattle.pid_service.proofs.WriteLemmas.{counted}
 use Rattle.pid_service.proofs.writing.write.Goals as goal
 

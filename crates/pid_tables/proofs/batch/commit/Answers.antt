@@ -1,10 +1,10 @@
 use Rattle.sqlite.specs.Held.{state}
 use Rattle.sqlite.proofs.StateLemmas.{clean_if_open}
-use Rattle.pid_rows.proofs.LeaveLemmas.{stands, failed_back, on_err}
-use Rattle.pid_rows.proofs.GoingLemmas.{earlier}
-use Rattle.pid_rows.specs.Shows.{counts_of}
-use Rattle.pid_rows.specs.Causes.{IsCaused}
-use Rattle.pid_rows.proofs.CauseLemmas.{passed_from}
+use Rattle.pid_tables_rows.proofs.LeaveLemmas.{stands, failed_back, on_err}
+use Rattle.pid_tables_rows.proofs.GoingLemmas.{earlier}
+use Rattle.pid_tables_rows.specs.Shows.{counts_of}
+use Rattle.pid_tables_rows.specs.Causes.{IsCaused}
+use Rattle.pid_tables_rows.proofs.CauseLemmas.{passed_from}
 use Rattle.pid_tables.proofs.CommitLemmas.{commit_caused}
 use Rattle.pid_tables.proofs.MoveLemmas.{undone}
 use Rattle.pid_tables.proofs.batch.commit.Goals as goal

@@ -1,9 +1,9 @@
 use Rattle.std.proofs.Common.{sym, subst, arith}
 use Rattle.sqlite.specs.Held.{state}
 use Rattle.sqlite.specs.State.{HasCleanDisk}
-use Rattle.pid_rows.specs.Faults.{IsUntold}
-use Rattle.pid_rows.specs.Shows.{ShowsCounting}
-use Rattle.pid_rows.proofs.CauseLemmas.{passed_on}
+use Rattle.pid_tables_rows.specs.Faults.{IsMemoryOrStore}
+use Rattle.pid_tables_rows.specs.Shows.{ShowsCounting}
+use Rattle.pid_tables_rows.proofs.CauseLemmas.{passed_on}
 use Rattle.pid_tables.proofs.ChangeLemmas.{undecided}
 use Rattle.pid_tables.proofs.batch.decision.Goals as goal
 
@@ -19,4 +19,4 @@ returns-in-Some-clause-shows g c = rw c.in-Some.is (λ clean inside counts v sho
 
 pub returns-in_err-decide-clause-shows : goal.returns-in_err-decide-clause-shows
 returns-in_err-decide-clause-shows g c clean inside counts v shows fits =
-    passed_on c.from_residual.result _ _ IsUntold c.from_residual.ensures.1 (c.in_err-decide.ensures.shows clean inside counts v shows fits.0)
+    passed_on c.from_residual.result _ _ IsMemoryOrStore c.from_residual.ensures.1 (c.in_err-decide.ensures.shows clean inside counts v shows fits.0)

@@ -1,15 +1,15 @@
 use Rattle.std.proofs.Common.{sym, subst, MatchResult}
 use Rattle.sqlite.specs.Held.{state}
 use Rattle.pid_moderation.specs.Items.{name_at}
-use Rattle.pid_rows.specs.Faults.{IsUntold}
-use Rattle.pid_rows.specs.Shows.{ShowsCounting}
+use Rattle.pid_tables_rows.specs.Faults.{IsMemoryOrStore}
+use Rattle.pid_tables_rows.specs.Shows.{ShowsCounting}
 use Rattle.pid_tables.proofs.ApplyLemmas.{none_there}
 use Rattle.pid_tables.proofs.ChangeLemmas.{removed}
 use Rattle.pid_tables.proofs.batch.edit_item.Goals as goal
 
 pub returns-in-Remove-clause-shows : goal.returns-in-Remove-clause-shows
 returns-in-Remove-clause-shows g c = rw c.in-Remove.is (λ clean inside counts v shows fits.
-    subst (λ w. MatchResult c.remove_item.result (λ _. ShowsCounting counts (state g.S.Store c.remove_item.new.tx.conn.now).now w) IsUntold) (sym (removed c.args.revision c.args.path.now v)) (c.remove_item.ensures.shows clean inside counts v shows tt))
+    subst (λ w. MatchResult c.remove_item.result (λ _. ShowsCounting counts (state g.S.Store c.remove_item.new.tx.conn.now).now w) IsMemoryOrStore) (sym (removed c.args.revision c.args.path.now v)) (c.remove_item.ensures.shows clean inside counts v shows tt))
 
 pub returns-in-Add-clause-shows : goal.returns-in-Add-clause-shows
 returns-in-Add-clause-shows g c = rw c.in-Add.is (λ clean inside counts v shows fits. (rw c.as_str.ensures.text at c.add_item.ensures.shows) clean inside counts v shows (none_there (name_at c.args.path.now v.items) fits))

@@ -1,8 +1,8 @@
 use Rattle.std.proofs.Common.{arith}
 use Rattle.sqlite.specs.Held.{state}
 use Rattle.sqlite.specs.State.{HasCleanDisk}
-use Rattle.pid_rows.specs.Faults.{IsUntold}
-use Rattle.pid_rows.proofs.CauseLemmas.{passed_on}
+use Rattle.pid_tables_rows.specs.Faults.{IsMemoryOrStore}
+use Rattle.pid_tables_rows.proofs.CauseLemmas.{passed_on}
 use Rattle.pid_tables.proofs.batch.submit.Goals as goal
 
 pub returns-clause-shows : goal.returns-clause-shows
@@ -13,4 +13,4 @@ returns-clause-shows g c clean inside counts v shows last =
 
 pub returns-in_err-add_submission-clause-shows : goal.returns-in_err-add_submission-clause-shows
 returns-in_err-add_submission-clause-shows g c clean inside counts v shows last =
-    passed_on c.from_residual.result _ _ IsUntold c.from_residual.ensures.1 (c.in_err-add_submission.ensures.shows clean inside counts v shows last)
+    passed_on c.from_residual.result _ _ IsMemoryOrStore c.from_residual.ensures.1 (c.in_err-add_submission.ensures.shows clean inside counts v shows last)

@@ -2,14 +2,14 @@ use Rattle.std.proofs.Common.{Some, None, subst, arith}
 use Rattle.sqlite.specs.Held.{state}
 use Rattle.sqlite.specs.State.{HasCleanDisk}
 use Rattle.pid_moderation.specs.Changes.{FitsReceipt}
-use Rattle.pid_rows.specs.Faults.{IsUntold}
-use Rattle.pid_rows.proofs.CauseLemmas.{passed_on}
+use Rattle.pid_tables_rows.specs.Faults.{IsMemoryOrStore}
+use Rattle.pid_tables_rows.proofs.CauseLemmas.{passed_on}
 use Rattle.pid_tables.proofs.ApplyLemmas.{receipt_still_fits, whole_with, either_side}
 use Rattle.pid_tables.proofs.batch.write_change.Goals as goal
 
 pub returns-in_err-write_counted-clause-shows : goal.returns-in_err-write_counted-clause-shows
 returns-in_err-write_counted-clause-shows g c clean inside counts v shows counted fits =
-    passed_on c.from_residual.result _ _ IsUntold c.from_residual.ensures.1 (c.in_err-write_counted.ensures.shows clean inside counts v shows fits.0)
+    passed_on c.from_residual.result _ _ IsMemoryOrStore c.from_residual.ensures.1 (c.in_err-write_counted.ensures.shows clean inside counts v shows fits.0)
 
 pub returns-in-None-clause-shows : goal.returns-in-None-clause-shows
 returns-in-None-clause-shows g c clean inside counts v shows counted fits =

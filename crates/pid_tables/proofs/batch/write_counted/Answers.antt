@@ -1,9 +1,9 @@
 use Rattle.std.proofs.Common.{arith}
 use Rattle.sqlite.specs.Held.{state}
 use Rattle.sqlite.specs.State.{HasCleanDisk}
-use Rattle.pid_rows.specs.Faults.{IsUntold}
-use Rattle.pid_rows.proofs.CauseLemmas.{passed_on}
-use Rattle.pid_tables.specs.Applies.{recounted}
+use Rattle.pid_tables_rows.specs.Faults.{IsMemoryOrStore}
+use Rattle.pid_tables_rows.proofs.CauseLemmas.{passed_on}
+use Rattle.pid_tables.specs.Steps.Applies.{recounted}
 use Rattle.pid_tables.proofs.batch.write_counted.Goals as goal
 
 pub returns-clause-shows : goal.returns-clause-shows
@@ -14,4 +14,4 @@ returns-clause-shows g c clean inside counts v shows fits =
 
 pub returns-in_err-write_effect-clause-shows : goal.returns-in_err-write_effect-clause-shows
 returns-in_err-write_effect-clause-shows g c clean inside counts v shows fits =
-    passed_on c.from_residual.result _ _ IsUntold c.from_residual.ensures.1 (c.in_err-write_effect.ensures.shows clean inside counts v shows fits)
+    passed_on c.from_residual.result _ _ IsMemoryOrStore c.from_residual.ensures.1 (c.in_err-write_effect.ensures.shows clean inside counts v shows fits)

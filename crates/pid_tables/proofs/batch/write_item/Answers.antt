@@ -1,8 +1,8 @@
 use Rattle.std.proofs.Common.{arith}
 use Rattle.sqlite.specs.Held.{state}
 use Rattle.sqlite.specs.State.{HasCleanDisk}
-use Rattle.pid_rows.specs.Faults.{IsUntold}
-use Rattle.pid_rows.proofs.CauseLemmas.{passed_on}
+use Rattle.pid_tables_rows.specs.Faults.{IsMemoryOrStore}
+use Rattle.pid_tables_rows.proofs.CauseLemmas.{passed_on}
 use Rattle.pid_tables.proofs.batch.write_item.Goals as goal
 
 pub returns-clause-shows : goal.returns-clause-shows
@@ -14,5 +14,5 @@ returns-clause-shows g c clean inside counts v shows fits =
 
 pub returns-in_err-edit_item-clause-shows : goal.returns-in_err-edit_item-clause-shows
 returns-in_err-edit_item-clause-shows g c clean inside counts v shows fits =
-    passed_on c.from_residual-in_err-edit_item.result _ _ IsUntold c.from_residual-in_err-edit_item.ensures.1
+    passed_on c.from_residual-in_err-edit_item.result _ _ IsMemoryOrStore c.from_residual-in_err-edit_item.ensures.1
     ((rw (c.as_str.ensures.value, c.in_ok-path.ensures) at c.in_err-edit_item.ensures.shows) clean inside counts v shows fits)

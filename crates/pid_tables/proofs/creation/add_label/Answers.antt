@@ -1,9 +1,9 @@
 use Rattle.sqlite.specs.Held.{state}
 use Rattle.pid_tables.proofs.CreateLemmas.{label_added}
-use Rattle.pid_rows.specs.declared.version.Version.TheVariants.{Two}
-use Rattle.pid_rows.specs.Schema.{pid_schema}
-use Rattle.pid_rows.proofs.KeyTexts.{insert_meta_is}
-use Rattle.pid_rows.proofs.WriteFaults.{led, insert_writes}
+use Rattle.pid_tables_rows.specs.declared.version.Version.TheVariants.{Two}
+use Rattle.pid_tables_rows.specs.Schema.{pid_schema}
+use Rattle.pid_tables_rows.proofs.KeyTexts.{insert_meta_is}
+use Rattle.pid_tables_rows.proofs.WriteFaults.{led, insert_writes}
 use Rattle.pid_tables.proofs.creation.add_label.Goals as goal
 
 pub returns-clause-added : goal.returns-clause-added

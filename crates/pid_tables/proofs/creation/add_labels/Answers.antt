@@ -1,9 +1,9 @@
 use Rattle.std.proofs.Common.{None, refl, codes}
 use Rattle.sqlite.specs.Held.{state}
-use Rattle.pid_tables.specs.Making.{with_label}
-use Rattle.pid_rows.specs.Faults.{IsUntold, IsNotLater}
-use Rattle.pid_rows.proofs.CauseLemmas.{passed_on, passed_from}
-use Rattle.pid_rows.proofs.GoingLemmas.{earlier}
+use Rattle.pid_tables.specs.Steps.MakingTables.{with_label}
+use Rattle.pid_tables_rows.specs.Faults.{IsMemoryOrStore, IsNotNewerSchema}
+use Rattle.pid_tables_rows.proofs.CauseLemmas.{passed_on, passed_from}
+use Rattle.pid_tables_rows.proofs.GoingLemmas.{earlier}
 use Rattle.pid_tables.proofs.creation.add_labels.Goals as goal
 
 pub returns-clause-added : goal.returns-clause-added
@@ -22,14 +22,14 @@ returns-clause-added g c clean inside has =
     (three.added third in_two n (two.added second in_one m (one.added first inside (λ _. None) has refl) refl) refl) refl
 
 pub returns-in_err-add_label-clause-added : goal.returns-in_err-add_label-clause-added
-returns-in_err-add_label-clause-added g c clean inside has = passed_on c.from_residual.result _ _ IsUntold c.from_residual.ensures.1 (c.in_err-add_label.ensures.added clean inside (λ _. None) has refl)
+returns-in_err-add_label-clause-added g c clean inside has = passed_on c.from_residual.result _ _ IsMemoryOrStore c.from_residual.ensures.1 (c.in_err-add_label.ensures.added clean inside (λ _. None) has refl)
 
 pub returns-in_err-add_label-2-clause-added : goal.returns-in_err-add_label-2-clause-added
 returns-in_err-add_label-2-clause-added g c clean inside has =
     let first = earlier (state g.S.Store c.add_label.new.tx.conn.now) (state g.S.Store c.add_label-2.new.tx.conn.now) c.add_label-2.ensures.goes.survives clean in
     let one = c.in_ok-add_label.ensures in
     let m = with_label (codes "revision") 0 (λ _. None) in
-    passed_on c.from_residual-in_err-add_label-2.result _ _ IsUntold c.from_residual-in_err-add_label-2.ensures.1
+    passed_on c.from_residual-in_err-add_label-2.result _ _ IsMemoryOrStore c.from_residual-in_err-add_label-2.ensures.1
     (c.in_err-add_label-2.ensures.added clean (one.goes.going first inside).1 m (one.added first inside (λ _. None) has refl) refl)
 
 pub returns-in_err-add_label-3-clause-added : goal.returns-in_err-add_label-3-clause-added
@@ -41,14 +41,14 @@ returns-in_err-add_label-3-clause-added g c clean inside has =
     let in_one = (one.goes.going first inside).1 in
     let m = with_label (codes "revision") 0 (λ _. None) in
     let n = with_label (codes "submissions") 0 m in
-    passed_on c.from_residual-in_err-add_label-3.result _ _ IsUntold c.from_residual-in_err-add_label-3.ensures.1
+    passed_on c.from_residual-in_err-add_label-3.result _ _ IsMemoryOrStore c.from_residual-in_err-add_label-3.ensures.1
     (c.in_err-add_label-3.ensures.added clean (two.goes.going second in_one).1 n (two.added second in_one m (one.added first inside (λ _. None) has refl) refl) refl)
 
 pub returns-in_err-add_label-clause-never : goal.returns-in_err-add_label-clause-never
-returns-in_err-add_label-clause-never g c = passed_from c.from_residual.result _ IsNotLater c.from_residual.ensures.1 c.in_err-add_label.ensures.never
+returns-in_err-add_label-clause-never g c = passed_from c.from_residual.result _ IsNotNewerSchema c.from_residual.ensures.1 c.in_err-add_label.ensures.never
 
 pub returns-in_err-add_label-2-clause-never : goal.returns-in_err-add_label-2-clause-never
-returns-in_err-add_label-2-clause-never g c = passed_from c.from_residual-in_err-add_label-2.result _ IsNotLater c.from_residual-in_err-add_label-2.ensures.1 c.in_err-add_label-2.ensures.never
+returns-in_err-add_label-2-clause-never g c = passed_from c.from_residual-in_err-add_label-2.result _ IsNotNewerSchema c.from_residual-in_err-add_label-2.ensures.1 c.in_err-add_label-2.ensures.never
 
 pub returns-in_err-add_label-3-clause-never : goal.returns-in_err-add_label-3-clause-never
-returns-in_err-add_label-3-clause-never g c = passed_from c.from_residual-in_err-add_label-3.result _ IsNotLater c.from_residual-in_err-add_label-3.ensures.1 c.in_err-add_label-3.ensures.never
+returns-in_err-add_label-3-clause-never g c = passed_from c.from_residual-in_err-add_label-3.result _ IsNotNewerSchema c.from_residual-in_err-add_label-3.ensures.1 c.in_err-add_label-3.ensures.never

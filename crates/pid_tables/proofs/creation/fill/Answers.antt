@@ -1,8 +1,8 @@
 use Rattle.std.proofs.Common.{refl}
 use Rattle.sqlite.specs.Held.{state}
-use Rattle.pid_rows.specs.Faults.{IsNotLater}
-use Rattle.pid_rows.proofs.CauseLemmas.{passed_on, passed_from}
-use Rattle.pid_rows.proofs.GoingLemmas.{earlier}
+use Rattle.pid_tables_rows.specs.Faults.{IsNotNewerSchema}
+use Rattle.pid_tables_rows.proofs.CauseLemmas.{passed_on, passed_from}
+use Rattle.pid_tables_rows.proofs.GoingLemmas.{earlier}
 use Rattle.pid_tables.specs.Creation.{IsMetFault}
 use Rattle.pid_tables.proofs.CreateLemmas.{all_made, shows_nothing, nothing_yet}
 use Rattle.pid_tables.proofs.MetLemmas.{none_met}
@@ -23,7 +23,7 @@ returns-clause-filled g c clean inside made =
 -- ---- where a name is taken
 
 pub returns-in_err-make_tables-clause-refused : goal.returns-in_err-make_tables-clause-refused
-returns-in_err-make_tables-clause-refused g c clean inside met = passed_on c.from_residual.result _ _ IsNotLater c.from_residual.ensures.1 (c.in_err-make_tables.ensures.takes clean inside)
+returns-in_err-make_tables-clause-refused g c clean inside met = passed_on c.from_residual.result _ _ IsNotNewerSchema c.from_residual.ensures.1 (c.in_err-make_tables.ensures.takes clean inside)
 
 pub returns-in_err-add_labels-clause-refused : goal.returns-in_err-add_labels-clause-refused
 returns-in_err-add_labels-clause-refused g c clean inside met =
@@ -60,7 +60,7 @@ returns-clause-met g c clean inside has =
 -- ---- no fault tells a later schema
 
 pub returns-in_err-make_tables-clause-never : goal.returns-in_err-make_tables-clause-never
-returns-in_err-make_tables-clause-never g c clean inside = passed_from c.from_residual.result _ IsNotLater c.from_residual.ensures.1 (c.in_err-make_tables.ensures.takes clean inside)
+returns-in_err-make_tables-clause-never g c clean inside = passed_from c.from_residual.result _ IsNotNewerSchema c.from_residual.ensures.1 (c.in_err-make_tables.ensures.takes clean inside)
 
 pub returns-in_err-add_labels-clause-never : goal.returns-in_err-add_labels-clause-never
-returns-in_err-add_labels-clause-never g c clean inside = passed_from c.from_residual-in_err-add_labels.result _ IsNotLater c.from_residual-in_err-add_labels.ensures.1 c.in_err-add_labels.ensures.never
+returns-in_err-add_labels-clause-never g c clean inside = passed_from c.from_residual-in_err-add_labels.result _ IsNotNewerSchema c.from_residual-in_err-add_labels.ensures.1 c.in_err-add_labels.ensures.never

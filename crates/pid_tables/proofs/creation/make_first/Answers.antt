@@ -1,9 +1,9 @@
 use Rattle.std.proofs.Common.{[], ◌∷◌, refl, codes}
 use Rattle.sqlite.specs.Held.{state}
-use Rattle.pid_rows.specs.Faults.{IsUntold, IsNotLater}
-use Rattle.pid_rows.specs.Schema.{meta, account, item}
-use Rattle.pid_rows.proofs.CauseLemmas.{passed_on}
-use Rattle.pid_rows.proofs.GoingLemmas.{earlier}
+use Rattle.pid_tables_rows.specs.Faults.{IsMemoryOrStore, IsNotNewerSchema}
+use Rattle.pid_tables_rows.specs.Schema.{meta, account, item}
+use Rattle.pid_tables_rows.proofs.CauseLemmas.{passed_on}
+use Rattle.pid_tables_rows.proofs.GoingLemmas.{earlier}
 use Rattle.pid_tables.specs.Creation.{IsMetFault}
 use Rattle.pid_tables.proofs.CreateTexts.{meta_creates, account_creates, item_creates}
 use Rattle.pid_tables.proofs.MakerTexts.{meta_maker, account_maker, item_maker, meta_met}
@@ -11,13 +11,13 @@ use Rattle.pid_tables.proofs.MetLemmas.{took_then, took_both}
 use Rattle.pid_tables.proofs.creation.make_first.Goals as goal
 
 pub returns-in_err-make_table-clause-made : goal.returns-in_err-make_table-clause-made
-returns-in_err-make_table-clause-made g c clean inside made = passed_on c.from_residual.result _ _ IsUntold c.from_residual.ensures.1 (c.in_err-make_table.ensures.made ([]) meta meta_creates refl clean inside made)
+returns-in_err-make_table-clause-made g c clean inside made = passed_on c.from_residual.result _ _ IsMemoryOrStore c.from_residual.ensures.1 (c.in_err-make_table.ensures.made ([]) meta meta_creates refl clean inside made)
 
 pub returns-in_err-make_table-2-clause-made : goal.returns-in_err-make_table-2-clause-made
 returns-in_err-make_table-2-clause-made g c clean inside made =
     let first = earlier (state g.S.Store c.make_table.new.tx.conn.now) (state g.S.Store c.make_table-2.new.tx.conn.now) c.make_table-2.ensures.goes.survives clean in
     let one = c.in_ok-make_table.ensures in
-    passed_on c.from_residual-in_err-make_table-2.result _ _ IsUntold c.from_residual-in_err-make_table-2.ensures.1
+    passed_on c.from_residual-in_err-make_table-2.result _ _ IsMemoryOrStore c.from_residual-in_err-make_table-2.ensures.1
     (c.in_err-make_table-2.ensures.made (meta ∷ []) account account_creates refl clean (one.goes.going first inside).1 (λ opened. one.made ([]) meta meta_creates refl first inside made))
 
 pub returns-clause-made : goal.returns-clause-made
@@ -31,12 +31,12 @@ returns-clause-made g c clean inside made =
     (λ opened. two.made (meta ∷ []) account account_creates refl second within (λ opened. one.made ([]) meta meta_creates refl first inside made))
 
 pub returns-in_err-make_table-clause-takes : goal.returns-in_err-make_table-clause-takes
-returns-in_err-make_table-clause-takes g c clean inside = passed_on c.from_residual.result _ _ IsNotLater c.from_residual.ensures.1 (c.in_err-make_table.ensures.takes (codes "meta") meta_maker clean inside)
+returns-in_err-make_table-clause-takes g c clean inside = passed_on c.from_residual.result _ _ IsNotNewerSchema c.from_residual.ensures.1 (c.in_err-make_table.ensures.takes (codes "meta") meta_maker clean inside)
 
 pub returns-in_err-make_table-2-clause-takes : goal.returns-in_err-make_table-2-clause-takes
 returns-in_err-make_table-2-clause-takes g c clean inside =
     let first = earlier (state g.S.Store c.make_table.new.tx.conn.now) (state g.S.Store c.make_table-2.new.tx.conn.now) c.make_table-2.ensures.goes.survives clean in
-    passed_on c.from_residual-in_err-make_table-2.result _ _ IsNotLater c.from_residual-in_err-make_table-2.ensures.1
+    passed_on c.from_residual-in_err-make_table-2.result _ _ IsNotNewerSchema c.from_residual-in_err-make_table-2.ensures.1
     (c.in_err-make_table-2.ensures.takes (codes "account") account_maker clean (c.in_ok-make_table.ensures.goes.going first inside).1)
 
 pub returns-clause-takes : goal.returns-clause-takes

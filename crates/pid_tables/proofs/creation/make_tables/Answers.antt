@@ -1,9 +1,9 @@
 use Rattle.std.proofs.Common.{[], ◌∷◌, refl, codes}
 use Rattle.sqlite.specs.Held.{state}
-use Rattle.pid_rows.specs.Faults.{IsUntold, IsNotLater}
-use Rattle.pid_rows.specs.Schema.{meta, account, item, submission, remark, receipt, item_since}
-use Rattle.pid_rows.proofs.CauseLemmas.{passed_on}
-use Rattle.pid_rows.proofs.GoingLemmas.{earlier}
+use Rattle.pid_tables_rows.specs.Faults.{IsMemoryOrStore, IsNotNewerSchema}
+use Rattle.pid_tables_rows.specs.Schema.{meta, account, item, submission, remark, receipt, item_since}
+use Rattle.pid_tables_rows.proofs.CauseLemmas.{passed_on}
+use Rattle.pid_tables_rows.proofs.GoingLemmas.{earlier}
 use Rattle.pid_tables.specs.Creation.{IsMetFault}
 use Rattle.pid_tables.proofs.CreateTexts.{item_since_creates}
 use Rattle.pid_tables.proofs.MakerTexts.{item_since_maker}
@@ -11,13 +11,13 @@ use Rattle.pid_tables.proofs.MetLemmas.{took_then, took_both}
 use Rattle.pid_tables.proofs.creation.make_tables.Goals as goal
 
 pub returns-in_err-make_first-clause-made : goal.returns-in_err-make_first-clause-made
-returns-in_err-make_first-clause-made g c clean inside made = passed_on c.from_residual.result _ _ IsUntold c.from_residual.ensures.1 (c.in_err-make_first.ensures.made clean inside made)
+returns-in_err-make_first-clause-made g c clean inside made = passed_on c.from_residual.result _ _ IsMemoryOrStore c.from_residual.ensures.1 (c.in_err-make_first.ensures.made clean inside made)
 
 pub returns-in_err-make_rest-clause-made : goal.returns-in_err-make_rest-clause-made
 returns-in_err-make_rest-clause-made g c clean inside made =
     let first = earlier (state g.S.Store c.make_first.new.tx.conn.now) (state g.S.Store c.make_rest.new.tx.conn.now) c.make_rest.ensures.goes.survives clean in
     let one = c.in_ok-make_first.ensures in
-    passed_on c.from_residual-in_err-make_rest.result _ _ IsUntold c.from_residual-in_err-make_rest.ensures.1
+    passed_on c.from_residual-in_err-make_rest.result _ _ IsMemoryOrStore c.from_residual-in_err-make_rest.ensures.1
     (c.in_err-make_rest.ensures.made clean (one.goes.going first inside).1 (λ opened. one.made first inside made))
 
 pub returns-clause-made : goal.returns-clause-made
@@ -31,12 +31,12 @@ returns-clause-made g c clean inside made =
     (λ opened. two.made second within (λ opened. one.made first inside made))
 
 pub returns-in_err-make_first-clause-takes : goal.returns-in_err-make_first-clause-takes
-returns-in_err-make_first-clause-takes g c clean inside = passed_on c.from_residual.result _ _ IsNotLater c.from_residual.ensures.1 (c.in_err-make_first.ensures.takes clean inside)
+returns-in_err-make_first-clause-takes g c clean inside = passed_on c.from_residual.result _ _ IsNotNewerSchema c.from_residual.ensures.1 (c.in_err-make_first.ensures.takes clean inside)
 
 pub returns-in_err-make_rest-clause-takes : goal.returns-in_err-make_rest-clause-takes
 returns-in_err-make_rest-clause-takes g c clean inside =
     let first = earlier (state g.S.Store c.make_first.new.tx.conn.now) (state g.S.Store c.make_rest.new.tx.conn.now) c.make_rest.ensures.goes.survives clean in
-    passed_on c.from_residual-in_err-make_rest.result _ _ IsNotLater c.from_residual-in_err-make_rest.ensures.1 (c.in_err-make_rest.ensures.takes clean (c.in_ok-make_first.ensures.goes.going first inside).1)
+    passed_on c.from_residual-in_err-make_rest.result _ _ IsNotNewerSchema c.from_residual-in_err-make_rest.ensures.1 (c.in_err-make_rest.ensures.takes clean (c.in_ok-make_first.ensures.goes.going first inside).1)
 
 pub returns-clause-takes : goal.returns-clause-takes
 returns-clause-takes g c clean inside =

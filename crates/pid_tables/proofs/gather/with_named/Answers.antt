@@ -1,7 +1,7 @@
 use Rattle.sqlite.specs.Held.{state}
-use Rattle.pid_rows.specs.Causes.{IsCaused, IsReadable}
-use Rattle.pid_rows.proofs.CauseLemmas.{caused_later, passed_on}
-use Rattle.pid_rows.proofs.OnlyReading.{reads_then}
+use Rattle.pid_tables_rows.specs.Causes.{IsCaused, IsReadable}
+use Rattle.pid_tables_rows.proofs.CauseLemmas.{caused_later, passed_on}
+use Rattle.pid_tables_rows.proofs.OnlyReading.{reads_then}
 use Rattle.pid_tables.proofs.gather.with_named.Goals as goal
 
 pub returns-in_err-parent : goal.returns-in_err-parent

@@ -1,7 +1,7 @@
 use Rattle.std.proofs.Common.{sym, subst, ◌∙◌}
 use Rattle.sqlite.specs.Effect.{Database}
-use Rattle.pid_rows.specs.Shows.{ShowsKeeping}
-use Rattle.pid_table_check.specs.Shapes.{HasSomeTable}
+use Rattle.pid_tables_rows.specs.Shows.{ShowsKeeping}
+use Rattle.pid_tables_check.specs.Shapes.{HasSomeTable}
 use Rattle.pid_tables.proofs.StandLemmas.{tables_some, named_before}
 use Rattle.pid_tables.proofs.migration.is_current.Goals as goal
 

@@ -2,17 +2,17 @@ use Rattle.std.proofs.Common.{◌≡◌, Ok, OnOk, OnErr, refl, rules, arith, su
 use Rattle.sqlite.specs.Held.{state}
 use Rattle.sqlite.specs.State.{HasCleanDisk}
 use Rattle.sqlite.proofs.StateLemmas.{clean_if_open}
-use Rattle.pid_rows.specs.declared.version.Version.TheVariants.{One}
-use Rattle.pid_rows.specs.Faults.{IsUntold, IsNotLater}
-use Rattle.pid_rows.specs.Leaves.{AtRest, OnlyReads, RestsIn}
-use Rattle.pid_rows.specs.Shows.{counts_of}
-use Rattle.pid_rows.proofs.CauseLemmas.{passed_from}
-use Rattle.pid_rows.proofs.GoingLemmas.{earlier}
-use Rattle.pid_rows.proofs.LeaveLemmas.{on_err}
-use Rattle.pid_rows.proofs.OnlyReading.{reads_begun, rests_in_still}
-use Rattle.pid_tables.proofs.AtOnceLemmas.{reads_once, reads_back, committed_once, commit_back}
-use Rattle.pid_tables.proofs.MoveLemmas.{failed_rests, all_never, all_untold, never_told, all_err}
-use Rattle.pid_tables.specs.AtOnce.{IsOneStep, IsTakenBack}
+use Rattle.pid_tables_rows.specs.declared.version.Version.TheVariants.{One}
+use Rattle.pid_tables_rows.specs.Faults.{IsMemoryOrStore, IsNotNewerSchema}
+use Rattle.pid_tables_rows.specs.Leaves.{AtRest, RestsIn}
+use Rattle.pid_tables_rows.specs.Shows.{counts_of}
+use Rattle.pid_tables_rows.proofs.CauseLemmas.{passed_from}
+use Rattle.pid_tables_rows.proofs.GoingLemmas.{earlier}
+use Rattle.pid_tables_rows.proofs.LeaveLemmas.{on_err}
+use Rattle.pid_tables_rows.proofs.OnlyReading.{reads_begun, rests_in_still}
+use Rattle.pid_tables.proofs.AtOnceLemmas.{reads_at_once, commit_at_once}
+use Rattle.pid_tables.proofs.MoveLemmas.{failed_rests, all_never, all_untold}
+use Rattle.pid_tables.specs.AtOnce.{WritesAtOnce}
 use Rattle.pid_tables.proofs.migration.move_up.Goals as goal
 
 pub returns-clause-moved : goal.returns-clause-moved
@@ -54,7 +54,7 @@ returns-in_err-move_tables-clause-untold g c clean v rest =
     let late : HasCleanDisk (state g.S.Store end) = search rules in
     let mid : HasCleanDisk (state g.S.Store c.move_tables.new.tx.conn.now) = omega (arith, c.drop-batch.ensures.survives.clean) in
     let shows = rw c.transaction-batch.ensures.begun at c.in_err-move_tables.ensures.shows in
-    passed_from c.from_residual.result _ IsUntold c.from_residual.ensures.1 (shows mid refl (counts_of v) v rest.shows)
+    passed_from c.from_residual.result _ IsMemoryOrStore c.from_residual.ensures.1 (shows mid refl (counts_of v) v rest.shows)
 
 pub returns-clause-untold : goal.returns-clause-untold
 returns-clause-untold g c clean v rest =
@@ -66,70 +66,33 @@ returns-clause-untold g c clean v rest =
     all_untold (state g.S.Store first) (state g.S.Store end) c.commit.result
     (c.commit.ensures.caused late (goes.going (earlier (state g.S.Store first) (state g.S.Store end) c.commit.ensures.survives late) refl).1)
 
-pub returns-in_err-move_tables-clause-unchanged : goal.returns-in_err-move_tables-clause-unchanged
-returns-in_err-move_tables-clause-unchanged g c clean =
-    let end = c.drop-batch.new.self.0 in
-    let same : end ≡ c.conn-1.given.0 = search rules in
-    let first = c.move_tables.new.tx.conn.now in
-    let goes = rw c.transaction-batch.ensures.begun at c.move_tables.ensures.goes in
-    all_err c.from_residual.result (λ _ _. subst (λ h. OnlyReads (state g.S.Store c.args.conn.now) (state g.S.Store h)) same
-    (reads_begun g.S.Store c.args.conn.now first end c.move_tables.result (clean_if_open (g.S.Store.view first.store) (g.met.S.Store.shut_if_dirty first.store))
-    (clean_if_open (g.S.Store.view end.store) (g.met.S.Store.shut_if_dirty end.store)) goes c.drop-batch.ensures.ended c.drop-batch.ensures.undone c.drop-batch.ensures.survives))
-
-pub returns-clause-unchanged : goal.returns-clause-unchanged
-returns-clause-unchanged g c clean =
-    let first = c.move_tables.new.tx.conn.now in
-    let end = c.commit.new.batch.0 in
-    let same : end ≡ c.conn-2-1.given.0 = search rules in
-    let late : HasCleanDisk (state g.S.Store end) = search rules in
-    let goes = rw c.transaction-batch.ensures.begun at c.in_ok-move_tables.ensures.goes in
-    never_told _ c.commit.result (all_untold (state g.S.Store first) (state g.S.Store end) c.commit.result
-    (c.commit.ensures.caused late (goes.going (earlier (state g.S.Store first) (state g.S.Store end) c.commit.ensures.survives late) refl).1))
-
 -- ---- whatever the database
 
-pub returns-in_err-move_tables-clause-once : goal.returns-in_err-move_tables-clause-once
-returns-in_err-move_tables-clause-once g c =
+pub returns-in_err-move_tables-clause-at_once : goal.returns-in_err-move_tables-clause-at_once
+returns-in_err-move_tables-clause-at_once g c =
+    let old = state g.S.Store c.args.conn.now in
     let end = c.drop-batch.new.self.0 in
     let same : end ≡ c.conn-1.given.0 = search rules in
     let first = c.move_tables.new.tx.conn.now in
     let goes = rw c.transaction-batch.ensures.begun at c.move_tables.ensures.goes in
-    subst (λ h. IsOneStep (state g.S.Store c.args.conn.now) (state g.S.Store h)) same
-    (reads_once (state g.S.Store c.args.conn.now) (state g.S.Store end) (reads_begun g.S.Store c.args.conn.now first end c.move_tables.result
+    subst (λ h. WritesAtOnce old (state g.S.Store h) c.from_residual.result) same
+    (reads_at_once old (state g.S.Store end) c.from_residual.result (reads_begun g.S.Store c.args.conn.now first end c.move_tables.result
     (clean_if_open (g.S.Store.view first.store) (g.met.S.Store.shut_if_dirty first.store)) (clean_if_open (g.S.Store.view end.store) (g.met.S.Store.shut_if_dirty end.store))
     goes c.drop-batch.ensures.ended c.drop-batch.ensures.undone c.drop-batch.ensures.survives))
 
-pub returns-clause-once : goal.returns-clause-once
-returns-clause-once g c =
-    let end = c.commit.new.batch.0 in
-    let same : end ≡ c.conn-2-1.given.0 = search rules in
-    let goes = rw c.transaction-batch.ensures.begun at c.in_ok-move_tables.ensures.goes in
-    subst (λ h. IsOneStep (state g.S.Store c.args.conn.now) (state g.S.Store h)) same
-    (committed_once g.S.Store c.args.conn.now c.move_tables.new.tx.conn.now end (Ok c.in_ok-move_tables.field-0) goes c.commit.ensures.survives)
-
-pub returns-in_err-move_tables-clause-back : goal.returns-in_err-move_tables-clause-back
-returns-in_err-move_tables-clause-back g c =
-    let end = c.drop-batch.new.self.0 in
-    let same : end ≡ c.conn-1.given.0 = search rules in
-    let first = c.move_tables.new.tx.conn.now in
-    let goes = rw c.transaction-batch.ensures.begun at c.move_tables.ensures.goes in
-    on_err c.from_residual.result (subst (λ h. IsTakenBack (state g.S.Store c.args.conn.now) (state g.S.Store h)) same
-    (reads_back (state g.S.Store c.args.conn.now) (state g.S.Store end) (reads_begun g.S.Store c.args.conn.now first end c.move_tables.result
-    (clean_if_open (g.S.Store.view first.store) (g.met.S.Store.shut_if_dirty first.store)) (clean_if_open (g.S.Store.view end.store) (g.met.S.Store.shut_if_dirty end.store))
-    goes c.drop-batch.ensures.ended c.drop-batch.ensures.undone c.drop-batch.ensures.survives)))
-
-pub returns-clause-back : goal.returns-clause-back
-returns-clause-back g c =
+pub returns-clause-at_once : goal.returns-clause-at_once
+returns-clause-at_once g c =
     let first = c.move_tables.new.tx.conn.now in
     let end = c.commit.new.batch.0 in
     let same : end ≡ c.conn-2-1.given.0 = search rules in
     let goes = rw c.transaction-batch.ensures.begun at c.in_ok-move_tables.ensures.goes in
-    subst (λ h. OnErr c.commit.result (IsTakenBack (state g.S.Store c.args.conn.now) (state g.S.Store h))) same
-    (commit_back g.S.Store c.args.conn.now first end (Ok c.in_ok-move_tables.field-0) goes c.commit.ensures.survives (clean_if_open (g.S.Store.view end.store) (g.met.S.Store.shut_if_dirty end.store)) c.commit.result
-    (λ clean. c.commit.ensures.undone clean (goes.going (earlier (state g.S.Store first) (state g.S.Store end) c.commit.ensures.survives clean) refl).1))
+    subst (λ h. WritesAtOnce (state g.S.Store c.args.conn.now) (state g.S.Store h) c.commit.result) same
+    (commit_at_once g.S.Store c.args.conn.now first end (Ok c.in_ok-move_tables.field-0) goes c.commit.ensures.survives (clean_if_open (g.S.Store.view end.store) (g.met.S.Store.shut_if_dirty end.store)) c.commit.result c.commit.ensures.ended
+    (λ clean. c.commit.ensures.undone clean (goes.going (earlier (state g.S.Store first) (state g.S.Store end) c.commit.ensures.survives clean) refl).1)
+    (λ clean. all_untold (state g.S.Store first) (state g.S.Store end) c.commit.result (c.commit.ensures.caused clean (goes.going (earlier (state g.S.Store first) (state g.S.Store end) c.commit.ensures.survives clean) refl).1)))
 
 pub returns-in_err-move_tables-clause-never : goal.returns-in_err-move_tables-clause-never
-returns-in_err-move_tables-clause-never g c clean = passed_from c.from_residual.result _ IsNotLater c.from_residual.ensures.1 c.in_err-move_tables.ensures.never
+returns-in_err-move_tables-clause-never g c clean = passed_from c.from_residual.result _ IsNotNewerSchema c.from_residual.ensures.1 c.in_err-move_tables.ensures.never
 
 pub returns-clause-never : goal.returns-clause-never
 returns-clause-never g c clean =

@@ -1,6 +1,6 @@
 use Rattle.std.proofs.Common.{inl, codes, subst}
 use Rattle.sqlite.specs.Held.{state}
-use Rattle.pid_rows.specs.LabelRows.{ExplainsNumber}
+use Rattle.pid_tables_rows.specs.LabelRows.{ExplainsNumber}
 use Rattle.pid_tables.proofs.SchemaNumbers.{schema_told, schema_there, second_is_latest, shown_second}
 use Rattle.pid_tables.proofs.StandLemmas.{exactly_first, names_latest}
 use Rattle.pid_tables.proofs.migration.names_latest.Goals as goal

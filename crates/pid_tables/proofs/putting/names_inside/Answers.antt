@@ -1,9 +1,9 @@
 use Rattle.sqlite.specs.Held.{state}
-use Rattle.pid_rows.specs.declared.version.Version.TheVariants.{Two}
-use Rattle.pid_rows.specs.Schema.{pid_schema}
-use Rattle.pid_rows.proofs.KeyTexts.{select_item_is}
-use Rattle.pid_rows.proofs.StatementTexts.{select_item}
-use Rattle.pid_rows.proofs.FindLemmas.{name_found}
+use Rattle.pid_tables_rows.specs.declared.version.Version.TheVariants.{Two}
+use Rattle.pid_tables_rows.specs.Schema.{pid_schema}
+use Rattle.pid_tables_rows.proofs.KeyTexts.{select_item_is}
+use Rattle.pid_tables_rows.proofs.StatementTexts.{select_item}
+use Rattle.pid_tables_rows.proofs.FindLemmas.{name_found}
 use Rattle.pid_tables.proofs.PutLemmas.{on_read, if_read, both_sides}
 use Rattle.pid_tables.proofs.putting.names_inside.Goals as goal
 

@@ -3,8 +3,8 @@ use Rattle.sqlite.specs.Held.{state}
 use Rattle.sqlite.specs.State.{HasCleanDisk}
 use Rattle.pid_moderation.specs.Items.{name_at}
 use Rattle.pid_tables.proofs.PutLemmas.{none_there, other_there, same_there, still_with}
-use Rattle.pid_rows.specs.Faults.{IsUntold}
-use Rattle.pid_rows.proofs.CauseLemmas.{passed_on}
+use Rattle.pid_tables_rows.specs.Faults.{IsMemoryOrStore}
+use Rattle.pid_tables_rows.proofs.CauseLemmas.{passed_on}
 use Rattle.pid_tables.proofs.putting.put_text.Goals as goal
 
 pub returns-in_ok-add_item-in-Added-clause-shows : goal.returns-in_ok-add_item-in-Added-clause-shows
@@ -42,13 +42,13 @@ returns-in-Same-clause-told g c clean counts v shows = sym c.in-Same.is ∙ c.in
 
 pub returns-in_err-compare-clause-shows : goal.returns-in_err-compare-clause-shows
 returns-in_err-compare-clause-shows g c clean inside counts v shows _ =
-    passed_on c.from_residual.result _ _ IsUntold c.from_residual.ensures.1 (c.in_err-compare.ensures.shows clean inside counts v shows tt)
+    passed_on c.from_residual.result _ _ IsMemoryOrStore c.from_residual.ensures.1 (c.in_err-compare.ensures.shows clean inside counts v shows tt)
 
 pub returns-in_err-add_item-in-Added-clause-shows : goal.returns-in_err-add_item-in-Added-clause-shows
 returns-in_err-add_item-in-Added-clause-shows g c clean inside counts v shows _ =
     let early : HasCleanDisk (state g.S.Store c.compare.new.batch.conn.now) = omega (arith, c.add_item.ensures.goes.survives.clean) in
     let first = c.in_ok-compare.ensures in
-    passed_on c.from_residual-in_err-add_item-in-Added.result _ _ IsUntold c.from_residual-in_err-add_item-in-Added.ensures.1
+    passed_on c.from_residual-in_err-add_item-in-Added.result _ _ IsMemoryOrStore c.from_residual-in_err-add_item-in-Added.ensures.1
     (c.in_err-add_item-in-Added.ensures.shows clean (first.goes.going early inside).1 counts v (first.shows early inside counts v shows tt)
     (none_there c.args.name.now (name_at c.args.path.now v.items) (sym c.in-Added.is ∙ first.found early counts v shows)))
 
@@ -56,6 +56,6 @@ pub returns-in_err-rename_item-in-Renamed-clause-shows : goal.returns-in_err-ren
 returns-in_err-rename_item-in-Renamed-clause-shows g c clean inside counts v shows _ =
     let early : HasCleanDisk (state g.S.Store c.compare.new.batch.conn.now) = omega (arith, c.rename_item.ensures.goes.survives.clean) in
     let first = c.in_ok-compare.ensures in
-    passed_on c.from_residual-in_err-rename_item-in-Renamed.result _ _ IsUntold c.from_residual-in_err-rename_item-in-Renamed.ensures.1
+    passed_on c.from_residual-in_err-rename_item-in-Renamed.result _ _ IsMemoryOrStore c.from_residual-in_err-rename_item-in-Renamed.ensures.1
     (c.in_err-rename_item-in-Renamed.ensures.shows clean (first.goes.going early inside).1 counts v (first.shows early inside counts v shows tt)
     (other_there c.args.name.now (name_at c.args.path.now v.items) (sym c.in-Renamed.is ∙ first.found early counts v shows)))

@@ -12,8 +12,8 @@ use Rattle.sqlite_trees.specs.declared.store.Store.{Ghosts}
 use Rattle.pid_service.specs.declared.registry.Registry.{Registry}
 use Rattle.sqlite.specs.Held.{state}
 use Rattle.pid_moderation.specs.declared.refusal.Refusal.TheVariants.{Memory, Store}
-use Rattle.pid_rows.specs.declared.fault.TableFault.TheVariants as faults
-use Rattle.pid_rows.proofs.CauseLemmas.{caused_later}
+use Rattle.pid_tables_rows.specs.declared.fault.TableFault.TheVariants as faults
+use Rattle.pid_tables_rows.proofs.CauseLemmas.{caused_later}
 use Rattle.pid_service.specs.Asking.{HasCause, MayGive}
 use Rattle.pid_service.specs.Registries.{HasCleanDisk, OnlyAsked, OnlyReads, connection}
 use Rattle.pid_service.proofs.Questions.{asked_then}

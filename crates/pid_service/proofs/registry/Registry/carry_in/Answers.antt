@@ -1,8 +1,8 @@
 use Rattle.std.proofs.Common.{◌≡◌, refl, rules}
-use Rattle.pid_import.specs.declared.put_file.Stop.TheVariants as stops
+use Rattle.pid_tables.specs.declared.put_file.Stop.TheVariants as stops
 use Rattle.pid_moderation.specs.History.{asked}
-use Rattle.pid_import.specs.Files.{file_reading}
-use Rattle.pid_service.proofs.Imported.{failed_carried, failed_read, ok_obeyed}
+use Rattle.pid_tables.specs.Files.{file_reading}
+use Rattle.pid_service.proofs.Imported.{body_carried, body_read, failed_carried, failed_read, ok_obeyed, refused_carried, refused_read}
 use Rattle.pid_service.proofs.registry.Registry.carry_in.Goals as goal
 
 pub returns-in-Ok-clause-obeyed : goal.returns-in-Ok-clause-obeyed
@@ -11,7 +11,33 @@ returns-in-Ok-clause-obeyed g c = let r = c.in-Ok.ensures.stops in
       text = r.0;
       consumed = r.1;
       read = r.2;
-      holds = λ clean h shows import open_ many reached. ok_obeyed g.S.Store c.args.self.now _ h (asked c.args.command.now (file_reading r.0)) c.in-Ok.reply shows refl reached (λ clean. c.clear.ensures.agrees _) (r.3 clean h shows.tables shows.history.marked import open_ many);
+      holds = λ clean h w. ok_obeyed g.S.Store c.args.self.now _ h (asked c.args.command.now (file_reading r.0)) c.in-Ok.reply w.shows refl w.reached (λ clean. c.clear.ensures.agrees _) (r.3 clean h w.shows.tables w.shows.history.marked w.import w.waits w.many);
+    }
+
+pub returns-in-Err-Body-clause-obeyed : goal.returns-in-Err-Body-clause-obeyed
+returns-in-Err-Body-clause-obeyed g c =
+    let is : c.in-Err-Body.field-0 ≡ stops.Body = search rules in
+    let r = c.in-Err-Body.ensures.stops in
+    record {
+      text = r.0;
+      consumed = r.1;
+      read = body_read c.in-Err-Body.field-0 _ r.0 is r.2;
+      holds = λ clean h w.
+          body_carried g.S.Store c.args.self.now _ h (asked c.args.command.now (file_reading r.0)) c.in-Err-Body.field-0 is w.shows refl (λ clean. c.clear.ensures.agrees _)
+          (r.3 clean h w.shows.tables w.shows.history.marked w.import w.waits w.many);
+    }
+
+pub returns-in-Err-Refused-clause-obeyed : goal.returns-in-Err-Refused-clause-obeyed
+returns-in-Err-Refused-clause-obeyed g c =
+    let is : c.in-Err-Refused.field-0 ≡ stops.Refused c.in-Err-Refused.refusal = search rules in
+    let r = c.in-Err-Refused.ensures.stops in
+    record {
+      text = r.0;
+      consumed = r.1;
+      read = refused_read c.in-Err-Refused.field-0 c.in-Err-Refused.refusal _ r.0 is r.2;
+      holds = λ clean h w.
+          refused_carried g.S.Store c.args.self.now _ h (asked c.args.command.now (file_reading r.0)) c.in-Err-Refused.field-0 c.in-Err-Refused.refusal is w.shows refl (λ clean. c.clear.ensures.agrees _)
+          (r.3 clean h w.shows.tables w.shows.history.marked w.import w.waits w.many);
     }
 
 pub returns-in-Err-Failed-clause-obeyed : goal.returns-in-Err-Failed-clause-obeyed
@@ -22,7 +48,7 @@ returns-in-Err-Failed-clause-obeyed g c =
       text = r.0;
       consumed = r.1;
       read = failed_read c.in-Err-Failed.field-0 c.in-Err-Failed.refusal c.stopping.result _ r.0 is r.2;
-      holds = λ clean h shows import open_ many reached.
-          failed_carried g.S.Store c.args.self.now _ h (asked c.args.command.now (file_reading r.0)) c.in-Err-Failed.field-0 c.in-Err-Failed.refusal c.stopping.result is c.stopping.ensures.same shows refl reached
-          (r.3 clean h shows.tables shows.history.marked import open_ many);
+      holds = λ clean h w.
+          failed_carried g.S.Store c.args.self.now _ h (asked c.args.command.now (file_reading r.0)) c.in-Err-Failed.field-0 c.in-Err-Failed.refusal c.stopping.result is c.stopping.ensures.same w.shows refl w.reached
+          (r.3 clean h w.shows.tables w.shows.history.marked w.import w.waits w.many);
     }

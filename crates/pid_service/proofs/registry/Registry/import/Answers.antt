@@ -1,8 +1,23 @@
-use Rattle.pid_service.proofs.Lasting.{fails_so, stays_live}
+use Rattle.std.proofs.Common.{◌≡◌, ◌≤◌, length, refl, rules, subst, true}
+use Rattle.pid_moderation.specs.declared.command.Command.{Command}
+use Rattle.pid_moderation.specs.CheckTables.{most_file_bytes}
+use Rattle.pid_moderation.specs.History.{asked, is_import}
+use Rattle.pid_tables.specs.Files.{file_reading}
+use Rattle.pid_service.specs.Obeying.{Obeys}
+use Rattle.pid_service.proofs.Lasting.{lasting}
 use Rattle.pid_service.proofs.registry.Registry.import.Goals as goal
 
-pub returns-clause-stays : goal.returns-clause-stays
-returns-clause-stays g c on told = stays_live c.import_bytes.result c.args.self.now.live c.import_bytes.new.self.live c.import_bytes.ensures.held on told
-
-pub returns-clause-fails : goal.returns-clause-fails
-returns-clause-fails g c on off = fails_so c.import_bytes.result c.args.self.now.live c.import_bytes.new.self.live c.import_bytes.ensures.held on off
+pub returns : goal.returns
+returns g c =
+    let import : is_import c.import_command-command.result.act ≡ true = rw c.import_command-command.ensures refl in
+    let short : length c.args.file.now ≤ most_file_bytes = search rules in
+    record {
+      clean = c.import_bytes.ensures.clean;
+      failed = search rules;
+      form = search rules;
+      obeyed = λ clean h shows.
+          subst (λ (k : Command). Obeys g.S.Store c.import_bytes.result c.import_bytes.new.self h (asked k (file_reading c.args.file.now))) c.import_command-command.ensures
+          (c.import_bytes.ensures.obeyed clean h shows import short);
+      forgets = c.import_bytes.ensures.forgets;
+      lasts = lasting g.S.Store c.args.self.now c.import_bytes.new.self c.import_bytes.result c.import_bytes.ensures.held;
+    }

@@ -1,54 +1,54 @@
 use Rattle.std.proofs.Common.{inl, inr, refl}
 use Rattle.pid_moderation.specs.History.{asked}
-use Rattle.pid_import.specs.Files.{file_reading}
+use Rattle.pid_tables.specs.Files.{file_reading}
 use Rattle.pid_service.proofs.Imported.{past_obeyed, past_spares}
 use Rattle.pid_service.proofs.Lasting.{still_live}
 use Rattle.pid_service.proofs.Obeyed.{only_read}
 use Rattle.pid_service.proofs.registry.Registry.import_act.Goals as goal
 
-pub returns-in-Answered-clause-obeyed : goal.returns-in-Answered-clause-obeyed
-returns-in-Answered-clause-obeyed g c = let r = c.answer_past.ensures.past in
+pub returns-in-Answered-clause-taken : goal.returns-in-Answered-clause-taken
+returns-in-Answered-clause-taken g c = let r = c.answer_past.ensures.past in
     record {
       text = r.text;
       consumed = r.consumed;
       read = r.read;
-      holds = λ clean h shows import.
-          past_obeyed g.S.Store _ h c.args.command.now c.in-Answered.answer c.answer_past.result r.text c.long_files_are_refused.ensures.readings c.long_files_are_refused.ensures.refused import
-          (only_read g.S.Store c.args.self.now _ h refl c.judge_import.ensures.rests refl shows)
-          (c.in-Answered.ensures.judged clean h (c.reached_histories_are_kept.ensures.sound h shows.history) shows.tables) r.holds;
+      holds = record {
+        obeyed = λ clean h shows import.
+            past_obeyed g.S.Store _ h c.args.command.now c.in-Answered.answer c.answer_past.result r.text c.long_files_are_refused.ensures.readings c.long_files_are_refused.ensures.refused import
+            (only_read g.S.Store c.args.self.now _ h refl c.judge_import.ensures.rests refl shows)
+            (c.in-Answered.ensures.judged clean h (c.reached_histories_are_kept.ensures.sound h shows.history) shows.tables) r.holds;
+        spares = λ clean h shows import.
+            inr (past_spares h c.args.command.now c.in-Answered.answer c.answer_past.result r.text c.long_files_are_refused.ensures.readings c.long_files_are_refused.ensures.refused import
+            (c.in-Answered.ensures.judged clean h (c.reached_histories_are_kept.ensures.sound h shows.history) shows.tables) r.holds);
+      };
     }
 
-pub returns-in-Open-clause-obeyed : goal.returns-in-Open-clause-obeyed
-returns-in-Open-clause-obeyed g c = let r = c.carry_in.ensures.obeyed in
+pub returns-in-Open-clause-taken : goal.returns-in-Open-clause-taken
+returns-in-Open-clause-taken g c = let r = c.carry_in.ensures.obeyed in
     record {
       text = r.text;
       consumed = r.consumed;
       read = r.read;
-      holds = λ clean h shows import.
-          let early = c.in-Open.ensures.judged (c.carry_in.ensures.clean clean) h (c.reached_histories_are_kept.ensures.sound h shows.history) shows.tables in
-          r.holds clean h (only_read g.S.Store c.args.self.now _ h refl c.judge_import.ensures.rests refl shows) import early.0 early.1
-          (c.commands_lead_on.ensures h (asked c.args.command.now (file_reading r.text)) shows.history (c.command_is_well_made.ensures (file_reading r.text) (c.texts_read_to_files.ensures.readings r.text)));
+      holds = record {
+        obeyed = λ clean h shows import.
+            let early = c.in-Open.ensures.judged (c.carry_in.ensures.clean clean) h (c.reached_histories_are_kept.ensures.sound h shows.history) shows.tables in
+            r.holds clean h
+            (record {
+              shows = only_read g.S.Store c.args.self.now _ h refl c.judge_import.ensures.rests refl shows;
+              import = import;
+              waits = early.0;
+              many = early.1;
+              reached = c.commands_lead_on.ensures h (asked c.args.command.now (file_reading r.text)) shows.history (c.command_is_well_made.ensures (file_reading r.text) (c.texts_read_to_files.ensures.readings r.text));
+            });
+        spares = λ clean h shows import. inl c.carry_in.ensures.forgets;
+      };
     }
+
+pub returns-in-Answered-clause-forgets : goal.returns-in-Answered-clause-forgets
+returns-in-Answered-clause-forgets g c h shows = inr (only_read g.S.Store c.args.self.now _ h refl c.judge_import.ensures.rests refl shows)
+
+pub returns-in-Open-clause-forgets : goal.returns-in-Open-clause-forgets
+returns-in-Open-clause-forgets g c h shows = inl c.carry_in.ensures.forgets
 
 pub returns-in-Answered-clause-held : goal.returns-in-Answered-clause-held
-returns-in-Answered-clause-held g c = still_live c.answer_past.result c.args.self.now.live
-
-pub returns-in-Answered-clause-spares : goal.returns-in-Answered-clause-spares
-returns-in-Answered-clause-spares g c = let r = c.answer_past.ensures.past in
-    record {
-      text = r.text;
-      consumed = r.consumed;
-      read = r.read;
-      holds = λ clean h shows import.
-          inr (past_spares h c.args.command.now c.in-Answered.answer c.answer_past.result r.text c.long_files_are_refused.ensures.readings c.long_files_are_refused.ensures.refused import
-          (c.in-Answered.ensures.judged clean h (c.reached_histories_are_kept.ensures.sound h shows.history) shows.tables) r.holds);
-    }
-
-pub returns-in-Open-clause-spares : goal.returns-in-Open-clause-spares
-returns-in-Open-clause-spares g c = let r = c.carry_in.ensures.obeyed in
-    record {
-      text = r.text;
-      consumed = r.consumed;
-      read = r.read;
-      holds = λ clean h shows import. inl c.carry_in.ensures.forgets;
-    }
+returns-in-Answered-clause-held g c = still_live c.answer_past.result (c.answer_past.ensures.alive c.in-Answered.ensures.alive) c.args.self.now.live

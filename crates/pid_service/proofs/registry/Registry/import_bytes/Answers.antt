@@ -3,11 +3,14 @@ use Rattle.pid_service.proofs.Imported.{bytes_obeyed, bytes_spare}
 use Rattle.pid_service.proofs.registry.Registry.import_bytes.Goals as goal
 
 pub returns-clause-obeyed : goal.returns-clause-obeyed
-returns-clause-obeyed g c clean h shows import short = let r = c.import_act-end.ensures.obeyed in
+returns-clause-obeyed g c clean h shows import short = let r = c.import_act-end.ensures.taken in
     bytes_obeyed g.S.Store c.import_act-end.result c.plain.result c.import_act-end.new.self h c.args.command.now c.args.file.now r.text c.import_act-end.new.input.rest.now c.plain.ensures.same
-    (λ e. absurd (let none = c.import_act-end.ensures.fault e in let no : ⊥ = cc in no)) (sym c.new-input.ensures.rest ∙ r.consumed) r.read short (r.holds clean h shows import)
+    (λ e. absurd (let none = c.import_act-end.ensures.reads.fault e in let no : ⊥ = cc in no)) (sym c.new-input.ensures.rest ∙ r.consumed) r.read short (r.holds.obeyed clean h shows import)
 
 pub returns-clause-spares : goal.returns-clause-spares
-returns-clause-spares g c clean h shows import short = let r = c.import_act-end.ensures.spares in
+returns-clause-spares g c clean h shows import short = let r = c.import_act-end.ensures.taken in
     bytes_spare g.S.Store c.import_act-end.result c.plain.result _ h c.args.command.now c.args.file.now r.text c.import_act-end.new.input.rest.now c.plain.ensures.same
-    (λ e. absurd (let none = c.import_act-end.ensures.fault e in let no : ⊥ = cc in no)) (sym c.new-input.ensures.rest ∙ r.consumed) r.read short (r.holds clean h shows import)
+    (λ e. absurd (let none = c.import_act-end.ensures.reads.fault e in let no : ⊥ = cc in no)) (sym c.new-input.ensures.rest ∙ r.consumed) r.read short (r.holds.spares clean h shows import)
+
+pub returns-clause-held : goal.returns-clause-held
+returns-clause-held g c = c.plain.ensures.held c.args.self.now.live c.import_act-end.new.self.live c.import_act-end.ensures.held

@@ -1,8 +1,21 @@
-use Rattle.pid_service.proofs.Lasting.{end_fails, end_stays}
+use Rattle.std.proofs.Common.{◌≡◌, refl, subst, true}
+use Rattle.pid_moderation.specs.declared.command.Command.{Command}
+use Rattle.pid_moderation.specs.History.{asked, is_import}
+use Rattle.pid_tables.specs.Files.{file_reading}
+use Rattle.pid_service.specs.Importing.{ObeysImport}
+use Rattle.pid_service.proofs.Lasting.{end_lasting}
 use Rattle.pid_service.proofs.registry.Registry.import_from.Goals as goal
 
-pub returns-clause-stays : goal.returns-clause-stays
-returns-clause-stays g c on told = end_stays c.import_act.result c.args.self.now.live c.import_act.new.self.live c.import_act.ensures.held on told
+pub returns-clause-obeyed : goal.returns-clause-obeyed
+returns-clause-obeyed g c = let r = c.import_act.ensures.taken in
+    let import : is_import c.import_command-command.result.act ≡ true = rw c.import_command-command.ensures refl in
+    record {
+      text = r.text;
+      consumed = r.consumed;
+      read = r.read;
+      holds = λ clean h shows.
+          subst (λ (k : Command). ObeysImport g.S.Store c.import_act.result c.import_act.new.self h (asked k (file_reading r.text))) c.import_command-command.ensures (r.holds.obeyed clean h shows import);
+    }
 
-pub returns-clause-fails : goal.returns-clause-fails
-returns-clause-fails g c on off = end_fails c.import_act.result c.args.self.now.live c.import_act.new.self.live c.import_act.ensures.held on off
+pub returns-clause-lasts : goal.returns-clause-lasts
+returns-clause-lasts g c = end_lasting g.S.Store c.args.self.now c.import_act.new.self c.import_act.result c.import_act.ensures.forgets c.import_act.ensures.held

@@ -2,17 +2,21 @@ use Rattle.std.proofs.Common.{rules, refl}
 use Rattle.pid_service.specs.Registries.{OnlyAsked}
 use Rattle.pid_service.proofs.registry.Registry.lookup.Goals as goal
 
-pub returns-clause-caused : goal.returns-clause-caused
-returns-clause-caused g c clean h shows f =
+pub returns : goal.returns
+returns g c =
     let start : OnlyAsked g.S.Store c.args.self.now c.args.self.now = record { lives = refl; rests = search rules; failed = λ off. refl } in
-    c.lookup.ensures.caused clean h shows c.args.self.now start f
-
-pub returns-clause-lives : goal.returns-clause-lives
-returns-clause-lives g c =
-    let start : OnlyAsked g.S.Store c.args.self.now c.args.self.now = record { lives = refl; rests = search rules; failed = λ off. refl } in
-    (c.lookup.ensures.kept.asked c.args.self.now start).lives
-
-pub returns-clause-rests : goal.returns-clause-rests
-returns-clause-rests g c =
-    let start : OnlyAsked g.S.Store c.args.self.now c.args.self.now = record { lives = refl; rests = search rules; failed = λ off. refl } in
-    (c.lookup.ensures.kept.asked c.args.self.now start).rests
+    let asked = c.lookup.ensures.kept.asked c.args.self.now start in
+    record {
+      failed = search rules;
+      lives = asked.lives;
+      rests = asked.rests;
+      clean = search rules;
+      answer = λ clean h shows. c.lookup.ensures.answer clean h shows;
+      shown = search rules;
+      bad_flags = λ on. c.lookup.ensures.bad_flags;
+      fault = c.lookup.ensures.asks.fault;
+      caused = λ clean h shows f. c.lookup.ensures.caused clean h shows c.args.self.now start f;
+      unasked = λ on. c.lookup.ensures.asks.unasked;
+      unrequested = λ on. c.lookup.ensures.asks.unrequested;
+      told = c.lookup.ensures.asks.told;
+    }

@@ -1,21 +1,152 @@
-use Rattle.pid_moderation.specs.Views.{views_of}
-use Rattle.pid_import.specs.Files.{asks, file_of, file_reading}
-use Rattle.pid_service.proofs.Lasting.{fails_so, stays_live}
-use Rattle.pid_service.proofs.Obeyed.{broken_form, broken_spares}
+use Rattle.std.proofs.Common.{◌≡◌, inl, inr, false, Ok, ap, refl, rules, subst}
+use Rattle.pid_moderation.specs.History.{Asked, History, is_import}
+use Rattle.pid_moderation.specs.CheckTables.{is_broken}
+use Rattle.pid_moderation.specs.Judgement.{answer}
+use Rattle.pid_moderation.specs.Views.{items_of, views_of}
+use Rattle.pid_moderation.specs.declared.refusal.Refusal.TheVariants.{BadText}
+use Rattle.pid_tables.specs.Files.{asks, file_of, file_reading}
+use Rattle.pid_service.specs.declared.judging.Judged.{Judged}
+use Rattle.pid_service.specs.declared.judging.Judged.TheVariants.{Accepted}
+use Rattle.pid_service.specs.Histories.{Shows}
+use Rattle.pid_service.specs.Obeying.{Obeys}
+use Rattle.pid_service.specs.Registries.{HasCleanDisk}
+use Rattle.pid_service.specs.Steps.Judging.{Judges}
+use Rattle.pid_service.specs.Steps.Obeying.{SparesNames}
+use Rattle.pid_service.proofs.Imported.{file_given}
+use Rattle.pid_service.proofs.Lasting.{carried, lasting, not_failed}
+use Rattle.pid_service.proofs.Obeyed.{broken_form, broken_spares, failed_over, judged_for, kept, only_read, refused, refused_spares, spare_forgets, then_spares, well_made}
 use Rattle.pid_service.proofs.ReadFiles.{tells_any}
 use Rattle.pid_service.proofs.registry.Registry.obey_lent.Goals as goal
 
-pub returns-then-breaks_form-clause-obeyed : goal.returns-then-breaks_form-clause-obeyed
-returns-then-breaks_form-clause-obeyed g c clean h shows =
-    broken_form g.S.Store c.args.self.now h (asks c.args.command.now) shows
-    (c.breaks_form.ensures.refused (views_of h) (file_reading (file_of c.args.command.now.act)) (tells_any c.args.command.now.act) c.if-breaks_form.true)
+-- ---- what breaks a rule of form
 
-pub returns-clause-stays : goal.returns-clause-stays
-returns-clause-stays g c on told = stays_live c.obey_good.result c.args.self.now.live c.obey_good.new.self.live c.obey_good.ensures.held on told
-
-pub returns-clause-fails : goal.returns-clause-fails
-returns-clause-fails g c on off = fails_so c.obey_good.result c.args.self.now.live c.obey_good.new.self.live c.obey_good.ensures.held on off
+pub returns-then-breaks_form-clause-does : goal.returns-then-breaks_form-clause-does
+returns-then-breaks_form-clause-does g c =
+    let is = λ (h : History). c.breaks_form.ensures.refused (views_of h) (file_reading (file_of c.args.command.now.act)) (tells_any c.args.command.now.act) c.if-breaks_form.true in
+    record {
+      clean = λ clean. clean;
+      failed = search rules;
+      form = λ on broken. (refl, refl);
+      obeyed = λ clean h shows. broken_form g.S.Store c.args.self.now h (asks c.args.command.now) shows (is h);
+      caused = λ clean h shows other. inl (ap answer (is h));
+      forgets = λ clean h shows other. inr shows;
+      lasts = lasting g.S.Store c.args.self.now c.args.self.now _ (not_failed, inr refl);
+    }
 
 pub returns-then-breaks_form-clause-spares : goal.returns-then-breaks_form-clause-spares
 returns-then-breaks_form-clause-spares g c clean h shows =
     broken_spares _ h (asks c.args.command.now) (c.breaks_form.ensures.refused (views_of h) (file_reading (file_of c.args.command.now.act)) (tells_any c.args.command.now.act) c.if-breaks_form.true)
+
+-- ---- an import
+
+pub returns-in-Import-clause-does : goal.returns-in-Import-clause-does
+returns-in-Import-clause-does g c =
+    let sound : is_broken c.args.command.now.act ≡ false = search rules in
+    record {
+      clean = c.import_bytes.ensures.clean;
+      failed = search rules;
+      form = search rules;
+      obeyed = λ clean h shows.
+          file_given g.S.Store (λ (a : Asked). Obeys g.S.Store c.import_bytes.result c.import_bytes.new.self h a) c.args.command.now c.in-Import.file c.as_bytes.result.now c.in-Import.is c.as_bytes.ensures sound
+          (λ import short. c.import_bytes.ensures.obeyed clean h shows import short);
+      caused = search rules;
+      forgets = λ clean h shows other. c.import_bytes.ensures.forgets h shows;
+      lasts = lasting g.S.Store c.args.self.now c.import_bytes.new.self c.import_bytes.result c.import_bytes.ensures.held;
+    }
+
+pub returns-in-Import-clause-spares : goal.returns-in-Import-clause-spares
+returns-in-Import-clause-spares g c clean h shows =
+    let sound : is_broken c.args.command.now.act ≡ false = search rules in
+    file_given g.S.Store (λ (a : Asked). SparesNames c.import_bytes.result c.import_bytes.new.self h a) c.args.command.now c.in-Import.file c.as_bytes.result.now c.in-Import.is c.as_bytes.ensures sound
+    (λ import short. c.import_bytes.ensures.spares clean h shows import short)
+
+-- ---- a refusal of the judgement, or a fault
+
+pub returns-in-Err-clause-does : goal.returns-in-Err-clause-does
+returns-in-Err-clause-does g c =
+    let reading = file_reading (file_of c.args.command.now.act) in
+    let other : is_import c.args.command.now.act ≡ false = search rules in
+    record {
+      clean = c.judge.ensures.rests.clean;
+      failed = search rules;
+      form = search rules;
+      obeyed = λ clean h shows.
+          refused g.S.Store _ h (asks c.args.command.now) c.in-Err.refusal (only_read g.S.Store c.args.self.now _ h refl c.judge.ensures.rests refl shows)
+          (c.in-Err.ensures.judged clean h reading shows.history shows.tables other);
+      caused = λ clean h shows same. judged_for g.S.Store c.args.self.now.tables.conn c.judge.new.tables.conn c.args.self.now.live h (asks c.args.command.now) c.in-Err.refusal shows.lives (c.in-Err.ensures.caused clean h reading shows.history shows.tables other);
+      forgets = λ clean h shows same. inr (only_read g.S.Store c.args.self.now _ h refl c.judge.ensures.rests refl shows);
+      lasts = lasting g.S.Store c.args.self.now _ _ (c.in-Err.ensures.alive, inr refl);
+    }
+
+pub returns-in-Err-clause-spares : goal.returns-in-Err-clause-spares
+returns-in-Err-clause-spares g c clean h shows =
+    let other : is_import c.args.command.now.act ≡ false = search rules in
+    refused_spares _ h (asks c.args.command.now) c.in-Err.refusal (c.in-Err.ensures.judged clean h (file_reading (file_of c.args.command.now.act)) shows.history shows.tables other)
+
+-- ---- a reply that was kept
+
+pub returns-in-Ok-Kept-clause-does : goal.returns-in-Ok-Kept-clause-does
+returns-in-Ok-Kept-clause-does g c =
+    let reading = file_reading (file_of c.args.command.now.act) in
+    let other : is_import c.args.command.now.act ≡ false = search rules in
+    record {
+      clean = c.judge.ensures.rests.clean;
+      failed = search rules;
+      form = search rules;
+      obeyed = λ clean h shows.
+          kept g.S.Store _ h (asks c.args.command.now) c.in-Ok-Kept.reply (only_read g.S.Store c.args.self.now _ h refl c.judge.ensures.rests refl shows)
+          (subst (λ (j : Judged). Judges h (asks c.args.command.now) (Ok j)) c.in-Ok-Kept.field-0-is (c.in-Ok-Kept.ensures.judged clean h reading shows.history shows.tables other));
+      caused = λ clean h shows same. tt;
+      forgets = λ clean h shows same. inr (only_read g.S.Store c.args.self.now _ h refl c.judge.ensures.rests refl shows);
+      lasts = lasting g.S.Store c.args.self.now _ _ refl;
+    }
+
+pub returns-in-Ok-Kept-clause-spares : goal.returns-in-Ok-Kept-clause-spares
+returns-in-Ok-Kept-clause-spares g c clean h shows =
+    let other : is_import c.args.command.now.act ≡ false = search rules in
+    let told = subst (λ (j : Judged). Judges h (asks c.args.command.now) (Ok j)) c.in-Ok-Kept.field-0-is (c.in-Ok-Kept.ensures.judged clean h (file_reading (file_of c.args.command.now.act)) shows.history shows.tables other) in
+    inr (inl (ap items_of told.1))
+
+-- ---- a change
+
+pub returns-in-Ok-Accepted-clause-does : goal.returns-in-Ok-Accepted-clause-does
+returns-in-Ok-Accepted-clause-does g c =
+    let reading = file_reading (file_of c.args.command.now.act) in
+    let other : is_import c.args.command.now.act ≡ false = search rules in
+    let told : (clean : HasCleanDisk g.S.Store c.carry_out.new.self) (h : History) (shows : Shows g.S.Store c.args.self.now h) → Judges h (asks c.args.command.now) (Ok (Accepted c.in-Ok-Accepted.change c.in-Ok-Accepted.reply)) =
+    λ clean h shows. subst (λ (j : Judged). Judges h (asks c.args.command.now) (Ok j)) c.in-Ok-Accepted.field-0-is (c.in-Ok-Accepted.ensures.judged (c.carry_out.ensures.clean clean) h reading shows.history shows.tables other) in
+    record {
+      clean = λ clean. c.judge.ensures.rests.clean (c.carry_out.ensures.clean clean);
+      failed = search rules;
+      form = search rules;
+      obeyed = λ clean h shows.
+          c.carry_out.ensures.obeyed h (asks c.args.command.now)
+          (record {
+            shows = only_read g.S.Store c.args.self.now _ h refl c.judge.ensures.rests refl shows;
+            reached = c.commands_lead_on.ensures h (asks c.args.command.now) shows.history (well_made c.args.command.now reading other c.command_is_well_made.ensures);
+            judged = told clean h shows;
+          });
+      caused = λ clean h shows same.
+          failed_over g.S.Store c.args.self.now c.carry_out.new.self c.args.self.now.live h (asks c.args.command.now) c.in-Ok-Accepted.change c.in-Ok-Accepted.reply c.carry_out.result c.carry_out.ensures.held (told clean h shows);
+      forgets = λ clean h shows.
+          spare_forgets g.S.Store c.carry_out.new.self h (asks c.args.command.now)
+          (c.carry_out.ensures.spares h (asks c.args.command.now)
+          (record {
+            shows = only_read g.S.Store c.args.self.now _ h refl c.judge.ensures.rests refl shows;
+            reached = c.commands_lead_on.ensures h (asks c.args.command.now) shows.history (well_made c.args.command.now reading other c.command_is_well_made.ensures);
+            judged = told clean h shows;
+          }));
+      lasts = lasting g.S.Store c.args.self.now c.carry_out.new.self c.carry_out.result (carried c.carry_out.result c.args.self.now.live c.carry_out.new.self.live c.carry_out.ensures.held);
+    }
+
+pub returns-in-Ok-Accepted-clause-spares : goal.returns-in-Ok-Accepted-clause-spares
+returns-in-Ok-Accepted-clause-spares g c clean h shows =
+    let reading = file_reading (file_of c.args.command.now.act) in
+    let other : is_import c.args.command.now.act ≡ false = search rules in
+    then_spares _ h (asks c.args.command.now) c.carry_out.result
+    (c.carry_out.ensures.spares h (asks c.args.command.now)
+    (record {
+      shows = only_read g.S.Store c.args.self.now _ h refl c.judge.ensures.rests refl shows;
+      reached = c.commands_lead_on.ensures h (asks c.args.command.now) shows.history (well_made c.args.command.now reading other c.command_is_well_made.ensures);
+      judged = subst (λ (j : Judged). Judges h (asks c.args.command.now) (Ok j)) c.in-Ok-Accepted.field-0-is (c.in-Ok-Accepted.ensures.judged (c.carry_out.ensures.clean clean) h reading shows.history shows.tables other);
+    }))

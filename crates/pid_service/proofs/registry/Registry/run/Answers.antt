@@ -1,17 +1,42 @@
-use Rattle.std.proofs.Common.{◌≡◌, [], rules}
-use Rattle.pid_import.specs.Files.{asks}
+use Rattle.std.proofs.Common.{◌≡◌, ◌<◌, [], inl, length, refl, rules, subst, sym}
+use Rattle.std.specs.List.{AllByRecursion}
+use Rattle.pid_moderation.specs.declared.refusal.Refusal.TheVariants.{Memory}
+use Rattle.pid_service.specs.Running.{DoesNotTellFailed}
+use Rattle.pid_tables.specs.Files.{asks}
 use Rattle.std.specs.Prelude.{map}
-use Rattle.pid_service.proofs.Lasting.{fault_so, stays_so}
-use Rattle.pid_service.proofs.Runs.{forgets_none}
+use Rattle.pid_service.proofs.Lasting.{fault_so, given_live, most_so, stays_so}
+use Rattle.pid_service.proofs.Runs.{forgets_none, runs_none}
 use Rattle.pid_service.proofs.registry.Registry.run.Goals as goal
 
-pub returns-in-Ok-clause-stays : goal.returns-in-Ok-clause-stays
-returns-in-Ok-clause-stays g c on none = stays_so c.run_into.result.fault c.run_into.new.self.live (c.run_into.ensures.held on) none
+pub returns-in-Ok : goal.returns-in-Ok
+returns-in-Ok g c = record {
+  failed = search rules;
+  clean = c.run_into.ensures.clean;
+  fault = given_live c.run_into.result.fault c.args.self.now.live (search rules) c.run_into.ensures.fault;
+  complete = c.run_into.ensures.counts.complete;
+  cut = λ on. c.run_into.ensures.counts.cut;
+  most = most_so c.run_into.result.fault (length c.run_into.result.replies.items) (length c.args.commands.now) c.run_into.ensures.counts.complete c.run_into.ensures.counts.cut;
+  ran = c.run_into.ensures.ran;
+  forgets = c.run_into.ensures.forgets;
+  stays = λ on none. stays_so c.run_into.result.fault c.run_into.new.self.live (c.run_into.ensures.held on) none;
+  fails = λ on off. fault_so c.run_into.result.fault c.run_into.new.self.live (c.run_into.ensures.held on) off;
+  alive = c.run_into.ensures.alive;
+}
 
-pub returns-in-Ok-clause-fails : goal.returns-in-Ok-clause-fails
-returns-in-Ok-clause-fails g c on off = fault_so c.run_into.result.fault c.run_into.new.self.live (c.run_into.ensures.held on) off
-
-pub returns-in-Err-clause-forgets : goal.returns-in-Err-clause-forgets
-returns-in-Err-clause-forgets g c clean h shows =
+pub returns-in-Err : goal.returns-in-Err
+returns-in-Err g c =
     let none : c.new-in-Err.result.items ≡ [] = search rules in
-    forgets_none g.S.Store _ c.args.self.now h (map asks c.args.commands.now) none shows
+    let less : length c.new-in-Err.result.items < length c.args.commands.now = search rules in
+    record {
+      failed = search rules;
+      clean = search rules;
+      fault = search rules;
+      complete = search rules;
+      cut = search rules;
+      most = search rules;
+      ran = λ clean h shows. runs_none g.S.Store asks _ _ h c.args.commands.now Memory none refl (inl refl) less shows;
+      forgets = λ clean h shows. forgets_none g.S.Store _ c.args.self.now h (map asks c.args.commands.now) none shows;
+      stays = λ on fine. on;
+      fails = λ on off. inl refl;
+      alive = λ on. subst (AllByRecursion DoesNotTellFailed) (sym none) tt;
+    }

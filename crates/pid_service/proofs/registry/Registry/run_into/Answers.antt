@@ -1,7 +1,7 @@
 use Rattle.std.proofs.Common.{◌≡◌, ℕ, ◌+◌, List, [], ◌∷◌, length, length-append, take, drop, map, suc, not, true, is_ok, inr, sym, ap, subst, ◌∙◌, arith}
 use Rattle.pid_moderation.specs.History.{Asked}
 use Rattle.pid_moderation.specs.Judgement.{after_all}
-use Rattle.pid_import.specs.Files.{asks}
+use Rattle.pid_tables.specs.Files.{asks}
 use Rattle.std.specs.List.{AllByRecursion}
 use Rattle.pid_service.specs.Running.{DoesNotTellFailed}
 use Rattle.pid_service.proofs.Lasting.{all_more, on_after, some_fault}
@@ -12,12 +12,12 @@ pub returns-then-is_some-clause-ran : goal.returns-then-is_some-clause-ran
 returns-then-is_some-clause-ran g c clean h shows =
     let i : ℕ = c.loop-command.command-index in
     let all : List Asked = map asks c.args.commands.now in
-    let was = c.obey_lent-outcome.ensures.clean clean in
+    let was = c.obey_lent-outcome.ensures.does.clean clean in
     ends_at g.S.Store c.obey_lent-outcome.result _ c.loop-command.self c.obey_lent-outcome.new.self h i all (drop (suc i) all) (asks c.command-item.result)
     (next_is asks c.args.commands.now i c.command-item.result (omega (arith, c.loop-command-test.true)) (sym c.command-item.is))
     (so_many asks c.args.commands.now i c.command-item.result h (omega (arith, c.loop-command-test.true)) (sym c.command-item.is))
     (c.loop-command.invariant.4 was h shows)
-    (λ so. c.obey_lent-outcome.ensures.obeyed clean (after_all h (take i all)) so)
+    (λ so. c.obey_lent-outcome.ensures.does.obeyed clean (after_all h (take i all)) so)
     c.fault_of-fault.ensures.told
     (sym c.is_some.ensures ∙ c.if-is_some.true)
 
@@ -30,20 +30,20 @@ loop-command-preserved g c =
       rw good at c.push.ensures.len ∙ ap (λ n. n + 1) c.loop-command.invariant.0,
       ap length (rw good at c.push.ensures.items) ∙ length-append c.loop-command.replies.items (c.obey_lent-outcome.result ∷ []) ∙ ap (λ n. n + 1) c.loop-command.invariant.1,
       omega (arith, c.loop-command.invariant.2, c.push.ensures.capacity),
-      λ clean. c.loop-command.invariant.3 (c.obey_lent-outcome.ensures.clean clean),
+      λ clean. c.loop-command.invariant.3 (c.obey_lent-outcome.ensures.does.clean clean),
       λ clean h shows.
           let more = obeyed_more g.S.Store c.obey_lent-outcome.result c.loop-command.self c.obey_lent-outcome.new.self h (take i all) (take (i + 1) all) (asks c.command-item.result) c.loop-command.replies.items
           (one_more asks c.args.commands.now i c.command-item.result (omega (arith, c.loop-command-test.true)) (sym c.command-item.is))
-          (c.loop-command.invariant.4 (c.obey_lent-outcome.ensures.clean clean) h shows)
-          (λ so. c.obey_lent-outcome.ensures.obeyed clean (after_all h (take i all)) so)
+          (c.loop-command.invariant.4 (c.obey_lent-outcome.ensures.does.clean clean) h shows)
+          (λ so. c.obey_lent-outcome.ensures.does.obeyed clean (after_all h (take i all)) so)
           none in
           (rw good at c.push.ensures.items ∙ more.0, more.1),
-      λ on. on_after c.obey_lent-outcome.result c.obey_lent-outcome.new.self.live none (λ off. c.obey_lent-outcome.ensures.fails (c.loop-command.invariant.5 on) off),
+      λ on. on_after c.obey_lent-outcome.result c.obey_lent-outcome.new.self.live none (λ off. c.obey_lent-outcome.ensures.does.lasts.fails (c.loop-command.invariant.5 on) off),
       λ on.
           subst (AllByRecursion DoesNotTellFailed) (sym (rw good at c.push.ensures.items))
-          (all_more DoesNotTellFailed c.loop-command.replies.items c.obey_lent-outcome.result (c.loop-command.invariant.6 on) (c.obey_lent-outcome.ensures.alive (c.loop-command.invariant.5 on))),
+          (all_more DoesNotTellFailed c.loop-command.replies.items c.obey_lent-outcome.result (c.loop-command.invariant.6 on) (c.obey_lent-outcome.ensures.does.lasts.alive (c.loop-command.invariant.5 on))),
       λ clean h shows.
-          let was = c.obey_lent-outcome.ensures.clean clean in
+          let was = c.obey_lent-outcome.ensures.does.clean clean in
           forgets_more _ _ c.obey_lent-outcome.result h (take i all) (take (i + 1) all) (asks c.command-item.result)
           (one_more asks c.args.commands.now i c.command-item.result (omega (arith, c.loop-command-test.true)) (sym c.command-item.is))
           c.obey_lent-outcome.ensures.none (c.loop-command.invariant.7 was h shows)
@@ -54,11 +54,11 @@ pub returns-then-is_some-clause-forgets : goal.returns-then-is_some-clause-forge
 returns-then-is_some-clause-forgets g c clean h shows =
     let i : ℕ = c.loop-command.command-index in
     let all : List Asked = map asks c.args.commands.now in
-    let was = c.obey_lent-outcome.ensures.clean clean in
+    let was = c.obey_lent-outcome.ensures.does.clean clean in
     forgets_at g.S.Store _ c.obey_lent-outcome.new.self h i all (drop (suc i) all) (asks c.command-item.result)
     (next_is asks c.args.commands.now i c.command-item.result (omega (arith, c.loop-command-test.true)) (sym c.command-item.is))
     c.loop-command.invariant.1 (none_then _ _ _ c.obey_lent-outcome.ensures.none (c.loop-command.invariant.7 was h shows))
-    (c.obey_lent-outcome.ensures.forgets clean (after_all h (take i all)) (c.loop-command.invariant.4 was h shows).1)
+    (c.obey_lent-outcome.ensures.does.forgets clean (after_all h (take i all)) (c.loop-command.invariant.4 was h shows).1)
 
 pub returns-then-is_some-clause-held : goal.returns-then-is_some-clause-held
 returns-then-is_some-clause-held g c on = inr (some_fault c.fault_of-fault.result (sym c.is_some.ensures ∙ c.if-is_some.true) c.fault_of-fault.ensures.fault)

@@ -1,6 +1,6 @@
 use Rattle.std.proofs.Common.{◌≡◌, true, false, sym, ◌∙◌, rules}
 use Rattle.std.specs.Ordering.{is_eq, ordering_then}
-use Rattle.pid_file.specs.PathPlaces.{numbers_of, rest_cmp}
+use Rattle.pid_file.specs.Steps.PathPlaces.{numbers_of, rest_cmp}
 use Rattle.pid_file.specs.PathTexts.{path_cmp}
 use Rattle.pid_file.proofs.PathOrder.{path_cmp-by_head, IsHead, decided, undecided}
 use Rattle.pid_file.proofs.path.order.PathOrd.cmp.Goals as goal

@@ -1,0 +1,114 @@
+-- The commands of the program and their arguments, as the command line parser `clap` defines them.
+-- The set is a choice of this project.
+use Rattle.std.specs.Prelude.{ℕ, true, pos, List, [], ◌∷◌, Some, codes}
+use Rattle.clap.specs.Walk.{Rule, Text}
+use Rattle.clap.specs.Words.{App, new_app, new_rule, with_rule, with_subcommand}
+use Rattle.clap.specs.declared.builder.value_parser.ValueParser.TheVariants.{Signed}
+
+-- an option that takes one value, as `--db FILE`
+abbrev pub option : Text → Rule
+option name = record (new_rule name) { long = Some name; value_names = 1 }
+
+-- it is required
+abbrev pub required : Rule → Rule
+required rule = record rule { required = true }
+
+-- its value is a number from 1 to `most`
+abbrev pub counted : ℕ → Rule → Rule
+counted most rule = record rule { parser = Some (Signed (pos 1) (pos most)) }
+
+-- an argument that is no option, as IDS
+abbrev pub operand : Text → Rule
+operand name = record (new_rule name) { value_names = 1 }
+
+-- the command also takes these, in this order
+abbrev pub with_rules : List Rule → App → App
+with_rules [] app = app
+with_rules (rule ∷ more) app = with_rules more (with_rule app rule)
+
+-- the command of this name that takes these alone
+abbrev pub command : Text → List Rule → App
+command name rules = with_rules rules (new_app name)
+
+-- --ids FILE --flags HEX [--size N]
+abbrev pub request_rules : List Rule
+request_rules = required (option (codes "ids")) ∷ required (option (codes "flags"))
+    ∷ option (codes "size") ∷ []
+
+-- [--vendor H] [--device H] [--subvendor H]
+abbrev pub device_rules : List Rule
+device_rules = option (codes "vendor") ∷ option (codes "device") ∷ option (codes "subvendor") ∷ []
+
+-- [--subdevice H] [--class H] [--progif H]
+abbrev pub class_rules : List Rule
+class_rules = option (codes "subdevice") ∷ option (codes "class") ∷ option (codes "progif") ∷ []
+
+-- lookup, with all of these
+abbrev pub lookup : App
+lookup = with_rules class_rules (with_rules device_rules (command (codes "lookup") request_rules))
+
+-- script [--db FILE]
+abbrev pub script : App
+script = command (codes "script") (option (codes "db") ∷ [])
+
+-- --db FILE --account A
+abbrev pub sender_rules : List Rule
+sender_rules = required (option (codes "db")) ∷ required (option (codes "account")) ∷ []
+
+-- [--key K] IDS
+abbrev pub file_rules : List Rule
+file_rules = option (codes "key") ∷ required (operand (codes "ids")) ∷ []
+
+-- import, with all of these
+abbrev pub import : App
+import = with_rules file_rules (command (codes "import") sender_rules)
+
+-- export --db FILE
+abbrev pub export : App
+export = command (codes "export") (required (option (codes "db")) ∷ [])
+
+-- migrate --db FILE
+abbrev pub migrate : App
+migrate = command (codes "migrate") (required (option (codes "db")) ∷ [])
+
+-- a million connections by default
+abbrev pub million : Rule → Rule
+million rule = record rule { defaults = codes "1000000" ∷ [] }
+
+-- serve --db FILE --port N [--connections N]
+abbrev pub serve : App
+serve = command (codes "serve") (required (option (codes "db"))
+    ∷ required (counted 65535 (option (codes "port")))
+    ∷ million (counted 1000000 (option (codes "connections"))) ∷ [])
+
+-- the command also answers `--version` and `-V`
+abbrev pub with_version : App → App
+with_version app = record app { top = record app.top { has_version = true } }
+
+-- the command has these subcommands too, in this order
+abbrev pub with_subcommands : List App → App → App
+with_subcommands [] app = app
+with_subcommands (sub ∷ more) app = with_subcommands more (with_subcommand app sub.top)
+
+-- the subcommands that need no registry
+abbrev pub text_commands : List App
+text_commands = command (codes "tidy") [] ∷ command (codes "check") [] ∷ lookup ∷ []
+
+-- those that change a registry
+abbrev pub import_commands : List App
+import_commands = script ∷ import ∷ []
+
+-- those that print or serve a registry
+abbrev pub export_commands : List App
+export_commands = export ∷ serve ∷ []
+
+-- those that maintain a registry's file
+abbrev pub care_commands : List App
+care_commands = migrate ∷ []
+
+-- `pciids` and its subcommands
+abbrev pub commands : App
+commands = with_subcommands care_commands
+    (with_subcommands export_commands (with_subcommands import_commands
+    (with_subcommands text_commands
+    (with_version (new_app (codes "pciids"))))))

@@ -1,0 +1,13 @@
+//! The command line of the program.
+#![tactic(auto)]
+
+mod commands;
+mod job;
+mod process;
+mod progress;
+mod words;
+
+pub use job::{Job, LookUpWords, WordsFault};
+pub use process::{UNKNOWN_WORDS, tell_no_job, words_given};
+pub use progress::{Counted, Progress};
+pub use words::job_of;

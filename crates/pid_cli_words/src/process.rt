@@ -1,0 +1,77 @@
+//! The arguments of the process, and what it prints if they name no job.
+use crate::job::WordsFault;
+use clap::Error;
+use pid_file::{TextEnd, tell_end, tell_failed};
+use pid_ident::{Plain, write_all};
+use std::io::{ErrorKind, Write};
+use std::{env, io};
+
+/// The exit status if the arguments name no job.
+pub const UNKNOWN_WORDS: u8 = 2;
+
+/// The arguments of the process, the program's name first. Reports an argument that is not UTF-8,
+/// or that it ran out of memory, on standard error, and returns the exit status.
+pub fn words_given(rt: &HostRuntime) -> Result<Vec<String>, u8> {
+    match collected(rt) {
+        Ok(words) => Ok(words),
+        Err(error) => {
+            let mut faults = Plain::new(rt.stderr());
+            if error.kind() == ErrorKind::OutOfMemory {
+                return Err(tell_end(TextEnd::Memory, &mut faults));
+            }
+            let _ = write_all(&mut faults, b"error: an argument is not valid UTF-8\n");
+            Err(UNKNOWN_WORDS)
+        }
+    }
+}
+
+fn collected(rt: &HostRuntime) -> io::Result<Vec<String>> {
+    Ok(env::args(rt)?.collect(rt.alloc())?)
+}
+
+/// Prints why the arguments name no job, and returns the exit status: help and the version, if
+/// asked for, on `output`, and anything else on `faults`.
+pub fn tell_no_job<O: Write + Drop, F: Write + Drop>(
+    fault: &WordsFault,
+    words: &[String],
+    output: O,
+    faults: F,
+) -> u8 {
+    match fault {
+        WordsFault::Memory => tell_end(TextEnd::Memory, &mut Plain::new(faults)),
+        WordsFault::Words(error) => answer(error, words, output, faults),
+    }
+}
+
+fn answer<O: Write + Drop, F: Write + Drop>(
+    error: &Error,
+    words: &[String],
+    output: O,
+    faults: F,
+) -> u8 {
+    let mut output = output;
+    let mut faults = faults;
+    if error.use_stderr() {
+        let _ = write!(faults, "{error}");
+        let _ = write!(faults, "{}", hint(words));
+        return UNKNOWN_WORDS;
+    }
+    match write!(output, "{error}") {
+        Ok(()) => 0,
+        Err(error) => tell_failed(
+            error.kind() == ErrorKind::BrokenPipe,
+            &mut Plain::new(faults),
+        ),
+    }
+}
+
+// What to type instead. A common mistake is the name of a file as an argument.
+fn hint(words: &[String]) -> &'static str {
+    match words.get(1).map(String::as_str) {
+        Some("check") => "To read a file, redirect standard input: pciids check < FILE\n",
+        Some("tidy") => "To read a file, redirect standard input: pciids tidy < FILE\n",
+        Some("lookup" | "script" | "import" | "export" | "serve" | "migrate") => "",
+        Some(word) if word.as_bytes().first() == Some(&b'-') => "",
+        _ => "To read a file, redirect standard input: pciids < FILE\n",
+    }
+}

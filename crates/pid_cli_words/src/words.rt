@@ -1,0 +1,110 @@
+//! The job that the arguments name.
+ghost use Rattle.std.specs.Prelude.{◌≡◌, true, [], IfOk, IfErr, codes, map, string_bytes};
+ghost use Rattle.clap.specs.Walk.{first_of, rows_of};
+ghost use Rattle.clap.specs.Words.{found_of};
+ghost use Rattle.pid_cli_words.specs.Jobs.{
+  are_taken,
+  faults_of,
+  look_up_named,
+  look_up_task,
+  needed,
+  number_of,
+  task_meant,
+  task_named,
+  task_of,
+  text_of,
+  IsFaultOfWords,
+};
+
+use crate::commands::commands;
+use crate::job::{Job, LookUpWords, WordsFault};
+use clap::ArgMatches;
+use std::alloc::Global;
+
+// The value of a required option.
+fn needed_text<'a>(given: &ArgMatches<'a>, name: &str) -> &'a str
+    ensures { result.now ≡ needed name.now (rows_of (found_of given.now)) }
+{
+    given.get_str(name).unwrap_or("")
+}
+
+fn text<'a>(given: &ArgMatches<'a>, name: &str) -> Option<&'a str>
+    ensures { text_of result ≡ first_of name.now (rows_of (found_of given.now)) }
+{
+    given.get_str(name)
+}
+
+fn look_up_words<'a>(given: &ArgMatches<'a>) -> LookUpWords<'a>
+    ensures { look_up_task result ≡ look_up_named (rows_of (found_of given.now)) }
+{
+    LookUpWords {
+        ids: needed_text(given, "ids"),
+        flags: needed_text(given, "flags"),
+        size: text(given, "size"),
+        vendor: text(given, "vendor"),
+        device: text(given, "device"),
+        subvendor: text(given, "subvendor"),
+        subdevice: text(given, "subdevice"),
+        class: text(given, "class"),
+        progif: text(given, "progif"),
+    }
+}
+
+// The number that a required option, or one with a default, has as its value.
+fn port_given(given: &ArgMatches<'_>) -> u16
+    ensures { result ≡ number_of 16 (codes "port") (rows_of (found_of given.now)) }
+{
+    given.get_one("port").unwrap_or(0)
+}
+
+fn connections_given(given: &ArgMatches<'_>) -> u32
+    ensures { result ≡ number_of 32 (codes "connections") (rows_of (found_of given.now)) }
+{
+    given.get_one("connections").unwrap_or(0)
+}
+
+fn job_named<'a>(name: &str, given: &ArgMatches<'a>) -> Job<'a>
+    ensures { task_of result ≡ task_named name.now (rows_of (found_of given.now)) }
+{
+    match name {
+        "check" => Job::Check,
+        "lookup" => Job::Lookup(look_up_words(given)),
+        "script" => Job::Script {
+            db: text(given, "db"),
+        },
+        "import" => Job::Import {
+            db: needed_text(given, "db"),
+            account: needed_text(given, "account"),
+            key: text(given, "key"),
+            ids: needed_text(given, "ids"),
+        },
+        "export" => Job::Export {
+            db: needed_text(given, "db"),
+        },
+        "serve" => Job::Serve {
+            db: needed_text(given, "db"),
+            port: port_given(given),
+            connections: connections_given(given),
+        },
+        "migrate" => Job::Migrate {
+            db: needed_text(given, "db"),
+        },
+        _ => Job::Tidy,
+    }
+}
+
+/// The job that the arguments name. The first of them is the program's name; if it is the only one,
+/// the job is `tidy`.
+pub fn job_of<'a>(alloc: Global, words: &'a [String]) -> Result<Job<'a>, WordsFault>
+    ensures job { IfOk result (λ job. task_of job ≡ task_meant (map string_bytes words.now)) }
+    ensures taken { IfOk result (λ _. faults_of (map string_bytes words.now) ≡ []) }
+    ensures refused { IfErr result (λ fault. are_taken (map string_bytes words.now) ≡ true
+        → fault ≡ WordsFault.Memory) }
+    ensures fault { IfErr result (λ fault. IsFaultOfWords fault (map string_bytes words.now)) }
+{
+    let matches = commands(alloc)?.try_get_matches_from(words)?;
+    match matches.subcommand() {
+        Some((name, given)) => Ok(job_named(name, given)),
+        None => Ok(Job::Tidy),
+    }
+}

@@ -1,3 +1,0 @@
-pub mod ItemLines
-pub mod WalkEnds
-pub mod CountedLines

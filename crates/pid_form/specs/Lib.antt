@@ -1,0 +1,3 @@
+pub mod FormFields
+pub mod Fields
+pub mod Numbers

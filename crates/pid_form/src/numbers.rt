@@ -1,0 +1,73 @@
+//! The numbers that texts write.
+ghost use Rattle.std.specs.Prelude.{◌≡◌, ◌<◌, ◌≤◌, ◌^◌, IfSome, slice_index, ◌==◌};
+ghost use Rattle.std.specs.Char.{is_ascii_digit, is_digit};
+ghost use Rattle.std.specs.List.{list_all};
+ghost use Rattle.pid_form.specs.Numbers.{
+  is_plain_number as plain_number,
+  number_in,
+  numeral as numeral_of,
+};
+
+fn are_decimal(bytes: &[u8]) -> bool
+    ensures { result ≡ list_all is_ascii_digit bytes.now }
+{
+    bytes.iter().all(|b| b.is_ascii_digit())
+}
+
+fn begins_zero(bytes: &[u8]) -> bool
+    ensures { result ≡ (slice_index bytes.now 0 == 48) }
+{
+    matches!(bytes, [b'0', ..])
+}
+
+// Whether a text is 1 to so many decimal digits, the first of which is no zero.
+fn is_plain_number(text: &str, digits: usize) -> bool
+    ensures { result ≡ plain_number digits text.now }
+{
+    let bytes = text.as_bytes();
+    if bytes.is_empty() || bytes.len() > digits || begins_zero(bytes) {
+        return false;
+    }
+    are_decimal(bytes)
+}
+
+/// The number that 1 to so many decimal digits without a zero in front write, where it is at most
+/// `most`.
+pub fn number_up_to(text: &str, digits: usize, most: u64) -> Option<u64>
+    ensures number { result ≡ number_in digits most text.now }
+    ensures bound { IfSome result (λ number. number ≤ most) }
+{
+    if !is_plain_number(text, digits) {
+        return None;
+    }
+    match text.parse::<u64>() {
+        Ok(number) => { if number <= most { Some(number) } else { None } }
+        Err(_) => None,
+    }
+}
+
+fn are_digits(bytes: &[u8], radix: u32) -> bool
+    requires binary { 2 ≤ radix }
+    requires letters { radix ≤ 36 }
+    ensures { result ≡ list_all (λ c. is_digit c radix) bytes.now }
+{
+    bytes.iter().all(|b| char::from(*b).is_digit(radix))
+}
+
+/// The number that a text of so many digits of a radix writes; letters may be in either case.
+pub fn numeral(text: &str, radix: u32, least: usize, most: usize) -> Option<u32>
+    requires some { 0 < least }
+    requires binary { 2 ≤ radix }
+    requires letters { radix ≤ 36 }
+    requires fits { radix ^ most ≤ 2 ^ 32 }
+    ensures value { result ≡ numeral_of radix least most text.now }
+    ensures bound { IfSome result (λ number. number < radix ^ most) }
+{
+    if text.len() < least || text.len() > most || !are_digits(text.as_bytes(), radix) {
+        return None;
+    }
+    match u32::from_str_radix(text, radix) {
+        Ok(number) => Some(number),
+        Err(_) => None,
+    }
+}

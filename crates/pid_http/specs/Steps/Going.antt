@@ -1,0 +1,41 @@
+-- How a call leads on from what is known of a registry.
+use Rattle.std.specs.Prelude.{◌≡◌, false, List, [], ◌∷◌, ◌++◌}
+use Rattle.std.proofs.Common.{refl, sym, subst, ◌∙◌}
+use Rattle.sqlite_trees.specs.declared.store.Store.{Ghosts}
+use Rattle.pid_service_laws.specs.Calls.{Call}
+use Rattle.pid_service_laws.specs.Registries.{CallsLead, Showing}
+use Rattle.pid_service.specs.declared.registry.Registry.{Registry}
+use Rattle.pid_service.specs.Lives.{showing}
+use Rattle.pid_service.specs.Registries.{HasCleanDisk, is_live}
+use Rattle.pid_http_stream.specs.Leading.{Leads}
+use Rattle.pid_http.specs.Known.{Known, IsKnown, LivesOn}
+
+module _ {S : Type 0} (store : Ghosts S) where
+  -- Calls of its life led from the one to the other, and while the disk returns what was written,
+  -- what was known leads by these calls on to what is known then.
+  pub record Goes (old new : Registry S store)
+      (Next : Known → List Call → Known → Type 0) : Type 0 where
+    pub lives : LivesOn store old new
+    pub served : Leads (HasCleanDisk store) (IsKnown store) old new (λ k now. Next k lives.calls now)
+
+-- From here on proofs: calls after calls, and the laws that what answers streams gives for `stays`
+-- and `joins`.
+pub calls_join : {R : Type 0} (w : Showing R) (a b c : R) (first more : List Call)
+    → CallsLead w a first b → CallsLead w b more c → CallsLead w a (first ++ more) c
+calls_join w a b c [] more same leads = subst (λ r. CallsLead w r more c) same leads
+calls_join w a b c (call ∷ calls) more (between, does, leads) further =
+    (between, does, calls_join w between b c calls more leads further)
+
+module _ {S : Type 0} {store : Ghosts S} where
+  -- without a call it is the same life
+  pub lives_still : (r : Registry S store) → LivesOn store r r
+  lives_still r = record { rests = λ off. refl; calls = []; lead = refl }
+
+  -- some calls and then others are calls
+  pub lives_further : (a b c : Registry S store) → LivesOn store a b → LivesOn store b c
+      → LivesOn store a c
+  lives_further a b c p q = record {
+    rests = λ off. q.rests (subst (λ r. is_live r ≡ false) (sym (p.rests off)) off) ∙ p.rests off;
+    calls = p.calls ++ q.calls;
+    lead = calls_join (showing store) a b c p.calls q.calls p.lead q.lead;
+  }

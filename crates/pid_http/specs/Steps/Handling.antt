@@ -1,0 +1,73 @@
+-- What the service tells of itself as a handler.
+use Rattle.std.specs.Prelude.{◌≡◌, ℕ, List, [], ◌∷◌, ◌++◌}
+use Rattle.std.proofs.Common.{sym, ap, subst, ◌∙◌, append_assoc}
+use Rattle.sqlite_trees.specs.declared.store.Store.{Ghosts}
+use Rattle.pid_service_laws.specs.Calls.{AreNothing, Call}
+use Rattle.pid_moderation.specs.History.{History}
+use Rattle.pid_moderation.specs.Writes.{tree_of}
+use Rattle.pid_tree.specs.Printing.{print}
+use Rattle.pid_http_stream.specs.Replies.{answer_behind}
+use Rattle.pid_http_stream.specs.Requests.{Request}
+use Rattle.pid_http_stream.specs.declared.reply.ReplyHead.{ReplyHead}
+use Rattle.pid_http.specs.Answering.{answer_over, text_answer}
+use Rattle.pid_http.specs.Errands.{Errand, errand_of}
+use Rattle.pid_http.specs.Known.{Known, Live, Between, Down, Told, ByCalls}
+use Rattle.pid_http.specs.Serving.{IsMet, AnsweredOver, IsPromised, IsTextHead, serving}
+
+-- the text of the history that is shown
+abbrev pub WritesOver : Known → List ℕ → Known → Type 0
+WritesOver (Live h) body k = (body ≡ print (tree_of h)) × (k ≡ Live h)
+WritesOver (Between before behind) body k = k ≡ Between before behind
+WritesOver Down body k = k ≡ Down
+
+-- and nothing is sent for it
+abbrev pub Writes : {S : Type 0} (store : Ghosts S) → Told store → List ℕ → Told store → Type 0
+Writes store t body u = ByCalls store t u
+    (λ calls. AreNothing calls × WritesOver t.known body u.known)
+
+same_answer : (h : History) (head : ReplyHead) (told : ℕ) (body : List ℕ) → IsTextHead h head told
+    → body ≡ print (tree_of h)
+    → answer_behind head told body ≡ text_answer h
+same_answer h head told body t e = λ i. record {
+  status = t.status i;
+  content = t.content i;
+  told = t.length_is i;
+  body = e i;
+}
+
+pub nothing_then : (calls more : List Call) → AreNothing calls → AreNothing more
+    → AreNothing (calls ++ more)
+nothing_then [] more p q = q
+nothing_then (call ∷ calls) more (is, p) q = (is, nothing_then calls more p q)
+
+text_met : (a : Known) (errand : Errand) (head : ReplyHead) (told : ℕ) (calls : List Call)
+    (b : Known) (body : List ℕ) (more : List Call) (c : Known)
+    → IsPromised a errand head told calls b → AreNothing more → WritesOver b body c
+    → IsMet a errand (answer_behind head told body) (calls ++ more) c
+unfolding answer_over
+text_met (Live h) errand head told calls b body more c (asked, is, none, same) none_more writes =
+    let w : WritesOver (Live h) body c = subst (λ k. WritesOver k body c) same writes in
+    subst (λ x. IsMet (Live h) x (answer_behind head told body) (calls ++ more) c) (sym asked)
+    (AnsweredOver (same_answer h head told body is w.0)
+    (nothing_then calls more none none_more) w.1)
+text_met (Between before behind) errand head told calls b body more c promised none_more writes =
+    absurd promised
+text_met Down errand head told calls b body more c promised none_more writes = absurd promised
+
+-- what was promised and then written is the answer
+pub exports_text : {S : Type 0} {store : Ghosts S} (a : Told store) (request : Request)
+    (head : ReplyHead) (told : ℕ) (b : Told store) (body : List ℕ) (c : Told store)
+    → (serving store).promises a request head told b → Writes store b body c
+    → (serving store).answers a request (answer_behind head told body) c
+exports_text a request head told b body c p w = record {
+  same_life = w.same_life ∙ p.same_life;
+  more = p.more ++ w.more;
+  joined = w.joined ∙ ap (λ (l : List Call). l
+      ++ w.more) p.joined ∙ append_assoc a.calls p.more w.more;
+  holds = text_met a.known
+      (errand_of request) head told p.more b.known body w.more c.known p.holds w.holds.0 w.holds.1;
+}
+
+-- what stayed the same twice stayed the same
+pub same_on : {X : Type 0} (a b c : X) → b ≡ a → c ≡ b → c ≡ a
+same_on a b c p q = q ∙ p

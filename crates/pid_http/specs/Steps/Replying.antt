@@ -1,0 +1,107 @@
+-- What the functions that answer one request tell of their reply.
+use Rattle.std.specs.Prelude.{◌≡◌, ◌≤◌, ◌⊎◌, ℕ, true, false, List, [], ◌∷◌, length}
+use Rattle.std.specs.Prelude.{Option, Some, None, Result}
+use Rattle.std.specs.Prelude.{Ok, Err, IsErrAnd, MatchResult, Vec, map, option_map, option_copied}
+use Rattle.std.specs.declared.alloc.Global.{Global}
+use Rattle.std.specs.Io.KnownBytes.{IsAtEnd}
+use Rattle.httparse.specs.Grammar.{RequestHead}
+use Rattle.sqlite_trees.specs.declared.store.Store.{Ghosts}
+use Rattle.pid_service_laws.specs.Calls.{AreNothing, Call, obeyed}
+use Rattle.pid_moderation.specs.History.{Asked}
+use Rattle.pid_moderation.specs.ItemPairs.{pair_of}
+use Rattle.pid_moderation.specs.Judgement.{answer, judge, after}
+use Rattle.pid_moderation.specs.Views.{views_of}
+use Rattle.pid_moderation.specs.declared.command.Reply.{Reply as Outcome}
+use Rattle.pid_moderation.specs.declared.lists.Item.{Item}
+use Rattle.pid_moderation.specs.declared.refusal.Refusal.{Refusal}
+use Rattle.pid_moderation.specs.declared.refusal.Refusal.TheVariants as refusals
+use Rattle.pid_service.specs.Histories.{IsFault}
+use Rattle.pid_service.specs.declared.registry.Registry.{Registry}
+use Rattle.pid_http_stream.specs.BodyLengths.{longest_body}
+use Rattle.pid_http_stream.specs.HeadParts.{IsHeadOf}
+use Rattle.pid_http_stream.specs.Replies.{Answer, answer_with}
+use Rattle.pid_http_stream.specs.Requests.{fields_of}
+use Rattle.pid_http_stream.specs.declared.handler.Reply.{Reply}
+use Rattle.pid_http_stream.specs.declared.handler.ReplyBody.{ReplyBody}
+use Rattle.pid_http_stream.specs.declared.handler.ReplyBody.TheVariants.{Bytes, Written}
+use Rattle.pid_http_stream.specs.declared.head.Head.{Head}
+use Rattle.pid_http_stream.specs.declared.reply.ReplyHead.{ReplyHead}
+use Rattle.pid_http_requests.specs.Senders.{Sending, sender}
+use Rattle.pid_http_requests.specs.declared.format.Format.{Format}
+use Rattle.pid_http_requests.specs.declared.sender.Sender.{Sender}
+use Rattle.pid_http_replies.specs.Outcomes.{outcome_answer}
+use Rattle.pid_http.specs.Errands.{Errand}
+use Rattle.pid_http.specs.Known.{Known, Live, Between, Down}
+use Rattle.pid_http.specs.Steps.Going.{Goes}
+use Rattle.pid_http.specs.Serving.{IsMet, IsPromised}
+
+-- a sender by its bytes
+abbrev pub sending_of : Sender → Sending
+sending_of s = record { account = s.account.now; key = option_copied s.key }
+
+abbrev pub sending_in : Option Sender → Option Sending
+sending_in None = None
+sending_in (Some s) = Some (sending_of s)
+
+-- the answer with what was found, or with the refusal
+abbrev pub answer_or : {X : Type 0} → Format → (X → Answer) → Result X Refusal → Answer
+answer_or format found (Ok x) = found x
+answer_or format found (Err refusal) = outcome_answer format (Err refusal)
+
+-- the items that were found, by their texts
+abbrev pub pairs_in : Option (Vec Item Global) → Option (List (List ℕ × List ℕ))
+pairs_in found = option_map (λ items. map pair_of items.items) found
+
+-- what a command is answered, by which call, and what is known of the registry then
+abbrev pub IsObeyed : Asked → Known → Result Outcome Refusal → List Call → Known → Type 0
+IsObeyed c (Live h) result calls k =
+    ((result ≡ answer (judge (views_of h) c)) × (calls ≡ obeyed c result true ∷ [])
+    × (k ≡ Live (after h c)))
+    ⊎ (IsErrAnd result IsFault × (((calls ≡ obeyed c result true ∷ []) × (k ≡ Live h))
+    ⊎ ((calls ≡ obeyed c result false ∷ []) × (k ≡ Between h (after h c)))))
+IsObeyed c (Between before behind) result calls k = (result ≡ Err refusals.Failed)
+    × AreNothing calls × (k ≡ Between before behind)
+IsObeyed c Down result calls k = (result ≡ Err refusals.Failed) × AreNothing calls × (k ≡ Down)
+
+-- the body is that of an answer, or is promised
+abbrev pub IsBodyMet : Known → Errand → ReplyHead → ReplyBody → List Call → Known → Type 0
+IsBodyMet k errand head (Bytes body) calls now = IsMet k errand
+    (answer_with head.status head.content body.items) calls now
+IsBodyMet k errand head (Written told) calls now = IsPromised k errand head told calls now
+
+-- the reply is an answer; or memory lacked for it, and what it is a reply to was done
+abbrev pub IsMetBy : {E : Type 0} → Known → Errand → Result Reply E → List Call → Known → Type 0
+IsMetBy k errand result calls now = MatchResult result
+    (λ reply. IsBodyMet k errand reply.head reply.body calls now)
+    (λ _. (given : Answer) × IsMet k errand given calls now)
+
+-- The same where the body is read as it comes: it may have been given up, and memory lacked only
+-- with the body at its end.
+abbrev pub IsMetBehind : {E : Type 0} → Known → Errand → Result Reply E → Option (List ℕ)
+    → List Call → Known → Type 0
+IsMetBehind k errand result left calls now =
+    MatchResult result
+    (λ reply. IsBodyMet k errand reply.head reply.body calls now)
+    (λ _. (AreNothing calls × (k ≡ now))
+    ⊎ (IsAtEnd left × ((given : Answer) × IsMet k errand given calls now)))
+
+-- what comes of it
+abbrev pub Replies : {S E : Type 0} → (store : Ghosts S) → Registry S store → Registry S store
+    → Errand → Result Reply E → Type 0
+Replies store old new errand result = Goes store old new
+    (λ k calls now. IsMetBy k errand result calls now)
+
+-- the same, where the sender is the one that the head names
+abbrev pub RepliesTo : {S E : Type 0} → (store : Ghosts S) → Registry S store → Registry S store
+    → Head → (Option Sending → Errand) → Result Reply E → Type 0
+RepliesTo store old new head errand result = Goes store old new
+    (λ k calls now. (request : RequestHead) → IsHeadOf head request
+    → IsMetBy k (errand (sender (fields_of request))) result calls now)
+
+-- the same, where the body is a file that is read as it comes, known and not too long
+abbrev pub RepliesToFile : {S E : Type 0} → (store : Ghosts S) → Registry S store
+    → Registry S store → Option (List ℕ) → Option (List ℕ) → (List ℕ → Errand) → Result Reply E
+    → Type 0
+RepliesToFile store old new to_come left errand result = Goes store old new
+    (λ k calls now. (file : List ℕ) → to_come ≡ Some file → length file ≤ longest_body
+    → IsMetBehind k (errand file) result left calls now)

@@ -1,0 +1,118 @@
+//! What a request asks for, answered by the registry.
+ghost use Rattle.std.specs.Prelude.{◌≡◌, Err};
+ghost use Rattle.pid_http.specs.Errands.{
+  changes_for,
+  children_for,
+  errand_for,
+  read_for,
+  submission_for,
+};
+ghost use Rattle.pid_http.specs.Steps.Replying.{Replies, RepliesTo};
+
+use crate::commanding::command;
+use crate::exporting::export;
+use crate::queries::{changes, children, lookup, pending, read, submission};
+use pid_http_replies::{Early, early_reply, refusal_reply};
+use pid_http_requests::{Above, Format, Question, Start, sender_of};
+use pid_http_stream::{Head, Reply};
+use pid_ident::Path;
+use pid_moderation::Refusal;
+use pid_service::Registry;
+use sqlite::Alter;
+use std::alloc::{AllocError, Global};
+
+fn answer_read<S: Alter + Drop>(
+    alloc: Global,
+    registry: &mut Registry<S>,
+    path: Option<Path>,
+    format: Format,
+) -> Result<Reply, AllocError>
+    ensures { Replies S.Store registry.old registry.new (read_for format path) result }
+{
+    match path {
+        Some(path) => read(alloc, registry, &path, format),
+        None => refusal_reply(alloc, format, Refusal::BadPath),
+    }
+}
+
+fn answer_children<S: Alter + Drop>(
+    alloc: Global,
+    registry: &mut Registry<S>,
+    above: Above,
+    format: Format,
+) -> Result<Reply, AllocError>
+    ensures { Replies S.Store registry.old registry.new (children_for format above) result }
+{
+    match above {
+        Above::Top => children(alloc, registry, None, format),
+        Above::Below(path) => children(alloc, registry, Some(path), format),
+        Above::BadPath => refusal_reply(alloc, format, Refusal::BadPath),
+    }
+}
+
+fn answer_submission<S: Alter + Drop>(
+    alloc: Global,
+    registry: &mut Registry<S>,
+    number: Option<u32>,
+    format: Format,
+) -> Result<Reply, AllocError>
+    ensures { Replies S.Store registry.old registry.new (submission_for format number) result }
+{
+    match number {
+        Some(number) => submission(alloc, registry, number, format),
+        None => refusal_reply(alloc, format, Refusal::BadText),
+    }
+}
+
+fn answer_changes<S: Alter + Drop>(
+    alloc: Global,
+    registry: &mut Registry<S>,
+    since: u64,
+    start: Start,
+    format: Format,
+) -> Result<Reply, AllocError>
+    ensures { Replies S.Store registry.old registry.new (changes_for since format start) result }
+{
+    match start {
+        Start::First => changes(alloc, registry, since, None, format),
+        Start::Behind(path) => changes(alloc, registry, since, Some(&path), format),
+        Start::BadPath => refusal_reply(alloc, format, Refusal::BadPath),
+    }
+}
+
+/// Answers what a request asks for. Who sends it is asked for commands alone.
+pub(crate) fn answer<S: Alter + Drop>(
+    alloc: Global,
+    registry: &mut Registry<S>,
+    question: Question,
+    head: &Head<'_>,
+    body: &[u8],
+) -> Result<Reply, AllocError>
+    ensures { RepliesTo S.Store registry.old registry.new head.now
+        (λ sending. errand_for question sending body.now) result }
+{
+    match question {
+        Question::AnotherMethod => early_reply(alloc, Early::AnotherMethod),
+        Question::BadTarget => early_reply(alloc, Early::BadTarget),
+        Question::NoRoute => early_reply(alloc, Early::NoRoute),
+        Question::WantsGet => early_reply(alloc, Early::WantsGet),
+        Question::WantsPost => early_reply(alloc, Early::WantsPost),
+        Question::BadQuery => early_reply(alloc, Early::BadQuery),
+        Question::Export => export(alloc, registry),
+        Question::Read { path, format } => answer_read(alloc, registry, path, format),
+        Question::Children { above, format } => answer_children(alloc, registry, above, format),
+        Question::Lookup(query) => lookup(alloc, registry, query),
+        Question::Submission { number, format } => {
+            answer_submission(alloc, registry, number, format)
+        }
+        Question::Pending { after, format } => pending(alloc, registry, after, format),
+        Question::Changes {
+            since,
+            start,
+            format,
+        } => answer_changes(alloc, registry, since, start, format),
+        Question::Command { verb, format } => {
+            command(alloc, registry, verb, format, sender_of(head), body)
+        }
+    }
+}

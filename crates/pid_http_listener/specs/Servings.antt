@@ -1,0 +1,16 @@
+-- How the serving of connections ends.
+use Rattle.std.specs.Prelude.{◌≡◌, ℕ, ◌<◌, ◌≤◌, Bool, true, false}
+use Rattle.pid_http_listener.specs.declared.serving.ServingEnd.{ServingEnd}
+use Rattle.pid_http_listener.specs.declared.serving.ServingEnd.TheVariants.{All, NotLive, AcceptFault}
+
+-- how many streams were begun, of so many connections
+abbrev pub IsCounted : ServingEnd → ℕ → ℕ → Type 0
+IsCounted All connections streams = streams ≡ connections
+IsCounted NotLive connections streams = (0 < streams) × (streams ≤ connections)
+IsCounted AcceptFault connections streams = streams < connections
+
+-- whether the server is live behind the last stream
+abbrev pub IsLiveAt : ServingEnd → ℕ → Bool → Type 0
+IsLiveAt All streams live = 0 < streams → live ≡ true
+IsLiveAt NotLive streams live = live ≡ false
+IsLiveAt AcceptFault streams live = 0 < streams → live ≡ true

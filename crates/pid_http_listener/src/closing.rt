@@ -1,0 +1,38 @@
+//! The close of a connection.
+
+use std::io::Read;
+use std::net::{Shutdown, TcpStream};
+use std::time::Duration;
+
+/// The most reads of what a client sent behind its last reply.
+const READS_DROPPED: u32 = 64;
+
+/// The most bytes of one such read.
+const READ_DROPPED: usize = 65_536;
+
+/// How long one of them waits, in seconds.
+const SECONDS: u64 = 1;
+
+/// Ends the sending side, then drops what the client still sends, until it closes or a bound is
+/// met.
+///
+/// A connection that is closed with bytes unread is reset, and a client may lose replies that it
+/// has not read.
+pub(crate) fn close(mut stream: &TcpStream) {
+    if stream.shutdown(Shutdown::Write).is_err() {
+        return;
+    }
+    if stream
+        .set_read_timeout(Some(Duration::from_secs(SECONDS)))
+        .is_err()
+    {
+        return;
+    }
+    let mut dropped = [0u8; READ_DROPPED];
+    for _ in 0..READS_DROPPED {
+        match stream.read(&mut dropped) {
+            Ok(0) | Err(_) => return,
+            Ok(_) => {}
+        }
+    }
+}

@@ -1,0 +1,82 @@
+//! One connection.
+ghost use Rattle.pid_http_listener.specs.Streams.{IsGiven};
+
+use crate::closing::close;
+use crate::server::StreamServer;
+use crate::sides::{Replies, Requests, send_held};
+use pid_ident::Plain;
+use std::alloc::Global;
+use std::cell::RefCell;
+use std::io;
+use std::io::{BufReader, BufWriter, Read, Write};
+use std::net::TcpStream;
+
+/// The most that is read ahead of what is asked for, in bytes.
+const READ_AHEAD: usize = 65_536;
+
+/// The most of a reply that is held back, in bytes.
+const HELD_BACK: usize = 65_536;
+
+/// The most reads of one stream.
+const TURNS: u64 = 1_000_000;
+
+// The two sides of a connection, with a buffer each.
+fn buffered<R: Read + Drop, W: Write + Drop>(
+    alloc: Global,
+    reader: R,
+    writer: W,
+) -> io::Result<(BufReader<R>, BufWriter<W>)> {
+    let reader = BufReader::with_capacity(alloc, READ_AHEAD, reader)?;
+    let writer = BufWriter::with_capacity(alloc, HELD_BACK, writer)?;
+    Ok((reader, writer))
+}
+
+// Serves what a reader gives, and sends all replies.
+fn serve_buffered<S: StreamServer, R: Read + Drop, W: Write + Drop>(
+    reader: BufReader<R>,
+    writer: BufWriter<W>,
+    server: &mut S,
+) -> io::Result<()>
+    ensures goes { S.goes server.old server.new }
+    ensures counted { IsGiven 1 (S.given server.old) (S.given server.new) }
+{
+    let writer = RefCell::new(writer);
+    let mut input = Plain::new(Requests {
+        reader,
+        writer: &writer,
+    });
+    let mut output = Plain::new(Replies { writer: &writer });
+    let _served = server.serve(&mut input, &mut output, TURNS);
+    send_held(&writer)
+}
+
+// Serves what a reader gives, each reply sent piece by piece.
+fn serve_bare<S: StreamServer, R: Read + Drop, W: Write + Drop>(
+    reader: R,
+    writer: W,
+    server: &mut S,
+)
+    ensures goes { S.goes server.old server.new }
+    ensures counted { IsGiven 1 (S.given server.old) (S.given server.new) }
+{
+    let mut input = Plain::new(reader);
+    let mut output = Plain::new(writer);
+    let _served = server.serve(&mut input, &mut output, TURNS);
+}
+
+/// Serves the stream of a connection and closes that. Where the connection fails the client loses
+/// replies, and no one else does; where memory for its buffers is refused the stream is served
+/// without them.
+pub(crate) fn serve_connection<S: StreamServer>(alloc: Global, stream: &TcpStream, server: &mut S)
+    ensures goes { S.goes server.old server.new }
+    ensures counted { IsGiven 1 (S.given server.old) (S.given server.new) }
+{
+    let _ = stream.set_nodelay(true);
+    match buffered(alloc, stream, stream) {
+        Ok((reader, writer)) => {
+            let _ = serve_buffered(reader, writer, server);
+        }
+        Err(_) => serve_bare(stream, stream, server),
+    }
+    close(stream);
+}

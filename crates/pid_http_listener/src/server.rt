@@ -1,0 +1,35 @@
+//! What serves the streams of connections.
+ghost use Rattle.std.specs.Prelude.{◌≡◌, ◌+◌, ◌≤◌};
+ghost use Rattle.pid_http_listener.specs.Streams.{IsGiven};
+
+use pid_http_stream::Served;
+use pid_ident::{Input, Output};
+
+/// What serves the streams of connections, one after another.
+pub trait StreamServer {
+    ghost use Rattle.std.specs.Prelude.{Bool, ℕ, Option, None};
+
+    /// Whether it can go on with another stream.
+    ghost live: { Self → Bool };
+
+    /// What the serving of streams, however many, may make of it: before it and after.
+    ghost goes: { Self → Self → Type 0 };
+
+    /// How many streams it was given, where it counts them: exact below the greatest count.
+    ghost given: { Self → Option ℕ } = { λ _. None };
+
+    fn is_live(&self) -> bool
+        ensures { result ≡ live self.now };
+
+    /// Serves the stream of one connection, in at most so many reads.
+    fn serve<I: Input, O: Output>(&mut self, input: &mut I, output: &mut O, turns: u64) -> Served
+        ensures goes { goes self.old self.new }
+        ensures counted { IsGiven 1 (given self.old) (given self.new) }
+        ensures reads { I.reads input.new ≤ I.reads input.old + turns };
+
+    /// No stream leaves it as it is.
+    ghost stays: { (a : Self) → goes a a };
+
+    /// Some streams and then others are streams.
+    ghost joins: { (a b c : Self) → goes a b → goes b c → goes a c };
+}

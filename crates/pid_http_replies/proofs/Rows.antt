@@ -1,0 +1,119 @@
+-- Worked rows of the definitions.
+use Rattle.std.proofs.Common.{◌≡◌, [], ◌∷◌, refl, codes, Ok, Err}
+use Rattle.std.specs.Fmt.{digits}
+use Rattle.std.specs.List.{flat_map}
+use Rattle.serde_json.proofs.OnLiterals.{serde_json_on_literals}
+use Rattle.serde_json.specs.Written.{compact_text}
+use Rattle.pid_file.specs.declared.line_kind.LineKind.TheVariants.{Duplicate}
+use Rattle.pid_file.specs.declared.path.Path.TheVariants.{Vendor}
+use Rattle.pid_lookup.specs.declared.unanswered.Unanswered.TheVariants.{NoItem}
+use Rattle.pid_moderation.specs.declared.command.Proposal.TheVariants.{Name, Removal}
+use Rattle.pid_moderation.specs.declared.command.Reply.TheVariants.{Done, Numbered, Counts}
+use Rattle.pid_moderation.specs.declared.facts.State.TheVariants.{Approved, Withdrawn}
+use Rattle.pid_moderation.specs.declared.refusal.FileFault.TheVariants.{Line}
+use Rattle.pid_moderation.specs.declared.refusal.Refusal.TheVariants.{RankTooLow, FileFault}
+use Rattle.pid_moderation.specs.Submissions.{Standing}
+use Rattle.pid_moderation.specs.ChangePages.{ChangePage}
+use Rattle.pid_http_replies.specs.ChangeAnswers.{changes_data, changes_text}
+use Rattle.pid_http_replies.specs.ItemAnswers.{item_data, item_line, items_data}
+use Rattle.pid_http_replies.specs.Outcomes.{outcome_data, unanswered_data}
+use Rattle.pid_http_replies.specs.PendingAnswers.{pending_line, pendings_data}
+use Rattle.pid_http_replies.specs.SubmissionAnswers.{standing_text, submission_data}
+
+done_row : compact_text (outcome_data (Ok Done)) ≡ codes "{\"ok\":true}"
+unfolding serde_json_on_literals digits
+done_row = refl
+
+numbered_row : compact_text (outcome_data (Ok (Numbered 1))) ≡ codes "{\"num\":1,\"ok\":true}"
+unfolding serde_json_on_literals digits
+numbered_row = refl
+
+counts_row : compact_text (outcome_data (Ok (Counts 1 0 0))) ≡ codes "{\"added\":1,\"ok\":true,\"renamed\":0,\"same\":0}"
+unfolding serde_json_on_literals digits
+counts_row = refl
+
+refusal_row : compact_text (outcome_data (Err RankTooLow)) ≡ codes "{\"ok\":false,\"refused\":5,\"word\":\"RankTooLow\"}"
+unfolding serde_json_on_literals digits
+refusal_row = refl
+
+fault_row : compact_text (outcome_data (Err (FileFault (Line 3 Duplicate)))) ≡ codes "{\"kind\":7,\"line\":3,\"ok\":false,\"refused\":14,\"word\":\"FileFault\"}"
+unfolding serde_json_on_literals digits
+fault_row = refl
+
+missing_row : compact_text (unanswered_data NoItem) ≡ codes "{\"ok\":false,\"refused\":25,\"word\":\"NoItem\"}"
+unfolding serde_json_on_literals digits
+missing_row = refl
+
+item_row : compact_text (item_data (codes "PC/8086", codes "Intel")) ≡ codes "{\"name\":\"Intel\",\"path\":\"PC/8086\"}"
+unfolding serde_json_on_literals digits
+item_row = refl
+
+-- a tab in a name is escaped (RFC 8259, section 7)
+tab_row : compact_text (items_data ((codes "PC/8086", codes "a\tb") ∷ [])) ≡ codes "[{\"name\":\"a\\tb\",\"path\":\"PC/8086\"}]"
+unfolding serde_json_on_literals digits
+tab_row = refl
+
+line_row : item_line (codes "PC/8086", codes "Intel Corporation") ≡ codes "PC/8086 Intel Corporation\n"
+line_row = refl
+
+-- a submission that was approved
+approved : Standing
+approved = record {
+  submitted = record { author = codes "alice"; path = Vendor 32902; proposal = Name (codes "Intel Corporation"); note = [] };
+  state = Approved (codes "root");
+}
+
+submission_row : compact_text (submission_data 1 (approved, []))
+    ≡ codes "{\"author\":\"alice\",\"decider\":\"root\",\"name\":\"Intel Corporation\",\"note\":\"\",\"num\":1,\"path\":\"PC/8086\",\"reason\":\"\",\"remarks\":[],\"state\":\"approved\"}"
+unfolding approved serde_json_on_literals digits
+submission_row = refl
+
+submission_lines : standing_text 1 approved
+    ≡ codes "num 1\nauthor alice\npath PC/8086\nname Intel Corporation\nnote \nstate approved\ndecider root\nreason \n"
+unfolding approved digits
+submission_lines = refl
+
+-- the removal of an item, withdrawn: its author decided
+withdrawn : Standing
+withdrawn = record {
+  submitted = record { author = codes "alice"; path = Vendor 32902; proposal = Removal; note = codes "gone" };
+  state = Withdrawn;
+}
+
+removal_lines : standing_text 2 withdrawn
+    ≡ codes "num 2\nauthor alice\npath PC/8086\nremove\nnote gone\nstate withdrawn\ndecider alice\nreason \n"
+unfolding withdrawn digits
+removal_lines = refl
+
+pending_rows : compact_text (pendings_data ((1, approved) ∷ (2, withdrawn) ∷ []))
+    ≡ codes "[{\"author\":\"alice\",\"name\":\"Intel Corporation\",\"num\":1,\"path\":\"PC/8086\"},{\"author\":\"alice\",\"name\":null,\"num\":2,\"path\":\"PC/8086\"}]"
+unfolding approved withdrawn serde_json_on_literals digits
+pending_rows = refl
+
+pending_lines : flat_map pending_line ((1, approved) ∷ (2, withdrawn) ∷ []) ≡ codes "1 alice name PC/8086 Intel Corporation\n2 alice remove PC/8086\n"
+unfolding approved withdrawn digits
+pending_lines = refl
+
+-- two items that were named anew
+two_changes : ChangePage
+two_changes = record {
+  revision = 4;
+  items = record { path = codes "PC/10ec"; name = codes "Realtek"; since = 4 } ∷ record { path = codes "PC/8086"; name = codes "Intel Corporation"; since = 3 } ∷ [];
+}
+
+changes_row : compact_text (changes_data two_changes)
+    ≡ codes "{\"items\":[{\"name\":\"Realtek\",\"path\":\"PC/10ec\",\"since\":4},{\"name\":\"Intel Corporation\",\"path\":\"PC/8086\",\"since\":3}],\"revision\":4}"
+unfolding two_changes serde_json_on_literals digits
+changes_row = refl
+
+changes_lines : changes_text two_changes ≡ codes "revision 4\n4 PC/10ec Realtek\n3 PC/8086 Intel Corporation\n"
+unfolding two_changes digits
+changes_lines = refl
+
+-- the greatest revision, and nothing changed
+no_changes : ChangePage
+no_changes = record { revision = 9000000000000000000; items = [] }
+
+no_changes_row : compact_text (changes_data no_changes) ≡ codes "{\"items\":[],\"revision\":9000000000000000000}"
+unfolding no_changes serde_json_on_literals digits
+no_changes_row = refl

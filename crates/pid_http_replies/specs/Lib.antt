@@ -1,0 +1,10 @@
+pub mod Replying
+pub mod WordLines
+pub mod Outcomes
+pub mod ItemAnswers
+pub mod PendingAnswers
+pub mod ChangeAnswers
+pub mod SubmissionAnswers
+pub mod LookupAnswers
+pub mod EarlyAnswers
+pub mod Steps

@@ -1,0 +1,181 @@
+//! Replies to commands.
+ghost use Rattle.std.specs.Prelude.{◌≡◌, IfOk};
+ghost use Rattle.serde_json.specs.View.{view};
+ghost use Rattle.pid_http_replies.specs.Outcomes.{
+  counts_data,
+  done_data,
+  fault_data,
+  json_refusal,
+  missing_answer,
+  numbered_data,
+  outcome_answer,
+  outcome_data,
+  refusal_data,
+  status_of_outcome,
+  unanswered_answer,
+  unanswered_data,
+};
+ghost use Rattle.pid_http_replies.specs.Replying.{MakesReply};
+
+use crate::reply::{json_reply, text_reply};
+use http::StatusCode;
+use pid_http_requests::Format;
+use pid_http_stream::Reply as HttpReply;
+use pid_lookup::Unanswered;
+use pid_moderation::{FileFault, Refusal, Reply, reply_line};
+use serde_json::{Value, json};
+use std::alloc::{AllocError, Global};
+
+fn status_of(outcome: Result<Reply, Refusal>) -> StatusCode
+    ensures { result ≡ status_of_outcome outcome }
+{
+    match outcome {
+        Ok(_) => StatusCode::OK,
+        Err(Refusal::BadPath | Refusal::BadName | Refusal::BadText) => StatusCode::BAD_REQUEST,
+        Err(Refusal::NoAccount | Refusal::RankTooLow | Refusal::NotAuthor | Refusal::OwnDecision) =>
+            StatusCode::FORBIDDEN,
+        Err(Refusal::NoSubmission) => StatusCode::NOT_FOUND,
+        Err(
+            Refusal::NotPending
+            | Refusal::ParentMissing
+            | Refusal::HasChildren
+            | Refusal::NothingToDo,
+        ) => StatusCode::CONFLICT,
+        Err(Refusal::FileFault(_)) => StatusCode::UNPROCESSABLE_ENTITY,
+        Err(Refusal::Full | Refusal::Memory | Refusal::Store | Refusal::Failed) => {
+            StatusCode::SERVICE_UNAVAILABLE
+        }
+    }
+}
+
+fn done_value(alloc: Global) -> Result<Value, AllocError>
+    ensures { IfOk result (λ value. view value ≡ done_data) }
+{
+    json!(in alloc; {"ok": true})
+}
+
+fn numbered_value(alloc: Global, number: u32) -> Result<Value, AllocError>
+    ensures { IfOk result (λ value. view value ≡ numbered_data number) }
+{
+    json!(in alloc; {"num": number, "ok": true})
+}
+
+fn counts_value(alloc: Global, added: u32, renamed: u32, same: u32) -> Result<Value, AllocError>
+    ensures { IfOk result (λ value. view value ≡ counts_data added renamed same) }
+{
+    json!(in alloc; {"added": added, "ok": true, "renamed": renamed, "same": same})
+}
+
+fn fault_value(alloc: Global, line: u64, kind: u8) -> Result<Value, AllocError>
+    ensures { IfOk result (λ value. view value ≡ fault_data line kind) }
+{
+    json!(in alloc; {"kind": kind, "line": line, "ok": false, "refused": 14, "word": "FileFault"})
+}
+
+fn refusal_value(alloc: Global, number: u8, word: &str) -> Result<Value, AllocError>
+    ensures { IfOk result (λ value. view value ≡ refusal_data number word.now) }
+{
+    json!(in alloc; {"ok": false, "refused": number, "word": word})
+}
+
+fn outcome_value(alloc: Global, outcome: Result<Reply, Refusal>) -> Result<Value, AllocError>
+    ensures { IfOk result (λ value. view value ≡ outcome_data outcome) }
+{
+    match outcome {
+        Ok(Reply::Done) => done_value(alloc),
+        Ok(Reply::Numbered(number)) => numbered_value(alloc, number),
+        Ok(
+            Reply::Counts {
+                added,
+                renamed,
+                same,
+            },
+        ) => counts_value(alloc, added, renamed, same),
+        Err(Refusal::FileFault(FileFault::Line { line, kind })) => {
+            fault_value(alloc, line, kind.number())
+        }
+        Err(Refusal::FileFault(FileFault::TooMany)) => fault_value(alloc, 0, 0),
+        Err(refusal) => refusal_value(alloc, refusal.number(), refusal.word()),
+    }
+}
+
+/// The reply to a command, imports too: what it was answered, or why it was refused. A refusal has
+/// its number and its word, and that of a faulty file the line, counted from 1, and the kind of its
+/// fault; both are 0 where the file has too many entries. The text is the reply line of scripts.
+pub fn outcome_reply(
+    alloc: Global,
+    format: Format,
+    outcome: Result<Reply, Refusal>,
+) -> Result<HttpReply, AllocError>
+    ensures { MakesReply result (outcome_answer format outcome) }
+{
+    let status = status_of(outcome);
+    match format {
+        Format::Json => {
+            let value = outcome_value(alloc, outcome)?;
+            json_reply(alloc, status, value)
+        }
+        Format::Text => {
+            let line = reply_line(alloc, outcome)?;
+            Ok(text_reply(status, line))
+        }
+    }
+}
+
+/// The reply with a refusal.
+pub fn refusal_reply(
+    alloc: Global,
+    format: Format,
+    refusal: Refusal,
+) -> Result<HttpReply, AllocError>
+    ensures { MakesReply result (outcome_answer format (Err refusal)) }
+{
+    outcome_reply(alloc, format, Err(refusal))
+}
+
+/// The reply with a refusal that is no refusal of a command, as JSON.
+pub(crate) fn refused_reply(
+    alloc: Global,
+    status: StatusCode,
+    number: u8,
+    word: &str,
+) -> Result<HttpReply, AllocError>
+    ensures { MakesReply result (json_refusal status number word.now) }
+{
+    let value = refusal_value(alloc, number, word)?;
+    json_reply(alloc, status, value)
+}
+
+fn unanswered_value(alloc: Global, why: Unanswered) -> Result<Value, AllocError>
+    ensures { IfOk result (λ value. view value ≡ unanswered_data why) }
+{
+    refusal_value(alloc, why.number(), why.word())
+}
+
+/// The reply to a question that has no answer, as JSON.
+pub(crate) fn unanswered_reply(
+    alloc: Global,
+    status: StatusCode,
+    why: Unanswered,
+) -> Result<HttpReply, AllocError>
+    ensures { MakesReply result (unanswered_answer status why) }
+{
+    let value = unanswered_value(alloc, why)?;
+    json_reply(alloc, status, value)
+}
+
+/// The reply where no item is at a path.
+pub fn missing_reply(alloc: Global, format: Format) -> Result<HttpReply, AllocError>
+    ensures { MakesReply result (missing_answer format) }
+{
+    match format {
+        Format::Json => {
+            let value = unanswered_value(alloc, Unanswered::NoItem)?;
+            json_reply(alloc, StatusCode::NOT_FOUND, value)
+        }
+        Format::Text => {
+            let line = String::from_str(alloc, Unanswered::NoItem.line())?;
+            Ok(text_reply(StatusCode::NOT_FOUND, line))
+        }
+    }
+}

@@ -1,0 +1,6 @@
+pub mod RouteRows
+pub mod Senders
+pub mod Targets
+pub mod Forms
+pub mod Rows
+pub mod SenderRows

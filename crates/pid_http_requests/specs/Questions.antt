@@ -1,0 +1,142 @@
+-- What a request asks for by its method and its target: choices of this project.
+use Rattle.std.specs.Prelude.{ℕ, Bool, false, ◌&&◌, ◌==◌, if◌then◌else◌, List, [], ◌∷◌, length}
+use Rattle.std.specs.Prelude.{drop, Option, Some, None, unwrap_or, option_and_then, codes}
+use Rattle.std.specs.List.{starts_with}
+use Rattle.std.specs.Option.{option_map}
+use Rattle.std.specs.Str.{is_utf8}
+use Rattle.form_urlencoded.specs.Form.{split_once}
+use Rattle.pid_ident.specs.PathReading.{path_of}
+use Rattle.pid_form.specs.FormFields.{fields_in}
+use Rattle.pid_moderation.specs.Fields.{Fields, value, text_at}
+use Rattle.pid_moderation.specs.Forms.{number_in}
+use Rattle.pid_moderation.specs.declared.verb.Verb.{Verb}
+use Rattle.pid_moderation.specs.declared.verb.Verb.TheVariants as verbs
+use Rattle.pid_http_requests.specs.Lookups.{lookup_asked}
+use Rattle.pid_http_requests.specs.Methods.{method_in}
+use Rattle.pid_http_requests.specs.Queries.{format_in, format_beside, format_beside_two}
+use Rattle.pid_http_requests.specs.Queries.{after_said, above_said, since_said, start_said}
+use Rattle.pid_http_requests.specs.Routes.{route_at, method_at}
+use Rattle.pid_http_requests.specs.declared.format.Format.{Format}
+use Rattle.pid_http_requests.specs.declared.method.Method.{Method}
+use Rattle.pid_http_requests.specs.declared.method.Method.TheVariants.{Get, Post}
+use Rattle.pid_http_requests.specs.declared.route.Route.{Route}
+use Rattle.pid_http_requests.specs.declared.route.Route.TheVariants as routes
+use Rattle.pid_http_requests.specs.declared.question.Question.{Question}
+use Rattle.pid_http_requests.specs.declared.question.Question.TheVariants.{AnotherMethod}
+use Rattle.pid_http_requests.specs.declared.question.Question.TheVariants.{BadTarget, NoRoute}
+use Rattle.pid_http_requests.specs.declared.question.Question.TheVariants.{WantsGet, WantsPost}
+use Rattle.pid_http_requests.specs.declared.question.Question.TheVariants.{BadQuery}
+use Rattle.pid_http_requests.specs.declared.question.Question.TheVariants.{Export, Read, Children}
+use Rattle.pid_http_requests.specs.declared.question.Question.TheVariants.{Lookup, Submission}
+use Rattle.pid_http_requests.specs.declared.question.Question.TheVariants.{Pending, Changes}
+use Rattle.pid_http_requests.specs.declared.question.Question.TheVariants.{Command}
+use Rattle.pid_http_stream.specs.declared.handler.Wanted.{Wanted}
+use Rattle.pid_http_stream.specs.declared.handler.Wanted.TheVariants.{Buffered, Streamed}
+
+-- what stands behind the front of a path, where it has that front
+abbrev pub behind : List ℕ → List ℕ → List ℕ
+behind front path = if starts_with ◌==◌ path front then drop (length front) path else []
+
+-- the whole text has no query
+abbrev pub export_asked : Fields → Option Question
+export_asked [] = Some Export
+export_asked (field ∷ fields) = None
+
+-- the item at the path that stands behind `/read/`
+abbrev pub read_asked : List ℕ → Fields → Option Question
+read_asked path fields = option_map (λ format. Read (path_of (behind (codes "/read/") path)) format)
+    (format_in fields)
+
+-- the items below `of`
+abbrev pub children_asked : Fields → Option Question
+children_asked fields = option_map (λ format. Children
+    (above_said (text_at (codes "of") fields)) format) (format_beside (codes "of") fields)
+
+-- the submission with the number that stands behind `/submission/`
+abbrev pub submission_asked : List ℕ → Fields → Option Question
+submission_asked path fields = option_map
+    (λ format. Submission (number_in (behind (codes "/submission/") path)) format)
+    (format_in fields)
+
+-- the pending submissions above `after`
+abbrev pub pending_asked : Fields → Option Question
+pending_asked fields =
+    option_and_then (λ format. option_map (λ after. Pending after format)
+    (after_said (value (codes "after") fields))) (format_beside (codes "after") fields)
+
+-- the items whose changes have numbers above `since`, behind the path `after`
+abbrev pub changes_asked : Fields → Option Question
+changes_asked fields =
+    option_and_then
+    (λ format. option_map (λ since. Changes since
+    (start_said (text_at (codes "after") fields)) format)
+    (since_said (value (codes "since") fields)))
+    (format_beside_two (codes "since") (codes "after") fields)
+
+-- a command, whose own fields stand in the body
+abbrev pub command_asked : Verb → Fields → Option Question
+command_asked verb fields = option_map (λ format. Command verb format) (format_in fields)
+
+-- a question, or an import with the format of its reply
+abbrev pub Asking : Type 0
+Asking = Wanted Question Format
+
+-- what is answered once the body is in memory
+abbrev pub buffered : Option Question → Option Asking
+buffered asked = option_map Buffered asked
+
+-- what is asked at a route; none where the query is bad
+unfoldable pub question_at : Route → List ℕ → Fields → Option Asking
+question_at routes.Export path fields = buffered (export_asked fields)
+question_at routes.Read path fields = buffered (read_asked path fields)
+question_at routes.Children path fields = buffered (children_asked fields)
+question_at routes.Lookup path fields = buffered (option_map Lookup (lookup_asked fields))
+question_at routes.Submission path fields = buffered (submission_asked path fields)
+question_at routes.Pending path fields = buffered (pending_asked fields)
+question_at routes.Changes path fields = buffered (changes_asked fields)
+question_at routes.Account path fields = buffered (command_asked verbs.Account fields)
+question_at routes.Submit path fields = buffered (command_asked verbs.Submit fields)
+question_at routes.Comment path fields = buffered (command_asked verbs.Comment fields)
+question_at routes.Withdraw path fields = buffered (command_asked verbs.Withdraw fields)
+question_at routes.Approve path fields = buffered (command_asked verbs.Approve fields)
+question_at routes.Reject path fields = buffered (command_asked verbs.Reject fields)
+question_at routes.Import path fields = option_map Streamed (format_in fields)
+
+-- the refusal of a request whose route takes the other method
+abbrev pub in_other : Method → Method → Option Question
+in_other Get Get = None
+in_other Get Post = Some WantsPost
+in_other Post Get = Some WantsGet
+in_other Post Post = None
+
+-- at a route: its method, then the query
+abbrev pub with_route : Method → Option Route → List ℕ → List ℕ → Asking
+with_route method None path query = Buffered NoRoute
+with_route method (Some route) path query =
+    unwrap_or (buffered (in_other method (method_at route)))
+    (unwrap_or (question_at route path (fields_in query)) (Buffered BadQuery))
+
+-- the first byte is `/`
+abbrev pub begins_slash : List ℕ → Bool
+begins_slash [] = false
+begins_slash (b ∷ bytes) = b == 47
+
+-- a target is text, as it is in each head, and begins with a slash
+abbrev pub is_target : List ℕ → Bool
+is_target target = is_utf8 target && begins_slash target
+
+-- at a target: the route of its path, which is what stands before the first `?`; the query is what
+-- stands behind that
+unfoldable pub with_target : Method → List ℕ → Asking
+with_target method target = with_route method (route_at (split_once 63 target).0)
+    (split_once 63 target).0 (split_once 63 target).1
+
+-- by a method: the target
+abbrev pub with_method : Option Method → List ℕ → Asking
+with_method None target = Buffered AnotherMethod
+with_method (Some method) target = if is_target target then with_target method target else Buffered
+    BadTarget
+
+-- what is asked by a method and a target, neither of which is decoded
+unfoldable pub question : List ℕ → List ℕ → Asking
+question method target = with_method (method_in method) target

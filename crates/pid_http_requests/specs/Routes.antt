@@ -1,0 +1,87 @@
+-- The routes and their methods: choices of this project.
+use Rattle.std.specs.Prelude.{ℕ, List, [], ◌∷◌, ◌++◌, Option, codes}
+use Rattle.matchit.specs.Rows.{RowsOf, param_token, catch_all_token}
+use Rattle.matchit.specs.Router.{RouteOf, map_key}
+use Rattle.matchit.specs.Seek.{first}
+use Rattle.pid_http_requests.specs.declared.method.Method.{Method}
+use Rattle.pid_http_requests.specs.declared.method.Method.TheVariants.{Get, Post}
+use Rattle.pid_http_requests.specs.declared.route.Route.{Route}
+use Rattle.pid_http_requests.specs.declared.route.Route.TheVariants.{Export, Read, Children}
+use Rattle.pid_http_requests.specs.declared.route.Route.TheVariants.{Lookup, Submission, Pending}
+use Rattle.pid_http_requests.specs.declared.route.Route.TheVariants.{Changes, Account, Submit}
+use Rattle.pid_http_requests.specs.declared.route.Route.TheVariants.{Comment, Withdraw, Approve}
+use Rattle.pid_http_requests.specs.declared.route.Route.TheVariants.{Reject, Import}
+
+-- a route with this path alone
+abbrev pub literal : List ℕ → Route → List ℕ × RouteOf Route
+literal text route = (text, record { pattern = text; text = text; names = []; value = route })
+
+-- one or more bytes behind `/read/`; the word `path` of the text begins at place 8 and ends before
+-- 12
+abbrev pub read_row : List ℕ × RouteOf Route
+read_row = (
+  codes "/read/" ++ catch_all_token
+      ∷ [],
+  record {
+    pattern = codes "/read/" ++ catch_all_token
+        ∷ [];
+    text = codes "/read/{*path}";
+    names = (8, 12) ∷ [];
+    value = Read;
+  },
+)
+
+-- one or more bytes behind `/submission/`, none of them a slash; the word `num` of the text begins
+-- at place 13 and ends before 16
+abbrev pub submission_row : List ℕ × RouteOf Route
+submission_row = (
+  codes "/submission/" ++ param_token
+      ∷ [],
+  record {
+    pattern = codes "/submission/" ++ param_token
+        ∷ [];
+    text = codes "/submission/{num}";
+    names = (13, 16) ∷ [];
+    value = Submission;
+  },
+)
+
+-- all routes, in the order of their patterns, as a router keeps them
+abbrev pub table : RowsOf (RouteOf Route)
+table =
+    literal (codes "/account") Account
+    ∷ literal (codes "/approve") Approve
+    ∷ literal (codes "/changes") Changes
+    ∷ literal (codes "/children") Children
+    ∷ literal (codes "/comment") Comment
+    ∷ literal (codes "/import") Import
+    ∷ literal (codes "/lookup") Lookup
+    ∷ literal (codes "/pci.ids") Export
+    ∷ literal (codes "/pending") Pending
+    ∷ read_row
+    ∷ literal (codes "/reject") Reject
+    ∷ submission_row
+    ∷ literal (codes "/submit") Submit
+    ∷ literal (codes "/withdraw") Withdraw
+    ∷ []
+
+-- the route of a path
+unfoldable pub route_at : List ℕ → Option Route
+route_at path = map_key (λ found. found.value) (first table path)
+
+-- questions are got, commands are posted
+abbrev pub method_at : Route → Method
+method_at Export = Get
+method_at Read = Get
+method_at Children = Get
+method_at Lookup = Get
+method_at Submission = Get
+method_at Pending = Get
+method_at Changes = Get
+method_at Account = Post
+method_at Submit = Post
+method_at Comment = Post
+method_at Withdraw = Post
+method_at Approve = Post
+method_at Reject = Post
+method_at Import = Post

@@ -1,0 +1,180 @@
+//! The values of a query's fields.
+ghost use Rattle.std.specs.Prelude.{◌≡◌, ◌+◌, ◌==◌, ◌&&◌, nat_le, codes, length, None, Some};
+ghost use Rattle.std.specs.Option.{option_copied};
+ghost use Rattle.pid_moderation.specs.Fields.{texts_of};
+ghost use Rattle.pid_http_requests.specs.Queries.{
+  is_format_alone as format_alone,
+  are_both as both,
+  format_said,
+  format_in,
+  format_beside as format_in_both,
+  after_said,
+  above_said,
+};
+ghost use Rattle.pid_http_requests.specs.Queries.{
+  are_three as three,
+  format_beside_two as format_in_three,
+  since_said,
+  start_said,
+};
+
+use crate::format::Format;
+use pid_form::{number_up_to, times, value};
+use pid_ident::{Path, PathText};
+use pid_moderation::{REVISIONS, submission_number};
+
+/// Below what children are asked for.
+#[derive(Clone, Copy, Debug)]
+pub enum Above {
+    /// Below nothing: the vendors and the classes.
+    Top,
+    /// Below the item with this path.
+    Below(Path),
+    /// Below a text that is no path.
+    BadPath,
+}
+
+/// Where a page of items begins.
+#[derive(Clone, Copy, Debug)]
+pub enum Start {
+    /// With the first item.
+    First,
+    /// Behind this path, whether an item is there or not.
+    Behind(Path),
+    /// Behind a text that is no path.
+    BadPath,
+}
+
+// The format that a value says: JSON where none is said.
+fn format_named(value: Option<&str>) -> Option<Format>
+    ensures { result ≡ format_said (option_copied value.entry) }
+{
+    match value {
+        None => Some(Format::Json),
+        Some(text) => {
+            if text == "json" {
+                Some(Format::Json)
+            } else if text == "text" {
+                Some(Format::Text)
+            } else {
+                None
+            }
+        }
+    }
+}
+
+fn is_format_alone(fields: &[(String, String)]) -> bool
+    ensures { result ≡ format_alone (texts_of fields.now) }
+{
+    let formats = times(fields, "format");
+    formats <= 1 && fields.len() == formats
+}
+
+fn are_both(fields: &[(String, String)], other: &str) -> bool
+    ensures { result ≡ both other.now (texts_of fields.now) }
+{
+    let formats = times(fields, "format");
+    let others = times(fields, other);
+    formats <= 1 && others <= 1 && fields.len() == others + formats
+}
+
+fn are_three(fields: &[(String, String)], first: &str, second: &str) -> bool
+    ensures { result ≡ three first.now second.now (texts_of fields.now) }
+{
+    let formats = times(fields, "format");
+    let firsts = times(fields, first);
+    let seconds = times(fields, second);
+    formats <= 1 && firsts <= 1 && seconds <= 1 && fields.len() == firsts + seconds + formats
+}
+
+// The format, of fields that may say nothing else.
+pub(crate) fn format_of(fields: &[(String, String)]) -> Option<Format>
+    ensures { result ≡ format_in (texts_of fields.now) }
+{
+    if !is_format_alone(fields) {
+        return None;
+    }
+    format_named(value(fields, "format"))
+}
+
+// The format, of fields that may say one thing beside it.
+pub(crate) fn format_beside(fields: &[(String, String)], other: &str) -> Option<Format>
+    ensures { result ≡ format_in_both other.now (texts_of fields.now) }
+{
+    if !are_both(fields, other) {
+        return None;
+    }
+    format_named(value(fields, "format"))
+}
+
+// The format, of fields that may say two things beside it.
+pub(crate) fn format_beside_two(
+    fields: &[(String, String)],
+    first: &str,
+    second: &str,
+) -> Option<Format>
+    ensures { result ≡ format_in_three first.now second.now (texts_of fields.now) }
+{
+    if !are_three(fields, first, second) {
+        return None;
+    }
+    format_named(value(fields, "format"))
+}
+
+// The number that a page begins behind: 0 where none is said.
+pub(crate) fn after_named(value: Option<&str>) -> Option<u32>
+    ensures { result ≡ after_said (option_copied value.entry) }
+{
+    match value {
+        None => Some(0),
+        Some(text) => {
+            if text == "0" {
+                Some(0)
+            } else {
+                submission_number(text)
+            }
+        }
+    }
+}
+
+// What a text says that children stand below.
+pub(crate) fn above_named(text: &str) -> Above
+    ensures { result ≡ above_said text.now }
+{
+    if text.is_empty() {
+        return Above::Top;
+    }
+    match Path::parse(text) {
+        Some(path) => Above::Below(path),
+        None => Above::BadPath,
+    }
+}
+
+// The number above which changes are asked for: 0 where none is said.
+pub(crate) fn since_named(value: Option<&str>) -> Option<u64>
+    ensures { result ≡ since_said (option_copied value.entry) }
+{
+    match value {
+        None => Some(0),
+        Some(text) => {
+            if text == "0" {
+                Some(0)
+            } else {
+                number_up_to(text, 19, REVISIONS)
+            }
+        }
+    }
+}
+
+// Where a text says that a page begins.
+pub(crate) fn start_named(text: &str) -> Start
+    ensures { result ≡ start_said text.now }
+{
+    if text.is_empty() {
+        return Start::First;
+    }
+    match Path::parse(text) {
+        Some(path) => Start::Behind(path),
+        None => Start::BadPath,
+    }
+}

@@ -1,0 +1,83 @@
+//! What the paths of targets are the way to.
+ghost use Rattle.std.specs.Prelude.{◌≡◌};
+ghost use Rattle.pid_http_requests.specs.Routes.{method_at};
+ghost use Rattle.pid_http_requests.specs.Steps.Routes.{path_at};
+
+use crate::method::Method;
+
+/// What a path is the way to.
+#[derive(Clone, Copy, Debug, PartialEq, Eq)]
+pub enum Route {
+    /// `/pci.ids`
+    Export,
+    /// `/read/` and a path text
+    Read,
+    /// `/children`
+    Children,
+    /// `/lookup`
+    Lookup,
+    /// `/submission/` and a number
+    Submission,
+    /// `/pending`
+    Pending,
+    /// `/changes`
+    Changes,
+    /// `/account`
+    Account,
+    /// `/submit`
+    Submit,
+    /// `/comment`
+    Comment,
+    /// `/withdraw`
+    Withdraw,
+    /// `/approve`
+    Approve,
+    /// `/reject`
+    Reject,
+    /// `/import`
+    Import,
+}
+
+// The path of a route, as a router reads it.
+pub(crate) fn path_of(route: Route) -> &'static str
+    ensures { result.now ≡ path_at route }
+{
+    match route {
+        Route::Export => "/pci.ids",
+        Route::Read => "/read/{*path}",
+        Route::Children => "/children",
+        Route::Lookup => "/lookup",
+        Route::Submission => "/submission/{num}",
+        Route::Pending => "/pending",
+        Route::Changes => "/changes",
+        Route::Account => "/account",
+        Route::Submit => "/submit",
+        Route::Comment => "/comment",
+        Route::Withdraw => "/withdraw",
+        Route::Approve => "/approve",
+        Route::Reject => "/reject",
+        Route::Import => "/import",
+    }
+}
+
+// The method that a route takes.
+pub(crate) fn method_for(route: Route) -> Method
+    ensures { result ≡ method_at route }
+{
+    match route {
+        Route::Export
+        | Route::Read
+        | Route::Children
+        | Route::Lookup
+        | Route::Submission
+        | Route::Pending
+        | Route::Changes => Method::Get,
+        Route::Account
+        | Route::Submit
+        | Route::Comment
+        | Route::Withdraw
+        | Route::Approve
+        | Route::Reject
+        | Route::Import => Method::Post,
+    }
+}

@@ -1,0 +1,70 @@
+//! The routes, found by their paths.
+ghost use Rattle.std.specs.Prelude.{◌≡◌, IfOk, None, Some, MatchOption};
+ghost use Rattle.matchit.specs.Seek.{first};
+ghost use Rattle.pid_http_requests.specs.Routes.{table, route_at};
+
+use crate::route::{Route, path_of};
+use matchit::{InsertError, Router};
+use std::alloc::Global;
+
+/// All the routes. A server makes them once, for all its streams.
+#[derive(Drop)]
+pub struct Routes {
+    router: Router<Route>,
+    ghost whole: { router ≡ table },
+}
+
+impl Routes {
+    /// All the routes.
+    ///
+    /// # Errors
+    ///
+    /// Out of memory.
+    pub fn new(alloc: Global) -> Result<Routes, InsertError> {
+        let router = build_router(alloc)?;
+        Ok(Routes { router })
+    }
+
+    // The route of a path.
+    pub(crate) fn route_of(&self, path: &str) -> Option<Route>
+        ensures { result ≡ route_at path.now }
+    {
+        find(&self.router, path)
+    }
+}
+
+fn build_router(alloc: Global) -> Result<Router<Route>, InsertError>
+    ensures { IfOk result (λ routes. routes ≡ table) }
+{
+    let all = [
+        Route::Export,
+        Route::Read,
+        Route::Children,
+        Route::Lookup,
+        Route::Submission,
+        Route::Pending,
+        Route::Changes,
+        Route::Account,
+        Route::Submit,
+        Route::Comment,
+        Route::Withdraw,
+        Route::Approve,
+        Route::Reject,
+        Route::Import,
+    ];
+    let mut routes = Router::new(alloc);
+    for route in all {
+        routes.insert(path_of(route), route)?;
+    }
+    Ok(routes)
+}
+
+fn find(routes: &Router<Route>, path: &str) -> Option<Route>
+    ensures { MatchOption (first routes.now path.now)
+        (result ≡ None) (λ found. result ≡ Some found.value) }
+{
+    match routes.at(path) {
+        Ok(found) => Some(*found.value),
+        Err(_) => None,
+    }
+}

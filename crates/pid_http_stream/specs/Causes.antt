@@ -1,0 +1,40 @@
+-- Why the serving of a stream ended, and how many reads it made.
+use Rattle.std.specs.Prelude.{◌≡◌, ℕ, ◌+◌, ◌-◌, ◌^◌, ◌≤◌, Option, None, IsSome, ⊤}
+use Rattle.pid_file.specs.declared.io.ReadFault.{ReadFault}
+use Rattle.pid_file.specs.declared.io.WriteFault.{WriteFault}
+use Rattle.pid_http_stream.specs.declared.stream.StreamEnd.{StreamEnd}
+use Rattle.pid_http_stream.specs.declared.stream.StreamEnd.TheVariants as ends
+
+-- what is known of the reader, of the writer and of the handler when a stream has ended
+pub record LastState : Type 1 where
+  -- the fault that the reader keeps
+  pub read_fault : Option ReadFault
+  -- the fault that the writer keeps
+  pub write_fault : Option WriteFault
+  -- what the handler tells of itself where it could not go on with a body
+  pub stuck : Type 0
+  -- how many reads might be made
+  pub turns : ℕ
+  -- the reader's count of reads before the stream
+  pub reads : ℕ
+  -- and after it
+  pub reads_after : ℕ
+
+-- the cause of an end that has one
+abbrev pub HasCause : StreamEnd → LastState → Type 0
+HasCause ends.Clean s = ⊤
+HasCause ends.Closed s = ⊤
+HasCause ends.HeadFault s = ⊤
+HasCause ends.BodyFault s = ⊤
+HasCause ends.ReadFault s = IsSome s.read_fault
+HasCause ends.WriteFault s = IsSome s.write_fault
+HasCause ends.StoreFault s = (s.write_fault ≡ None) × s.stuck
+HasCause ends.Memory s = ⊤
+HasCause ends.TurnsSpent s = s.reads + s.turns ≤ 2 ^ 64 - 1 → s.reads_after ≡ s.reads + s.turns
+
+-- The stream ended so.
+pub record EndsFor (end : StreamEnd) (s : LastState) : Type 0 where
+  -- no more reads were made than might be
+  pub within : s.reads_after ≤ s.reads + s.turns
+  -- a fault is kept by who has it; and where the turns are spent, as many reads were made
+  pub cause : HasCause end s

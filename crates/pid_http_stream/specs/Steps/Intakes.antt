@@ -1,0 +1,86 @@
+-- What comes in from a reader, and what stands at the front of what came.
+use Rattle.std.specs.Prelude.{◌≡◌, ℕ, ◌<◌, ◌≤◌, List, ◌++◌, take, map, Option, IfSome, IsSome, ⊤}
+use Rattle.std.specs.Io.KnownBytes.{Consumes, IsAtEnd}
+use Rattle.httparse.specs.Spans.{header_bytes, IsRequestWithin, IsRequestOf}
+use Rattle.httparse.specs.declared.spans.HeaderSpan.{HeaderSpan}
+use Rattle.httparse.specs.declared.spans.RequestSpans.{RequestSpans}
+use Rattle.pid_file.specs.declared.io.ReadFault.{ReadFault}
+use Rattle.pid_http_stream.specs.BodyLengths.{body_length, longest_body}
+use Rattle.pid_http_stream.specs.Endings.{HasFault}
+use Rattle.pid_http_stream.specs.Heads.{longest_head, most_fields}
+use Rattle.pid_http_stream.specs.Leftovers.{IsLeftover}
+use Rattle.pid_http_stream.specs.Moments.{Moment}
+use Rattle.pid_http_stream.specs.Unfinished.{IsHeadUnfinished, IsUnfinished}
+use Rattle.pid_http_stream.specs.declared.body_length.BodyLength.TheVariants.{Bytes}
+use Rattle.pid_http_stream.specs.declared.judging.Judged.{Judged}
+use Rattle.pid_http_stream.specs.declared.judging.Judged.TheVariants as judged
+use Rattle.pid_http_stream.specs.declared.intake.Filled.{Filled}
+use Rattle.pid_http_stream.specs.declared.intake.Filled.TheVariants as filled
+use Rattle.pid_http_stream.specs.declared.intake.Stop.{Stop}
+use Rattle.pid_http_stream.specs.declared.intake.Stop.TheVariants as stops
+use Rattle.pid_http_stream.specs.declared.intake.HeadRead.{HeadRead}
+use Rattle.pid_http_stream.specs.declared.intake.HeadRead.TheVariants as heads
+
+-- what came from the reader stands behind what was held
+pub record ComesIn (held held_after : List ℕ) (input input_after : Option (List ℕ)) : Type 0 where
+  pub piece : List ℕ
+  pub consumed : Consumes input input_after piece
+  pub kept : held_after ≡ held ++ piece
+
+-- when the reader was read, what was held and what had come behind it was a request that had not
+-- come whole, and the writer had taken this
+pub record IsWaiting (held : List ℕ) (input taken : Option (List ℕ)) (m : Moment) : Type 0 where
+  pub rest : List ℕ
+  pub comes : ComesIn held rest input m.to_come
+  pub waits : IsUnfinished rest
+  pub writer : m.taken ≡ taken
+
+-- only a piece changes what is held, and nothing is to come at the end
+abbrev pub StaysBut : List ℕ → List ℕ → Option (List ℕ) → Filled → Type 0
+StaysBut held held_after left filled.Piece = ⊤
+StaysBut held held_after left filled.End = (held_after ≡ held) × IsAtEnd left
+StaysBut held held_after left (filled.Stopped stop) = held_after ≡ held
+
+-- why reading stops, by the fault that the reader keeps and the turns that are left
+abbrev pub StopsFor : Stop → Option ReadFault → ℕ → Type 0
+StopsFor stops.ReadFault fault left = IsSome fault
+StopsFor stops.TurnsSpent fault left = left ≡ 0
+StopsFor stops.Memory fault left = ⊤
+
+-- a read that stops has its cause
+abbrev pub FillStops : Filled → Option ReadFault → ℕ → Type 0
+FillStops filled.Piece fault left = ⊤
+FillStops filled.End fault left = ⊤
+FillStops (filled.Stopped stop) fault left = StopsFor stop fault left
+
+-- and so does a head that is not read to its end
+abbrev pub HeadStops : HeadRead → Option ReadFault → ℕ → Type 0
+HeadStops (heads.Head spans body) fault left = ⊤
+HeadStops heads.Nothing fault left = ⊤
+HeadStops (heads.Faulty why) fault left = ⊤
+HeadStops (heads.Stopped stop) fault left = StopsFor stop fault left
+
+-- the spans are those of a head at the front, which says that its body has so many bytes
+pub record StandsAt (held : List ℕ) (headers : List HeaderSpan) (spans : RequestSpans)
+    (body : ℕ) : Type 0 where
+  pub found : IsRequestOf held headers spans
+  pub within : IsRequestWithin held headers spans
+  pub short : spans.len ≤ longest_head
+  pub few : spans.headers ≤ most_fields
+  pub some : 0 < spans.len
+  pub fits : body ≤ longest_body
+  pub says : body_length (map (header_bytes held) (take spans.headers headers)) ≡ Bytes body
+
+-- at a fault the stream has it, whatever comes behind
+abbrev pub IsJudged : List ℕ → List HeaderSpan → Judged → Type 0
+IsJudged held headers judged.More = IsHeadUnfinished held
+IsJudged held headers (judged.Head spans body) = StandsAt held headers spans body
+IsJudged held headers (judged.Faulty fault) = (more : List ℕ) → HasFault (held ++ more) fault
+
+-- left: what is left of the reader
+abbrev pub IsHeadRead : List ℕ → List HeaderSpan → Option (List ℕ) → HeadRead → Type 0
+IsHeadRead held headers left (heads.Head spans body) = StandsAt held headers spans body
+IsHeadRead held headers left heads.Nothing = IsAtEnd left × IsLeftover held
+IsHeadRead held headers left (heads.Faulty fault) = IfSome left
+    (λ more. HasFault (held ++ more) fault)
+IsHeadRead held headers left (heads.Stopped stop) = IsUnfinished held

@@ -1,9 +1,0 @@
-pub mod Files
-pub mod Faults
-pub mod Tallies
-pub mod Putting
-pub mod PutSinks
-pub mod PutFiles
-pub mod Judging
-pub mod Importing
-pub mod Clauses

@@ -1,5 +1,0 @@
-use Rattle.pid_lives.proofs.Calling.{life_ends}
-use Rattle.pid_lives.proofs.calls.calls_make_a_life.Goals as goal
-
-pub returns : goal.returns
-returns g c = life_ends g.R.ShowsHistories.showing

@@ -1,5 +1,0 @@
-use Rattle.pid_lives.proofs.Calling.{prefixes_found}
-use Rattle.pid_lives.proofs.calls.openings_find_prefixes.Goals as goal
-
-pub returns : goal.returns
-returns g c = prefixes_found g.R.ShowsHistories.showing c.keys_stand_once.ensures c.marks_stay.ensures.mark

@@ -1,7 +1,0 @@
-use Rattle.pid_moderation.specs.Judgement.{judge}
-use Rattle.pid_moderation.specs.Views.{views_of}
-use Rattle.pid_lives.proofs.Settling.{refused_stays}
-use Rattle.pid_lives.proofs.laws.refusals_change_nothing.Goals as goal
-
-pub returns : goal.returns
-returns c = λ h c refusal is. refused_stays h c refusal (judge (views_of h) c) is

@@ -1,3 +1,0 @@
-pub mod Hashing
-pub mod Entries
-pub mod Agreement

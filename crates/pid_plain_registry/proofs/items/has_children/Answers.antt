@@ -1,7 +1,0 @@
-use Rattle.std.proofs.Common.{◌∙◌}
-use Rattle.pid_ident.specs.PathTexts.{path_text}
-use Rattle.pid_plain_registry.proofs.Parents.{children-texts}
-use Rattle.pid_plain_registry.proofs.items.has_children.Goals as goal
-
-pub returns : goal.returns
-returns c = c.any_child.ensures ∙ children-texts (path_text c.args.path) c.args.items.now.entries

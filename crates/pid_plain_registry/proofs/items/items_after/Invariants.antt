@@ -1,7 +1,0 @@
-use Rattle.std.proofs.Common.{◌≡◌, take}
-use Rattle.pid_moderation.specs.Views.{items_of}
-use Rattle.pid_plain_registry.specs.Shown.{history_of, texts}
-use Rattle.pid_plain_registry.proofs.items.items_after.Given as goal
-
-abbrev pub invariant-loop-i : goal.invariant-loop-i
-invariant-loop-i l = texts l.items ≡ items_of (history_of (take l.i l.past))

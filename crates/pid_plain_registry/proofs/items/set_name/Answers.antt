@@ -1,7 +1,0 @@
-use Rattle.std.proofs.Common.{◌∙◌, ap, map}
-use Rattle.pid_plain_registry.specs.Shown.{item_of}
-use Rattle.pid_plain_registry.proofs.Texts.{put-texts}
-use Rattle.pid_plain_registry.proofs.items.set_name.Goals as goal
-
-pub returns : goal.returns
-returns c = ap (map item_of) c.in_ok-insert.ensures.entries ∙ put-texts c.args.items.now.entries c.args.path c.args.name

@@ -1,8 +1,0 @@
--- An item as a pair of texts.
-use Rattle.std.specs.Prelude.{ℕ, List}
-use Rattle.pid_ident.specs.PathTexts.{path_text}
-use Rattle.pid_rows.specs.declared.item.Item.{Item}
-
--- the text of its path, and its name
-abbrev pub pair_of : Item → List ℕ × List ℕ
-pair_of item = (path_text item.path, item.name)

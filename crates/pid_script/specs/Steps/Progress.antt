@@ -1,0 +1,64 @@
+-- How far a script has come within the text that was read.
+use Rattle.std.specs.Prelude.{◌≡◌, ℕ, List, [], ◌++◌, Option, Result, Ok, Err}
+use Rattle.std.specs.Io.KnownBytes.{Appends}
+use Rattle.pid_reader.specs.Lines.{lines_of}
+use Rattle.pid_reader.specs.WholeLines.{whole_lines, open_part}
+use Rattle.pid_moderation.specs.History.{History}
+use Rattle.pid_script.specs.declared.line_end.LineEnd.{LineEnd}
+use Rattle.pid_script.specs.declared.line_end.LineEnd.TheVariants as line_ends
+use Rattle.pid_script.specs.declared.moderated.Moderated.{Ghosts}
+use Rattle.pid_script.specs.declared.script_end.ScriptEnd.{ScriptEnd}
+use Rattle.pid_script.specs.declared.script_end.ScriptEnd.TheVariants.{Done, WriteFault, TooLong, Stopped}
+use Rattle.pid_script.specs.Calling.{CallsSend}
+use Rattle.pid_script.specs.Replies.{replies, commands_of_lines, history_after}
+use Rattle.pid_script.specs.Steps.Saying.{Out}
+use Rattle.pid_script.specs.Scripts.{NoneTooLong, NoneCalls, passage, Answers, StopsAtLine, EndsTooLong, BreaksOff}
+use Rattle.pid_script.specs.Standing.{Becomes}
+
+module _ {R : Type 0} (registry : Ghosts R) where
+  -- The lines were answered. Of the replies to those that wait, none of which is a command, some
+  -- bytes went out, and the rest is held.
+  pub record Answered (h : History) (start : Option (List ℕ)) (old new : R) (now : Out)
+      (lines : List (List ℕ)) : Type 0 where
+    pub before : List (List ℕ)
+    pub waiting : List (List ℕ)
+    pub parts : lines ≡ before ++ waiting
+    pub asked : commands_of_lines waiting ≡ []
+    pub between : Option (List ℕ)
+    pub told : Appends start between (replies h before)
+    pub sent : List ℕ
+    pub went : Appends between now.taken sent
+    pub rest : sent ++ now.held ≡ replies (history_after h before) waiting
+    pub fits : NoneTooLong lines
+    pub leaves : Becomes registry old h new (history_after h lines)
+    pub lives : registry.has_failed old → NoneCalls lines
+    pub calls : CallsSend registry.showing old (commands_of_lines lines) new
+
+  -- the whole lines of a front of the text were answered, and what stands behind them is kept
+  pub record HasAnswered (h : History) (start : Option (List ℕ)) (old new : R) (now : Out)
+      (kept front : List ℕ) : Type 0 where
+    pub open_line : kept ≡ open_part front
+    pub answered : Answered h start old new now (whole_lines front)
+
+  -- a line ended it
+  abbrev pub Ended : LineEnd → History → Option (List ℕ) → R → R → Out → List (List ℕ) → Type 0
+  Ended line_ends.Stopped h start old new now lines = StopsAtLine registry h
+      (passage old new start now.taken) lines
+  Ended line_ends.WriteFault h start old new now lines = BreaksOff registry h
+      (passage old new start now.taken) lines
+  Ended line_ends.TooLong h start old new now lines = EndsTooLong registry h
+      (passage old new start now.taken) lines
+
+  -- a text was answered, or why not
+  abbrev pub Ends : Result (Unit {0}) LineEnd → History → Option (List ℕ) → R → R → Out → List ℕ
+      → Type 0
+  Ends (Ok x) h start old new now text = Answers registry h (passage old new start now.taken)
+      (lines_of text)
+  Ends (Err end) h start old new now text = Ended end h start old new now (lines_of text)
+
+-- the end of a script that such an end makes
+abbrev pub script_end : Result (Unit {0}) LineEnd → ScriptEnd
+script_end (Ok x) = Done
+script_end (Err line_ends.Stopped) = Stopped
+script_end (Err line_ends.WriteFault) = WriteFault
+script_end (Err line_ends.TooLong) = TooLong

@@ -1,0 +1,117 @@
+-- What a sink that adds up lengths has counted of items, and how long their text may be.
+use Rattle.std.proofs.Common.{◌≡◌, ℕ, ◌+◌, ◌*◌, ◌<◌, ◌≤◌, ◌^◌, Bool, true, false, List, [], ◌∷◌, ◌++◌, length, map, Option, None, reverse, refl, sym, ap, subst, ◌∙◌, arith, length-append, length-take}
+use Rattle.std.specs.Prelude.{if◌then◌else◌, codes, take, drop}
+use Rattle.std.proofs.lemmas.Bool.Decides.{nat_tests}
+use Rattle.std.proofs.Math.Nat.{min-le_left}
+use Rattle.std.proofs.lemmas.List.{map-append, reverse-append, reverse-reverse}
+use Rattle.pid_file.specs.declared.path.Path.{Path}
+use Rattle.pid_file.specs.declared.path.Path.TheVariants.{Vendor, Device, Subsystem, Class, Subclass, ProgIf, Generic}
+use Rattle.pid_ident.specs.Words.{is_name}
+use Rattle.pid_moderation.specs.Items.{Items}
+use Rattle.pid_moderation.specs.WellMade.{AllItems, IsItem}
+use Rattle.pid_reader.specs.Numbered.{Numbered, item_in}
+use Rattle.pid_reader.specs.Sinks.{Took}
+use Rattle.pid_tables_lists.specs.EachItem.{placed_from}
+use Rattle.pid_tree.specs.Labels.{label}
+use Rattle.pid_tree.specs.Printing.{block_line, ended, header, item_line, label_of, opens_block, text_or_none}
+use Rattle.pid_tree.proofs.Labelled.{label_of_text}
+use Rattle.pid_service.specs.ItemTexts.{text_of_items}
+use Rattle.pid_service.specs.LengthSinks.{CountsItem, length_of_entry}
+use Rattle.pid_service.specs.declared.text_length.LengthSink.{LengthSink}
+use Rattle.pid_service.proofs.ItemLines.{last_joined, last_path, text_behind, text_first, text_joined}
+use Rattle.pid_service.proofs.WalkEnds.{placed_items}
+
+-- these items are counted
+pub record HasCounted (s : LengthSink) (items : Items) (t : LengthSink) : Type 0 where
+  pub last : text_or_none t.before ≡ last_path (text_or_none s.before) items
+  pub counted : s.bytes + length (text_behind (text_or_none s.before) items) < 2 ^ 64 → t.bytes ≡ s.bytes + length (text_behind (text_or_none s.before) items)
+
+one_more : (old between new : LengthSink) (items : Items) (entry : Numbered) → HasCounted old items between → CountsItem between entry new → HasCounted old (items ++ item_in entry ∷ []) new
+one_more old between new items entry h step =
+    let before = text_or_none old.before in
+    let line = item_in entry ∷ [] in
+    let whole : length (text_behind before (items ++ line)) ≡ length (text_behind before items) + length (text_behind (last_path before items) line) =
+    ap length (text_joined before items line) ∙ length-append (text_behind before items) (text_behind (last_path before items) line) in
+    let here : length_of_entry between entry ≡ length (text_behind (last_path before items) line) = ap (λ (b : List ℕ). length (text_behind b line)) h.last in
+    record {
+      last = step.before ∙ sym (last_joined before items (item_in entry));
+      counted = λ fits.
+          let so_far : between.bytes ≡ old.bytes + length (text_behind before items) = h.counted (omega (arith, whole, fits)) in
+          let more : new.bytes ≡ between.bytes + length_of_entry between entry = step.counted (omega (arith, whole, here, so_far, fits)) in
+          omega (arith, whole, here, so_far, more);
+    }
+
+-- the last entry is the first here
+took_counted : (old new : LengthSink) (es : List Numbered) → Took CountsItem old es new → HasCounted old (map item_in (reverse es)) new
+took_counted old new [] took = subst (HasCounted old []) (sym took) (record { last = refl; counted = λ fits. omega arith })
+took_counted old new (e ∷ es) (between, took, step) =
+    let back : map item_in (reverse (e ∷ es)) ≡ map item_in (reverse es) ++ item_in e ∷ [] = ap (map item_in) (reverse-append (e ∷ []) es) ∙ map-append item_in (reverse es) (e ∷ []) in
+    subst (λ (items : Items). HasCounted old items new) (sym back) (one_more old between new (map item_in (reverse es)) e (took_counted old between es took) step)
+
+-- a text is not long
+
+label_length : (path : Path) → length (label path) ≤ 11
+label_length (Vendor v) = omega arith
+label_length (Device v d) = omega arith
+label_length (Subsystem v d s e) = omega arith
+label_length (Class c) = omega arith
+label_length (Subclass c s) = omega arith
+label_length (ProgIf c s p) = omega arith
+label_length (Generic v d) = omega arith
+
+name_length : (name : List ℕ) → is_name name ≡ true → length name ≤ 1000
+name_length name h = grind (arith, nat_tests)
+
+two_long : (l : List ℕ) → length l ≡ 2 → length l ≤ 2
+two_long l two = omega arith
+
+labelled : (before space name : List ℕ) → length before ≤ 11 → length space ≤ 2 → length name ≤ 1000 → length (before ++ space ++ name) ≤ 1013
+labelled before space name few two short = omega (arith, few, two, short, length-append {A = ℕ})
+
+line_length : (path name : List ℕ) → IsItem path name → length (item_line (path, name)) ≤ 1013
+line_length path name ((p, is), named) =
+    labelled (label_of path) (codes "  ") name
+    (subst (λ (text : List ℕ). length (label_of text) ≤ 11) (sym is.same) (subst (λ (l : List ℕ). length l ≤ 11) (sym (label_of_text p)) (label_length p)))
+    (two_long (codes "  ") refl)
+    (name_length name named)
+
+first_four : (l : List ℕ) → length (take 4 l) ≤ 4
+first_four l = subst (λ n. n ≤ 4) (sym (length-take 4 l)) (min-le_left 4 (length l))
+
+opened : (front digits : List ℕ) → length front ≤ 2 → length digits ≤ 4 → length (front ++ digits) ≤ 6
+opened front digits two few = omega (arith, two, few, length-append {A = ℕ})
+
+ended_lines : (block line : List ℕ) (b : Bool) → length block ≤ 6 → length line ≤ 1013 → length (ended ((if b then block ∷ [] else []) ++ line ∷ [])) ≤ 1021
+ended_lines block line true few short = omega (arith, few, short, length-append {A = ℕ})
+ended_lines block line false few short = omega (arith, short, length-append {A = ℕ})
+
+lines_length : (before path name : List ℕ) → IsItem path name → length (text_behind before ((path, name) ∷ [])) ≤ 1021
+lines_length before path name item = ended_lines (block_line path) (item_line (path, name)) (opens_block before path) (opened (codes "S ") (take 4 (drop 3 path)) (two_long (codes "S ") refl) (first_four (drop 3 path))) (line_length path name item)
+
+text_length : (before : List ℕ) (items : Items) → AllItems items → length (text_behind before items) ≤ 1021 * length items
+text_length before [] all = omega arith
+text_length before (item ∷ items) (first, all) =
+    let one = lines_length before item.0 item.1 first in
+    let more = text_length item.0 items all in
+    let whole : length (text_behind before (item ∷ items)) ≡ length (text_behind before (item ∷ [])) + length (text_behind item.0 items) =
+    ap length (text_first before item items) ∙ length-append (text_behind before (item ∷ [])) (text_behind item.0 items) in
+    omega (arith, one, more, whole)
+
+headed : (front behind : List ℕ) → length front ≡ 17 → length (front ++ 10 ∷ behind) ≡ 18 + length behind
+headed front behind is = omega (arith, is, length-append {A = ℕ})
+
+fits : (start first text items : ℕ) → start ≡ 18 → first ≡ text → text ≤ 1021 * items → items < 2 ^ 32 → start + first < 2 ^ 64
+fits start first text items is same short few = omega arith
+
+summed : (bytes start first text whole : ℕ) → start ≡ 18 → first ≡ text → bytes ≡ start + first → whole ≡ 18 + text → bytes ≡ whole
+summed bytes start first text whole is same sum all = omega arith
+
+-- a walk over all items has counted their text behind the header
+pub all_counted : (old new : LengthSink) (items : Items) → old.before ≡ None → old.bytes ≡ 18 → Took CountsItem old (reverse (placed_from 1 items)) new → AllItems items → length items < 2 ^ 32
+    → new.bytes ≡ length (text_of_items items)
+all_counted old new items first start took all few =
+    let counted = took_counted old new (reverse (placed_from 1 items)) took in
+    let same : map item_in (reverse (reverse (placed_from 1 items))) ≡ items = ap (map item_in) (reverse-reverse (placed_from 1 items)) ∙ placed_items 1 items in
+    let told : HasCounted old items new = subst (λ (is : Items). HasCounted old is new) same counted in
+    let text : length (text_behind (text_or_none old.before) items) ≡ length (text_behind [] items) = ap (λ (b : Option Path). length (text_behind (text_or_none b) items)) first in
+    summed _ _ _ _ _ start text (told.counted (fits _ _ _ _ start text (text_length [] items all) few)) (headed header (text_behind [] items) refl)

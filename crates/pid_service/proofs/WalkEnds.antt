@@ -1,0 +1,102 @@
+-- What a walk over items leaves behind a header, by how it ended.
+use Rattle.std.proofs.Common.{◌≡◌, ℕ, ◌+◌, List, [], ◌∷◌, ◌++◌, map, Option, None, Some, Result, Ok, Err, reverse, refl, sym, ap, subst, ◌∙◌}
+use Rattle.std.proofs.lemmas.List.{map-append, reverse-reverse}
+use Rattle.std.specs.Io.KnownBytes.{Appends}
+use Rattle.pid_ident.specs.Sending.{SendsFront}
+use Rattle.pid_file.specs.declared.io.WriteFault.{WriteFault}
+use Rattle.pid_file.specs.declared.path.Path.{Path}
+use Rattle.pid_file.proofs.SendingLemmas.{Appends-nil, Appends-then, stopped}
+use Rattle.pid_moderation.specs.Items.{Items}
+use Rattle.pid_tables_rows.specs.declared.fault.TableFault.{TableFault}
+use Rattle.pid_reader.specs.Numbered.{Numbered, item_in}
+use Rattle.pid_reader.specs.Sinks.{Took}
+use Rattle.pid_tables_lists.specs.EachItem.{TakesEach, TakesSome, placed_from}
+use Rattle.pid_tables_lists.specs.declared.walk.EachEnd.{EachEnd}
+use Rattle.pid_tables_lists.specs.declared.walk.EachEnd.TheVariants.{Tables, Fault}
+use Rattle.pid_tree.specs.Printing.{ended, header, text_or_none}
+use Rattle.pid_service.specs.EndsOfWalks.{export_end}
+use Rattle.pid_service.specs.Steps.Exports.{Exports}
+use Rattle.pid_service.specs.ExportSinks.{PrintsItem, StopsWithin, lines_of_entry}
+use Rattle.pid_service.specs.ItemTexts.{text_of_items}
+use Rattle.pid_service.specs.declared.item_text.ExportEnd.{ExportEnd}
+use Rattle.pid_service.specs.declared.item_text.ExportEnd.TheVariants as ends
+use Rattle.pid_service.specs.declared.export_sink.ExportSink.{ExportSink}
+use Rattle.pid_service.proofs.ItemLines.{HasPrinted, last_path, text_behind, text_first, text_joined, took_printed}
+
+pub placed_items : (place : ℕ) (items : Items) → map item_in (placed_from place items) ≡ items
+placed_items place [] = refl
+placed_items place (item ∷ items) = ap (λ (l : Items). item ∷ l) (placed_items (place + 1) items)
+
+-- the header, the lines of the first items, those of the next, and those behind it
+text_parted : (before : List ℕ) (front : Items) (item : List ℕ × List ℕ) (behind : Items) → before ≡ last_path [] front
+    → text_of_items (front ++ item ∷ behind) ≡ text_of_items front ++ (text_behind before (item ∷ []) ++ text_behind item.0 behind)
+text_parted before front item behind last =
+    ap (λ (l : List ℕ). ended (header ∷ []) ++ l)
+    (text_joined [] front (item ∷ behind) ∙ ap (λ (l : List ℕ). text_behind [] front ++ l)
+    (text_first (last_path [] front) item behind ∙ ap (λ (b : List ℕ). text_behind b (item ∷ []) ++ text_behind item.0 behind) (sym last)))
+
+same_end : (a b : ExportEnd) → ◌≡◌ {A = Result (Unit {0}) ExportEnd} (Err a) (Err b) → a ≡ b
+same_end a b e = cc
+
+same_fault : (f g : WriteFault) → ends.Write f ≡ ends.Write g → f ≡ g
+same_fault f g e = cc
+
+no_fault : (t : TableFault) (f : WriteFault) → ends.Tables t ≡ ends.Write f → ⊥
+no_fault t f e = cc
+
+-- a fault within the header
+pub header_stopped : (a b : Option (List ℕ)) (r : Result (Unit {0}) ExportEnd) (end : ExportEnd) (f : WriteFault) (items : Items) → r ≡ Err end → end ≡ ends.Write f → SendsFront a b (ended (header ∷ [])) → Exports r a b items
+header_stopped a b r end f items is same front =
+    subst (λ (x : Result (Unit {0}) ExportEnd). Exports x a b items) (sym (is ∙ ap Err same))
+    (stopped a a b [] (ended (header ∷ [])) (text_behind [] items) (text_of_items items) (Appends-nil a) front refl)
+
+module _ {W : Type 0} (taken : W → Option (List ℕ)) (write_fault : W → Option WriteFault) where
+  -- of entries in their order
+  front_printed : (old new : ExportSink W) (es : List Numbered) → Took (PrintsItem taken) old (reverse es) new → HasPrinted taken old (map item_in es) new
+  front_printed old new es took = subst (λ (l : List Numbered). HasPrinted taken old (map item_in l) new) (reverse-reverse es) (took_printed taken old new (reverse es) took)
+
+  pub walk_same : (r : Result (Unit {0}) (EachEnd WriteFault)) (old new : ExportSink W) → TakesSome (PrintsItem taken) (StopsWithin taken write_fault) r old new → new.out.ghost_name ≡ old.out.ghost_name
+  walk_same (Ok x) old new (items, took) = (took_printed taken old new items took).same_reference
+  walk_same (Err (Fault f)) old new (items, entry, between, took, stop) = stop.same_reference ∙ (took_printed taken old between items took).same_reference
+  walk_same (Err (Tables t)) old new (items, took) = (took_printed taken old new items took).same_reference
+
+  by_fault : (e : EachEnd WriteFault) (f : WriteFault) (old new : ExportSink W) → export_end e ≡ ends.Write f → TakesSome {X = Unit {0}} (PrintsItem taken) (StopsWithin taken write_fault) (Err e) old new → write_fault new.out.now ≡ Some f
+  by_fault (Fault g) f old new same (items, entry, between, took, stop) = stop.told ∙ ap Some (same_fault g f same)
+  by_fault (Tables t) f old new same told = absurd (no_fault t f same)
+
+  -- a fault of the writer is the one that it keeps
+  pub fault_told : (e : EachEnd WriteFault) (r : Result (Unit {0}) ExportEnd) (end : ExportEnd) (f : WriteFault) (old new : ExportSink W) → r ≡ Err end → end ≡ export_end e → r ≡ Err (ends.Write f)
+      → TakesSome {X = Unit {0}} (PrintsItem taken) (StopsWithin taken write_fault) (Err e) old new → write_fault new.out.now ≡ Some f
+  fault_told e r end f old new is same told walked = by_fault e f old new (same_end (export_end e) (ends.Write f) (sym (is ∙ ap Err same) ∙ told)) walked
+
+  module _ (a : Option (List ℕ)) (old : ExportSink W) (first : old.before ≡ None) (head : Appends a (taken old.out.now) (ended (header ∷ []))) where
+    last_printed : (new : ExportSink W) (front : Items) → HasPrinted taken old front new → text_or_none new.before ≡ last_path [] front
+    last_printed new front h = subst (λ (b : Option Path). text_or_none new.before ≡ last_path (text_or_none b) front) first h.last
+
+    behind_header : (new : ExportSink W) (front : Items) → HasPrinted taken old front new → Appends a (taken new.out.now) (text_of_items front)
+    behind_header new front h =
+        let text = subst (λ (b : Option Path). Appends (taken old.out.now) (taken new.out.now) (text_behind (text_or_none b) front)) first h.printed in
+        Appends-then a (taken old.out.now) (taken new.out.now) (ended (header ∷ [])) (text_behind [] front) head text
+
+    -- all items
+    pub all_exported : (new : ExportSink W) (items : Items) → Took (PrintsItem taken) old (reverse (placed_from 1 items)) new → Appends a (taken new.out.now) (text_of_items items)
+    all_exported new items took = subst (λ (is : Items). Appends a (taken new.out.now) (text_of_items is)) (placed_items 1 items) (behind_header new (map item_in (placed_from 1 items)) (front_printed old new (placed_from 1 items) took))
+
+    stopped_within : (between new : ExportSink W) (front behind : Items) (entry : Numbered) (f : WriteFault) → HasPrinted taken old front between → StopsWithin taken write_fault between entry f new
+        → SendsFront a (taken new.out.now) (text_of_items (front ++ item_in entry ∷ behind))
+    stopped_within between new front behind entry f h stop =
+        stopped a (taken between.out.now) (taken new.out.now) (text_of_items front) (lines_of_entry between entry) (text_behind (item_in entry).0 behind) (text_of_items (front ++ item_in entry ∷ behind)) (behind_header between front h) stop.front
+        (text_parted (text_or_none between.before) front (item_in entry) behind (last_printed between front h))
+
+    by_end : (e : EachEnd WriteFault) (new : ExportSink W) (items : Items) → TakesEach {X = Unit {0}} (PrintsItem taken) (StopsWithin taken write_fault) (Err e) (placed_from 1 items) old new
+        → Exports {X = Unit {0}} (Err (export_end e)) a (taken new.out.now) items
+    by_end (Fault f) new items (front, entry, behind, between, parts, took, stop) =
+        let whole : items ≡ map item_in front ++ item_in entry ∷ map item_in behind = sym (placed_items 1 items) ∙ ap (map item_in) parts ∙ map-append item_in front (entry ∷ behind) in
+        subst (λ (is : Items). SendsFront a (taken new.out.now) (text_of_items is)) (sym whole) (stopped_within between new (map item_in front) (map item_in behind) entry f (front_printed old between front took) stop)
+    by_end (Tables t) new items (front, behind, parts, took) =
+        (map item_in front, map item_in behind, sym (placed_items 1 items) ∙ ap (map item_in) parts ∙ map-append item_in front behind, behind_header new (map item_in front) (front_printed old new front took))
+
+    -- some items, and a fault
+    pub some_exported : (e : EachEnd WriteFault) (r : Result (Unit {0}) ExportEnd) (end : ExportEnd) (new : ExportSink W) (items : Items) → r ≡ Err end → end ≡ export_end e
+        → TakesEach {X = Unit {0}} (PrintsItem taken) (StopsWithin taken write_fault) (Err e) (placed_from 1 items) old new → Exports r a (taken new.out.now) items
+    some_exported e r end new items is same told = subst (λ (x : Result (Unit {0}) ExportEnd). Exports x a (taken new.out.now) items) (sym (is ∙ ap Err same)) (by_end e new items told)

@@ -1,7 +1,0 @@
-use Rattle.pid_moderation.specs.Views.{views_of}
-use Rattle.pid_service.proofs.Causes.{caused_by}
-use Rattle.pid_service.proofs.judging.facts_for.Goals as goal
-
-pub returns-in-Err-clause-caused : goal.returns-in-Err-clause-caused
-returns-in-Err-clause-caused g c clean h reached rest =
-    caused_by g.S.Store c.args.tables.now.conn c.gather.new.self.conn c.in-Err.fault c.refusal_of.result c.refusal_of.ensures.same (c.in-Err.ensures.told clean (views_of h) rest (c.reached_histories_are_kept.ensures.readable h reached))

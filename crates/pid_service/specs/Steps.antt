@@ -1,0 +1,9 @@
+-- What serves private functions alone; no promise rests on it.
+pub mod Exporting
+pub mod Exports
+pub mod Importing
+pub mod Judging
+pub mod LengthSinks
+pub mod Obeying
+pub mod Opening
+pub mod Running

@@ -1,0 +1,17 @@
+-- Steps beside Exports.
+use Rattle.std.specs.Prelude.{ℕ, List, Option, Result, Ok, Err}
+use Rattle.std.specs.Io.KnownBytes.{Appends}
+use Rattle.pid_ident.specs.Sending.{SendsFront}
+use Rattle.pid_moderation.specs.Items.{Items}
+use Rattle.pid_service.specs.ItemTexts.{text_of_items}
+use Rattle.pid_service.specs.declared.item_text.ExportEnd.{ExportEnd}
+use Rattle.pid_service.specs.declared.item_text.ExportEnd.TheVariants.{Tables, Write}
+use Rattle.pid_service.specs.Exports.{TakesWholeLines}
+
+-- the whole text; a front of it, and not all, where the writer failed; whole lines of it where the
+-- tables did
+abbrev pub Exports : {X : Type 0} → Result X ExportEnd → Option (List ℕ) → Option (List ℕ) → Items
+    → Type 0
+Exports (Ok x) old new items = Appends old new (text_of_items items)
+Exports (Err (Write fault)) old new items = SendsFront old new (text_of_items items)
+Exports (Err (Tables fault)) old new items = TakesWholeLines old new items

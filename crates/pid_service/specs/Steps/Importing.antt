@@ -1,0 +1,81 @@
+-- Steps of an import.
+use Rattle.std.specs.Prelude.{◌≡◌, ◌≢◌, ◌⊎◌, ◌≤◌, ◌+◌, ℕ, Bool, true, List, [], length}
+use Rattle.std.specs.Prelude.{Result, Ok, Err}
+use Rattle.sqlite_trees.specs.declared.store.Store.{Ghosts}
+use Rattle.pid_moderation.specs.declared.command.Command.{Command}
+use Rattle.pid_moderation.specs.declared.command.Reply.{Reply}
+use Rattle.pid_moderation.specs.declared.facts.Facts.{Facts}
+use Rattle.pid_moderation.specs.declared.refusal.Refusal.{Refusal}
+use Rattle.pid_moderation.specs.declared.refusal.Refusal.TheVariants.{BadText, Failed, Store}
+use Rattle.pid_moderation.specs.CheckTables.{most_file_bytes}
+use Rattle.pid_moderation.specs.History.{Asked, History, asked, is_import}
+use Rattle.pid_moderation.specs.Judgement.{after}
+use Rattle.pid_moderation.specs.Views.{items_of}
+use Rattle.pid_tables.specs.Files.{file_reading}
+use Rattle.pid_tables.specs.Judging.{IsOpen}
+use Rattle.pid_service.specs.declared.importing.ImportEnd.{ImportEnd}
+use Rattle.pid_service.specs.declared.importing.ImportEnd.TheVariants.{Refused, Body}
+use Rattle.pid_service.specs.declared.registry.Registry.{Registry}
+use Rattle.pid_service.specs.Histories.{IsFault, IsReached, OverHistory, Shows}
+use Rattle.pid_service.specs.Importing.{ObeysImport}
+use Rattle.pid_service.specs.KeptNames.{kept_names}
+use Rattle.pid_service.specs.Registries.{HasCleanDisk}
+
+-- The registry is as live as before. Or it does not tell that it had failed, and memory was short
+-- or the store failed.
+abbrev pub EndStaysLive : Result Reply ImportEnd → (before after : Bool) → Type 0
+EndStaysLive (Ok reply) before after = after ≡ before
+EndStaysLive (Err (Refused e)) before after = (e ≢ Failed) × (IsFault e ⊎ (after ≡ before))
+EndStaysLive (Err Body) before after = after ≡ before
+
+-- the answer that was known before, unless the text is too long or the input failed
+abbrev pub AnswersPast : Result Reply Refusal → Result Reply ImportEnd → List ℕ → Type 0
+AnswersPast given (Ok reply) text = (given ≡ Ok reply) × (length text ≤ most_file_bytes)
+AnswersPast given (Err (Refused e)) text = ((given ≡ Err e) × (length text ≤ most_file_bytes))
+    ⊎ ((e ≡ BadText) × (length text ≡ most_file_bytes + 1))
+AnswersPast given (Err Body) text = Unit {0}
+
+-- what an import of bytes in memory is answered, whose input does not fail
+abbrev pub IsPlain : Result Reply ImportEnd → Result Reply Refusal → Type 0
+IsPlain (Ok reply) result = result ≡ Ok reply
+IsPlain (Err (Refused e)) result = result ≡ Err e
+IsPlain (Err Body) result = result ≡ Err Store
+
+-- the history is left, or memory was short or the store or the input failed
+abbrev pub EndSpares : Result Reply ImportEnd → History → Asked → Type 0
+EndSpares (Ok reply) h c = after h c ≡ h
+EndSpares (Err (Refused e)) h c = (after h c ≡ h) ⊎ IsFault e
+EndSpares (Err Body) h c = Unit {0}
+
+module _ {S : Type 0} (store : Ghosts S) where
+  -- the registry shows a history, over which the import hangs on its file, and it can go on
+  pub record IsWaiting (r : Registry S store) (facts : Facts) (items : ℕ) (command : Command)
+      (h : History) (c : Asked) : Type 0 where
+    pub shows : Shows store r h
+    pub import : is_import command.act ≡ true
+    pub waits : IsOpen h command facts
+    pub many : items ≡ length (items_of h)
+    pub reached : IsReached (after h c)
+
+  -- it is obeyed with the file that this text is
+  abbrev pub CarriesText : Registry S store → Registry S store → Result Reply ImportEnd → Facts → ℕ
+      → Command → List ℕ → Type 0
+  CarriesText old new result facts items command text = HasCleanDisk store new → (h : History)
+      → IsWaiting old facts items command h (asked command (file_reading text))
+      → ObeysImport store result new h (asked command (file_reading text))
+
+  -- the same of an import, whatever was known of it; and no name is kept in memory, or it leaves
+  -- the history
+  pub record TakesText (old new : Registry S store) (result : Result Reply ImportEnd)
+      (command : Command) (text : List ℕ) : Type 0 where
+    pub obeyed : OverHistory store old new (λ h. is_import command.act ≡ true
+        → ObeysImport store result new h (asked command (file_reading text)))
+    pub spares : OverHistory store old new (λ h. is_import command.act ≡ true
+        → (kept_names new ≡ []) ⊎ EndSpares result h (asked command (file_reading text)))
+
+  -- this holds of an import of these bytes, which are not too many
+  abbrev pub OverBytes : Registry S store → Registry S store → Command → List ℕ
+      → (History → Asked → Type 0) → Type 0
+  OverBytes old new command file Holds = OverHistory store old new
+      (λ h. is_import command.act ≡ true → length file ≤ most_file_bytes
+      → Holds h (asked command (file_reading file)))

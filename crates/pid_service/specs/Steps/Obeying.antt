@@ -1,0 +1,41 @@
+-- What a command leaves, for those that call its steps.
+use Rattle.std.specs.Prelude.{◌≡◌, ◌≢◌, ◌⊎◌, Bool, false, [], Result, Ok, IsErrAnd, MatchResult}
+use Rattle.sqlite_trees.specs.declared.store.Store.{Ghosts}
+use Rattle.pid_moderation.specs.declared.change.Change.{Change}
+use Rattle.pid_moderation.specs.declared.command.Reply.{Reply}
+use Rattle.pid_moderation.specs.declared.refusal.Refusal.{Refusal}
+use Rattle.pid_moderation.specs.declared.refusal.Refusal.TheVariants.{Failed}
+use Rattle.pid_moderation.specs.History.{Asked, History}
+use Rattle.pid_moderation.specs.Judgement.{after}
+use Rattle.pid_moderation.specs.Views.{items_of}
+use Rattle.pid_service.specs.declared.judging.Judged.TheVariants.{Accepted}
+use Rattle.pid_service.specs.declared.registry.Registry.{Registry}
+use Rattle.pid_service.specs.Histories.{IsFault, IsReached, Shows}
+use Rattle.pid_service.specs.KeptNames.{kept_names}
+use Rattle.pid_service.specs.Registries.{is_live}
+use Rattle.pid_service.specs.Steps.Judging.{Judges}
+
+-- The registry is as live as before. Or it does not tell that it had failed, and memory was short
+-- or the store failed.
+abbrev pub StaysLive : {X : Type 0} → Result X Refusal → (before after : Bool) → Type 0
+StaysLive result before after = MatchResult result (λ _. after ≡ before)
+    (λ e. (e ≢ Failed) × (IsFault e ⊎ (after ≡ before)))
+
+-- no name is kept in memory, or the items are left, or memory was short or the store failed
+abbrev pub SparesNames : {S : Type 0} {store : Ghosts S} → Result Reply Refusal → Registry S store
+    → History → Asked → Type 0
+SparesNames result r h c = (kept_names r ≡ [])
+    ⊎ ((items_of (after h c) ≡ items_of h) ⊎ IsErrAnd result IsFault)
+
+module _ {S : Type 0} (store : Ghosts S) where
+  -- the registry shows a history, over which this change is to be written for the command
+  pub record IsAccepted (r : Registry S store) (change : Change) (reply : Reply) (h : History)
+      (c : Asked) : Type 0 where
+    pub shows : Shows store r h
+    pub reached : IsReached (after h c)
+    pub judged : Judges h c (Ok (Accepted change reply))
+
+  -- the reply was answered, and the registry is as live as before; or it has failed
+  abbrev pub LivesOrFails : Result Reply Refusal → Registry S store → Registry S store → Type 0
+  LivesOrFails result old new = MatchResult result (λ _. is_live new ≡ is_live old)
+      (λ e. IsFault e × (is_live new ≡ false))

@@ -1,0 +1,43 @@
+-- What a history holds. A command is acknowledged where it was replied to. A choice of this
+-- project.
+use Rattle.std.specs.Prelude.{◌≡◌, ◌⊎◌, ℕ, List, [], ◌∷◌, Some, Result, Ok, Err}
+use Rattle.std.specs.List.{AllByRecursion}
+use Rattle.pid_moderation.specs.declared.command.Reply.{Reply}
+use Rattle.pid_moderation.specs.declared.refusal.Refusal.{Refusal}
+use Rattle.pid_moderation.specs.History.{Asked, Accepted, Begins, More, History}
+use Rattle.pid_service_laws.specs.Lives.{Sent, Life}
+
+-- it is one of the accepted commands
+abbrev pub Stands : Accepted → History → Type 0
+Stands e (Begins mark) = ⊥
+Stands e (More x h) = (e ≡ x) ⊎ Stands e h
+
+-- it is one of the commands
+abbrev pub IsIn : Asked → List Asked → Type 0
+IsIn c [] = ⊥
+IsIn c (x ∷ cs) = (c ≡ x) ⊎ IsIn c cs
+
+-- The command itself; or one of the same account under the same key, of which this one is a repeat.
+abbrev pub IsFor : Asked → Asked → Type 0
+IsFor a c = (a ≡ c) ⊎ ((key : List ℕ) × (a.account ≡ c.account) × (a.key ≡ Some key)
+    × (c.key ≡ Some key))
+
+-- the history holds the command that was acknowledged by this reply, with this reply
+pub record Holds (h : History) (c : Asked) (reply : Reply) : Type 0 where
+  pub entry : Accepted
+  pub stands : Stands entry h
+  pub replied : entry.reply ≡ reply
+  pub is_for : IsFor entry.asked c
+
+-- a refusal acknowledges nothing
+abbrev pub HoldsOutcome : History → Asked → Result Reply Refusal → Type 0
+HoldsOutcome h c (Ok reply) = Holds h c reply
+HoldsOutcome h c (Err refusal) = Unit {0}
+
+-- every acknowledged one of the commands
+abbrev pub HoldsAll : History → List Sent → Type 0
+HoldsAll h sent = AllByRecursion (λ s. HoldsOutcome h s.command s.outcome) sent
+
+-- every acknowledged command of the lives
+abbrev pub HoldsLives : History → List Life → Type 0
+HoldsLives h lives = AllByRecursion (λ life. HoldsAll h life.sent) lives

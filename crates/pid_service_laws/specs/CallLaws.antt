@@ -1,0 +1,92 @@
+-- The laws that lead from calls to lives, for any type of registries: each is the contract of a
+-- function of `calls`. A choice of this project.
+use Rattle.std.specs.Prelude.{◌≡◌, ℕ, Bool, true, false, List, [], Option, Some, Err, Result}
+use Rattle.pid_moderation.specs.declared.command.Reply.{Reply}
+use Rattle.pid_moderation.specs.declared.refusal.Refusal.{Refusal}
+use Rattle.pid_moderation.specs.declared.refusal.Refusal.TheVariants.{Failed}
+use Rattle.pid_moderation.specs.History.{Asked, Begins, History}
+use Rattle.pid_moderation.specs.Judgement.{after, after_all, answer, judge}
+use Rattle.pid_moderation.specs.Views.{views_of}
+use Rattle.pid_service_laws.specs.Calls.{Call, nothing_sent, obeyed, ran, sent_in}
+use Rattle.pid_service_laws.specs.CrashPrefix.{IsAfterPrefixes}
+use Rattle.pid_service_laws.specs.Outcomes.{is_outcome}
+use Rattle.pid_service_laws.specs.Registries.{CallsLead, CommandLeaves, Does, EndsLife, Finds}
+use Rattle.pid_service_laws.specs.Registries.{ListLeaves, LivesLead, Showing}
+
+module _ {R : Type 0} (w : Showing R) where
+  -- a disk that has returned what was written up to the second has done so up to the first
+  abbrev pub StaysClean : R → R → Type 0
+  StaysClean old new = w.is_clean new → w.is_clean old
+
+  -- while the disk returns what was written, this is left of the history that was shown
+  abbrev pub OverShown : R → R → (History → Type 0) → Type 0
+  OverShown old new Leaves = w.is_clean new → (h : History) → w.shows old h → Leaves h
+
+  -- a registry that has failed between two histories has this of them
+  abbrev pub WhereFailed : R → (History → History → Type 0) → Type 0
+  WhereFailed r Has = (h next : History) → w.fails_between r h next → Has h next
+
+  -- whether the registry is live: never where it has failed
+  abbrev pub SaysLive : Bool → R → Type 0
+  SaysLive live r = WhereFailed r (λ h next. live ≡ false)
+
+  -- A call that obeys a command. `live` is whether the registry is live after the call.
+  abbrev pub ObeyingDoes : Type 0
+  ObeyingDoes = (old new : R) (c : Asked) (result : Result Reply Refusal) (live : Bool)
+      → StaysClean old new
+      → OverShown old new (λ h. CommandLeaves w result new h c)
+      → WhereFailed old (λ h next. (result ≡ Err Failed) × w.fails_between new h next)
+      → SaysLive live new
+      → Does w old (obeyed c result live) new
+
+  -- a call that runs a list of commands
+  abbrev pub RunningDoes : Type 0
+  RunningDoes = (old new : R) (commands : List Asked) (replies : List (Result Reply Refusal))
+      (fault : Option Refusal) (live : Bool)
+      → StaysClean old new
+      → OverShown old new (λ h. ListLeaves w replies fault new h commands)
+      → WhereFailed old
+      (λ h next. (replies ≡ []) × (fault ≡ Some Failed) × w.fails_between new h next)
+      → SaysLive live new
+      → Does w old (ran commands replies fault live) new
+
+  -- a call that leaves the registry showing what it showed
+  abbrev pub LookingDoes : Type 0
+  LookingDoes = (old new : R)
+      → StaysClean old new
+      → OverShown old new (λ h. w.shows new h)
+      → WhereFailed old (λ h next. w.fails_between new h next)
+      → Does w old nothing_sent new
+
+  -- Calls on a registry that shows a history are a life, with exactly the outcomes that they gave.
+  abbrev pub CallsAreALife : Type 0
+  CallsAreALife = (old new : R) (h : History) (calls : List Call)
+      → w.shows old h
+      → CallsLead w old calls new
+      → w.is_clean new
+      → EndsLife w h calls new
+
+  -- Lives lead from an opening that shows a history, to which commands led from its beginning, to
+  -- one that shows the history after that one and a prefix of the commands of each life.
+  abbrev pub OpeningsFindPrefixes : Type 0
+  OpeningsFindPrefixes = (mark : ℕ) (before : List Asked) (first last : R)
+      (calls : List (List Call)) → let start = after_all (Begins mark) before in
+      w.shows first start
+      → LivesLead w first calls last
+      → w.is_clean last
+      → (h : History) × w.shows last h × IsAfterPrefixes start calls h
+
+  -- A command under a key met a fault by which the registry failed. After the next opening, and
+  -- calls that sent nothing, it is sent again and has an outcome: that of the judgement before.
+  abbrev pub DoubtsEndWhenSentAgain : Type 0
+  DoubtsEndWhenSentAgain = (ended opened between last : R) (h : History) (c : Asked)
+      (key : List ℕ) (calls : List Call) (result : Result Reply Refusal) (live : Bool)
+      → c.key ≡ Some key
+      → w.fails_between ended h (after h c)
+      → Finds w ended opened
+      → CallsLead w opened calls between
+      → sent_in calls ≡ []
+      → Does w between (obeyed c result live) last
+      → is_outcome result ≡ true
+      → w.is_clean last
+      → (result ≡ answer (judge (views_of h) c)) × w.shows last (after h c)

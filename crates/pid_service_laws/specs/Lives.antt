@@ -1,0 +1,81 @@
+-- The lives of a registry: a life goes from one opening to the next, over a stop at any place. A
+-- choice of this project.
+use Rattle.std.specs.Prelude.{◌≡◌, ℕ, ◌+◌, Bool, List, [], ◌∷◌, ◌++◌, map, length, take}
+use Rattle.std.specs.Prelude.{if◌then◌else◌, Result}
+use Rattle.pid_moderation.specs.declared.command.Reply.{Reply}
+use Rattle.pid_moderation.specs.declared.refusal.Refusal.{Refusal}
+use Rattle.pid_moderation.specs.History.{Asked, History}
+use Rattle.pid_moderation.specs.Judgement.{answer, judge, after, after_all}
+use Rattle.pid_moderation.specs.Views.{views_of}
+
+-- a command that was sent, and its outcome: a reply, or a refusal that judges it
+pub record Sent : Type 0 where
+  pub command : Asked
+  pub outcome : Result Reply Refusal
+
+-- A registry may end in a fault by which it failed. Of the command that met the fault it is not
+-- known whether it stands; it went one way or the other.
+pub data Doubt : Type 0 where
+  NoDoubt : Doubt
+  InDoubt : (command : Asked) (stands : Bool) → Doubt
+
+-- What happened from one opening to the next. What got neither an outcome nor left a doubt counts
+-- as not sent: it was answered 18, or 16 or 17 by a registry that stayed live, or it is of a list
+-- whose run did not reach it, or an import whose input failed.
+pub record Life : Type 0 where
+  -- the commands with an outcome, the first one first
+  pub sent : List Sent
+  -- the one command more, the last one, where the life ended in doubt
+  pub doubt : Doubt
+
+-- the commands that were sent, without their outcomes
+abbrev pub commands_in : List Sent → List Asked
+commands_in sent = map (λ s. s.command) sent
+
+-- the command in doubt, if there is one
+abbrev pub doubted : Doubt → List Asked
+doubted NoDoubt = []
+doubted (InDoubt command stands) = command ∷ []
+
+-- the commands of a life: those with an outcome, and the one in doubt
+abbrev pub commands_of : Life → List Asked
+commands_of life = commands_in life.sent ++ doubted life.doubt
+
+-- one more where the command in doubt stands
+abbrev pub standing : Doubt → ℕ
+standing NoDoubt = 0
+standing (InDoubt command stands) = if stands then 1 else 0
+
+-- how many of them the prefix has: as many as have an outcome, the refused ones too, and one more
+-- where the command in doubt stands
+abbrev pub count_of : Life → ℕ
+count_of life = length life.sent + standing life.doubt
+
+-- the first ones, so many
+abbrev pub prefix_of : Life → List Asked
+prefix_of life = take (count_of life) (commands_of life)
+
+-- the history after commands that were sent
+abbrev pub after_sent : History → List Sent → History
+after_sent h sent = after_all h (commands_in sent)
+
+-- the history that a life leaves, which the next opening finds
+abbrev pub after_life : History → Life → History
+after_life h life = after_all h (prefix_of life)
+
+-- the history that lives leave, from the first one on
+abbrev pub after_lives : History → List Life → History
+after_lives h [] = h
+after_lives h (life ∷ lives) = after_lives (after_life h life) lives
+
+-- each outcome is that of the judgement over the history so far
+abbrev pub AreJudged : History → List Sent → Type 0
+AreJudged h [] = Unit {0}
+AreJudged h (s ∷ sent) = (s.outcome ≡ answer (judge (views_of h) s.command))
+    × AreJudged (after h s.command) sent
+
+-- in each life each outcome is that of the judgement, and it begins with the history that the life
+-- before it left
+abbrev pub AreLives : History → List Life → Type 0
+AreLives h [] = Unit {0}
+AreLives h (life ∷ lives) = AreJudged h life.sent × AreLives (after_life h life) lives

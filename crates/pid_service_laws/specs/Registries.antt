@@ -1,0 +1,97 @@
+-- What the public calls of a registry promise, as far as lives speak of it. A choice of this
+-- project.
+--
+-- The way to the crash prefix, for any type R of registries: each call `Does` what it promises;
+-- through a life `CallsLead` from the registry as it was opened to how it ended; a later opening
+-- `Finds` what a stop may have left; so `LivesLead` from a first opening to a last one. The laws of
+-- `calls` say what the last one shows.
+use Rattle.std.specs.Prelude.{◌≡◌, ◌⊎◌, ◌<◌, ◌+◌, true, false, List, [], ◌∷◌, length, take, Option}
+use Rattle.std.specs.Prelude.{Some, Result, IsErrAnd, IsSomeAnd}
+use Rattle.pid_moderation.specs.declared.command.Reply.{Reply}
+use Rattle.pid_moderation.specs.declared.refusal.Refusal.{Refusal}
+use Rattle.pid_moderation.specs.History.{Asked, History}
+use Rattle.pid_moderation.specs.Judgement.{answer, answers, judge, after, after_all}
+use Rattle.pid_moderation.specs.Views.{views_of}
+use Rattle.pid_service_laws.specs.Outcomes.{IsFault}
+use Rattle.pid_service_laws.specs.Lives.{after_sent, AreJudged, NoDoubt, InDoubt, after_life}
+use Rattle.pid_service_laws.specs.Calls.{Call, nothing_sent, sent_in, StopsAt, life_of}
+use Rattle.pid_service_laws.specs.Doubts.{left}
+
+-- the words by which a registry is told
+pub record Showing (R : Type 0) : Type 1 where
+  -- so far its disk has returned what was written
+  pub is_clean : R → Type 0
+  -- it is live and shows the history, and so does everything that a crash may leave
+  pub shows : R → History → Type 0
+  -- it has failed, and everything that a crash may leave shows the one history or the other
+  pub fails_between : R → History → History → Type 0
+
+module _ {R : Type 0} (w : Showing R) where
+  -- After a command over a history: the answer is that of the judgement, and the registry shows the
+  -- history after it. Or memory was short or the store failed: then it shows the history as before,
+  -- or it has failed between the two.
+  abbrev pub CommandLeaves : Result Reply Refusal → R → History → Asked → Type 0
+  CommandLeaves result new h c =
+      ((result ≡ answer (judge (views_of h) c)) × w.shows new (after h c))
+      ⊎ (IsErrAnd result IsFault × (w.shows new h ⊎ w.fails_between new h (after h c)))
+
+  -- After a list of commands over a history: the replies are the answers to the first ones, and the
+  -- registry shows the history after these. Or memory was short or the store failed, and it has
+  -- failed at the next one.
+  pub record ListLeaves (replies : List (Result Reply Refusal)) (fault : Option Refusal) (new : R)
+      (h : History) (commands : List Asked) : Type 0 where
+    pub replied : replies ≡ answers h (take (length replies) commands)
+    pub ends : w.shows new (after_all h (take (length replies) commands))
+        ⊎ (IsSomeAnd fault IsFault × (length replies < length commands)
+        × w.fails_between new (after_all h (take (length replies) commands))
+        (after_all h (take (length replies + 1) commands)))
+
+  -- The same for every call: each outcome is that of the judgement, over the history so far, and
+  -- the registry shows the history after them. Or it has failed between that and the history after
+  -- one command more.
+  abbrev pub Leaves : Call → R → History → Type 0
+  Leaves call new h =
+      AreJudged h call.sent
+      × (w.shows new (after_sent h call.sent)
+      ⊎ ((c : Asked) × (call.stopped ≡ Some c)
+      × w.fails_between new (left (after_sent h call.sent) c false)
+      (left (after_sent h call.sent) c true)))
+
+  -- what a call does, from the registry before it to the registry after it
+  pub record Does (old : R) (call : Call) (new : R) : Type 0 where
+    pub clean : w.is_clean new → w.is_clean old
+    -- one that is live, while the disk returns what was written
+    pub live : w.is_clean new → (h : History) → w.shows old h → Leaves call new h
+    -- one that has failed obeys nothing, and stays so
+    pub failed : (h next : History) → w.fails_between old h next
+        → (call ≡ nothing_sent) × w.fails_between new h next
+
+  -- calls in turn lead from a registry to a registry
+  abbrev pub CallsLead : R → List Call → R → Type 0
+  CallsLead old [] new = new ≡ old
+  CallsLead old (call ∷ calls) new = (between : R) × Does old call between
+      × CallsLead between calls new
+
+  -- a later opening finds what the registry showed; where it had failed, the one history or the
+  -- other
+  pub record Finds (ended opened : R) : Type 0 where
+    pub clean : w.is_clean opened → w.is_clean ended
+    pub shown : w.is_clean opened → (h : History) → w.shows ended h → w.shows opened h
+    pub either : w.is_clean opened → (h next : History) → w.fails_between ended h next
+        → w.shows opened h ⊎ w.shows opened next
+
+  -- lives in turn, each told by its calls, lead from an opening to an opening
+  abbrev pub LivesLead : R → List (List Call) → R → Type 0
+  LivesLead opened [] last = last ≡ opened
+  LivesLead opened (calls ∷ lives) last = (ended next : R) × CallsLead opened calls ended
+      × Finds ended next × LivesLead next lives last
+
+  -- After the calls of a life: each outcome is that of the judgement, and the registry shows the
+  -- history after the life, without a doubt. Or it has failed at a command: the history after the
+  -- life where that does not stand, or where it does.
+  pub record EndsLife (h : History) (calls : List Call) (ended : R) : Type 0 where
+    pub judged : AreJudged h (sent_in calls)
+    pub ends : w.shows ended (after_life h (life_of calls NoDoubt))
+        ⊎ ((c : Asked) × StopsAt c calls
+        × w.fails_between ended (after_life h (life_of calls (InDoubt c false)))
+        (after_life h (life_of calls (InDoubt c true))))

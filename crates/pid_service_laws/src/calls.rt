@@ -1,0 +1,56 @@
+//! From the calls on a registry to lives. Each law is the contract of a function that does nothing
+//! of its own.
+ghost use Rattle.pid_service_laws.specs.CallLaws.{
+  CallsAreALife,
+  DoubtsEndWhenSentAgain,
+  LookingDoes,
+  ObeyingDoes,
+  OpeningsFindPrefixes,
+  RunningDoes,
+};
+ghost use Rattle.pid_service_laws.specs.Registries.{Showing};
+
+use pid_moderation::{keys_stand_once, marks_stay};
+
+/// A registry, as far as lives speak of it: it shows a history, or has failed between two.
+pub trait ShowsHistories {
+    /// Whether its disk returned what was written, which history it shows, and between which two it
+    /// has failed.
+    ghost showing: { Showing Self };
+}
+
+/// What calls promise is what lives ask: the clauses of a call that obeys a command or runs a list
+/// of commands, and of one that leaves the registry showing what it showed, say what such a call
+/// does. `live` is whether the registry is live behind the call.
+pub fn calls_do<R: ShowsHistories>()
+    ensures obeys { ObeyingDoes R.showing }
+    ensures runs { RunningDoes R.showing }
+    ensures looks { LookingDoes R.showing }
+{}
+
+/// The calls on a registry that shows a history are a life, with exactly the outcomes that they
+/// gave. At its end the registry shows the history after the life, or it has failed between the two
+/// that a doubt leaves.
+pub fn calls_make_a_life<R: ShowsHistories>()
+    ensures { CallsAreALife R.showing }
+{}
+
+/// The crash prefix. Let a registry be opened that shows a history to which commands led from its
+/// beginning: a new one shows no command. Then others are opened, each finding what a stop of the
+/// one before it may leave. The last one shows the history after that one and a prefix of the
+/// commands of each life, joined in order, which holds every acknowledged one and has kept its
+/// mark. All while the disk returns what was written.
+pub fn openings_find_prefixes<R: ShowsHistories>()
+    ensures { OpeningsFindPrefixes R.showing }
+{
+    keys_stand_once();
+    marks_stay();
+}
+
+/// A command under a key was in doubt, and after another opening it is sent again: the first
+/// command with an outcome there, maybe behind questions, and others that count as not sent. Then
+/// its outcome is that of the judgement before the doubt, and the registry shows the history after
+/// the one command, whichever way the doubt went.
+pub fn doubts_end_when_sent_again<R: ShowsHistories>()
+    ensures { DoubtsEndWhenSentAgain R.showing }
+{}

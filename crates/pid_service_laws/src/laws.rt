@@ -1,0 +1,64 @@
+//! Laws over lives. Each is the contract of a function that does nothing of its own.
+ghost use Rattle.std.specs.Prelude.{◌≡◌, ℕ, Bool, true, List};
+ghost use Rattle.pid_moderation.specs.declared.refusal.Refusal.{Refusal};
+ghost use Rattle.pid_moderation.specs.History.{Asked, Begins, History};
+ghost use Rattle.pid_moderation.specs.Judgement.{after, answer, judge};
+ghost use Rattle.pid_moderation.specs.Sound.{IsSound};
+ghost use Rattle.pid_moderation.specs.Views.{Views};
+ghost use Rattle.pid_moderation.specs.WellMade.{AreWellMade};
+ghost use Rattle.pid_service_laws.specs.Acknowledged.{HoldsLives};
+ghost use Rattle.pid_service_laws.specs.Doubts.{left};
+ghost use Rattle.pid_service_laws.specs.KeptReplies.{KeepsLives};
+ghost use Rattle.pid_service_laws.specs.LifeLaws.{
+  HasKey,
+  IsOutcomesAndDoubt,
+  IsRefusedOver,
+  IsSettled,
+  JoinsPrefixes,
+  all_prefixes,
+  left_by,
+};
+ghost use Rattle.pid_service_laws.specs.Lives.{AreLives, Life, prefix_of};
+ghost use Rattle.pid_service_laws.specs.Outcomes.{is_outcome};
+
+use pid_moderation::{histories_are_sound, keys_stand_once, marks_stay};
+
+/// The history that the next opening finds is the one after the prefixes of all lives, joined in
+/// order: of each life the commands with an outcome, and the one in doubt where it stands. It keeps
+/// the mark with which it began. It holds every command that was acknowledged, and no command that
+/// was not sent. It holds at most one of an account under a key, and every reply that was given
+/// there is that command's. Where the commands are well made, the history has a tree of names, and
+/// what tables ask of it.
+pub fn lives_are_prefixes()
+    ensures prefix { (life : Life) → IsOutcomesAndDoubt life (prefix_of life) }
+    ensures joined { (mark : ℕ) (lives : List Life)
+        → JoinsPrefixes mark lives (left_by mark lives) }
+    ensures holds { (mark : ℕ) (lives : List Life)
+        → AreLives (Begins mark) lives → HoldsLives (left_by mark lives) lives }
+    ensures kept { (mark : ℕ) (lives : List Life)
+        → AreLives (Begins mark) lives → KeepsLives (left_by mark lives) lives }
+    ensures sound { (mark : ℕ) (lives : List Life)
+        → AreWellMade (all_prefixes lives) → IsSound (left_by mark lives) }
+{
+    histories_are_sound();
+    keys_stand_once();
+    marks_stay();
+}
+
+/// A command under a key that was in doubt, and is sent again as the next one, has the outcome and
+/// leaves the history that it would have had without the stop, whichever way that went.
+pub fn doubts_end()
+    ensures { (h : History) (c : Asked) (stands : Bool)
+        → HasKey c → IsSettled h (left h c stands) c }
+{}
+
+/// What the judgement answers is an outcome: a reply, or a refusal with a number from 1 to 15.
+pub fn judgements_are_outcomes()
+    ensures { (v : Views) (c : Asked) → is_outcome (answer (judge v c)) ≡ true }
+{}
+
+/// A command that is refused changes nothing.
+pub fn refusals_change_nothing()
+    ensures { (h : History) (c : Asked) (refusal : Refusal)
+        → IsRefusedOver h c refusal → after h c ≡ h }
+{}

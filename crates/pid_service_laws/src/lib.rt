@@ -1,0 +1,15 @@
+//! The lives of a registry, from one opening to the next, over stops at any place, and the laws
+//! that hold over them.
+//!
+//! `specs/Registries` says what each call of a registry does. From there `calls` leads to lives,
+//! and `laws` from lives to the crash prefix: an opening finds the history after a prefix of the
+//! commands, which holds every acknowledged one.
+#![tactic(auto)]
+
+mod calls;
+mod laws;
+
+pub use calls::{
+    ShowsHistories, calls_do, calls_make_a_life, doubts_end_when_sent_again, openings_find_prefixes,
+};
+pub use laws::{doubts_end, judgements_are_outcomes, lives_are_prefixes, refusals_change_nothing};

@@ -1,5 +1,0 @@
-use Rattle.std.proofs.Common.{◌+◌, ◌≤◌}
-use Rattle.pid_serving.proofs.tests.give_back.Given as goal
-
-abbrev pub invariant-loop : goal.invariant-loop
-invariant-loop g l = g.I.Input.reads l.input ≤ g.I.Input.reads l.initial.input + l.counter

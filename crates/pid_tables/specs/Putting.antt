@@ -1,0 +1,25 @@
+-- What putting an entry of a file does to a transaction.
+use Rattle.std.specs.Prelude.{◌≡◌, ℕ}
+use Rattle.sqlite.specs.State.{State, HasCleanDisk}
+use Rattle.pid_reader.specs.LookingBack.{Item}
+use Rattle.pid_moderation.specs.Items.{name_at}
+use Rattle.pid_moderation.specs.Views.{Views}
+use Rattle.pid_tables_rows.specs.Leaves.{Holds, Within, Written}
+use Rattle.pid_tables_rows.specs.Shows.{Counts}
+use Rattle.pid_tables_rows.specs.Writes.{with_name}
+use Rattle.pid_tables.specs.declared.putting.Put.{Put}
+use Rattle.pid_tables.specs.Puts.{put_over}
+
+-- one entry is put with this number: the transaction shows the views with it, and tells what it was
+-- to these
+pub record Puts (n : ℕ) (old new : State) (item : Item) (put : Put) : Type 0 where
+  pub clean : HasCleanDisk new → HasCleanDisk old
+  pub written : (c : Counts) (v w : Views) → Within c old v w
+      → Written c new v (with_name n item.0 item.1 w)
+  pub told : HasCleanDisk new → (c : Counts) (v w : Views) → Within c old v w
+      → put ≡ put_over item.1 (name_at item.0 w.items)
+
+-- an entry is not put, and the transaction is given up
+pub record GivesUp (old new : State) : Type 0 where
+  pub clean : HasCleanDisk new → HasCleanDisk old
+  pub holds : (c : Counts) (v w : Views) → Within c old v w → Holds new v

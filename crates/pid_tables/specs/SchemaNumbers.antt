@@ -1,0 +1,29 @@
+-- What is told as the number of the schema.
+use Rattle.std.specs.Prelude.{◌≡◌, ℕ, codes, Result, IfErr, IfOk, MatchResult}
+use Rattle.sqlite.specs.State.{State, HasCleanDisk}
+use Rattle.pid_moderation.specs.Views.{Views}
+use Rattle.pid_tables_rows.specs.declared.fault.TableFault.{TableFault}
+use Rattle.pid_tables_rows.specs.declared.version.Version.{Version}
+use Rattle.pid_tables_rows.specs.declared.version.Version.TheVariants.{One}
+use Rattle.pid_tables_rows.specs.Faults.{IsMemoryOrStore}
+use Rattle.pid_tables_rows.specs.LabelRows.{ExplainsNumber, HasLabel}
+use Rattle.pid_tables_rows.specs.LabelRows.{IsDamageOf, ShowsNoNumber, ShowsNumber}
+use Rattle.pid_tables_rows.specs.Leaves.{RestsIn}
+use Rattle.pid_tables_check.specs.Shapes.{HasNoTable, HasSomeTable, IsMadeFirst}
+
+-- The number that the labels have, or 0 where there is no table.
+pub record TellsSchema (old new : State) (result : Result ℕ TableFault) : Type 0 where
+  -- Tables of schema 1 that show views have their number.
+  pub earlier : HasCleanDisk new → (v : Views) → RestsIn One old v
+      → MatchResult result (λ n. n ≡ 1) IsMemoryOrStore
+  pub none : HasCleanDisk new → HasNoTable old.now.schema
+      → MatchResult result (λ n. n ≡ 0) IsMemoryOrStore
+  -- Where some table is there, whatever else is.
+  pub shown : HasCleanDisk new → HasSomeTable old.now.schema
+      → MatchResult result (ShowsNumber old.now (codes "schema"))
+      (IsDamageOf (ShowsNoNumber old.now (codes "schema")))
+  -- The same by what storage has, where the tables of a schema were made first.
+  pub labelled : HasCleanDisk new → (schema : Version) → IsMadeFirst schema old.now.schema
+      → IfOk result (HasLabel old.now.trees (codes "schema"))
+  pub refused : HasCleanDisk new → (schema : Version) → IsMadeFirst schema old.now.schema
+      → IfErr result (ExplainsNumber old.now.trees (codes "schema"))

@@ -1,0 +1,16 @@
+-- Steps beside Applies.
+use Rattle.std.specs.Prelude.{Some, None}
+use Rattle.pid_moderation.specs.declared.change.Effect.{Effect}
+use Rattle.pid_moderation.specs.declared.change.Effect.TheVariants.{Nothing, Ranked, Submitted}
+use Rattle.pid_moderation.specs.declared.change.Effect.TheVariants.{Remarked, Decided, Imported}
+use Rattle.pid_tables_rows.specs.Shows.{Counts}
+
+-- the counts that an effect leaves
+abbrev pub recounted : Effect → Counts → Counts
+recounted (Imported items) c = record c { items = items }
+recounted Nothing c = c
+recounted (Ranked who rank is_new) c = c
+recounted (Submitted number author path proposal note) c = record c { submissions = number }
+recounted (Remarked number place author text) c = c
+recounted (Decided number state None) c = c
+recounted (Decided number state (Some w)) c = record c { items = w.items }

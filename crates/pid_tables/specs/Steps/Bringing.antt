@@ -1,0 +1,54 @@
+-- What stands in a database that is to be brought to schema 2, and which step that takes.
+use Rattle.std.specs.Prelude.{◌≡◌, Bool, true, false, Option, None, Some}
+use Rattle.std.specs.Prelude.{Result, IfOk, MatchResult}
+use Rattle.sqlite.specs.Effect.{Database}
+use Rattle.sqlite.specs.State.{State, HasCleanDisk}
+use Rattle.pid_moderation.specs.History.{History}
+use Rattle.pid_moderation.specs.Sound.{IsSound}
+use Rattle.pid_moderation.specs.Views.{Views, views_of}
+use Rattle.pid_tables_rows.specs.declared.fault.TableFault.{TableFault}
+use Rattle.pid_tables_rows.specs.declared.version.Version.{Version}
+use Rattle.pid_tables_rows.specs.declared.version.Version.TheVariants.{One, Two}
+use Rattle.pid_tables_rows.specs.Faults.{IsMemoryOrStore}
+use Rattle.pid_tables_rows.specs.Leaves.{RestsIn}
+use Rattle.pid_tables_rows.specs.Shows.{Counts, Numbers, ShowsKeeping}
+use Rattle.pid_tables_check.specs.Checking.{Finds}
+use Rattle.pid_tables_check.specs.Shapes.{HasNoTable}
+use Rattle.pid_tables.specs.Bringing.{NamesLatest}
+use Rattle.pid_tables.specs.declared.migration.Step.{Step}
+use Rattle.pid_tables.specs.declared.migration.Step.TheVariants.{Created, Moved, Already}
+
+-- the schema that the tables are brought to
+abbrev pub is_latest : Version → Bool
+is_latest One = false
+is_latest Two = true
+
+-- where views are shown, the answer is whether they are shown in that schema
+abbrev pub TellsLatest : Database → Result Bool TableFault → Type 0
+TellsLatest db result = (version : Version) (counts : Counts) (numbers : Numbers) (v : Views)
+    → ShowsKeeping version counts numbers db v → IfOk result (λ is. is ≡ is_latest version)
+
+-- the step that is made where this stands
+abbrev pub step_for : Option Version → Step
+step_for None = Created
+step_for (Some One) = Moved
+step_for (Some Two) = Already
+
+-- What stands in the database.
+pub data IsStanding (db : Database) (found : Option Version) : Type 0 where
+  -- labels that name schema 2 are believed
+  Named : found ≡ Some Two → NamesLatest db → IsStanding db found
+  -- else the check finds it
+  Found : Finds db found → IsStanding db found
+
+-- What is shown is found, where memory is enough and the store does not fail.
+pub record FindsShown (old new : State) (result : Result (Option Version) TableFault)
+    : Type 0 where
+  pub shut : HasCleanDisk new → old.is_open ≡ false
+      → MatchResult result (λ _. ⊥) IsMemoryOrStore
+  pub bare : HasCleanDisk new → HasNoTable old.now.schema
+      → MatchResult result (λ found. found ≡ None) IsMemoryOrStore
+  pub earlier : HasCleanDisk new → (h : History) → IsSound h → RestsIn One old (views_of h)
+      → MatchResult result (λ found. found ≡ Some One) IsMemoryOrStore
+  pub latest : HasCleanDisk new → (v : Views) → RestsIn Two old v
+      → MatchResult result (λ found. found ≡ Some Two) IsMemoryOrStore

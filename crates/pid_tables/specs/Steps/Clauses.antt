@@ -1,0 +1,45 @@
+-- Steps beside Clauses: what private clauses say of a transaction.
+use Rattle.std.specs.Prelude.{Result, IfOk, IsTrue, MatchResult}
+use Rattle.sqlite_trees.specs.declared.store.Store.{Ghosts}
+use Rattle.pid_moderation.specs.declared.change.Change.{Change}
+use Rattle.pid_moderation.specs.Changes.{changed, Fits}
+use Rattle.pid_moderation.specs.Views.{Views}
+use Rattle.pid_tables_rows.specs.declared.fault.TableFault.{TableFault}
+use Rattle.pid_tables_rows.specs.Clauses.{HasCleanDisk, seen}
+use Rattle.pid_tables_rows.specs.Faults.{IsMemoryOrStore}
+use Rattle.pid_tables_rows.specs.Shows.{Counts, Shows, ShowsCounting}
+use Rattle.pid_tables.specs.Applies.{IsCounted}
+use Rattle.std.specs.Prelude.{ℕ, List, Option}
+use Rattle.sqlite.specs.Held.{Held, state}
+use Rattle.sqlite.specs.Table.{Table}
+use Rattle.pid_tables_rows.specs.declared.version.Version.{Version}
+use Rattle.pid_tables.specs.Steps.MakingTables as making
+use Rattle.pid_tables.specs.Steps.Bringing as steps
+
+module _ {S : Type 0} (store : Ghosts S) where
+  abbrev pub Makes : {X : Type 0} → Held S → Held S → Result X TableFault → List Table → List Table
+      → Type 0
+  Makes old new result before after = making.Makes (state store old)
+      (state store new) result before after
+
+  abbrev pub Takes : {X : Type 0} → Held S → Held S → Result X TableFault → List (List ℕ) → Type 0
+  Takes old new result names = making.Takes (state store old) (state store new) result names
+
+  abbrev pub FindsTables : {X : Type 0} → Held S → Held S → Result X TableFault → Type 0
+  FindsTables old new result = making.FindsTables (state store old) (state store new) result
+
+  abbrev pub FindsShown : Held S → Held S → Result (Option Version) TableFault → Type 0
+  FindsShown old new result = steps.FindsShown (state store old) (state store new) result
+
+  -- what is answered is so of the views that the transaction showed
+  abbrev pub TellsWithin : {X : Type 0} → Held S → Held S → Result X TableFault
+      → (Views → X → Type 0) → Type 0
+  TellsWithin old new result Says = HasCleanDisk store new → (c : Counts) (v : Views)
+      → ShowsCounting c (seen store old) v → IfOk result (Says v)
+
+  -- where the transaction shows views to which the change fits, it shows the changed ones then
+  abbrev pub WritesChange : {X : Type 0} → Held S → Held S → Result X TableFault → Change → Type 0
+  WritesChange old new result change = HasCleanDisk store new → IsTrue old.in_transaction
+      → (counts : Counts) (v : Views) → ShowsCounting counts (seen store old) v
+      → IsCounted change.effect counts v → Fits change v
+      → MatchResult result (λ _. Shows (seen store new) (changed change v)) IsMemoryOrStore

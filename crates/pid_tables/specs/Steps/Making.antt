@@ -1,0 +1,43 @@
+-- Steps beside Making: the first rows of a new registry.
+use Rattle.std.specs.Prelude.{ℕ, List, [], ◌∷◌, Result, IsTrue, MatchResult}
+use Rattle.sqlite.specs.Held.{Held}
+use Rattle.sqlite.specs.Table.{Table}
+use Rattle.sqlite_trees.specs.declared.store.Store.{Ghosts}
+use Rattle.pid_moderation.specs.History.{new_history}
+use Rattle.pid_moderation.specs.Views.{views_of}
+use Rattle.pid_tables_rows.specs.declared.fault.TableFault.{TableFault}
+use Rattle.pid_tables_rows.specs.Clauses.{HasCleanDisk, is_open, seen}
+use Rattle.pid_tables_rows.specs.Faults.{IsMemoryOrStore}
+use Rattle.pid_tables_rows.specs.PairRows.{Map}
+use Rattle.pid_tables_rows.specs.Schema as tables
+use Rattle.pid_tables_rows.specs.Shows.{Shows}
+use Rattle.pid_tables.specs.Creation.{AreMade}
+use Rattle.pid_tables.specs.Steps.MakingTables.{HasOnlyMeta}
+
+-- the tables that are made first
+abbrev pub first_tables : List Table
+first_tables = tables.meta ∷ tables.account ∷ tables.item ∷ []
+
+-- with the next ones
+abbrev pub six_tables : List Table
+six_tables = tables.meta ∷ tables.account ∷ tables.item ∷ tables.submission ∷ tables.remark
+    ∷ tables.receipt ∷ []
+
+-- all of them
+abbrev pub all_tables : List Table
+all_tables = tables.meta ∷ tables.account ∷ tables.item ∷ tables.submission ∷ tables.remark
+    ∷ tables.receipt ∷ tables.item_since ∷ []
+
+module _ {S : Type 0} (store : Ghosts S) where
+  -- a step that adds labels: meta has these rows before, and those then
+  abbrev pub AddsLabels : {X : Type 0} → Held S → Held S → Result X TableFault → Map (List ℕ) ℕ
+      → Map (List ℕ) ℕ → Type 0
+  AddsLabels old new result before after = HasCleanDisk store new → IsTrue old.in_transaction
+      → HasOnlyMeta before (seen store old)
+      → MatchResult result (λ _. HasOnlyMeta after (seen store new)) IsMemoryOrStore
+
+  -- where there was no table, those of a new registry are there then
+  abbrev pub MakesRegistry : {X : Type 0} → Held S → Held S → Result X TableFault → Type 0
+  MakesRegistry old new result = HasCleanDisk store new → IsTrue old.in_transaction
+      → (IsTrue (is_open store old) → AreMade [] (seen store old))
+      → MatchResult result (λ _. Shows (seen store new) (views_of new_history)) IsMemoryOrStore

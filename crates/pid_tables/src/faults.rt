@@ -1,0 +1,18 @@
+//! Faults of the tables as refusals.
+ghost use Rattle.std.specs.Prelude.{◌≡◌, ◌≢◌};
+ghost use Rattle.pid_tables.specs.Faults.{IsFault, refusal_for};
+
+use pid_moderation::Refusal;
+use pid_tables_rows::TableFault;
+
+/// Want of memory is told as such, and every other fault as one of the store.
+pub fn refusal_of(fault: TableFault) -> Refusal
+    ensures same { result ≡ refusal_for fault }
+    ensures fault { IsFault result }
+    ensures alive { result ≢ Refusal.Failed }
+{
+    match fault {
+        TableFault::Memory => Refusal::Memory,
+        TableFault::Store | TableFault::NewerSchema(_) | TableFault::Damaged => Refusal::Store,
+    }
+}

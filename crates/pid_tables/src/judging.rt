@@ -1,0 +1,52 @@
+//! What is known of an import before its file is read.
+ghost use Rattle.std.specs.Prelude.{◌≡◌, false};
+ghost use Rattle.pid_moderation.specs.History.{History};
+ghost use Rattle.pid_moderation.specs.Sound.{IsSound};
+ghost use Rattle.pid_moderation.specs.Views.{views_of};
+ghost use Rattle.pid_tables_rows.specs.Clauses.{AtRest, HasCleanDisk, OnlyReads};
+ghost use Rattle.pid_tables.specs.Judging.{DoesNotTellFailed, IsJudgedEarly};
+
+use crate::faults::refusal_of;
+use crate::laws;
+use crate::tables::Tables;
+use pid_moderation::{Command, Facts, Refusal, Reply, Rows, before_file};
+use sqlite::Alter;
+use std::alloc::Global;
+
+/// What is known of an import before its file is read.
+#[derive(Debug, Drop)]
+pub enum Early {
+    /// It is answered whatever its file is, if that is not too long.
+    Answered(Result<Reply, Refusal>),
+    /// It hangs on its file: what it is judged by without that, and how many items there are.
+    Open { facts: Facts, items: u32 },
+}
+
+/// Judges an import before its file is read. The tables are only read; the file that the command
+/// has is not looked at.
+///
+/// It holds of tables that show a sound history. Where memory is short or the store fails, that is
+/// the answer.
+pub fn judge_import<S: Alter + Drop>(
+    tables: &mut Tables<S>,
+    alloc: Global,
+    command: &Command,
+) -> Early
+    requires { tables.old.conn.in_transaction ≡ false }
+    ensures rests { OnlyReads S.Store tables.old.conn tables.new.conn }
+    ensures judged { HasCleanDisk S.Store tables.new.conn → (h : History) → IsSound h
+        → AtRest S.Store tables.old.conn (views_of h) → IsJudgedEarly h command.now result }
+    ensures alive { DoesNotTellFailed result }
+{
+    laws::views_of_sound_histories(); // proof only
+    match tables.gather(alloc, &command.account, &command.key, Rows::Nothing) {
+        Err(fault) => Early::Answered(Err(refusal_of(fault))),
+        Ok(facts) => match before_file(&facts) {
+            Some(answer) => Early::Answered(answer),
+            None => match tables.items() {
+                Ok(items) => Early::Open { facts, items },
+                Err(fault) => Early::Answered(Err(refusal_of(fault))),
+            },
+        },
+    }
+}

@@ -1,0 +1,207 @@
+//! A whole file, put into a transaction.
+ghost use Rattle.std.specs.Prelude.{◌≡◌, ◌≢◌, ℕ, List, false, IfErr, IsSome};
+ghost use Rattle.std.specs.Io.KnownBytes.{Consumes};
+ghost use Rattle.pid_reader.specs.Lines.{lines_of};
+ghost use Rattle.pid_reader.specs.Reading.{entries_of};
+ghost use Rattle.pid_moderation.specs.History.{History, asked};
+ghost use Rattle.pid_moderation.specs.Views.{Views, views_of};
+ghost use Rattle.pid_tables_rows.specs.Clauses.{AtRest, HasCleanDisk, Holds, Within};
+ghost use Rattle.pid_tables_rows.specs.Shows.{Counts};
+ghost use Rattle.pid_tables.specs.ImportClauses.{EndsImport};
+ghost use Rattle.pid_tables.specs.Steps.ImportClauses.{Applies, HoldsPut};
+ghost use Rattle.pid_tables.specs.Files.{file_reading};
+ghost use Rattle.pid_tables.specs.Importing.{DoesNotTellFailed, ReadsFile};
+ghost use Rattle.pid_tables.specs.Steps.ImportParts.{IsNext, IsPut, IsStopOf, JudgesFile};
+ghost use Rattle.pid_tables.specs.Judging.{WhereOpen};
+ghost use Rattle.pid_tables.specs.Steps.PutFiles.{PutsFile};
+
+use crate::batch::{Batch, apply, begin, commit, roll_back};
+use crate::faults::refusal_of;
+use crate::laws;
+use crate::put_sink::{PutSink, Putter};
+use crate::tally::Tally;
+use pid_ident::Input;
+use pid_moderation::{
+    Change, Command, FILE_BYTES, Facts, FileFault, Refusal, Reply, Verdict, decide,
+    items_are_sorted,
+};
+use pid_reader::laws::numbered_entries_are_entries;
+use pid_reader::{CutEnd, InputEnd, ReadRefusal, cut_input};
+use pid_tables_rows::TableFault;
+use sqlite::{Alter, Connection};
+use std::alloc::Global;
+use thiserror::Error;
+
+/// Why a file was not brought in.
+///
+/// - `Body`: the input failed. The tables are as before.
+/// - `Refused`: the import is refused for this reason. The tables are as before.
+/// - `Failed`: memory was short or the store failed within the transaction. Of the tables no more
+///   is known than that what a
+///   crash may leave shows the history before the import, or with it.
+#[derive(Clone, Copy, Debug, PartialEq, Eq, Error)]
+pub enum Stop {
+    #[error("the input failed")]
+    Body,
+    #[error("{0}")]
+    Refused(Refusal),
+    #[error("{0}")]
+    Failed(Refusal),
+}
+
+/// Puts the entries of the input's text where names go, with the number of their command, and
+/// counts them.
+pub(crate) fn put_file<K: Putter, I: Input>(
+    batch: &mut K,
+    alloc: Global,
+    revision: u64,
+    input: &mut I,
+) -> Result<Tally, InputEnd<TableFault>>
+    ensures puts { (text : List ℕ) × Consumes (I.to_come input.old) (I.to_come input.new) text
+        × PutsFile (K.puts revision) K.gives_up result
+        (I.to_come input.new) text batch.old batch.new }
+    ensures fault { result ≡ Err InputEnd.ReadFault → IsSome (I.read_fault input.new) }
+    ensures fault_first { IsSome (I.read_fault input.new) → result ≡ Err InputEnd.ReadFault }
+    ensures goes { I.goes input.old input.new }
+{
+    numbered_entries_are_entries(); // proof only
+    let mut sink = PutSink::new(batch, alloc, revision);
+    match cut_input(alloc, FILE_BYTES, input, &mut sink) {
+        Ok(()) => Ok(sink.tally),
+        Err(end) => Err(end),
+    }
+}
+
+fn stop_of(end: InputEnd<TableFault>) -> Stop
+    ensures { IsStopOf end result }
+{
+    match end {
+        InputEnd::ReadFault => Stop::Body,
+        InputEnd::TooLong => Stop::Refused(Refusal::BadText),
+        InputEnd::Cut(CutEnd::Refused(ReadRefusal::Line { line, kind })) => {
+            Stop::Refused(Refusal::FileFault(FileFault::Line {
+                line: line as u64,
+                kind,
+            }))
+        }
+        InputEnd::Cut(CutEnd::Refused(ReadRefusal::TooManyEntries)) => {
+            Stop::Refused(Refusal::FileFault(FileFault::TooMany))
+        }
+        InputEnd::Cut(CutEnd::Refused(ReadRefusal::Memory)) => Stop::Failed(Refusal::Memory),
+        InputEnd::Cut(CutEnd::Fault(fault)) => Stop::Failed(refusal_of(fault)),
+    }
+}
+
+// The number that an import has where it is accepted.
+fn next_revision(facts: &Facts) -> u64
+    ensures { IsNext facts.now.revision result }
+{
+    facts.revision.saturating_add(1)
+}
+
+// Judges an import whose file was put.
+fn judge_file(
+    facts: &mut Facts,
+    items: u32,
+    tally: Tally,
+    command: &Command,
+) -> Result<(Change, Reply), Refusal>
+    ensures judged { (h : History) (text : List ℕ) → WhereOpen h command.now facts.old items
+        (IsPut h text tally → JudgesFile h (asked command.now (file_reading text))
+        (entries_of (lines_of text)) result) }
+    ensures alive { IfErr result (λ e. e ≢ Refusal.Failed) }
+{
+    laws::texts_read_to_files(); // proof only
+    items_are_sorted(); // proof only
+    let Some(items) = items.checked_add(tally.added) else {
+        return Err(Refusal::Memory);
+    };
+    facts.file = Some(Verdict::Good {
+        added: tally.added,
+        renamed: tally.renamed,
+        same: tally.same,
+        items,
+    });
+    decide(facts, command)
+}
+
+// Applies the rest of an import whose file was put.
+fn apply_file<S: Alter>(
+    batch: &mut Batch<'_, S>,
+    alloc: Global,
+    facts: &mut Facts,
+    items: u32,
+    tally: Tally,
+    command: &Command,
+) -> Result<Reply, Stop>
+    ensures same_reference { batch.new.conn.ghost_name ≡ batch.old.conn.ghost_name }
+    ensures clean { HasCleanDisk S.Store batch.new.conn.now
+        → HasCleanDisk S.Store batch.old.conn.now }
+    ensures holds { (c : Counts) (v w : Views) → Within S.Store batch.old.conn.now c v w
+        → Holds S.Store batch.new.conn.now v }
+    ensures applied { (h : History) (text : List ℕ) (n : ℕ)
+        → WhereOpen h command.now facts.old items (IsPut h text tally → IsNext facts.old.revision n
+        → HoldsPut S.Store batch.old.conn.now h n (entries_of (lines_of text))
+        → Applies S.Store batch.new.conn.now result h (asked command.now (file_reading text))) }
+    ensures reads { IfErr result (λ e. e ≢ Stop.Body) }
+    ensures alive { IfErr result DoesNotTellFailed }
+{
+    laws::texts_read_to_files(); // proof only
+    match judge_file(facts, items, tally, command) {
+        Err(refusal) => Err(Stop::Refused(refusal)),
+        Ok((change, reply)) => match apply(batch, alloc, &change) {
+            Ok(()) => Ok(reply),
+            Err(fault) => Err(Stop::Failed(refusal_of(fault))),
+        },
+    }
+}
+
+/// Brings the file of an import in, in one transaction with the rest of the import.
+///
+/// `facts` and `items` are those of `judge_import`, where the import hangs on its file. The input
+///   is read to its end, or
+/// until its text is too long: then one byte more than a file may have was read. The file that the
+/// command has is not looked at.
+pub fn bring_in<S: Alter, I: Input>(
+    conn: &mut Connection<S>,
+    alloc: Global,
+    facts: &mut Facts,
+    items: u32,
+    command: &Command,
+    input: &mut I,
+) -> Result<Reply, Stop>
+    requires { conn.old.in_transaction ≡ false }
+    ensures settled { conn.new.in_transaction ≡ false }
+    ensures clean { HasCleanDisk S.Store conn.new → HasCleanDisk S.Store conn.old }
+    // Some text was read; the import is answered, and the tables are left, as of a command with
+    // this file.
+    ensures stops { (text : List ℕ) × Consumes (I.to_come input.old) (I.to_come input.new) text
+        × ReadsFile result (I.to_come input.new) text
+        × (HasCleanDisk S.Store conn.new → (h : History) → AtRest S.Store conn.old (views_of h)
+        → WhereOpen h command.now facts.old items
+        (EndsImport S.Store conn.new result h (asked command.now (file_reading text)))) }
+    ensures fault { result ≡ Err Stop.Body → IsSome (I.read_fault input.new) }
+    ensures fault_first { IsSome (I.read_fault input.new) → result ≡ Err Stop.Body }
+    ensures goes { I.goes input.old input.new }
+    // Only a registry that has failed is told as such.
+    ensures alive { IfErr result DoesNotTellFailed }
+{
+    let revision = next_revision(facts);
+    let mut batch = begin(conn);
+    match put_file(&mut batch, alloc, revision, input) {
+        Err(end) => {
+            roll_back(batch);
+            Err(stop_of(end))
+        }
+        Ok(tally) => match apply_file(&mut batch, alloc, facts, items, tally, command) {
+            Err(stop) => {
+                roll_back(batch);
+                Err(stop)
+            }
+            Ok(reply) => match commit(batch) {
+                Ok(()) => Ok(reply),
+                Err(fault) => Err(Stop::Failed(refusal_of(fault))),
+            },
+        },
+    }
+}

@@ -1,0 +1,161 @@
+-- What it leaves, and what it tells, to prepare the text of a query.
+use Rattle.std.proofs.Common.{◌≡◌, ◌⊎◌, inl, inr, ℕ, zero, suc, List, [], ◌∷◌, Bool, true, false, Some, Ok, Err, Result, IfOk, IfErr, OnOk, IsTrue, refl, sym, ap, subst, ◌∙◌, ◌+◌, ◌<◌, length, get_or, map, arith}
+use Rattle.std.specs.Result.{result_err}
+use Rattle.std.specs.List.{All, Any}
+use Rattle.std.specs.Prelude.{◌↔◌}
+use Rattle.sqlite.specs.Order.{Row}
+use Rattle.sqlite.specs.Listing.{understood}
+use Rattle.sqlite.specs.Schema.{Schema}
+use Rattle.sqlite.specs.State.{State, HasCleanDisk, Survives, IsUnchanged, IsRolledBack, IsNotRun, store_error}
+use Rattle.sqlite.specs.Held.{Held, state}
+use Rattle.sqlite_trees.specs.declared.store.Store.{Ghosts}
+use Rattle.sqlite.specs.declared.error.Error.{Error}
+use Rattle.sqlite_resolve.specs.declared.error.CompileError.{CompileError}
+use Rattle.sqlite_trees.specs.declared.error.StoreError.{StoreError}
+use Rattle.sqlite_trees.specs.declared.error.StoreError.TheVariants as store
+use Rattle.sqlite_rules.specs.Lists as members
+use Rattle.pid_moderation.specs.Views.{Views}
+use Rattle.pid_tables_rows.specs.declared.fault.TableFault.{TableFault}
+use Rattle.pid_tables_rows.specs.declared.fault.TableFault.TheVariants.{Damaged}
+use Rattle.pid_tables_rows.specs.Faults.{fault_of}
+use Rattle.pid_tables_rows.specs.Causes.{IsCaused}
+use Rattle.pid_tables_rows.specs.Leaves.{AtRest, OnlyReads}
+use Rattle.pid_tables_rows.specs.Queries.{IsQuery}
+use Rattle.pid_tables_rows.specs.Schema.{pid_schema}
+use Rattle.pid_tables_rows.proofs.CauseLemmas.{not_run_caused, caused_later}
+use Rattle.pid_tables_rows.proofs.OnlyReading.{keeps_left, rests_on, reads_then}
+use Rattle.pid_tables_rows.proofs.Lengths.{mapped, unmapped}
+use Rattle.pid_tables_rows.proofs.ReadLemmas.{not_run}
+use Rattle.pid_tables_check.specs.declared.shape.Table.{Table}
+use Rattle.pid_tables_check.specs.declared.shape.Table.TheVariants.{Meta, Account, Item, Submission, Remark, Receipt, Since}
+use Rattle.pid_tables_check.specs.Queries.{query_of}
+use Rattle.pid_tables_check.specs.Shapes.{IsAsked, HasEachTable, HasSomeTable}
+use Rattle.pid_tables_check.proofs.Each.{same_there, one_more, each_member, each_place, some_member, some_place}
+
+pub err_of : {X E : Type 0} (r : Result X E) (e : E) → result_err r ≡ Some e → r ≡ Err e
+err_of (Ok x) e h = cc
+err_of (Err f) e h = cc
+
+left_by : {X : Type 0} (P : X → Type 0) (r : Result X Error) (old new : State) (sql : List ℕ) → IfOk r (λ s. P s × IsUnchanged old new) → IfErr r (λ e. (params : Row) → IsNotRun old new sql params e)
+    → IsUnchanged old new ⊎ IsRolledBack old new
+left_by P (Ok x) old new sql good bad = inl good.1
+left_by P (Err e) old new sql good bad = not_run old new sql [] e (bad [])
+
+pub rests : {X : Type 0} (P : X → Type 0) (r : Result X Error) (old new : State) (sql : List ℕ) → (IsTrue new.is_open → HasCleanDisk new) → new.in_transaction ≡ false → Survives old new (λ _. ⊥)
+    → (HasCleanDisk new → IfOk r (λ s. P s × IsUnchanged old new)) → (HasCleanDisk new → IfErr r (λ e. (params : Row) → IsNotRun old new sql params e)) → OnlyReads old new
+rests P r old new sql law ended survives good bad = rests_on old new law survives ended (λ clean. keeps_left old new (left_by P r old new sql (good clean) (bad clean)))
+
+of_store : (cause : StoreError) → fault_of (store_error cause) ≡ Damaged → ⊥
+of_store store.OutOfMemory h = cc
+of_store store.Io h = cc
+of_store store.Corrupt h = cc
+of_store store.Full h = cc
+of_store store.Broken h = cc
+of_store store.Unstorable h = cc
+
+-- only a text that is not understood is refused as damage
+pub refused : (old new : State) (sql : List ℕ) (e : Error) → IsNotRun old new sql [] e → fault_of e ≡ Damaged → ((f : CompileError) × (understood old.now.schema sql ≡ Err f)) × IsUnchanged old new
+unfolding IsNotRun
+refused old new sql e (inl (inl h, same)) damaged = ((h.0, h.1), same)
+refused old new sql e (inl (inr h, same)) damaged = absurd (elim h.2 [
+  | inl many ↦ let bad = sym (ap fault_of many.1) ∙ damaged in cc
+  | inr other ↦ elim other [ inl count ↦ let bad = sym (ap fault_of count.1) ∙ damaged in cc | inr clock ↦ let bad = sym (ap fault_of clock.1) ∙ damaged in cc ]
+])
+refused old new sql e (inr fails) damaged = absurd (of_store fails.0 (sym (ap fault_of fails.1) ∙ damaged))
+
+-- on tables of the schema what keeps a query from being prepared has a cause
+pub unasked_caused : (old new : State) (v : Views) (sql : List ℕ) (e : Error) → AtRest old v → IsQuery pid_schema sql [] → IsNotRun old new sql [] e → IsCaused old new (fault_of e)
+unasked_caused old new v sql e rest query h = not_run_caused sql [] old new (λ opened. (rest.shows opened).schema) query e h
+
+pub unasked : (schema : Schema) (sql : List ℕ) (f : CompileError) → understood schema sql ≡ Err f → IsAsked schema sql → ⊥
+unasked schema sql f is asked = let both = sym is ∙ asked.1 in cc
+
+pub on_if_ok : {X E Q : Type 0} {P : X → Type 0} (r : Result X E) → ((x : X) → P x → Q) → IfOk r P → OnOk r Q
+on_if_ok (Ok x) f h = f x h
+on_if_ok (Err e) f h = tt
+
+pub told_caused : {X : Type 0} (old new : State) (r : Result X TableFault) (e : TableFault) → IfErr r (λ fault. fault ≡ e) → IsCaused old new e → IfErr r (IsCaused old new)
+told_caused old new (Ok x) e is h = tt
+told_caused old new (Err f) e is h = subst (IsCaused old new) (sym is) h
+
+-- ---- one after the other
+
+pub nothing_read : (s : State) → s.in_transaction ≡ false → OnlyReads s s
+nothing_read s settled = record { survives = record { clean = omega arith; shield = λ h. h; counts = omega arith; limit = refl; closes = λ clean opened. inl opened; crash = λ clean db may. inl may }; settled = settled; clean = λ clean. clean; was_open = λ opened. opened; same = λ d rest. rest; kept = λ v rest. rest }
+
+-- it only read so far, and the database is the same
+abbrev pub IsSame : State → State → Type 0
+IsSame old now = OnlyReads old now × (HasCleanDisk now → now.now ≡ old.now)
+
+pub same_first : (s : State) → s.in_transaction ≡ false → IsSame s s
+same_first s settled = (nothing_read s settled, λ clean. refl)
+
+pub same_then : (a b c : State) → IsSame a b → OnlyReads b c → (HasCleanDisk c → c.now ≡ b.now) → IsSame a c
+same_then a b c one rests same = (reads_then a b c one.0 rests, λ clean. same clean ∙ one.1 (rests.clean clean))
+
+-- what was asked on from the first on was open from the first on
+pub still_open : {S : Type 0} (g : Ghosts S) (a b : Held S) (c : State) (n : ℕ) → OnlyReads (state g b) c → (n ≡ 0 → b ≡ a) → (HasCleanDisk (state g b) → 0 < n → IsTrue (state g a).is_open) → IsTrue (state g b).is_open → HasCleanDisk c
+    → IsTrue (state g a).is_open
+still_open g a b c zero rests first later opened clean = subst (λ h. IsTrue (state g h).is_open) (first refl) opened
+still_open g a b c (suc n) rests first later opened clean = later (rests.clean clean) (omega arith)
+
+-- a cause in what came later
+pub caused_then : (a b c : State) (e : TableFault) → IsSame a b → OnlyReads b c → HasCleanDisk c → IsCaused b c e → IsCaused a c e
+caused_then a b c e one rests clean h = caused_later a b c (λ _. ⊥) e one.0.survives rests.survives.counts (rests.clean clean) h
+
+-- what is said of the schema in between is said of the first
+pub said_first : (a b c : State) (P : Schema → Type 0) → IsSame a b → OnlyReads b c → HasCleanDisk c → P b.now.schema → P a.now.schema
+said_first a b c P one rests clean h = subst (λ d. P d.schema) (one.1 (rests.clean clean)) h
+
+module _ (a b c : State) (tables : List Table) (at : ℕ) (t : Table) (sql : List ℕ) (is : sql ≡ query_of (get_or tables at t)) (asked : Bool) (less : at < length tables) (one : IsSame a b) (rests : OnlyReads b c)
+    (judged : HasCleanDisk c → IsTrue asked ↔ IsAsked b.now.schema sql) where
+  abbrev Has : Table → Type 0
+  Has x = IsAsked a.now.schema (query_of x)
+
+  here : HasCleanDisk c → IsTrue asked ↔ Has (get_or tables at t)
+  here clean = subst (λ text. IsTrue asked ↔ IsAsked a.now.schema text) is (said_first a b c (λ s. IsTrue asked ↔ IsAsked s sql) one rests clean (judged clean))
+
+  more : (P : Table → Type 0) → P (get_or tables at t) → ((k : ℕ) (d : Table) → k < at → P (get_or tables k d)) → (k : ℕ) (d : Table) → k < at + 1 → P (get_or tables k d)
+  more P = one_more (λ _ x. P x) tables at (get_or tables at t) less (same_there tables at t (get_or tables at t) less)
+
+  pub none_yet : asked ≡ false → (HasCleanDisk b → (k : ℕ) (d : Table) → k < at → ¬ (Has (get_or tables k d))) → HasCleanDisk c → (k : ℕ) (d : Table) → k < at + 1 → ¬ (Has (get_or tables k d))
+  none_yet off before clean = more (λ x. ¬ (Has x)) (λ has. let on = (here clean).1 has in cc) (before (rests.clean clean))
+
+  pub all_so_far : asked ≡ true → (HasCleanDisk b → (k : ℕ) (d : Table) → k < at → Has (get_or tables k d)) → HasCleanDisk c → (k : ℕ) (d : Table) → k < at + 1 → Has (get_or tables k d)
+  all_so_far on before clean = more Has ((here clean).0 on) (before (rests.clean clean))
+
+  pub missed : asked ≡ false → HasCleanDisk c → ¬ (All Has tables)
+  missed off clean all = let on = (here clean).1 (all at t less) in cc
+
+-- ---- all tables
+
+abbrev six : List Table
+six = Meta ∷ Account ∷ Item ∷ Submission ∷ Remark ∷ Receipt ∷ []
+
+abbrev seven : List Table
+seven = Meta ∷ Account ∷ Item ∷ Submission ∷ Remark ∷ Receipt ∷ Since ∷ []
+
+module _ (schema : Schema) (tables : List Table) where
+  abbrev Is : Table → Type 0
+  Is t = IsAsked schema (query_of t)
+
+  from : (text : List ℕ) → members.Has (map query_of tables) text → (t : Table) × members.Has tables t × (text ≡ query_of t)
+  from text has = unmapped query_of tables text has
+
+  each_of : All Is tables → (text : List ℕ) → members.Has (map query_of tables) text → IsAsked schema text
+  each_of all text has = let t = from text has in subst (IsAsked schema) (sym t.2) (each_member Is tables all t.0 t.1)
+
+  all_of : ((text : List ℕ) → members.Has (map query_of tables) text → IsAsked schema text) → All Is tables
+  all_of each = each_place Is tables (λ t has. each (query_of t) (mapped query_of tables t has))
+
+  some_of : Any Is tables → (text : List ℕ) × members.Has (map query_of tables) text × IsAsked schema text
+  some_of any = let t = some_member Is tables any in (query_of t.0, mapped query_of tables t.0 t.1, t.2)
+
+  any_of : ((text : List ℕ) × members.Has (map query_of tables) text × IsAsked schema text) → Any Is tables
+  any_of some = let t = from some.0 some.1 in some_place Is tables t.0 t.1 (subst (IsAsked schema) t.2 some.2)
+
+pub each_table : (schema : Schema) (asked : Bool) → (IsTrue asked ↔ All (Is schema six) six) → IsTrue asked ↔ HasEachTable schema
+each_table schema asked judged = (λ on. each_of schema six (judged.0 on), λ each. judged.1 (all_of schema six each))
+
+pub some_table : (schema : Schema) (asked : Bool) → (IsTrue asked ↔ Any (Is schema seven) seven) → IsTrue asked ↔ HasSomeTable schema
+some_table schema asked judged = (λ on. some_of schema seven (judged.0 on), λ some. judged.1 (any_of schema seven some))

@@ -1,0 +1,138 @@
+-- The set of the paths of items, and what makes rows of items those of a registry.
+use Rattle.std.proofs.Common.{◌≡◌, ◌⊎◌, inl, inr, ℕ, ◌+◌, ◌<◌, ◌≤◌, List, [], ◌∷◌, ◌++◌, length, get_or, take, Bool, true, false, cond, Some, refl, sym, ap, subst, ◌∙◌, arith}
+use Rattle.std.specs.List.{All, list_any}
+use Rattle.std.specs.Ordering.{is_eq}
+use Rattle.std.specs.BTreeSet.{BTreeSet, contains}
+use Rattle.std.specs.Cmp.Lexicographic.{nat_list_cmp_total}
+use Rattle.std.proofs.lemmas.Cmp.{tied_itself}
+use Rattle.std.proofs.lemmas.List.{take_more, take_all}
+use Rattle.sqlite.specs.declared.types.Value.{Value}
+use Rattle.sqlite.specs.declared.types.Value.TheVariants.{Text}
+use Rattle.sqlite.specs.Order.{Row, column}
+use Rattle.sqlite_rules.specs.Lists.{Has}
+use Rattle.pid_file.specs.declared.path.Path.{Path}
+use Rattle.pid_ident.specs.PathTexts.{IsPath, path_text, path_cmp, parent_of}
+use Rattle.pid_ident.specs.Trees.{text_cmp}
+use Rattle.pid_ident.specs.Words.{is_name}
+use Rattle.pid_moderation.specs.CheckTables.{most_items}
+use Rattle.pid_tables_rows.proofs.SetLemmas.{tied}
+use Rattle.pid_file.proofs.Kin.{same_path, parent_in_range}
+use Rattle.pid_tables_check.specs.Conditions.{HasValue, HasItem, AreItems}
+use Rattle.pid_tables_check.specs.Steps.PathSets.{ArePathsOf, HasPathText, IsItemAmong}
+use Rattle.pid_tables_check.proofs.Each.{each_member, each_place}
+
+-- ---- a list with one more element
+
+pub split : {X : Type 0} (xs : List X) (x y : X) → Has (xs ++ x ∷ []) y → Has xs y ⊎ (y ≡ x)
+split [] x y (inl same) = inr same
+split [] x y (inr none) = absurd none
+split (z ∷ xs) x y (inl same) = inl (inl same)
+split (z ∷ xs) x y (inr later) = elim (split xs x y later) [ inl there ↦ inl (inr there) | inr last ↦ inr last ]
+
+pub before : {X : Type 0} (xs : List X) (x y : X) → Has xs y → Has (xs ++ x ∷ []) y
+before [] x y h = absurd h
+before (z ∷ xs) x y (inl same) = inl same
+before (z ∷ xs) x y (inr later) = inr (before xs x y later)
+
+pub last : {X : Type 0} (xs : List X) (x : X) → Has (xs ++ x ∷ []) x
+last [] x = inl refl
+last (z ∷ xs) x = inr (last xs x)
+
+pub value_before : (rows : List Row) (r : Row) (at : ℕ) (v : Value) → HasValue rows at v → HasValue (rows ++ r ∷ []) at v
+value_before rows r at v h = (h.0, before rows r h.0 h.1, h.2)
+
+pub texts_same : (p q : List ℕ) → Text p ≡ Text q → p ≡ q
+texts_same p q e = cc
+
+-- ---- the set
+
+pub no_paths : (paths : BTreeSet Path) → paths.keys ≡ [] → ArePathsOf paths []
+no_paths paths none path = (λ there. absurd (let bad : false ≡ true = sym (ap (λ (ks : List Path). list_any (λ k. is_eq (path_cmp path k)) ks) none) ∙ there in cc), λ it. absurd it.3.1)
+
+text_before : (rows : List Row) (r : Row) (text : List ℕ) → HasPathText rows text → HasPathText (rows ++ r ∷ []) text
+text_before rows r text it = (it.0, it.1, it.2, value_before rows r 0 _ it.3)
+
+pub path_skipped : (paths : BTreeSet Path) (rows : List Row) (r : Row) → ((p : Path) → IsPath p → column r 0 ≡ Text (path_text p) → ⊥) → ArePathsOf paths rows → ArePathsOf paths (rows ++ r ∷ [])
+path_skipped paths rows r none are path = (
+  λ there. text_before rows r _ ((are path).0 there),
+  λ it. elim (split rows r it.3.0 it.3.1) [
+    | inl early ↦ (are path).1 (it.0, it.1, it.2, (it.3.0, early, it.3.2))
+    | inr same ↦ absurd (none it.0 it.1 (ap (λ (x : Row). column x 0) (sym same) ∙ it.3.2))
+  ],
+)
+
+chosen : (b c : Bool) → cond b true c ≡ true → (b ≡ true) ⊎ (c ≡ true)
+chosen true c h = inl refl
+chosen false c h = inr h
+
+either : (b c : Bool) → (b ≡ true) ⊎ (c ≡ true) → cond b true c ≡ true
+either true c h = refl
+either false c (inl h) = absurd cc
+either false c (inr h) = h
+
+pub path_added : (paths next : BTreeSet Path) (rows : List Row) (r : Row) (p : Path) → IsPath p → column r 0 ≡ Text (path_text p)
+    → ((q : Path) → contains path_cmp next q ≡ cond (is_eq (path_cmp p q)) true (contains path_cmp paths q)) → ArePathsOf paths rows → ArePathsOf next (rows ++ r ∷ [])
+path_added paths next rows r p in_range is added are path = (
+  λ there. elim (chosen _ _ (sym (added path) ∙ there)) [
+    | inl same ↦ (p, in_range, tied (path_text p) (path_text path) same, (r, last rows r, is))
+    | inr was ↦ text_before rows r _ ((are path).0 was)
+  ],
+  λ it. added path ∙ either _ _ (elim (split rows r it.3.0 it.3.1) [
+    | inl early ↦ inr ((are path).1 (it.0, it.1, it.2, (it.3.0, early, it.3.2)))
+    | inr same ↦ inl (
+        let e : path_text p ≡ path_text path = texts_same _ _ (sym is ∙ ap (λ (x : Row). column x 0) (sym same) ∙ it.3.2) ∙ it.2 in
+        ap (λ t. is_eq (text_cmp t (path_text path))) e ∙ ap is_eq (tied_itself nat_list_cmp_total (path_text path)))
+  ]),
+)
+
+pub paths_whole : (paths : BTreeSet Path) (rows : List Row) (i : ℕ) → length rows ≤ i → ArePathsOf paths (take i rows) → ArePathsOf paths rows
+paths_whole paths rows i all are = subst (ArePathsOf paths) (take_all i rows all) are
+
+pub paths_step : (paths : BTreeSet Path) (rows : List Row) (i : ℕ) (r : Row) → i < length rows → get_or rows i r ≡ r → ArePathsOf paths (take i rows ++ r ∷ []) → ArePathsOf paths (take (i + 1) rows)
+paths_step paths rows i r less is are = subst (ArePathsOf paths) (sym (take_more rows i r less ∙ ap (λ x. take i rows ++ x ∷ []) is)) are
+
+module _ (paths : BTreeSet Path) (rows : List Row) (are : ArePathsOf paths rows) (p : Path) where
+  pub path_known : contains path_cmp paths p ≡ true → HasItem rows p
+  path_known there = let it = (are p).0 there in subst (λ t. HasValue rows 0 (Text t)) it.2 it.3
+
+  pub path_listed : IsPath p → HasItem rows p → contains path_cmp paths p ≡ true
+  path_listed range has = (are p).1 (p, range, refl, has)
+
+-- ---- rows by the set
+
+pub two : (r : Row) → length r ≡ 2 → r ≡ column r 0 ∷ column r 1 ∷ []
+two [] e = absurd cc
+two (x ∷ []) e = absurd (omega (arith, e))
+two (x ∷ y ∷ []) e = refl
+two (x ∷ y ∷ z ∷ r) e = absurd (omega (arith, e))
+
+pub among_made : (paths : BTreeSet Path) (r : Row) (p : Path) → length r ≡ 2 → IsPath p → column r 0 ≡ Text (path_text p) → ((name : List ℕ) × (column r 1 ≡ Text name) × (is_name name ≡ true))
+    → ((above : Path) → parent_of p ≡ Some above → contains path_cmp paths above ≡ true) → IsItemAmong paths r
+among_made paths r p len range is name parent =
+    record { path = p; name = name.0; is = two r len ∙ (λ i. is i ∷ name.1 i ∷ []); in_range = range; good = name.2; parent = parent }
+
+pub among_named : (paths : BTreeSet Path) (r : Row) → IsItemAmong paths r → (name : List ℕ) × (column r 1 ≡ Text name) × (is_name name ≡ true)
+among_named paths r it = (it.name, ap (λ (x : Row). column x 1) it.is, it.good)
+
+pub among_parent : (paths : BTreeSet Path) (r : Row) (p : Path) → IsPath p → column r 0 ≡ Text (path_text p) → IsItemAmong paths r → (above : Path) → parent_of p ≡ Some above → contains path_cmp paths above ≡ true
+among_parent paths r p range is it above e =
+    let same : it.path ≡ p = same_path it.path p it.in_range range (texts_same _ _ (sym (ap (λ (x : Row). column x 0) it.is) ∙ is)) in
+    it.parent above (ap parent_of same ∙ e)
+
+pub among_path : (paths : BTreeSet Path) (r : Row) → IsItemAmong paths r → (p : Path) × IsPath p × (column r 0 ≡ Text (path_text p))
+among_path paths r it = (it.path, it.in_range, ap (λ (x : Row). column x 0) it.is)
+
+-- ---- all rows
+
+pub items_made : (paths : BTreeSet Path) (rows : List Row) → ArePathsOf paths rows → length rows ≤ most_items → All (IsItemAmong paths) rows → AreItems rows
+items_made paths rows are few all = record {
+  each = λ r h.
+      let it = each_member (IsItemAmong paths) rows all r h in
+      record { path = it.path; name = it.name; is = it.is; in_range = it.in_range; good = it.good; parent = λ above e. path_known paths rows are above (it.parent above e) };
+  limit = few;
+}
+
+pub items_among : (paths : BTreeSet Path) (rows : List Row) → ArePathsOf paths rows → AreItems rows → All (IsItemAmong paths) rows
+items_among paths rows are good = each_place (IsItemAmong paths) rows (λ r h.
+    let it = good.each r h in
+    record { path = it.path; name = it.name; is = it.is; in_range = it.in_range; good = it.good; parent = λ above e. path_listed paths rows are above (parent_in_range it.path above e it.in_range) (it.parent above e) })

@@ -1,0 +1,95 @@
+-- What is kept of tables, put together.
+use Rattle.std.proofs.Common.{◌≡◌, ℕ, Bool, List, [], IsTrue, Ok, Err, Result, MatchResult, IfOk, IfErr, ◌↔◌, sym, subst}
+use Rattle.sqlite.specs.Effect.{Database}
+use Rattle.sqlite.specs.Order.{Row}
+use Rattle.pid_tables_rows.specs.Faults.{IsMemoryOrStore}
+use Rattle.pid_tables_rows.specs.declared.fault.TableFault.{TableFault}
+use Rattle.pid_tables_rows.specs.declared.version.Version.{Version}
+use Rattle.pid_tables_rows.specs.declared.version.Version.TheVariants.{One, Two}
+use Rattle.pid_tables_check.specs.Conditions.{AreRemarks}
+use Rattle.pid_tables_check.specs.Steps.Keeping.{IsJudged, KeepsAccounts, KeepsItems, KeepsSubmissions, GoWith, AreOfAuthors, ShowsNamed, ShowsSubmitted, ShowsJudged}
+use Rattle.pid_tables_check.specs.Queries.{query_of}
+use Rattle.pid_tables_check.specs.Shapes.{ShowsRows}
+use Rattle.pid_tables_check.specs.declared.account.Accounts.{Accounts}
+use Rattle.pid_tables_check.specs.declared.item.Items.{Items}
+use Rattle.pid_tables_check.specs.declared.submission.Submissions.{Submissions}
+use Rattle.pid_tables_check.specs.declared.tables.Part.{Part}
+use Rattle.pid_tables_check.specs.declared.shape.Table.{Table}
+use Rattle.pid_tables_check.specs.declared.shape.Table.TheVariants.{Account, Item, Submission, Remark, Receipt, Since}
+
+-- rows were read, and this was kept of them
+pub kept : {X : Type 0} (Shows : List Row → Type 0) (Says : List Row → X → Type 0) (Q : Type 0) (rows slice : List Row) (r : Result X TableFault) → slice ≡ rows → Shows rows × Q → IfOk r (Says slice) → IfErr r IsMemoryOrStore
+    → MatchResult r (λ x. ((rows : List Row) × Shows rows × Says rows x) × Q) IsMemoryOrStore
+kept Shows Says Q rows slice (Ok x) same it says fault = ((rows, it.0, subst (λ l. Says l x) same says), it.1)
+kept Shows Says Q rows slice (Err e) same it says fault = fault
+
+-- the query of a table answers rows of which this is kept
+abbrev pub Has : Database → Table → (List Row → Type 0) → Type 0
+Has d table Says = (rows : List Row) × ShowsRows d (query_of table) rows × Says rows
+
+abbrev IsBoth : Bool → Bool → Bool → Type 0
+IsBoth good one other = IsTrue good ↔ (IsTrue one × IsTrue other)
+
+module _ (version : Version) (revision : ℕ) (d : Database) (it : Items) (items : Has d Item (λ rows. KeepsItems rows it)) where
+  pub first_named : version ≡ One → ShowsNamed version revision d (record { good = it.good; count = it.count })
+  first_named is = subst (λ v. ShowsNamed v revision d (record { good = it.good; count = it.count })) (sym is) (record {
+    items = items.0;
+    sinces = [];
+    has_items = items.1;
+    has_sinces = tt;
+    count = items.2.count;
+    good = (λ yes. (items.2.good.0 yes, tt), λ all. items.2.good.1 all.0);
+  })
+
+  pub second_named : version ≡ Two → (dated good : Bool) → IsBoth good it.good dated → Has d Since (λ rows. GoWith it.paths revision rows dated) → ShowsNamed version revision d (record { good = good; count = it.count })
+  second_named is dated good both sinces = subst (λ v. ShowsNamed v revision d (record { good = good; count = it.count })) (sym is) (
+      let go = sinces.2 items.0 items.2.paths in
+      record {
+        items = items.0;
+        sinces = sinces.0;
+        has_items = items.1;
+        has_sinces = sinces.1;
+        count = items.2.count;
+        good = (λ yes. let each = both.0 yes in (items.2.good.0 each.0, go.0 each.1), λ all. both.1 (items.2.good.1 all.0, go.1 all.1));
+      })
+
+pub submitted : (d : Database) (a : Accounts) (s : Submissions) (r inner good : Bool) → IsBoth inner s.good r → IsBoth good a.good inner → Has d Account (λ rows. KeepsAccounts rows a)
+    → Has d Submission (λ rows. KeepsSubmissions a.names rows s) → Has d Receipt (λ rows. AreOfAuthors s.authors rows r) → ShowsSubmitted d (record { good = good; count = s.count })
+submitted d a s r inner good in_both both accounts submissions receipts =
+    let of = submissions.2.good accounts.0 accounts.2.names in
+    let go = receipts.2 submissions.0 submissions.2.authors in
+    record {
+      accounts = accounts.0;
+      submissions = submissions.0;
+      receipts = receipts.0;
+      has_accounts = accounts.1;
+      has_submissions = submissions.1;
+      has_receipts = receipts.1;
+      count = submissions.2.count;
+      good = (
+        λ yes.
+            let each = both.0 yes in
+            let rest = in_both.0 each.1 in
+            let first = accounts.2.good.0 each.0 in
+            (first, (of first).0 rest.0, go.0 rest.1),
+        λ all. both.1 (accounts.2.good.1 all.0, in_both.1 ((of all.0).1 all.1, go.1 all.2)),
+      );
+    }
+
+pub judged : (version : Version) (revision : ℕ) (d : Database) (s n : Part) (r inner good : Bool) → IsBoth inner n.good r → IsBoth good s.good inner → ShowsSubmitted d s → ShowsNamed version revision d n
+    → Has d Remark (λ rows. IsJudged AreRemarks rows r) → ShowsJudged version revision d (record { good = good; items = n.count; submissions = s.count })
+judged version revision d s n r inner good in_both both of named remarks = record {
+  rows = record { meta = []; accounts = of.accounts; items = named.items; submissions = of.submissions; remarks = remarks.0; receipts = of.receipts; sinces = named.sinces };
+  shows = λ meta shown. record { meta = shown; accounts = of.has_accounts; items = named.has_items; submissions = of.has_submissions; remarks = remarks.1; receipts = of.has_receipts; sinces = named.has_sinces };
+  items = named.count;
+  submissions = of.count;
+  good = (
+    λ yes.
+        let each = both.0 yes in
+        let rest = in_both.0 each.1 in
+        let first = of.good.0 each.0 in
+        let second = named.good.0 rest.0 in
+        record { accounts = first.0; items = second.0; submissions = first.1; remarks = remarks.2.0 rest.1; receipts = first.2; sinces = second.1 },
+    λ all. both.1 (of.good.1 (all.accounts, all.submissions, all.receipts), in_both.1 (named.good.1 (all.items, all.sinces), remarks.2.1 all.remarks)),
+  );
+}

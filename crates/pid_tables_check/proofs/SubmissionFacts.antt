@@ -1,0 +1,172 @@
+-- What makes rows of submissions those of a registry.
+use Rattle.std.proofs.Common.{◌≡◌, ◌≢◌, ℕ, ◌≤◌, List, [], ◌∷◌, length, true, false, refl, sym, ap, subst, ◌∙◌, arith}
+use Rattle.std.specs.Prelude.{IsUtf8, String}
+use Rattle.std.specs.BTreeSet.{BTreeSet}
+use Rattle.std.specs.declared.alloc.Global.{Global}
+use Rattle.sqlite.specs.declared.types.Value.TheVariants.{Text}
+use Rattle.sqlite.specs.Order.{Row, column}
+use Rattle.pid_ident.specs.Bytes.{is_empty}
+use Rattle.pid_ident.specs.PathTexts.{IsPath, path_text}
+use Rattle.pid_ident.specs.Words.{is_name, is_text}
+use Rattle.pid_file.specs.declared.path.Path.{Path}
+use Rattle.pid_moderation.specs.declared.command.Proposal.{Proposal}
+use Rattle.pid_moderation.specs.declared.command.Proposal.TheVariants.{Name, Removal}
+use Rattle.pid_moderation.specs.declared.facts.State.{State}
+use Rattle.pid_moderation.specs.declared.facts.State.TheVariants.{Pending, Approved, Rejected, Withdrawn}
+use Rattle.pid_moderation.specs.WellMade.{ProposesName}
+use Rattle.pid_tables_rows.specs.TableRows.{number, form_of, name_of}
+use Rattle.pid_tables_check.specs.Conditions.{HasAccount, AreAccounts, IsDecided, IsSubmissionRow, AreSubmissions}
+use Rattle.pid_tables_check.specs.Steps.NamesRead.{IsAmong, IsDecidedAmong, IsSubmissionAmong, Stands}
+use Rattle.pid_tables_check.specs.Steps.NameSets.{AreNamesOf}
+use Rattle.std.specs.List.{All}
+use Rattle.pid_tables_check.specs.Steps.NumberSets.{CountFromOne}
+use Rattle.pid_tables_check.proofs.Each.{each_member, each_place}
+use Rattle.pid_tables_check.proofs.ItemFacts.{texts_same}
+use Rattle.pid_tables_check.proofs.AccountFacts.{account_named}
+
+numbers_same : (m n : ℕ) → number m ≡ number n → m ≡ n
+numbers_same m n e = cc
+
+-- ---- the parts of a row
+
+abbrev pub Proposes : Row → Type 0
+Proposes r = (p : Proposal) × (column r 3 ≡ number (form_of p)) × (column r 4 ≡ Text (name_of p)) × ProposesName p
+
+pub named : (r : Row) → column r 3 ≡ number 0 → ((name : List ℕ) × (column r 4 ≡ Text name) × (is_name name ≡ true)) → Proposes r
+named r e it = (Name it.0, e, it.1, it.2)
+
+pub name_of_form : (r : Row) → column r 3 ≡ number 0 → Proposes r → (name : List ℕ) × (column r 4 ≡ Text name) × (is_name name ≡ true)
+name_of_form r e (Name name, form, is, good) = (name, is, good)
+name_of_form r e (Removal, form, is, good) = absurd (let bad : 0 ≡ 1 = numbers_same 0 1 (sym e ∙ form) in omega (arith, bad))
+
+module _ (names : BTreeSet (String Global)) (r : Row) where
+  abbrev pub IsByOther : List ℕ → Type 0
+  IsByOther author = (decider : List ℕ) × (column r 7 ≡ Text decider) × (decider ≢ author) × IsAmong names decider
+
+  pub approved : (author : List ℕ) → column r 6 ≡ number 1 → IsByOther author → column r 8 ≡ Text [] → Stands names r author
+  approved author e by none = (Approved by.0, e, by.1, none, (by.2, by.3))
+
+  pub rejected : (author : List ℕ) → column r 6 ≡ number 2 → IsByOther author → ((text : List ℕ) × (column r 8 ≡ Text text) × (is_text text ≡ true) × (is_empty text ≡ false)) → Stands names r author
+  rejected author e by why = (Rejected by.0 why.0, e, by.1, why.1, (by.2, by.3, why.2, why.3))
+
+  pub approved_reason : (author : List ℕ) → column r 6 ≡ number 1 → Stands names r author → column r 8 ≡ Text []
+  approved_reason author e (Pending, n, d, w, good) = w
+  approved_reason author e (Approved decider, n, d, w, good) = w
+  approved_reason author e (Rejected decider reason, n, d, w, good) = absurd (let bad : 1 ≡ 2 = numbers_same 1 2 (sym e ∙ n) in omega (arith, bad))
+  approved_reason author e (Withdrawn, n, d, w, good) = w
+
+  pub rejected_reason : (author : List ℕ) → column r 6 ≡ number 2 → Stands names r author → (text : List ℕ) × (column r 8 ≡ Text text) × (is_text text ≡ true) × (is_empty text ≡ false)
+  rejected_reason author e (Pending, n, d, w, good) = absurd (let bad : 2 ≡ 0 = numbers_same 2 0 (sym e ∙ n) in omega (arith, bad))
+  rejected_reason author e (Approved decider, n, d, w, good) = absurd (let bad : 2 ≡ 1 = numbers_same 2 1 (sym e ∙ n) in omega (arith, bad))
+  rejected_reason author e (Rejected decider reason, n, d, w, good) = (reason, w, good.2, good.3)
+  rejected_reason author e (Withdrawn, n, d, w, good) = absurd (let bad : 2 ≡ 3 = numbers_same 2 3 (sym e ∙ n) in omega (arith, bad))
+
+  module _ (count : ℕ) where
+    pub num_of : IsSubmissionAmong names count r → (n : ℕ) × (column r 0 ≡ number n) × (1 ≤ n) × (n ≤ count)
+    num_of it = (it.num, ap (λ (x : Row). column x 0) it.is, it.within.0, it.within.1)
+
+    pub path_of : IsSubmissionAmong names count r → (p : Path) × IsPath p × (column r 2 ≡ Text (path_text p))
+    path_of it = (it.standing.submitted.path, it.path, ap (λ (x : Row). column x 2) it.is)
+
+    pub proposal_of : IsSubmissionAmong names count r → Proposes r
+    proposal_of it = (it.standing.submitted.proposal, ap (λ (x : Row). column x 3) it.is, ap (λ (x : Row). column x 4) it.is, it.proposal)
+
+    pub note_of : IsSubmissionAmong names count r → (text : List ℕ) × (column r 5 ≡ Text text) × (is_text text ≡ true)
+    note_of it = (it.standing.submitted.note, ap (λ (x : Row). column x 5) it.is, it.note)
+
+    pub author_of : IsSubmissionAmong names count r → (author : List ℕ) × (column r 1 ≡ Text author) × IsAmong names author × Stands names r author
+    author_of it = (
+      it.standing.submitted.author,
+      ap (λ (x : Row). column x 1) it.is,
+      it.author,
+      (it.standing.state, ap (λ (x : Row). column x 6) it.is, ap (λ (x : Row). column x 7) it.is, ap (λ (x : Row). column x 8) it.is, it.state),
+    )
+
+    pub stands_of : (author : List ℕ) → column r 1 ≡ Text author → IsSubmissionAmong names count r → IsAmong names author × Stands names r author
+    stands_of author is it = let of = author_of it in subst (λ a. IsAmong names a × Stands names r a) (texts_same _ _ (sym of.1 ∙ is)) (of.2, of.3)
+
+nine : (r : Row) → length r ≡ 9 → r ≡ column r 0 ∷ column r 1 ∷ column r 2 ∷ column r 3 ∷ column r 4 ∷ column r 5 ∷ column r 6 ∷ column r 7 ∷ column r 8 ∷ []
+nine (a ∷ b ∷ c ∷ d ∷ e ∷ f ∷ g ∷ h ∷ i ∷ []) len = refl
+nine (a ∷ b ∷ c ∷ d ∷ e ∷ f ∷ g ∷ h ∷ i ∷ j ∷ r) len = absurd (omega (arith, len))
+nine [] len = absurd (omega (arith, len))
+nine (a ∷ []) len = absurd (omega (arith, len))
+nine (a ∷ b ∷ []) len = absurd (omega (arith, len))
+nine (a ∷ b ∷ c ∷ []) len = absurd (omega (arith, len))
+nine (a ∷ b ∷ c ∷ d ∷ []) len = absurd (omega (arith, len))
+nine (a ∷ b ∷ c ∷ d ∷ e ∷ []) len = absurd (omega (arith, len))
+nine (a ∷ b ∷ c ∷ d ∷ e ∷ f ∷ []) len = absurd (omega (arith, len))
+nine (a ∷ b ∷ c ∷ d ∷ e ∷ f ∷ g ∷ []) len = absurd (omega (arith, len))
+nine (a ∷ b ∷ c ∷ d ∷ e ∷ f ∷ g ∷ h ∷ []) len = absurd (omega (arith, len))
+
+pub submission_made : (names : BTreeSet (String Global)) (count : ℕ) (r : Row) (author : List ℕ) → length r ≡ 9 → ((n : ℕ) × (column r 0 ≡ number n) × (1 ≤ n) × (n ≤ count)) → ((p : Path) × IsPath p × (column r 2 ≡ Text (path_text p)))
+    → Proposes r → ((text : List ℕ) × (column r 5 ≡ Text text) × (is_text text ≡ true)) → column r 1 ≡ Text author → (IsAmong names author × Stands names r author) → IsSubmissionAmong names count r
+submission_made names count r author len num path proposal note is it = record {
+  num = num.0;
+  within = (num.2, num.3);
+  standing = record { submitted = record { author = author; path = path.0; proposal = proposal.0; note = note.0 }; state = it.1.0 };
+  is = nine r len ∙ (λ i. num.1 i ∷ is i ∷ path.2 i ∷ proposal.1 i ∷ proposal.2 i ∷ note.1 i ∷ it.1.1 i ∷ it.1.2 i ∷ it.1.3 i ∷ []);
+  author = it.0;
+  path = path.1;
+  proposal = proposal.3;
+  note = note.2;
+  state = it.1.4;
+}
+
+-- ---- by the accounts
+
+module _ (accounts : List Row) (good : AreAccounts accounts) (names : BTreeSet (String Global)) (are : AreNamesOf names accounts) where
+  pub known : (name : List ℕ) → IsAmong names name → HasAccount accounts name
+  known name it = (are name it.0).0 it.1
+
+  pub listed : (name : List ℕ) → HasAccount accounts name → IsAmong names name
+  listed name it =
+      let of = account_named it.0 (good.each it.0 it.1) in
+      let utf8 = subst IsUtf8 (texts_same _ _ (sym of.1 ∙ it.2)) of.2 in
+      (utf8, (are name utf8).1 it)
+
+  decided : (author : List ℕ) (s : State) → IsDecidedAmong names author s → IsDecided accounts author s
+  decided author Pending h = tt
+  decided author (Approved decider) h = (h.0, known decider h.1)
+  decided author (Rejected decider reason) h = (h.0, known decider h.1, h.2, h.3)
+  decided author Withdrawn h = tt
+
+  decided_among : (author : List ℕ) (s : State) → IsDecided accounts author s → IsDecidedAmong names author s
+  decided_among author Pending h = tt
+  decided_among author (Approved decider) h = (h.0, listed decider h.1)
+  decided_among author (Rejected decider reason) h = (h.0, listed decider h.1, h.2, h.3)
+  decided_among author Withdrawn h = tt
+
+  row_of : (count : ℕ) (r : Row) → IsSubmissionAmong names count r → IsSubmissionRow accounts count r
+  row_of count r it = record {
+    num = it.num;
+    standing = it.standing;
+    is = it.is;
+    within = it.within;
+    author = known _ it.author;
+    path = it.path;
+    proposal = it.proposal;
+    note = it.note;
+    state = decided it.standing.submitted.author it.standing.state it.state;
+  }
+
+  row_among : (count : ℕ) (r : Row) (it : IsSubmissionRow accounts count r) → IsSubmissionAmong names count r
+  row_among count r it = record {
+    num = it.num;
+    standing = it.standing;
+    is = it.is;
+    within = it.within;
+    author = listed _ it.author;
+    path = it.path;
+    proposal = it.proposal;
+    note = it.note;
+    state = decided_among it.standing.submitted.author it.standing.state it.state;
+  }
+
+  pub submissions_made : (rows : List Row) → All (IsSubmissionAmong names (length rows)) rows → CountFromOne rows → AreSubmissions accounts rows
+  submissions_made rows all counted = record { each = λ r h. row_of (length rows) r (each_member (IsSubmissionAmong names (length rows)) rows all r h); counted = counted }
+
+  pub submissions_among : (rows : List Row) → AreSubmissions accounts rows → All (IsSubmissionAmong names (length rows)) rows
+  submissions_among rows good = each_place (IsSubmissionAmong names (length rows)) rows (λ r h. row_among (length rows) r (good.each r h))
+
+pub counted_of : (accounts rows : List Row) → AreSubmissions accounts rows → CountFromOne rows
+counted_of accounts rows good = good.counted

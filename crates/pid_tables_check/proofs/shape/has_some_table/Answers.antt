@@ -1,0 +1,27 @@
+use Rattle.std.proofs.Common.{◌≡◌, ◌↔◌, arith, Bool, true, Ok, Err, Result, IfOk, IfErr, OnOk, MatchResult, IsTrue}
+use Rattle.pid_tables_rows.specs.declared.version.Version.TheVariants.{Two}
+use Rattle.sqlite.specs.Held.{state}
+use Rattle.sqlite.specs.State.{State}
+use Rattle.pid_moderation.specs.Views.{Views}
+use Rattle.pid_tables_rows.specs.declared.fault.TableFault.{TableFault}
+use Rattle.pid_tables_rows.specs.Causes.{IsCaused, IsReadable}
+use Rattle.pid_tables_rows.specs.Leaves.{AtRest}
+use Rattle.pid_tables_check.specs.Shapes.{HasSomeTable}
+use Rattle.pid_tables_check.proofs.Each.{if_ok}
+use Rattle.pid_tables_check.proofs.Asking.{some_table}
+use Rattle.pid_tables_check.proofs.Complete.{complete, each_some}
+use Rattle.pid_tables_check.proofs.shape.has_some_table.Goals as goal
+
+pub returns-clause-asked : goal.returns-clause-asked
+returns-clause-asked g c clean = if_ok c.has_any.result (λ asked judged. some_table c.args.conn.now.schema asked judged) (c.has_any.ensures.asked clean)
+
+-- where views are shown some table is there
+told : (old new : State) (v : Views) (r : Result Bool TableFault) → AtRest old v → OnOk r (IsTrue old.is_open) → IfOk r (λ some. IsTrue some ↔ HasSomeTable old.now.schema) → IfErr r (IsCaused old new)
+    → MatchResult r (λ some. some ≡ true) (λ fault. IsReadable v → IsCaused old new fault)
+told old new v (Ok some) rest opened judged caused = judged.1 (each_some old.now.schema (complete Two old.now.schema (rest.shows opened).schema))
+told old new v (Err e) rest opened judged caused = λ readable. caused
+
+pub returns-clause-found : goal.returns-clause-found
+returns-clause-found g c clean v rest =
+    told (state g.S.Store c.args.conn.now) (state g.S.Store c.has_any.new.conn) v c.has_any.result rest (c.has_any.ensures.was_open clean (omega arith)) (if_ok c.has_any.result (λ asked judged. some_table c.args.conn.now.schema asked judged) (c.has_any.ensures.asked clean))
+    (c.has_any.ensures.caused clean v rest)

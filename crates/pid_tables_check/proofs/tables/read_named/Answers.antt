@@ -1,0 +1,34 @@
+use Rattle.std.proofs.Common.{inl, inr, refl, subst, arith}
+use Rattle.sqlite.specs.Held.{state}
+use Rattle.sqlite.specs.State.{HasCleanDisk}
+use Rattle.pid_tables_rows.specs.Faults.{IsMemoryOrStore}
+use Rattle.pid_tables_rows.specs.declared.version.Version.{Version}
+use Rattle.pid_tables_rows.proofs.CauseLemmas.{passed_on}
+use Rattle.pid_tables_check.specs.Shapes.{HasTables}
+use Rattle.pid_tables_check.proofs.Complete.{tables_each}
+use Rattle.pid_tables_check.proofs.KeepingFacts.{first_named, second_named}
+use Rattle.pid_tables_check.proofs.tables.read_named.Goals as goal
+
+pub returns-in_err-items-clause-told : goal.returns-in_err-items-clause-told
+returns-in_err-items-clause-told g c clean d is has =
+    passed_on c.from_residual.result _ _ IsMemoryOrStore c.from_residual.ensures.1 (c.in_err-items.ensures.keeps clean d is (tables_each _ d.schema has _ (inr (inr (inl refl)))))
+
+pub returns-in-One-clause-told : goal.returns-in-One-clause-told
+returns-in-One-clause-told g c clean d is has =
+    let one = c.in_ok-items.ensures.keeps clean d is (tables_each _ d.schema has _ (inr (inr (inl refl)))) in
+    (first_named c.args.version c.args.revision d c.in_ok-items.items one.0 c.in-One.is, one.1)
+
+pub returns-in_err-dated-in-Two-clause-told : goal.returns-in_err-dated-in-Two-clause-told
+returns-in_err-dated-in-Two-clause-told g c clean d is has =
+    let mid : HasCleanDisk (state g.S.Store c.read_items.new.tx.conn.now) = omega (arith, clean, c.read_sinces.ensures.goes.survives.clean) in
+    let one = c.in_ok-items.ensures.keeps mid d is (tables_each _ d.schema has _ (inr (inr (inl refl)))) in
+    let tables = subst (λ (v : Version). HasTables v d.schema) c.in-Two.is has in
+    passed_on c.from_residual-in_err-dated-in-Two.result _ _ IsMemoryOrStore c.from_residual-in_err-dated-in-Two.ensures.1 (c.in_err-dated-in-Two.ensures.keeps clean d one.1 tables.2)
+
+pub returns-clause-told : goal.returns-clause-told
+returns-clause-told g c clean d is has =
+    let mid : HasCleanDisk (state g.S.Store c.read_items.new.tx.conn.now) = omega (arith, clean, c.read_sinces.ensures.goes.survives.clean) in
+    let one = c.in_ok-items.ensures.keeps mid d is (tables_each _ d.schema has _ (inr (inr (inl refl)))) in
+    let tables = subst (λ (v : Version). HasTables v d.schema) c.in-Two.is has in
+    let two = c.in_ok-dated-in-Two.ensures.keeps clean d one.1 tables.2 in
+    (second_named c.args.version c.args.revision d c.in_ok-items.items one.0 c.in-Two.is c.in_ok-dated-in-Two.dated c.are_both.result c.are_both.ensures two.0, two.1)

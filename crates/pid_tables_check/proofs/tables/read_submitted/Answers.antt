@@ -1,0 +1,33 @@
+use Rattle.std.proofs.Common.{inl, inr, refl, arith}
+use Rattle.sqlite.specs.Held.{state}
+use Rattle.sqlite.specs.State.{HasCleanDisk}
+use Rattle.pid_tables_rows.specs.Faults.{IsMemoryOrStore}
+use Rattle.pid_tables_rows.proofs.CauseLemmas.{passed_on}
+use Rattle.pid_tables_check.proofs.KeepingFacts.{submitted}
+use Rattle.pid_tables_check.proofs.tables.read_submitted.Goals as goal
+
+pub returns-in_err-accounts-clause-told : goal.returns-in_err-accounts-clause-told
+returns-in_err-accounts-clause-told g c clean d is has = passed_on c.from_residual.result _ _ IsMemoryOrStore c.from_residual.ensures.1 (c.in_err-accounts.ensures.keeps clean d is (has _ (inr (inl refl))))
+
+pub returns-in_err-submissions-clause-told : goal.returns-in_err-submissions-clause-told
+returns-in_err-submissions-clause-told g c clean d is has =
+    let mid : HasCleanDisk (state g.S.Store c.read_accounts.new.tx.conn.now) = omega (arith, clean, c.read_submissions.ensures.goes.survives.clean) in
+    let one = c.in_ok-accounts.ensures.keeps mid d is (has _ (inr (inl refl))) in
+    passed_on c.from_residual-in_err-submissions.result _ _ IsMemoryOrStore c.from_residual-in_err-submissions.ensures.1 (c.in_err-submissions.ensures.keeps clean d one.1 (has _ (inr (inr (inr (inl refl))))))
+
+pub returns-in_err-receipts-clause-told : goal.returns-in_err-receipts-clause-told
+returns-in_err-receipts-clause-told g c clean d is has =
+    let late : HasCleanDisk (state g.S.Store c.read_submissions.new.tx.conn.now) = omega (arith, clean, c.read_receipts.ensures.goes.survives.clean) in
+    let mid : HasCleanDisk (state g.S.Store c.read_accounts.new.tx.conn.now) = omega (arith, late, c.read_submissions.ensures.goes.survives.clean) in
+    let one = c.in_ok-accounts.ensures.keeps mid d is (has _ (inr (inl refl))) in
+    let two = c.in_ok-submissions.ensures.keeps late d one.1 (has _ (inr (inr (inr (inl refl))))) in
+    passed_on c.from_residual-in_err-receipts.result _ _ IsMemoryOrStore c.from_residual-in_err-receipts.ensures.1 (c.in_err-receipts.ensures.keeps clean d two.1 (has _ (inr (inr (inr (inr (inr (inl refl))))))))
+
+pub returns-clause-told : goal.returns-clause-told
+returns-clause-told g c clean d is has =
+    let late : HasCleanDisk (state g.S.Store c.read_submissions.new.tx.conn.now) = omega (arith, clean, c.read_receipts.ensures.goes.survives.clean) in
+    let mid : HasCleanDisk (state g.S.Store c.read_accounts.new.tx.conn.now) = omega (arith, late, c.read_submissions.ensures.goes.survives.clean) in
+    let one = c.in_ok-accounts.ensures.keeps mid d is (has _ (inr (inl refl))) in
+    let two = c.in_ok-submissions.ensures.keeps late d one.1 (has _ (inr (inr (inr (inl refl))))) in
+    let three = c.in_ok-receipts.ensures.keeps clean d two.1 (has _ (inr (inr (inr (inr (inr (inl refl))))))) in
+    (submitted d c.in_ok-accounts.accounts c.in_ok-submissions.submissions c.in_ok-receipts.receipts c.are_both.result c.are_both-good.result c.are_both.ensures c.are_both-good.ensures one.0 two.0 three.0, three.1)

@@ -1,0 +1,25 @@
+-- What clauses say of a connection in a transaction: the words of Reading, said of what the
+-- connections show.
+use Rattle.std.specs.Prelude.{ℕ, List, Result, Vec}
+use Rattle.std.specs.declared.alloc.Global.{Global}
+use Rattle.sqlite.specs.Effect.{Database}
+use Rattle.sqlite.specs.Held.{Held, state}
+use Rattle.sqlite.specs.Order.{Row}
+use Rattle.sqlite_trees.specs.declared.store.Store.{Ghosts}
+use Rattle.pid_tables_rows.specs.declared.fault.TableFault.{TableFault}
+use Rattle.pid_tables_check.specs.declared.shape.Table.{Table}
+use Rattle.pid_tables_check.specs.Steps.Reading as reading
+
+module _ {S : Type 0} (store : Ghosts S) where
+  abbrev pub Judges : {X : Type 0} → Held S → Held S → Result X TableFault → (Database → Type 0)
+      → (Database → X → Type 0) → (Database → TableFault → Type 0) → Type 0
+  Judges old new result Has Says Fails = reading.Judges (state store old)
+      (state store new) result Has Says Fails
+
+  abbrev pub Answers : Held S → Held S → Result (Vec Row Global) TableFault → List ℕ → Type 0
+  Answers old new result text = reading.Answers (state store old) (state store new) result text
+
+  abbrev pub Keeps : {X : Type 0} → Held S → Held S → Result X TableFault → Table
+      → (List Row → X → Type 0) → Type 0
+  Keeps old new result table Says = reading.Keeps (state store old)
+      (state store new) result table Says

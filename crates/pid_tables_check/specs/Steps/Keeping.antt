@@ -1,0 +1,105 @@
+-- What is kept of tables that were read and judged, and what it says of their rows.
+use Rattle.std.specs.Prelude.{◌≡◌, ◌↔◌, ℕ, Bool, List, length, IsTrue, String}
+use Rattle.std.specs.declared.alloc.Global.{Global}
+use Rattle.std.specs.BTreeSet.{BTreeSet}
+use Rattle.sqlite.specs.Effect.{Database}
+use Rattle.sqlite.specs.Order.{Row}
+use Rattle.pid_file.specs.declared.path.Path.{Path}
+use Rattle.pid_tables_rows.specs.declared.version.Version.{Version}
+use Rattle.pid_tables_rows.specs.declared.version.Version.TheVariants.{One, Two}
+use Rattle.pid_tables_check.specs.declared.account.Accounts.{Accounts}
+use Rattle.pid_tables_check.specs.declared.item.Items.{Items}
+use Rattle.pid_tables_check.specs.declared.submission.Submissions.{Submissions}
+use Rattle.pid_tables_check.specs.declared.tables.Part.{Part}
+use Rattle.pid_tables_check.specs.declared.tables.Judged.{Judged}
+use Rattle.pid_tables_check.specs.declared.shape.Table.TheVariants.{Meta, Account, Item, Submission, Receipt}
+use Rattle.pid_tables_check.specs.Steps.AuthorSets.{AreAuthorsOf}
+use Rattle.pid_tables_check.specs.Steps.NameSets.{AreNamesOf}
+use Rattle.pid_tables_check.specs.Steps.PathSets.{ArePathsOf}
+use Rattle.pid_tables_check.specs.Queries.{query_of}
+use Rattle.pid_tables_check.specs.Shapes.{ShowsRows, ShowsSinces, ShowsTables}
+use Rattle.pid_tables_check.specs.Conditions.{Rows, AreAccounts, AreItems, AreSubmissions}
+use Rattle.pid_tables_check.specs.Conditions.{AreRemarks, AreReceipts, AreSinces}
+
+-- ---- one table
+
+-- it is true exactly where the rows keep a condition
+abbrev pub IsJudged : (List Row → Type 0) → List Row → Bool → Type 0
+IsJudged Are rows good = IsTrue good ↔ Are rows
+
+pub record KeepsAccounts (rows : List Row) (it : Accounts) : Type 0 where
+  pub names : AreNamesOf it.names rows
+  pub good : IsJudged AreAccounts rows it.good
+
+pub record KeepsItems (rows : List Row) (it : Items) : Type 0 where
+  pub count : it.count ≡ length rows
+  pub paths : ArePathsOf it.paths rows
+  pub good : IsJudged AreItems rows it.good
+
+-- the numbers of changes go with any items that have these paths
+abbrev pub GoWith : BTreeSet Path → ℕ → List Row → Bool → Type 0
+GoWith paths revision rows good = (items : List Row) → ArePathsOf paths items
+    → IsJudged (AreSinces revision items) rows good
+
+-- the submissions go with any good accounts that have these names
+abbrev pub AreOfAccounts : BTreeSet (String Global) → List Row → Bool → Type 0
+AreOfAccounts names rows good = (accounts : List Row) → AreNamesOf names accounts
+    → AreAccounts accounts → IsJudged (AreSubmissions accounts) rows good
+
+pub record KeepsSubmissions (names : BTreeSet (String Global)) (rows : List Row)
+    (it : Submissions) : Type 0 where
+  pub count : it.count ≡ length rows
+  pub authors : AreAuthorsOf it.authors rows
+  pub good : AreOfAccounts names rows it.good
+
+-- the receipts go with any submissions that have these authors
+abbrev pub AreOfAuthors : BTreeSet (ℕ × String Global) → List Row → Bool → Type 0
+AreOfAuthors authors rows good = (submissions : List Row) → AreAuthorsOf authors submissions
+    → IsJudged (AreReceipts submissions) rows good
+
+-- ---- several tables
+
+-- schema 1 keeps no numbers of changes
+abbrev pub AreDated : Version → ℕ → List Row → List Row → Type 0
+AreDated One revision items sinces = Unit {0}
+AreDated Two revision items sinces = AreSinces revision items sinces
+
+-- the items and their numbers
+pub record ShowsNamed (version : Version) (revision : ℕ) (d : Database) (it : Part) : Type 0 where
+  pub items : List Row
+  pub sinces : List Row
+  pub has_items : ShowsRows d (query_of Item) items
+  pub has_sinces : ShowsSinces version d sinces
+  pub count : it.count ≡ length items
+  pub good : IsTrue it.good ↔ (AreItems items × AreDated version revision items sinces)
+
+-- the submissions, the accounts and the receipts
+pub record ShowsSubmitted (d : Database) (it : Part) : Type 0 where
+  pub accounts : List Row
+  pub submissions : List Row
+  pub receipts : List Row
+  pub has_accounts : ShowsRows d (query_of Account) accounts
+  pub has_submissions : ShowsRows d (query_of Submission) submissions
+  pub has_receipts : ShowsRows d (query_of Receipt) receipts
+  pub count : it.count ≡ length submissions
+  pub good : IsTrue it.good ↔ (AreAccounts accounts × AreSubmissions accounts submissions
+      × AreReceipts submissions receipts)
+
+-- the rows of all tables but meta keep their conditions
+pub record AreAllGood (version : Version) (revision : ℕ) (t : Rows) : Type 0 where
+  pub accounts : AreAccounts t.accounts
+  pub items : AreItems t.items
+  pub submissions : AreSubmissions t.accounts t.submissions
+  pub remarks : AreRemarks t.remarks
+  pub receipts : AreReceipts t.submissions t.receipts
+  pub sinces : AreDated version revision t.items t.sinces
+
+-- these are the rows of all tables, but for those of meta
+pub record ShowsJudged (version : Version) (revision : ℕ) (d : Database)
+    (it : Judged) : Type 0 where
+  pub rows : Rows
+  pub shows : (meta : List Row) → ShowsRows d (query_of Meta) meta
+      → ShowsTables version d (record rows { meta = meta })
+  pub items : it.items ≡ length rows.items
+  pub submissions : it.submissions ≡ length rows.submissions
+  pub good : IsTrue it.good ↔ AreAllGood version revision rows

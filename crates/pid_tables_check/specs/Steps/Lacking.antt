@@ -1,0 +1,16 @@
+-- What is told of a database that lacks a table.
+use Rattle.std.specs.Prelude.{Some, None}
+use Rattle.sqlite.specs.Effect.{Database}
+use Rattle.pid_tables_rows.specs.declared.fault.TableFault.{TableFault}
+use Rattle.pid_tables_rows.specs.declared.fault.TableFault.TheVariants.{Memory, Store, NewerSchema, Damaged}
+use Rattle.pid_tables_check.specs.declared.shape.Table.TheVariants.{Meta}
+use Rattle.pid_tables_check.specs.Queries.{query_of}
+use Rattle.pid_tables_check.specs.Shapes.{IsAsked, ShowsLater}
+
+-- A later schema is judged before all else: it is Damaged where the labels can't be asked for, or
+-- show none.
+abbrev pub ExplainsLater : Database → TableFault → Type 0
+ExplainsLater db Memory = Unit {0}
+ExplainsLater db Store = Unit {0}
+ExplainsLater db (NewerSchema n) = ShowsLater db (Some n)
+ExplainsLater db Damaged = IsAsked db.schema (query_of Meta) → ShowsLater db None

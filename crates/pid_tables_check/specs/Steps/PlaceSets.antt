@@ -1,0 +1,41 @@
+-- The places of remarks as a set, and rows of remarks judged by it.
+use Rattle.std.specs.Prelude.{◌≡◌, ◌↔◌, ◌≤◌, ℕ, suc, true, false, List, [], ◌∷◌}
+use Rattle.std.specs.declared.cmp.Ordering.{Ordering}
+use Rattle.std.specs.Ordering.{nat_cmp, ordering_then}
+use Rattle.std.specs.BTreeSet.{BTreeSet, contains}
+use Rattle.sqlite.specs.declared.types.Value.TheVariants.{Text}
+use Rattle.sqlite.specs.Order.{Row, column}
+use Rattle.pid_ident.specs.Bytes.{is_empty}
+use Rattle.pid_ident.specs.Words.{is_text}
+use Rattle.pid_moderation.specs.CheckTables.{most_remarks}
+use Rattle.pid_tables_rows.specs.TableRows.{number}
+use Rattle.pid_tables_check.specs.Conditions.{HasRemark}
+
+-- pairs of numbers, by the first and then by the second
+abbrev pub pair_cmp : ℕ × ℕ → ℕ × ℕ → Ordering
+pair_cmp x y = ordering_then (nat_cmp x.0 y.0) (nat_cmp x.1 y.1)
+
+-- the set has exactly the numbers and places of the rows
+abbrev pub ArePlacesOf : BTreeSet (ℕ × ℕ) → List Row → Type 0
+ArePlacesOf places rows = (num place : ℕ)
+    → (contains pair_cmp places (num, place) ≡ true) ↔ HasRemark rows num place
+
+-- the place is the first, or the one before it is in the set
+abbrev pub Follows : BTreeSet (ℕ × ℕ) → ℕ → ℕ → Type 0
+Follows places num place = (1 ≤ place) × (place ≤ most_remarks)
+    × ((earlier : ℕ) → 1 ≤ earlier → place ≡ suc earlier
+    → contains pair_cmp places (num, earlier) ≡ true)
+
+abbrev pub HasPlace : BTreeSet (ℕ × ℕ) → Row → Type 0
+HasPlace places r = (num : ℕ) × (place : ℕ) × (column r 0 ≡ number num)
+    × (column r 1 ≡ number place) × Follows places num place
+
+pub record IsRemarkAmong (places : BTreeSet (ℕ × ℕ)) (r : Row) : Type 0 where
+  pub num : ℕ
+  pub place : ℕ
+  pub author : List ℕ
+  pub body : List ℕ
+  pub is : r ≡ number num ∷ number place ∷ Text author ∷ Text body ∷ []
+  pub follows : Follows places num place
+  pub text : is_text body ≡ true
+  pub filled : is_empty body ≡ false

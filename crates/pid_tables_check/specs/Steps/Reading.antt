@@ -1,0 +1,53 @@
+-- What calls in a transaction tell of the rows that the transaction shows.
+use Rattle.std.specs.Prelude.{◌≡◌, ℕ, List, Option, Some, None, Result, MatchResult, Vec}
+use Rattle.std.specs.declared.alloc.Global.{Global}
+use Rattle.sqlite.specs.Effect.{Database}
+use Rattle.sqlite.specs.Order.{Row}
+use Rattle.sqlite.specs.State.{State, HasCleanDisk}
+use Rattle.pid_tables_rows.specs.declared.version.Version.{Version}
+use Rattle.pid_tables_rows.specs.declared.fault.TableFault.{TableFault}
+use Rattle.pid_tables_rows.specs.declared.fault.TableFault.TheVariants.{Memory, Store, NewerSchema, Damaged}
+use Rattle.pid_tables_rows.specs.Faults.{IsMemoryOrStore}
+use Rattle.pid_tables_check.specs.declared.shape.Table.{Table}
+use Rattle.pid_tables_check.specs.Queries.{query_of}
+use Rattle.pid_tables_check.specs.Shapes.{IsAsked, ShowsRows, ShowsLater}
+use Rattle.pid_tables_check.specs.Checking.{ShowsRegistry, ShowsDamage}
+
+-- Where the transaction sees a database of which `Has` holds: a value says `Says` of it, and the
+-- transaction still sees it; a fault says `Fails`.
+abbrev pub Judges : {X : Type 0} → State → State → Result X TableFault → (Database → Type 0)
+    → (Database → X → Type 0) → (Database → TableFault → Type 0) → Type 0
+Judges old new result Has Says Fails = HasCleanDisk new → (d : Database) → old.now ≡ d → Has d
+    → MatchResult result (λ x. Says d x × (new.now ≡ d)) (Fails d)
+
+-- the rows that a query answers, where it can be asked
+abbrev pub Answers : State → State → Result (Vec Row Global) TableFault → List ℕ → Type 0
+Answers old new result text = Judges old new result (λ d. IsAsked d.schema text)
+    (λ d rows. ShowsRows d text rows.items) (λ d. IsMemoryOrStore)
+
+-- the same, with what is kept of the rows of a table
+abbrev pub Keeps : {X : Type 0} → State → State → Result X TableFault → Table
+    → (List Row → X → Type 0) → Type 0
+Keeps old new result table Says = Judges old new result (λ d. IsAsked d.schema (query_of table))
+    (λ d x. (rows : List Row) × ShowsRows d (query_of table) rows × Says rows x)
+    (λ d. IsMemoryOrStore)
+
+-- the tables of the schema are not a registry's, or nothing is told of them
+abbrev pub TellsDamage : Version → Database → TableFault → Type 0
+TellsDamage version d Memory = Unit {0}
+TellsDamage version d Store = Unit {0}
+TellsDamage version d (NewerSchema n) = ⊥
+TellsDamage version d Damaged = ShowsDamage version d
+
+-- a later schema is judged first; tables of neither schema are damaged
+abbrev pub TellsLater : Option Version → Database → TableFault → Type 0
+TellsLater version d Memory = Unit {0}
+TellsLater version d Store = Unit {0}
+TellsLater version d (NewerSchema n) = ShowsLater d (Some n)
+TellsLater version d Damaged = ShowsLater d None
+    × ((it : Version) → version ≡ Some it → ShowsDamage it d)
+
+-- the tables are those of a schema and show a registry, and no later schema
+abbrev pub ShowsFound : Option Version → Database → Type 0
+ShowsFound None d = ⊥
+ShowsFound (Some found) d = ShowsRegistry found d × ShowsLater d None

@@ -1,0 +1,11 @@
+-- Steps beside Shapes.
+use Rattle.std.specs.Prelude.{Option, Some, None}
+use Rattle.sqlite.specs.Schema.{Schema}
+use Rattle.sqlite_rules.specs.Lists.{Has}
+use Rattle.pid_tables_rows.specs.declared.version.Version.{Version}
+use Rattle.pid_tables_check.specs.Shapes.{HasTables}
+
+-- these tables, or those of neither schema, are there
+abbrev pub HasTablesOf : Option Version → Schema → Type 0
+HasTablesOf (Some version) schema = HasTables version schema
+HasTablesOf None schema = (version : Version) → ¬ (HasTables version schema)

@@ -1,0 +1,125 @@
+//! The check of all tables: first which are there, and then their rows in one transaction that is
+//! rolled back.
+ghost use Rattle.std.specs.Prelude.{◌≡◌, ◌↔◌, false, None, Some, MatchResult};
+ghost use Rattle.pid_tables_rows.specs.Faults.{IsMemoryOrStore};
+ghost use Rattle.pid_tables_rows.specs.declared.version.Version.{Version as Schema};
+ghost use Rattle.pid_tables_rows.specs.Clauses.{GoesOn, HasCleanDisk, OnlyReads, is_open, seen};
+ghost use Rattle.pid_tables_check.specs.declared.shape.Table.TheVariants.{Meta};
+ghost use Rattle.pid_tables_check.specs.Checking.{Explains, Finds, IsRegistry, ShowsRegistry};
+ghost use Rattle.pid_tables_check.specs.Steps.Clauses.{Judges};
+ghost use Rattle.pid_tables_check.specs.Queries.{query_of};
+ghost use Rattle.pid_tables_check.specs.Steps.Reading.{ShowsFound, TellsDamage, TellsLater};
+ghost use Rattle.pid_tables_check.specs.Shapes.{HasEachTable, HasTables, IsMadeFirst, ShowsLater, ShowsRows};
+ghost use Rattle.pid_tables_check.specs.Steps.Shapes.{HasTablesOf};
+
+use crate::lacking::check_lacking;
+use crate::meta::{are_labels, newer, revision_told};
+use crate::read::table_rows;
+use crate::shape::{Table, has_each_table, has_some_table, tables_of};
+use crate::tables::read_tables;
+use pid_tables_rows::{TableFault, Version};
+use sqlite::{Alter, Connection, Row, Transaction};
+use std::alloc::Global;
+
+fn check_rows<S: Alter>(
+    tx: &mut Transaction<'_, S>,
+    alloc: Global,
+    version: Version,
+    meta: Vec<Row>,
+) -> Result<(), TableFault>
+    ensures same_reference { tx.new.conn.ghost_name ≡ tx.old.conn.ghost_name }
+    ensures goes { GoesOn S.Store tx.old.conn.now tx.new.conn.now result }
+    ensures told { Judges S.Store tx.old.conn.now tx.new.conn.now result
+        (λ d. HasTables version d.schema × ShowsRows d (query_of Meta) meta.items)
+        (λ d x. ShowsRegistry version d) (TellsDamage version) }
+{
+    let labels = meta.as_slice();
+    let revision = revision_told(labels);
+    let judged = read_tables(tx, alloc, version, revision)?;
+    if !judged.good {
+        return Err(TableFault::Damaged);
+    }
+    if !are_labels(labels, version, judged.items, judged.submissions, revision) {
+        return Err(TableFault::Damaged);
+    }
+    Ok(())
+}
+
+fn check_tables<S: Alter>(
+    tx: &mut Transaction<'_, S>,
+    alloc: Global,
+    version: Option<Version>,
+) -> Result<(), TableFault>
+    ensures same_reference { tx.new.conn.ghost_name ≡ tx.old.conn.ghost_name }
+    ensures goes { GoesOn S.Store tx.old.conn.now tx.new.conn.now result }
+    ensures told { Judges S.Store tx.old.conn.now tx.new.conn.now result
+        (λ d. HasEachTable d.schema × HasTablesOf version d.schema)
+        (λ d x. ShowsFound version d) (TellsLater version) }
+{
+    let meta = table_rows(tx, Table::Meta)?;
+    if let Some(number) = newer(meta.as_slice()) {
+        return Err(TableFault::NewerSchema(number));
+    }
+    match version {
+        None => Err(TableFault::Damaged),
+        Some(version) => check_rows(tx, alloc, version, meta),
+    }
+}
+
+// The check where each of the six tables is there, and the tables are those of this schema.
+fn check_whole<S: Alter>(
+    conn: &mut Connection<S>,
+    alloc: Global,
+    version: Option<Version>,
+) -> Result<(), TableFault>
+    requires { conn.old.in_transaction ≡ false }
+    ensures rests { OnlyReads S.Store conn.old conn.new }
+    ensures told { HasCleanDisk S.Store conn.new → HasEachTable (seen S.Store conn.old).schema
+        → HasTablesOf version (seen S.Store conn.old).schema
+        → MatchResult result (λ x. ShowsFound version (seen S.Store conn.old))
+        (TellsLater version (seen S.Store conn.old)) }
+{
+    let mut tx = conn.transaction();
+    check_tables(&mut tx, alloc, version)
+}
+
+/// The schema of the tables, where they are those of some registry; `None` where there is no table.
+///
+/// Which tables are there, it finds out by preparing a query of each table's columns by their
+/// names. Where none can be prepared it answers `None`: there is nothing to be damaged. Where some
+/// can, and not each of a schema, it answers `Damaged`, and so it does where a table `item_since`
+/// of any columns stands beside the six of schema 1. It answers a schema only where all conditions
+/// of that schema hold of the rows that the queries answer, and `Damaged` only where one of them
+/// fails. A later schema is judged before either, whatever the tables: `NewerSchema` only where the
+/// labels have that greater number, and a schema or `Damaged` only where they have none. It answers
+/// `Memory` and `Store` otherwise, and changes nothing. Other tables, indexes and views are borne.
+pub fn check<S: Alter>(
+    conn: &mut Connection<S>,
+    alloc: Global,
+) -> Result<Option<Version>, TableFault>
+    requires { conn.old.in_transaction ≡ false }
+    ensures rests { OnlyReads S.Store conn.old conn.new }
+    ensures shut { HasCleanDisk S.Store conn.new → is_open S.Store conn.old ≡ false
+        → MatchResult result (λ x. ⊥) IsMemoryOrStore }
+    // Whatever the schema: what it tells is so of the rows that the queries of the tables answer.
+    ensures told { HasCleanDisk S.Store conn.new
+        → MatchResult result (Finds (seen S.Store conn.old))
+        (Explains (seen S.Store conn.old)) }
+    // Where the tables of a schema were made first, whatever else stands behind them: it finds the
+    // schema exactly where storage has a registry in it.
+    ensures stored { HasCleanDisk S.Store conn.new → (version : Schema)
+        → IsMadeFirst version (seen S.Store conn.old).schema
+        → MatchResult result (λ found. (found ≡ Some version)
+        ↔ IsRegistry version (seen S.Store conn.old))
+        (λ fault. IsRegistry version (seen S.Store conn.old) → IsMemoryOrStore fault) }
+{
+    if has_each_table(conn)? {
+        let version = tables_of(conn)?;
+        check_whole(conn, alloc, version)?;
+        return Ok(version);
+    }
+    if has_some_table(conn)? {
+        check_lacking(conn)?;
+    }
+    Ok(None)
+}

@@ -1,0 +1,49 @@
+//! Laws of the definitions. Each is the contract of a function that does nothing.
+ghost use Rattle.std.specs.Prelude.{◌≤◌, ℕ, List};
+ghost use Rattle.sqlite.specs.Effect.{Database};
+ghost use Rattle.pid_moderation.specs.CheckTables.{most_revision};
+ghost use Rattle.pid_moderation.specs.History.{Asked, Begins, History};
+ghost use Rattle.pid_moderation.specs.Judgement.{after_all};
+ghost use Rattle.pid_moderation.specs.Sound.{IsSound};
+ghost use Rattle.pid_moderation.specs.Views.{revision_of, views_of};
+ghost use Rattle.pid_moderation.specs.WellMade.{AreWellMade};
+ghost use Rattle.pid_tables_rows.specs.declared.version.Version.{Version};
+ghost use Rattle.pid_tables_rows.specs.Schema.{no_schema, schema_of};
+ghost use Rattle.pid_tables_rows.specs.Shows.{ShowsIn};
+ghost use Rattle.pid_tables_check.specs.Checking.{IsRegistry};
+ghost use Rattle.pid_tables_check.specs.Shapes.{HasNoTable, HasEachTable, HasTables, IsMadeFirst};
+
+use pid_moderation::{
+    histories_are_sound, items_are_sorted, revisions_are_within, sinces_are_last_changes,
+};
+
+/// Every database that shows a sound history whose revision is within its limit, in either schema,
+/// has the tables of the schema and meets all conditions on their rows.
+pub fn sound_histories_are_registries()
+    ensures { (h : History) → IsSound h → revision_of h ≤ most_revision
+        → (version : Version) (db : Database) → ShowsIn version db (views_of h)
+        → IsRegistry version db }
+{
+    items_are_sorted();
+    sinces_are_last_changes();
+}
+
+/// So does every database that shows what well made commands lead to, from any beginning.
+pub fn shown_tables_are_registries()
+    ensures { (mark : ℕ) (commands : List Asked) → AreWellMade commands
+        → (version : Version) (db : Database)
+        → ShowsIn version db (views_of (after_all (Begins mark) commands)) → IsRegistry version db }
+{
+    histories_are_sound();
+    revisions_are_within();
+    sound_histories_are_registries();
+}
+
+/// A database without any table has none of the seven. Those of each schema have all tables of the
+/// schema, which were made first.
+pub fn schemas_have_tables()
+    ensures none { HasNoTable no_schema }
+    ensures each { (version : Version) → HasEachTable (schema_of version) }
+    ensures tables { (version : Version) → HasTables version (schema_of version) }
+    ensures first { (version : Version) → IsMadeFirst version (schema_of version) }
+{}

@@ -1,0 +1,180 @@
+//! Receipts: each keeps a reply that is its account's own, under a key.
+ghost use Rattle.std.specs.Prelude.{◌≡◌, ◌↔◌, ◌+◌, ◌≤◌, List, ℕ, true, IsTrue, IfOk, IfErr};
+ghost use Rattle.sqlite.specs.declared.types.Value.TheVariants.{Text as TextValue};
+ghost use Rattle.sqlite.specs.Order.{column, Row as Values};
+ghost use Rattle.pid_ident.specs.Words.{is_key as key_test};
+ghost use Rattle.std.specs.List.{All};
+ghost use Rattle.pid_tables_rows.specs.TableRows.{number};
+ghost use Rattle.pid_tables_rows.specs.Clauses.{GoesOn};
+ghost use Rattle.pid_tables_check.specs.Conditions.{IsReceiptRow};
+ghost use Rattle.pid_tables_check.specs.Steps.Clauses.{Keeps};
+ghost use Rattle.pid_tables_check.specs.Steps.Keeping.{AreOfAuthors};
+ghost use Rattle.pid_tables_check.specs.declared.shape.Table.TheVariants as table;
+ghost use Rattle.pid_tables_check.specs.Steps.AuthorSets.{
+  AreAuthorsOf,
+  HasReply,
+  HasCounts,
+  IsNumbered,
+};
+ghost use Rattle.pid_tables_rows.specs.Faults.{IsMemoryOrStore};
+
+use crate::authors::is_by;
+use crate::read::table_rows;
+use crate::shape::Table;
+use crate::value::{number_at, text_at};
+use pid_ident::{is_account, is_key};
+use pid_moderation::ITEMS;
+use pid_tables_rows::TableFault;
+use sqlite::{Alter, Row, Transaction};
+use std::alloc::Global;
+use std::collections::BTreeSet;
+
+fn is_zero(row: &Row, at: usize) -> bool
+    ensures { IsTrue result ↔ (column row.now at ≡ number 0) }
+{
+    match number_at(row, at) {
+        Some(number) => number == 0,
+        None => false,
+    }
+}
+
+fn fits(added: u64, renamed: u64, same: u64) -> bool
+    ensures { IsTrue result ↔ (added + renamed + same ≤ 100000) }
+{
+    let most = ITEMS as u64;
+    added <= most && renamed <= most && same <= most && added + renamed + same <= most
+}
+
+fn has_counts(row: &Row) -> bool
+    ensures { IsTrue result ↔ HasCounts row.now }
+{
+    match number_at(row, 3) {
+        None => false,
+        Some(added) => match number_at(row, 4) {
+            None => false,
+            Some(renamed) => match number_at(row, 5) {
+                None => false,
+                Some(same) => fits(added, renamed, same),
+            },
+        },
+    }
+}
+
+fn is_done(row: &Row) -> bool
+    ensures { IsTrue result ↔ ((column row.now 3 ≡ number 0) × (column row.now 4 ≡ number 0)
+        × (column row.now 5 ≡ number 0)) }
+{
+    is_zero(row, 3) && is_zero(row, 4) && is_zero(row, 5)
+}
+
+fn is_numbered(
+    row: &Row,
+    authors: &BTreeSet<(u64, String)>,
+    alloc: Global,
+    account: &str,
+) -> Result<bool, TableFault>
+    ensures judged { IfOk result (λ good. (rows : List Values) → AreAuthorsOf authors.now rows
+        → IsTrue good ↔ IsNumbered rows row.now account.now) }
+    ensures untold { IfErr result IsMemoryOrStore }
+{
+    if !is_zero(row, 4) {
+        return Ok(false);
+    }
+    if !is_zero(row, 5) {
+        return Ok(false);
+    }
+    match number_at(row, 3) {
+        None => Ok(false),
+        Some(submission) => is_by(authors, alloc, submission, account),
+    }
+}
+
+fn is_own(
+    row: &Row,
+    authors: &BTreeSet<(u64, String)>,
+    alloc: Global,
+    account: &str,
+) -> Result<bool, TableFault>
+    ensures judged { IfOk result (λ good. (rows : List Values) → AreAuthorsOf authors.now rows
+        → IsTrue good ↔ HasReply rows row.now account.now) }
+    ensures untold { IfErr result IsMemoryOrStore }
+{
+    match number_at(row, 2) {
+        None => Ok(false),
+        Some(0) => Ok(is_done(row)),
+        Some(1) => is_numbered(row, authors, alloc, account),
+        Some(2) => Ok(has_counts(row)),
+        Some(_) => Ok(false),
+    }
+}
+
+fn has_key(row: &Row) -> bool
+    ensures { IsTrue result ↔ ((key : List ℕ) × (column row.now 1 ≡ TextValue key)
+        × (key_test key ≡ true)) }
+{
+    match text_at(row, 1) {
+        Some(key) => is_key(key),
+        None => false,
+    }
+}
+
+fn is_receipt_row(
+    row: &Row,
+    authors: &BTreeSet<(u64, String)>,
+    alloc: Global,
+) -> Result<bool, TableFault>
+    ensures judged { IfOk result (λ good. (rows : List Values) → AreAuthorsOf authors.now rows
+        → IsTrue good ↔ IsReceiptRow rows row.now) }
+    ensures untold { IfErr result IsMemoryOrStore }
+{
+    if row.column_count() != 6 {
+        return Ok(false);
+    }
+    if !has_key(row) {
+        return Ok(false);
+    }
+    match text_at(row, 0) {
+        None => Ok(false),
+        Some(account) => {
+            if !is_account(account) {
+                return Ok(false);
+            }
+            is_own(row, authors, alloc, account)
+        }
+    }
+}
+
+fn are_receipt_rows(
+    rows: &[Row],
+    authors: &BTreeSet<(u64, String)>,
+    alloc: Global,
+) -> Result<bool, TableFault>
+    ensures judged { IfOk result (λ good. (submissions : List Values)
+        → AreAuthorsOf authors.now submissions
+        → IsTrue good ↔ All (IsReceiptRow submissions) rows.now) }
+    ensures untold { IfErr result IsMemoryOrStore }
+{
+    for row in rows {
+        let good = is_receipt_row(row, authors, alloc)?;
+        if !good {
+            return Ok(false);
+        }
+    }
+    Ok(true)
+}
+
+/// Reads the receipts, and judges whether they are those of a registry whose submissions have these
+/// authors.
+pub(crate) fn read_receipts<S: Alter>(
+    tx: &mut Transaction<'_, S>,
+    authors: &BTreeSet<(u64, String)>,
+    alloc: Global,
+) -> Result<bool, TableFault>
+    ensures same_reference { tx.new.conn.ghost_name ≡ tx.old.conn.ghost_name }
+    ensures goes { GoesOn S.Store tx.old.conn.now tx.new.conn.now result }
+    ensures keeps { Keeps S.Store tx.old.conn.now tx.new.conn.now result table.Receipt
+        (AreOfAuthors authors.now) }
+{
+    let rows = table_rows(tx, Table::Receipt)?;
+    are_receipt_rows(rows.as_slice(), authors, alloc)
+}

@@ -1,0 +1,212 @@
+//! Which tables of the schema a database has.
+ghost use Rattle.std.specs.Prelude.{
+  ◌≡◌,
+  ◌↔◌,
+  ◌<◌,
+  [],
+  length,
+  false,
+  true,
+  IsTrue,
+  IfOk,
+  IfErr,
+  OnOk,
+};
+ghost use Rattle.std.specs.List.{All, Any};
+ghost use Rattle.sqlite.specs.Held.{state};
+ghost use Rattle.pid_tables_rows.specs.Faults.{fault_of, IsMemoryOrStore};
+ghost use Rattle.pid_tables_rows.specs.declared.fault.TableFault.TheVariants.{Damaged};
+ghost use Rattle.pid_moderation.specs.Views.{Views};
+ghost use Rattle.pid_tables_rows.specs.Queries.{IsQuery};
+ghost use Rattle.pid_tables_rows.specs.Schema.{pid_schema};
+ghost use Rattle.pid_tables_check.specs.Shapes.{IsAsked, HasEachTable, HasSomeTable};
+ghost use Rattle.pid_tables_check.specs.Steps.Shapes.{HasTablesOf};
+ghost use Rattle.pid_tables_check.specs.Queries.{query_of};
+ghost use Rattle.pid_tables_rows.specs.Clauses.{
+  AtRest,
+  HasCleanDisk,
+  IsCaused,
+  OnlyReads,
+  Tells,
+  is_open,
+  seen,
+};
+
+use pid_tables_rows::{TableFault, Version};
+use sqlite::{Alter, Connection, Error};
+
+// No text is refused as damage but one that is not understood.
+fn unasked(error: Error) -> Result<bool, TableFault>
+    ensures refused { IfOk result (λ asked. (asked ≡ false) × (fault_of error ≡ Damaged)) }
+    ensures untold { IfErr result IsMemoryOrStore }
+    ensures told { IfErr result (λ fault. fault ≡ fault_of error) }
+{
+    match TableFault::from(error) {
+        TableFault::Damaged => Ok(false),
+        fault => Err(fault),
+    }
+}
+
+/// Whether a query can be asked: whether its text is understood.
+pub(crate) fn can_ask<S: Alter>(conn: &mut Connection<S>, sql: &str) -> Result<bool, TableFault>
+    requires { conn.old.in_transaction ≡ false }
+    ensures rests { OnlyReads S.Store conn.old conn.new }
+    ensures same { HasCleanDisk S.Store conn.new
+        → IfOk result (λ asked. (seen S.Store conn.new) ≡ (seen S.Store conn.old)) }
+    ensures asked { HasCleanDisk S.Store conn.new
+        → IfOk result (λ asked. IsTrue asked ↔ IsAsked (seen S.Store conn.old).schema sql.now) }
+    ensures was_open { HasCleanDisk S.Store conn.new
+        → OnOk result (IsTrue (is_open S.Store conn.old)) }
+    ensures untold { IfErr result IsMemoryOrStore }
+    ensures caused { HasCleanDisk S.Store conn.new → (v : Views) → AtRest S.Store conn.old v
+        → IsQuery pid_schema sql.now [] → IfErr result (IsCaused S.Store conn.old conn.new) }
+{
+    match conn.prepare(sql).err() {
+        None => Ok(true),
+        Some(error) => unasked(error),
+    }
+}
+
+/// The tables of the schemas; the last is in schema 2 alone.
+#[derive(Clone, Copy)]
+pub(crate) enum Table {
+    Meta,
+    Account,
+    Item,
+    Submission,
+    Remark,
+    Receipt,
+    Since,
+}
+
+const SIX: [Table; 6] = [
+    Table::Meta,
+    Table::Account,
+    Table::Item,
+    Table::Submission,
+    Table::Remark,
+    Table::Receipt,
+];
+
+const SEVEN: [Table; 7] = [
+    Table::Meta,
+    Table::Account,
+    Table::Item,
+    Table::Submission,
+    Table::Remark,
+    Table::Receipt,
+    Table::Since,
+];
+
+// It asks for a table of this name, whatever its columns.
+const ANY_SINCE: &str = "SELECT count(*) FROM item_since";
+
+/// The query of a table: it asks for the columns by their names.
+pub(crate) fn query(table: Table) -> &'static str
+    ensures { result.now ≡ query_of table }
+{
+    match table {
+        Table::Meta => "SELECT label, value FROM meta",
+        Table::Account => "SELECT name, rank FROM account",
+        Table::Item => "SELECT path, name FROM item",
+        Table::Submission => {
+            "SELECT num, author, path, form, name, note, state, decider, reason FROM submission"
+        }
+        Table::Remark => "SELECT num, seq, author, body FROM remark",
+        Table::Receipt => "SELECT account, token, kind, a, b, c FROM receipt",
+        Table::Since => "SELECT path, since FROM item_since",
+    }
+}
+
+fn has_all<S: Alter>(conn: &mut Connection<S>, tables: &[Table]) -> Result<bool, TableFault>
+    requires { conn.old.in_transaction ≡ false }
+    ensures rests { OnlyReads S.Store conn.old conn.new }
+    ensures same { HasCleanDisk S.Store conn.new
+        → IfOk result (λ all. (seen S.Store conn.new) ≡ (seen S.Store conn.old)) }
+    ensures asked { HasCleanDisk S.Store conn.new
+        → IfOk result (λ all. IsTrue all
+        ↔ All (λ t. IsAsked (seen S.Store conn.old).schema (query_of t)) tables.now) }
+    ensures was_open { HasCleanDisk S.Store conn.new → 0 < length tables.now
+        → OnOk result (IsTrue (is_open S.Store conn.old)) }
+    ensures untold { IfErr result IsMemoryOrStore }
+{
+    for table in tables {
+        if !can_ask(conn, query(*table))? {
+            return Ok(false);
+        }
+    }
+    Ok(true)
+}
+
+fn has_any<S: Alter>(conn: &mut Connection<S>, tables: &[Table]) -> Result<bool, TableFault>
+    requires { conn.old.in_transaction ≡ false }
+    ensures rests { OnlyReads S.Store conn.old conn.new }
+    ensures same { HasCleanDisk S.Store conn.new
+        → IfOk result (λ any. (seen S.Store conn.new) ≡ (seen S.Store conn.old)) }
+    ensures asked { HasCleanDisk S.Store conn.new
+        → IfOk result (λ any. IsTrue any
+        ↔ Any (λ t. IsAsked (seen S.Store conn.old).schema (query_of t)) tables.now) }
+    ensures was_open { HasCleanDisk S.Store conn.new → 0 < length tables.now
+        → OnOk result (IsTrue (is_open S.Store conn.old)) }
+    ensures untold { IfErr result IsMemoryOrStore }
+    ensures caused { HasCleanDisk S.Store conn.new → (v : Views) → AtRest S.Store conn.old v
+        → IfErr result (IsCaused S.Store conn.old conn.new) }
+{
+    for table in tables {
+        if can_ask(conn, query(*table))? {
+            return Ok(true);
+        }
+    }
+    Ok(false)
+}
+
+/// Whether each of the six tables that both schemas have is there.
+pub(crate) fn has_each_table<S: Alter>(conn: &mut Connection<S>) -> Result<bool, TableFault>
+    requires { conn.old.in_transaction ≡ false }
+    ensures rests { OnlyReads S.Store conn.old conn.new }
+    ensures same { HasCleanDisk S.Store conn.new
+        → IfOk result (λ each. (seen S.Store conn.new) ≡ (seen S.Store conn.old)) }
+    ensures asked { HasCleanDisk S.Store conn.new
+        → IfOk result (λ each. IsTrue each ↔ HasEachTable (seen S.Store conn.old).schema) }
+    ensures was_open { HasCleanDisk S.Store conn.new
+        → OnOk result (IsTrue (is_open S.Store conn.old)) }
+    ensures untold { IfErr result IsMemoryOrStore }
+{
+    has_all(conn, &SIX)
+}
+
+/// Whether some of the seven tables is there: whether a query of its columns by their names can be
+/// prepared. Nothing is said of its rows.
+pub fn has_some_table<S: Alter>(conn: &mut Connection<S>) -> Result<bool, TableFault>
+    requires { conn.old.in_transaction ≡ false }
+    ensures rests { OnlyReads S.Store conn.old conn.new }
+    ensures same { HasCleanDisk S.Store conn.new
+        → IfOk result (λ some. (seen S.Store conn.new) ≡ (seen S.Store conn.old)) }
+    ensures asked { HasCleanDisk S.Store conn.new
+        → IfOk result (λ some. IsTrue some ↔ HasSomeTable (seen S.Store conn.old).schema) }
+    ensures was_open { HasCleanDisk S.Store conn.new
+        → OnOk result (IsTrue (is_open S.Store conn.old)) }
+    ensures untold { IfErr result IsMemoryOrStore }
+    ensures found { Tells S.Store conn.old conn.new result (λ v some. some ≡ true) }
+{
+    has_any(conn, &SEVEN)
+}
+
+/// Of which schema the tables are, where each of the six is there.
+pub(crate) fn tables_of<S: Alter>(conn: &mut Connection<S>) -> Result<Option<Version>, TableFault>
+    requires { conn.old.in_transaction ≡ false }
+    ensures rests { OnlyReads S.Store conn.old conn.new }
+    ensures same { HasCleanDisk S.Store conn.new
+        → IfOk result (λ found. (seen S.Store conn.new) ≡ (seen S.Store conn.old)) }
+    ensures found { HasCleanDisk S.Store conn.new → HasEachTable (seen S.Store conn.old).schema
+        → IfOk result (λ found. HasTablesOf found (seen S.Store conn.old).schema) }
+    ensures untold { IfErr result IsMemoryOrStore }
+{
+    if !can_ask(conn, ANY_SINCE)? {
+        return Ok(Some(Version::One));
+    }
+    if can_ask(conn, query(Table::Since))? {
+        return Ok(Some(Version::Two));
+    }
+    Ok(None)
+}

@@ -1,0 +1,108 @@
+//! The tables of a schema, one after the other: of each is kept whether its rows are good, and what
+//! judging the others takes. Whatever was found, each is read.
+ghost use Rattle.std.specs.Prelude.{◌≡◌, ◌↔◌, IsTrue};
+ghost use Rattle.pid_tables_rows.specs.Faults.{IsMemoryOrStore};
+ghost use Rattle.pid_tables_rows.specs.Clauses.{GoesOn};
+ghost use Rattle.pid_tables_check.specs.Shapes.{HasTables, HasEachTable};
+ghost use Rattle.pid_tables_check.specs.Steps.Keeping.{ShowsNamed, ShowsSubmitted, ShowsJudged};
+ghost use Rattle.pid_tables_check.specs.Steps.Clauses.{Judges};
+
+use crate::account::read_accounts;
+use crate::item::read_items;
+use crate::receipt::read_receipts;
+use crate::remark::read_remarks;
+use crate::since::read_sinces;
+use crate::submission::read_submissions;
+use pid_tables_rows::{TableFault, Version};
+use sqlite::{Alter, Transaction};
+use std::alloc::Global;
+
+/// What is kept of some tables: whether all their rows are good, and how many the first of them
+/// has.
+#[derive(Clone, Copy)]
+pub(crate) struct Part {
+    pub(crate) good: bool,
+    pub(crate) count: u64,
+}
+
+/// What is kept of all tables.
+#[derive(Clone, Copy)]
+pub(crate) struct Judged {
+    pub(crate) good: bool,
+    pub(crate) items: u64,
+    pub(crate) submissions: u64,
+}
+
+fn are_both(one: bool, other: bool) -> bool
+    ensures { IsTrue result ↔ (IsTrue one × IsTrue other) }
+{
+    one && other
+}
+
+// The items, and in schema 2 their numbers.
+fn read_named<S: Alter>(
+    tx: &mut Transaction<'_, S>,
+    alloc: Global,
+    version: Version,
+    revision: u64,
+) -> Result<Part, TableFault>
+    ensures same_reference { tx.new.conn.ghost_name ≡ tx.old.conn.ghost_name }
+    ensures goes { GoesOn S.Store tx.old.conn.now tx.new.conn.now result }
+    ensures told { Judges S.Store tx.old.conn.now tx.new.conn.now result
+        (λ d. HasTables version d.schema) (ShowsNamed version revision) (λ d. IsMemoryOrStore) }
+{
+    let items = read_items(tx, alloc)?;
+    let count = items.count;
+    match version {
+        Version::One => Ok(Part {
+            good: items.good,
+            count,
+        }),
+        Version::Two => {
+            let dated = read_sinces(tx, &items.paths, revision, alloc)?;
+            Ok(Part {
+                good: are_both(items.good, dated),
+                count,
+            })
+        }
+    }
+}
+
+// The submissions, with the accounts and the receipts.
+fn read_submitted<S: Alter>(tx: &mut Transaction<'_, S>, alloc: Global) -> Result<Part, TableFault>
+    ensures same_reference { tx.new.conn.ghost_name ≡ tx.old.conn.ghost_name }
+    ensures goes { GoesOn S.Store tx.old.conn.now tx.new.conn.now result }
+    ensures told { Judges S.Store tx.old.conn.now tx.new.conn.now result
+        (λ d. HasEachTable d.schema) ShowsSubmitted (λ d. IsMemoryOrStore) }
+{
+    let accounts = read_accounts(tx, alloc)?;
+    let submissions = read_submissions(tx, &accounts.names, alloc)?;
+    let receipts = read_receipts(tx, &submissions.authors, alloc)?;
+    let good = are_both(accounts.good, are_both(submissions.good, receipts));
+    Ok(Part {
+        good,
+        count: submissions.count,
+    })
+}
+
+/// Reads and judges the tables of a schema other than `meta`, which tells this revision.
+pub(crate) fn read_tables<S: Alter>(
+    tx: &mut Transaction<'_, S>,
+    alloc: Global,
+    version: Version,
+    revision: u64,
+) -> Result<Judged, TableFault>
+    ensures same_reference { tx.new.conn.ghost_name ≡ tx.old.conn.ghost_name }
+    ensures goes { GoesOn S.Store tx.old.conn.now tx.new.conn.now result }
+    ensures told { Judges S.Store tx.old.conn.now tx.new.conn.now result
+        (λ d. HasTables version d.schema) (ShowsJudged version revision) (λ d. IsMemoryOrStore) }
+{
+    let submitted = read_submitted(tx, alloc)?;
+    let named = read_named(tx, alloc, version, revision)?;
+    let remarks = read_remarks(tx, alloc)?;
+    Ok(Judged {
+        good: are_both(submitted.good, are_both(named.good, remarks)),
+        items: named.count,
+        submissions: submitted.count,
+    })
+}

@@ -1,0 +1,53 @@
+//! The values of a row.
+ghost use Rattle.std.specs.Prelude.{◌≡◌, ◌↔◌, ℕ, List, IfSome, IfNone, IsTrue, IsUtf8};
+ghost use Rattle.sqlite.specs.declared.types.Value.TheVariants.{Text as TextValue};
+ghost use Rattle.sqlite.specs.Order.{column};
+ghost use Rattle.pid_tables_rows.specs.TableRows.{number};
+
+use sqlite::Row;
+use sqlite::types::ValueRef;
+
+fn text_of(bytes: &[u8]) -> Option<&str>
+    ensures found { IfSome result (λ text. text.now ≡ bytes.now) }
+    ensures utf8 { IfSome result (λ text. IsUtf8 text.now) }
+    ensures none { IfNone result (¬ (IsUtf8 bytes.now)) }
+{
+    match std::str::from_utf8(bytes) {
+        Ok(text) => Some(text),
+        Err(_) => None,
+    }
+}
+
+/// The text in a column.
+pub(crate) fn text_at(row: &Row, at: usize) -> Option<&str>
+    ensures found { IfSome result (λ text. column row.now at ≡ TextValue text.now) }
+    ensures utf8 { IfSome result (λ text. IsUtf8 text.now) }
+    ensures none { IfNone result ((text : List ℕ) → column row.now at ≡ TextValue text
+        → ¬ (IsUtf8 text)) }
+{
+    match row.get_ref(at) {
+        Ok(ValueRef::Text(bytes)) => text_of(bytes),
+        _ => None,
+    }
+}
+
+/// Whether there is text in a column, whatever it says.
+pub(crate) fn has_words(row: &Row, at: usize) -> bool
+    ensures { IsTrue result ↔ ((words : List ℕ) × (column row.now at ≡ TextValue words)) }
+{
+    match row.get_ref(at) {
+        Ok(ValueRef::Text(_)) => true,
+        _ => false,
+    }
+}
+
+/// The number in a column, which is not negative.
+pub(crate) fn number_at(row: &Row, at: usize) -> Option<u64>
+    ensures found { IfSome result (λ n. column row.now at ≡ number n) }
+    ensures none { IfNone result ((n : ℕ) → column row.now at ≡ number n → ⊥) }
+{
+    match row.get_ref(at) {
+        Ok(ValueRef::Int(value)) => u64::try_from(value).ok(),
+        _ => None,
+    }
+}

@@ -1,0 +1,16 @@
+use Rattle.std.proofs.Common.{◌≡◌, map, filter, subst, ◌∙◌}
+use Rattle.sqlite.specs.Held.{state}
+use Rattle.pid_tables_rows.specs.Steps.Answers.{item_shown}
+use Rattle.pid_tables_lists.proofs.BelowLemmas.{behind, kept_items}
+use Rattle.pid_tables_lists.proofs.RowLists.{read_or_caused}
+use Rattle.pid_tables_lists.proofs.below.add_behind.Goals as goal
+
+pub returns : goal.returns
+returns g c = record {
+  rests = c.in_ok-rows.ensures.rests;
+  told = λ clean v rest.
+      let found = c.in_ok-rows.ensures.told clean v rest in
+      let told = subst (λ t. c.in_ok-rows.rows.items ≡ map item_shown (filter (behind t) v.items)) c.as_bytes.ensures.value found.1 in
+      read_or_caused (state g.S.Store c.args.conn.now) (state g.S.Store c.rows_behind.new.conn) v c.add_children.result _ _ (λ readable. kept_items (behind c.args.text.now) v.items readable.items) (λ x h. (found.0, h))
+      (c.add_children.ensures (filter (behind c.args.text.now) v.items) (c.as_slice.ensures.value ∙ told));
+}

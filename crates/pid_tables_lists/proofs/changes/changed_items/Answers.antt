@@ -1,0 +1,35 @@
+use Rattle.std.proofs.Common.{◌≡◌, ◌∷◌, ◌++◌, [], Some, ap, sym, ◌∙◌}
+use Rattle.sqlite.specs.Held.{state}
+use Rattle.sqlite_rules.proofs.ListLemmas.{all_has}
+use Rattle.pid_moderation.specs.Items.{name_at}
+use Rattle.pid_tables_rows.specs.Causes.{IsCaused, IsReadable}
+use Rattle.pid_tables_rows.proofs.CauseLemmas.{caused_later, passed_on}
+use Rattle.pid_tables_rows.proofs.OnlyReading.{reads_then}
+use Rattle.pid_moderation.specs.ChangePages.{Changed}
+use Rattle.pid_tables_lists.specs.Steps.ChangeRows.{since_shown}
+use Rattle.pid_tables_lists.proofs.RowLists.{next_of}
+use Rattle.pid_tables_lists.proofs.changes.changed_items.Goals as goal
+
+pub loop-row-preserved : goal.loop-row-preserved
+loop-row-preserved g c =
+    let one = c.in_ok-add_changed.ensures in
+    let before = c.loop-row.invariant in (
+      reads_then _ _ _ before.0 one.rests,
+      λ clean v all rest named is.
+          let next = next_of since_shown all c.args.rows.now c.loop-row.row-index c.row-item.result is c.loop-row-test.true in
+          let stands = all_has (λ (item : Changed). name_at item.path v.items ≡ Some item.name) all next.it named next.there in
+          one.told clean v next.it (before.0.kept v rest) stands (c.row-item.is ∙ next.is) ∙ ap (λ l. l ++ next.it ∷ []) (before.1 (one.rests.clean clean) v all rest named is) ∙ sym next.more,
+    )
+
+pub returns-in_err-add_changed-clause-told : goal.returns-in_err-add_changed-clause-told
+returns-in_err-add_changed-clause-told g c clean v all rest named is =
+    let one = c.in_err-add_changed.ensures in
+    let before = c.loop-row.invariant in
+    let old = state g.S.Store c.args.conn.now in
+    let mid = state g.S.Store c.loop-row.conn in
+    let new = state g.S.Store c.add_changed.new.conn in
+    let next = next_of since_shown all c.args.rows.now c.loop-row.row-index c.row-item.result is c.loop-row-test.true in
+    let stands = all_has (λ (item : Changed). name_at item.path v.items ≡ Some item.name) all next.it named next.there in
+    passed_on c.from_residual.result _ _ (λ fault. IsReadable v → IsCaused old new fault) c.from_residual.ensures.1
+    (λ readable. caused_later old mid new (λ _. ⊥) c.in_err-add_changed.field-0.0 before.0.survives one.rests.survives.counts (one.rests.clean clean)
+    (one.told clean v next.it (before.0.kept v rest) stands (c.row-item.is ∙ next.is) readable))

@@ -1,0 +1,5 @@
+pub mod Pages
+pub mod EachItem
+pub mod Clauses
+pub mod Laws
+pub mod Steps

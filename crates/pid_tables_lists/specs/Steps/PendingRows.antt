@@ -1,0 +1,22 @@
+-- What a query of pending submissions answers.
+use Rattle.std.specs.Prelude.{◌≡◌, ℕ, ◌<◌, ◌^◌, List, [], ◌∷◌, ◌++◌, Some}
+use Rattle.std.specs.List.{AllByRecursion}
+use Rattle.sqlite.specs.Order.{Row}
+use Rattle.pid_moderation.specs.Views.{Views}
+use Rattle.pid_tables_rows.specs.Answers.{standing_row}
+use Rattle.pid_tables_rows.specs.Causes.{IsReadableSubmission, IsReadableState}
+use Rattle.pid_moderation.specs.Submissions.{standing_in, Standing}
+use Rattle.pid_tables_rows.specs.TableRows.{number}
+
+-- a submission as it stands, and its number behind it
+abbrev pub pending_row : ℕ × Standing → Row
+pending_row s = standing_row s.1 ++ number s.0 ∷ []
+
+-- its words keep their rules, and its number fits 32 bits
+abbrev pub IsReadablePending : ℕ × Standing → Type 0
+IsReadablePending s = (s.0 < 2 ^ 32) × IsReadableSubmission s.1.submitted
+    × IsReadableState s.1.state
+
+-- each of them stands so in the views
+abbrev pub AreIn : Views → List (ℕ × Standing) → Type 0
+AreIn v all = AllByRecursion (λ (s : ℕ × Standing). standing_in v s.0 ≡ Some s.1) all

@@ -1,0 +1,217 @@
+//! Pages of the items that were named anew.
+ghost use Rattle.std.specs.Prelude.{
+  ◌≡◌,
+  ◌∷◌,
+  ◌++◌,
+  [],
+  List,
+  false,
+  length,
+  map,
+  Some,
+  MatchResult,
+  IfOk,
+  IfErr,
+  string_bytes,
+};
+ghost use Rattle.std.specs.Option.{option_copied};
+ghost use Rattle.sqlite.specs.Order.{column};
+ghost use Rattle.sqlite_value.specs.Value.{owned};
+ghost use Rattle.sqlite.specs.declared.types.Value.TheVariants.{Text as TextValue};
+ghost use Rattle.pid_ident.specs.PathTexts.{path_text};
+ghost use Rattle.pid_moderation.specs.Items.{name_at};
+ghost use Rattle.pid_moderation.specs.Views.{Views};
+ghost use Rattle.pid_tables_rows.specs.Causes.{IsReadable};
+ghost use Rattle.pid_tables_rows.specs.Clauses.{AtRest, HasCleanDisk, IsCaused, OnlyReads, Reads};
+ghost use Rattle.pid_tables_rows.specs.TableRows.{number};
+ghost use Rattle.pid_tables_rows.specs.Unread.{IsUnread};
+ghost use Rattle.pid_tables_rows.specs.Steps.Unread.{IsPathText};
+ghost use Rattle.pid_moderation.specs.ChangePages.{
+  AreHeld,
+  Changed,
+  changed_behind,
+  changed_of,
+  changes_in,
+  page_of as told_page,
+  start_text,
+};
+ghost use Rattle.pid_tables_lists.specs.Pages.{most_listed};
+ghost use Rattle.pid_tables_lists.specs.Steps.ChangeRows.{
+  since_shown,
+  AreNamed,
+  held as held_number,
+};
+
+use crate::walk::lent;
+use pid_ident::{Name, Path, PathText};
+use pid_moderation::{ChangedItem, Changes, PAGE};
+use pid_tables_rows::TableFault;
+use pid_tables_rows::item::item_name;
+use pid_tables_rows::meta::revision;
+use pid_tables_rows::run::read_rows;
+use pid_tables_rows::value::whole_at;
+use sqlite::types::{ToSql, ValueRef};
+use sqlite::{Alter, Connection, Row};
+use std::alloc::{AllocError, Global};
+
+// A number as a query asks for it: the greatest that SQLite holds stands for those that it does not
+// hold.
+fn held<'a>(whole: u64) -> ValueRef<'a>
+    ensures { owned result ≡ number (held_number whole) }
+{
+    match i64::try_from(whole) {
+        Ok(whole) => ValueRef::Int(whole),
+        Err(_) => ValueRef::Int(i64::MAX),
+    }
+}
+
+fn change_rows<S: Alter>(
+    conn: &mut Connection<S>,
+    since: u64,
+    after: &str,
+) -> Result<Vec<Row>, TableFault>
+    requires { conn.old.in_transaction ≡ false }
+    ensures { Reads S.Store conn.old conn.new result
+        (λ v rows. AreNamed v (changes_in PAGE (held_number since) after.now v).items
+        × (rows.items ≡ map since_shown (changes_in PAGE (held_number since) after.now v).items)) }
+{
+    let after = after.to_sql();
+    let since = held(since);
+    read_rows(
+        conn,
+        "SELECT path, since FROM item_since WHERE path > ?1 AND since > ?2 ORDER BY path LIMIT 100",
+        &[after, since],
+    )
+}
+
+// The path in the first column.
+fn path_of(row: &Row) -> Result<Path, TableFault>
+    ensures read { IfOk result (λ path. column row.now 0 ≡ TextValue (path_text path)) }
+    ensures unread { IfErr result (IsUnread (IsPathText (column row.now 0))) }
+{
+    match Path::parse(lent(row, 0)?) {
+        Some(path) => Ok(path),
+        None => Err(TableFault::Damaged),
+    }
+}
+
+// The item at a path that has one, with its number.
+fn named<S: Alter>(
+    conn: &mut Connection<S>,
+    alloc: Global,
+    path: Path,
+    since: u64,
+) -> Result<ChangedItem, TableFault>
+    requires { conn.old.in_transaction ≡ false }
+    ensures rests { OnlyReads S.Store conn.old conn.new }
+    ensures told { HasCleanDisk S.Store conn.new → (v : Views) (item : Changed)
+        → AtRest S.Store conn.old v
+        → name_at item.path v.items ≡ Some item.name → path_text path ≡ item.path
+        → since ≡ item.since
+        → MatchResult result (λ told. changed_of told ≡ item)
+        (λ fault. IsReadable v → IsCaused S.Store conn.old conn.new fault) }
+{
+    let text = path.path_text(alloc)?;
+    match item_name(conn, alloc, text.as_str())? {
+        Some(name) => Ok(ChangedItem { path, name, since }),
+        None => Err(TableFault::Damaged),
+    }
+}
+
+// The item of a row.
+fn changed_at<S: Alter>(
+    conn: &mut Connection<S>,
+    alloc: Global,
+    row: &Row,
+) -> Result<ChangedItem, TableFault>
+    requires { conn.old.in_transaction ≡ false }
+    ensures rests { OnlyReads S.Store conn.old conn.new }
+    ensures told { HasCleanDisk S.Store conn.new → (v : Views) (item : Changed)
+        → AtRest S.Store conn.old v
+        → name_at item.path v.items ≡ Some item.name → row.now ≡ since_shown item
+        → MatchResult result (λ told. changed_of told ≡ item)
+        (λ fault. IsReadable v → IsCaused S.Store conn.old conn.new fault) }
+{
+    let path = path_of(row)?;
+    let since = whole_at(row, 1)?;
+    named(conn, alloc, path, since)
+}
+
+fn add_changed<S: Alter>(
+    items: &mut Vec<ChangedItem>,
+    conn: &mut Connection<S>,
+    alloc: Global,
+    row: &Row,
+) -> Result<(), TableFault>
+    requires { conn.old.in_transaction ≡ false }
+    ensures rests { OnlyReads S.Store conn.old conn.new }
+    ensures told { HasCleanDisk S.Store conn.new → (v : Views) (item : Changed)
+        → AtRest S.Store conn.old v
+        → name_at item.path v.items ≡ Some item.name → row.now ≡ since_shown item
+        → MatchResult result (λ _. map changed_of items.new.items
+        ≡ map changed_of items.old.items ++ item ∷ [])
+        (λ fault. IsReadable v → IsCaused S.Store conn.old conn.new fault) }
+{
+    let item = changed_at(conn, alloc, row)?;
+    match items.push(item) {
+        Ok(()) => Ok(()),
+        Err(_) => Err(TableFault::Memory),
+    }
+}
+
+// The items of rows, in their order.
+fn changed_items<S: Alter>(
+    conn: &mut Connection<S>,
+    alloc: Global,
+    rows: &[Row],
+) -> Result<Vec<ChangedItem>, TableFault>
+    requires { conn.old.in_transaction ≡ false }
+    ensures rests { OnlyReads S.Store conn.old conn.new }
+    ensures told { HasCleanDisk S.Store conn.new → (v : Views) (all : List Changed)
+        → AtRest S.Store conn.old v
+        → AreNamed v all → rows.now ≡ map since_shown all
+        → MatchResult result (λ items. map changed_of items.items ≡ all)
+        (λ fault. IsReadable v → IsCaused S.Store conn.old conn.new fault) }
+{
+    let mut items = Vec::new(alloc);
+    for row in rows {
+        add_changed(&mut items, conn, alloc, row)?;
+    }
+    Ok(items)
+}
+
+// The text behind which a page begins.
+fn start_of(alloc: Global, after: Option<&Path>) -> Result<String, AllocError>
+    ensures { IfOk result (λ text. string_bytes text ≡ start_text (option_copied after.entry)) }
+{
+    match after {
+        Some(path) => path.path_text(alloc),
+        None => Ok(String::new(alloc)),
+    }
+}
+
+/// The first items whose last change has a number above this one and whose paths come behind that
+/// path, at most a page of them, in the canonical order. Without a path the page begins with the
+/// first item. Items that were removed are not told. Items without such a change are passed over,
+/// row by row.
+pub fn changes_page<S: Alter>(
+    conn: &mut Connection<S>,
+    alloc: Global,
+    since: u64,
+    after: Option<&Path>,
+) -> Result<Changes, TableFault>
+    requires { conn.old.in_transaction ≡ false }
+    ensures page { Reads S.Store conn.old conn.new result
+        (λ v changes. AreHeld v → told_page changes
+        ≡ changes_in PAGE since (start_text (option_copied after.entry)) v) }
+    // As many as there are, while a page holds them: one that is not full is the last.
+    ensures most_listed { Reads S.Store conn.old conn.new result
+        (λ v changes. AreHeld v → length changes.items.items
+        ≡ most_listed (length (changed_behind since (start_text (option_copied after.entry)) v))) }
+{
+    let start = start_of(alloc, after)?;
+    let revision = revision(conn)?;
+    let rows = change_rows(conn, since, start.as_str())?;
+    let items = changed_items(conn, alloc, rows.as_slice())?;
+    Ok(Changes { revision, items })
+}

@@ -1,0 +1,39 @@
+-- What calls inside a transaction leave.
+use Rattle.std.proofs.Common.{Ok, Err, Result, OnOk, IfOk, IsTrue, sym, subst, arith}
+use Rattle.sqlite.specs.Tree.{Trees}
+use Rattle.sqlite.specs.State.{State, Survives}
+use Rattle.sqlite.specs.State.{HasCleanDisk}
+use Rattle.pid_moderation.specs.Views.{Views}
+use Rattle.pid_tables_rows.specs.Shows.{Counts, ShowsCounting, Shows}
+use Rattle.pid_tables_rows.specs.Leaves.{Holds, Within, Written, GoesOn}
+use Rattle.pid_tables_rows.proofs.LeaveLemmas.{leaves_on}
+
+pub earlier : {P : Trees → Type 0} (old new : State) → Survives old new P → HasCleanDisk new → HasCleanDisk old
+earlier old new s clean = omega (arith, s.clean)
+
+-- what was committed before stays, whatever the call answers
+pub holds_on : {X E : Type 0} (old new : State) (r : Result X E) (c : Counts) (v w : Views) → (IsTrue new.is_open → HasCleanDisk new) → GoesOn old new r → Within c old v w → Holds new v
+holds_on old new r c v w law goes within = record {
+  committed = λ opened.
+      let clean = law opened in
+      subst (λ d. Shows d v) (sym (goes.committed clean (within.inside (earlier old new goes.survives clean)) opened)) (within.holds.committed (goes.was_open clean opened));
+  leaves = leaves_on old new v goes.survives within.holds.leaves;
+}
+
+-- and where it answers a value, the transaction shows what it leads to
+pub within_on : {X E : Type 0} (old new : State) (r : Result X E) (c next : Counts) (v w after : Views) → (IsTrue new.is_open → HasCleanDisk new) → GoesOn old new r → Within c old v w
+    → (HasCleanDisk new → IsTrue old.in_transaction → ShowsCounting c old.now w → OnOk r (ShowsCounting next new.now after)) → OnOk r (Written next new v after)
+within_on old new (Ok x) c next v w after law goes within shows = record {
+  within = record {
+    inside = λ clean. (goes.going clean (within.inside (earlier old new goes.survives clean))).1;
+    holds = holds_on old new (Ok x) c v w law goes within;
+    shows = λ opened. shows (law opened) (within.inside (earlier old new goes.survives (law opened))) (within.shows (goes.was_open (law opened) opened));
+  };
+  opened = λ clean. (goes.going clean (within.inside (earlier old new goes.survives clean))).0;
+}
+within_on old new (Err e) c next v w after law goes within shows = tt
+
+-- a value is told of what the transaction showed
+pub told_within : {X E : Type 0} (old new : State) (r : Result X E) (c : Counts) (v w : Views) (P : X → Type 0) → GoesOn old new r → Within c old v w → HasCleanDisk new → (ShowsCounting c old.now w → IfOk r P) → IfOk r P
+told_within old new (Ok x) c v w P goes within clean h = h (within.shows (goes.was_open clean (goes.going clean (within.inside (earlier old new goes.survives clean))).0))
+told_within old new (Err e) c v w P goes within clean h = tt

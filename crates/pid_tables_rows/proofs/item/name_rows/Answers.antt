@@ -1,0 +1,15 @@
+use Rattle.pid_tables_rows.specs.declared.version.Version.TheVariants.{Two}
+use Rattle.pid_tables_rows.specs.Shows.{counts_of}
+use Rattle.pid_tables_rows.proofs.StatementTexts.{select_item}
+use Rattle.sqlite.specs.Held.{state}
+use Rattle.pid_tables_rows.proofs.QueryTexts.{item_query}
+use Rattle.pid_tables_rows.proofs.FindLemmas.{at_rest, name_found}
+use Rattle.pid_tables_rows.proofs.item.name_rows.Goals as goal
+
+pub returns : goal.returns
+returns g c = record {
+  rests = c.read_rows.ensures.rests;
+  told = λ clean v rest.
+      at_rest g.S.Store c.args.conn.now (state g.S.Store c.read_rows.new.conn) v select_item _ c.read_rows.result (λ rows. rows.items) _ rest (λ new rows shows h. name_found _ new (counts_of v) v shows rows.items c.args.path.now h)
+      (rw c.to_sql-path.ensures at (c.read_rows.ensures.shown clean)) ((rw c.to_sql-path.ensures at (c.read_rows.ensures.caused clean v rest)) (item_query Two c.args.path.now));
+}

@@ -1,0 +1,19 @@
+use Rattle.sqlite.specs.Held.{state}
+use Rattle.pid_tables_rows.specs.Faults.{IsMemoryOrStore}
+use Rattle.pid_tables_rows.specs.Schema.{pid_schema}
+use Rattle.pid_tables_rows.specs.declared.version.Version.TheVariants.{Two}
+use Rattle.pid_tables_rows.proofs.CauseLemmas.{passed_on}
+use Rattle.pid_tables_rows.proofs.KeyTexts.{update_meta_is}
+use Rattle.pid_tables_rows.proofs.WriteFaults.{led, update_writes}
+use Rattle.pid_tables_rows.proofs.WriteRows.{revision_written}
+use Rattle.pid_tables_rows.proofs.meta.set_revision.Goals as goal
+
+pub returns-clause-shows : goal.returns-clause-shows
+returns-clause-shows g c clean inside counts v shows fits =
+    let old = state g.S.Store c.args.tx.now.conn.now in
+    let new = state g.S.Store c.write_one.new.tx.conn.now in
+    led c.write_one.result (revision_written old new counts v shows c.args.revision)
+    (rw (c.to_sql-label.ensures, c.in_ok-value.ensures) at (c.write_one.ensures.ran clean inside)) (c.write_one.ensures.untold clean pid_schema (λ opened. shows.schema) (update_writes (update_meta_is Two)))
+
+pub returns-in_err-value-clause-shows : goal.returns-in_err-value-clause-shows
+returns-in_err-value-clause-shows g c clean inside counts v shows fits = passed_on c.from_residual.result _ _ IsMemoryOrStore c.from_residual.ensures.1 c.in_err-value.ensures

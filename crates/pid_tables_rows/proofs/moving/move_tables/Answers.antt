@@ -1,0 +1,19 @@
+use Rattle.sqlite.specs.Held.{state}
+use Rattle.pid_tables_rows.specs.Faults.{IsMemoryOrStore, IsNotNewerSchema}
+use Rattle.pid_tables_rows.proofs.CauseLemmas.{passed_on}
+use Rattle.pid_tables_rows.proofs.GoingLemmas.{earlier}
+use Rattle.pid_tables_rows.proofs.moving.move_tables.Goals as goal
+
+pub returns-clause-shows : goal.returns-clause-shows
+returns-clause-shows g c clean inside counts v shows =
+    let mid = state g.S.Store c.add_table.new.tx.conn.now in
+    let new = state g.S.Store c.raise_labels.new.tx.conn.now in
+    let before = earlier mid new c.raise_labels.ensures.goes.survives clean in
+    let first = c.in_ok-add_table.ensures in
+    c.raise_labels.ensures.raised clean (first.goes.going before inside).1 counts v (first.added before inside counts v shows)
+
+pub returns-in_err-add_table-clause-shows : goal.returns-in_err-add_table-clause-shows
+returns-in_err-add_table-clause-shows g c clean inside counts v shows = passed_on c.from_residual.result _ _ IsMemoryOrStore c.from_residual.ensures.1 (c.in_err-add_table.ensures.added clean inside counts v shows)
+
+pub returns-in_err-add_table-clause-never : goal.returns-in_err-add_table-clause-never
+returns-in_err-add_table-clause-never g c = passed_on c.from_residual.result _ _ IsNotNewerSchema c.from_residual.ensures.1 c.in_err-add_table.ensures.never

@@ -1,0 +1,42 @@
+-- What a fault of the database is told as: a choice of this project.
+use Rattle.sqlite.specs.declared.error.Error.{Error}
+use Rattle.sqlite.specs.declared.error.Error.TheVariants.{SqliteFailure, SqlInputError}
+use Rattle.sqlite.specs.declared.error.Error.TheVariants.{InvalidColumnIndex, InvalidColumnType}
+use Rattle.sqlite.specs.declared.error.Error.TheVariants.{IntegralValueOutOfRange, Utf8Error}
+use Rattle.sqlite.specs.declared.error.ErrorCode.TheVariants.{OutOfMemory}
+use Rattle.sqlite_resolve.specs.declared.error.CompileError.TheVariants as compile
+use Rattle.pid_file.specs.declared.word_fault.WordFault.{WordFault}
+use Rattle.pid_file.specs.declared.word_fault.WordFault.TheVariants as words
+use Rattle.pid_tables_rows.specs.declared.fault.TableFault.{TableFault}
+use Rattle.pid_tables_rows.specs.declared.fault.TableFault.TheVariants.{Memory, Store, NewerSchema, Damaged}
+
+-- Memory was short; or the tables or their values are not those of the schema; else the store
+-- failed or refused.
+abbrev pub fault_of : Error → TableFault
+fault_of (SqliteFailure OutOfMemory) = Memory
+fault_of (SqlInputError compile.OutOfMemory) = Memory
+fault_of (SqlInputError e) = Damaged
+fault_of (InvalidColumnIndex at) = Damaged
+fault_of (InvalidColumnType at kind) = Damaged
+fault_of (IntegralValueOutOfRange at) = Damaged
+fault_of (Utf8Error at) = Damaged
+fault_of e = Store
+
+-- a word in a row that breaks its rule is damage
+abbrev pub fault_of_word : WordFault → TableFault
+fault_of_word words.Bad = Damaged
+fault_of_word words.Memory = Memory
+
+-- nothing is told of the rows: memory was short, or the store failed or refused
+abbrev pub IsMemoryOrStore : TableFault → Type 0
+IsMemoryOrStore Memory = Unit {0}
+IsMemoryOrStore Store = Unit {0}
+IsMemoryOrStore (NewerSchema n) = ⊥
+IsMemoryOrStore Damaged = ⊥
+
+-- it tells of no later schema
+abbrev pub IsNotNewerSchema : TableFault → Type 0
+IsNotNewerSchema Memory = Unit {0}
+IsNotNewerSchema Store = Unit {0}
+IsNotNewerSchema (NewerSchema n) = ⊥
+IsNotNewerSchema Damaged = Unit {0}

@@ -1,0 +1,15 @@
+pub mod Faults
+pub mod Schema
+pub mod PairRows
+pub mod TableRows
+pub mod Answers
+pub mod Shows
+pub mod Causes
+pub mod Queries
+pub mod Unread
+pub mod Leaves
+pub mod Clauses
+pub mod Standings
+pub mod Writes
+pub mod LabelRows
+pub mod Steps

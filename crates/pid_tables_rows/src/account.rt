@@ -1,0 +1,78 @@
+//! The table of accounts and their ranks.
+ghost use Rattle.std.specs.Prelude.{◌≡◌, false, None, IfErr, IsSome, option_map, slice_get};
+ghost use Rattle.pid_tables_rows.specs.Steps.Answers.{rank_row};
+ghost use Rattle.pid_tables_rows.specs.Faults.{IsNotNewerSchema};
+ghost use Rattle.pid_tables_rows.specs.Writes.{with_rank};
+ghost use Rattle.pid_tables_rows.specs.Clauses.{ChangesTo, GoesOn, Reads};
+
+use crate::fault::TableFault;
+use crate::run::{read_rows, write_one};
+use crate::value::rank_at;
+use pid_moderation::Rank;
+use sqlite::types::ToSql;
+use sqlite::{Alter, Connection, Row, Transaction};
+
+/// Adds an account that is not there yet. The name is taken as it is: the caller has tested it.
+/// An account that is there is refused with `Store`.
+pub fn add_account<S: Alter>(
+    tx: &mut Transaction<'_, S>,
+    name: &str,
+    rank: Rank,
+) -> Result<(), TableFault>
+    ensures same_reference { tx.new.conn.ghost_name ≡ tx.old.conn.ghost_name }
+    ensures goes { GoesOn S.Store tx.old.conn.now tx.new.conn.now result }
+    ensures never { IfErr result IsNotNewerSchema }
+    ensures shows { ChangesTo S.Store tx.old.conn.now tx.new.conn.now result
+        (λ v. v.rank name.now ≡ None) (with_rank name.now rank) }
+{
+    let name = name.to_sql();
+    let rank = u32::from(rank.number()).to_sql();
+    write_one(
+        tx,
+        "INSERT INTO account (name, rank) VALUES (?1, ?2)",
+        &[name, rank],
+    )
+}
+
+/// Gives an account that is there another rank. Where there is no such account it writes nothing
+/// and answers `Ok`.
+pub fn change_rank<S: Alter>(
+    tx: &mut Transaction<'_, S>,
+    name: &str,
+    rank: Rank,
+) -> Result<(), TableFault>
+    ensures same_reference { tx.new.conn.ghost_name ≡ tx.old.conn.ghost_name }
+    ensures goes { GoesOn S.Store tx.old.conn.now tx.new.conn.now result }
+    ensures shows { ChangesTo S.Store tx.old.conn.now tx.new.conn.now result
+        (λ v. IsSome (v.rank name.now)) (with_rank name.now rank) }
+{
+    let name = name.to_sql();
+    let rank = u32::from(rank.number()).to_sql();
+    write_one(
+        tx,
+        "UPDATE account SET rank = ?2 WHERE name = ?1",
+        &[name, rank],
+    )
+}
+
+fn rank_rows<S: Alter>(conn: &mut Connection<S>, name: &str) -> Result<Vec<Row>, TableFault>
+    requires { conn.old.in_transaction ≡ false }
+    ensures { Reads S.Store conn.old conn.new result
+        (λ v rows. slice_get rows.items 0 ≡ option_map rank_row (v.rank name.now)) }
+{
+    let name = name.to_sql();
+    read_rows(conn, "SELECT rank FROM account WHERE name = ?1", &[name])
+}
+
+/// The rank of an account, and none where there is no such account. A number that is no rank's is
+/// `Damaged`.
+pub fn rank<S: Alter>(conn: &mut Connection<S>, name: &str) -> Result<Option<Rank>, TableFault>
+    requires { conn.old.in_transaction ≡ false }
+    ensures { Reads S.Store conn.old conn.new result (λ v rank. rank ≡ v.rank name.now) }
+{
+    let rows = rank_rows(conn, name)?;
+    match rows.first() {
+        Some(row) => Ok(Some(rank_at(row, 0)?)),
+        None => Ok(None),
+    }
+}

@@ -1,0 +1,315 @@
+//! The tables of items: paths and their names, and the numbers of the last changes of these.
+ghost use Rattle.std.specs.Prelude.{
+  ◌≡◌,
+  ◌⊎◌,
+  ◌||◌,
+  ◌++◌,
+  [],
+  ◌∷◌,
+  true,
+  false,
+  None,
+  IfOk,
+  IfErr,
+  IsSome,
+  option_map,
+  slice_get,
+  codes,
+};
+ghost use Rattle.pid_moderation.specs.Items.{
+  name_at as item_at,
+  has_children as are_children,
+  has_name,
+};
+ghost use Rattle.sqlite.specs.Order.{column};
+ghost use Rattle.sqlite.specs.declared.types.Value.TheVariants.{Text as TextValue};
+ghost use Rattle.pid_tables_rows.specs.Steps.Answers.{name_row};
+ghost use Rattle.pid_tables_rows.specs.Steps.Ranges.{holds_between};
+ghost use Rattle.pid_ident.specs.Identifiers.{hex4 as hex4_text};
+ghost use Rattle.pid_ident.specs.PathTexts.{path_text};
+ghost use Rattle.pid_moderation.specs.WellMade.{AllItems, HoldsParents};
+ghost use Rattle.pid_tables_rows.specs.Shows.{AreViews};
+ghost use Rattle.pid_tables_rows.specs.Unread.{IsUnread, IsItemRow};
+ghost use Rattle.pid_tables_rows.specs.Writes.{with_name, without_item};
+ghost use Rattle.pid_tables_rows.specs.Steps.Writes.{with_item, with_number};
+ghost use Rattle.pid_tables_rows.specs.Clauses.{ChangesTo, GoesOn, Reads};
+ghost use Rattle.pid_tables_rows.specs.Steps.Clauses.{LeadsKeeping};
+
+use crate::fault::TableFault;
+use crate::run::{read_rows, write_one};
+use crate::value::{name_at, path_at, stored};
+use pid_ident::{Id16, Name, Path, PathText, hex4};
+use pid_moderation::Item;
+use sqlite::types::{ToSql, ValueRef};
+use sqlite::{Alter, Connection, Row, Transaction};
+use std::alloc::{AllocError, Global};
+
+fn insert_item<S: Alter>(
+    tx: &mut Transaction<'_, S>,
+    path: &str,
+    name: &str,
+) -> Result<(), TableFault>
+    ensures same_reference { tx.new.conn.ghost_name ≡ tx.old.conn.ghost_name }
+    ensures goes { GoesOn S.Store tx.old.conn.now tx.new.conn.now result }
+    ensures shows { LeadsKeeping S.Store tx.old.conn.now tx.new.conn.now result
+        (λ n v. item_at path.now v.items ≡ None) (λ n. n) (with_item path.now name.now) }
+{
+    let path = path.to_sql();
+    let name = name.to_sql();
+    write_one(
+        tx,
+        "INSERT INTO item (path, name) VALUES (?1, ?2)",
+        &[path, name],
+    )
+}
+
+fn insert_since<S: Alter>(
+    tx: &mut Transaction<'_, S>,
+    path: &str,
+    since: u64,
+) -> Result<(), TableFault>
+    ensures same_reference { tx.new.conn.ghost_name ≡ tx.old.conn.ghost_name }
+    ensures goes { GoesOn S.Store tx.old.conn.now tx.new.conn.now result }
+    ensures shows { LeadsKeeping S.Store tx.old.conn.now tx.new.conn.now result
+        (λ n v. n.since path.now ≡ None) (with_number path.now since) (λ v. v) }
+{
+    let path = path.to_sql();
+    let since = stored(since)?;
+    write_one(
+        tx,
+        "INSERT INTO item_since (path, since) VALUES (?1, ?2)",
+        &[path, since],
+    )
+}
+
+/// Adds an item at a path that has none, with the number of its change. The path is the text of a
+/// path, as `PC/8086/1237`; neither it nor the name is tested, and nor is whether the path's parent
+/// is there. A path that has an item is refused with
+/// `Store`, and so is a number that 63 bits do not hold.
+pub fn add_item<S: Alter>(
+    tx: &mut Transaction<'_, S>,
+    path: &str,
+    name: &str,
+    since: u64,
+) -> Result<(), TableFault>
+    ensures same_reference { tx.new.conn.ghost_name ≡ tx.old.conn.ghost_name }
+    ensures goes { GoesOn S.Store tx.old.conn.now tx.new.conn.now result }
+    ensures shows { ChangesTo S.Store tx.old.conn.now tx.new.conn.now result
+        (λ v. item_at path.now v.items ≡ None) (with_name since path.now name.now) }
+{
+    insert_item(tx, path, name)?;
+    insert_since(tx, path, since)
+}
+
+fn update_item<S: Alter>(
+    tx: &mut Transaction<'_, S>,
+    path: &str,
+    name: &str,
+) -> Result<(), TableFault>
+    ensures same_reference { tx.new.conn.ghost_name ≡ tx.old.conn.ghost_name }
+    ensures goes { GoesOn S.Store tx.old.conn.now tx.new.conn.now result }
+    ensures shows { LeadsKeeping S.Store tx.old.conn.now tx.new.conn.now result
+        (λ n v. IsSome (item_at path.now v.items)) (λ n. n) (with_item path.now name.now) }
+{
+    let path = path.to_sql();
+    let name = name.to_sql();
+    write_one(
+        tx,
+        "UPDATE item SET name = ?2 WHERE path = ?1",
+        &[path, name],
+    )
+}
+
+fn update_since<S: Alter>(
+    tx: &mut Transaction<'_, S>,
+    path: &str,
+    since: u64,
+) -> Result<(), TableFault>
+    ensures same_reference { tx.new.conn.ghost_name ≡ tx.old.conn.ghost_name }
+    ensures goes { GoesOn S.Store tx.old.conn.now tx.new.conn.now result }
+    ensures shows { LeadsKeeping S.Store tx.old.conn.now tx.new.conn.now result
+        (λ n v. IsSome (n.since path.now)) (with_number path.now since) (λ v. v) }
+{
+    let path = path.to_sql();
+    let since = stored(since)?;
+    write_one(
+        tx,
+        "UPDATE item_since SET since = ?2 WHERE path = ?1",
+        &[path, since],
+    )
+}
+
+/// Gives the item at a path another name, which is not tested, and the number of its change. Where
+/// the path has no item it writes nothing and answers `Ok`. A number that 63 bits do not hold is
+/// refused with `Store`.
+pub fn rename_item<S: Alter>(
+    tx: &mut Transaction<'_, S>,
+    path: &str,
+    name: &str,
+    since: u64,
+) -> Result<(), TableFault>
+    ensures same_reference { tx.new.conn.ghost_name ≡ tx.old.conn.ghost_name }
+    ensures goes { GoesOn S.Store tx.old.conn.now tx.new.conn.now result }
+    ensures shows { ChangesTo S.Store tx.old.conn.now tx.new.conn.now result
+        (λ v. IsSome (item_at path.now v.items)
+        × (has_name name.now (item_at path.now v.items) ≡ false))
+        (with_name since path.now name.now) }
+{
+    update_item(tx, path, name)?;
+    update_since(tx, path, since)
+}
+
+/// Takes the item of a path away, if there is one, with its number. Items below it stay.
+pub fn remove_item<S: Alter>(tx: &mut Transaction<'_, S>, path: &str) -> Result<(), TableFault>
+    ensures same_reference { tx.new.conn.ghost_name ≡ tx.old.conn.ghost_name }
+    ensures goes { GoesOn S.Store tx.old.conn.now tx.new.conn.now result }
+    ensures shows { ChangesTo S.Store tx.old.conn.now tx.new.conn.now result (λ v. Unit {0})
+        (without_item path.now) }
+{
+    let path = path.to_sql();
+    write_one(tx, "DELETE FROM item WHERE path = ?1", &[path])
+}
+
+fn name_rows<S: Alter>(conn: &mut Connection<S>, path: &str) -> Result<Vec<Row>, TableFault>
+    requires { conn.old.in_transaction ≡ false }
+    ensures { Reads S.Store conn.old conn.new result
+        (λ v rows. slice_get rows.items 0 ≡ option_map name_row (item_at path.now v.items)) }
+{
+    let path = path.to_sql();
+    read_rows(conn, "SELECT name FROM item WHERE path = ?1", &[path])
+}
+
+/// The name of the item at a path, and none where the path has no item or the text is no path's.
+/// A stored text that is no name is `Damaged`.
+pub fn item_name<S: Alter>(
+    conn: &mut Connection<S>,
+    alloc: Global,
+    path: &str,
+) -> Result<Option<Name>, TableFault>
+    requires { conn.old.in_transaction ≡ false }
+    ensures { Reads S.Store conn.old conn.new result (λ v name. name ≡ item_at path.now v.items) }
+{
+    let rows = name_rows(conn, path)?;
+    match rows.first() {
+        Some(row) => Ok(Some(name_at(row, alloc, 0)?)),
+        None => Ok(None),
+    }
+}
+
+fn range_rows<S: Alter>(
+    conn: &mut Connection<S>,
+    low: &[u8],
+    high: &[u8],
+) -> Result<Vec<Row>, TableFault>
+    requires { conn.old.in_transaction ≡ false }
+    ensures { Reads S.Store conn.old conn.new result (λ v rows. AreViews v × (
+        ((rows.items ≡ []) × (holds_between low.now high.now v.items ≡ false)) ⊎ ((row : _) × (rows.items ≡ row ∷ []) × (holds_between low.now high.now v.items ≡ true)))) }
+{
+    let low = ValueRef::Text(low);
+    let high = ValueRef::Text(high);
+    read_rows(
+        conn,
+        "SELECT path FROM item WHERE path > ?1 AND path < ?2 LIMIT 1",
+        &[low, high],
+    )
+}
+
+fn any_between<S: Alter>(
+    conn: &mut Connection<S>,
+    low: &[u8],
+    high: &[u8],
+) -> Result<bool, TableFault>
+    requires { conn.old.in_transaction ≡ false }
+    ensures { Reads S.Store conn.old conn.new result
+        (λ v some. AreViews v × (some ≡ holds_between low.now high.now v.items)) }
+{
+    let rows = range_rows(conn, low, high)?;
+    match rows.first() {
+        Some(_) => Ok(true),
+        None => Ok(false),
+    }
+}
+
+/// The two parts and a last byte, joined: an end of a range of paths. Behind `PC/8086` they lie
+/// between `PC/8086/` and `PC/80860`.
+pub fn edge(alloc: Global, front: &[u8], rest: &[u8], last: u8) -> Result<Vec<u8>, AllocError>
+    ensures { IfOk result (λ edge. edge.items ≡ (front.now ++ rest.now) ++ last ∷ []) }
+{
+    let mut edge = Vec::from_slice(alloc, front)?;
+    edge.extend_from_slice(rest)?;
+    edge.push(last)?;
+    Ok(edge)
+}
+
+// Whether an item's path goes on behind the text of the two parts and a slash.
+fn any_below<S: Alter>(
+    conn: &mut Connection<S>,
+    alloc: Global,
+    front: &[u8],
+    rest: &[u8],
+) -> Result<bool, TableFault>
+    requires { conn.old.in_transaction ≡ false }
+    ensures { Reads S.Store conn.old conn.new result
+        (λ v some. AreViews v × (some ≡ holds_between ((front.now ++ rest.now) ++ 47 ∷ [])
+        ((front.now ++ rest.now) ++ 48 ∷ []) v.items)) }
+{
+    let low = edge(alloc, front, rest, b'/')?;
+    let high = edge(alloc, front, rest, b'0')?;
+    any_between(conn, low.as_slice(), high.as_slice())
+}
+
+// Whether some item is a generic subsystem of the vendor.
+fn any_generic<S: Alter>(
+    conn: &mut Connection<S>,
+    alloc: Global,
+    vendor: Id16,
+) -> Result<bool, TableFault>
+    requires { conn.old.in_transaction ≡ false }
+    ensures { Reads S.Store conn.old conn.new result (λ v some. AreViews v
+        × (some ≡ holds_between ((codes "PS/" ++ hex4_text vendor) ++ 47 ∷ [])
+        ((codes "PS/" ++ hex4_text vendor) ++ 48 ∷ []) v.items)) }
+{
+    let digits = hex4(vendor);
+    any_below(conn, alloc, b"PS/", digits.as_slice())
+}
+
+fn either(one: bool, other: bool) -> bool
+    ensures { result ≡ (one || other) }
+{
+    one || other
+}
+
+/// Whether some item has the path as its parent. A generic subsystem counts for its vendor.
+pub fn has_children<S: Alter>(
+    conn: &mut Connection<S>,
+    alloc: Global,
+    path: Path,
+) -> Result<bool, TableFault>
+    requires { conn.old.in_transaction ≡ false }
+    ensures { Reads S.Store conn.old conn.new result
+        (λ v some. AllItems v.items → HoldsParents v.items
+        → some ≡ are_children (path_text path) v.items) }
+{
+    let text = path.path_text(alloc)?;
+    let below = any_below(conn, alloc, b"", text.as_bytes())?;
+    match path {
+        Path::Vendor { vendor } => {
+            let generic = any_generic(conn, alloc, vendor)?;
+            Ok(either(below, generic))
+        }
+        _ => Ok(below),
+    }
+}
+
+/// The item of a row that has the text of its path in the first column and its name in the second;
+/// further columns are not looked at. Where a column is missing or breaks its rule, the row is
+/// `Damaged`.
+pub fn item_of(row: &Row, alloc: Global) -> Result<Item, TableFault>
+    ensures path { IfOk result (λ item. column row.now 0 ≡ TextValue (path_text item.path)) }
+    ensures name { IfOk result (λ item. column row.now 1 ≡ TextValue item.name) }
+    ensures unread { IfErr result (IsUnread (IsItemRow row.now)) }
+{
+    let path = path_at(row, 0)?;
+    let name = name_at(row, alloc, 1)?;
+    Ok(Item { path, name })
+}

@@ -1,0 +1,75 @@
+//! The tables of schema 1 become those of schema 2, inside a transaction.
+ghost use Rattle.std.specs.Prelude.{◌≡◌, IfErr, MatchResult, IsTrue};
+ghost use Rattle.pid_moderation.specs.Views.{Views};
+ghost use Rattle.pid_tables_rows.specs.declared.version.Version.TheVariants.{One};
+ghost use Rattle.pid_tables_rows.specs.Faults.{IsMemoryOrStore, IsNotNewerSchema};
+ghost use Rattle.pid_tables_rows.specs.Steps.Moving.{IsBetween};
+ghost use Rattle.pid_tables_rows.specs.Shows.{Counts, ShowsKeeping, ShowsCounting, numbers_of};
+ghost use Rattle.pid_tables_rows.specs.Clauses.{GoesOn, HasCleanDisk, Moves, is_open, seen};
+
+use crate::fault::TableFault;
+use crate::run::write_one;
+use sqlite::types::ToSql;
+use sqlite::{Alter, Transaction};
+
+// Makes the seventh table, where each item has the number 0.
+fn add_table<S: Alter>(tx: &mut Transaction<'_, S>) -> Result<(), TableFault>
+    ensures same_reference { tx.new.conn.ghost_name ≡ tx.old.conn.ghost_name }
+    ensures goes { GoesOn S.Store tx.old.conn.now tx.new.conn.now result }
+    ensures never { IfErr result IsNotNewerSchema }
+    ensures added { HasCleanDisk S.Store tx.new.conn.now → IsTrue tx.old.conn.now.in_transaction
+        → (c : Counts) (v : Views) → (IsTrue (is_open S.Store tx.old.conn.now)
+        → ShowsKeeping One c (numbers_of v) (seen S.Store tx.old.conn.now) v)
+        → MatchResult result (λ _. IsBetween c (seen S.Store tx.new.conn.now) v) IsMemoryOrStore }
+{
+    write_one(
+        tx,
+        "CREATE TABLE item_since (path TEXT NOT NULL PRIMARY KEY REFERENCES item(path) ON DELETE CASCADE, since INTEGER NOT NULL) STRICT",
+        &[],
+    )?;
+    write_one(
+        tx,
+        "INSERT INTO item_since (path, since) SELECT path, 0 FROM item",
+        &[],
+    )
+}
+
+// Adds the label of the revision, which is 0, and raises the number of the schema.
+fn raise_labels<S: Alter>(tx: &mut Transaction<'_, S>) -> Result<(), TableFault>
+    ensures same_reference { tx.new.conn.ghost_name ≡ tx.old.conn.ghost_name }
+    ensures goes { GoesOn S.Store tx.old.conn.now tx.new.conn.now result }
+    ensures never { IfErr result IsNotNewerSchema }
+    ensures raised { HasCleanDisk S.Store tx.new.conn.now → IsTrue tx.old.conn.now.in_transaction
+        → (c : Counts) (v : Views) → IsBetween c (seen S.Store tx.old.conn.now) v
+        → MatchResult result (λ _. ShowsCounting c
+        (seen S.Store tx.new.conn.now) v) IsMemoryOrStore }
+{
+    let revision = "revision".to_sql();
+    let none = 0u32.to_sql();
+    write_one(
+        tx,
+        "INSERT INTO meta (label, value) VALUES (?1, ?2)",
+        &[revision, none],
+    )?;
+    let schema = "schema".to_sql();
+    let two = 2u32.to_sql();
+    write_one(
+        tx,
+        "UPDATE meta SET value = ?2 WHERE label = ?1",
+        &[schema, two],
+    )
+}
+
+/// Makes tables of schema 1 those of schema 2: a table of the numbers of changes, where each item
+/// has 0, and the revision, which is 0. What the six tables show stays. The caller knows that the
+/// tables are of schema 1: where they have a table, a view or an index of the new table's name, it
+/// is refused with `Damaged` or `Store`.
+pub fn move_tables<S: Alter>(tx: &mut Transaction<'_, S>) -> Result<(), TableFault>
+    ensures same_reference { tx.new.conn.ghost_name ≡ tx.old.conn.ghost_name }
+    ensures goes { GoesOn S.Store tx.old.conn.now tx.new.conn.now result }
+    ensures never { IfErr result IsNotNewerSchema }
+    ensures shows { Moves S.Store tx.old.conn.now tx.new.conn.now result }
+{
+    add_table(tx)?;
+    raise_labels(tx)
+}

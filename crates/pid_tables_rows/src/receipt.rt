@@ -1,0 +1,115 @@
+//! The table of receipts: replies kept under accounts and keys.
+ghost use Rattle.std.specs.Prelude.{◌≡◌, false, None, option_map, slice_get};
+ghost use Rattle.pid_tables_rows.specs.TableRows.{kind_of, first_of, second_of, third_of};
+ghost use Rattle.pid_tables_rows.specs.Steps.Answers.{reply_row};
+ghost use Rattle.pid_tables_rows.specs.Writes.{with_reply};
+ghost use Rattle.pid_tables_rows.specs.Clauses.{ChangesTo, GoesOn, Reads};
+
+use crate::fault::TableFault;
+use crate::run::{read_rows, write_one};
+use crate::value::reply_at;
+use pid_ident::{Account, Key};
+use pid_moderation::Reply;
+use sqlite::types::ToSql;
+use sqlite::{Alter, Connection, Row, Transaction};
+
+fn kind(reply: Reply) -> u32
+    ensures { result ≡ kind_of reply }
+{
+    match reply {
+        Reply::Done => 0,
+        Reply::Numbered(_) => 1,
+        Reply::Counts { .. } => 2,
+    }
+}
+
+fn first(reply: Reply) -> u32
+    ensures { result ≡ first_of reply }
+{
+    match reply {
+        Reply::Done => 0,
+        Reply::Numbered(number) => number,
+        Reply::Counts { added, .. } => added,
+    }
+}
+
+fn second(reply: Reply) -> u32
+    ensures { result ≡ second_of reply }
+{
+    match reply {
+        Reply::Done | Reply::Numbered(_) => 0,
+        Reply::Counts { renamed, .. } => renamed,
+    }
+}
+
+fn third(reply: Reply) -> u32
+    ensures { result ≡ third_of reply }
+{
+    match reply {
+        Reply::Done | Reply::Numbered(_) => 0,
+        Reply::Counts { same, .. } => same,
+    }
+}
+
+/// Keeps a reply under an account and a key that have none yet. One that is kept already is refused
+/// with `Store`, and so is an account that is not there.
+pub fn keep_reply<S: Alter>(
+    tx: &mut Transaction<'_, S>,
+    account: &Account,
+    key: &Key,
+    reply: Reply,
+) -> Result<(), TableFault>
+    ensures same_reference { tx.new.conn.ghost_name ≡ tx.old.conn.ghost_name }
+    ensures goes { GoesOn S.Store tx.old.conn.now tx.new.conn.now result }
+    ensures shows { ChangesTo S.Store tx.old.conn.now tx.new.conn.now result
+        (λ v. v.kept account.now key.now ≡ None)
+        (with_reply account.now key.now reply) }
+{
+    let account = account.as_str().to_sql();
+    let key = key.as_str().to_sql();
+    let kind = kind(reply).to_sql();
+    let first = first(reply).to_sql();
+    let second = second(reply).to_sql();
+    let third = third(reply).to_sql();
+    write_one(
+        tx,
+        "INSERT INTO receipt (account, token, kind, a, b, c) VALUES (?1, ?2, ?3, ?4, ?5, ?6)",
+        &[account, key, kind, first, second, third],
+    )
+}
+
+fn reply_rows<S: Alter>(
+    conn: &mut Connection<S>,
+    account: &str,
+    key: &str,
+) -> Result<Vec<Row>, TableFault>
+    requires { conn.old.in_transaction ≡ false }
+    ensures { Reads S.Store conn.old conn.new result
+        (λ v rows. slice_get rows.items 0 ≡ option_map reply_row (v.kept account.now key.now)) }
+{
+    let account = account.to_sql();
+    let key = key.to_sql();
+    read_rows(
+        conn,
+        "SELECT kind, a, b, c FROM receipt WHERE account = ?1 AND token = ?2",
+        &[account, key],
+    )
+}
+
+/// The reply that is kept under an account and a key, and none where there is none. Numbers that
+/// are no reply's are `Damaged`.
+pub fn kept_reply<S: Alter>(
+    conn: &mut Connection<S>,
+    account: &str,
+    key: &str,
+) -> Result<Option<Reply>, TableFault>
+    requires { conn.old.in_transaction ≡ false }
+    ensures { Reads S.Store conn.old conn.new result
+        (λ v reply. reply ≡ v.kept account.now key.now) }
+{
+    let rows = reply_rows(conn, account, key)?;
+    match rows.first() {
+        Some(row) => Ok(Some(reply_at(row)?)),
+        None => Ok(None),
+    }
+}

@@ -1,0 +1,105 @@
+//! One statement at a time.
+ghost use Rattle.std.specs.Prelude.{◌≡◌, ℕ, false, true, IfOk, IfErr, OnOk, IsTrue, Ok, Err};
+ghost use Rattle.sqlite.specs.Given.{IsPlain};
+ghost use Rattle.sqlite.specs.Listing.{understood};
+ghost use Rattle.sqlite.specs.Schema.{Schema};
+ghost use Rattle.sqlite.specs.Values.{bound};
+ghost use Rattle.sqlite.specs.Held.{Held};
+ghost use Rattle.sqlite.specs.declared.error.Error.{Error};
+ghost use Rattle.pid_tables_rows.specs.Faults.{fault_of, IsMemoryOrStore, IsNotNewerSchema};
+ghost use Rattle.pid_moderation.specs.Views.{Views};
+ghost use Rattle.pid_tables_rows.specs.Queries.{IsQuery, IsWriteAs};
+ghost use Rattle.pid_tables_rows.specs.Schema.{pid_schema};
+ghost use Rattle.pid_tables_rows.specs.Clauses.{
+  AtRest,
+  Executes,
+  ExecutesInside,
+  GoesOn,
+  HasCleanDisk,
+  IsCaused,
+  OnlyReads,
+  Shown,
+  is_open,
+  seen,
+};
+
+use crate::fault::TableFault;
+use sqlite::types::ValueRef;
+use sqlite::{Alter, Connection, Row, Transaction};
+
+/// Runs one statement that writes, inside a transaction. The parameters are those of the text, `?1`
+/// first. A text that the schema does not know is `Damaged`; what the database refuses is `Store`.
+pub fn write_one<S: Alter>(
+    tx: &mut Transaction<'_, S>,
+    sql: &str,
+    params: &[ValueRef<'_>],
+) -> Result<(), TableFault>
+    ensures same_reference { tx.new.conn.ghost_name ≡ tx.old.conn.ghost_name }
+    ensures goes { GoesOn S.Store tx.old.conn.now tx.new.conn.now result }
+    ensures ran { HasCleanDisk S.Store tx.new.conn.now → IsTrue tx.old.conn.now.in_transaction
+        → OnOk result ((count : ℕ) × Executes S.Store sql.now
+        (bound params.now) tx.old.conn.now tx.new.conn.now (Ok count)) }
+    ensures untold { HasCleanDisk S.Store tx.new.conn.now → (schema : Schema)
+        → (IsTrue (is_open S.Store tx.old.conn.now)
+        → (seen S.Store tx.old.conn.now).schema ≡ schema)
+        → IsWriteAs sql.now (understood schema sql.now) → IfErr result IsMemoryOrStore }
+    ensures never { IfErr result IsNotNewerSchema }
+    ensures refused { HasCleanDisk S.Store tx.new.conn.now → IsTrue tx.old.conn.now.in_transaction
+        → IfErr result (λ fault. (e : Error) × (fault ≡ fault_of e)
+        × ExecutesInside S.Store 0 sql.now (bound params.now) tx.old.conn.now tx.new.conn.now
+        (Err e)) }
+{
+    tx.execute(sql, params)?;
+    Ok(())
+}
+
+/// The rows of one query, inside a transaction, all held in memory at once. The parameters are
+/// those of the text, `?1` first. A text that the schema does not know is `Damaged`.
+pub fn read_inside<S: Alter>(
+    tx: &mut Transaction<'_, S>,
+    sql: &str,
+    params: &[ValueRef<'_>],
+) -> Result<Vec<Row>, TableFault>
+    ensures same_reference { tx.new.conn.ghost_name ≡ tx.old.conn.ghost_name }
+    ensures goes { GoesOn S.Store tx.old.conn.now tx.new.conn.now result }
+    ensures shown { HasCleanDisk S.Store tx.new.conn.now
+        → IfOk result (λ rows. Shown S.Store sql.now
+        (bound params.now) tx.old.conn.now tx.new.conn.now rows.items) }
+    ensures untold { HasCleanDisk S.Store tx.new.conn.now → (schema : Schema)
+        → (seen S.Store tx.old.conn.now).schema ≡ schema → IsPlain (understood schema sql.now)
+        → IfErr result IsMemoryOrStore }
+    ensures never { IfErr result IsNotNewerSchema }
+    ensures caused { HasCleanDisk S.Store tx.new.conn.now → (schema : Schema)
+        → (IsTrue (is_open S.Store tx.old.conn.now)
+        → (seen S.Store tx.old.conn.now).schema ≡ schema)
+        → IsQuery schema sql.now (bound params.now)
+        → IfErr result (IsCaused S.Store tx.old.conn.now tx.new.conn.now) }
+{
+    Ok(tx.query_all(sql, params)?)
+}
+
+/// The rows of one query, in a transaction of its own, which is rolled back; all are held in memory
+/// at once. The parameters are those of the text, `?1` first. A text that the schema does not know
+/// is `Damaged`.
+pub fn read_rows<S: Alter>(
+    conn: &mut Connection<S>,
+    sql: &str,
+    params: &[ValueRef<'_>],
+) -> Result<Vec<Row>, TableFault>
+    requires { conn.old.in_transaction ≡ false }
+    ensures rests { OnlyReads S.Store conn.old conn.new }
+    ensures shown { HasCleanDisk S.Store conn.new
+        → IfOk result (λ rows. (mid : Held S)
+        × Shown S.Store sql.now (bound params.now)
+        (record conn.old { in_transaction = true }) mid rows.items) }
+    ensures untold { HasCleanDisk S.Store conn.new → (schema : Schema)
+        → (seen S.Store conn.old).schema ≡ schema → IsPlain (understood schema sql.now)
+        → IfErr result IsMemoryOrStore }
+    ensures never { IfErr result IsNotNewerSchema }
+    ensures caused { HasCleanDisk S.Store conn.new → (v : Views) → AtRest S.Store conn.old v
+        → IsQuery pid_schema sql.now (bound params.now)
+        → IfErr result (IsCaused S.Store conn.old conn.new) }
+{
+    let mut tx = conn.transaction();
+    read_inside(&mut tx, sql, params)
+}

@@ -1,0 +1,247 @@
+//! The table of submissions, each as it stands.
+ghost use Rattle.std.specs.Prelude.{
+  ◌≡◌,
+  ◌+◌,
+  false,
+  length,
+  [],
+  IfOk,
+  IfErr,
+  IsSome,
+  option_map,
+  slice_get,
+};
+ghost use Rattle.pid_ident.specs.PathTexts.{path_text};
+ghost use Rattle.pid_moderation.specs.Views.{submission_at};
+ghost use Rattle.pid_moderation.specs.declared.facts.State.TheVariants as states;
+ghost use Rattle.pid_tables_rows.specs.TableRows.{form_of, name_of, state_number};
+ghost use Rattle.pid_moderation.specs.Submissions.{decider_of, reason_of, standing_in, standing_of};
+ghost use Rattle.pid_tables_rows.specs.Answers.{standing_row};
+ghost use Rattle.pid_tables_rows.specs.Shows.{AreViews};
+ghost use Rattle.pid_tables_rows.specs.Standings.{ReadsTo};
+ghost use Rattle.pid_tables_rows.specs.Unread.{IsUnread, IsStandingRow};
+ghost use Rattle.pid_tables_rows.specs.Writes.{with_submission, with_state};
+ghost use Rattle.pid_tables_rows.specs.Steps.Writes.{NamesDecider};
+ghost use Rattle.pid_tables_rows.specs.Clauses.{ChangesTo, GoesOn, Reads};
+
+use crate::fault::TableFault;
+use crate::run::{read_rows, write_one};
+use crate::value::{account_at, path_at, proposal_at, state_at, words_at};
+use pid_ident::{Account, Path, PathText, Text, texts_have_one_path};
+use pid_moderation::{Proposal, State, Submission};
+use sqlite::types::ToSql;
+use sqlite::{Alter, Connection, Row, Transaction};
+use std::alloc::Global;
+
+fn form(proposal: &Proposal) -> u32
+    ensures { result ≡ form_of proposal.now }
+{
+    match proposal {
+        Proposal::Name(_) => 0,
+        Proposal::Removal => 1,
+    }
+}
+
+fn proposed_name(proposal: &Proposal) -> &str
+    ensures { result.now ≡ name_of proposal.now }
+{
+    match proposal {
+        Proposal::Name(name) => name.as_str(),
+        Proposal::Removal => "",
+    }
+}
+
+fn insert_submission<'x, S: Alter>(
+    tx: &mut Transaction<'_, S>,
+    number: u32,
+    author: &'x Account,
+    path: Path,
+    text: &'x str,
+    proposal: &'x Proposal,
+    note: &'x Text,
+) -> Result<(), TableFault>
+    requires { text.now ≡ path_text path }
+    ensures same_reference { tx.new.conn.ghost_name ≡ tx.old.conn.ghost_name }
+    ensures goes { GoesOn S.Store tx.old.conn.now tx.new.conn.now result }
+    ensures shows { ChangesTo S.Store tx.old.conn.now tx.new.conn.now result
+        (λ v. number ≡ length v.submits + 1)
+        (with_submission (record { author = author.now; path = path; proposal = proposal.now; note = note.now })) }
+{
+    let number = number.to_sql();
+    let author = author.as_str().to_sql();
+    let text = text.to_sql();
+    let form = form(proposal).to_sql();
+    let name = proposed_name(proposal).to_sql();
+    let note = note.as_str().to_sql();
+    write_one(
+        tx,
+        "INSERT INTO submission (num, author, path, form, name, note, state, decider, reason) VALUES (?1, ?2, ?3, ?4, ?5, ?6, 0, '', '')",
+        &[number, author, text, form, name, note],
+    )
+}
+
+/// Adds a pending submission behind the last one. `number` is one more than the submissions are so
+/// far: they count from 1. A number that is taken, or an author that is not there, is refused with
+/// `Store`.
+pub fn add_submission<S: Alter>(
+    tx: &mut Transaction<'_, S>,
+    alloc: Global,
+    number: u32,
+    author: &Account,
+    path: Path,
+    proposal: &Proposal,
+    note: &Text,
+) -> Result<(), TableFault>
+    ensures same_reference { tx.new.conn.ghost_name ≡ tx.old.conn.ghost_name }
+    ensures goes { GoesOn S.Store tx.old.conn.now tx.new.conn.now result }
+    ensures shows { ChangesTo S.Store tx.old.conn.now tx.new.conn.now result
+        (λ v. number ≡ length v.submits + 1)
+        (with_submission (record { author = author.now; path = path; proposal = proposal.now; note = note.now })) }
+{
+    let text = path.path_text(alloc)?;
+    insert_submission(tx, number, author, path, text.as_str(), proposal, note)
+}
+
+fn number_of(state: &State) -> u32
+    ensures { result ≡ state_number state.now }
+{
+    match state {
+        State::Pending => 0,
+        State::Approved { .. } => 1,
+        State::Rejected { .. } => 2,
+        State::Withdrawn => 3,
+    }
+}
+
+fn decider(state: &State) -> &str
+    ensures { result.now ≡ decider_of [] state.now }
+{
+    match state {
+        State::Approved { decider } => decider.as_str(),
+        State::Rejected { decider, .. } => decider.as_str(),
+        State::Pending | State::Withdrawn => "",
+    }
+}
+
+fn reason(state: &State) -> &str
+    ensures { result.now ≡ reason_of state.now }
+{
+    match state {
+        State::Rejected { reason, .. } => reason.as_str(),
+        State::Pending | State::Approved { .. } | State::Withdrawn => "",
+    }
+}
+
+/// Gives a submission a state that names who decided.
+fn set_state<S: Alter>(
+    tx: &mut Transaction<'_, S>,
+    number: u32,
+    state: &State,
+) -> Result<(), TableFault>
+    ensures same_reference { tx.new.conn.ghost_name ≡ tx.old.conn.ghost_name }
+    ensures goes { GoesOn S.Store tx.old.conn.now tx.new.conn.now result }
+    ensures shows { ChangesTo S.Store tx.old.conn.now tx.new.conn.now result
+        (λ v. NamesDecider state.now × IsSome (submission_at number v.submits))
+        (with_state number state.now) }
+{
+    let number = number.to_sql();
+    let told = number_of(state).to_sql();
+    let decider = decider(state).to_sql();
+    let reason = reason(state).to_sql();
+    write_one(
+        tx,
+        "UPDATE submission SET state = ?2, decider = ?3, reason = ?4 WHERE num = ?1",
+        &[number, told, decider, reason],
+    )
+}
+
+/// Withdraws a submission in the name of its author.
+fn withdraw<S: Alter>(tx: &mut Transaction<'_, S>, number: u32) -> Result<(), TableFault>
+    ensures same_reference { tx.new.conn.ghost_name ≡ tx.old.conn.ghost_name }
+    ensures goes { GoesOn S.Store tx.old.conn.now tx.new.conn.now result }
+    ensures shows { ChangesTo S.Store tx.old.conn.now tx.new.conn.now result
+        (λ v. IsSome (submission_at number v.submits))
+        (with_state number states.Withdrawn) }
+{
+    let number = number.to_sql();
+    write_one(
+        tx,
+        "UPDATE submission SET state = 3, decider = author, reason = '' WHERE num = ?1",
+        &[number],
+    )
+}
+
+/// Gives the submission with a number a state, whatever its state is. Where there is no such
+/// submission it writes nothing and answers `Ok`.
+pub fn decide<S: Alter>(
+    tx: &mut Transaction<'_, S>,
+    number: u32,
+    state: &State,
+) -> Result<(), TableFault>
+    ensures same_reference { tx.new.conn.ghost_name ≡ tx.old.conn.ghost_name }
+    ensures goes { GoesOn S.Store tx.old.conn.now tx.new.conn.now result }
+    ensures shows { ChangesTo S.Store tx.old.conn.now tx.new.conn.now result
+        (λ v. IsSome (submission_at number v.submits))
+        (with_state number state.now) }
+{
+    match state {
+        State::Withdrawn => withdraw(tx, number),
+        State::Pending => set_state(tx, number, state),
+        State::Approved { .. } => set_state(tx, number, state),
+        State::Rejected { .. } => set_state(tx, number, state),
+    }
+}
+
+/// The submission of a row that has its author, path, form, name, note, state, decider and reason
+/// in the first eight columns; further columns are not looked at. Where a column is missing or
+/// breaks its rule, the row is `Damaged`.
+pub fn submission_of(row: &Row, alloc: Global) -> Result<Submission, TableFault>
+    ensures read { IfOk result (ReadsTo row.now) }
+    ensures unread { IfErr result (IsUnread (IsStandingRow row.now)) }
+{
+    let author = account_at(row, alloc, 0)?;
+    let path = path_at(row, 1)?;
+    let proposal = proposal_at(row, alloc, 2, 3)?;
+    let note = words_at(row, alloc, 4)?;
+    let state = state_at(row, alloc, &author)?;
+    Ok(Submission {
+        author,
+        path,
+        proposal,
+        note,
+        state,
+    })
+}
+
+fn submission_rows<S: Alter>(conn: &mut Connection<S>, number: u32) -> Result<Vec<Row>, TableFault>
+    requires { conn.old.in_transaction ≡ false }
+    ensures { Reads S.Store conn.old conn.new result
+        (λ v rows. (slice_get rows.items 0 ≡ option_map standing_row (standing_in v number))
+        × AreViews v) }
+{
+    let number = number.to_sql();
+    read_rows(
+        conn,
+        "SELECT author, path, form, name, note, state, decider, reason FROM submission WHERE num = ?1",
+        &[number],
+    )
+}
+
+/// The submission with a number, as it stands, and none where there is none. A row that is no
+/// submission's is `Damaged`.
+pub fn standing<S: Alter>(
+    conn: &mut Connection<S>,
+    alloc: Global,
+    number: u32,
+) -> Result<Option<Submission>, TableFault>
+    requires { conn.old.in_transaction ≡ false }
+    ensures { Reads S.Store conn.old conn.new result
+        (λ v s. option_map standing_of s ≡ standing_in v number) }
+{
+    texts_have_one_path();
+    let rows = submission_rows(conn, number)?;
+    match rows.first() {
+        Some(row) => Ok(Some(submission_of(row, alloc)?)),
+        None => Ok(None),
+    }
+}

@@ -1,0 +1,64 @@
+//! Want of memory within a stream. With memory for all, the replies are those to the stream; `rt
+//! try --test --fail-alloc N` refuses the N-th request for memory.
+use crate::exchange::{TURNS, new_in_memory, serve};
+use crate::streams::{THEIR_REPLIES, THREE};
+use pid_http_stream::{Served, StreamEnd};
+use pid_ident::FaultyInput;
+use std::process::Abort;
+use std::test::Fail;
+
+// Where each reply begins and ends among those to the stream.
+const REPLIES: [(usize, usize); 3] = [(0, 82), (82, 180), (180, THEIR_REPLIES.len())];
+
+const NO_MEMORY: &[u8] = b"HTTP/1.1 503 Service Unavailable\r\nContent-Type: application/json\r\n\
+        Content-Length: 41\r\n\r\n{\"ok\":false,\"refused\":16,\"word\":\"Memory\"}";
+
+const FAILED: &[u8] = b"HTTP/1.1 503 Service Unavailable\r\nContent-Type: application/json\r\n\
+        Content-Length: 41\r\n\r\n{\"ok\":false,\"refused\":18,\"word\":\"Failed\"}";
+
+// What stands behind a reply, or behind a refusal for want of memory in its place.
+fn behind<'a>(written: &'a [u8], reply: &[u8]) -> Option<&'a [u8]> {
+    for front in [reply, NO_MEMORY, FAILED] {
+        if let Some(rest) = written.strip_prefix(front) {
+            return Some(rest);
+        }
+    }
+    None
+}
+
+// Asserts that the replies are there, so many as were answered, and behind them nothing, or a front
+// of the text of all items.
+fn expect_replies(rt: &impl Abort, written: &[u8], answered: u64, end: StreamEnd) {
+    let mut rest = written;
+    let mut found: u64 = 0;
+    for (from, to) in REPLIES {
+        let reply = THEIR_REPLIES.get(from..to).unwrap_or(b"");
+        if let Some(more) = behind(rest, reply) {
+            rest = more;
+            found = found.saturating_add(1);
+        }
+    }
+    assert_eq!(rt; found, answered);
+    let text = THEIR_REPLIES.get(82..180).unwrap_or(b"");
+    match end {
+        StreamEnd::BodyFault => assert_eq!(rt; answered, 3),
+        StreamEnd::StoreFault => assert!(rt; answered == 1 && text.starts_with(rest)),
+        _ => assert_eq!(rt; end, StreamEnd::Memory),
+    }
+    assert!(rt; rest.is_empty() || end == StreamEnd::StoreFault);
+}
+
+#[test]
+fn want_of_memory_is_told(rt: HostRuntime) -> Result<(), Fail> {
+    let alloc = rt.alloc();
+    let mut registry = new_in_memory(alloc)?;
+    let mut input = FaultyInput::new(THREE, 65_536);
+    let outcome = serve(alloc, &mut registry, &mut input, TURNS);
+    let Served { answered, end } = outcome.served;
+    // The writer of this test has no memory for what it takes.
+    if end == StreamEnd::WriteFault {
+        return Ok(());
+    }
+    expect_replies(&rt, outcome.written.as_slice(), answered, end);
+    Ok(())
+}

@@ -1,0 +1,118 @@
+//! Readers and writers that fail under worked scripts.
+use crate::running::{
+    FIRST_NAME, IMPORTS, PARENT_FIRST, REFUSALS, TURNS, new_in_memory, script_and_replies,
+};
+use pid_ident::{FaultyInput, FaultyOutput, WriteFault};
+use pid_script::{ScriptEnd, run_script};
+use pid_service::Registry;
+use sqlite::MemStore;
+use std::alloc::Global;
+use std::process::Abort;
+use std::test::Fail;
+
+// The first lines of a text.
+fn first_lines(text: &str, count: usize) -> &str {
+    let mut rest = text;
+    for _ in 0..count {
+        match rest.split_once('\n') {
+            Some((_, behind)) => rest = behind,
+            None => rest = "",
+        }
+    }
+    text.strip_suffix(rest).unwrap_or(text)
+}
+
+fn lines_in(text: &[u8]) -> usize {
+    text.iter().filter(|byte| **byte == b'\n').count()
+}
+
+// Asserts that the registry still answers, and what it exports.
+fn expect_export(
+    rt: &impl Abort,
+    alloc: Global,
+    registry: &mut Registry<MemStore>,
+    text: &str,
+) -> Result<(), Fail> {
+    let mut input = FaultyInput::new(b"export\n", 64);
+    let mut output = FaultyOutput::new(alloc, 4_096);
+    let end = run_script(alloc, registry, &mut input, &mut output, 10);
+    assert_eq!(rt; end, ScriptEnd::Done);
+    assert_eq!(rt; output.taken.as_slice(), text.as_bytes());
+    Ok(())
+}
+
+const WITHOUT: &str = "# PCI ID registry\n";
+
+const WITH: &str = "# PCI ID registry\n8086  Intel Corporation\n";
+
+// Reads of so many bytes, of which each one fails in turn: the whole lines that came are answered,
+// and a command that was answered stands. The fourth line is the approval.
+#[test]
+fn each_read_fails(rt: HostRuntime) -> Result<(), Fail> {
+    let alloc = rt.alloc();
+    let (script, replies) = script_and_replies(alloc, FIRST_NAME)?;
+    for good in 0..script.len().div_ceil(7) {
+        let mut registry = new_in_memory(alloc)?;
+        let mut input = FaultyInput::new(script.as_bytes(), 7).failing_after(good as u64);
+        let mut output = FaultyOutput::new(alloc, 64);
+        let end = run_script(alloc, &mut registry, &mut input, &mut output, TURNS);
+        assert_eq!(rt; end, ScriptEnd::ReadFault);
+        let came = &script.as_bytes()[..(good * 7).min(script.len())];
+        let told = first_lines(replies.as_str(), lines_in(came));
+        assert_eq!(rt; output.taken.as_slice(), told.as_bytes());
+        let text = if lines_in(came) < 4 { WITHOUT } else { WITH };
+        expect_export(&rt, alloc, &mut registry, text)?;
+    }
+    Ok(())
+}
+
+// The writer takes a byte a call, and fails behind each count of them.
+fn expect_broken(rt: &impl Abort, alloc: Global, rows: &str) -> Result<(), Fail> {
+    let (script, replies) = script_and_replies(alloc, rows)?;
+    for good in 0..replies.len() {
+        let fault = if good % 2 == 0 {
+            WriteFault::Zero
+        } else {
+            WriteFault::Device
+        };
+        let mut registry = new_in_memory(alloc)?;
+        let mut input = FaultyInput::new(script.as_bytes(), 50);
+        let mut output = FaultyOutput::new(alloc, 1).failing_after(good as u64, fault);
+        let end = run_script(alloc, &mut registry, &mut input, &mut output, TURNS);
+        assert_eq!(rt; end, ScriptEnd::WriteFault);
+        assert_eq!(rt; output.taken.as_slice(), &replies.as_bytes()[..good]);
+    }
+    Ok(())
+}
+
+#[test]
+fn each_write_of_a_change_fails(rt: HostRuntime) -> Result<(), Fail> {
+    expect_broken(&rt, rt.alloc(), FIRST_NAME)?;
+    expect_broken(&rt, rt.alloc(), PARENT_FIRST)
+}
+
+#[test]
+fn each_write_of_an_import_fails(rt: HostRuntime) -> Result<(), Fail> {
+    expect_broken(&rt, rt.alloc(), IMPORTS)
+}
+
+#[test]
+fn each_write_of_a_refusal_fails(rt: HostRuntime) -> Result<(), Fail> {
+    expect_broken(&rt, rt.alloc(), REFUSALS)
+}
+
+// What was answered stands, whatever the writer did behind it.
+#[test]
+fn answered_commands_stand(rt: HostRuntime) -> Result<(), Fail> {
+    let alloc = rt.alloc();
+    let (script, replies) = script_and_replies(alloc, FIRST_NAME)?;
+    for good in first_lines(replies.as_str(), 4).len()..replies.len() {
+        let mut registry = new_in_memory(alloc)?;
+        let mut input = FaultyInput::new(script.as_bytes(), 64);
+        let mut output = FaultyOutput::new(alloc, 1).failing_after(good as u64, WriteFault::Device);
+        let end = run_script(alloc, &mut registry, &mut input, &mut output, TURNS);
+        assert_eq!(rt; end, ScriptEnd::WriteFault);
+        expect_export(&rt, alloc, &mut registry, WITH)?;
+    }
+    Ok(())
+}

@@ -1,3 +1,0 @@
-pub mod AskedNames
-pub mod Kept
-pub mod Answering

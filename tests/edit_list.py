@@ -1,0 +1,96 @@
+"""The wrong bodies (edits) of each crate, by the function that each one turns.
+
+`tests/edit_list.py` writes them between the marks of docs/PROOFS.md; run it after an edit was added
+or went. A test compares them.
+"""
+import os
+import re
+import textwrap
+
+from program import TOP
+
+PAGE = os.path.join(TOP, "docs", "PROOFS.md")
+BEGINS, ENDS = "<!-- edits: begins -->\n", "<!-- edits: ends -->\n"
+
+
+def read(path):
+    with open(path, encoding="utf-8") as file:
+        return file.read()
+
+
+def crates():
+    return re.findall(r"^(pid_\w+):", read(os.path.join(TOP, "crates.txt")), re.M)
+
+
+def edits(crate, folder):
+    """The paths of the edits of a crate in `must-fail` or `edits-on-demand`."""
+    at = os.path.join(TOP, "crates", crate, folder)
+    names = sorted(os.listdir(at)) if os.path.isdir(at) else []
+    return [os.path.join(at, it) for it in names if it.endswith(".edit")]
+
+
+def turned(crate, path):
+    """The function that has the last line which the edit replaces, or that begins after it."""
+    text = read(path)
+    file = re.findall(r"^file: (.+)$", text, re.M)[-1]
+    old = re.findall(r"^old: (.*)$", text, re.M)[-1]
+    source = read(os.path.join(TOP, "crates", crate, file))
+    start = source.find(old.strip())
+    assert start >= 0, path
+    before = re.findall(r"\bfn (\w+)", source[:start + len(old)])
+    return before[-1] if before else re.search(r"\bfn (\w+)", source[start:])[1]
+
+
+def by_function(crate):
+    """The edits of the gate, by the functions that they turn."""
+    found = {}
+    for path in edits(crate, "must-fail"):
+        name = os.path.basename(path)[:-len(".edit")]
+        found.setdefault(turned(crate, path), []).append(name)
+    return found
+
+
+def page_part():
+    """The part of docs/PROOFS.md between its marks."""
+    counts = {crate: (len(edits(crate, "must-fail")), len(edits(crate, "edits-on-demand")))
+              for crate in crates()}
+    gate, others = (sum(it[at] for it in counts.values()) for at in (0, 1))
+    have = sum(it[0] > 0 for it in counts.values())
+    parts = [f"\nThe gate tries {gate} edits of {have} crates; "
+             f"{others} more are tried on demand.\n"]
+    parts.append("\n| crate | in the gate | on demand |\n|---|---|---|\n")
+    parts += [f"| `{crate}` | {it[0]} | {it[1]} |\n" for crate, it in counts.items() if any(it)]
+    parts.append("\nThe edits of the gate, by the function that each one turns:\n\n")
+    for crate in crates():
+        rows = [f"`{name}`: {', '.join(found)}" for name, found in by_function(crate).items()]
+        if rows:
+            lines = textwrap.wrap(f"- **{crate}**: {'; '.join(rows)}", 98, break_on_hyphens=False)
+            parts.append("\n  ".join(lines) + "\n")
+    return "".join(parts) + "\n"
+
+
+def shown_part():
+    return read(PAGE).partition(BEGINS)[2].partition(ENDS)[0]
+
+
+def unknown():
+    """The edits that the page names and no crate has, and how many it names."""
+    known = {os.path.basename(path)[:-len(".edit")] for crate in crates()
+             for folder in ("must-fail", "edits-on-demand") for path in edits(crate, folder)}
+    named = set()
+    for listed in re.findall(r"\*Edits:\*(.*?)(?:\*Not said|\n- \*\*|\n\n)", read(PAGE), re.S):
+        plain = re.sub(r"`[^`]*`", "", listed)
+        named |= set(re.findall(r"(?<![`\w.])[a-z]\w*_\w+(?![`\w.:(])", plain))
+    named -= set(crates())
+    return len(named), sorted(named - known)
+
+
+def write():
+    before, _, rest = read(PAGE).partition(BEGINS)
+    text = before + BEGINS + page_part() + ENDS + rest.partition(ENDS)[2]
+    with open(PAGE, "w", encoding="utf-8") as page:
+        page.write(text)
+
+
+if __name__ == "__main__":
+    write()

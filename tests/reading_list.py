@@ -1,0 +1,287 @@
+"""What to read of crates/*/specs to know what a promise of docs/PROMISES.md says: the definitions
+that are reached from the contract of its public calls.
+
+`tests/reading_list.py` writes the table and the lists between the marks of that page; run it after
+a change of a definition. A test compares them. The walk goes by the names that `use` lines
+bring in, over the clauses of a call and the ghost members of the traits in its signature. The
+definitions of the toolchain's own crates are not counted.
+"""
+import os
+import re
+import textwrap
+
+from program import TOP
+
+CRATES = os.path.join(TOP, "crates")
+PAGE = os.path.join(TOP, "docs", "PROMISES.md")
+BEGINS, ENDS = "<!-- reading list: begins -->\n", "<!-- reading list: ends -->\n"
+NAME = r"[^\s(){}\[\].,;:λ→×⊎≡∷]+"
+
+# The public calls of each promise, as the table in README.md has them.
+PROMISES = (
+    ("1. Reading",
+     ("pid_reader::read_ids", "pid_reader::Feeder::feed", "pid_reader::Feeder::finish")),
+    ("2. Reading back", ("pid_reader::printed_trees_read_back",)),
+    ("3. tidy and check", ("pid_file::tidy", "pid_file::check")),
+    ("4. Look-ups", ("pid_lookup::lookup",)),
+    ("5. Judgement", ("pid_moderation::decide", "pid_moderation::keys_stand_once")),
+    ("6. The registry", ("pid_service::Registry::obey",)),
+    ("7. Crash prefix", ("pid_service::reopened_registries_show_prefixes",)),
+    ("8. Migration", ("pid_service::migrate",)),
+    ("9. Scripts", ("pid_script::run_script",)),
+    ("10. HTTP", ("pid_http::serve_stream",)),
+)
+
+
+def lines_of(path):
+    with open(path, encoding="utf-8") as file:
+        return file.read().split("\n")
+
+
+def files_in(folder, ending):
+    for at, folders, names in os.walk(folder):
+        folders.sort()
+        yield from (os.path.join(at, it) for it in sorted(names) if it.endswith(ending))
+
+
+def crates():
+    """The crates, in the order in which data flows, as crates.txt has them."""
+    return [line.split(":")[0] for line in lines_of(os.path.join(TOP, "crates.txt"))
+            if re.match(r"pid_\w+:", line)]
+
+
+def used_names(text):
+    """The names that `use` lines bring in, each with its module and its name there; and the modules
+    that they give another name."""
+    names, modules = {}, {}
+    for module, listed in re.findall(r"\buse ([\w.«»]+)\.\{([^}]*)\}", text):
+        for name in filter(None, (it.strip() for it in listed.split(","))):
+            there, _, here = name.partition(" as ")
+            names[(here or there).strip()] = (module, there.strip())
+    for module, here in re.findall(r"\buse ([\w.]+) as (\w+)", text):
+        modules[here] = module
+    return names, modules
+
+
+def words_in(text):
+    return set(re.findall(r"[^\s(){}\[\].,;]+", text))
+
+
+class Definition:
+    def __init__(self, module, name, kind, indent, start):
+        self.module, self.name, self.kind, self.indent = module, name, kind, indent
+        self.start = start
+        self.code, self.size = "", 0
+
+
+def definitions_of(module, lines):
+    """The definitions of a file, each with its lines, comments before it counted."""
+    found, opened = [], None
+    public = re.compile(r"^(\s*)((?:abbrev |unfoldable |total )?pub(?: abbrev| unfoldable)?"
+                        r"(?: record| data)?|abbrev|record|data|unfoldable)"
+                        r"\s+(" + NAME + r")(\s|$)")
+    plain = re.compile(r"^(\s*)(" + NAME + r") : ")
+    for at, line in enumerate(lines):
+        match = public.match(line)
+        if match and not line.strip().startswith(("pub use", "pub mod")):
+            indent, kind, name = len(match.group(1)), match.group(2), match.group(3)
+            inside = opened and opened.kind in ("record", "data") and indent > opened.indent
+            if inside and kind == "pub":
+                continue
+            kind = "record" if "record" in kind else "data" if "data" in kind else "def"
+        else:
+            match = plain.match(line)
+            if not match or line.strip().startswith("--"):
+                continue
+            indent, name, kind = len(match.group(1)), match.group(2), "def"
+            if opened and indent > opened.indent:
+                continue
+        opened = Definition(module, name, kind, indent, at)
+        found.append(opened)
+    starts = []
+    for it in found:
+        start = it.start
+        while start and lines[start - 1].strip().startswith("--"):
+            start -= 1
+        starts.append(start)
+    for it, start, end in zip(found, starts, [*starts[1:], len(lines)]):
+        body = [line for line in lines[start:end] if line.strip()]
+        it.size = len(body)
+        it.code = "\n".join(line for line in body if not line.strip().startswith("--"))
+    return found
+
+
+class Specs:
+    """All definitions of this repository, and what each of them cites."""
+
+    def __init__(self):
+        self.definitions, self.uses, self.local, self.handed_on = {}, {}, {}, {}
+        for crate in crates():
+            folder = os.path.join(CRATES, crate, "specs")
+            for path in files_in(folder, ".antt"):
+                inner = os.path.relpath(path, folder)[:-len(".antt")].replace(os.sep, ".")
+                module = f"Rattle.{crate}.specs.{inner}"
+                lines = lines_of(path)
+                if inner == "Lib":
+                    for there in re.findall(r"^pub use (Rattle\.[\w.]+)", "\n".join(lines), re.M):
+                        self.handed_on[f"Rattle.{crate}.specs.{there.split('.')[-1]}"] = there
+                    continue
+                self.uses[module] = used_names("\n".join(lines))
+                found = definitions_of(module, lines)
+                self.local[module] = {it.name: (module, it.name) for it in found}
+                self.definitions |= {(module, it.name): it for it in found}
+
+    def key(self, module, name):
+        while module in self.handed_on and self.handed_on[module] != module:
+            module = self.handed_on[module]
+        return (module, name) if (module, name) in self.definitions else None
+
+    def cited(self, text, uses, local=()):
+        names, modules = uses
+        keys = {local[it] if it in local else self.key(*names[it])
+                for it in words_in(text) if it in local or it in names}
+        for module, name in re.findall(r"\b(\w+)\.(" + NAME + ")", text):
+            if module in modules:
+                keys.add(self.key(modules[module], name))
+        return keys - {None}
+
+    def cited_by(self, key):
+        module = key[0]
+        return self.cited(self.definitions[key].code, self.uses[module], self.local[module]) - {key}
+
+    def reached(self, keys):
+        seen, left = set(), list(keys)
+        while left:
+            key = left.pop()
+            if key not in seen:
+                seen.add(key)
+                left += self.cited_by(key)
+        return seen
+
+
+class Sources:
+    """The contracts of the public calls, and the ghost members of the traits."""
+
+    def __init__(self):
+        self.files = [(path, lines_of(path)) for crate in crates()
+                      for path in files_in(os.path.join(CRATES, crate, "src"), ".rt")]
+
+    @staticmethod
+    def block(lines, start):
+        """The lines from here to the one that opens or ends the item, at the same indent."""
+        indent = re.match(r"\s*", lines[start]).group()
+        block = []
+        for line in lines[start:]:
+            block.append(line)
+            if line == indent + "{" or (line.startswith(indent) and line.endswith(";")
+                                        and not line.startswith(indent + " ")):
+                break
+            is_outer = line[:len(indent) + 1].strip()
+            if line.endswith("{") and is_outer and not re.search(r"ensures|requires", line):
+                break
+        return "\n".join(it for it in block if not it.strip().startswith("//"))
+
+    def contract(self, call):
+        """The signature and the clauses of a call, with the file that has them."""
+        crate, *owner, name = call.split("::")
+        found = []
+        for path, lines in self.files:
+            if os.path.relpath(path, CRATES).split(os.sep)[0] != crate:
+                continue
+            within = not owner
+            for at, line in enumerate(lines):
+                if owner and re.match(r"impl\b", line):
+                    within = re.match(rf"impl(?:<.*?>)? {owner[0]}\b", line) and " for " not in line
+                if within and re.match(rf"\s*pub fn {name}\b", line):
+                    found.append((lines, self.block(lines, at)))
+        assert len(found) == 1, (call, len(found))
+        return found[0]
+
+    def traits(self, text):
+        """The traits that a signature names, each with its file and its members."""
+        named = re.findall(r"\w+: ([\w +]+?)[,>]", text.partition("(")[0])
+        bounds = set(re.findall(r"\w+", " ".join(named)))
+        for _, lines in self.files:
+            for at, line in enumerate(lines):
+                match = re.match(r"pub trait (\w+)", line)
+                if match and match.group(1) in bounds:
+                    end = next(i for i in range(at, len(lines)) if lines[i] == "}")
+                    body = [it for it in lines[at:end] if not it.strip().startswith("//")]
+                    yield lines, "\n".join(body)
+
+
+def definitions_for(specs, sources, calls):
+    """What is reached from the contracts of calls."""
+    keys = set()
+    for call in calls:
+        lines, contract = sources.contract(call)
+        for file, text in ((lines, contract), *sources.traits(contract)):
+            keys |= specs.cited(text, used_names("\n".join(file)))
+    return specs.reached(keys)
+
+
+def order(specs, keys):
+    """The files of definitions: of the highest crate first, and each before those that it cites."""
+    cites = {}
+    for key in keys:
+        cites.setdefault(key[0], set()).update(it[0] for it in specs.cited_by(key) if it in keys)
+    seen, listed = set(), []
+
+    def visit(module):
+        if module not in seen:
+            seen.add(module)
+            for it in sorted(cites[module]):
+                visit(it)
+            listed.append(module)
+
+    for module in sorted(cites):
+        visit(module)
+    place = {crate: at for at, crate in enumerate(crates())}
+    return sorted(reversed(listed), key=lambda it: -place[it.split(".")[1]])
+
+
+def lists(specs, keys):
+    """For each crate its files in order, each with how many of its lines are to be read."""
+    sizes, by_crate = {}, {}
+    for key in keys:
+        sizes[key[0]] = sizes.get(key[0], 0) + specs.definitions[key].size
+    for module in order(specs, keys):
+        _, crate, _, *inner = module.split(".")
+        by_crate.setdefault(crate, []).append(f"`{'/'.join(inner)}` {sizes[module]}")
+    for crate, files in by_crate.items():
+        text = f"{crate}: " + ", ".join(files).replace("` ", "`\0")
+        wrapped = textwrap.wrap(text, 98, break_long_words=False, break_on_hyphens=False)
+        yield "- " + "\n  ".join(wrapped).replace("\0", " ")
+
+
+def name_of(call):
+    return f"`{call.partition('::')[2]}`"
+
+
+def page_part():
+    """The part of docs/PROMISES.md between its marks."""
+    specs, sources = Specs(), Sources()
+    rows, parts = [], []
+    for promise, calls in PROMISES:
+        keys = definitions_for(specs, sources, calls)
+        size = sum(specs.definitions[key].size for key in keys)
+        rows.append(f"| {promise} | {', '.join(map(name_of, calls))} | {len(keys)} | {size:,} |\n")
+        parts.append(f"\n### To read for {promise}\n\n" + "\n".join(lists(specs, keys)) + "\n")
+    head = "\n| promise | public calls | definitions | lines |\n|---|---|---|---|\n"
+    return head + "".join(rows) + "".join(parts) + "\n"
+
+
+def shown_part():
+    with open(PAGE, encoding="utf-8") as page:
+        return page.read().partition(BEGINS)[2].partition(ENDS)[0]
+
+
+def write():
+    with open(PAGE, encoding="utf-8") as page:
+        before, _, rest = page.read().partition(BEGINS)
+    with open(PAGE, "w", encoding="utf-8") as page:
+        page.write(before + BEGINS + page_part() + ENDS + rest.partition(ENDS)[2])
+
+
+if __name__ == "__main__":
+    write()
