@@ -41,7 +41,7 @@ pub use checking::check;
 pub use counter::{Counter, Never};
 pub use cutter::Cutter;
 pub use identifier::{Id8, Id16, hex2, hex4};
-pub use input_text::{count_input, read_input};
+pub use input_text::{count_input, end_without_fault, read_input};
 pub use io::{Input, Output, ReadFault, WriteFault, write_all, write_parts};
 pub use line::without_cr;
 pub use line_kind::LineKind;
