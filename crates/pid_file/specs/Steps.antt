@@ -1,5 +1,4 @@
 -- What serves private functions alone; no promise rests on it.
-pub mod Between
 pub mod EntryLines
 pub mod LineEnds
 pub mod PathPlaces

@@ -59,7 +59,7 @@ pub use sink::{CutEnd, Entry, Sink};
 pub use text_end::{LARGEST, TextEnd, end_of};
 pub use tidying::tidy;
 pub use told::tell_unread;
-pub use tree::{Tree, TreeRefusal};
+pub use tree::Tree;
 pub use tree_sink::{TreeFault, TreeSink};
 pub use watched::Watched;
 pub use whole_input::{BUFFER, InputEnd, SkipEnd, cut_input, next_piece};
