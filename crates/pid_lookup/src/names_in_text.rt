@@ -1,7 +1,7 @@
 //! The names of an input's text.
 ghost use Rattle.std.specs.Prelude.{◌≡◌, ◌↔◌, IfSome, IfOk};
-ghost use Rattle.pid_file.specs.Steps.InputTexts.{without_fault};
-ghost use Rattle.pid_reader.specs.InputTexts.{IsRead};
+ghost use Rattle.pid_file.specs.InputTexts.{without_fault};
+ghost use Rattle.pid_reader.specs.InputTexts.{ReadsInput};
 ghost use Rattle.pid_lookup.specs.AskedNames.{HasAsked, HasOnly, asked_paths};
 ghost use Rattle.pid_lookup.specs.InText.{LeavesInput};
 ghost use Rattle.pid_lookup.specs.Kept.{kept_map};
@@ -36,7 +36,7 @@ pub fn names_in<I: Input>(
     input: &mut I,
 ) -> Result<AskedNames, InputEnd<Never>>
     ensures names { IfSome (I.to_come input.old)
-        (λ text. IsRead (HasAsked args.now) limit result text) }
+        (λ text. ReadsInput (HasAsked args.now) limit result text) }
     ensures no_others { IfOk result (λ names. HasOnly (asked_paths args.now) (kept_map names)) }
     ensures leaves { LeavesInput I.Input limit input.old input.new result }
 {
