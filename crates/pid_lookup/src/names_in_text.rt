@@ -1,7 +1,7 @@
 //! The names of an input's text.
 ghost use Rattle.std.specs.Prelude.{◌≡◌, ◌↔◌, IfSome, IfOk};
 ghost use Rattle.pid_file.specs.Steps.InputTexts.{without_fault};
-ghost use Rattle.pid_reader.specs.InputTexts.{IsRead};
+ghost use Rattle.pid_file.specs.InputTexts.{IsRead};
 ghost use Rattle.pid_lookup.specs.AskedNames.{HasAsked, HasOnly, asked_paths};
 ghost use Rattle.pid_lookup.specs.InText.{LeavesInput};
 ghost use Rattle.pid_lookup.specs.Kept.{kept_map};

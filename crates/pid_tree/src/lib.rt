@@ -1,7 +1,7 @@
 //! A tree of names by their paths, and its canonical text.
 #![tactic(auto)]
 
-mod laws;
+pub mod laws;
 
 pub use laws::labels_are_of_paths;
 pub use pid_file::{
