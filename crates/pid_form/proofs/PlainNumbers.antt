@@ -5,7 +5,7 @@ use Rattle.std.specs.List.{list_all}
 use Rattle.std.specs.Str.Parse.{IsNumeral, AllDigits, digits_value, without_leading_plus}
 use Rattle.std.specs.Char.{is_ascii_digit, digit_value}
 use Rattle.std.proofs.lemmas.Bool.Decides.{nat_tests}
-use Rattle.pid_form.specs.Numbers.{is_plain_number, number_in}
+use Rattle.pid_form.specs.Numbers.{is_plain_number, number_up_to}
 
 both : (a b : Bool) → (a && b) ≡ true → (a ≡ true) × (b ≡ true)
 both true b h = (refl, h)
@@ -31,7 +31,7 @@ too_great most limit t true fits e h = absurd (h (grind (arith, nat_tests)))
 too_great most limit t false fits e h = refl
 
 -- what is not read is no number within the bound
-pub number_missing : (digits most limit : ℕ) (t : List ℕ) → most < limit → is_plain_number digits t ≡ true → (IsNumeral 10 (without_leading_plus t) × (digits_value 10 (without_leading_plus t) < limit) → ⊥) → None ≡ number_in digits most t
+pub number_missing : (digits most limit : ℕ) (t : List ℕ) → most < limit → is_plain_number digits t ≡ true → (IsNumeral 10 (without_leading_plus t) × (digits_value 10 (without_leading_plus t) < limit) → ⊥) → None ≡ number_up_to most digits t
 number_missing digits most limit t fits plain none =
     let p = plain_numeral digits t plain in
     too_great most limit t (nat_le (digits_value 10 t) most) fits refl (λ below. none (p.0, subst (λ (s : List ℕ). digits_value 10 s < limit) (sym p.1) below)) ∙ ap (λ b. cond (b && nat_le (digits_value 10 t) most) (Some (digits_value 10 t)) None) (sym plain)

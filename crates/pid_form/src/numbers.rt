@@ -4,7 +4,7 @@ ghost use Rattle.std.specs.Char.{is_ascii_digit, is_digit};
 ghost use Rattle.std.specs.List.{list_all};
 ghost use Rattle.pid_form.specs.Numbers.{
   is_plain_number as plain_number,
-  number_in,
+  number_up_to as number_to,
   numeral as numeral_of,
 };
 
@@ -21,23 +21,23 @@ fn begins_zero(bytes: &[u8]) -> bool
 }
 
 // Whether a text is 1 to so many decimal digits, the first of which is no zero.
-fn is_plain_number(text: &str, digits: usize) -> bool
-    ensures { result ≡ plain_number digits text.now }
+fn is_plain_number(text: &str, most_digits: usize) -> bool
+    ensures { result ≡ plain_number most_digits text.now }
 {
     let bytes = text.as_bytes();
-    if bytes.is_empty() || bytes.len() > digits || begins_zero(bytes) {
+    if bytes.is_empty() || bytes.len() > most_digits || begins_zero(bytes) {
         return false;
     }
     are_decimal(bytes)
 }
 
-/// The number that 1 to so many decimal digits without a zero in front write, where it is at most
-/// `most`.
-pub fn number_up_to(text: &str, digits: usize, most: u64) -> Option<u64>
-    ensures number { result ≡ number_in digits most text.now }
+/// The number that a text writes, where it is at most `most`. The text is 1 to `most_digits`
+/// decimal digits without a zero in front; any other text writes none.
+pub fn number_up_to(text: &str, most: u64, most_digits: usize) -> Option<u64>
+    ensures number { result ≡ number_to most most_digits text.now }
     ensures bound { IfSome result (λ number. number ≤ most) }
 {
-    if !is_plain_number(text, digits) {
+    if !is_plain_number(text, most_digits) {
         return None;
     }
     match text.parse::<u64>() {
@@ -54,11 +54,11 @@ fn are_digits(bytes: &[u8], radix: u32) -> bool
     bytes.iter().all(|b| char::from(*b).is_digit(radix))
 }
 
-/// The number that a text of so many digits of a radix writes; letters may be in either case.
+/// The number that a text of `least` to `most` digits of a radix writes; letters may be in either
+/// case. Any other text writes none.
 pub fn numeral(text: &str, radix: u32, least: usize, most: usize) -> Option<u32>
     requires some { 0 < least }
-    requires binary { 2 ≤ radix }
-    requires letters { radix ≤ 36 }
+    requires base { (2 ≤ radix) × (radix ≤ 36) }
     requires fits { radix ^ most ≤ 2 ^ 32 }
     ensures value { result ≡ numeral_of radix least most text.now }
     ensures bound { IfSome result (λ number. number < radix ^ most) }

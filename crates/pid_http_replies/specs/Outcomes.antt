@@ -9,7 +9,7 @@ use Rattle.pid_lookup.specs.Unanswered.{unanswered_number, unanswered_word, unan
 use Rattle.pid_lookup.specs.declared.unanswered.Unanswered.{Unanswered}
 use Rattle.pid_lookup.specs.declared.unanswered.Unanswered.TheVariants.{NoItem}
 use Rattle.pid_moderation.specs.Refusals.{refusal_number, refusal_word}
-use Rattle.pid_moderation.specs.ReplyLines.{reply_text}
+use Rattle.pid_moderation.specs.ReplyLines.{outcome_line}
 use Rattle.pid_moderation.specs.declared.command.Reply.{Reply}
 use Rattle.pid_moderation.specs.declared.command.Reply.TheVariants.{Done, Numbered, Counts}
 use Rattle.pid_moderation.specs.declared.refusal.FileFault.TheVariants.{Line, TooMany}
@@ -92,7 +92,7 @@ outcome_data (Err refusal) = refused_data refusal
 -- the answer to a command
 abbrev pub outcome_answer : Format → Result Reply Refusal → Answer
 outcome_answer format outcome = answer_in format (status_of_outcome outcome) (outcome_data outcome)
-    (reply_text outcome)
+    (outcome_line outcome)
 
 -- a refusal that is no refusal of a command, by its number and its word: as JSON, whatever format
 -- is asked for

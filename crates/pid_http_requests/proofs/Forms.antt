@@ -5,7 +5,7 @@ use Rattle.std.specs.Str.{is_utf8}
 use Rattle.pid_form.specs.FormFields.{fields_in}
 use Rattle.pid_moderation.specs.CheckTables.{first_failing}
 use Rattle.pid_moderation.specs.Fields.{Fields}
-use Rattle.pid_moderation.specs.Forms.{form_checks, command_said, Says}
+use Rattle.pid_moderation.specs.Forms.{form_checks, command_said, SaysByChecks}
 use Rattle.pid_moderation.specs.declared.command.Command.{Command}
 use Rattle.pid_moderation.specs.declared.refusal.Refusal.{Refusal}
 use Rattle.pid_moderation.specs.declared.refusal.Refusal.TheVariants.{BadText, Memory}
@@ -23,13 +23,13 @@ unfolding command_made
 made verb s body e = rw e refl
 
 pub form_ok : (verb : Verb) (s : Sending) (body : List ℕ) (fields : Fields) (result : Result Command Refusal) → is_utf8 body ≡ true → fields ≡ fields_in body
-    → Says (form_checks verb s.account s.key fields) (command_said verb s.account s.key fields) result → IfOk result (λ c. command_made verb s body ≡ Ok c)
+    → SaysByChecks (form_checks verb s.account s.key fields) (command_said verb s.account s.key fields) result → IfOk result (λ c. command_made verb s body ≡ Ok c)
 form_ok verb s body fields (Ok command) text same said =
     made verb s body text ∙ sym (ap (λ (l : Fields). unless_refused (first_failing (form_checks verb s.account s.key l)) (command_said verb s.account s.key l)) same) ∙ (λ i. unless_refused (said.0 i) (said.1 i))
 form_ok verb s body fields (Err refusal) text same said = tt
 
 pub form_err : (verb : Verb) (s : Sending) (body : List ℕ) (fields : Fields) (result : Result Command Refusal) → is_utf8 body ≡ true → fields ≡ fields_in body
-    → Says (form_checks verb s.account s.key fields) (command_said verb s.account s.key fields) result → IfErr result (λ e. e ≢ Memory → command_made verb s body ≡ Err e)
+    → SaysByChecks (form_checks verb s.account s.key fields) (command_said verb s.account s.key fields) result → IfErr result (λ e. e ≢ Memory → command_made verb s body ≡ Err e)
 form_err verb s body fields (Ok command) text same said = tt
 form_err verb s body fields (Err refusal) text same said = λ never.
     made verb s body text ∙ sym (ap (λ (l : Fields). unless_refused (first_failing (form_checks verb s.account s.key l)) (command_said verb s.account s.key l)) same) ∙ ap (λ (o : Option Refusal). unless_refused o (command_said verb s.account s.key fields)) (said never)

@@ -72,7 +72,7 @@ above_said text = if is_empty text then Top else below (path_of text)
 
 -- the number of a change: 1 to the greatest revision, which has 19 digits
 abbrev pub revision_in : List ℕ → Option ℕ
-revision_in text = numbers.number_in 19 most_revision text
+revision_in text = numbers.number_up_to most_revision 19 text
 
 -- `0`, also where nothing is said, or the number of a change
 abbrev pub since_said : Option (List ℕ) → Option ℕ

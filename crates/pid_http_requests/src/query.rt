@@ -160,7 +160,7 @@ pub(crate) fn since_named(value: Option<&str>) -> Option<u64>
             if text == "0" {
                 Some(0)
             } else {
-                number_up_to(text, 19, REVISIONS)
+                number_up_to(text, REVISIONS, 19)
             }
         }
     }

@@ -5,7 +5,8 @@ use Rattle.std.specs.Prelude.{ℕ, ◌+◌, ◌-◌, ◌*◌, ◌%◌, ◌==◌,
 use Rattle.std.specs.Prelude.{length, take, drop, slice_index, Option, Some, None, codes}
 use Rattle.std.specs.Str.{bytes_eq}
 use Rattle.pid_file.specs.declared.path.Path.{Path}
-use Rattle.pid_file.specs.declared.path.Path.TheVariants.{Vendor, Device, Subsystem, Class, Subclass, ProgIf, Generic}
+use Rattle.pid_file.specs.declared.path.Path.TheVariants.{Vendor, Device, Subsystem, Class}
+use Rattle.pid_file.specs.declared.path.Path.TheVariants.{Subclass, ProgIf, Generic}
 use Rattle.pid_file.specs.PathTexts.{path_text}
 
 -- the value of a lower-case hex digit

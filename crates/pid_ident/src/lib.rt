@@ -5,7 +5,7 @@
 mod account;
 mod faulty;
 mod key;
-mod laws;
+pub mod laws;
 mod path_text;
 mod text;
 

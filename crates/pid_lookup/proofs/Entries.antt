@@ -7,11 +7,11 @@ use Rattle.std.specs.List.{All, Any, slice_index_or}
 use Rattle.std.specs.Ordering.{eq_by_cmp}
 use Rattle.std.proofs.lemmas.Cmp.{nat_list_cmp_total}
 use Rattle.pid_file.specs.declared.path.Path.{Path}
-use Rattle.pid_ident.specs.PathTexts.{path_cmp, path_text}
-use Rattle.pid_ident.specs.Trees.{TreeMap, text_cmp}
+use Rattle.pid_file.specs.PathTexts.{path_cmp, path_text}
+use Rattle.pid_file.specs.Trees.{TreeMap, text_cmp}
 use Rattle.pid_lookup.specs.Asked.{AgreeOn}
-use Rattle.pid_lookup.specs.Found.{name_in}
-use Rattle.pid_tree.specs.Items.{tree_of}
+use Rattle.pid_lookup.specs.Found.{name_in_map}
+use Rattle.pid_file.specs.Items.{tree_of}
 use Rattle.pid_file.proofs.Maps.{is_equal, same_texts, tree-insert}
 use Rattle.pid_lookup.specs.AskedNames.{HasOnly}
 
@@ -23,7 +23,7 @@ not_asked m path name asked others k d lt =
 
 -- the name of one that is
 pub is_kept : (before after : List (Path × List ℕ)) (path : Path) (name : List ℕ) (asked : List Path) → after ≡ insert_entry path_cmp before path name → AgreeOn asked (insert (tree_of before) (path_text path) name) (tree_of after)
-is_kept before after path name asked entries k d lt = ap (λ (m : TreeMap). name_in m (slice_index_or asked k d)) (sym (ap tree_of entries ∙ tree-insert before path name))
+is_kept before after path name asked entries k d lt = ap (λ (m : TreeMap). name_in_map m (slice_index_or asked k d)) (sym (ap tree_of entries ∙ tree-insert before path name))
 
 -- its text is that of one of these paths
 abbrev IsOf : List Path → List ℕ → Type 0

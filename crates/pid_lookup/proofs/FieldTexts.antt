@@ -4,7 +4,7 @@ use Rattle.std.specs.Prelude.{string_bytes, codes, unwrap_or, not, ◌||◌, ◌
 use Rattle.std.specs.List.{list_all, list_any}
 use Rattle.pid_form.specs.FormFields.{bytes_of}
 use Rattle.pid_form.specs.Fields.{Fields}
-use Rattle.pid_lookup.specs.Fields.{is_known, are_known, are_bad, flags_said, size_said, number_said, progif_said, look_up_in, look_up_said, LookUp, told}
+use Rattle.pid_lookup.specs.Fields.{is_known, are_known, are_bad, flags_said, size_said, number_said, progif_said, look_up_in, look_up_said, LookUp, as_look_up}
 
 pub known_texts : {A : Type 0} (fields : List (String A × String A)) → list_all (λ f. is_known (string_bytes f.0)) fields ≡ are_known (bytes_of fields)
 known_texts [] = refl
@@ -22,7 +22,7 @@ pub said_by : (fields : Fields) (flags size vendor device subvendor subdevice cl
     → number_said (codes "vendor") fields ≡ Some vendor → number_said (codes "device") fields ≡ Some device
     → number_said (codes "subvendor") fields ≡ Some subvendor → number_said (codes "subdevice") fields ≡ Some subdevice
     → number_said (codes "class") fields ≡ Some class → progif_said fields ≡ Some progif
-    → look_up_in fields ≡ Some (told (flags, record { vendor = vendor; device = device; subvendor = subvendor; subdevice = subdevice; class = class; progif = progif }, size))
+    → look_up_in fields ≡ Some (as_look_up (flags, record { vendor = vendor; device = device; subvendor = subvendor; subdevice = subdevice; class = class; progif = progif }, size))
 unfolding look_up_in
 said_by fields flags size vendor device subvendor subdevice class progif k f s v d sv sd c p = λ i. cond (not (k i) || list_any is_none (
     f i ∷ s i ∷ v i ∷ d i ∷ sv i ∷ sd i ∷ c i ∷ p i ∷ [])) None (Some (record {

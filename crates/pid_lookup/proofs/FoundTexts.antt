@@ -10,21 +10,21 @@ use Rattle.pid_lookup.specs.declared.find.Found.TheVariants as found
 use Rattle.pid_lookup.specs.declared.flags.Request.{Request}
 use Rattle.pid_lookup.specs.declared.flags.Request.TheVariants as requests
 use Rattle.pid_lookup.specs.declared.flags.Style.TheVariants as styles
-use Rattle.pid_lookup.specs.Flags.{Switches, has}
+use Rattle.pid_lookup.specs.Flags.{Switches, has_bits}
 use Rattle.pid_lookup.specs.Found.{class_byte, first_there, ide_words, subclass_byte, subsystem_name, where_true}
-use Rattle.pid_lookup.specs.Answers.{cut_answer, number_of, one_shown, pair_shown, text_of, word_of}
+use Rattle.pid_lookup.specs.Answers.{cut_answer, request_number, one_shown, pair_shown, request_text, request_word}
 use Rattle.pid_lookup.specs.Cut.{cut}
-use Rattle.pid_lookup.specs.Steps.FoundTexts.{IsFor, found_text, nameless}
+use Rattle.pid_lookup.specs.Steps.FoundTexts.{IsFoundFor, found_text, nameless}
 use Rattle.pid_lookup.specs.Steps.Styles.{switches}
 use Rattle.pid_lookup.proofs.AnswerLaws.{both, number_text}
 
 -- a pair
 pub for_device_pair : (named : Path → Option (List ℕ)) (a : Args) (v d : Option (List ℕ)) → v ≡ named (Vendor a.vendor) → d ≡ named (Device a.vendor a.device)
-    → IsFor (found.Pair v d) named requests.VendorAndDevice a
+    → IsFoundFor (found.Pair v d) named requests.VendorAndDevice a
 for_device_pair named a v d is_v is_d = record { shown = λ s. both (pair_shown s requests.VendorAndDevice a) is_v is_d }
 
 pub for_subsystem_pair : (named : Path → Option (List ℕ)) (a : Args) (v d : Option (List ℕ)) → v ≡ named (Vendor a.subvendor) → d ≡ subsystem_name named a
-    → IsFor (found.Pair v d) named requests.SubvendorAndSubsystem a
+    → IsFoundFor (found.Pair v d) named requests.SubvendorAndSubsystem a
 for_subsystem_pair named a v d is_v is_d = record { shown = λ s. both (pair_shown s requests.SubvendorAndSubsystem a) is_v is_d }
 
 -- an interface by its entry; without one by its words, or not at all
@@ -32,7 +32,7 @@ abbrev its_words : Bool → Args → Option (List ℕ)
 its_words is_ide a = where_true is_ide (Some (ide_words a.progif))
 
 abbrev is_ide : Args → Bool
-is_ide a = a.class == 0x101 && not (has a.progif 0x70)
+is_ide a = a.class == 0x101 && not (has_bits a.progif 0x70)
 
 abbrev entry : (Path → Option (List ℕ)) → Args → Option (List ℕ)
 entry named a = named (ProgIf (class_byte a) (subclass_byte a) a.progif)
@@ -41,27 +41,27 @@ pub its_entry : (named : Path → Option (List ℕ)) (a : Args) (name : Option (
     → name ≡ named (ProgIf class subclass a.progif) → class ≡ class_byte a → subclass ≡ subclass_byte a → name ≡ entry named a
 its_entry named a name class subclass is is_class is_subclass = is ∙ both (λ c s. named (ProgIf c s a.progif)) is_class is_subclass
 
-pub for_progif : (named : Path → Option (List ℕ)) (a : Args) (name : List ℕ) → Some name ≡ entry named a → IsFor (found.One (Some name)) named requests.ProgIf a
+pub for_progif : (named : Path → Option (List ℕ)) (a : Args) (name : List ℕ) → Some name ≡ entry named a → IsFoundFor (found.One (Some name)) named requests.ProgIf a
 for_progif named a name is = record { shown = λ s. ap (λ first. one_shown s requests.ProgIf a (first_there (first ∷ its_words (is_ide a) a ∷ []))) is }
 
-nameless_text : (s : Switches) (a : Args) (ide : Bool) → found_text s (number_of requests.ProgIf a) (word_of requests.ProgIf) (nameless ide a.progif)
+nameless_text : (s : Switches) (a : Args) (ide : Bool) → found_text s (request_number requests.ProgIf a) (request_word requests.ProgIf) (nameless ide a.progif)
     ≡ one_shown s requests.ProgIf a (first_there (None ∷ its_words ide a ∷ []))
 nameless_text s a true = refl
 nameless_text s a false = refl
 
-pub for_nameless : (named : Path → Option (List ℕ)) (a : Args) (found : Found) → None ≡ entry named a → found ≡ nameless (is_ide a) a.progif → IsFor found named requests.ProgIf a
+pub for_nameless : (named : Path → Option (List ℕ)) (a : Args) (found : Found) → None ≡ entry named a → found ≡ nameless (is_ide a) a.progif → IsFoundFor found named requests.ProgIf a
 for_nameless named a found none is = record {
-  shown = λ s. ap (found_text s (number_of requests.ProgIf a) (word_of requests.ProgIf)) is
+  shown = λ s. ap (found_text s (request_number requests.ProgIf a) (request_word requests.ProgIf)) is
       ∙ (nameless_text s a (is_ide a) ∙ ap (λ first. one_shown s requests.ProgIf a (first_there (first ∷ its_words (is_ide a) a ∷ []))) none);
 }
 
 -- an answer over what is found for a request is the definition's
 pub shown_found : (named : Path → Option (List ℕ)) (s : Switches) (request : Request) (a : Args) (size : ℕ) (found : Found) (told : Answer)
-    → told ≡ cut_answer (found_text s (number_of request a) (word_of request) found) size → IsFor found named request a → told ≡ cut_answer (text_of named s request a) size
+    → told ≡ cut_answer (found_text s (request_number request a) (request_word request) found) size → IsFoundFor found named request a → told ≡ cut_answer (request_text named s request a) size
 shown_found named s request a size found told shown is_for = shown ∙ ap (λ text. cut_answer text size) (is_for.shown s)
 
 -- an answer of a number alone is the definition's
 pub shown_number : (named : Path → Option (List ℕ)) (request : Request) (a : Args) (size : ℕ) (told : Answer)
-    → told ≡ Text (cut (number_of request a) size) → told ≡ cut_answer (text_of named (switches styles.Numeric) request a) size
+    → told ≡ Text (cut (request_number request a) size) → told ≡ cut_answer (request_text named (switches styles.Numeric) request a) size
 shown_number named request a size told shown =
     shown ∙ sym (ap (λ text. cut_answer text size) (number_text named (switches styles.Numeric) request a refl refl))

@@ -2,13 +2,14 @@
 use Rattle.std.specs.Prelude.{◌≡◌, ℕ, Bool, true, false, List, [], ◌∷◌, Some}
 use Rattle.std.specs.List.{All, Any}
 use Rattle.pid_file.specs.declared.path.Path.{Path}
-use Rattle.pid_file.specs.declared.path.Path.TheVariants.{Vendor, Device, Subsystem, Class, Subclass, ProgIf, Generic}
-use Rattle.pid_ident.specs.Trees.{TreeMap}
+use Rattle.pid_file.specs.declared.path.Path.TheVariants.{Vendor, Device, Subsystem, Class}
+use Rattle.pid_file.specs.declared.path.Path.TheVariants.{Subclass, ProgIf, Generic}
+use Rattle.pid_file.specs.Trees.{TreeMap}
 use Rattle.pid_lookup.specs.declared.args.Args.{Args}
 use Rattle.pid_lookup.specs.declared.flags.Request.{Request}
 use Rattle.pid_lookup.specs.declared.flags.Request.TheVariants as requests
 use Rattle.pid_lookup.specs.Cut.{cut}
-use Rattle.pid_lookup.specs.Found.{class_byte, subclass_byte, name_in}
+use Rattle.pid_lookup.specs.Found.{class_byte, subclass_byte, name_in_map}
 
 -- the entry under the device, the generic subsystem, and the device that may be its own subsystem
 abbrev pub subsystem_paths : Args → List Path
@@ -16,19 +17,20 @@ subsystem_paths a =
     Subsystem a.vendor a.device a.subvendor a.subdevice ∷ Generic a.subvendor a.subdevice
     ∷ Device a.vendor a.device ∷ []
 
-abbrev pub paths_of : Request → Args → List Path
-paths_of requests.Vendor a = Vendor a.vendor ∷ []
-paths_of requests.Device a = Device a.vendor a.device ∷ []
-paths_of requests.Subvendor a = Vendor a.subvendor ∷ []
-paths_of requests.Subsystem a = subsystem_paths a
-paths_of requests.Class a = Subclass (class_byte a) (subclass_byte a) ∷ Class (class_byte a) ∷ []
-paths_of requests.ProgIf a = ProgIf (class_byte a) (subclass_byte a) a.progif ∷ []
-paths_of requests.VendorAndDevice a = Vendor a.vendor ∷ Device a.vendor a.device ∷ []
-paths_of requests.SubvendorAndSubsystem a = Vendor a.subvendor ∷ subsystem_paths a
+abbrev pub request_paths : Request → Args → List Path
+request_paths requests.Vendor a = Vendor a.vendor ∷ []
+request_paths requests.Device a = Device a.vendor a.device ∷ []
+request_paths requests.Subvendor a = Vendor a.subvendor ∷ []
+request_paths requests.Subsystem a = subsystem_paths a
+request_paths requests.Class a = Subclass (class_byte a) (subclass_byte a)
+    ∷ Class (class_byte a) ∷ []
+request_paths requests.ProgIf a = ProgIf (class_byte a) (subclass_byte a) a.progif ∷ []
+request_paths requests.VendorAndDevice a = Vendor a.vendor ∷ Device a.vendor a.device ∷ []
+request_paths requests.SubvendorAndSubsystem a = Vendor a.subvendor ∷ subsystem_paths a
 
 -- two maps have the same names at these paths
 abbrev pub AgreeOn : List Path → TreeMap → TreeMap → Type 0
-AgreeOn paths t u = All (λ path. name_in t path ≡ name_in u path) paths
+AgreeOn paths t u = All (λ path. name_in_map t path ≡ name_in_map u path) paths
 
 -- a request that looks for the name of one vendor, device or subsystem
 abbrev pub is_for_one_name : Request → Bool
@@ -44,5 +46,5 @@ is_for_one_name requests.ProgIf = false
 -- a text is the name of one of these paths, cut to a buffer
 pub record IsNameOf (t : TreeMap) (paths : List Path) (size : ℕ) (text : List ℕ) : Type 0 where
   pub name : List ℕ
-  pub is_there : Any (λ path. name_in t path ≡ Some name) paths
+  pub is_there : Any (λ path. name_in_map t path ≡ Some name) paths
   pub shown : text ≡ cut name size

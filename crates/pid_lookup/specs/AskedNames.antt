@@ -3,14 +3,15 @@ use Rattle.std.specs.Prelude.{◌≡◌, ℕ, List, [], ◌∷◌, IsSome}
 use Rattle.std.specs.FinMap.{get, insert}
 use Rattle.std.specs.List.{Any}
 use Rattle.pid_file.specs.declared.path.Path.{Path}
-use Rattle.pid_file.specs.declared.path.Path.TheVariants.{Vendor, Device, Subsystem, Class, Subclass, ProgIf, Generic}
-use Rattle.pid_ident.specs.PathTexts.{path_text}
-use Rattle.pid_ident.specs.Trees.{TreeMap}
+use Rattle.pid_file.specs.declared.path.Path.TheVariants.{Vendor, Device, Subsystem, Class}
+use Rattle.pid_file.specs.declared.path.Path.TheVariants.{Subclass, ProgIf, Generic}
+use Rattle.pid_file.specs.PathTexts.{path_text}
+use Rattle.pid_file.specs.Trees.{TreeMap}
 use Rattle.pid_lookup.specs.Asked.{AgreeOn}
 use Rattle.pid_lookup.specs.Found.{class_byte, subclass_byte}
 use Rattle.pid_lookup.specs.declared.args.Args.{Args}
-use Rattle.pid_reader.specs.Numbered.{Numbered, item_in}
-use Rattle.pid_reader.specs.Reading.{Reads}
+use Rattle.pid_file.specs.Numbered.{Numbered, item_in}
+use Rattle.pid_file.specs.Reading.{Reads}
 use Rattle.pid_lookup.specs.Kept.{kept_map}
 use Rattle.pid_lookup.specs.declared.asked_names.AskedNames.{AskedNames}
 
@@ -36,7 +37,7 @@ pub record TakesAsked (old : AskedNames) (entry : Numbered) (new : AskedNames) :
 
 -- where memory was short for one more entry: no name that was kept is lost or changed, and none
 -- came
-pub record KeepsAll (old new : AskedNames) : Type 0 where
+pub record KeepsAllNames (old new : AskedNames) : Type 0 where
   pub asked : new.asked ≡ old.asked
   pub names : kept_map new ≡ kept_map old
 

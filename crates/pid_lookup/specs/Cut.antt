@@ -1,5 +1,6 @@
 -- The cut of a text to a buffer: the end of libpci's format_name.
-use Rattle.std.specs.Prelude.{ℕ, ◌-◌, nat_lt, nat_le, if◌then◌else◌, List, ◌++◌, length, take, codes}
+use Rattle.std.specs.Prelude.{ℕ, ◌-◌, nat_lt, nat_le, if◌then◌else◌, List, ◌++◌, length}
+use Rattle.std.specs.Prelude.{take, codes}
 
 abbrev pub too_small : List ℕ
 too_small = codes "<pci_lookup_name: buffer too small>"

@@ -85,5 +85,5 @@ unfoldable pub look_up_in : Fields → Option LookUp
 look_up_in fields = if are_bad fields then None else Some (look_up_said fields)
 
 -- flags, arguments and size as a look-up
-abbrev pub told : ℕ × Args × ℕ → LookUp
-told look_up = record { flags = look_up.0; args = look_up.1; size = look_up.2 }
+abbrev pub as_look_up : ℕ × Args × ℕ → LookUp
+as_look_up look_up = record { flags = look_up.0; args = look_up.1; size = look_up.2 }

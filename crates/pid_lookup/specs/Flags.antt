@@ -30,19 +30,19 @@ pub record Switches : Type 0 where
   pub no_numbers : Bool
   pub mixed : Bool
 
-abbrev pub has : ℕ → ℕ → Bool
-has number bits = not (bit_and number bits == 0)
+abbrev pub has_bits : ℕ → ℕ → Bool
+has_bits number bits = not (bit_and number bits == 0)
 
 -- MIXED clears NUMERIC
 abbrev pub switches_of : ℕ → Switches
 switches_of flags = record {
-  numeric = has flags 0x10000 && not (has flags 0x40000);
-  no_numbers = has flags 0x20000;
-  mixed = has flags 0x40000;
+  numeric = has_bits flags 0x10000 && not (has_bits flags 0x40000);
+  no_numbers = has_bits flags 0x20000;
+  mixed = has_bits flags 0x40000;
 }
 
 -- Numbers alone and no numbers together ask for nothing, and no other bit above the low 16 is
 -- known: a choice of this project.
 abbrev pub is_bad : ℕ → Bool
 is_bad flags = ((switches_of flags).numeric && (switches_of flags).no_numbers)
-    || has flags 0xfff80000
+    || has_bits flags 0xfff80000

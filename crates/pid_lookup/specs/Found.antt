@@ -5,15 +5,16 @@ use Rattle.std.specs.Prelude.{if◌then◌else◌, List, [], ◌∷◌, ◌++◌
 use Rattle.std.specs.List.{join_with_byte}
 use Rattle.std.specs.FinMap.{get}
 use Rattle.pid_file.specs.declared.path.Path.{Path}
-use Rattle.pid_file.specs.declared.path.Path.TheVariants.{Device, Subsystem, Class, Subclass, ProgIf, Generic}
-use Rattle.pid_ident.specs.PathTexts.{path_text}
-use Rattle.pid_ident.specs.Trees.{TreeMap}
+use Rattle.pid_file.specs.declared.path.Path.TheVariants.{Device, Subsystem, Class}
+use Rattle.pid_file.specs.declared.path.Path.TheVariants.{Subclass, ProgIf, Generic}
+use Rattle.pid_file.specs.PathTexts.{path_text}
+use Rattle.pid_file.specs.Trees.{TreeMap}
 use Rattle.pid_lookup.specs.declared.args.Args.{Args}
-use Rattle.pid_lookup.specs.Flags.{has}
+use Rattle.pid_lookup.specs.Flags.{has_bits}
 
 -- the name of a path in a map
-abbrev pub name_in : TreeMap → Path → Option (List ℕ)
-name_in t path = get t (path_text path)
+abbrev pub name_in_map : TreeMap → Path → Option (List ℕ)
+name_in_map t path = get t (path_text path)
 
 -- the first name that is there
 abbrev pub first_there : List (Option (List ℕ)) → Option (List ℕ)
@@ -56,7 +57,7 @@ class_name named a = named (Class (class_byte a))
 
 -- a word in a list, where the bit is set
 abbrev pub word_at : ℕ → ℕ → List ℕ → List (List ℕ)
-word_at progif bit word = if has progif bit then word ∷ [] else []
+word_at progif bit word = if has_bits progif bit then word ∷ [] else []
 
 -- The programming interface of an IDE controller in words: who masters the bus, and the modes of
 -- both channels.
@@ -73,5 +74,5 @@ ide_words progif = join_with_byte 32 (
 abbrev pub progif_name : (Path → Option (List ℕ)) → Args → Option (List ℕ)
 progif_name named a = first_there (
     named (ProgIf (class_byte a) (subclass_byte a) a.progif)
-    ∷ where_true (a.class == 0x101 && not (has a.progif 0x70)) (Some (ide_words a.progif))
+    ∷ where_true (a.class == 0x101 && not (has_bits a.progif 0x70)) (Some (ide_words a.progif))
     ∷ [])

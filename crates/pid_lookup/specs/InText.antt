@@ -4,17 +4,17 @@ use Rattle.std.specs.Io.KnownBytes.{Consumes}
 use Rattle.pid_file.specs.declared.io.Input.{Ghosts}
 use Rattle.pid_file.specs.declared.whole_input.InputEnd.{InputEnd}
 use Rattle.pid_file.specs.declared.whole_input.InputEnd.TheVariants.{ReadFault}
-use Rattle.pid_ident.specs.Trees.{TreeMap}
+use Rattle.pid_file.specs.Trees.{TreeMap}
 use Rattle.pid_lookup.specs.Answers.{answer_of}
 use Rattle.pid_lookup.specs.declared.answer.Answer.{Answer}
 use Rattle.pid_lookup.specs.declared.answering.LookupRefusal.{LookupRefusal}
 use Rattle.pid_lookup.specs.declared.args.Args.{Args}
-use Rattle.pid_reader.specs.Reading.{Reads}
+use Rattle.pid_file.specs.Reading.{Reads}
 
 -- it is the answer of the tree that the text reads to
-abbrev pub IsAnswer : {F : Type 0} → ℕ → Args → ℕ → List ℕ → Result Answer (LookupRefusal F)
+abbrev pub IsAnswerOfText : {F : Type 0} → ℕ → Args → ℕ → List ℕ → Result Answer (LookupRefusal F)
     → Type 0
-IsAnswer flags a size text found = IfOk found
+IsAnswerOfText flags a size text found = IfOk found
     (λ answer. (t : TreeMap) → Reads text t → answer ≡ answer_of t flags a size)
 
 -- what is left of an input of which at most so many bytes, and one more, were read

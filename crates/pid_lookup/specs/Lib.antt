@@ -9,6 +9,7 @@ pub mod Fields
 pub mod Holders
 pub mod Questions
 pub mod Told
+pub mod LookupRefusals
 pub mod Unanswered
 pub mod Steps
 pub mod AskedNames

@@ -1,5 +1,5 @@
 -- What a holder over a lent tree shows.
-use Rattle.pid_ident.specs.Trees.{TreeMap}
+use Rattle.pid_file.specs.Trees.{TreeMap}
 use Rattle.pid_lookup.specs.declared.tree_names.TreeNames.{TreeNames}
 
 -- the map of the tree

@@ -2,10 +2,11 @@
 ghost use Rattle.std.specs.Prelude.{◌≡◌, ◌≢◌, ◌↔◌, true, false, Err, IfOk, IsErrOf};
 ghost use Rattle.std.specs.List.{flat_map};
 ghost use Rattle.pid_lookup.specs.declared.answering.LookupRefusal.TheVariants.{Memory};
-ghost use Rattle.pid_lookup.specs.Answers.{answer_of, cut_answer, number_of, text_of, word_of};
+ghost use Rattle.pid_lookup.specs.Answers.{answer_of, cut_answer};
+ghost use Rattle.pid_lookup.specs.Answers.{request_number, request_text, request_word};
 ghost use Rattle.pid_lookup.specs.Cut.{cut as cut_text};
 ghost use Rattle.pid_lookup.specs.Flags.{is_bad};
-ghost use Rattle.pid_lookup.specs.Found.{name_in};
+ghost use Rattle.pid_lookup.specs.Found.{name_in_map};
 ghost use Rattle.pid_lookup.specs.Questions.{HaveCauses, IsStill, OfShown};
 ghost use Rattle.pid_lookup.specs.Steps.FoundTexts.{found_text};
 ghost use Rattle.pid_lookup.specs.Steps.Styles.{switches};
@@ -22,7 +23,8 @@ use crate::names::Names;
 use std::alloc::{AllocError, Global};
 use thiserror::Error;
 
-/// Why a look-up has no answer.
+/// Why a look-up has no answer. Replies tell of these by other numbers: `Unanswered` has that of bad
+/// flags, the holder's fault its own.
 #[derive(Debug, Drop, Error)]
 pub enum LookupRefusal<F> {
     #[error("the flags ask for numbers alone and for no numbers, or have an unknown bit")]
@@ -32,6 +34,21 @@ pub enum LookupRefusal<F> {
     Names(F),
     #[error("no memory")]
     Memory,
+}
+
+impl<F> LookupRefusal<F> {
+    ghost use Rattle.pid_lookup.specs.LookupRefusals.{lookup_refusal_number};
+
+    /// 1 to 3, in the order above.
+    pub fn number(&self) -> u8
+        ensures { result ≡ lookup_refusal_number self.now }
+    {
+        match self {
+            LookupRefusal::BadFlags => 1,
+            LookupRefusal::Names(_) => 2,
+            LookupRefusal::Memory => 3,
+        }
+    }
 }
 
 impl<F> From<AllocError> for LookupRefusal<F> {
@@ -95,7 +112,7 @@ fn answer_request<N: Names>(
 ) -> Result<Answer, LookupRefusal<N::Fault>>
     ensures answer { OfShown N.Names names.old names.new (λ s.
         IfOk result (λ answer. answer ≡ cut_answer
-        (text_of (name_in (N.map_of s)) (switches style) request args.now) size)) }
+        (request_text (name_in_map (N.map_of s)) (switches style) request args.now) size)) }
     ensures good_flags { result ≢ Err LookupRefusal.BadFlags }
     ensures told { (switches style).numeric ≡ false → TellsOnlyIf (N.may_tell names.old) result }
     ensures unasked { (switches style).numeric ≡ true → (f : _)
@@ -122,7 +139,7 @@ fn show_number(
     size: u32,
 ) -> Result<Answer, AllocError>
     ensures { IfOk result (λ answer. answer
-        ≡ Answer.Text (cut_text (number_of request args.now) size)) }
+        ≡ Answer.Text (cut_text (request_number request args.now) size)) }
 {
     let number = Digits::of(request, args);
     show_parts(alloc, &[number.as_bytes()], size)
@@ -137,8 +154,8 @@ fn show_found(
     found: &Found,
     size: u32,
 ) -> Result<Answer, AllocError>
-    ensures { IfOk result (λ answer. answer ≡ cut_answer
-        (found_text (switches style) (number_of request args.now) (word_of request) found.now) size) }
+    ensures { IfOk result (λ answer. answer ≡ cut_answer (found_text (switches style)
+        (request_number request args.now) (request_word request) found.now) size) }
 {
     let number = Digits::of(request, args);
     match found_parts(style, number.as_bytes(), request.word(), found) {

@@ -3,7 +3,7 @@ ghost use Rattle.std.specs.Prelude.{◌≡◌, false};
 ghost use Rattle.std.specs.FinMap.{empty};
 ghost use Rattle.std.specs.List.{All, list_any};
 ghost use Rattle.std.specs.Ordering.{eq_by_cmp};
-ghost use Rattle.pid_ident.specs.PathTexts.{path_cmp};
+ghost use Rattle.pid_file.specs.PathTexts.{path_cmp};
 ghost use Rattle.pid_lookup.specs.AskedNames.{asked_paths as paths_asked};
 ghost use Rattle.pid_lookup.specs.Kept.{kept_map};
 
@@ -46,13 +46,13 @@ fn is_among(path: &Path, asked: &[Path; 8]) -> bool
 }
 
 impl Sink for AskedNames {
-    ghost use Rattle.pid_lookup.specs.AskedNames.{KeepsAll, TakesAsked};
+    ghost use Rattle.pid_lookup.specs.AskedNames.{KeepsAllNames, TakesAsked};
 
     type Fault = AllocError;
 
     ghost takes = { TakesAsked };
 
-    ghost faults = { λ s entry f t. KeepsAll s t };
+    ghost faults = { λ s entry f t. KeepsAllNames s t };
 
     fn entry(&mut self, entry: &Entry<'_>) -> Result<(), AllocError> {
         if !is_among(&entry.path, &self.asked) {
@@ -70,7 +70,7 @@ impl Names for AskedNames {
     type Fault = AllocError;
 
     ghost use Rattle.std.specs.Prelude.{◌≡◌, ⊤};
-    ghost use Rattle.pid_ident.specs.Trees.{TreeMap};
+    ghost use Rattle.pid_file.specs.Trees.{TreeMap};
     ghost use Rattle.pid_lookup.specs.Kept.{kept_map};
 
     ghost Shown = { TreeMap };

@@ -4,10 +4,10 @@ ghost use Rattle.std.specs.Str.{bytes_eq};
 ghost use Rattle.std.specs.Cmp.{partial_equiv_from_equiv};
 ghost use Rattle.std.specs.Cmp.Lexicographic.{bytes_decides, nat_list_eq_equiv};
 ghost use Rattle.std.specs.Hash.{same_Alike};
-ghost use Rattle.pid_ident.specs.PathTexts.{IsPath, path_text};
+ghost use Rattle.pid_file.specs.PathTexts.{IsPath, path_text};
 ghost use Rattle.pid_lookup.specs.CacheHashing.{fed_by, fed_text};
 
-use pid_ident::{Path, texts_have_one_path};
+use pid_ident::{Path, laws};
 use std::hash::{Hash, Hasher};
 use std::marker::Model;
 
@@ -18,7 +18,7 @@ pub struct PathKey {
 
 impl Model for PathKey {
     ghost use Rattle.std.specs.Prelude.{ℕ, List};
-    ghost use Rattle.pid_ident.specs.PathTexts.{path_text};
+    ghost use Rattle.pid_file.specs.PathTexts.{path_text};
 
     ghost Value = { List ℕ };
 
@@ -53,7 +53,7 @@ impl Hash for PathKey {
     ghost respects_eq = { (same_Alike fed_text bytes_decides).fed };
 
     fn hash<H: Hasher>(&self, state: &mut H) {
-        texts_have_one_path();
+        laws::texts_have_one_path(); // proof only
         feed(self.path, state);
     }
 }

@@ -1,7 +1,7 @@
 //! The number that a request shows.
 ghost use Rattle.std.specs.Prelude.{◌≡◌};
-ghost use Rattle.pid_ident.specs.Identifiers.{hex4 as four_digits, hex2 as two_digits};
-ghost use Rattle.pid_lookup.specs.Answers.{joined, number_of};
+ghost use Rattle.pid_file.specs.Identifiers.{hex4 as four_digits, hex2 as two_digits};
+ghost use Rattle.pid_lookup.specs.Answers.{joined, request_number};
 
 use crate::args::Args;
 use crate::flags::Request;
@@ -28,7 +28,7 @@ impl Model for Digits {
 impl Digits {
     /// The number that a request shows.
     pub fn of(request: Request, args: &Args) -> Digits
-        ensures { result ≡ number_of request args.now }
+        ensures { result ≡ request_number request args.now }
     {
         match request {
             Request::Vendor => Digits::four(args.vendor),

@@ -1,5 +1,6 @@
 //! The fields of a look-up.
-ghost use Rattle.std.specs.Prelude.{◌≡◌, ◌↔◌, true, Some, string_bytes, IfOk, IfSome, IsNone, IsErr};
+ghost use Rattle.std.specs.Prelude.{◌≡◌, ◌↔◌, true, Some, string_bytes};
+ghost use Rattle.std.specs.Prelude.{IfOk, IfSome, IsNone, IsErr};
 ghost use Rattle.std.specs.List.{list_all};
 ghost use Rattle.pid_lookup.specs.Fields.{
   bytes_of,
@@ -10,7 +11,7 @@ ghost use Rattle.pid_lookup.specs.Fields.{
   is_known as known_name,
   are_bad,
   look_up_in,
-  told,
+  as_look_up,
 };
 
 use crate::args::Args;
@@ -25,11 +26,12 @@ pub struct BadField;
 
 /// The flags, the arguments and the size that fields, pairs of a name and a value, say.
 ///
-/// `flags` is 1 to 8 hex digits and must be there. `size` is 1 to 9 decimal digits, 1024 where it is
-/// missing. `vendor`, `device`, `subvendor`, `subdevice` and `class` are 4 hex digits, `progif` is
-/// 2, and 0 where they are missing. The order of the fields does not matter.
+/// `flags` is 1 to 8 hex digits and must be there. `size` is 1 to 9 decimal digits, 1024 where it
+/// is missing. `vendor`, `device`, `subvendor`, `subdevice` and `class` are 4 hex digits, `progif`
+/// is 2, and 0 where they are missing. The order of the fields does not matter.
 pub fn args_of(fields: &[(String, String)]) -> Result<(u32, Args, u32), BadField>
-    ensures ok { IfOk result (λ look_up. look_up_in (bytes_of fields.now) ≡ Some (told look_up)) }
+    ensures ok { IfOk result (λ look_up. look_up_in (bytes_of fields.now)
+        ≡ Some (as_look_up look_up)) }
     ensures bad { IsErr result ↔ (are_bad (bytes_of fields.now) ≡ true) }
 {
     read_fields(fields).ok_or(BadField)
@@ -37,7 +39,7 @@ pub fn args_of(fields: &[(String, String)]) -> Result<(u32, Args, u32), BadField
 
 fn read_fields(fields: &[(String, String)]) -> Option<(u32, Args, u32)>
     ensures found { IfSome result (λ look_up. look_up_in (bytes_of fields.now)
-        ≡ Some (told look_up)) }
+        ≡ Some (as_look_up look_up)) }
     ensures none { IsNone result ↔ (are_bad (bytes_of fields.now) ≡ true) }
 {
     if !are_known(fields) {

@@ -8,9 +8,9 @@ ghost use Rattle.pid_lookup.specs.Found.{
   class_byte as class_half,
   subclass_byte as subclass_half,
 };
-ghost use Rattle.pid_lookup.specs.Flags.{has};
-ghost use Rattle.pid_lookup.specs.Steps.Asking.{Asks, AsksFor};
-ghost use Rattle.pid_lookup.specs.Steps.FoundTexts.{IsFor, nameless};
+ghost use Rattle.pid_lookup.specs.Flags.{has_bits};
+ghost use Rattle.pid_lookup.specs.Steps.Asking.{AsksNames, AsksNamesFor};
+ghost use Rattle.pid_lookup.specs.Steps.FoundTexts.{IsFoundFor, nameless};
 
 use crate::args::Args;
 use crate::flags::Request;
@@ -32,8 +32,8 @@ pub enum Found {
 
 /// The names that a request is about.
 pub fn find<N: Names>(names: &mut N, request: Request, args: &Args) -> Result<Found, N::Fault>
-    ensures asks { Asks N.Names names.old names.new result
-        (λ named found. IsFor found named request args.now) }
+    ensures asks { AsksNames N.Names names.old names.new result
+        (λ named found. IsFoundFor found named request args.now) }
     ensures told { IfOk result (λ _. N.may_tell names.old) }
 {
     match request {
@@ -49,7 +49,7 @@ pub fn find<N: Names>(names: &mut N, request: Request, args: &Args) -> Result<Fo
 }
 
 fn find_vendor<N: Names>(names: &mut N, vendor: Id16) -> Result<Option<Name>, N::Fault>
-    ensures asks { AsksFor N.Names names.old names.new result
+    ensures asks { AsksNamesFor N.Names names.old names.new result
         (λ named. named (paths.Vendor vendor)) }
     ensures told { IfOk result (λ _. N.may_tell names.old) }
 {
@@ -57,7 +57,7 @@ fn find_vendor<N: Names>(names: &mut N, vendor: Id16) -> Result<Option<Name>, N:
 }
 
 fn find_device<N: Names>(names: &mut N, args: &Args) -> Result<Option<Name>, N::Fault>
-    ensures asks { AsksFor N.Names names.old names.new result
+    ensures asks { AsksNamesFor N.Names names.old names.new result
         (λ named. named (paths.Device args.now.vendor args.now.device)) }
     ensures told { IfOk result (λ _. N.may_tell names.old) }
 {
@@ -68,8 +68,8 @@ fn find_device<N: Names>(names: &mut N, args: &Args) -> Result<Option<Name>, N::
 }
 
 fn find_device_pair<N: Names>(names: &mut N, args: &Args) -> Result<Found, N::Fault>
-    ensures asks { Asks N.Names names.old names.new result
-        (λ named found. IsFor found named Request.VendorAndDevice args.now) }
+    ensures asks { AsksNames N.Names names.old names.new result
+        (λ named found. IsFoundFor found named Request.VendorAndDevice args.now) }
     ensures told { IfOk result (λ _. N.may_tell names.old) }
 {
     let vendor = find_vendor(names, args.vendor)?;
@@ -78,8 +78,8 @@ fn find_device_pair<N: Names>(names: &mut N, args: &Args) -> Result<Found, N::Fa
 }
 
 fn find_subsystem_pair<N: Names>(names: &mut N, args: &Args) -> Result<Found, N::Fault>
-    ensures asks { Asks N.Names names.old names.new result
-        (λ named found. IsFor found named Request.SubvendorAndSubsystem args.now) }
+    ensures asks { AsksNames N.Names names.old names.new result
+        (λ named found. IsFoundFor found named Request.SubvendorAndSubsystem args.now) }
     ensures told { IfOk result (λ _. N.may_tell names.old) }
 {
     let vendor = find_vendor(names, args.subvendor)?;
@@ -88,7 +88,7 @@ fn find_subsystem_pair<N: Names>(names: &mut N, args: &Args) -> Result<Found, N:
 }
 
 fn find_subsystem<N: Names>(names: &mut N, args: &Args) -> Result<Option<Name>, N::Fault>
-    ensures asks { AsksFor N.Names names.old names.new result
+    ensures asks { AsksNamesFor N.Names names.old names.new result
         (λ named. subsystem_name named args.now) }
     ensures told { IfOk result (λ _. N.may_tell names.old) }
 {
@@ -103,7 +103,7 @@ fn find_subsystem<N: Names>(names: &mut N, args: &Args) -> Result<Option<Name>, 
 
 // The subsystem's entry under the device.
 fn find_under_device<N: Names>(names: &mut N, args: &Args) -> Result<Option<Name>, N::Fault>
-    ensures asks { AsksFor N.Names names.old names.new result
+    ensures asks { AsksNamesFor N.Names names.old names.new result
         (λ named. under_device named args.now) }
     ensures told { IfOk result (λ name. IsSome name → N.may_tell names.old) }
 {
@@ -120,7 +120,7 @@ fn find_under_device<N: Names>(names: &mut N, args: &Args) -> Result<Option<Name
 
 // The subsystem's entry under no device.
 fn find_generic<N: Names>(names: &mut N, args: &Args) -> Result<Option<Name>, N::Fault>
-    ensures asks { AsksFor N.Names names.old names.new result
+    ensures asks { AsksNamesFor N.Names names.old names.new result
         (λ named. named (paths.Generic args.now.subvendor args.now.subdevice)) }
     ensures told { IfOk result (λ _. N.may_tell names.old) }
 {
@@ -132,7 +132,7 @@ fn find_generic<N: Names>(names: &mut N, args: &Args) -> Result<Option<Name>, N:
 
 // The device, where it is its own subsystem.
 fn find_own_device<N: Names>(names: &mut N, args: &Args) -> Result<Option<Name>, N::Fault>
-    ensures asks { AsksFor N.Names names.old names.new result
+    ensures asks { AsksNamesFor N.Names names.old names.new result
         (λ named. own_device named args.now) }
 {
     if !is_own_subsystem(args) {
@@ -149,8 +149,8 @@ fn is_own_subsystem(args: &Args) -> bool
 }
 
 fn find_class<N: Names>(names: &mut N, args: &Args) -> Result<Found, N::Fault>
-    ensures asks { Asks N.Names names.old names.new result
-        (λ named found. IsFor found named Request.Class args.now) }
+    ensures asks { AsksNames N.Names names.old names.new result
+        (λ named found. IsFoundFor found named Request.Class args.now) }
     ensures told { IfOk result (λ _. N.may_tell names.old) }
 {
     let class = class_byte(args);
@@ -165,8 +165,8 @@ fn find_class<N: Names>(names: &mut N, args: &Args) -> Result<Found, N::Fault>
 }
 
 fn find_progif<N: Names>(names: &mut N, args: &Args) -> Result<Found, N::Fault>
-    ensures asks { Asks N.Names names.old names.new result
-        (λ named found. IsFor found named Request.ProgIf args.now) }
+    ensures asks { AsksNames N.Names names.old names.new result
+        (λ named found. IsFoundFor found named Request.ProgIf args.now) }
     ensures told { IfOk result (λ _. N.may_tell names.old) }
 {
     let path = Path::ProgIf {
@@ -183,7 +183,7 @@ fn find_progif<N: Names>(names: &mut N, args: &Args) -> Result<Found, N::Fault>
 // An interface that has no name.
 fn nameless_progif(args: &Args) -> Found
     ensures { result ≡ nameless (args.now.class == 0x101 && not
-        (has args.now.progif 0x70)) args.now.progif }
+        (has_bits args.now.progif 0x70)) args.now.progif }
 {
     if args.class == 0x101 && args.progif & 0x70 == 0 {
         Found::Ide(IdeWords::of(args.progif))

@@ -9,7 +9,7 @@ ghost use Rattle.pid_lookup.specs.Flags.{
   is_bad,
 };
 ghost use Rattle.pid_lookup.specs.Steps.Styles.{switches};
-ghost use Rattle.pid_lookup.specs.Answers.{with_numbers, word_of};
+ghost use Rattle.pid_lookup.specs.Answers.{with_numbers, request_word};
 
 /// What a look-up asks for.
 #[derive(Clone, Copy, PartialEq, Eq)]
@@ -55,7 +55,7 @@ impl Style {
 impl Request {
     /// The word that stands for an unknown name; in a pair the device's.
     pub fn word(self) -> &'static [u8]
-        ensures { result.now ≡ word_of self }
+        ensures { result.now ≡ request_word self }
     {
         match self {
             Request::Vendor => b"Vendor",

@@ -1,13 +1,13 @@
 //! A look-up in the text of an input.
 ghost use Rattle.std.specs.Prelude.{◌≡◌, ◌↔◌, true, IfSome, IfOk, IsErrOf};
 ghost use Rattle.pid_lookup.specs.Flags.{is_bad};
-ghost use Rattle.pid_reader.specs.InputTexts.{ReadsInput};
-ghost use Rattle.pid_lookup.specs.InText.{IsAnswer, LeavesInput};
+ghost use Rattle.pid_file.specs.InputTexts.{ReadsInput};
+ghost use Rattle.pid_lookup.specs.InText.{IsAnswerOfText, LeavesInput};
 
 use crate::answer::Answer;
 use crate::answering::{LookupRefusal, lookup};
 use crate::args::Args;
-use crate::laws::other_names_do_not_matter;
+use crate::laws;
 use crate::names_in_text::names_in;
 use pid_ident::Input;
 use pid_reader::{InputEnd, Never};
@@ -24,12 +24,12 @@ pub fn look_up_in<I: Input>(
     size: u32,
 ) -> Result<Result<Answer, LookupRefusal<AllocError>>, InputEnd<Never>>
     ensures answer { IfSome (I.to_come input.old)
-        (λ text. ReadsInput (IsAnswer flags args.now size) limit result text) }
+        (λ text. ReadsInput (IsAnswerOfText flags args.now size) limit result text) }
     ensures bad_flags { IfOk result (λ found. IsErrOf found LookupRefusal.BadFlags
         ↔ (is_bad flags ≡ true)) }
     ensures leaves { LeavesInput I.Input limit input.old input.new result }
 {
-    other_names_do_not_matter();
+    laws::other_names_do_not_matter(); // proof only
     match names_in(alloc, limit, args, input) {
         Ok(names) => {
             let mut names = names;

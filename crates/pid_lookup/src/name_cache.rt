@@ -13,7 +13,7 @@ ghost use Rattle.std.specs.Prelude.{
   IfSome,
   IfErr,
 };
-ghost use Rattle.pid_ident.specs.PathTexts.{path_text};
+ghost use Rattle.pid_file.specs.PathTexts.{path_text};
 ghost use Rattle.pid_lookup.specs.CacheEntries.{entry_at, used, with_answer};
 ghost use Rattle.pid_lookup.specs.CacheAgreement.{Agrees};
 

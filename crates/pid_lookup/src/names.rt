@@ -1,8 +1,8 @@
 //! Holders of names.
 ghost use Rattle.std.specs.Prelude.{◌≡◌, ⊤, IfOk, IfErr};
-ghost use Rattle.pid_ident.specs.Trees.{TreeMap};
-ghost use Rattle.pid_lookup.specs.Found.{name_in};
-ghost use Rattle.pid_lookup.specs.Holders.{Keeps};
+ghost use Rattle.pid_file.specs.Trees.{TreeMap};
+ghost use Rattle.pid_lookup.specs.Found.{name_in_map};
+ghost use Rattle.pid_lookup.specs.Holders.{KeepsHolder};
 
 use pid_ident::{Name, Path};
 
@@ -49,11 +49,11 @@ pub trait Names {
     /// A copy of the name of a path, and none where it has no name; or a fault.
     fn name_of(&mut self, path: &Path) -> Result<Option<Name>, Self::Fault>
         ensures found { is_honest self.new → (s : Shown) → shows self.old s
-            → IfOk result (λ name. name ≡ name_in (map_of s) path.now) }
+            → IfOk result (λ name. name ≡ name_in_map (map_of s) path.now) }
         ensures told { IfOk result (λ _. may_tell self.old) }
         ensures fault { IfErr result (λ f. may_give self.old f) }
         ensures caused { is_honest self.new → (s : Shown) → shows self.old s → (start : Self)
             → only_asked start self.old
             → IfErr result (λ f. has_cause start self.new f) }
-        ensures kept { Keeps shows is_honest may_give may_tell only_asked self.old self.new };
+        ensures kept { KeepsHolder shows is_honest may_give may_tell only_asked self.old self.new };
 }

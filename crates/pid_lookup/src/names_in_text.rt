@@ -1,31 +1,16 @@
 //! The names of an input's text.
-ghost use Rattle.std.specs.Prelude.{◌≡◌, ◌↔◌, IfSome, IfOk};
-ghost use Rattle.pid_file.specs.InputTexts.{without_fault};
-ghost use Rattle.pid_reader.specs.InputTexts.{ReadsInput};
+ghost use Rattle.std.specs.Prelude.{IfSome, IfOk};
+ghost use Rattle.pid_file.specs.InputTexts.{ReadsInput};
 ghost use Rattle.pid_lookup.specs.AskedNames.{HasAsked, HasOnly, asked_paths};
 ghost use Rattle.pid_lookup.specs.InText.{LeavesInput};
 ghost use Rattle.pid_lookup.specs.Kept.{kept_map};
 
 use crate::args::Args;
 use crate::asked_names::AskedNames;
+use pid_file::end_without_fault;
 use pid_ident::Input;
-use pid_reader::{CutEnd, InputEnd, Never, ReadRefusal, cut_input};
-use std::alloc::{AllocError, Global};
-
-// The end without the fault of the names, which is want of memory.
-fn end_of(end: InputEnd<AllocError>) -> InputEnd<Never>
-    ensures end { result ≡ without_fault end }
-    ensures fault { (result ≡ InputEnd.ReadFault) ↔ (end ≡ InputEnd.ReadFault) }
-{
-    match end {
-        InputEnd::ReadFault => InputEnd::ReadFault,
-        InputEnd::TooLong => InputEnd::TooLong,
-        InputEnd::Cut(CutEnd::Refused(refusal)) => InputEnd::Cut(CutEnd::Refused(refusal)),
-        InputEnd::Cut(CutEnd::Fault(AllocError)) => {
-            InputEnd::Cut(CutEnd::Refused(ReadRefusal::Memory))
-        }
-    }
-}
+use pid_reader::{InputEnd, Never, cut_input};
+use std::alloc::Global;
 
 /// The names of the input's text that a look-up with these arguments can ask for, and no others.
 /// Faults are told as by `read_input`, and as much is read.
@@ -43,6 +28,6 @@ pub fn names_in<I: Input>(
     let mut names = AskedNames::new(alloc, args);
     match cut_input(alloc, limit, input, &mut names) {
         Ok(()) => Ok(names),
-        Err(end) => Err(end_of(end)),
+        Err(end) => Err(end_without_fault(end)),
     }
 }

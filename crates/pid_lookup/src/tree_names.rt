@@ -26,7 +26,7 @@ impl Names for TreeNames<'_> {
     type Fault = AllocError;
 
     ghost use Rattle.std.specs.Prelude.{◌≡◌, ⊤};
-    ghost use Rattle.pid_ident.specs.Trees.{TreeMap};
+    ghost use Rattle.pid_file.specs.Trees.{TreeMap};
     ghost use Rattle.pid_lookup.specs.TreeNames.{tree_shown};
 
     ghost Shown = { TreeMap };

@@ -1,14 +1,17 @@
 //! Why a question has no answer.
 ghost use Rattle.std.specs.Prelude.{◌≡◌};
 
+use thiserror::Error;
+
 /// Why a question has no answer. No command is refused so.
-#[derive(Clone, Copy, Debug)]
+#[derive(Clone, Copy, Debug, Error)]
 pub enum Unanswered {
-    /// No item is at the path.
+    #[error("no item is at the path")]
     NoItem,
-    /// The flags of a look-up are bad.
+    #[error("the flags ask for numbers alone and for no numbers, or have an unknown bit")]
     BadFlags,
     /// No name is known to a look-up, and no number may be shown.
+    #[error("no name is known, and no number may be shown")]
     NoAnswer,
 }
 

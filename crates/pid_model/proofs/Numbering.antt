@@ -6,7 +6,7 @@ use Rattle.pid_moderation.specs.History.{Deed, Ranks, Submits, Comments, Withdra
 use Rattle.pid_moderation.specs.Views.{Submitted, submission_at, submitted, submits_of}
 use Rattle.pid_model.specs.declared.past.Accepted.{Accepted}
 use Rattle.pid_model.specs.declared.past.Submission.{Submission}
-use Rattle.pid_model.specs.Shown.{entry_of, history_of, lent}
+use Rattle.pid_model.specs.Shown.{accepted_entry, accepted_history, lent}
 use Rattle.pid_model.proofs.Newest.{history-more}
 
 last_of : (ss : List Submitted) (s : Submitted) → slice_get (ss ++ s ∷ []) (length ss) ≡ Some s
@@ -43,10 +43,10 @@ submitted-append account (Rejects n reason) before = sym (append-nil before)
 submitted-append account (Imports reading) before = sym (append-nil before)
 
 -- the submissions after a command that makes this one, or none
-pub submits-more : (past : List Accepted) (i : ℕ) (e : Accepted) (made : Option Submission) → i < length past → e ≡ get_or past i e → option_to_list (option_map lent made) ≡ submitted (entry_of e).asked.account (entry_of e).asked.deed [] → submits_of (history_of (take (i + 1) past)) ≡ submits_of (history_of (take i past)) ++ option_to_list (option_map lent made)
+pub submits-more : (past : List Accepted) (i : ℕ) (e : Accepted) (made : Option Submission) → i < length past → e ≡ get_or past i e → option_to_list (option_map lent made) ≡ submitted (accepted_entry e).asked.account (accepted_entry e).asked.deed [] → submits_of (accepted_history (take (i + 1) past)) ≡ submits_of (accepted_history (take i past)) ++ option_to_list (option_map lent made)
 submits-more past i e made h at is =
-    ap submits_of (history-more past i e h at) ∙ submitted-append (entry_of e).asked.account (entry_of e).asked.deed (submits_of (history_of (take i past)))
-    ∙ ap (λ m. submits_of (history_of (take i past)) ++ m) (sym is)
+    ap submits_of (history-more past i e h at) ∙ submitted-append (accepted_entry e).asked.account (accepted_entry e).asked.deed (submits_of (accepted_history (take i past)))
+    ∙ ap (λ m. submits_of (accepted_history (take i past)) ++ m) (sym is)
 
 pub found-none : (n count : ℕ) (found : Option Submission) (ss after : List Submitted) → after ≡ ss ++ [] → Found n count found ss → Found n count found after
 found-none n count found ss after e f = subst (Found n count found) (sym (e ∙ append-nil ss)) f

@@ -7,7 +7,7 @@ use Rattle.pid_moderation.specs.declared.refusal.Refusal.TheVariants.{BadText}
 use Rattle.pid_moderation.specs.History.{Asked, More, History}
 use Rattle.pid_moderation.specs.Views.{views_of}
 use Rattle.pid_moderation.specs.FactsOfViews.{facts_of}
-use Rattle.pid_moderation.specs.CheckTables.{checks, first_failing, is_ill_formed, reply_to}
+use Rattle.pid_moderation.specs.CheckTables.{checks, first_failing, is_ill_formed, reply_by_facts}
 use Rattle.pid_moderation.specs.Judgement.{Outcome, Refused, unless, unless_kept, judge, answer, added, after}
 
 -- the outcome by its parts
@@ -26,10 +26,10 @@ old-stays false (Some reply) failing to h c e = refl
 old-stays false None failing to h c e = absurd (false≢true e)
 
 pub accepted-added : (h : History) (c : Asked) (reply : Reply) → answer (judge (views_of h) c) ≡ Ok reply → is_some (facts_of (views_of h) c).kept ≡ false → after h c ≡ More (record { asked = c; reply = reply }) h
-accepted-added h c reply e none = let f = facts_of (views_of h) c in new-added (is_ill_formed f c.deed) f.kept (first_failing (checks f c)) (reply_to f c.deed) reply h c e none
+accepted-added h c reply e none = let f = facts_of (views_of h) c in new-added (is_ill_formed f c.deed) f.kept (first_failing (checks f c)) (reply_by_facts f c.deed) reply h c e none
 
 pub repeated-stays : (h : History) (c : Asked) → is_some (facts_of (views_of h) c).kept ≡ true → after h c ≡ h
-repeated-stays h c e = let f = facts_of (views_of h) c in old-stays (is_ill_formed f c.deed) f.kept (first_failing (checks f c)) (reply_to f c.deed) h c e
+repeated-stays h c e = let f = facts_of (views_of h) c in old-stays (is_ill_formed f c.deed) f.kept (first_failing (checks f c)) (reply_by_facts f c.deed) h c e
 
 pub on_ok-then : {A : Type 0} (r : Result Reply Refusal) (x y z : A) → OnOk r (x ≡ y) → y ≡ z → OnOk r (x ≡ z)
 on_ok-then (Ok reply) x y z e f = e ∙ f

@@ -2,7 +2,7 @@
 -- project, for tests.
 use Rattle.std.specs.Prelude.{ℕ, List, map, fold}
 use Rattle.std.specs.BTreeMap.{BTreeMap}
-use Rattle.pid_ident.specs.PathTexts.{path_text}
+use Rattle.pid_file.specs.PathTexts.{path_text}
 use Rattle.pid_file.specs.declared.path.Path.{Path}
 use Rattle.pid_moderation.specs.declared.command.Command.{Command}
 use Rattle.pid_moderation.specs.History as histories
@@ -16,26 +16,26 @@ use Rattle.pid_model.specs.declared.past.Submission.{Submission}
 use Rattle.pid_model.specs.declared.registry.PlainRegistry.{PlainRegistry}
 
 -- an item: the text of its path, and its name
-abbrev pub item_of : Path × List ℕ → List ℕ × List ℕ
-item_of e = (path_text e.0, e.1)
+abbrev pub item_texts : Path × List ℕ → List ℕ × List ℕ
+item_texts e = (path_text e.0, e.1)
 
 -- the items of a map, in the order of their paths
 abbrev pub texts : BTreeMap Path (List ℕ) → Items
-texts items = map item_of items.entries
+texts items = map item_texts items.entries
 
 -- what a file reads to
-abbrev pub reading_of : FileReading → Reading
-reading_of TooLong = histories.TooLong
-reading_of (Faulty fault) = histories.Faulty fault
-reading_of (Good pairs) = histories.Good (map item_of pairs.items)
+abbrev pub plain_reading : FileReading → Reading
+plain_reading TooLong = histories.TooLong
+plain_reading (Faulty fault) = histories.Faulty fault
+plain_reading (Good pairs) = histories.Good (map item_texts pairs.items)
 
 -- a command with the reading of its file, and its reply
-abbrev pub entry_of : Accepted → histories.Accepted
-entry_of e = record { asked = asked e.command (reading_of e.file); reply = e.reply }
+abbrev pub accepted_entry : Accepted → histories.Accepted
+accepted_entry e = record { asked = asked e.command (plain_reading e.file); reply = e.reply }
 
 -- the accepted commands, which are kept the oldest first, as the history of a new registry
-abbrev pub history_of : List Accepted → History
-history_of accepted = fold (λ h e. More (entry_of e) h) new_history accepted
+abbrev pub accepted_history : List Accepted → History
+accepted_history accepted = fold (λ h e. More (accepted_entry e) h) new_history accepted
 
 -- a submission as it was made; it serves private functions alone
 abbrev pub lent : Submission → Submitted
@@ -48,12 +48,12 @@ lent s = record {
 
 -- the history that a registry shows
 abbrev pub shown : PlainRegistry → History
-shown registry = history_of registry.accepted.items
+shown registry = accepted_history registry.accepted.items
 
 -- and the views of that history
 abbrev pub views : PlainRegistry → Views
 views registry = views_of (shown registry)
 
 -- what a command asks, where the file of an import reads to this
-abbrev pub asks : Command → FileReading → Asked
-asks command file = asked command (reading_of file)
+abbrev pub asked_plainly : Command → FileReading → Asked
+asked_plainly command file = asked command (plain_reading file)

@@ -3,9 +3,9 @@ ghost use Rattle.std.specs.Prelude.{◌≡◌, List, map, length, option_copied,
 ghost use Rattle.std.specs.FinMap.Entries.{put};
 ghost use Rattle.std.specs.List.{list_any};
 ghost use Rattle.std.specs.Map.{keys_of};
-ghost use Rattle.pid_ident.specs.PathTexts.{path_text};
+ghost use Rattle.pid_file.specs.PathTexts.{path_text};
 ghost use Rattle.pid_ident.specs.PathReading.{parent_text};
-ghost use Rattle.pid_ident.specs.Trees.{text_cmp};
+ghost use Rattle.pid_file.specs.Trees.{text_cmp};
 ghost use Rattle.pid_moderation.specs.Items.{
   name_at as name_in,
   written,
@@ -15,10 +15,10 @@ ghost use Rattle.pid_moderation.specs.Items.{
   has_children as children_in,
 };
 ghost use Rattle.pid_moderation.specs.Views.{itemized, submits_of, items_of};
-ghost use Rattle.pid_model.specs.Shown.{entry_of, history_of, item_of, texts};
+ghost use Rattle.pid_model.specs.Shown.{accepted_entry, accepted_history, item_texts, texts};
 
 use crate::past::{Accepted, FileReading, numbered};
-use pid_ident::{Name, Path, parents_have_texts};
+use pid_ident::{Name, Path, laws};
 use pid_moderation::{Act, Proposal};
 use std::alloc::{AllocError, Global};
 use std::collections::BTreeMap;
@@ -59,7 +59,8 @@ fn write(
 
 /// Each path of a file gets its name; where a path stands twice, the name that stands first.
 pub fn import(items: &mut BTreeMap<Path, Name>, pairs: &[(Path, Name)]) -> Result<(), AllocError>
-    ensures { OnOk result (texts items.new ≡ imported (map item_of pairs.now) (texts items.old)) }
+    ensures { OnOk result (texts items.new
+        ≡ imported (map item_texts pairs.now) (texts items.old)) }
 {
     match pairs {
         [] => Ok(()),
@@ -76,8 +77,8 @@ fn itemize(
     entry: &Accepted,
     earlier: &[Accepted],
 ) -> Result<(), AllocError>
-    ensures { OnOk result (texts items.new ≡ itemized (entry_of entry.now).asked.deed
-        (submits_of (history_of earlier.now)) (texts items.old)) }
+    ensures { OnOk result (texts items.new ≡ itemized (accepted_entry entry.now).asked.deed
+        (submits_of (accepted_history earlier.now)) (texts items.old)) }
 {
     match &entry.command.act {
         Act::Approve { number } => match numbered(earlier, *number) {
@@ -94,7 +95,7 @@ fn itemize(
 
 /// The items, in the order of their paths.
 pub fn items_after(alloc: Global, past: &[Accepted]) -> Result<BTreeMap<Path, Name>, AllocError>
-    ensures { IfOk result (λ items. texts items ≡ items_of (history_of past.now)) }
+    ensures { IfOk result (λ items. texts items ≡ items_of (accepted_history past.now)) }
 {
     let mut items = BTreeMap::new(alloc);
     for (i, entry) in past.iter().enumerate() {
@@ -106,7 +107,7 @@ pub fn items_after(alloc: Global, past: &[Accepted]) -> Result<BTreeMap<Path, Na
 fn is_child(item: Path, path: Path) -> bool
     ensures { result ≡ is_parent (path_text path) (parent_text (path_text item)) }
 {
-    parents_have_texts();
+    laws::parents_have_texts(); // proof only
     match item.parent() {
         Some(parent) => path == parent,
         None => false,

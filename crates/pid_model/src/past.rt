@@ -28,7 +28,7 @@ ghost use Rattle.pid_moderation.specs.Views.{
   remarks_of,
 };
 ghost use Rattle.pid_moderation.specs.FactsOfViews.{kept_in, named as named_in};
-ghost use Rattle.pid_model.specs.Shown.{entry_of, history_of, lent};
+ghost use Rattle.pid_model.specs.Shown.{accepted_entry, accepted_history, lent};
 
 use pid_ident::{Account, Key, Name, Path, Text};
 use pid_moderation::{Act, Command, FileFault, Named, Proposal, Rank, Reply, State};
@@ -76,7 +76,7 @@ fn first_rank(account: &Account) -> Option<Rank>
 
 // The rank of an account after a command.
 fn ranked(entry: &Accepted, account: &Account, before: Option<Rank>) -> Option<Rank>
-    ensures { result ≡ ranked_by account.now (entry_of entry.now).asked.deed before }
+    ensures { result ≡ ranked_by account.now (accepted_entry entry.now).asked.deed before }
 {
     match &entry.command.act {
         Act::Account { who, rank } if account == who => Some(*rank),
@@ -86,7 +86,7 @@ fn ranked(entry: &Accepted, account: &Account, before: Option<Rank>) -> Option<R
 
 /// The rank that was last given to an account.
 pub fn last_rank(past: &[Accepted], account: &Account) -> Option<Rank>
-    ensures { result ≡ rank_of account.now (history_of past.now) }
+    ensures { result ≡ rank_of account.now (accepted_history past.now) }
 {
     let mut last = first_rank(account);
     for entry in past {
@@ -102,7 +102,7 @@ fn kept_after(
     key: &Key,
     before: Option<Reply>,
 ) -> Option<Reply>
-    ensures { let e = entry_of entry.now in
+    ensures { let e = accepted_entry entry.now in
         result ≡ receipted account.now key.now e.asked.account e.asked.key e.reply before }
 {
     match &entry.command.key {
@@ -113,7 +113,7 @@ fn kept_after(
 
 /// The reply that was given to the account under the key.
 pub fn kept_reply(past: &[Accepted], account: &Account, key: &Key) -> Option<Reply>
-    ensures { result ≡ kept_of account.now key.now (history_of past.now) }
+    ensures { result ≡ kept_of account.now key.now (accepted_history past.now) }
 {
     let mut last = None;
     for entry in past {
@@ -125,7 +125,8 @@ pub fn kept_reply(past: &[Accepted], account: &Account, key: &Key) -> Option<Rep
 // The submission that a command makes.
 fn submission_in(entry: &Accepted) -> Option<Submission<'_>>
     ensures { option_to_list (option_map lent result)
-        ≡ submitted (entry_of entry.now).asked.account (entry_of entry.now).asked.deed [] }
+        ≡ submitted (accepted_entry entry.now).asked.account
+        (accepted_entry entry.now).asked.deed [] }
 {
     match &entry.command.act {
         Act::Submit {
@@ -144,7 +145,7 @@ fn submission_in(entry: &Accepted) -> Option<Submission<'_>>
 
 /// How many submissions there are.
 pub fn submission_count(past: &[Accepted]) -> usize
-    ensures { result ≡ length (submits_of (history_of past.now)) }
+    ensures { result ≡ length (submits_of (accepted_history past.now)) }
 {
     let mut count = 0;
     for entry in past {
@@ -157,7 +158,8 @@ pub fn submission_count(past: &[Accepted]) -> usize
 
 /// The submission with the number; they are counted from 1.
 pub fn numbered(past: &[Accepted], number: u32) -> Option<Submission<'_>>
-    ensures { option_map lent result ≡ submission_at number (submits_of (history_of past.now)) }
+    ensures { option_map lent result
+        ≡ submission_at number (submits_of (accepted_history past.now)) }
 {
     let mut count = 0;
     let mut found = None;
@@ -174,7 +176,7 @@ pub fn numbered(past: &[Accepted], number: u32) -> Option<Submission<'_>>
 
 // How a submission stands after a command.
 fn decided(entry: &Accepted, submission: u32, before: State) -> Result<State, AllocError>
-    ensures { let e = entry_of entry.now in
+    ensures { let e = accepted_entry entry.now in
         IfOk result (λ state. state ≡ decided_by submission e.asked.account e.asked.deed before) }
 {
     let account = &entry.command.account;
@@ -195,7 +197,7 @@ fn decided(entry: &Accepted, submission: u32, before: State) -> Result<State, Al
 
 /// How a submission stands.
 pub fn standing(past: &[Accepted], submission: u32) -> Result<State, AllocError>
-    ensures { IfOk result (λ state. state ≡ state_of submission (history_of past.now)) }
+    ensures { IfOk result (λ state. state ≡ state_of submission (accepted_history past.now)) }
 {
     let mut state = State::Pending;
     for entry in past {
@@ -206,7 +208,7 @@ pub fn standing(past: &[Accepted], submission: u32) -> Result<State, AllocError>
 
 // Whether a command is a remark on the submission.
 fn is_remark(entry: &Accepted, submission: u32) -> bool
-    ensures { let e = entry_of entry.now in
+    ensures { let e = accepted_entry entry.now in
         length (remarked submission e.asked.account e.asked.deed []) ≡ (if result then 1 else 0) }
 {
     match &entry.command.act {
@@ -217,7 +219,7 @@ fn is_remark(entry: &Accepted, submission: u32) -> bool
 
 /// How many remarks there are on a submission.
 pub fn remark_count(past: &[Accepted], submission: u32) -> usize
-    ensures { result ≡ length (remarks_of submission (history_of past.now)) }
+    ensures { result ≡ length (remarks_of submission (accepted_history past.now)) }
 {
     let mut count = 0;
     for entry in past {

@@ -27,11 +27,12 @@ ghost use Rattle.pid_moderation.specs.FactsOfViews.{
   looked_at,
   facts_of,
   with_file,
-  with_item,
+  with_item_facts,
 };
 ghost use Rattle.pid_moderation.specs.Judgement.{judge, answer, after};
 ghost use Rattle.pid_moderation.specs.Wants.{wanted_by};
-ghost use Rattle.pid_model.specs.Shown.{shown, views, asks, entry_of, reading_of, texts};
+ghost use Rattle.pid_model.specs.Shown.{shown, views, asked_plainly};
+ghost use Rattle.pid_model.specs.Shown.{accepted_entry, plain_reading, texts};
 
 use crate::items::{has_children, holds_parent, items_after, name_at};
 use crate::past::{
@@ -149,7 +150,7 @@ impl PlainRegistry {
 
     // The facts of a submission with those of the item that it speaks of.
     fn look_at_item(&self, named: Option<Named>, known: Facts) -> Result<Facts, AllocError>
-        ensures { IfOk result (λ facts. facts ≡ with_item (views self.now) named known) }
+        ensures { IfOk result (λ facts. facts ≡ with_item_facts (views self.now) named known) }
     {
         let Some(named) = named else {
             return Ok(known);
@@ -188,8 +189,8 @@ impl PlainRegistry {
 
     // The facts with what the file of an import comes to.
     fn look_at_file(&self, act: &Act, file: &FileReading, known: Facts) -> Result<Facts, AllocError>
-        ensures { IfOk result (λ facts. facts ≡
-            with_file (items_of (shown self.now)) (deed_of act.now (reading_of file.now)) known) }
+        ensures { IfOk result (λ facts. facts ≡ with_file (items_of (shown self.now))
+            (deed_of act.now (plain_reading file.now)) known) }
     {
         let mut facts = known;
         if let Act::Import { .. } = act {
@@ -201,7 +202,7 @@ impl PlainRegistry {
     /// What a command is judged by; or memory is short. The file is what an import's file reads to.
     pub fn facts(&self, command: &Command, file: &FileReading) -> Result<Facts, AllocError>
         ensures { IfOk result (λ facts. facts
-            ≡ facts_of (views self.now) (asks command.now file.now)) }
+            ≡ facts_of (views self.now) (asked_plainly command.now file.now)) }
     {
         let known = self.known(command);
         let facts = self.look_at(needs(command), known)?;
@@ -211,11 +212,11 @@ impl PlainRegistry {
     // What a command is answered.
     fn answer(&self, command: &Command, file: &FileReading) -> Result<Answer, Refusal>
         ensures reply { IfOk result (λ a. answer
-            (judge (views self.now) (asks command.now file.now)) ≡ Ok a.reply) }
+            (judge (views self.now) (asked_plainly command.now file.now)) ≡ Ok a.reply) }
         ensures refusal { IfErr result (λ e. e ≢ Refusal.Memory →
-            answer (judge (views self.now) (asks command.now file.now)) ≡ Err e) }
+            answer (judge (views self.now) (asked_plainly command.now file.now)) ≡ Err e) }
         ensures kept { IfOk result (λ a. a.is_kept
-            ≡ is_some (facts_of (views self.now) (asks command.now file.now)).kept) }
+            ≡ is_some (facts_of (views self.now) (asked_plainly command.now file.now)).kept) }
     {
         match self.facts(command, file) {
             Ok(facts) => answer_by(&facts, command),
@@ -228,14 +229,14 @@ impl PlainRegistry {
     /// refusal, also one for want of memory, changes nothing.
     pub fn obey(&mut self, command: Command, file: FileReading) -> Result<Reply, Refusal>
         // The reply is that of the judgement over the history.
-        ensures reply { IfOk result (λ reply. answer (judge (views self.old) (asks command file))
-            ≡ Ok reply) }
+        ensures reply { IfOk result (λ reply.
+            answer (judge (views self.old) (asked_plainly command file)) ≡ Ok reply) }
         // So is the refusal, unless memory is short.
         ensures refusal { IfErr result (λ e. e ≢ Refusal.Memory →
-            answer (judge (views self.old) (asks command file)) ≡ Err e) }
+            answer (judge (views self.old) (asked_plainly command file)) ≡ Err e) }
         // Afterwards the history is the one after the command.
         ensures history { OnOk result (shown self.new
-            ≡ after (shown self.old) (asks command file)) }
+            ≡ after (shown self.old) (asked_plainly command file)) }
         ensures unchanged { OnErr result (shown self.new ≡ shown self.old) }
     {
         match self.answer(&command, &file) {
@@ -253,7 +254,7 @@ impl PlainRegistry {
         ensures ok { IfOk result (λ r. r ≡ reply) }
         ensures err { IfErr result (λ e. e ≡ Refusal.Memory) }
         ensures added { OnOk result (shown self.new
-            ≡ More (entry_of (record { command = command; file = file; reply = reply }))
+            ≡ More (accepted_entry (record { command = command; file = file; reply = reply }))
             (shown self.old)) }
         ensures unchanged { OnErr result (shown self.new ≡ shown self.old) }
     {

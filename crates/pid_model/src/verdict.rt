@@ -10,7 +10,7 @@ ghost use Rattle.std.specs.Prelude.{
   IfOk,
   Some,
 };
-ghost use Rattle.pid_ident.specs.PathTexts.{path_text};
+ghost use Rattle.pid_file.specs.PathTexts.{path_text};
 ghost use Rattle.pid_moderation.specs.Items.{
   name_at as name_in,
   has_name as names_so,
@@ -20,7 +20,7 @@ ghost use Rattle.pid_moderation.specs.Items.{
 };
 ghost use Rattle.pid_moderation.specs.History.{Good};
 ghost use Rattle.pid_moderation.specs.FactsOfViews.{verdict as verdict_over};
-ghost use Rattle.pid_model.specs.Shown.{item_of, texts, reading_of};
+ghost use Rattle.pid_model.specs.Shown.{item_texts, texts, plain_reading};
 
 use crate::items::{import, name_at};
 use crate::past::FileReading;
@@ -41,14 +41,14 @@ pub fn number(count: usize) -> Result<u32, AllocError>
 }
 
 fn is_new(items: &BTreeMap<Path, Name>, pair: &(Path, Name)) -> bool
-    ensures { result ≡ is_none (name_in (item_of pair.now).0 (texts items.now)) }
+    ensures { result ≡ is_none (name_in (item_texts pair.now).0 (texts items.now)) }
 {
     name_at(items, pair.0).is_none()
 }
 
 fn is_same(items: &BTreeMap<Path, Name>, pair: &(Path, Name)) -> bool
-    ensures { result ≡ names_so (item_of pair.now).1
-        (name_in (item_of pair.now).0 (texts items.now)) }
+    ensures { result ≡ names_so (item_texts pair.now).1
+        (name_in (item_texts pair.now).0 (texts items.now)) }
 {
     match name_at(items, pair.0) {
         Some(name) => pair.1 == *name,
@@ -57,26 +57,26 @@ fn is_same(items: &BTreeMap<Path, Name>, pair: &(Path, Name)) -> bool
 }
 
 fn is_renamed(items: &BTreeMap<Path, Name>, pair: &(Path, Name)) -> bool
-    ensures { let present = name_in (item_of pair.now).0 (texts items.now) in
-        result ≡ (is_some present && not (names_so (item_of pair.now).1 present)) }
+    ensures { let present = name_in (item_texts pair.now).0 (texts items.now) in
+        result ≡ (is_some present && not (names_so (item_texts pair.now).1 present)) }
 {
     name_at(items, pair.0).is_some() && !is_same(items, pair)
 }
 
 fn count_new(items: &BTreeMap<Path, Name>, pairs: &[(Path, Name)]) -> usize
-    ensures { result ≡ count_of_new (texts items.now) (map item_of pairs.now) }
+    ensures { result ≡ count_of_new (texts items.now) (map item_texts pairs.now) }
 {
     pairs.iter().filter(|pair| is_new(items, pair)).count()
 }
 
 fn count_renamed(items: &BTreeMap<Path, Name>, pairs: &[(Path, Name)]) -> usize
-    ensures { result ≡ count_of_renamed (texts items.now) (map item_of pairs.now) }
+    ensures { result ≡ count_of_renamed (texts items.now) (map item_texts pairs.now) }
 {
     pairs.iter().filter(|pair| is_renamed(items, pair)).count()
 }
 
 fn count_same(items: &BTreeMap<Path, Name>, pairs: &[(Path, Name)]) -> usize
-    ensures { result ≡ count_of_same (texts items.now) (map item_of pairs.now) }
+    ensures { result ≡ count_of_same (texts items.now) (map item_texts pairs.now) }
 {
     pairs.iter().filter(|pair| is_same(items, pair)).count()
 }
@@ -84,7 +84,7 @@ fn count_same(items: &BTreeMap<Path, Name>, pairs: &[(Path, Name)]) -> usize
 // What these pairs come to, which are written over the items.
 fn good(mut items: BTreeMap<Path, Name>, pairs: &[(Path, Name)]) -> Result<Verdict, AllocError>
     ensures { IfOk result (λ v. Some v ≡ verdict_over (texts items)
-        (Good (map item_of pairs.now))) }
+        (Good (map item_texts pairs.now))) }
 {
     let added = number(count_new(&items, pairs))?;
     let renamed = number(count_renamed(&items, pairs))?;
@@ -103,7 +103,7 @@ pub fn verdict(
     items: BTreeMap<Path, Name>,
     file: &FileReading,
 ) -> Result<Option<Verdict>, AllocError>
-    ensures { IfOk result (λ v. v ≡ verdict_over (texts items) (reading_of file.now)) }
+    ensures { IfOk result (λ v. v ≡ verdict_over (texts items) (plain_reading file.now)) }
 {
     match file {
         FileReading::TooLong => Ok(None),

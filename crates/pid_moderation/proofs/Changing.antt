@@ -3,19 +3,19 @@ use Rattle.std.proofs.Common.{◌≡◌, ℕ, suc, ◌+◌, ◌-◌, ◌≤◌, 
 use Rattle.std.specs.Str.{bytes_eq}
 use Rattle.std.specs.Option.{option_map}
 use Rattle.std.proofs.lemmas.Slice.Eq.{bytes_eq-Decides}
-use Rattle.pid_ident.specs.PathTexts.{path_text}
+use Rattle.pid_file.specs.PathTexts.{path_text}
 use Rattle.pid_moderation.specs.declared.change.Receipt.{Receipt}
 use Rattle.pid_moderation.specs.declared.command.Proposal.{Proposal}
 use Rattle.pid_moderation.specs.declared.command.Proposal.TheVariants.{Name, Removal}
 use Rattle.pid_moderation.specs.declared.command.Reply.{Reply}
 use Rattle.pid_moderation.specs.declared.facts.Facts.{Facts}
 use Rattle.pid_moderation.specs.declared.facts.Named.{Named}
-use Rattle.pid_moderation.specs.History.{TooLong, Faulty, Good, Deed, Ranks, Submits, Comments, Withdraws, Approves, Rejects, Imports, Asked, Accepted, More, History, mark_of, count_of}
+use Rattle.pid_moderation.specs.History.{TooLong, Faulty, Good, Deed, Ranks, Submits, Comments, Withdraws, Approves, Rejects, Imports, Asked, Accepted, More, History, mark_of, accepted_count}
 use Rattle.pid_moderation.specs.Items.{Items, name_at, written}
 use Rattle.pid_moderation.specs.Views.{Views, Submitted, views_of, without_numbers, submission_at, submits_of, items_of, itemized, carried_out, revision_of, since_of, is_named_anew}
 use Rattle.pid_moderation.specs.Changes.{affected, changed, keeping, renumbered, with_pairs, write, edited}
-use Rattle.pid_moderation.specs.FactsOfViews.{Wanted, ItemOf, wanted, facts_of, looked_at, named, with_item, with_file, known}
-use Rattle.pid_moderation.specs.Effects.{change_of, no_change, effect_of, receipt_of, pairs_in, edit_of, write_of}
+use Rattle.pid_moderation.specs.FactsOfViews.{Wanted, ItemOf, wanted, facts_of, looked_at, named, with_item_facts, with_file, known}
+use Rattle.pid_moderation.specs.Effects.{change_of, no_change, effect_of, receipt_of, file_pairs, edit_of, write_of}
 use Rattle.pid_moderation.specs.Revisions.{IsMarked}
 
 abbrev pub asks : List ℕ → Option (List ℕ) → Deed → Asked
@@ -34,14 +34,14 @@ proposed_item path (Name name) (Some old) items = refl
 proposed_item path Removal present items = refl
 
 -- an approval writes what was submitted
-approved_item : (o : Option Submitted) (v : Views) (n : ℕ) (c : Asked) (items : Items) → carried_out o items ≡ write (option_map (write_of (with_item v (option_map (seen v n) o) (known v c.account c.key))) (with_item v (option_map (seen v n) o) (known v c.account c.key)).named) items
+approved_item : (o : Option Submitted) (v : Views) (n : ℕ) (c : Asked) (items : Items) → carried_out o items ≡ write (option_map (write_of (with_item_facts v (option_map (seen v n) o) (known v c.account c.key))) (with_item_facts v (option_map (seen v n) o) (known v c.account c.key)).named) items
 approved_item None v n c items = refl
 approved_item (Some s) v n c items = proposed_item (path_text s.path) s.proposal (name_at (path_text s.path) v.items) items
 
 -- the parts that are no numbers
 others : (h : History) (account : List ℕ) (key : Option (List ℕ)) (deed : Deed) (reply : Reply)
     → without_numbers (views_of (More (entry (asks account key deed) reply) h))
-    ≡ without_numbers (changed (change_of (facts_of (views_of h) (asks account key deed)) (asks account key deed) reply) (with_pairs (pairs_in deed) (views_of h)))
+    ≡ without_numbers (changed (change_of (facts_of (views_of h) (asks account key deed)) (asks account key deed) reply) (with_pairs (file_pairs deed) (views_of h)))
 others h account None (Approves n) reply = ap (λ is. record (without_numbers (views_of (More (entry (asks account None (Approves n)) reply) h))) { items = is }) (approved_item (submission_at n (submits_of h)) (views_of h) n (asks account None (Approves n)) (items_of h))
 others h account (Some key) (Approves n) reply = ap (λ is. record (without_numbers (views_of (More (entry (asks account (Some key) (Approves n)) reply) h))) { items = is }) (approved_item (submission_at n (submits_of h)) (views_of h) n (asks account (Some key) (Approves n)) (items_of h))
 others h account None (Imports TooLong) reply = refl
@@ -65,7 +65,7 @@ not_anew (Some name) = ap not (same_text name)
 same_number : (n : ℕ) (items : Items) (since : List ℕ → ℕ) (q : List ℕ) → renumbered n items items since q ≡ since q
 same_number n items since q = ap (λ b. cond b n (since q)) (not_anew (name_at q items))
 
-with_item-revision : (v : Views) (o : Option Named) (f : Facts) → (with_item v o f).revision ≡ f.revision
+with_item-revision : (v : Views) (o : Option Named) (f : Facts) → (with_item_facts v o f).revision ≡ f.revision
 with_item-revision v None f = refl
 with_item-revision v (Some s) f = refl
 
@@ -92,7 +92,7 @@ facts_for h account key deed = facts_of (views_of h) (asks account key deed)
 
 since_leads : (h : History) (account : List ℕ) (key : Option (List ℕ)) (deed : Deed) (q : List ℕ)
     → renumbered (revision_of h + 1) (items_of h) (itemized deed (submits_of h) (items_of h)) (λ p. since_of p h) q
-    ≡ (affected (revision_of h + 1) (effect_of account (facts_for h account key deed) deed) (with_pairs (pairs_in deed) (views_of h))).since q
+    ≡ (affected (revision_of h + 1) (effect_of account (facts_for h account key deed) deed) (with_pairs (file_pairs deed) (views_of h))).since q
 since_leads h account key (Ranks who rank) q = refl
 since_leads h account key (Submits path proposal note) q = refl
 since_leads h account key (Comments n text) q = refl
@@ -121,11 +121,11 @@ alike v w others revision since = λ i. record {
 }
 
 pub changing : (h : History) (account : List ℕ) (key : Option (List ℕ)) (deed : Deed) (reply : Reply) → IsMarked h
-    → views_of (More (entry (asks account key deed) reply) h) ≡ changed (change_of (facts_of (views_of h) (asks account key deed)) (asks account key deed) reply) (with_pairs (pairs_in deed) (views_of h))
+    → views_of (More (entry (asks account key deed) reply) h) ≡ changed (change_of (facts_of (views_of h) (asks account key deed)) (asks account key deed) reply) (with_pairs (file_pairs deed) (views_of h))
 changing h account key deed reply marked =
     let f = facts_for h account key deed in
-    let pairs = with_pairs (pairs_in deed) (views_of h) in
-    let counted : revision_of (More (entry (asks account key deed) reply) h) ≡ revision_of h + 1 = next_number (mark_of h) (count_of h) marked in
+    let pairs = with_pairs (file_pairs deed) (views_of h) in
+    let counted : revision_of (More (entry (asks account key deed) reply) h) ≡ revision_of h + 1 = next_number (mark_of h) (accepted_count h) marked in
     let number : revision_of h + 1 ≡ f.revision + 1 = ap (λ n. n + 1) (sym (facts_revision (views_of h) (asks account key deed))) in
     alike (views_of (More (entry (asks account key deed) reply) h)) (changed (change_of f (asks account key deed) reply) pairs) (others h account key deed reply) (counted ∙ number)
     (λ q. ap (λ n. renumbered n (items_of h) (itemized deed (submits_of h) (items_of h)) (λ p. since_of p h) q) counted

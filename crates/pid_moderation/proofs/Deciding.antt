@@ -10,7 +10,7 @@ use Rattle.pid_moderation.specs.History.{Asked, History}
 use Rattle.pid_moderation.specs.Views.{Views, views_of}
 use Rattle.pid_moderation.specs.Changes.{changed, with_pairs}
 use Rattle.pid_moderation.specs.FactsOfViews.{facts_of}
-use Rattle.pid_moderation.specs.CheckTables.{checks, first_failing, is_ill_formed, reply_to}
+use Rattle.pid_moderation.specs.CheckTables.{checks, first_failing, is_ill_formed, reply_by_facts}
 use Rattle.pid_moderation.specs.Judgement.{judged, judge, answer, added, unless, Outcome, Refused, Repeated, Accepts}
 use Rattle.pid_moderation.specs.Effects.{change_by, new_pairs, Decides, LeadsOn}
 use Rattle.pid_moderation.specs.Revisions.{IsMarked}
@@ -23,10 +23,10 @@ pub kept : (f : Facts) (c : Asked) (reply : Reply) → is_ill_formed f c.deed �
 kept f c reply h k = rw (h, k) refl
 
 pub refused : (f : Facts) (c : Asked) (e : Refusal) → is_ill_formed f c.deed ≡ false → f.kept ≡ None → first_failing (checks f c) ≡ Some e → judged f c ≡ Refused e
-refused f c e h k r = rw (h, k) (ap (λ o. unless o (reply_to f c.deed)) r)
+refused f c e h k r = rw (h, k) (ap (λ o. unless o (reply_by_facts f c.deed)) r)
 
-pub accepted : (f : Facts) (c : Asked) → is_ill_formed f c.deed ≡ false → f.kept ≡ None → first_failing (checks f c) ≡ None → judged f c ≡ Accepts (reply_to f c.deed)
-accepted f c h k r = rw (h, k) (ap (λ o. unless o (reply_to f c.deed)) r)
+pub accepted : (f : Facts) (c : Asked) → is_ill_formed f c.deed ≡ false → f.kept ≡ None → first_failing (checks f c) ≡ None → judged f c ≡ Accepts (reply_by_facts f c.deed)
+accepted f c h k r = rw (h, k) (ap (λ o. unless o (reply_by_facts f c.deed)) r)
 
 leads : (h : History) (c : Asked) (o : Outcome) → IsMarked h → views_of (added h c o) ≡ changed (change_by (facts_of (views_of h) c) c o) (with_pairs (new_pairs o c.deed) (views_of h))
 leads h c (Refused e) marked = unchanged h c

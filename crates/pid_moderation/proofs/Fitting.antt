@@ -5,8 +5,8 @@ use Rattle.std.specs.Option.{option_map}
 use Rattle.std.specs.Ordering.{eq_by_cmp}
 use Rattle.std.specs.Cmp.Lexicographic.{nat_list_cmp_total}
 use Rattle.std.specs.FinMap.Entries.{put, where_key, is_sorted, length-put, length_without}
-use Rattle.pid_ident.specs.PathTexts.{path_text}
-use Rattle.pid_ident.specs.Trees.{text_cmp}
+use Rattle.pid_file.specs.PathTexts.{path_text}
+use Rattle.pid_file.specs.Trees.{text_cmp}
 use Rattle.pid_moderation.specs.declared.command.Proposal.{Proposal}
 use Rattle.pid_moderation.specs.declared.command.Proposal.TheVariants.{Name, Removal}
 use Rattle.pid_moderation.specs.declared.command.Reply.{Reply}
@@ -17,11 +17,11 @@ use Rattle.pid_moderation.specs.declared.refusal.Refusal.{Refusal}
 use Rattle.pid_moderation.specs.History.{TooLong, Faulty, Good, Deed, Ranks, Submits, Comments, Withdraws, Approves, Rejects, Imports, Asked, History}
 use Rattle.pid_moderation.specs.Items.{Items, name_at, has_name}
 use Rattle.pid_moderation.specs.Views.{Views, Submitted, views_of, rank_of, submits_of, submission_at}
-use Rattle.pid_moderation.specs.FactsOfViews.{facts_of, with_item, known, kept_in}
+use Rattle.pid_moderation.specs.FactsOfViews.{facts_of, with_item_facts, known, kept_in}
 use Rattle.pid_moderation.specs.CheckTables.{command_checks, if_named, comment_checks, decision_checks, withdraw_checks, is_so}
-use Rattle.pid_moderation.specs.Changes.{with_pairs, FitsWrite, FitsEffect, FitsReceipt, Fits, IsThere}
+use Rattle.pid_moderation.specs.Changes.{with_pairs, FitsWrite, FitsEffect, FitsReceipt, FitsViews, IsThere}
 use Rattle.pid_moderation.specs.Judgement.{Outcome, Refused, Repeated, Accepts, judge, judged}
-use Rattle.pid_moderation.specs.Effects.{edit_of, items_after, write_of, effect_of, receipt_of, change_by, pairs_in, new_pairs, next_place, Decides}
+use Rattle.pid_moderation.specs.Effects.{edit_of, items_after, write_of, effect_of, receipt_of, change_by, file_pairs, new_pairs, next_place, Decides}
 use Rattle.pid_moderation.proofs.Changing.{asks, seen}
 use Rattle.pid_moderation.proofs.WriteLemmas.{items_sorted}
 use Rattle.pid_moderation.proofs.Knowing.{to_deed, approving}
@@ -51,7 +51,7 @@ written_fits p Removal items o e sorted h =
     let there : is_some (name_at (path_text p.path) items) ≡ true = ap is_some e ∙ named_there o h in
     (removed_count (path_text p.path) items there sorted, there)
 
-approval_fits : (o : Option Submitted) (v : Views) (n : ℕ) (account : List ℕ) (key : Option (List ℕ)) → T (is_sorted text_cmp v.items) → AllPass (approving (with_item v (option_map (seen v n) o) (known v account key)) account) → IsThere o × FitsWrite (option_map (write_of (with_item v (option_map (seen v n) o) (known v account key))) (with_item v (option_map (seen v n) o) (known v account key)).named) v.items
+approval_fits : (o : Option Submitted) (v : Views) (n : ℕ) (account : List ℕ) (key : Option (List ℕ)) → T (is_sorted text_cmp v.items) → AllPass (approving (with_item_facts v (option_map (seen v n) o) (known v account key)) account) → IsThere o × FitsWrite (option_map (write_of (with_item_facts v (option_map (seen v n) o) (known v account key))) (with_item_facts v (option_map (seen v n) o) (known v account key)).named) v.items
 approval_fits None v n account key sorted passed = let bad = passed.1.0 in absurd cc
 approval_fits (Some s) v n account key sorted passed = (refl, written_fits s s.proposal v.items (name_at (path_text s.path) v.items) refl sorted passed.1.1.1.1.0)
 
@@ -67,7 +67,7 @@ rejection_fits : (o : Option Submitted) (v : Views) (n : ℕ) (account : List �
 rejection_fits None v n account rank passed = let bad = passed.0 in absurd cc
 rejection_fits (Some s) v n account rank passed = refl
 
-effect_fits : (h : History) (account : List ℕ) (key : Option (List ℕ)) (deed : Deed) → AllPass (command_checks (to_deed h account key deed) (asks account key deed)) → FitsEffect (effect_of account (to_deed h account key deed) deed) (with_pairs (pairs_in deed) (views_of h))
+effect_fits : (h : History) (account : List ℕ) (key : Option (List ℕ)) (deed : Deed) → AllPass (command_checks (to_deed h account key deed) (asks account key deed)) → FitsEffect (effect_of account (to_deed h account key deed) deed) (with_pairs (file_pairs deed) (views_of h))
 effect_fits h account key (Ranks who rank) passed = refl
 effect_fits h account key (Submits path proposal note) passed = refl
 effect_fits h account key (Comments n text) passed = comment_fits (submission_at n (submits_of h)) (views_of h) n passed.1
@@ -82,15 +82,15 @@ receipt_fits : (v : Views) (items : Items) (account : List ℕ) (key : Option (L
 receipt_fits v items account None reply new = tt
 receipt_fits v items account (Some key) reply new = new
 
-outcome_fits : (h : History) (c : Asked) (o : Outcome) → judge (views_of h) c ≡ o → Fits (change_by (facts_of (views_of h) c) c o) (with_pairs (new_pairs o c.deed) (views_of h))
+outcome_fits : (h : History) (c : Asked) (o : Outcome) → judge (views_of h) c ≡ o → FitsViews (change_by (facts_of (views_of h) c) c o) (with_pairs (new_pairs o c.deed) (views_of h))
 outcome_fits h c (Refused e) is = (tt, tt)
 outcome_fits h c (Repeated reply) is = (tt, tt)
 outcome_fits h c (Accepts reply) is =
     let passed : Passes (facts_of (views_of h) c) c reply = accepted_passes (facts_of (views_of h) c) c reply is in
-    (effect_fits h c.account c.key c.deed passed.all, receipt_fits (views_of h) (pairs_in c.deed) c.account c.key reply (sym (facts-kept (views_of h) c) ∙ passed.not_kept))
+    (effect_fits h c.account c.key c.deed passed.all, receipt_fits (views_of h) (file_pairs c.deed) c.account c.key reply (sym (facts-kept (views_of h) c) ∙ passed.not_kept))
 
-pub fitting : (f : Facts) (c : Asked) (result : Result (Change × Reply) Refusal) → Decides f c result → (h : History) → f ≡ facts_of (views_of h) c → IfOk result (λ d. Fits d.0 (with_pairs (new_pairs (judge (views_of h) c) c.deed) (views_of h)))
+pub fitting : (f : Facts) (c : Asked) (result : Result (Change × Reply) Refusal) → Decides f c result → (h : History) → f ≡ facts_of (views_of h) c → IfOk result (λ d. FitsViews d.0 (with_pairs (new_pairs (judge (views_of h) c) c.deed) (views_of h)))
 fitting f c (Ok d) h hist e =
     let same : d.0 ≡ change_by (facts_of (views_of hist) c) c (judge (views_of hist) c) = h.1 ∙ ap (λ (g : Facts). change_by g c (judged g c)) e in
-    subst (λ (change : Change). Fits change (with_pairs (new_pairs (judge (views_of hist) c) c.deed) (views_of hist))) (sym same) (outcome_fits hist c (judge (views_of hist) c) refl)
+    subst (λ (change : Change). FitsViews change (with_pairs (new_pairs (judge (views_of hist) c) c.deed) (views_of hist))) (sym same) (outcome_fits hist c (judge (views_of hist) c) refl)
 fitting f c (Err r) h hist e = tt

@@ -2,14 +2,14 @@
 use Rattle.std.proofs.Common.{◌≡◌, ℕ, Bool, true, false, cond, List, [], ◌∷◌, ◌++◌, Option, Some, None, refl, ◌∙◌, sym, ap, subst, ◌≢◌}
 use Rattle.std.specs.Prelude.{find, not, Result, Err}
 use Rattle.std.specs.Option.{option_map}
-use Rattle.pid_ident.specs.Words.{is_account, is_key}
+use Rattle.pid_file.specs.Words.{is_account, is_key}
 use Rattle.pid_moderation.specs.declared.refusal.Refusal.{Refusal}
 use Rattle.pid_moderation.specs.declared.refusal.Refusal.TheVariants.{BadText, Memory}
 use Rattle.pid_moderation.specs.declared.verb.Verb.{Verb}
 use Rattle.pid_moderation.specs.Fields.{Fields}
 use Rattle.pid_moderation.specs.CheckTables.{Checks, first_failing}
-use Rattle.pid_moderation.specs.Steps.Following.{Follows}
-use Rattle.pid_moderation.specs.Forms.{has_fields, value_checks, form_checks, is_none_or, Says}
+use Rattle.pid_moderation.specs.Steps.Following.{FollowsChecks}
+use Rattle.pid_moderation.specs.Forms.{has_fields, value_checks, form_checks, is_none_or, SaysByChecks}
 
 abbrev refusal_in : Option (Bool × Refusal) → Option Refusal
 refusal_in o = option_map (λ c. c.1) o
@@ -46,8 +46,8 @@ pub key_fails : (verb : Verb) (account : List ℕ) (key : Option (List ℕ)) (fi
 key_fails verb account key fields h f good bad = with_fields verb account key fields h ∙ fails_later (value_checks verb fields) _ f ∙ ap (λ b. refusal_in (cond (not b) (Some (not b, BadText)) (find (λ (c : Bool × Refusal). c.0) ((not (is_none_or is_key key), BadText) ∷ [])))) good ∙ ap (λ b. refusal_in (cond (not b) (Some (not b, BadText)) None)) bad
 
 -- the answer of a call that refused, where what it refused by is told
-pub said_so : {X : Type 0} (cs : Checks) (said : Option X) (result : Result X Refusal) (e : Refusal) → result ≡ Err e → (e ≢ Memory → first_failing cs ≡ Some e) → Says cs said result
-said_so {X = X} cs said result e is h = subst (λ (r : Result X Refusal). Says cs said r) (sym is) h
+pub said_so : {X : Type 0} (cs : Checks) (said : Option X) (result : Result X Refusal) (e : Refusal) → result ≡ Err e → (e ≢ Memory → first_failing cs ≡ Some e) → SaysByChecks cs said result
+said_so {X = X} cs said result e is h = subst (λ (r : Result X Refusal). SaysByChecks cs said r) (sym is) h
 
-pub follows_so : {X : Type 0} (cs : Checks) (x : X) (result : Result X Refusal) (e : Refusal) → result ≡ Err e → (e ≢ Memory → first_failing cs ≡ Some e) → Follows cs x result
-follows_so {X = X} cs x result e is h = subst (λ (r : Result X Refusal). Follows cs x r) (sym is) h
+pub follows_so : {X : Type 0} (cs : Checks) (x : X) (result : Result X Refusal) (e : Refusal) → result ≡ Err e → (e ≢ Memory → first_failing cs ≡ Some e) → FollowsChecks cs x result
+follows_so {X = X} cs x result e is h = subst (λ (r : Result X Refusal). FollowsChecks cs x r) (sym is) h

@@ -4,7 +4,7 @@ use Rattle.std.specs.Prelude.{is_none, is_some, codes}
 use Rattle.std.specs.Str.{bytes_eq}
 use Rattle.std.specs.Option.{option_map}
 use Rattle.std.proofs.lemmas.Slice.Eq.{bytes_eq-Decides}
-use Rattle.pid_ident.specs.Words.{is_account}
+use Rattle.pid_file.specs.Words.{is_account}
 use Rattle.pid_moderation.specs.declared.command.Reply.{Reply}
 use Rattle.pid_moderation.specs.declared.facts.Facts.{Facts}
 use Rattle.pid_moderation.specs.declared.rank.Rank.{Rank}
@@ -12,10 +12,10 @@ use Rattle.pid_moderation.specs.declared.rank.Rank.TheVariants.{Administrator}
 use Rattle.pid_moderation.specs.declared.refusal.Refusal.TheVariants.{NoAccount}
 use Rattle.pid_moderation.specs.History.{Deed, Ranks, Submits, Comments, Withdraws, Approves, Rejects, Imports, Asked, Begins, More, History}
 use Rattle.pid_moderation.specs.Views.{Submitted, views_of, rank_of, ranked, submits_of, submission_at}
-use Rattle.pid_moderation.specs.FactsOfViews.{facts_of, with_item, known}
+use Rattle.pid_moderation.specs.FactsOfViews.{facts_of, with_item_facts, known}
 use Rattle.pid_moderation.specs.CheckTables.{Checks, command_checks, if_named, approval_checks}
 use Rattle.pid_moderation.specs.Ranks.{has_rank}
-use Rattle.pid_moderation.specs.Sound.{IsKnown}
+use Rattle.pid_moderation.specs.Sound.{IsRegistered}
 use Rattle.pid_moderation.specs.WellMade.{IsWellMade}
 use Rattle.pid_moderation.proofs.Changing.{asks, entry, seen}
 use Rattle.pid_moderation.proofs.Passing.{AllPass}
@@ -38,12 +38,12 @@ there : (o : Option Rank) → is_none o ≡ false → is_some o ≡ true
 there None h = absurd cc
 there (Some r) h = refl
 
-approver_known : (o : Option Submitted) (h : History) (n : ℕ) (account : List ℕ) (key : Option (List ℕ)) → AllPass (approving (with_item (views_of h) (option_map (seen (views_of h) n) o) (known (views_of h) account key)) account) → IsKnown account h
+approver_known : (o : Option Submitted) (h : History) (n : ℕ) (account : List ℕ) (key : Option (List ℕ)) → AllPass (approving (with_item_facts (views_of h) (option_map (seen (views_of h) n) o) (known (views_of h) account key)) account) → IsRegistered account h
 approver_known None h n account key passed = there _ passed.0
 approver_known (Some s) h n account key passed = there _ passed.0
 
 -- whoever was obeyed is an account
-pub caller_known : (h : History) (account : List ℕ) (key : Option (List ℕ)) (deed : Deed) → AllPass (command_checks (to_deed h account key deed) (asks account key deed)) → IsKnown account h
+pub caller_known : (h : History) (account : List ℕ) (key : Option (List ℕ)) (deed : Deed) → AllPass (command_checks (to_deed h account key deed) (asks account key deed)) → IsRegistered account h
 caller_known h account key (Ranks who rank) passed = there _ passed.0
 caller_known h account key (Submits path proposal note) passed = there _ passed.0
 caller_known h account key (Comments n text) passed = there _ passed.0
@@ -60,13 +60,13 @@ rank_stays : (a : List ℕ) (deed : Deed) (o : Option Rank) → is_some o ≡ tr
 rank_stays a (Ranks who rank) o h = still_there (bytes_eq a who) rank o h
 rank_stays a deed o h = h
 
-pub known_stays : (h : History) (account : List ℕ) (key : Option (List ℕ)) (deed : Deed) (reply : Reply) (a : List ℕ) → IsKnown a h → IsKnown a (More (entry (asks account key deed) reply) h)
+pub known_stays : (h : History) (account : List ℕ) (key : Option (List ℕ)) (deed : Deed) (reply : Reply) (a : List ℕ) → IsRegistered a h → IsRegistered a (More (entry (asks account key deed) reply) h)
 known_stays h account key deed reply a old = rank_stays a deed (rank_of a h) old
 
 -- each account has the name of one
 
 abbrev pub AreAccounts : History → Type 0
-AreAccounts h = (a : List ℕ) → IsKnown a h → is_account a ≡ true
+AreAccounts h = (a : List ℕ) → IsRegistered a h → is_account a ≡ true
 
 account_there : (a who : List ℕ) (rank : Rank) (o : Option Rank) → is_account who ≡ true → (is_some o ≡ true → is_account a ≡ true) → is_some (cond (bytes_eq a who) (Some rank) o) ≡ true → is_account a ≡ true
 account_there a who rank o made old h = chosen (bytes_eq a who) refl h
@@ -88,7 +88,7 @@ first_account mark = λ a known. account_there a (codes "root") Administrator No
 -- root
 
 abbrev pub RootThere : History → Type 0
-RootThere h = IsKnown (codes "root") h
+RootThere h = IsRegistered (codes "root") h
 
 pub root_stays : Stays RootThere
 root_stays h account key deed reply made passed old = known_stays h account key deed reply (codes "root") old

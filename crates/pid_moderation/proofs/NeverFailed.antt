@@ -13,7 +13,7 @@ use Rattle.pid_moderation.specs.declared.facts.Verdict.TheVariants as verdicts
 use Rattle.pid_moderation.specs.declared.refusal.Refusal.{Refusal}
 use Rattle.pid_moderation.specs.declared.refusal.Refusal.TheVariants.{BadText, Failed, Memory, NoAccount}
 use Rattle.pid_moderation.specs.Refusals.{refusal_number}
-use Rattle.pid_moderation.specs.CheckTables.{Checks, command_checks, revision_checks, checks, comment_checks, decision_checks, approval_checks, withdraw_checks, file_checks, first_failing, if_named, import_checks, is_ill_formed, reply_to}
+use Rattle.pid_moderation.specs.CheckTables.{Checks, command_checks, revision_checks, checks, comment_checks, decision_checks, approval_checks, withdraw_checks, file_checks, first_failing, if_named, import_checks, is_ill_formed, reply_by_facts}
 use Rattle.pid_moderation.specs.Effects.{Decides}
 use Rattle.pid_moderation.specs.History.{Deed, Ranks, Submits, Comments, Withdraws, Approves, Rejects, Imports, Asked}
 use Rattle.pid_moderation.specs.Judgement.{Outcome, Refused, unless, unless_kept, answer, judged}
@@ -76,8 +76,8 @@ shown_judges false (Some k) failing reply h = refl
 
 pub judged_answer : (f : Facts) (c : Asked) → is_judged (answer (judged f c)) ≡ true
 judged_answer f c =
-    shown_judges (is_ill_formed f c.deed) f.kept (first_failing (checks f c)) (reply_to f c.deed)
-    (first_judges (checks f c) (reply_to f c.deed) (checks_judge f c))
+    shown_judges (is_ill_formed f c.deed) f.kept (first_failing (checks f c)) (reply_by_facts f c.deed)
+    (first_judges (checks f c) (reply_by_facts f c.deed) (checks_judge f c))
 
 not_failed : (r : Refusal) → nat_le (refusal_number r) 15 ≡ true → r ≡ Failed → ⊥
 not_failed r judges is = let off : false ≡ true = subst (λ (x : Refusal). nat_le (refusal_number x) 15 ≡ true) is judges in let no : ⊥ = cc in no

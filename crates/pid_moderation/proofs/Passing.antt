@@ -7,7 +7,7 @@ use Rattle.pid_moderation.specs.declared.refusal.Refusal.{Refusal}
 use Rattle.pid_moderation.specs.declared.refusal.Refusal.TheVariants.{BadText}
 use Rattle.pid_moderation.specs.declared.facts.Facts.{Facts}
 use Rattle.pid_moderation.specs.History.{Asked}
-use Rattle.pid_moderation.specs.CheckTables.{Checks, command_checks, revision_checks, checks, most_revision, first_failing, is_ill_formed, reply_to}
+use Rattle.pid_moderation.specs.CheckTables.{Checks, command_checks, revision_checks, checks, most_revision, first_failing, is_ill_formed, reply_by_facts}
 use Rattle.pid_moderation.specs.Judgement.{judged, unless, unless_kept, Refused, Accepts}
 
 -- no check fails
@@ -32,7 +32,7 @@ pub record Passes (f : Facts) (c : Asked) (reply : Reply) : Type 0 where
   pub not_kept : f.kept ≡ None
   pub all : AllPass (command_checks f c)
   pub counted : nat_le most_revision f.revision ≡ false
-  pub reply_is : reply ≡ reply_to f c.deed
+  pub reply_is : reply ≡ reply_by_facts f c.deed
 
 not_refused : (o : Option Refusal) (reply given : Reply) → unless o reply ≡ Accepts given → o ≡ None
 not_refused None reply given h = refl
@@ -46,12 +46,12 @@ same_reply (Some e) reply given h = absurd cc
 pub accepted_passes : (f : Facts) (c : Asked) (reply : Reply) → judged f c ≡ Accepts reply → Passes f c reply
 accepted_passes f c reply h = formed (is_ill_formed f c.deed) refl h
   where
-    after : (o : Option Reply) → f.kept ≡ o → is_ill_formed f c.deed ≡ false → unless_kept o (unless (first_failing (checks f c)) (reply_to f c.deed)) ≡ Accepts reply → Passes f c reply
+    after : (o : Option Reply) → f.kept ≡ o → is_ill_formed f c.deed ≡ false → unless_kept o (unless (first_failing (checks f c)) (reply_by_facts f c.deed)) ≡ Accepts reply → Passes f c reply
     after (Some r) k w h = absurd cc
     after None k w h =
         let both = joined (command_checks f c) (revision_checks f) (all_pass (checks f c) (not_refused _ _ _ h)) in
         record { well_formed = w; not_kept = k; all = both.0; counted = both.1.0; reply_is = same_reply _ _ _ h }
 
-    formed : (b : Bool) → is_ill_formed f c.deed ≡ b → cond b (Refused BadText) (unless_kept f.kept (unless (first_failing (checks f c)) (reply_to f c.deed))) ≡ Accepts reply → Passes f c reply
+    formed : (b : Bool) → is_ill_formed f c.deed ≡ b → cond b (Refused BadText) (unless_kept f.kept (unless (first_failing (checks f c)) (reply_by_facts f c.deed))) ≡ Accepts reply → Passes f c reply
     formed true w h = absurd cc
     formed false w h = after f.kept refl w h

@@ -4,7 +4,7 @@ use Rattle.std.specs.Prelude.{◌&&◌, slice_get, is_none, is_some}
 use Rattle.std.specs.Str.{bytes_eq}
 use Rattle.std.proofs.lemmas.List.Sums.{sum_by-cons}
 use Rattle.std.proofs.lemmas.Slice.Eq.{bytes_eq-Decides}
-use Rattle.pid_ident.specs.Words.{is_key}
+use Rattle.pid_file.specs.Words.{is_key}
 use Rattle.pid_moderation.specs.declared.command.Reply.{Reply}
 use Rattle.pid_moderation.specs.declared.command.Reply.TheVariants.{Done, Numbered, Counts}
 use Rattle.pid_moderation.specs.History.{TooLong, Faulty, Good, Deed, Ranks, Submits, Comments, Withdraws, Approves, Rejects, Imports, Asked, Accepted, More, History, accepted_in}
@@ -12,9 +12,9 @@ use Rattle.pid_moderation.specs.Items.{Items, name_at, has_name, count_new, coun
 use Rattle.pid_moderation.specs.Views.{Views, Submitted, views_of, submits_of, submitted, submission_at, items_of, kept_of, receipted}
 use Rattle.pid_moderation.specs.declared.facts.Facts.{Facts}
 use Rattle.pid_moderation.specs.declared.facts.Named.{Named}
-use Rattle.pid_moderation.specs.FactsOfViews.{Wanted, ItemOf, wanted, facts_of, looked_at, with_file, with_item, known, named, kept_in}
-use Rattle.pid_moderation.specs.CheckTables.{reply_to, most_items}
-use Rattle.pid_moderation.specs.Sound.{IsKnown, HasReceipt, HaveReceipts, IsBy, IsOwnReply, IsReceipt}
+use Rattle.pid_moderation.specs.FactsOfViews.{Wanted, ItemOf, wanted, facts_of, looked_at, with_file, with_item_facts, known, named, kept_in}
+use Rattle.pid_moderation.specs.CheckTables.{reply_by_facts, most_items}
+use Rattle.pid_moderation.specs.Sound.{IsRegistered, HasReceipt, HaveReceipts, IsSubmissionBy, IsOwnReply, IsReceipt}
 use Rattle.pid_moderation.specs.WellMade.{IsWellMade, IsGoodKey}
 use Rattle.pid_moderation.proofs.Changing.{asks, entry}
 use Rattle.pid_moderation.proofs.Knowing.{to_deed, caller_known, known_stays, same_text}
@@ -46,7 +46,7 @@ own_receipt h account (Some key) deed reply = rw (same_text account, same_text k
 abbrev pub AllReceipted : History → Type 0
 AllReceipted h = HaveReceipts (accepted_in h) h
 
-with_item-kept : (v : Views) (o : Option Named) (f : Facts) → (with_item v o f).kept ≡ f.kept
+with_item-kept : (v : Views) (o : Option Named) (f : Facts) → (with_item_facts v o f).kept ≡ f.kept
 with_item-kept v None f = refl
 with_item-kept v (Some s) f = refl
 
@@ -71,13 +71,13 @@ all_receipts_stay h account key deed reply made passed old =
 abbrev pub AreReceipts : History → Type 0
 AreReceipts h = (account key : List ℕ) (reply : Reply) → kept_of account key h ≡ Some reply → IsReceipt h account key reply
 
-push_at : (n : ℕ) (xs : List Submitted) (s : Submitted) (account : List ℕ) → IsBy account (slice_get xs n) → IsBy account (slice_get (xs ++ s ∷ []) n)
+push_at : (n : ℕ) (xs : List Submitted) (s : Submitted) (account : List ℕ) → IsSubmissionBy account (slice_get xs n) → IsSubmissionBy account (slice_get (xs ++ s ∷ []) n)
 push_at zero [] s account old = absurd old
 push_at (suc n) [] s account old = absurd old
 push_at zero (x ∷ xs) s account old = old
 push_at (suc n) (x ∷ xs) s account old = push_at n xs s account old
 
-still_by : (n : ℕ) (account caller : List ℕ) (deed : Deed) (ss : List Submitted) → IsBy account (submission_at n ss) → IsBy account (submission_at n (submitted caller deed ss))
+still_by : (n : ℕ) (account caller : List ℕ) (deed : Deed) (ss : List Submitted) → IsSubmissionBy account (submission_at n ss) → IsSubmissionBy account (submission_at n (submitted caller deed ss))
 still_by zero account caller deed ss old = absurd old
 still_by (suc n) account caller (Submits path proposal note) ss old = push_at n ss _ account old
 still_by (suc n) account caller deed ss old = old
@@ -107,16 +107,16 @@ all_counted items (e ∷ pairs) =
     sums : (p q r a b c x y z n : ℕ) → p ≡ a + x → q ≡ b + y → r ≡ c + z → a + b + c ≡ 1 → x + y + z ≡ n → p + q + r ≡ suc n
     sums p q r a b c x y z n hp hq hr h k = omega arith
 
-last_by : (ss : List Submitted) (s : Submitted) → IsBy s.author (slice_get (ss ++ s ∷ []) (length ss))
+last_by : (ss : List Submitted) (s : Submitted) → IsSubmissionBy s.author (slice_get (ss ++ s ∷ []) (length ss))
 last_by [] s = refl
 last_by (x ∷ ss) s = last_by ss s
 
-last_number : (ss : List Submitted) (s : Submitted) → IsBy s.author (submission_at (length ss + 1) (ss ++ s ∷ []))
+last_number : (ss : List Submitted) (s : Submitted) → IsSubmissionBy s.author (submission_at (length ss + 1) (ss ++ s ∷ []))
 last_number ss s =
     let next : suc (length ss) ≡ length ss + 1 = omega arith in
-    subst (λ (n : ℕ). IsBy s.author (submission_at n (ss ++ s ∷ []))) next (last_by ss s)
+    subst (λ (n : ℕ). IsSubmissionBy s.author (submission_at n (ss ++ s ∷ []))) next (last_by ss s)
 
-own_reply : (h : History) (account : List ℕ) (key : Option (List ℕ)) (deed : Deed) (reply : Reply) → IsWellMade (asks account key deed) → IsOwnReply (More (entry (asks account key deed) reply) h) account (reply_to (to_deed h account key deed) deed)
+own_reply : (h : History) (account : List ℕ) (key : Option (List ℕ)) (deed : Deed) (reply : Reply) → IsWellMade (asks account key deed) → IsOwnReply (More (entry (asks account key deed) reply) h) account (reply_by_facts (to_deed h account key deed) deed)
 own_reply h account key (Ranks who rank) reply made = tt
 own_reply h account key (Submits path proposal note) reply made = last_number (submits_of h) (record { author = account; path = path; proposal = proposal; note = note })
 own_reply h account key (Comments n text) reply made = tt
@@ -127,7 +127,7 @@ own_reply h account key (Imports TooLong) reply made = omega arith
 own_reply h account key (Imports (Faulty fault)) reply made = omega arith
 own_reply h account key (Imports (Good pairs)) reply made = subst (λ (n : ℕ). n ≤ most_items) (sym (all_counted (items_of h) pairs)) made.2.limit
 
-new_kept : (h : History) (account : List ℕ) (key : Option (List ℕ)) (deed : Deed) (reply : Reply) → IsKnown account h → IsGoodKey key → IsOwnReply (More (entry (asks account key deed) reply) h) account reply → AreReceipts h → AreReceipts (More (entry (asks account key deed) reply) h)
+new_kept : (h : History) (account : List ℕ) (key : Option (List ℕ)) (deed : Deed) (reply : Reply) → IsRegistered account h → IsGoodKey key → IsOwnReply (More (entry (asks account key deed) reply) h) account reply → AreReceipts h → AreReceipts (More (entry (asks account key deed) reply) h)
 new_kept h account None deed reply caller good own old = λ a k r e. let was = old a k r e in record { account = known_stays h account None deed reply a was.account; key = was.key; reply = still_own h a account None deed reply r was.reply }
 new_kept h account (Some key) deed reply caller good own old = λ a k r e. chosen a k r (bytes_eq a account) (bytes_eq k key) refl refl e
   where
@@ -137,7 +137,7 @@ new_kept h account (Some key) deed reply caller good own old = λ a k r e. chose
         let pk : key ≡ k = sym ((bytes_eq-Decides k key).0 ek) in
         let same : reply ≡ r = cc in
         record {
-          account = subst (λ (t : List ℕ). IsKnown t (More (entry (asks account (Some key) deed) reply) h)) pa (known_stays h account (Some key) deed reply account caller);
+          account = subst (λ (t : List ℕ). IsRegistered t (More (entry (asks account (Some key) deed) reply) h)) pa (known_stays h account (Some key) deed reply account caller);
           key = subst (λ (t : List ℕ). is_key t ≡ true) pk good;
           reply = subst (λ (t : List ℕ). IsOwnReply (More (entry (asks account (Some key) deed) reply) h) t r) pa (subst (λ (x : Reply). IsOwnReply (More (entry (asks account (Some key) deed) reply) h) account x) same own);
         }

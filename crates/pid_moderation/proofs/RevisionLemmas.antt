@@ -8,9 +8,9 @@ use Rattle.pid_moderation.specs.declared.command.Reply.{Reply}
 use Rattle.pid_moderation.specs.declared.facts.Facts.{Facts}
 use Rattle.pid_moderation.specs.declared.facts.Named.{Named}
 use Rattle.pid_moderation.specs.declared.refusal.Refusal.TheVariants.{BadText, Full}
-use Rattle.pid_moderation.specs.CheckTables.{most_revision, command_checks, first_failing, is_ill_formed, reply_to}
-use Rattle.pid_moderation.specs.FactsOfViews.{facts_of, known, named, with_item}
-use Rattle.pid_moderation.specs.History.{Deed, Ranks, Submits, Comments, Withdraws, Approves, Rejects, Imports, Asked, Accepted, Begins, More, History, mark_of, count_of, accepted_in}
+use Rattle.pid_moderation.specs.CheckTables.{most_revision, command_checks, first_failing, is_ill_formed, reply_by_facts}
+use Rattle.pid_moderation.specs.FactsOfViews.{facts_of, known, named, with_item_facts}
+use Rattle.pid_moderation.specs.History.{Deed, Ranks, Submits, Comments, Withdraws, Approves, Rejects, Imports, Asked, Accepted, Begins, More, History, mark_of, accepted_count, accepted_in}
 use Rattle.pid_moderation.specs.Items.{name_at, has_name}
 use Rattle.pid_moderation.specs.Judgement.{Outcome, Refused, Repeated, Accepts, unless, unless_kept, judge, answer, answers, added, after, after_all}
 use Rattle.pid_moderation.specs.Revisions.{IsMarked, taken_over, with_mark}
@@ -37,7 +37,7 @@ pub same_accepted : (mark : ℕ) (h : History) → accepted_in (with_mark mark h
 same_accepted mark (Begins m) = refl
 same_accepted mark (More e h) = ap (λ es. e ∷ es) (same_accepted mark h)
 
-same_count : (mark : ℕ) (h : History) → count_of (with_mark mark h) ≡ count_of h
+same_count : (mark : ℕ) (h : History) → accepted_count (with_mark mark h) ≡ accepted_count h
 same_count mark h = ap length (same_accepted mark h)
 
 -- the views but for the numbers go by the commands alone
@@ -81,7 +81,7 @@ same_views mark h = λ i. record {
 -- so does the judgement while the limit is not met
 
 abbrev judged_if : Bool → Facts → Asked → Outcome
-judged_if last f c = cond (is_ill_formed f c.deed) (Refused BadText) (unless_kept f.kept (unless (first_failing (command_checks f c ++ (last, Full) ∷ [])) (reply_to f c.deed)))
+judged_if last f c = cond (is_ill_formed f c.deed) (Refused BadText) (unless_kept f.kept (unless (first_failing (command_checks f c ++ (last, Full) ∷ [])) (reply_by_facts f c.deed)))
 
 abbrev uncounted : Facts → Facts
 uncounted f = record f { revision = 0 }
@@ -95,7 +95,7 @@ same_judged last f account key (Approves n) = refl
 same_judged last f account key (Rejects n reason) = refl
 same_judged last f account key (Imports reading) = refl
 
-same_item : (v : Views) (o : Option Named) (f : Facts) → uncounted (with_item v o f) ≡ with_item (without_numbers v) o (uncounted f)
+same_item : (v : Views) (o : Option Named) (f : Facts) → uncounted (with_item_facts v o f) ≡ with_item_facts (without_numbers v) o (uncounted f)
 same_item v None f = refl
 same_item v (Some s) f = refl
 
@@ -117,34 +117,34 @@ judged_small v c small =
 few : (m n : ℕ) → suc n ≤ most_revision → nat_le most_revision (n - m) ≡ false
 few m n h = grind (arith, nat_tests)
 
-few_marked : (mark : ℕ) (h : History) → suc (count_of h) ≤ most_revision → nat_le most_revision (revision_of (with_mark mark h)) ≡ false
-few_marked mark h small = ap (λ n. nat_le most_revision (n - mark_of (with_mark mark h))) (same_count mark h) ∙ few (mark_of (with_mark mark h)) (count_of h) small
+few_marked : (mark : ℕ) (h : History) → suc (accepted_count h) ≤ most_revision → nat_le most_revision (revision_of (with_mark mark h)) ≡ false
+few_marked mark h small = ap (λ n. nat_le most_revision (n - mark_of (with_mark mark h))) (same_count mark h) ∙ few (mark_of (with_mark mark h)) (accepted_count h) small
 
-same_judge : (mark : ℕ) (h : History) (c : Asked) → suc (count_of h) ≤ most_revision → judge (views_of (with_mark mark h)) c ≡ judge (views_of h) c
+same_judge : (mark : ℕ) (h : History) (c : Asked) → suc (accepted_count h) ≤ most_revision → judge (views_of (with_mark mark h)) c ≡ judge (views_of h) c
 same_judge mark h c small =
     judged_small (views_of (with_mark mark h)) c (few_marked mark h small)
     ∙ ap (λ v. judged_if false (facts_of v c) c) (same_views mark h)
-    ∙ sym (judged_small (views_of h) c (few (mark_of h) (count_of h) small))
+    ∙ sym (judged_small (views_of h) c (few (mark_of h) (accepted_count h) small))
 
 same_added : (mark : ℕ) (h : History) (c : Asked) (o : Outcome) → added (with_mark mark h) c o ≡ with_mark mark (added h c o)
 same_added mark h c (Refused e) = refl
 same_added mark h c (Repeated reply) = refl
 same_added mark h c (Accepts reply) = refl
 
-same_after : (mark : ℕ) (h : History) (c : Asked) → suc (count_of h) ≤ most_revision → after (with_mark mark h) c ≡ with_mark mark (after h c)
+same_after : (mark : ℕ) (h : History) (c : Asked) → suc (accepted_count h) ≤ most_revision → after (with_mark mark h) c ≡ with_mark mark (after h c)
 same_after mark h c small = ap (added (with_mark mark h) c) (same_judge mark h c small) ∙ same_added mark h c (judge (views_of h) c)
 
 -- with each command there is at most one more
-one_more_counted : (h : History) (c : Asked) (o : Outcome) (left : ℕ) → count_of h + suc left ≤ most_revision → count_of (added h c o) + left ≤ most_revision
-one_more_counted h c (Refused e) left small = one_off (count_of h) left small
+one_more_counted : (h : History) (c : Asked) (o : Outcome) (left : ℕ) → accepted_count h + suc left ≤ most_revision → accepted_count (added h c o) + left ≤ most_revision
+one_more_counted h c (Refused e) left small = one_off (accepted_count h) left small
   where
     one_off : (n left : ℕ) → n + suc left ≤ most_revision → n + left ≤ most_revision
     one_off n left small = omega arith
-one_more_counted h c (Repeated reply) left small = one_off (count_of h) left small
+one_more_counted h c (Repeated reply) left small = one_off (accepted_count h) left small
   where
     one_off : (n left : ℕ) → n + suc left ≤ most_revision → n + left ≤ most_revision
     one_off n left small = omega arith
-one_more_counted h c (Accepts reply) left small = one_over (count_of h) left small
+one_more_counted h c (Accepts reply) left small = one_over (accepted_count h) left small
   where
     one_over : (n left : ℕ) → n + suc left ≤ most_revision → suc n + left ≤ most_revision
     one_over n left small = omega arith
@@ -152,16 +152,16 @@ one_more_counted h c (Accepts reply) left small = one_over (count_of h) left sma
 first_fits : (n left : ℕ) → n + suc left ≤ most_revision → suc n ≤ most_revision
 first_fits n left small = omega arith
 
-pub same_after_all : (mark : ℕ) (h : History) (cs : List Asked) → count_of h + length cs ≤ most_revision → after_all (with_mark mark h) cs ≡ with_mark mark (after_all h cs)
+pub same_after_all : (mark : ℕ) (h : History) (cs : List Asked) → accepted_count h + length cs ≤ most_revision → after_all (with_mark mark h) cs ≡ with_mark mark (after_all h cs)
 same_after_all mark h [] small = refl
 same_after_all mark h (c ∷ cs) small =
-    ap (λ g. after_all g cs) (same_after mark h c (first_fits (count_of h) (length cs) small))
+    ap (λ g. after_all g cs) (same_after mark h c (first_fits (accepted_count h) (length cs) small))
     ∙ same_after_all mark (after h c) cs (one_more_counted h c (judge (views_of h) c) (length cs) small)
 
-pub same_answers : (mark : ℕ) (h : History) (cs : List Asked) → count_of h + length cs ≤ most_revision → answers (with_mark mark h) cs ≡ answers h cs
+pub same_answers : (mark : ℕ) (h : History) (cs : List Asked) → accepted_count h + length cs ≤ most_revision → answers (with_mark mark h) cs ≡ answers h cs
 same_answers mark h [] small = refl
 same_answers mark h (c ∷ cs) small =
-    let first : suc (count_of h) ≤ most_revision = first_fits (count_of h) (length cs) small in
+    let first : suc (accepted_count h) ≤ most_revision = first_fits (accepted_count h) (length cs) small in
     let rest : answers (after (with_mark mark h) c) cs ≡ answers (after h c) cs =
     ap (λ g. answers g cs) (same_after mark h c first) ∙ same_answers mark (after h c) cs (one_more_counted h c (judge (views_of h) c) (length cs) small) in
     λ i. answer (same_judge mark h c first i) ∷ rest i
@@ -172,7 +172,7 @@ one_more m n h = omega arith
 marked_then : (h : History) (c : Asked) (o : Outcome) → IsMarked h → IsMarked (added h c o)
 marked_then h c (Refused e) marked = marked
 marked_then h c (Repeated reply) marked = marked
-marked_then h c (Accepts reply) marked = one_more (mark_of h) (count_of h) marked
+marked_then h c (Accepts reply) marked = one_more (mark_of h) (accepted_count h) marked
 
 pub marked_stays : (h : History) (cs : List Asked) → IsMarked h → IsMarked (after_all h cs)
 marked_stays h [] marked = marked
@@ -183,7 +183,7 @@ marked_stays h (c ∷ cs) marked = marked_stays (after h c) cs (marked_then h c 
 pub counted : (h : History) (c : Asked) (reply : Reply) (o : Outcome) → o ≡ Accepts reply → IsMarked h → revision_of (added h c o) ≡ revision_of h + 1
 counted h c reply (Refused e) is marked = absurd cc
 counted h c reply (Repeated r) is marked = absurd cc
-counted h c reply (Accepts r) is marked = next_number (mark_of h) (count_of h) marked
+counted h c reply (Accepts r) is marked = next_number (mark_of h) (accepted_count h) marked
 
 no_less : (m n : ℕ) → n - m ≤ suc n - m
 no_less m n = omega arith
@@ -197,7 +197,7 @@ through a b c p q = omega arith
 grown : (h : History) (c : Asked) (o : Outcome) → revision_of h ≤ revision_of (added h c o)
 grown h c (Refused e) = same_or_less (revision_of h)
 grown h c (Repeated reply) = same_or_less (revision_of h)
-grown h c (Accepts reply) = no_less (mark_of h) (count_of h)
+grown h c (Accepts reply) = no_less (mark_of h) (accepted_count h)
 
 pub grows : (h : History) (cs : List Asked) → revision_of h ≤ revision_of (after_all h cs)
 grows h [] = same_or_less (revision_of h)
@@ -212,7 +212,7 @@ stays_within : (h : History) (c : Asked) (o : Outcome) → judge (views_of h) c 
 stays_within h c (Refused e) is old = old
 stays_within h c (Repeated reply) is old = old
 stays_within h c (Accepts reply) is old =
-    within_limit (mark_of h) (count_of h) (facts_of (views_of h) c).revision (facts_revision (views_of h) c) (accepted_passes (facts_of (views_of h) c) c reply is).counted
+    within_limit (mark_of h) (accepted_count h) (facts_of (views_of h) c).revision (facts_revision (views_of h) c) (accepted_passes (facts_of (views_of h) c) c reply is).counted
 
 pub all_within : (h : History) (cs : List Asked) → revision_of h ≤ most_revision → revision_of (after_all h cs) ≤ most_revision
 all_within h [] old = old
@@ -234,7 +234,7 @@ within (More e h) path = chosen (is_named_anew (name_at path (items_of h)) (name
   where
     chosen : (b : Bool) → since_of path h ≤ revision_of h → cond b (revision_of (More e h)) (since_of path h) ≤ revision_of (More e h)
     chosen true old = same_or_less (revision_of (More e h))
-    chosen false old = through (since_of path h) (revision_of h) (revision_of (More e h)) old (no_less (mark_of h) (count_of h))
+    chosen false old = through (since_of path h) (revision_of h) (revision_of (More e h)) old (no_less (mark_of h) (accepted_count h))
 
 none_left : (m n : ℕ) → n ≤ m → n - m ≡ 0
 none_left m n h = omega arith
@@ -242,12 +242,12 @@ none_left m n h = omega arith
 fewer : (m n : ℕ) → suc n ≤ m → n ≤ m
 fewer m n h = omega arith
 
-pub before_mark : (h : History) (path : List ℕ) → count_of h ≤ mark_of h → since_of path h ≡ 0
+pub before_mark : (h : History) (path : List ℕ) → accepted_count h ≤ mark_of h → since_of path h ≡ 0
 before_mark (Begins mark) path short = refl
-before_mark (More e h) path short = chosen (is_named_anew (name_at path (items_of h)) (name_at path (items_of (More e h)))) (before_mark h path (fewer (mark_of h) (count_of h) short))
+before_mark (More e h) path short = chosen (is_named_anew (name_at path (items_of h)) (name_at path (items_of (More e h)))) (before_mark h path (fewer (mark_of h) (accepted_count h) short))
   where
     chosen : (b : Bool) → since_of path h ≡ 0 → cond b (revision_of (More e h)) (since_of path h) ≡ 0
-    chosen true old = none_left (mark_of h) (count_of (More e h)) short
+    chosen true old = none_left (mark_of h) (accepted_count (More e h)) short
     chosen false old = old
 
 kept_here : (h : History) (e : Accepted) (path : List ℕ) → name_at path (items_of (More e h)) ≡ name_at path (items_of h) → since_of path (More e h) ≡ since_of path h
@@ -281,13 +281,13 @@ no_more : (m n k : ℕ) → m ≡ k → n ≡ k → n ≤ m
 no_more m n k p q = omega arith
 
 pub taken_marked : (h : History) → IsMarked (taken_over h)
-taken_marked h = no_more (count_of (taken_over h)) (mark_of (taken_over h)) (count_of h) (same_count (count_of h) h) (mark_set (count_of h) h)
+taken_marked h = no_more (accepted_count (taken_over h)) (mark_of (taken_over h)) (accepted_count h) (same_count (accepted_count h) h) (mark_set (accepted_count h) h)
 
-all_before : (h : History) → count_of (taken_over h) ≤ mark_of (taken_over h)
-all_before h = no_more (mark_of (taken_over h)) (count_of (taken_over h)) (count_of h) (mark_set (count_of h) h) (same_count (count_of h) h)
+all_before : (h : History) → accepted_count (taken_over h) ≤ mark_of (taken_over h)
+all_before h = no_more (mark_of (taken_over h)) (accepted_count (taken_over h)) (accepted_count h) (mark_set (accepted_count h) h) (same_count (accepted_count h) h)
 
 pub taken_revision : (h : History) → revision_of (taken_over h) ≡ 0
-taken_revision h = none_left (mark_of (taken_over h)) (count_of (taken_over h)) (all_before h)
+taken_revision h = none_left (mark_of (taken_over h)) (accepted_count (taken_over h)) (all_before h)
 
 pub taken_since : (h : History) (path : List ℕ) → since_of path (taken_over h) ≡ 0
 taken_since h path = before_mark (taken_over h) path (all_before h)
@@ -300,7 +300,7 @@ since_grown h c path (Repeated reply) = same_or_less (since_of path h)
 since_grown h c path (Accepts reply) = chosen (is_named_anew (name_at path (items_of h)) (name_at path (items_of (More (entry c reply) h))))
   where
     chosen : (b : Bool) → since_of path h ≤ cond b (revision_of (More (entry c reply) h)) (since_of path h)
-    chosen true = through (since_of path h) (revision_of h) (revision_of (More (entry c reply) h)) (within h path) (no_less (mark_of h) (count_of h))
+    chosen true = through (since_of path h) (revision_of h) (revision_of (More (entry c reply) h)) (within h path) (no_less (mark_of h) (accepted_count h))
     chosen false = same_or_less (since_of path h)
 
 since_grows : (h : History) (cs : List Asked) (path : List ℕ) → since_of path h ≤ since_of path (after_all h cs)
@@ -317,7 +317,7 @@ named_then h c path name (Accepts reply) marked now old = chosen (has_name name 
   where
     chosen : (b : Bool) → has_name name (name_at path (items_of h)) ≡ b → name_at path (items_of h) ≡ Some name
     chosen true has = has_it name (name_at path (items_of h)) has
-    chosen false other = absurd (too_new (mark_of h) (count_of h) (since_of path (More (entry c reply) h)) marked (given_here h (entry c reply) path name now other) old)
+    chosen false other = absurd (too_new (mark_of h) (accepted_count h) (since_of path (More (entry c reply) h)) marked (given_here h (entry c reply) path name now other) old)
 
 pub named_already : (h : History) (cs : List Asked) (path name : List ℕ) → IsMarked h → name_at path (items_of (after_all h cs)) ≡ Some name → since_of path (after_all h cs) ≤ revision_of h → name_at path (items_of h) ≡ Some name
 named_already h [] path name marked now old = now

@@ -3,9 +3,9 @@ use Rattle.std.proofs.Common.{◌≡◌, ℕ, Bool, true, false, cond, List, [],
 use Rattle.std.specs.Prelude.{IsTrue, IsSome, IfSome, is_some, codes}
 use Rattle.std.specs.Ordering.{eq_by_cmp}
 use Rattle.std.specs.FinMap.{get, get-from_sorted}
-use Rattle.pid_ident.specs.PathTexts.{IsTextOf, path_text, parent_of}
-use Rattle.pid_ident.specs.Trees.{IsTree, text_cmp}
-use Rattle.pid_ident.specs.Words.{is_name}
+use Rattle.pid_file.specs.PathTexts.{IsTextOf, path_text, parent_of}
+use Rattle.pid_file.specs.Trees.{IsTree, text_cmp}
+use Rattle.pid_file.specs.Words.{is_name}
 use Rattle.pid_file.specs.declared.path.Path.{Path}
 use Rattle.pid_file.specs.declared.path.Path.TheVariants.{Vendor, Device, Subsystem, Class, Subclass, ProgIf, Generic}
 use Rattle.pid_moderation.specs.History.{Asked, Begins, History}

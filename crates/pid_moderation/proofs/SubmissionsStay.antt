@@ -3,16 +3,16 @@ use Rattle.std.proofs.Common.{◌≡◌, ℕ, ◌+◌, ◌≤◌, zero, suc, Boo
 use Rattle.std.specs.Prelude.{nat_le, slice_get}
 use Rattle.std.specs.Option.{option_map}
 use Rattle.std.proofs.lemmas.Bool.Decides.{nat_tests, Decides-eqb}
-use Rattle.pid_ident.specs.Bytes.{is_empty}
-use Rattle.pid_ident.specs.Words.{is_text}
+use Rattle.pid_file.specs.Bytes.{is_empty}
+use Rattle.pid_file.specs.Words.{is_text}
 use Rattle.pid_moderation.specs.declared.facts.State.{State}
 use Rattle.pid_moderation.specs.declared.facts.State.TheVariants.{Pending, Approved, Rejected, Withdrawn}
 use Rattle.pid_moderation.specs.declared.rank.Rank.{Rank}
 use Rattle.pid_moderation.specs.History.{Deed, Submits, Comments, Withdraws, Approves, Rejects, Begins, More, History}
 use Rattle.pid_moderation.specs.Views.{Views, Submitted, Remark, views_of, rank_of, submits_of, submitted, submission_at, state_of, decided, remarks_of, remarked}
-use Rattle.pid_moderation.specs.FactsOfViews.{with_item, known}
+use Rattle.pid_moderation.specs.FactsOfViews.{with_item_facts, known}
 use Rattle.pid_moderation.specs.CheckTables.{command_checks, if_named, comment_checks, decision_checks, withdraw_checks, is_ill_formed, most_submissions, most_remarks}
-use Rattle.pid_moderation.specs.Sound.{IsKnown, IsGoodSubmission, AreGoodSubmissions, IsDecidedByOther, IsDecidedWell, IsGoodRemark, AreGoodRemarks, IsRemarkedWell}
+use Rattle.pid_moderation.specs.Sound.{IsRegistered, IsGoodSubmission, AreGoodSubmissions, IsDecidedByOther, IsDecidedWell, IsGoodRemark, AreGoodRemarks, IsRemarkedWell}
 use Rattle.pid_moderation.specs.WellMade.{IsWellMade}
 use Rattle.pid_moderation.proofs.Changing.{asks, entry, seen}
 use Rattle.pid_moderation.proofs.Knowing.{to_deed, approving, caller_known, known_stays}
@@ -21,7 +21,7 @@ use Rattle.pid_moderation.proofs.Reaching.{Stays}
 
 -- what is known stays known
 abbrev pub StillKnown : History → History → Type 0
-StillKnown h next = (a : List ℕ) → IsKnown a h → IsKnown a next
+StillKnown h next = (a : List ℕ) → IsRegistered a h → IsRegistered a next
 
 -- most_submissions
 
@@ -36,7 +36,7 @@ one_more : (h : History) (ss : List Submitted) (s : Submitted) → AreGoodSubmis
 one_more h [] s old new = (new, tt)
 one_more h (x ∷ ss) s old new = (old.0, one_more h ss s old.1 new)
 
-submitted_well : (h next : History) (account : List ℕ) (key : Option (List ℕ)) (deed : Deed) (ss : List Submitted) → StillKnown h next → IsKnown account h → IsWellMade (asks account key deed) → AreGoodSubmissions h ss → AreGoodSubmissions next (submitted account deed ss)
+submitted_well : (h next : History) (account : List ℕ) (key : Option (List ℕ)) (deed : Deed) (ss : List Submitted) → StillKnown h next → IsRegistered account h → IsWellMade (asks account key deed) → AreGoodSubmissions h ss → AreGoodSubmissions next (submitted account deed ss)
 submitted_well h next account key (Submits path proposal note) ss still caller made old = one_more next ss _ (still_submitted h next ss still old) (record { author = still account caller; path = made.2.0; proposal = made.2.1; note = made.2.2 })
 submitted_well h next account key deed ss still caller made old = still_submitted h next ss still old
 
@@ -91,11 +91,11 @@ well_if h n m xs new old here before = chosen (eqb n m) refl
     chosen true e = subst (λ (k : ℕ). IsDecidedWell h (submission_at k xs) new) (sym ((Decides-eqb n m).0 e)) here
     chosen false e = before
 
-approved_well : (h : History) (o : Option Submitted) (v : Views) (n : ℕ) (account : List ℕ) (key : Option (List ℕ)) → IsKnown account h → AllPass (approving (with_item v (option_map (seen v n) o) (known v account key)) account) → IsDecidedWell h o (Approved account)
+approved_well : (h : History) (o : Option Submitted) (v : Views) (n : ℕ) (account : List ℕ) (key : Option (List ℕ)) → IsRegistered account h → AllPass (approving (with_item_facts v (option_map (seen v n) o) (known v account key)) account) → IsDecidedWell h o (Approved account)
 approved_well h None v n account key caller passed = let bad = passed.1.0 in absurd cc
 approved_well h (Some s) v n account key caller passed = (passed.1.1.1.0, caller)
 
-rejected_well : (h : History) (o : Option Submitted) (v : Views) (n : ℕ) (account reason : List ℕ) (rank : Option Rank) → IsKnown account h → is_text reason ≡ true → is_empty reason ≡ false → AllPass (if_named (option_map (seen v n) o) (decision_checks account rank)) → IsDecidedWell h o (Rejected account reason)
+rejected_well : (h : History) (o : Option Submitted) (v : Views) (n : ℕ) (account reason : List ℕ) (rank : Option Rank) → IsRegistered account h → is_text reason ≡ true → is_empty reason ≡ false → AllPass (if_named (option_map (seen v n) o) (decision_checks account rank)) → IsDecidedWell h o (Rejected account reason)
 rejected_well h None v n account reason rank caller text filled passed = let bad = passed.0 in absurd cc
 rejected_well h (Some s) v n account reason rank caller text filled passed = (passed.1.1.0, caller, text, filled)
 
@@ -103,7 +103,7 @@ withdrawn_well : (h : History) (o : Option Submitted) (v : Views) (n : ℕ) (acc
 withdrawn_well h None v n account passed = let bad = passed.0 in absurd cc
 withdrawn_well h (Some s) v n account passed = tt
 
-decided_well : (h : History) (account : List ℕ) (key : Option (List ℕ)) (deed : Deed) → IsKnown account h → IsWellMade (asks account key deed) → is_ill_formed (to_deed h account key deed) deed ≡ false → AreDecided h → AllPass (command_checks (to_deed h account key deed) (asks account key deed)) → (n : ℕ) → IsDecidedWell h (submission_at n (submitted account deed (submits_of h))) (decided n account deed (state_of n h))
+decided_well : (h : History) (account : List ℕ) (key : Option (List ℕ)) (deed : Deed) → IsRegistered account h → IsWellMade (asks account key deed) → is_ill_formed (to_deed h account key deed) deed ≡ false → AreDecided h → AllPass (command_checks (to_deed h account key deed) (asks account key deed)) → (n : ℕ) → IsDecidedWell h (submission_at n (submitted account deed (submits_of h))) (decided n account deed (state_of n h))
 decided_well h account key (Submits path proposal note) caller made formed old passed n = push_well h n (submits_of h) _ (state_of n h) (old n)
 decided_well h account key (Approves m) caller made formed old passed n = well_if h n m (submits_of h) (Approved account) (state_of n h) (approved_well h (submission_at m (submits_of h)) (views_of h) m account key caller passed) (old n)
 decided_well h account key (Rejects m reason) caller made formed old passed n = well_if h n m (submits_of h) (Rejected account reason) (state_of n h) (rejected_well h (submission_at m (submits_of h)) (views_of h) m account reason (rank_of account h) caller made.2 formed passed.1) (old n)
@@ -164,7 +164,7 @@ remarked_if h n m xs r here before = chosen (eqb n m) refl
     chosen true e = subst (λ (k : ℕ). IsRemarkedWell h (submission_at k xs) (remarks_of k h ++ r ∷ [])) (sym ((Decides-eqb n m).0 e)) here
     chosen false e = before
 
-remarked_well : (h : History) (account : List ℕ) (key : Option (List ℕ)) (deed : Deed) → IsKnown account h → IsWellMade (asks account key deed) → is_ill_formed (to_deed h account key deed) deed ≡ false → AreRemarked h → AllPass (command_checks (to_deed h account key deed) (asks account key deed)) → (n : ℕ) → IsRemarkedWell h (submission_at n (submitted account deed (submits_of h))) (remarked n account deed (remarks_of n h))
+remarked_well : (h : History) (account : List ℕ) (key : Option (List ℕ)) (deed : Deed) → IsRegistered account h → IsWellMade (asks account key deed) → is_ill_formed (to_deed h account key deed) deed ≡ false → AreRemarked h → AllPass (command_checks (to_deed h account key deed) (asks account key deed)) → (n : ℕ) → IsRemarkedWell h (submission_at n (submitted account deed (submits_of h))) (remarked n account deed (remarks_of n h))
 remarked_well h account key (Submits path proposal note) caller made formed old passed n = push_remarked h n (submits_of h) _ (remarks_of n h) (old n)
 remarked_well h account key (Comments m text) caller made formed old passed n = remarked_if h n m (submits_of h) (record { author = account; text = text }) (commented_well h (submission_at m (submits_of h)) (views_of h) m (remarks_of m h) _ refl (record { author = caller; text = made.2; filled = formed }) (old m) passed.1) (old n)
 remarked_well h account key deed caller made formed old passed n = old n

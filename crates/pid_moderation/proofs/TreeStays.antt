@@ -8,15 +8,15 @@ use Rattle.std.specs.declared.cmp.Ordering.{Ordering}
 use Rattle.std.specs.declared.cmp.Ordering.TheVariants.{Less, Equal, Greater}
 use Rattle.std.specs.FinMap.Entries.{put, where_key, by_order, is_sorted, length-put, length_without}
 use Rattle.std.proofs.lemmas.Bool.Decides.{nat_tests}
-use Rattle.pid_ident.specs.PathTexts.{IsPath, path_text}
-use Rattle.pid_ident.specs.Trees.{text_cmp}
+use Rattle.pid_file.specs.PathTexts.{IsPath, path_text}
+use Rattle.pid_file.specs.Trees.{text_cmp}
 use Rattle.pid_moderation.specs.declared.command.Proposal.{Proposal}
 use Rattle.pid_moderation.specs.declared.command.Proposal.TheVariants.{Name, Removal}
 use Rattle.pid_moderation.specs.History.{TooLong, Faulty, Good, Deed, Submits, Approves, Imports, History}
 use Rattle.pid_ident.specs.PathReading.{parent_text}
 use Rattle.pid_moderation.specs.Items.{Items, name_at, holds_parent, has_children, written, imported}
 use Rattle.pid_moderation.specs.Views.{Views, Submitted, views_of, submits_of, submitted, submission_at, items_of, itemized, carried_out, pairs_of}
-use Rattle.pid_moderation.specs.FactsOfViews.{with_item, known}
+use Rattle.pid_moderation.specs.FactsOfViews.{with_item_facts, known}
 use Rattle.pid_moderation.specs.CheckTables.{command_checks, lacks_parent, leaves_children, overflows, most_items}
 use Rattle.pid_moderation.specs.WellMade.{IsItem, AllItems, HoldsParents, ProposesName, IsWellMade}
 use Rattle.pid_moderation.proofs.Changing.{asks, seen}
@@ -35,7 +35,7 @@ proposed_keeps : (path : List ℕ) (p : Proposal) (items : Items) → HoldsParen
 proposed_keeps path (Name name) items sound parent children = put_keeps path name items sound (yes _ parent)
 proposed_keeps path Removal items sound parent children = without_keeps path items sound children
 
-approved_keeps : (o : Option Submitted) (v : Views) (n : ℕ) (account : List ℕ) (key : Option (List ℕ)) → HoldsParents v.items → AllPass (approving (with_item v (option_map (seen v n) o) (known v account key)) account) → HoldsParents (carried_out o v.items)
+approved_keeps : (o : Option Submitted) (v : Views) (n : ℕ) (account : List ℕ) (key : Option (List ℕ)) → HoldsParents v.items → AllPass (approving (with_item_facts v (option_map (seen v n) o) (known v account key)) account) → HoldsParents (carried_out o v.items)
 approved_keeps None v n account key sound h = sound
 approved_keeps (Some s) v n account key sound h = proposed_keeps (path_text s.path) s.proposal v.items sound h.1.1.1.1.1.0 h.1.1.1.1.1.1.0
 
@@ -132,7 +132,7 @@ written_within : (path : List ℕ) (p : Proposal) (items : Items) → T (is_sort
 written_within path (Name name) items sorted h f = rw (length-put text_cmp nat_list_cmp_total path name items sorted) (one_put (name_at path items) (length items) h f)
 written_within path Removal items sorted h f = let e = length_without text_cmp nat_list_cmp_total path items sorted in omega arith
 
-approved_within : (o : Option Submitted) (v : Views) (n : ℕ) (account : List ℕ) (key : Option (List ℕ)) → T (is_sorted text_cmp v.items) → length v.items ≤ most_items → AllPass (approving (with_item v (option_map (seen v n) o) (known v account key)) account) → length (carried_out o v.items) ≤ most_items
+approved_within : (o : Option Submitted) (v : Views) (n : ℕ) (account : List ℕ) (key : Option (List ℕ)) → T (is_sorted text_cmp v.items) → length v.items ≤ most_items → AllPass (approving (with_item_facts v (option_map (seen v n) o) (known v account key)) account) → length (carried_out o v.items) ≤ most_items
 approved_within None v n account key sorted h passed = h
 approved_within (Some s) v n account key sorted h passed = written_within (path_text s.path) s.proposal v.items sorted h passed.1.1.1.1.1.1.1.0
 

@@ -2,8 +2,8 @@
 use Rattle.std.specs.Prelude.{ℕ, ◌<◌, ◌^◌, Bool, ◌&&◌, nat_lt, List, [], map, filter, take, Option}
 use Rattle.std.specs.Prelude.{Some, None}
 use Rattle.std.specs.Ordering.{is_lt}
-use Rattle.pid_ident.specs.PathTexts.{path_text}
-use Rattle.pid_ident.specs.Trees.{text_cmp}
+use Rattle.pid_file.specs.PathTexts.{path_text}
+use Rattle.pid_file.specs.Trees.{text_cmp}
 use Rattle.pid_file.specs.declared.path.Path.{Path}
 use Rattle.pid_moderation.specs.Views.{Views}
 use Rattle.pid_moderation.specs.declared.lists.ChangedItem.{ChangedItem}

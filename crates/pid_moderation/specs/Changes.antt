@@ -4,8 +4,8 @@ use Rattle.std.specs.Prelude.{◌∷◌, ◌++◌, length, Option, Some, None, i
 use Rattle.std.specs.Str.{bytes_eq}
 use Rattle.std.specs.Ordering.{eq_by_cmp}
 use Rattle.std.specs.FinMap.Entries.{put, where_key}
-use Rattle.pid_ident.specs.PathTexts.{path_text}
-use Rattle.pid_ident.specs.Trees.{text_cmp}
+use Rattle.pid_file.specs.PathTexts.{path_text}
+use Rattle.pid_file.specs.Trees.{text_cmp}
 use Rattle.pid_moderation.specs.declared.change.Change.{Change}
 use Rattle.pid_moderation.specs.declared.change.Receipt.{Receipt}
 use Rattle.pid_moderation.specs.declared.change.Edit.{Edit}
@@ -107,5 +107,5 @@ abbrev pub FitsReceipt : Option Receipt → Views → Type 0
 FitsReceipt None v = Unit {0}
 FitsReceipt (Some r) v = v.kept r.account r.key ≡ None
 
-abbrev pub Fits : Change → Views → Type 0
-Fits change v = FitsEffect change.effect v × FitsReceipt change.receipt v
+abbrev pub FitsViews : Change → Views → Type 0
+FitsViews change v = FitsEffect change.effect v × FitsReceipt change.receipt v

@@ -4,7 +4,7 @@ use Rattle.std.specs.Prelude.{List, [], ◌∷◌, ◌++◌, find, Option, Some,
 use Rattle.std.specs.Prelude.{is_none}
 use Rattle.std.specs.Option.{option_map}
 use Rattle.std.specs.Str.{bytes_eq}
-use Rattle.pid_ident.specs.Bytes.{is_empty}
+use Rattle.pid_file.specs.Bytes.{is_empty}
 use Rattle.pid_moderation.specs.declared.command.Proposal.{Proposal}
 use Rattle.pid_moderation.specs.declared.command.Proposal.TheVariants as proposals
 use Rattle.pid_moderation.specs.declared.command.Reply.{Reply}
@@ -182,16 +182,16 @@ TellsLength act reading = Unit {0}
 -- REPLIES
 
 -- a file that is not imported counts nothing; `None` is one that is too long
-abbrev pub counts_of : Option Verdict → Reply
-counts_of (Some (verdicts.Good added renamed same items)) = Counts added renamed same
-counts_of (Some (verdicts.Faulty fault)) = Counts 0 0 0
-counts_of None = Counts 0 0 0
+abbrev pub import_reply : Option Verdict → Reply
+import_reply (Some (verdicts.Good added renamed same items)) = Counts added renamed same
+import_reply (Some (verdicts.Faulty fault)) = Counts 0 0 0
+import_reply None = Counts 0 0 0
 
-abbrev pub reply_to : Facts → Deed → Reply
-reply_to f (Ranks who rank) = Done
-reply_to f (Submits path proposal note) = Numbered (f.submissions + 1)
-reply_to f (Comments n text) = Done
-reply_to f (Withdraws n) = Done
-reply_to f (Approves n) = Done
-reply_to f (Rejects n reason) = Done
-reply_to f (Imports reading) = counts_of f.file
+abbrev pub reply_by_facts : Facts → Deed → Reply
+reply_by_facts f (Ranks who rank) = Done
+reply_by_facts f (Submits path proposal note) = Numbered (f.submissions + 1)
+reply_by_facts f (Comments n text) = Done
+reply_by_facts f (Withdraws n) = Done
+reply_by_facts f (Approves n) = Done
+reply_by_facts f (Rejects n reason) = Done
+reply_by_facts f (Imports reading) = import_reply f.file

@@ -1,6 +1,6 @@
 -- What is answered and changed where all checks pass, by the facts.
 use Rattle.std.specs.Prelude.{◌≡◌, ◌≢◌, ℕ, ◌+◌, ◌-◌, is_none, List, [], Option, Some, None, Result}
-use Rattle.std.specs.Prelude.{Ok, Err, MatchResult}
+use Rattle.std.specs.Prelude.{Ok, Err, IfOk, IfErr, MatchResult}
 use Rattle.std.specs.Option.{option_map}
 use Rattle.pid_moderation.specs.declared.command.Reply.{Reply}
 use Rattle.pid_moderation.specs.declared.command.Proposal.{Proposal}
@@ -23,16 +23,16 @@ use Rattle.pid_moderation.specs.declared.change.Effect.TheVariants.{Remarked, De
 use Rattle.pid_moderation.specs.History.{Deed, Ranks, Submits, Comments, Withdraws, Approves}
 use Rattle.pid_moderation.specs.History.{Rejects, Imports, Asked, History}
 use Rattle.pid_moderation.specs.Items.{Items}
-use Rattle.pid_moderation.specs.Views.{views_of, pairs_of}
-use Rattle.pid_moderation.specs.Changes.{changed, with_pairs, Fits}
+use Rattle.pid_moderation.specs.Views.{Views, views_of, pairs_of}
+use Rattle.pid_moderation.specs.Changes.{changed, with_pairs, FitsViews}
 use Rattle.pid_moderation.specs.Judgement.{Outcome, Refused, Repeated, Accepts, judge, judged}
 use Rattle.pid_moderation.specs.Judgement.{answer, after}
 
 -- what an import does: nothing where its file is not imported, as one that is too long (`None`)
-abbrev pub counted : Option Verdict → Effect
-counted (Some (verdicts.Good added renamed same items)) = Imported items
-counted (Some (verdicts.Faulty fault)) = Nothing
-counted None = Nothing
+abbrev pub import_effect : Option Verdict → Effect
+import_effect (Some (verdicts.Good added renamed same items)) = Imported items
+import_effect (Some (verdicts.Faulty fault)) = Nothing
+import_effect None = Nothing
 
 abbrev pub edit_of : Proposal → Option (List ℕ) → Edit
 edit_of (Name name) None = Add name
@@ -66,7 +66,7 @@ effect_of account f (Comments n text) = Remarked n (next_place f.named) account 
 effect_of account f (Withdraws n) = Decided n Withdrawn None
 effect_of account f (Approves n) = Decided n (Approved account) (option_map (write_of f) f.named)
 effect_of account f (Rejects n reason) = Decided n (Rejected account reason) None
-effect_of account f (Imports reading) = counted f.file
+effect_of account f (Imports reading) = import_effect f.file
 
 abbrev pub receipt_of : List ℕ → Option (List ℕ) → Reply → Option Receipt
 receipt_of account None reply = None
@@ -83,13 +83,13 @@ abbrev pub no_change : Facts → Change
 no_change f = record { effect = Nothing; receipt = None; revision = f.revision }
 
 -- what a file brings
-abbrev pub pairs_in : Deed → Items
-pairs_in (Imports reading) = pairs_of reading
-pairs_in deed = []
+abbrev pub file_pairs : Deed → Items
+file_pairs (Imports reading) = pairs_of reading
+file_pairs deed = []
 
 -- what is written of a file
 abbrev pub new_pairs : Outcome → Deed → Items
-new_pairs (Accepts reply) deed = pairs_in deed
+new_pairs (Accepts reply) deed = file_pairs deed
 new_pairs (Refused refusal) deed = []
 new_pairs (Repeated reply) deed = []
 
@@ -104,6 +104,13 @@ abbrev pub Decides : Facts → Asked → Result (Change × Reply) Refusal → Ty
 Decides f c result = MatchResult result (λ d. (answer (judged f c) ≡ Ok d.1)
     × (d.0 ≡ change_by f c (judged f c))) (λ e. e ≢ Memory → answer (judged f c) ≡ Err e)
 
+-- the result is what the judgement over these views answers: its reply, or its refusal unless
+-- memory is short
+pub record AnswersByJudgement (v : Views) (c : Asked) (result : Result (Change × Reply) Refusal)
+    : Type 0 where
+  pub reply : IfOk result (λ d. answer (judge v c) ≡ Ok d.1)
+  pub refusal : IfErr result (λ e. e ≢ Memory → answer (judge v c) ≡ Err e)
+
 -- the change leads from what h shows to what it shows after c
 abbrev pub LeadsOn : History → Asked → Change → Type 0
 LeadsOn h c change = views_of (after h c)
@@ -111,5 +118,5 @@ LeadsOn h c change = views_of (after h c)
 
 -- the numbers of the change are those of what h shows, with the pairs of a file written
 abbrev pub FitsHistory : History → Asked → Change → Type 0
-FitsHistory h c change = Fits change (with_pairs (new_pairs (judge (views_of h) c) c.deed)
+FitsHistory h c change = FitsViews change (with_pairs (new_pairs (judge (views_of h) c) c.deed)
     (views_of h))

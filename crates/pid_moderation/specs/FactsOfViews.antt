@@ -1,7 +1,7 @@
 -- What of the views a command looks at.
 use Rattle.std.specs.Prelude.{ℕ, false, List, length, Option, Some, None}
 use Rattle.std.specs.Option.{option_map}
-use Rattle.pid_ident.specs.PathTexts.{path_text}
+use Rattle.pid_file.specs.PathTexts.{path_text}
 use Rattle.pid_moderation.specs.declared.command.Reply.{Reply}
 use Rattle.pid_moderation.specs.declared.facts.Facts.{Facts}
 use Rattle.pid_moderation.specs.declared.facts.Named.{Named}
@@ -74,9 +74,9 @@ wanted (Rejects n reason) = SubmissionOf n
 wanted (Imports reading) = NoRows
 
 -- the item that a submission speaks of
-abbrev pub with_item : Views → Option Named → Facts → Facts
-with_item v None f = f
-with_item v (Some s) f = record f {
+abbrev pub with_item_facts : Views → Option Named → Facts → Facts
+with_item_facts v None f = f
+with_item_facts v (Some s) f = record f {
   named = Some s;
   items = length v.items;
   present = name_at (path_text s.path) v.items;
@@ -88,7 +88,7 @@ abbrev pub looked_at : Views → Wanted → Facts → Facts
 looked_at v (RankOf who) f = record f { who = v.rank who }
 looked_at v SubmissionCount f = record f { submissions = length v.submits }
 looked_at v (SubmissionOf n) f = record f { named = named v n }
-looked_at v (ItemOf n) f = with_item v (named v n) f
+looked_at v (ItemOf n) f = with_item_facts v (named v n) f
 looked_at v NoRows f = f
 
 -- the facts by the rows alone: an import's file is not read yet

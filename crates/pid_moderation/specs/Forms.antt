@@ -4,8 +4,8 @@ use Rattle.std.specs.Prelude.{if◌then◌else◌, List, [], ◌∷◌, ◌++◌
 use Rattle.std.specs.Prelude.{Option, Some, None, is_none, codes, Result, MatchResult}
 use Rattle.std.specs.Option.{option_map}
 use Rattle.std.specs.Str.{bytes_eq}
-use Rattle.pid_ident.specs.Bytes.{is_empty}
-use Rattle.pid_ident.specs.Words.{is_name, is_text, is_account, is_key}
+use Rattle.pid_file.specs.Bytes.{is_empty}
+use Rattle.pid_file.specs.Words.{is_name, is_text, is_account, is_key}
 use Rattle.pid_file.specs.declared.path.Path.{Path}
 use Rattle.pid_moderation.specs.declared.rank.Rank.{Rank}
 use Rattle.pid_moderation.specs.declared.rank.Rank.TheVariants.{Contributor, Moderator, Senior}
@@ -56,7 +56,7 @@ rank_in text =
 
 -- the number of a submission, 1 to 2,000,000,000
 abbrev pub number_in : List ℕ → Option ℕ
-number_in text = numbers.number_in 10 most_submissions text
+number_in text = numbers.number_up_to most_submissions 10 text
 
 -- a name where there is one, else a removal
 abbrev pub proposal_in : Option (List ℕ) → Proposal
@@ -135,6 +135,6 @@ command_said verb account key fields = option_map
     (λ act. record { account = account; key = key; act = act }) (act_said verb fields)
 
 -- what is said, or the first check that fails; or memory is short
-abbrev pub Says : {X : Type 0} → Checks → Option X → Result X Refusal → Type 0
-Says cs said result = MatchResult result (λ x. (first_failing cs ≡ None) × (said ≡ Some x))
+abbrev pub SaysByChecks : {X : Type 0} → Checks → Option X → Result X Refusal → Type 0
+SaysByChecks cs said result = MatchResult result (λ x. (first_failing cs ≡ None) × (said ≡ Some x))
     (λ e. e ≢ Memory → first_failing cs ≡ Some e)

@@ -77,5 +77,5 @@ accepted_in (Begins mark) = []
 accepted_in (More e h) = e ∷ accepted_in h
 
 -- how many commands were accepted
-abbrev pub count_of : History → ℕ
-count_of h = length (accepted_in h)
+abbrev pub accepted_count : History → ℕ
+accepted_count h = length (accepted_in h)

@@ -6,7 +6,7 @@ use Rattle.std.specs.Str.{bytes_eq}
 use Rattle.std.specs.Ordering.{eq_by_cmp}
 use Rattle.std.specs.FinMap.Entries.{put, find, where_key}
 use Rattle.pid_ident.specs.PathReading.{parent_text}
-use Rattle.pid_ident.specs.Trees.{text_cmp}
+use Rattle.pid_file.specs.Trees.{text_cmp}
 use Rattle.pid_moderation.specs.declared.command.Proposal.{Proposal}
 use Rattle.pid_moderation.specs.declared.command.Proposal.TheVariants.{Name, Removal}
 

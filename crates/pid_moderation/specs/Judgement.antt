@@ -7,7 +7,7 @@ use Rattle.pid_moderation.specs.declared.refusal.Refusal.TheVariants.{BadText}
 use Rattle.pid_moderation.specs.History.{Asked, More, History}
 use Rattle.pid_moderation.specs.Views.{Views, views_of}
 use Rattle.pid_moderation.specs.FactsOfViews.{facts_of}
-use Rattle.pid_moderation.specs.CheckTables.{checks, first_failing, is_ill_formed, reply_to}
+use Rattle.pid_moderation.specs.CheckTables.{checks, first_failing, is_ill_formed, reply_by_facts}
 
 pub data Outcome : Type 0 where
   Refused : Refusal → Outcome
@@ -24,7 +24,7 @@ unless_kept None outcome = outcome
 
 abbrev pub judged : Facts → Asked → Outcome
 judged f c = if is_ill_formed f c.deed then Refused BadText else unless_kept f.kept
-    (unless (first_failing (checks f c)) (reply_to f c.deed))
+    (unless (first_failing (checks f c)) (reply_by_facts f c.deed))
 
 abbrev pub judge : Views → Asked → Outcome
 judge v c = judged (facts_of v c) c

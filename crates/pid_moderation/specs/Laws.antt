@@ -2,7 +2,7 @@
 use Rattle.std.specs.Prelude.{ℕ, ◌≤◌, T, List, length}
 use Rattle.std.specs.FinMap.{entries}
 use Rattle.std.specs.FinMap.Entries.{is_sorted}
-use Rattle.pid_ident.specs.Trees.{IsTree, TreeMap, text_cmp}
+use Rattle.pid_file.specs.Trees.{IsTree, TreeMap, text_cmp}
 use Rattle.pid_moderation.specs.CheckTables.{most_items, most_revision}
 use Rattle.pid_moderation.specs.History.{Asked, Begins, History}
 use Rattle.pid_moderation.specs.Judgement.{after_all}

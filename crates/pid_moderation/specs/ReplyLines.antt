@@ -1,6 +1,6 @@
 -- The line that answers a command: a choice of this project.
 use Rattle.std.specs.Prelude.{ℕ, List, [], ◌++◌, codes, decimal, Result, Ok, Err}
-use Rattle.pid_ident.specs.LineKinds as line_kinds
+use Rattle.pid_file.specs.LineKinds as line_kinds
 use Rattle.pid_moderation.specs.declared.command.Reply.{Reply}
 use Rattle.pid_moderation.specs.declared.command.Reply.TheVariants.{Done, Numbered, Counts}
 use Rattle.pid_moderation.specs.declared.refusal.FileFault.{FileFault}
@@ -29,6 +29,6 @@ abbrev pub refused_line : Refusal → List ℕ
 refused_line refusal = codes "refused " ++ decimal (refusal_number refusal) ++ codes " "
     ++ refusal_word refusal ++ details refusal ++ codes "\n"
 
-abbrev pub reply_text : Result Reply Refusal → List ℕ
-reply_text (Ok reply) = accepted_line reply
-reply_text (Err refusal) = refused_line refusal
+abbrev pub outcome_line : Result Reply Refusal → List ℕ
+outcome_line (Ok reply) = accepted_line reply
+outcome_line (Err refusal) = refused_line refusal

@@ -1,10 +1,10 @@
 -- The mark of a history, from which its commands are counted.
 use Rattle.std.specs.Prelude.{ℕ, ◌≤◌}
-use Rattle.pid_moderation.specs.History.{Begins, More, History, mark_of, count_of}
+use Rattle.pid_moderation.specs.History.{Begins, More, History, mark_of, accepted_count}
 
 -- it holds at least as many commands as its mark says
 abbrev pub IsMarked : History → Type 0
-IsMarked h = mark_of h ≤ count_of h
+IsMarked h = mark_of h ≤ accepted_count h
 
 -- the same commands, with another mark
 abbrev pub with_mark : ℕ → History → History
@@ -13,4 +13,4 @@ with_mark mark (More e h) = More e (with_mark mark h)
 
 -- what the history of a file becomes that is taken over: all its commands stand before the mark
 abbrev pub taken_over : History → History
-taken_over h = with_mark (count_of h) h
+taken_over h = with_mark (accepted_count h) h

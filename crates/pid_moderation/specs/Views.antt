@@ -2,7 +2,7 @@
 use Rattle.std.specs.Prelude.{ℕ, zero, suc, ◌-◌, Bool, false, not, ◌&&◌, ◌==◌, if◌then◌else◌, List}
 use Rattle.std.specs.Prelude.{[], ◌∷◌, ◌++◌, slice_get, Option, Some, None, codes}
 use Rattle.std.specs.Str.{bytes_eq}
-use Rattle.pid_ident.specs.PathTexts.{path_text}
+use Rattle.pid_file.specs.PathTexts.{path_text}
 use Rattle.pid_file.specs.declared.path.Path.{Path}
 use Rattle.pid_moderation.specs.declared.command.Proposal.{Proposal}
 use Rattle.pid_moderation.specs.declared.command.Reply.{Reply}
@@ -13,7 +13,7 @@ use Rattle.pid_moderation.specs.declared.facts.State.TheVariants.{Pending, Appro
 use Rattle.pid_moderation.specs.declared.facts.State.TheVariants.{Withdrawn}
 use Rattle.pid_moderation.specs.History.{Reading, TooLong, Faulty, Good, Deed, Ranks, Submits}
 use Rattle.pid_moderation.specs.History.{Comments, Withdraws, Approves, Rejects, Imports, Begins}
-use Rattle.pid_moderation.specs.History.{More, History, mark_of, count_of}
+use Rattle.pid_moderation.specs.History.{More, History, mark_of, accepted_count}
 use Rattle.pid_moderation.specs.Items.{Items, name_at, has_name, written, imported}
 
 pub record Submitted : Type 0 where
@@ -122,7 +122,7 @@ kept_of a k (More e h) = receipted a k e.asked.account e.asked.key e.reply (kept
 
 -- how many commands were accepted since the mark
 abbrev pub revision_of : History → ℕ
-revision_of h = count_of h - mark_of h
+revision_of h = accepted_count h - mark_of h
 
 -- there is a name now, and it is not the one before
 abbrev pub is_named_anew : (before now : Option (List ℕ)) → Bool

@@ -1,7 +1,7 @@
 -- What the parts of a command keep by their types, and what a file keeps by its reading.
 use Rattle.std.specs.Prelude.{◌≡◌, ℕ, ◌≤◌, true, List, [], ◌∷◌, Option, Some, None, is_some, length}
-use Rattle.pid_ident.specs.PathTexts.{IsPath, IsTextOf}
-use Rattle.pid_ident.specs.Words.{is_name, is_text, is_account, is_key}
+use Rattle.pid_file.specs.PathTexts.{IsPath, IsTextOf}
+use Rattle.pid_file.specs.Words.{is_name, is_text, is_account, is_key}
 use Rattle.pid_file.specs.declared.path.Path.{Path}
 use Rattle.pid_moderation.specs.declared.command.Proposal.{Proposal}
 use Rattle.pid_moderation.specs.declared.command.Proposal.TheVariants.{Name, Removal}

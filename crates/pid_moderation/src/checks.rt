@@ -1,6 +1,6 @@
 //! The tests that commands are checked by.
 ghost use Rattle.std.specs.Prelude.{◌≡◌, true, find, is_none};
-ghost use Rattle.pid_ident.specs.Bytes.{is_empty as no_bytes};
+ghost use Rattle.pid_file.specs.Bytes.{is_empty as no_bytes};
 ghost use Rattle.pid_moderation.specs.CheckTables.{
   first_failing as first_that_fails,
   is_pending as stands_pending,
@@ -22,7 +22,7 @@ ghost use Rattle.pid_moderation.specs.History.{Reading, asked, deed_of};
 ghost use Rattle.pid_moderation.specs.Judgement.{judge, Refused};
 ghost use Rattle.pid_moderation.specs.Views.{Views};
 ghost use Rattle.pid_moderation.specs.Items.{has_name as names_so};
-ghost use Rattle.pid_moderation.specs.Steps.Following.{Follows};
+ghost use Rattle.pid_moderation.specs.Steps.Following.{FollowsChecks};
 
 use crate::command::{Act, Command, Proposal};
 use crate::facts::{Facts, State, Verdict};
@@ -63,7 +63,7 @@ pub fn first_failing(checks: &[(bool, Refusal)]) -> Option<Refusal>
 
 /// Passes where no check fails; else the refusal of the first that does.
 pub fn pass(checks: &[(bool, Refusal)]) -> Result<(), Refusal>
-    ensures { Follows checks.now tt result }
+    ensures { FollowsChecks checks.now tt result }
 {
     match failing(checks) {
         Some((_, refusal)) => Err(refusal),

@@ -1,7 +1,7 @@
 //! The values of a command's fields.
 ghost use Rattle.std.specs.Prelude.{◌≡◌, ◌≢◌, true, false, nat_le, length, IfOk, IfErr};
 ghost use Rattle.std.specs.Option.{option_copied};
-ghost use Rattle.pid_ident.specs.Words.{
+ghost use Rattle.pid_file.specs.Words.{
   is_account as account_test,
   is_name as name_test,
   is_text as text_test,
@@ -44,7 +44,7 @@ pub fn rank_said(text: &str) -> Option<Rank>
 pub fn submission_number(text: &str) -> Option<u32>
     ensures { result ≡ number_in text.now }
 {
-    match number_up_to(text, 10, SUBMISSIONS as u64) {
+    match number_up_to(text, SUBMISSIONS as u64, 10) {
         Some(number) => Some(number as u32),
         None => None,
     }

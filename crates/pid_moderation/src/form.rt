@@ -1,6 +1,6 @@
 //! Commands from their fields.
 ghost use Rattle.std.specs.Prelude.{◌≡◌, ◌≢◌, true, false, IfOk, IfErr, None, Some, codes};
-ghost use Rattle.pid_ident.specs.Words.{is_name as name_test};
+ghost use Rattle.pid_file.specs.Words.{is_name as name_test};
 ghost use Rattle.std.specs.Str.{bytes_eq};
 ghost use Rattle.std.specs.Option.{option_copied};
 ghost use Rattle.pid_moderation.specs.Fields.{texts_of, value as value_in, text_at as text_in};
@@ -13,7 +13,7 @@ ghost use Rattle.pid_moderation.specs.Forms.{
   proposal_in,
   is_none_or,
 };
-ghost use Rattle.pid_moderation.specs.Forms.{number_in, Says};
+ghost use Rattle.pid_moderation.specs.Forms.{number_in, SaysByChecks};
 
 use crate::command::{Act, Command, Proposal};
 use crate::fields::{
@@ -63,7 +63,7 @@ fn number_at(fields: &[(String, String)]) -> Result<u32, Refusal>
 }
 
 fn account_act(alloc: Global, fields: &[(String, String)]) -> Result<Act, Refusal>
-    ensures { Says (value_checks Verb.Account (texts_of fields.now))
+    ensures { SaysByChecks (value_checks Verb.Account (texts_of fields.now))
         (act_said Verb.Account (texts_of fields.now)) result }
 {
     let who = account_in(alloc, text_at(fields, "who"))?;
@@ -99,7 +99,7 @@ fn is_removal_told(fields: &[(String, String)]) -> bool
 }
 
 fn submit_act(alloc: Global, fields: &[(String, String)]) -> Result<Act, Refusal>
-    ensures { Says (value_checks Verb.Submit (texts_of fields.now))
+    ensures { SaysByChecks (value_checks Verb.Submit (texts_of fields.now))
         (act_said Verb.Submit (texts_of fields.now)) result }
 {
     let Some(path) = Path::parse(text_at(fields, "path")) else {
@@ -118,7 +118,7 @@ fn submit_act(alloc: Global, fields: &[(String, String)]) -> Result<Act, Refusal
 }
 
 fn comment_act(alloc: Global, fields: &[(String, String)]) -> Result<Act, Refusal>
-    ensures { Says (value_checks Verb.Comment (texts_of fields.now))
+    ensures { SaysByChecks (value_checks Verb.Comment (texts_of fields.now))
         (act_said Verb.Comment (texts_of fields.now)) result }
 {
     let number = number_at(fields)?;
@@ -127,7 +127,7 @@ fn comment_act(alloc: Global, fields: &[(String, String)]) -> Result<Act, Refusa
 }
 
 fn reject_act(alloc: Global, fields: &[(String, String)]) -> Result<Act, Refusal>
-    ensures { Says (value_checks Verb.Reject (texts_of fields.now))
+    ensures { SaysByChecks (value_checks Verb.Reject (texts_of fields.now))
         (act_said Verb.Reject (texts_of fields.now)) result }
 {
     let number = number_at(fields)?;
@@ -136,7 +136,7 @@ fn reject_act(alloc: Global, fields: &[(String, String)]) -> Result<Act, Refusal
 }
 
 fn import_act(alloc: Global, fields: &[(String, String)]) -> Result<Act, Refusal>
-    ensures { Says (value_checks Verb.Import (texts_of fields.now))
+    ensures { SaysByChecks (value_checks Verb.Import (texts_of fields.now))
         (act_said Verb.Import (texts_of fields.now)) result }
 {
     let file = file_in(alloc, text_at(fields, "file"))?;
@@ -144,7 +144,7 @@ fn import_act(alloc: Global, fields: &[(String, String)]) -> Result<Act, Refusal
 }
 
 fn act(alloc: Global, verb: Verb, fields: &[(String, String)]) -> Result<Act, Refusal>
-    ensures { Says (value_checks verb (texts_of fields.now))
+    ensures { SaysByChecks (value_checks verb (texts_of fields.now))
         (act_said verb (texts_of fields.now)) result }
 {
     match verb {
@@ -178,7 +178,8 @@ pub fn command_of(
     key: Option<&str>,
     fields: &[(String, String)],
 ) -> Result<Command, Refusal>
-    ensures { Says (form_checks verb account.now (option_copied key.entry) (texts_of fields.now))
+    ensures { SaysByChecks
+        (form_checks verb account.now (option_copied key.entry) (texts_of fields.now))
         (command_said verb account.now (option_copied key.entry) (texts_of fields.now)) result }
 {
     if !has_fields(verb, fields) {

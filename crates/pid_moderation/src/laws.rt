@@ -8,7 +8,7 @@ ghost use Rattle.pid_moderation.specs.History.{
   Reading,
   accepted_in,
   asked,
-  count_of,
+  accepted_count,
   mark_of,
 };
 ghost use Rattle.pid_moderation.specs.CheckTables.{most_revision};
@@ -33,6 +33,7 @@ ghost use Rattle.pid_moderation.specs.WellMade.{HasGoodFile, IsWellMade};
 ghost use Rattle.pid_moderation.specs.Writes.{tree_of, last_written, writes_of};
 
 use crate::command::{Act, Command, Proposal};
+use crate::lists::PAGE;
 
 /// Every history that commands lead to has a tree of names, an administrator, submissions of
 /// accounts, deciders other than authors, remarks of accounts, limits that are kept, and the reply
@@ -82,10 +83,10 @@ pub fn marks_judge_nothing()
     ensures views { (mark : ℕ) (h : History)
         → without_numbers (views_of (with_mark mark h)) ≡ without_numbers (views_of h) }
     ensures after { (mark : ℕ) (h : History) (commands : List Asked)
-        → count_of h + length commands ≤ most_revision
+        → accepted_count h + length commands ≤ most_revision
         → after_all (with_mark mark h) commands ≡ with_mark mark (after_all h commands) }
     ensures answers { (mark : ℕ) (h : History) (commands : List Asked)
-        → count_of h + length commands ≤ most_revision
+        → accepted_count h + length commands ≤ most_revision
         → answers (with_mark mark h) commands ≡ answers h commands }
 {}
 
@@ -114,12 +115,12 @@ pub fn revisions_are_within()
 {}
 
 /// The since of an item that is there is the revision at which it was added or renamed for the last
-/// time, 0 where that was before the mark. An item that was removed tells nobody; so who keeps a
-/// copy of a file that was taken over begins with all of its items.
+/// time, 0 where that was before the mark.
 pub fn sinces_are_last_changes()
     ensures within { (h : History) (path : List ℕ) → since_of path h ≤ revision_of h }
     // Up to the mark nothing counts as changed.
-    ensures at_mark { (h : History) (path : List ℕ) → count_of h ≤ mark_of h → since_of path h ≡ 0 }
+    ensures at_mark { (h : History) (path : List ℕ) → accepted_count h ≤ mark_of h
+        → since_of path h ≡ 0 }
     // A command that leaves the name leaves the since: also an import that brings the same name.
     ensures kept { (h : History) (c : Asked) (path : List ℕ)
         → name_at path (items_of (after h c)) ≡ name_at path (items_of h)
@@ -133,12 +134,21 @@ pub fn sinces_are_last_changes()
         → name_at path (items_of (after h c)) ≡ Some name
         → name_at path (items_of h) ≢ Some name
         → since_of path (after h c) ≡ revision_of (after h c) }
-    // What has not changed since an earlier revision had its name then: a mirror of that revision
-    // needs the others alone.
-    ensures already { (h : History) (commands : List Asked) (path name : List ℕ) → IsMarked h
+{}
+
+/// An item that has not changed since an earlier revision had its name then: a mirror of that
+/// revision needs the others alone. An item that was removed is in no list of changes; so who keeps
+/// a copy of a file that was taken over begins with all of its items.
+pub fn mirrors_need_changes_alone()
+    ensures { (h : History) (commands : List Asked) (path name : List ℕ) → IsMarked h
         → name_at path (items_of (after_all h commands)) ≡ Some name
         → since_of path (after_all h commands) ≤ revision_of h
         → name_at path (items_of h) ≡ Some name }
+{}
+
+/// A page holds at most a hundred submissions or items.
+pub fn pages_hold_a_hundred()
+    ensures { PAGE ≡ 100 }
 {}
 
 /// What the parts of a command keep by their types, where its file reads to a tree of names.

@@ -7,7 +7,7 @@ mod command;
 mod facts;
 mod fields;
 mod form;
-mod laws;
+pub mod laws;
 mod lists;
 mod policy;
 mod rank;

@@ -45,14 +45,14 @@ ghost use Rattle.pid_moderation.specs.CheckTables.{
   import_checks,
   file_checks,
   overflows as one_too_many,
-  reply_to,
-  counts_of,
+  reply_by_facts,
+  import_reply,
 };
-ghost use Rattle.pid_moderation.specs.Judgement.{judge, answer};
 ghost use Rattle.pid_moderation.specs.BeforeFile.{SettlesImport, WaitsForFile};
 ghost use Rattle.pid_moderation.specs.Effects.{
+  AnswersByJudgement,
   effect_of,
-  counted,
+  import_effect,
   edit_of,
   items_after,
   write_of,
@@ -61,7 +61,7 @@ ghost use Rattle.pid_moderation.specs.Effects.{
   FitsHistory,
   receipt_of,
 };
-ghost use Rattle.pid_moderation.specs.Steps.Following.{Follows, Settles};
+ghost use Rattle.pid_moderation.specs.Steps.Following.{FollowsChecks, Settles};
 ghost use Rattle.pid_moderation.specs.Revisions.{IsMarked};
 
 use crate::change::{Change, Edit, Effect, Receipt, Write};
@@ -179,7 +179,7 @@ fn withdraw(facts: &Facts, account: &Account, number: u32) -> Result<(Effect, Re
 
 // The checks of a decision on a submission that is there.
 fn may_decide(facts: &Facts, account: &Account, named: &Named) -> Result<(), Refusal>
-    ensures { Follows ((is_none facts.now.rank, Refusal.NoAccount) ∷
+    ensures { FollowsChecks ((is_none facts.now.rank, Refusal.NoAccount) ∷
         decision_checks account.now facts.now.rank named.now) tt result }
 {
     let needed = needed_rank(&named.path, is_removal(&named.proposal));
@@ -193,7 +193,7 @@ fn may_decide(facts: &Facts, account: &Account, named: &Named) -> Result<(), Ref
 
 // What an approval writes is new and keeps the tree.
 fn may_write(facts: &Facts, named: &Named) -> Result<(), Refusal>
-    ensures { Follows (item_checks facts.now named.now) tt result }
+    ensures { FollowsChecks (item_checks facts.now named.now) tt result }
 {
     let proposal = &named.proposal;
     pass(&[
@@ -214,7 +214,7 @@ fn may_write(facts: &Facts, named: &Named) -> Result<(), Refusal>
 }
 
 fn may_approve(facts: &Facts, account: &Account, named: &Named) -> Result<(), Refusal>
-    ensures { Follows ((is_none facts.now.rank, Refusal.NoAccount) ∷
+    ensures { FollowsChecks ((is_none facts.now.rank, Refusal.NoAccount) ∷
         approval_checks account.now facts.now named.now) tt result }
 {
     may_decide(facts, account, named)?;
@@ -324,7 +324,7 @@ fn import_refusal(facts: &Facts) -> Option<Refusal>
 }
 
 fn bring_in(file: Option<Verdict>) -> Result<(Effect, Reply), Refusal>
-    ensures { Follows (file_checks file) (counted file, counts_of file) result }
+    ensures { FollowsChecks (file_checks file) (import_effect file, import_reply file) result }
 {
     match file {
         Some(
@@ -402,7 +402,7 @@ fn effect(facts: &Facts, command: &Command) -> Result<(Effect, Reply), Refusal>
 
 // The number of one command more.
 fn next_revision(facts: &Facts) -> Result<u64, Refusal>
-    ensures { Follows (revision_checks facts.now) (facts.now.revision + 1) result }
+    ensures { FollowsChecks (revision_checks facts.now) (facts.now.revision + 1) result }
 {
     pass(&[(REVISIONS <= facts.revision, Refusal::Full)])?;
     Ok(facts.revision + 1)
@@ -410,10 +410,10 @@ fn next_revision(facts: &Facts) -> Result<u64, Refusal>
 
 // The effect, the reply and the number of such a command.
 fn accept(facts: &Facts, command: &Command) -> Result<(Effect, Reply, u64), Refusal>
-    ensures { (reading : Reading) → let c = asked command.now reading in Follows
+    ensures { (reading : Reading) → let c = asked command.now reading in FollowsChecks
         (checks_for facts.now c) (
           effect_of c.account facts.now c.deed,
-          reply_to facts.now c.deed,
+          reply_by_facts facts.now c.deed,
           facts.now.revision + 1,
         ) result }
 {
@@ -471,15 +471,10 @@ fn by_facts(facts: &Facts, command: &Command) -> Result<(Change, Reply), Refusal
 /// Judges a command by the facts of a history: the reply with what it changes, or the first check
 /// that fails.
 pub fn decide(facts: &Facts, command: &Command) -> Result<(Change, Reply), Refusal>
-    // The reply is that of the judgement.
-    ensures reply { (v : Views) (reading : Reading)
+    // The reply is that of the judgement, and so is the refusal, unless memory is short.
+    ensures answers { (v : Views) (reading : Reading)
         → facts.now ≡ facts_of v (asked command.now reading)
-        → IfOk result (λ d. answer (judge v (asked command.now reading)) ≡ Ok d.1) }
-    // So is the refusal, unless memory is short.
-    ensures refusal { (v : Views) (reading : Reading)
-        → facts.now ≡ facts_of v (asked command.now reading)
-        → IfErr result (λ e. e ≢ Refusal.Memory
-        → answer (judge v (asked command.now reading)) ≡ Err e) }
+        → AnswersByJudgement v (asked command.now reading) result }
     // The change leads from what a history shows to what it shows with the command.
     ensures change { (h : History) (reading : Reading) → IsMarked h
         → facts.now ≡ facts_of (views_of h) (asked command.now reading)

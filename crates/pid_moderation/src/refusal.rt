@@ -7,11 +7,13 @@ use std::alloc::AllocError;
 use thiserror::Error;
 
 /// Why a file is not imported.
-#[derive(Clone, Copy, Debug, PartialEq, Eq)]
+#[derive(Clone, Copy, Debug, PartialEq, Eq, Error)]
 pub enum FileFault {
     /// The first faulty line, counted from 1, and what is wrong with it.
+    #[error("line {line}: {} {}", .kind.number(), .kind.word())]
     Line { line: u64, kind: LineKind },
     /// The file has more entries than a registry holds.
+    #[error("too many entries")]
     TooMany,
 }
 

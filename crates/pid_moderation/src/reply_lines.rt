@@ -10,8 +10,8 @@ ghost use Rattle.std.specs.Prelude.{
   length,
   string_bytes,
 };
-ghost use Rattle.pid_ident.specs.Sending.{Sends};
-ghost use Rattle.pid_moderation.specs.ReplyLines.{accepted_line, refused_line, reply_text};
+ghost use Rattle.pid_file.specs.Sending.{Sends};
+ghost use Rattle.pid_moderation.specs.ReplyLines.{accepted_line, refused_line, outcome_line};
 
 use crate::command::Reply;
 use crate::refusal::{FileFault, Refusal};
@@ -128,7 +128,7 @@ pub fn write_reply_line<W: Output>(
     out: &mut W,
     outcome: Result<Reply, Refusal>,
 ) -> Result<(), WriteFault>
-    ensures sent { Sends result (W.taken out.old) (W.taken out.new) (reply_text outcome) }
+    ensures sent { Sends result (W.taken out.old) (W.taken out.new) (outcome_line outcome) }
     ensures fault { IfErr result (λ f. W.write_fault out.new ≡ Some f) }
 {
     match outcome {
@@ -185,7 +185,7 @@ impl Output for Written {
 
 /// The line that answers a command, with the line feed at its end.
 pub fn reply_line(alloc: Global, outcome: Result<Reply, Refusal>) -> Result<String, AllocError>
-    ensures { IfOk result (λ line. string_bytes line ≡ reply_text outcome) }
+    ensures { IfOk result (λ line. string_bytes line ≡ outcome_line outcome) }
 {
     let mut line = Written {
         text: String::new(alloc),

@@ -11,7 +11,7 @@ use Rattle.pid_file.specs.LookingBack.{Item}
 use Rattle.pid_file.specs.Numbered.{Numbered, at_line, numbered_at}
 use Rattle.pid_file.specs.Faults.{line_fault_of}
 use Rattle.pid_file.specs.OpenLevels.{IsOpenAt, Says, items_of, open_behind}
-use Rattle.pid_reader.specs.LinesLeft.{as_ok, told_at, told_from, Stands, HasLeft, IsAtEnd, GivesFirst}
+use Rattle.pid_reader.specs.LinesLeft.{as_ok, told_at, told_from, StandsAfter, HasLeft, IsAtEnd, GivesFirst}
 
 -- what is told where a line has no fault
 told_step : (earlier : List (List ℕ)) (line : List ℕ) (lines : List (List ℕ)) → line_fault_of earlier line ≡ None → told_from earlier (line ∷ lines) ≡ map as_ok (numbered_at earlier line) ++ told_from (line ∷ earlier) lines
@@ -23,7 +23,7 @@ told_stop earlier line lines k h = ap (λ o. told_at earlier line o (told_from (
 next_lines : (text piece rest line : List ℕ) → pieces_of text ≡ piece ∷ pieces_of rest → line ≡ drop_cr piece → lines_of text ≡ line ∷ lines_of rest
 next_lines text piece rest line parts is = ap (map drop_cr) parts ∙ ap (λ (l : List ℕ). l ∷ lines_of rest) (sym is)
 
-stands_on : (l m : Lines) (earlier : List (List ℕ)) (line : List ℕ) (s : Said) → Stands l earlier → Says l.levels earlier line s → m.levels ≡ open_behind l.levels s → m.number ≡ l.number + 1 → Stands m (line ∷ earlier)
+stands_on : (l m : Lines) (earlier : List (List ℕ)) (line : List ℕ) (s : Said) → StandsAfter l earlier → Says l.levels earlier line s → m.levels ≡ open_behind l.levels s → m.number ≡ l.number + 1 → StandsAfter m (line ∷ earlier)
 stands_on l m earlier line s at says levels number = record { levels = rw levels says.behind; number = omega (arith, at.number, number) }
 
 -- a line that is no entry

@@ -1,5 +1,6 @@
 -- What is told line by line, up to the first line that has a fault of its own.
-use Rattle.std.specs.Prelude.{◌≡◌, ℕ, ◌+◌, List, [], ◌∷◌, ◌++◌, length, map, Option, Some, None, Result, Ok, Err}
+use Rattle.std.specs.Prelude.{◌≡◌, ℕ, ◌+◌, List, [], ◌∷◌, ◌++◌, length, map}
+use Rattle.std.specs.Prelude.{Option, Some, None, Result, Ok, Err}
 use Rattle.pid_file.specs.declared.line_kind.LineKind.{LineKind}
 use Rattle.pid_reader.specs.declared.line_fault.LineFault.{LineFault}
 use Rattle.pid_file.specs.declared.sink.Entry.{Entry}
@@ -25,20 +26,20 @@ told_from earlier [] = []
 told_from earlier (line ∷ lines) = told_at earlier line (line_fault_of earlier line)
     (told_from (line ∷ earlier) lines)
 
--- the reader of lines stands behind these lines
-pub record Stands (l : Lines) (earlier : List (List ℕ)) : Type 0 where
+-- the reader of lines stands after these lines
+pub record StandsAfter (l : Lines) (earlier : List (List ℕ)) : Type 0 where
   pub levels : IsOpenAt l.levels earlier
   pub number : l.number ≡ length earlier
 
 -- this is what the reader of lines will tell
 pub record HasLeft (l : Lines) (items : List (Result Numbered LineFault)) : Type 0 where
   pub earlier : List (List ℕ)
-  pub stands : Stands l earlier
+  pub stands : StandsAfter l earlier
   pub are : items ≡ told_from earlier (lines_of l.rest.now)
 
-abbrev pub told : Result Entry LineFault → Result Numbered LineFault
-told (Ok e) = Ok (as_told e)
-told (Err f) = Err f
+abbrev pub item_told : Result Entry LineFault → Result Numbered LineFault
+item_told (Ok e) = Ok (as_told e)
+item_told (Err f) = Err f
 
 -- nothing is left of these, now or later
 pub record IsAtEnd (items : List (Result Numbered LineFault)) (new : Lines) : Type 0 where
@@ -57,4 +58,4 @@ abbrev pub Gives : Lines → Option (Result Entry LineFault) → Lines → Type 
 Gives old None new = (items : List (Result Numbered LineFault)) → HasLeft old items
     → IsAtEnd items new
 Gives old (Some x) new = (items : List (Result Numbered LineFault)) → HasLeft old items
-    → GivesFirst items (told x) new
+    → GivesFirst items (item_told x) new

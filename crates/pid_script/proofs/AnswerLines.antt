@@ -7,7 +7,7 @@ use Rattle.std.specs.Prelude.{◌⊎◌, codes, decimal}
 use Rattle.pid_ident.specs.Sending.{SendsFront}
 use Rattle.pid_moderation.specs.declared.command.Reply.{Reply}
 use Rattle.pid_moderation.specs.declared.refusal.Refusal.{Refusal}
-use Rattle.pid_moderation.specs.ReplyLines.{details, refused_line, reply_text}
+use Rattle.pid_moderation.specs.ReplyLines.{details, refused_line, outcome_line}
 use Rattle.pid_moderation.specs.Refusals.{refusal_number, refusal_word}
 use Rattle.pid_script.specs.declared.line_end.LineEnd.{LineEnd}
 use Rattle.pid_script.specs.declared.line_end.LineEnd.TheVariants.{Stopped, WriteFault}
@@ -26,27 +26,27 @@ refusal_parts e number word n w =
     ∙ ap (λ (l : List ℕ). codes "refused " ++ decimal (refusal_number e) ++ codes " " ++ l ++ details e ++ 10 ∷ []) w
 
 -- the text of an answer, which is the reply or a stop
-part_of : (answer : Result Reply Refusal) (reply : List ℕ) → IsAnswer reply answer → (reply_text answer ≡ reply) ⊎ IsStopText (IsGiven (refusal_in answer)) IsNothing (reply_text answer)
+part_of : (answer : Result Reply Refusal) (reply : List ℕ) → IsAnswer reply answer → (outcome_line answer ≡ reply) ⊎ IsStopText (IsGiven (refusal_in answer)) IsNothing (outcome_line answer)
 part_of answer reply (inl is) = inl is
-part_of answer reply (inr (e, stop, is)) = inr (record { begun = []; front = refl; refusal = e; cause = (ap refusal_in is, stop); is = ap reply_text is })
+part_of answer reply (inr (e, stop, is)) = inr (record { begun = []; front = refl; refusal = e; cause = (ap refusal_in is, stop); is = ap outcome_line is })
 
 -- the writer failed within it
-pub told_broken : (end : LineEnd) (answer : Result Reply Refusal) (reply : List ℕ) (old new : Out) → end ≡ WriteFault → SaysFront old new (reply_text answer) → IsAnswer reply answer → Tells (IsGiven (refusal_in answer)) IsNothing (Err end) reply old new
-told_broken end answer reply old new write front is = subst (λ e. Tells (IsGiven (refusal_in answer)) IsNothing (Err e) reply old new) (sym write) (record { text = reply_text answer; is = part_of answer reply is; front = front })
+pub told_broken : (end : LineEnd) (answer : Result Reply Refusal) (reply : List ℕ) (old new : Out) → end ≡ WriteFault → SaysFront old new (outcome_line answer) → IsAnswer reply answer → Tells (IsGiven (refusal_in answer)) IsNothing (Err end) reply old new
+told_broken end answer reply old new write front is = subst (λ e. Tells (IsGiven (refusal_in answer)) IsNothing (Err e) reply old new) (sym write) (record { text = outcome_line answer; is = part_of answer reply is; front = front })
 
 -- or when what is held went out
-pub told_unsent : (end : LineEnd) (answer : Result Reply Refusal) (reply : List ℕ) (old mid new : Out) → end ≡ WriteFault → Says old mid (reply_text answer) → SendsFront mid.taken new.taken mid.held → IsAnswer reply answer → Tells (IsGiven (refusal_in answer)) IsNothing (Err end) reply old new
-told_unsent end answer reply old mid new write said front is = told_broken end answer reply old new write (said_front old mid new.taken (reply_text answer) said front) is
+pub told_unsent : (end : LineEnd) (answer : Result Reply Refusal) (reply : List ℕ) (old mid new : Out) → end ≡ WriteFault → Says old mid (outcome_line answer) → SendsFront mid.taken new.taken mid.held → IsAnswer reply answer → Tells (IsGiven (refusal_in answer)) IsNothing (Err end) reply old new
+told_unsent end answer reply old mid new write said front is = told_broken end answer reply old new write (said_front old mid new.taken (outcome_line answer) said front) is
 
 -- all went out, and the answer is a stop
-pub told_stopped : (answer : Result Reply Refusal) (reply : List ℕ) (e : Refusal) (old mid new : Out) → Says old mid (reply_text answer) → Appends mid.taken new.taken mid.held → answer ≡ Err e → is_stop e ≡ true → Tells (IsGiven (refusal_in answer)) IsNothing (Err Stopped) reply old new
+pub told_stopped : (answer : Result Reply Refusal) (reply : List ℕ) (e : Refusal) (old mid new : Out) → Says old mid (outcome_line answer) → Appends mid.taken new.taken mid.held → answer ≡ Err e → is_stop e ≡ true → Tells (IsGiven (refusal_in answer)) IsNothing (Err Stopped) reply old new
 told_stopped answer reply e old mid new said went is stop = record {
-  text = reply_text answer;
-  stop = record { begun = []; front = refl; refusal = e; cause = (ap refusal_in is, stop); is = ap reply_text is };
-  told = said_out old mid new.taken (reply_text answer) said went;
+  text = outcome_line answer;
+  stop = record { begun = []; front = refl; refusal = e; cause = (ap refusal_in is, stop); is = ap outcome_line is };
+  told = said_out old mid new.taken (outcome_line answer) said went;
 }
 
 -- all went out, and the answer is none
-pub told_whole : (answer : Result Reply Refusal) (reply : List ℕ) (old mid new : Out) → Says old mid (reply_text answer) → Appends mid.taken new.taken mid.held → new.held ≡ [] → ((e : Refusal) → answer ≡ Err e → is_stop e ≡ false) → IsAnswer reply answer → Says old new reply
-told_whole answer reply old mid new said went none goes (inl is) = subst (Says old new) is (all_out old.taken new.taken old.held new.held (reply_text answer) none (said_out old mid new.taken (reply_text answer) said went))
+pub told_whole : (answer : Result Reply Refusal) (reply : List ℕ) (old mid new : Out) → Says old mid (outcome_line answer) → Appends mid.taken new.taken mid.held → new.held ≡ [] → ((e : Refusal) → answer ≡ Err e → is_stop e ≡ false) → IsAnswer reply answer → Says old new reply
+told_whole answer reply old mid new said went none goes (inl is) = subst (Says old new) is (all_out old.taken new.taken old.held new.held (outcome_line answer) none (said_out old mid new.taken (outcome_line answer) said went))
 told_whole answer reply old mid new said went none goes (inr (e, stop, is)) = absurd (true≢false (sym stop ∙ goes e is))

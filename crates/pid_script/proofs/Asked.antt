@@ -25,7 +25,7 @@ use Rattle.pid_script.specs.declared.line_end.LineEnd.{LineEnd}
 use Rattle.pid_script.specs.declared.line_end.LineEnd.TheVariants.{Stopped, WriteFault, TooLong}
 use Rattle.pid_script.specs.declared.moderated.Moderated.{Ghosts}
 use Rattle.pid_script.specs.Asking.{path_asked, look_up_asked}
-use Rattle.pid_lookup.specs.Fields.{told as look_up_told}
+use Rattle.pid_lookup.specs.Fields.{as_look_up as look_up_told}
 use Rattle.pid_script.specs.LookingUp.{LooksUp}
 use Rattle.pid_script.specs.Calling.{CallsSend}
 use Rattle.pid_script.specs.Replies.{reply_to, command_of, item_line, name_line, is_call, looked_up, answer_line, BAD_FLAGS}

@@ -17,7 +17,7 @@ use Rattle.pid_moderation.specs.declared.refusal.Refusal.TheVariants.{BadPath, B
 use Rattle.pid_moderation.specs.History.{History}
 use Rattle.pid_moderation.specs.Items.{name_at}
 use Rattle.pid_moderation.specs.Judgement.{answer, judge}
-use Rattle.pid_moderation.specs.ReplyLines.{accepted_line, refused_line, reply_text}
+use Rattle.pid_moderation.specs.ReplyLines.{accepted_line, refused_line, outcome_line}
 use Rattle.pid_moderation.specs.Views.{views_of, items_of}
 use Rattle.pid_moderation.specs.Writes.{tree_of}
 use Rattle.pid_tables.specs.Files.{asks}
@@ -89,7 +89,7 @@ done_no_stop Done = by_bytes (accepted_line Done) refl
 done_no_stop (Numbered n) = by_bytes (accepted_line (Numbered n)) refl
 done_no_stop (Counts added renamed same) = by_bytes (accepted_line (Counts added renamed same)) refl
 
-answer_no_stop : (a : Result Reply Refusal) → ((e : Refusal) → a ≡ Err e → is_stop e ≡ false) → IsStopLine (reply_text a) → ⊥
+answer_no_stop : (a : Result Reply Refusal) → ((e : Refusal) → a ≡ Err e → is_stop e ≡ false) → IsStopLine (outcome_line a) → ⊥
 answer_no_stop (Ok reply) none = done_no_stop reply
 answer_no_stop (Err e) none = refused_no_stop e (none e refl)
 

@@ -11,7 +11,7 @@ use Rattle.pid_moderation.specs.declared.facts.Facts.{Facts}
 use Rattle.pid_moderation.specs.declared.facts.Named.{Named}
 use Rattle.pid_moderation.specs.declared.facts.Verdict.{Verdict}
 use Rattle.pid_moderation.specs.declared.facts.Verdict.TheVariants as verdicts
-use Rattle.pid_moderation.specs.CheckTables.{Checks, checks, command_checks, revision_checks, first_failing, later_checks, if_named, comment_checks, withdraw_checks, decision_checks, approval_checks, file_checks, is_ill_formed, reply_to}
+use Rattle.pid_moderation.specs.CheckTables.{Checks, checks, command_checks, revision_checks, first_failing, later_checks, if_named, comment_checks, withdraw_checks, decision_checks, approval_checks, file_checks, is_ill_formed, reply_by_facts}
 use Rattle.pid_moderation.specs.FactsOfViews.{facts_of}
 use Rattle.pid_moderation.specs.Fields.{Fields}
 use Rattle.pid_moderation.specs.Forms.{form_checks}
@@ -64,7 +64,7 @@ both_stop : (first second : Checks) → AreNoStops first → AreNoStops second �
 both_stop [] second none more = more
 both_stop (c ∷ cs) second none more = (none.0, both_stop cs second none.1 more)
 
-outcome_stops : (ill : Bool) (f : Facts) (c : Asked) (kept : Option Reply) (failing : Option Refusal) → ((g : Refusal) → failing ≡ Some g → is_stop g ≡ false) → (e : Refusal) → answer (cond ill (Refused BadText) (unless_kept kept (unless failing (reply_to f c.deed)))) ≡ Err e → is_stop e ≡ false
+outcome_stops : (ill : Bool) (f : Facts) (c : Asked) (kept : Option Reply) (failing : Option Refusal) → ((g : Refusal) → failing ≡ Some g → is_stop g ≡ false) → (e : Refusal) → answer (cond ill (Refused BadText) (unless_kept kept (unless failing (reply_by_facts f c.deed)))) ≡ Err e → is_stop e ≡ false
 outcome_stops true f c kept failing none e is = let same : BadText ≡ e = cc in sym (ap is_stop same)
 outcome_stops false f c (Some reply) failing none e is = absurd cc
 outcome_stops false f c None None none e is = absurd cc

@@ -10,7 +10,7 @@ use Rattle.pid_moderation.specs.declared.verb.Verb.{Verb}
 use Rattle.pid_moderation.specs.History.{History}
 use Rattle.pid_moderation.specs.Judgement.{after, after_all, judge}
 use Rattle.pid_moderation.specs.Judgement as judgement
-use Rattle.pid_moderation.specs.ReplyLines.{reply_text}
+use Rattle.pid_moderation.specs.ReplyLines.{outcome_line}
 use Rattle.pid_moderation.specs.Views.{views_of}
 use Rattle.pid_tables.specs.Files.{asks}
 use Rattle.pid_moderation.specs.Faults.{IsFault}
@@ -44,12 +44,12 @@ obey_cause m answer c ask h r new called obeys failed e given = record { stops =
 
 obey_answer : {R : Type 0} (m : Ghosts R) (answer : Result Reply Refusal) (c : Command) (h : History) (r new : R)
     → (m.showing.shows r h → CommandLeaves m.showing answer new h (asks c)) → (m.has_failed r → answer ≡ Err Failed)
-    → Stands m r h → IsAnswer (reply_text (judgement.answer (judge (views_of h) (asks c)))) answer
+    → Stands m r h → IsAnswer (outcome_line (judgement.answer (judge (views_of h) (asks c)))) answer
 obey_answer m answer c h r new obeys failed (inr f) = inr (Failed, refl, failed f)
 obey_answer m answer c h r new obeys failed (inl s) = by answer (obeys s)
   where
-    by : (a : Result Reply Refusal) → CommandLeaves m.showing a new h (asks c) → IsAnswer (reply_text (judgement.answer (judge (views_of h) (asks c)))) a
-    by a (inl judged) = inl (ap reply_text judged.0)
+    by : (a : Result Reply Refusal) → CommandLeaves m.showing a new h (asks c) → IsAnswer (outcome_line (judgement.answer (judge (views_of h) (asks c)))) a
+    by a (inl judged) = inl (ap outcome_line judged.0)
     by (Ok reply) (inr fault) = absurd fault.0
     by (Err e) (inr fault) = inr (e, faults_stop e fault.0, refl)
 
@@ -171,8 +171,8 @@ obeyed m result answer c verb account form h r new old left is obeys failed told
   sends = obey_sends m result answer c verb account form r new is call goes stop fits;
 }
   where
-    tells : Tells (IsGiven (refusal_in answer)) IsNothing result (reply_text (judgement.answer (judge (views_of h) (asks c)))) old left
+    tells : Tells (IsGiven (refusal_in answer)) IsNothing result (outcome_line (judgement.answer (judge (views_of h) (asks c)))) old left
     tells = told _ (obey_answer m answer c h r new obeys (λ f. (failed f).0) stands)
 
     stop : result ≡ Err Stopped → StopsBy answer
-    stop = stops_by result answer (reply_text (judgement.answer (judge (views_of h) (asks c)))) old left tells
+    stop = stops_by result answer (outcome_line (judgement.answer (judge (views_of h) (asks c)))) old left tells

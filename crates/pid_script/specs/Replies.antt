@@ -17,7 +17,7 @@ use Rattle.pid_moderation.specs.declared.refusal.Refusal.TheVariants.{BadText}
 use Rattle.pid_moderation.specs.History.{Asked, History}
 use Rattle.pid_moderation.specs.Items.{name_at}
 use Rattle.pid_moderation.specs.Judgement.{answer, judge, after_all}
-use Rattle.pid_moderation.specs.ReplyLines.{refused_line, reply_text}
+use Rattle.pid_moderation.specs.ReplyLines.{refused_line, outcome_line}
 use Rattle.pid_moderation.specs.Views.{views_of, items_of}
 use Rattle.pid_moderation.specs.Writes.{tree_of}
 use Rattle.pid_lookup.specs.Fields.{LookUp}
@@ -45,7 +45,7 @@ answer_line (Text text) = codes "text " ++ text ++ codes "\n"
 -- the outcome of a command over a history
 abbrev pub outcome_of : Result Command Refusal → History → List ℕ
 outcome_of (Err refusal) h = refused_line refusal
-outcome_of (Ok command) h = reply_text (answer (judge (views_of h) (asks command)))
+outcome_of (Ok command) h = outcome_line (answer (judge (views_of h) (asks command)))
 
 -- what a path that is asked for is called
 abbrev pub item_line : Result Path Refusal → History → List ℕ

@@ -20,7 +20,7 @@ ghost use Rattle.std.specs.Prelude.{
   MatchResult,
 };
 ghost use Rattle.pid_lookup.specs.declared.answering.LookupRefusal.TheVariants as look_ups;
-ghost use Rattle.pid_moderation.specs.ReplyLines.{accepted_line, refused_line, details, reply_text};
+ghost use Rattle.pid_moderation.specs.ReplyLines.{accepted_line, refused_line, details, outcome_line};
 ghost use Rattle.pid_moderation.specs.declared.refusal.Refusal.TheVariants as refusals;
 ghost use Rattle.pid_lookup.specs.Flags.{is_bad};
 ghost use Rattle.pid_script.specs.StopLines.{is_stop as is_stopping};
@@ -243,7 +243,7 @@ fn say_answer<O: Output>(
     answer: Result<Reply, Refusal>,
 ) -> Result<(), LineEnd>
     ensures told { SaysText result (out (O.taken output.old) held.old.items)
-        (out (O.taken output.new) held.new.items) (reply_text answer) }
+        (out (O.taken output.new) held.new.items) (outcome_line answer) }
     ensures end { IfErr result (λ e. e ≡ LineEnd.WriteFault) }
     ensures fault { result ≡ Err LineEnd.WriteFault → IsSome (O.write_fault output.new) }
 {

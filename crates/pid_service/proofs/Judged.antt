@@ -8,8 +8,8 @@ use Rattle.pid_moderation.specs.declared.command.Command.{Command}
 use Rattle.pid_moderation.specs.declared.command.Reply.{Reply}
 use Rattle.pid_moderation.specs.declared.refusal.Refusal.{Refusal}
 use Rattle.pid_moderation.specs.declared.refusal.Refusal.TheVariants.{BadPath, BadName, BadText, NoAccount, RankTooLow, NoSubmission, NotPending, NotAuthor, OwnDecision, ParentMissing, HasChildren, NothingToDo, FileFault, Full, Memory, Store, Failed}
-use Rattle.pid_moderation.specs.Changes.{changed, with_pairs, Fits}
-use Rattle.pid_moderation.specs.CheckTables.{checks, first_failing, is_ill_formed, reply_to}
+use Rattle.pid_moderation.specs.Changes.{changed, with_pairs, FitsViews}
+use Rattle.pid_moderation.specs.CheckTables.{checks, first_failing, is_ill_formed, reply_by_facts}
 use Rattle.pid_moderation.specs.Effects.{new_pairs, LeadsOn, FitsHistory}
 use Rattle.pid_moderation.specs.FactsOfViews.{facts_of}
 use Rattle.pid_moderation.specs.History.{Asked, History, Reading, asked, deed_of, is_import}
@@ -37,7 +37,7 @@ old_stays false (Some reply) failing to h c e = refl
 old_stays false None failing to h c e = absurd (false≢true e)
 
 pub repeated_stays : (h : History) (c : Asked) → is_some (facts_of (views_of h) c).kept ≡ true → after h c ≡ h
-repeated_stays h c e = let f = facts_of (views_of h) c in old_stays (is_ill_formed f c.deed) f.kept (first_failing (checks f c)) (reply_to f c.deed) h c e
+repeated_stays h c e = let f = facts_of (views_of h) c in old_stays (is_ill_formed f c.deed) f.kept (first_failing (checks f c)) (reply_by_facts f c.deed) h c e
 
 -- a command other than an import brings no pairs
 
@@ -61,9 +61,9 @@ leads h command reading change other led =
     subst (λ (ps : Items). views_of (after h (asked command reading)) ≡ changed change (with_pairs ps (views_of h))) (no_pairs command.act reading (judge (views_of h) (asked command reading)) other) led
     ∙ ap (changed change) (no_more (views_of h))
 
-pub fits : (h : History) (command : Command) (reading : Reading) (change : Change) → is_import command.act ≡ false → FitsHistory h (asked command reading) change → Fits change (views_of h)
+pub fits : (h : History) (command : Command) (reading : Reading) (change : Change) → is_import command.act ≡ false → FitsHistory h (asked command reading) change → FitsViews change (views_of h)
 fits h command reading change other fit =
-    subst (Fits change) (no_more (views_of h)) (subst (λ (ps : Items). Fits change (with_pairs ps (views_of h))) (no_pairs command.act reading (judge (views_of h) (asked command reading)) other) fit)
+    subst (FitsViews change) (no_more (views_of h)) (subst (λ (ps : Items). FitsViews change (with_pairs ps (views_of h))) (no_pairs command.act reading (judge (views_of h) (asked command reading)) other) fit)
 
 told_by : (h : History) (c : Asked) (e : Refusal) → answer (judge (views_of h) c) ≡ Err e → ((answer (judge (views_of h) c) ≡ Err e) × (after h c ≡ h)) ⊎ IsFault e
 told_by h c e same = inl (same, refused_stays h c e same)

@@ -6,7 +6,7 @@ use Rattle.pid_moderation.specs.declared.change.Change.{Change}
 use Rattle.pid_moderation.specs.declared.command.Reply.{Reply}
 use Rattle.pid_moderation.specs.declared.refusal.Refusal.{Refusal}
 use Rattle.pid_moderation.specs.declared.refusal.Refusal.TheVariants.{BadText, Memory}
-use Rattle.pid_moderation.specs.Changes.{changed, Fits}
+use Rattle.pid_moderation.specs.Changes.{changed, FitsViews}
 use Rattle.pid_moderation.specs.declared.command.Act.{Act}
 use Rattle.pid_moderation.specs.declared.command.Act.TheVariants.{Account, Submit, Comment, Withdraw, Approve, Reject, Import}
 use Rattle.pid_moderation.specs.declared.command.Command.{Command}
@@ -39,7 +39,7 @@ module _ {S : Type 0} (store : Ghosts S) where
   kept r h c reply shows told = inl (sym told.0, subst (Shows store r) (sym told.1) shows)
 
   pub accepted : (old new : Registry S store) (h : History) (c : Asked) (change : Change) (reply : Reply) → Shows store old h → Judges h c (Ok (Accepted change reply)) → IsReached (after h c)
-      → ((v : Views) → AtRest store (connection old) v → Fits change v → AtRest store (connection new) (changed change v)) → is_live new ≡ is_live old
+      → ((v : Views) → AtRest store (connection old) v → FitsViews change v → AtRest store (connection new) (changed change v)) → is_live new ≡ is_live old
       → (HasCleanDisk store new → HasCleanDisk store old) → ((v : Views) → AreNamesOf (kept_names old) v → AreNamesOf (kept_names new) (changed change v)) → Obeys store (Ok reply) new h c
   accepted old new h c change reply shows told reached stands same back names = inl (
     sym told.0,
@@ -52,7 +52,7 @@ module _ {S : Type 0} (store : Ghosts S) where
   )
 
   pub failed : (old new : Registry S store) (h : History) (c : Asked) (change : Change) (reply : Reply) (e : Refusal) → Shows store old h → Judges h c (Ok (Accepted change reply)) → IsReached (after h c)
-      → ((v : Views) → AtRest store (connection old) v → Fits change v → LeavesEither store (connection new) v (changed change v)) → is_live new ≡ false → IsFault e → Obeys store (Err e) new h c
+      → ((v : Views) → AtRest store (connection old) v → FitsViews change v → LeavesEither store (connection new) v (changed change v)) → is_live new ≡ false → IsFault e → Obeys store (Err e) new h c
   failed old new h c change reply e shows told reached either off fault = inr (
     fault,
     inr (record {

@@ -1,6 +1,6 @@
 //! One change in one transaction.
 ghost use Rattle.std.specs.Prelude.{◌≡◌, false, OnOk, OnErr};
-ghost use Rattle.pid_moderation.specs.Changes.{changed, Fits};
+ghost use Rattle.pid_moderation.specs.Changes.{changed, FitsViews};
 ghost use Rattle.pid_moderation.specs.Views.{Views};
 ghost use Rattle.pid_tables_rows.specs.Clauses.{AtRest, HasCleanDisk, LeavesEither};
 
@@ -18,9 +18,9 @@ pub(crate) fn write<S: Alter>(
     requires { conn.old.in_transaction ≡ false }
     ensures settled { conn.new.in_transaction ≡ false }
     ensures clean { HasCleanDisk S.Store conn.new → HasCleanDisk S.Store conn.old }
-    ensures stands { (v : Views) → AtRest S.Store conn.old v → Fits change.now v
+    ensures stands { (v : Views) → AtRest S.Store conn.old v → FitsViews change.now v
         → OnOk result (AtRest S.Store conn.new (changed change.now v)) }
-    ensures either { (v : Views) → AtRest S.Store conn.old v → Fits change.now v
+    ensures either { (v : Views) → AtRest S.Store conn.old v → FitsViews change.now v
         → OnErr result (LeavesEither S.Store conn.new v (changed change.now v)) }
 {
     let mut batch = begin(conn);

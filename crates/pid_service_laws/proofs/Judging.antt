@@ -5,8 +5,8 @@ use Rattle.pid_moderation.specs.declared.facts.Facts.{Facts}
 use Rattle.pid_moderation.specs.declared.facts.Named.{Named}
 use Rattle.pid_moderation.specs.declared.refusal.Refusal.{Refusal}
 use Rattle.pid_moderation.specs.declared.refusal.Refusal.TheVariants.{BadText}
-use Rattle.pid_moderation.specs.CheckTables.{checks, first_failing, is_ill_formed, reply_to}
-use Rattle.pid_moderation.specs.FactsOfViews.{facts_of, kept_in, known, looked_at, named, wanted, with_file, with_item, Wanted, ItemOf}
+use Rattle.pid_moderation.specs.CheckTables.{checks, first_failing, is_ill_formed, reply_by_facts}
+use Rattle.pid_moderation.specs.FactsOfViews.{facts_of, kept_in, known, looked_at, named, wanted, with_file, with_item_facts, Wanted, ItemOf}
 use Rattle.pid_moderation.specs.History.{TooLong, Faulty, Good, Deed, Imports, Asked, Accepted, History}
 use Rattle.pid_moderation.specs.Items.{Items}
 use Rattle.pid_moderation.specs.Judgement.{Outcome, Refused, Repeated, Accepts, unless, unless_kept, judge, answer}
@@ -22,7 +22,7 @@ entry c reply = record { asked = c; reply = reply }
 
 -- THE KEPT REPLY
 
-with_item-kept : (v : Views) (o : Option Named) (f : Facts) → (with_item v o f).kept ≡ f.kept
+with_item-kept : (v : Views) (o : Option Named) (f : Facts) → (with_item_facts v o f).kept ≡ f.kept
 with_item-kept v None f = refl
 with_item-kept v (Some s) f = refl
 
@@ -60,25 +60,25 @@ shown-kept ill kept failing r reply i k = rw (i, k) refl
 
 -- what is accepted is well formed
 pub formed : (h : History) (c : Asked) (reply : Reply) → judge (views_of h) c ≡ Accepts reply → is_ill_formed (facts_of (views_of h) c) c.deed ≡ false
-formed h c reply is = let f = facts_of (views_of h) c in (shown-accepts (is_ill_formed f c.deed) f.kept (first_failing (checks f c)) (reply_to f c.deed) reply is).0
+formed h c reply is = let f = facts_of (views_of h) c in (shown-accepts (is_ill_formed f c.deed) f.kept (first_failing (checks f c)) (reply_by_facts f c.deed) reply is).0
 
 -- and had no reply kept
 pub new_key : (h : History) (c : Asked) (reply : Reply) → judge (views_of h) c ≡ Accepts reply → kept_in (views_of h) c.account c.key ≡ None
 new_key h c reply is =
     let f = facts_of (views_of h) c in
-    sym (facts-kept (views_of h) c) ∙ (shown-accepts (is_ill_formed f c.deed) f.kept (first_failing (checks f c)) (reply_to f c.deed) reply is).1
+    sym (facts-kept (views_of h) c) ∙ (shown-accepts (is_ill_formed f c.deed) f.kept (first_failing (checks f c)) (reply_by_facts f c.deed) reply is).1
 
 -- what is repeated was kept
 pub old_key : (h : History) (c : Asked) (reply : Reply) → judge (views_of h) c ≡ Repeated reply → kept_in (views_of h) c.account c.key ≡ Some reply
 old_key h c reply is =
     let f = facts_of (views_of h) c in
-    sym (facts-kept (views_of h) c) ∙ shown-repeats (is_ill_formed f c.deed) f.kept (first_failing (checks f c)) (reply_to f c.deed) reply is
+    sym (facts-kept (views_of h) c) ∙ shown-repeats (is_ill_formed f c.deed) f.kept (first_failing (checks f c)) (reply_by_facts f c.deed) reply is
 
 -- what is well formed and was kept is repeated
 pub repeats : (v : Views) (c : Asked) (reply : Reply) → is_ill_formed (facts_of v c) c.deed ≡ false → kept_in v c.account c.key ≡ Some reply → judge v c ≡ Repeated reply
 repeats v c reply well kept =
     let f = facts_of v c in
-    shown-kept (is_ill_formed f c.deed) f.kept (first_failing (checks f c)) (reply_to f c.deed) reply well (facts-kept v c ∙ kept)
+    shown-kept (is_ill_formed f c.deed) f.kept (first_failing (checks f c)) (reply_by_facts f c.deed) reply well (facts-kept v c ∙ kept)
 
 -- the form is that of the command alone
 pub same_form : (v w : Views) (account : List ℕ) (key : Option (List ℕ)) (deed : Deed) → is_ill_formed (facts_of v (asks account key deed)) deed ≡ is_ill_formed (facts_of w (asks account key deed)) deed

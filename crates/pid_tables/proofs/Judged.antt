@@ -19,8 +19,8 @@ use Rattle.pid_moderation.specs.declared.refusal.FileFault.{FileFault}
 use Rattle.pid_moderation.specs.declared.refusal.Refusal.{Refusal}
 use Rattle.pid_moderation.specs.declared.refusal.Refusal.TheVariants as refusals
 use Rattle.pid_moderation.specs.BeforeFile.{import_of}
-use Rattle.pid_moderation.specs.Changes.{changed, with_pairs, Fits}
-use Rattle.pid_moderation.specs.CheckTables.{Checks, checks, command_checks, revision_checks, first_failing, reply_to, most_file_bytes, most_revision}
+use Rattle.pid_moderation.specs.Changes.{changed, with_pairs, FitsViews}
+use Rattle.pid_moderation.specs.CheckTables.{Checks, checks, command_checks, revision_checks, first_failing, reply_by_facts, most_file_bytes, most_revision}
 use Rattle.pid_moderation.specs.Effects.{Decides, LeadsOn, FitsHistory, new_pairs, change_by}
 use Rattle.pid_moderation.specs.FactsOfViews.{NoRows, facts_at, facts_of, kept_in}
 use Rattle.pid_moderation.specs.History.{Reading, TooLong, Faulty, Good, Imports, Asked, History, asked, Deed, deed_of, is_import}
@@ -151,13 +151,13 @@ judged_good h account key pairs f (Ok d) none is told =
     let v = views_of h in
     let c = import_of account key (Good pairs) in
     let g = facts_of v c in
-    let parts = accepted_parts g.kept (first_failing (checks g c)) (reply_to g c.deed) d.1 pairs none told.0 in
+    let parts = accepted_parts g.kept (first_failing (checks g c)) (reply_by_facts g c.deed) d.1 pairs none told.0 in
     let change : d.0 ≡ change_by g c (judge v c) = told.4.1 ∙ ap (λ (x : Facts). change_by x c (judged x c)) is in
-    let whole : d.0 ≡ change_by g c (Accepts (reply_to g c.deed)) = change ∙ ap (change_by g c) parts.1 in (
+    let whole : d.0 ≡ change_by g c (Accepts (reply_by_facts g c.deed)) = change ∙ ap (change_by g c) parts.1 in (
       counted v account key pairs parts.2,
       told.0,
       subst (λ (ps : Items). views_of (after h c) ≡ changed d.0 (with_pairs ps v)) parts.0 told.2,
-      subst (λ (ps : Items). Fits d.0 (with_pairs ps v)) parts.0 told.3,
+      subst (λ (ps : Items). FitsViews d.0 (with_pairs ps v)) parts.0 told.3,
       subst (λ (x : Change). IsCounted x.effect (counts_of v) (with_pairs pairs v)) (sym whole) refl,
     )
 

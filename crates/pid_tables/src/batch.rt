@@ -24,7 +24,7 @@ ghost use Rattle.pid_moderation.specs.Changes.{
   FitsEdit,
   FitsEffect,
   FitsWrite,
-  Fits,
+  FitsViews,
 };
 ghost use Rattle.pid_tables_rows.specs.Faults.{IsMemoryOrStore};
 ghost use Rattle.pid_tables_rows.specs.Shows.{Counts, Shows, counts_of};
@@ -294,13 +294,13 @@ pub fn apply<S: Alter>(
     ensures holds { (c : Counts) (v w : Views) → Within S.Store batch.old.conn.now c v w
         → Holds S.Store batch.new.conn.now v }
     ensures applied { (c : Counts) (v w : Views) → Within S.Store batch.old.conn.now c v w
-        → IsCounted change.now.effect c w → Fits change.now w
+        → IsCounted change.now.effect c w → FitsViews change.now w
         → OnOk result (Written S.Store batch.new.conn.now (counts_of (changed change.now w)) v
         (changed change.now w)) }
     ensures untold { HasCleanDisk S.Store batch.new.conn.now
         → IsTrue (is_open S.Store batch.old.conn.now) → (c : Counts) (v w : Views)
         → Within S.Store batch.old.conn.now c v w
-        → IsCounted change.now.effect c w → Fits change.now w → IfErr result IsMemoryOrStore }
+        → IsCounted change.now.effect c w → FitsViews change.now w → IfErr result IsMemoryOrStore }
 {
     write_change(batch, alloc, change)
 }

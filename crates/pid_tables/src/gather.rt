@@ -7,7 +7,7 @@ ghost use Rattle.pid_moderation.specs.FactsOfViews.{
   kept_in as kept_for,
   named as named_in,
   known as known_of,
-  with_item as facts_with,
+  with_item_facts as facts_with,
   facts_at,
 };
 ghost use Rattle.pid_moderation.specs.Items.{name_at, holds_parent, has_children as are_children};

@@ -8,7 +8,7 @@ use Rattle.sqlite_rules.specs.Lists.{Has}
 use Rattle.pid_moderation.specs.declared.command.Reply.{Reply}
 use Rattle.pid_moderation.specs.declared.command.Reply.TheVariants.{Done, Numbered, Counts}
 use Rattle.pid_moderation.specs.History.{History}
-use Rattle.pid_moderation.specs.Sound.{IsSound, IsBy, IsOwnReply}
+use Rattle.pid_moderation.specs.Sound.{IsSound, IsSubmissionBy, IsOwnReply}
 use Rattle.pid_moderation.specs.Views.{Submitted, submits_of, submission_at, state_of, views_of}
 use Rattle.pid_tables_rows.specs.Shows.{ShowsIn}
 use Rattle.pid_tables_rows.specs.declared.version.Version.{Version}
@@ -17,7 +17,7 @@ use Rattle.pid_moderation.specs.Submissions.{Standing}
 use Rattle.pid_tables_rows.proofs.Lengths.{mapped, unmapped}
 use Rattle.pid_tables_check.specs.Conditions.{columns, rows_in, IsOwn, IsReceiptRow, AreReceipts}
 
-by : (account : List ℕ) (o : Option Submitted) → IsBy account o → (s : Submitted) × (o ≡ Some s) × (s.author ≡ account)
+by : (account : List ℕ) (o : Option Submitted) → IsSubmissionBy account o → (s : Submitted) × (o ≡ Some s) × (s.author ≡ account)
 by account None h = absurd h
 by account (Some s) h = (s, refl, h)
 

@@ -8,7 +8,7 @@ use Rattle.pid_moderation.specs.declared.command.Reply.TheVariants.{Done, Number
 use Rattle.pid_moderation.specs.declared.facts.State.{State}
 use Rattle.pid_moderation.specs.declared.facts.State.TheVariants.{Pending, Approved, Rejected, Withdrawn}
 use Rattle.pid_moderation.specs.History.{History}
-use Rattle.pid_moderation.specs.Sound.{IsSound, AreGoodSubmissions, IsDecidedByOther, IsDecidedWell, AreGoodRemarks, IsRemarkedWell, IsBy, IsOwnReply}
+use Rattle.pid_moderation.specs.Sound.{IsSound, AreGoodSubmissions, IsDecidedByOther, IsDecidedWell, AreGoodRemarks, IsRemarkedWell, IsSubmissionBy, IsOwnReply}
 use Rattle.pid_moderation.specs.Views.{Submitted, Remark, submits_of, submission_at, state_of, remarks_of, items_of, views_of}
 use Rattle.pid_moderation.specs.WellMade.{AllItems}
 use Rattle.pid_moderation.specs.Writes.{tree_of}
@@ -42,11 +42,11 @@ module _ (files : TreesAreFiles) (h : History) (same : entries (tree_of h) ≡ i
   remarked_good None rs none = subst (λ xs. AllByRecursion IsReadableRemark xs × (length xs < 2 ^ 32)) (sym none) (tt, omega arith)
   remarked_good (Some s) rs good = (remarks_good rs good.0, omega (arith, good.1))
 
-  numbered_low : (n : ℕ) (account : List ℕ) (ss : List Submitted) → IsBy account (submission_at n ss) → n ≤ length ss
+  numbered_low : (n : ℕ) (account : List ℕ) (ss : List Submitted) → IsSubmissionBy account (submission_at n ss) → n ≤ length ss
   numbered_low zero account ss mine = omega arith
   numbered_low (suc n) account ss mine = low (slice_get ss n) refl mine
     where
-      low : (o : Option Submitted) → slice_get ss n ≡ o → IsBy account o → suc n ≤ length ss
+      low : (o : Option Submitted) → slice_get ss n ≡ o → IsSubmissionBy account o → suc n ≤ length ss
       low None e mine = absurd mine
       low (Some s) e mine = let within = slice_get_within ss n s e in omega (arith, within)
 

@@ -2,7 +2,7 @@
 #![tactic(auto)]
 
 mod children;
-mod laws;
+pub mod laws;
 mod refusal;
 mod tree_items;
 

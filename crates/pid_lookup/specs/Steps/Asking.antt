@@ -3,14 +3,14 @@
 use Rattle.std.specs.Prelude.{◌≡◌, ℕ, List, Option, Result, IfOk, IfErr}
 use Rattle.pid_file.specs.declared.path.Path.{Path}
 use Rattle.pid_lookup.specs.declared.names.Names.{Ghosts}
-use Rattle.pid_lookup.specs.Found.{name_in}
+use Rattle.pid_lookup.specs.Found.{name_in_map}
 use Rattle.pid_lookup.specs.Questions.{IsStill, OfShown}
 
 module _ {X F : Type 0} (names : Ghosts X F) where
   -- an answer that says this of the names that are shown, or a fault
-  pub record Asks {A : Type 0} (old new : X) (result : Result A F)
+  pub record AsksNames {A : Type 0} (old new : X) (result : Result A F)
       (Says : (Path → Option (List ℕ)) → A → Type 0) : Type 0 where
-    pub found : OfShown names old new (λ s. IfOk result (Says (name_in (names.map_of s))))
+    pub found : OfShown names old new (λ s. IfOk result (Says (name_in_map (names.map_of s))))
     -- the fault is one that the holder may give
     pub fault : IfErr result (λ f. names.may_give old f)
     -- and has its cause since any start, since which the holder was only asked
@@ -19,6 +19,7 @@ module _ {X F : Type 0} (names : Ghosts X F) where
     pub kept : IsStill names old new
 
   -- an answer that is wanted of the names that are shown, or a fault
-  abbrev pub AsksFor : {A : Type 0} → X → X → Result A F
+  abbrev pub AsksNamesFor : {A : Type 0} → X → X → Result A F
       → ((Path → Option (List ℕ)) → A) → Type 0
-  AsksFor old new result wanted = Asks old new result (λ named answer. answer ≡ wanted named)
+  AsksNamesFor old new result wanted =
+      AsksNames old new result (λ named answer. answer ≡ wanted named)

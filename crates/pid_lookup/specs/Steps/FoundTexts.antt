@@ -9,7 +9,7 @@ use Rattle.pid_lookup.specs.declared.flags.Request.{Request}
 use Rattle.pid_lookup.specs.Flags.{Switches}
 use Rattle.pid_lookup.specs.Found.{ide_words}
 use Rattle.pid_lookup.specs.Layouts.{one_text, pair_text}
-use Rattle.pid_lookup.specs.Answers.{number_of, text_of, with_numbers, word_of}
+use Rattle.pid_lookup.specs.Answers.{request_number, request_text, with_numbers, request_word}
 
 abbrev pub found_text : Switches → List ℕ → List ℕ → Found → Option (List ℕ)
 found_text s number word (found.One name) = one_text s number word name
@@ -23,7 +23,7 @@ nameless true progif = found.Ide (ide_words progif)
 nameless false progif = found.One None
 
 -- it is what the request is about: however it is shown, its text is that of the request
-pub record IsFor (found : Found) (named : Path → Option (List ℕ)) (request : Request)
+pub record IsFoundFor (found : Found) (named : Path → Option (List ℕ)) (request : Request)
     (a : Args) : Type 0 where
-  pub shown : (s : Switches) → found_text s (number_of request a) (word_of request) found
-      ≡ text_of named s request a
+  pub shown : (s : Switches) → found_text s (request_number request a) (request_word request) found
+      ≡ request_text named s request a

@@ -5,17 +5,17 @@ use Rattle.pid_moderation.specs.declared.command.Reply.{Reply}
 use Rattle.pid_moderation.specs.declared.facts.Facts.{Facts}
 use Rattle.pid_moderation.specs.declared.refusal.Refusal.{Refusal}
 use Rattle.pid_moderation.specs.declared.refusal.Refusal.TheVariants.{Memory, NoAccount}
-use Rattle.pid_moderation.specs.CheckTables.{Checks, first_failing, later_checks, reply_to}
+use Rattle.pid_moderation.specs.CheckTables.{Checks, first_failing, later_checks, reply_by_facts}
 use Rattle.pid_moderation.specs.Effects.{effect_of}
 use Rattle.pid_moderation.specs.History.{Deed}
 
 -- the first check that fails, else what follows; or memory is short
-abbrev pub Follows : {X : Type 0} → Checks → X → Result X Refusal → Type 0
-Follows cs x result = MatchResult result (λ y. (first_failing cs ≡ None) × (y ≡ x))
+abbrev pub FollowsChecks : {X : Type 0} → Checks → X → Result X Refusal → Type 0
+FollowsChecks cs x result = MatchResult result (λ y. (first_failing cs ≡ None) × (y ≡ x))
     (λ e. e ≢ Memory → first_failing cs ≡ Some e)
 
 -- a deed of an account is refused by its checks, or has its effect and its reply
 abbrev pub Settles : Facts → List ℕ → Deed → Result (Effect × Reply) Refusal → Type 0
 Settles f account deed result =
-    Follows ((is_none f.rank, NoAccount) ∷ later_checks account f deed)
-    (effect_of account f deed, reply_to f deed) result
+    FollowsChecks ((is_none f.rank, NoAccount) ∷ later_checks account f deed)
+    (effect_of account f deed, reply_by_facts f deed) result

@@ -11,7 +11,7 @@ use Rattle.pid_moderation.specs.declared.refusal.Refusal.{Refusal}
 use Rattle.pid_moderation.specs.declared.refusal.Refusal.TheVariants.{BadText, Memory}
 use Rattle.pid_moderation.specs.History.{History}
 use Rattle.pid_moderation.specs.Judgement.{after_all}
-use Rattle.pid_moderation.specs.ReplyLines.{refused_line, reply_text}
+use Rattle.pid_moderation.specs.ReplyLines.{refused_line, outcome_line}
 use Rattle.pid_moderation.specs.declared.command.Reply.{Reply}
 use Rattle.pid_script.specs.declared.line_end.LineEnd.{LineEnd}
 use Rattle.pid_script.specs.declared.line_end.LineEnd.TheVariants.{Stopped, WriteFault, TooLong}
@@ -92,7 +92,7 @@ refusal_of_names (Err look_ups.Memory) = Some Memory
 
 -- the line of an answer is a reply; or the answer is a stop
 abbrev pub IsAnswer : List ℕ → Result Reply Refusal → Type 0
-IsAnswer reply answer = (reply_text answer ≡ reply)
+IsAnswer reply answer = (outcome_line answer ≡ reply)
     ⊎ ((refusal : Refusal) × (is_stop refusal ≡ true) × (answer ≡ Err refusal))
 
 -- what was answered goes on where it is no stop

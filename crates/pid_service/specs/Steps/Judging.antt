@@ -4,7 +4,7 @@ use Rattle.sqlite.specs.Held.{Held}
 use Rattle.sqlite_trees.specs.declared.store.Store.{Ghosts}
 use Rattle.pid_moderation.specs.declared.command.Command.{Command}
 use Rattle.pid_moderation.specs.declared.refusal.Refusal.{Refusal}
-use Rattle.pid_moderation.specs.Changes.{changed, Fits}
+use Rattle.pid_moderation.specs.Changes.{changed, FitsViews}
 use Rattle.pid_moderation.specs.History.{Asked, History, Reading, asked, is_import}
 use Rattle.pid_moderation.specs.Judgement.{judge, answer, after}
 use Rattle.pid_moderation.specs.Views.{views_of}
@@ -20,7 +20,7 @@ use Rattle.pid_service.specs.Histories.{IsFault, IsReached}
 abbrev pub Judges : History → Asked → Result Judged Refusal → Type 0
 Judges h c (Ok (Kept reply)) = (answer (judge (views_of h) c) ≡ Ok reply) × (after h c ≡ h)
 Judges h c (Ok (Accepted change reply)) = (answer (judge (views_of h) c) ≡ Ok reply)
-    × (views_of (after h c) ≡ changed change (views_of h)) × Fits change (views_of h)
+    × (views_of (after h c) ≡ changed change (views_of h)) × FitsViews change (views_of h)
 Judges h c (Err e) = ((answer (judge (views_of h) c) ≡ Err e) × (after h c ≡ h)) ⊎ IsFault e
 
 module _ {S : Type 0} (store : Ghosts S) where

@@ -2,7 +2,7 @@
 use Rattle.std.specs.Prelude.{Result, IfOk, IsTrue, MatchResult}
 use Rattle.sqlite_trees.specs.declared.store.Store.{Ghosts}
 use Rattle.pid_moderation.specs.declared.change.Change.{Change}
-use Rattle.pid_moderation.specs.Changes.{changed, Fits}
+use Rattle.pid_moderation.specs.Changes.{changed, FitsViews}
 use Rattle.pid_moderation.specs.Views.{Views}
 use Rattle.pid_tables_rows.specs.declared.fault.TableFault.{TableFault}
 use Rattle.pid_tables_rows.specs.Clauses.{HasCleanDisk, seen}
@@ -41,5 +41,5 @@ module _ {S : Type 0} (store : Ghosts S) where
   abbrev pub WritesChange : {X : Type 0} → Held S → Held S → Result X TableFault → Change → Type 0
   WritesChange old new result change = HasCleanDisk store new → IsTrue old.in_transaction
       → (counts : Counts) (v : Views) → ShowsCounting counts (seen store old) v
-      → IsCounted change.effect counts v → Fits change v
+      → IsCounted change.effect counts v → FitsViews change v
       → MatchResult result (λ _. Shows (seen store new) (changed change v)) IsMemoryOrStore

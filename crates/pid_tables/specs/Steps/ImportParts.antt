@@ -10,7 +10,7 @@ use Rattle.pid_moderation.specs.declared.change.Change.{Change}
 use Rattle.pid_moderation.specs.declared.command.Reply.{Reply}
 use Rattle.pid_moderation.specs.declared.refusal.Refusal.{Refusal}
 use Rattle.pid_moderation.specs.declared.refusal.Refusal.TheVariants as refusals
-use Rattle.pid_moderation.specs.Changes.{changed, with_pairs, Fits}
+use Rattle.pid_moderation.specs.Changes.{changed, with_pairs, FitsViews}
 use Rattle.pid_moderation.specs.CheckTables.{most_file_bytes, most_revision}
 use Rattle.pid_moderation.specs.History.{Asked, History}
 use Rattle.pid_moderation.specs.Items.{Items}
@@ -43,7 +43,7 @@ abbrev pub JudgesFile : History → Asked → Items → Result (Change × Reply)
 JudgesFile h c pairs (Ok d) = (revision_of h < most_revision)
     × (answer (judge (views_of h) c) ≡ Ok d.1)
     × (views_of (after h c) ≡ changed d.0 (with_pairs pairs (views_of h)))
-    × Fits d.0 (with_pairs pairs (views_of h))
+    × FitsViews d.0 (with_pairs pairs (views_of h))
     × IsCounted d.0.effect (counts_of (views_of h)) (with_pairs pairs (views_of h))
 JudgesFile h c pairs (Err e) = Refuses h c e
 

@@ -1,4 +1,4 @@
-use Rattle.pid_lookup.specs.Found.{name_in}
+use Rattle.pid_lookup.specs.Found.{name_in_map}
 use Rattle.pid_lookup.proofs.FoundTexts.{for_device_pair}
 use Rattle.pid_lookup.proofs.Questions.{kept_through}
 use Rattle.pid_lookup.proofs.find.find_device_pair.Goals as goal
@@ -8,7 +8,7 @@ returns-clause-asks g c =
     let first = c.in_ok-vendor.ensures.asks in
     let second = c.in_ok-device.ensures.asks in
     record {
-      found = λ honest s shown. for_device_pair (name_in (g.N.Names.map_of s)) c.args.args.now c.in_ok-vendor.vendor c.in_ok-device.device
+      found = λ honest s shown. for_device_pair (name_in_map (g.N.Names.map_of s)) c.args.args.now c.in_ok-vendor.vendor c.in_ok-device.device
           (first.found (second.kept.was_honest honest) s shown)
           (second.found honest s (first.kept.shown s shown));
       fault = tt;

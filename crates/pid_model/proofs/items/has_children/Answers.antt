@@ -1,5 +1,5 @@
 use Rattle.std.proofs.Common.{◌∙◌}
-use Rattle.pid_ident.specs.PathTexts.{path_text}
+use Rattle.pid_file.specs.PathTexts.{path_text}
 use Rattle.pid_model.proofs.Parents.{children-texts}
 use Rattle.pid_model.proofs.items.has_children.Goals as goal
 

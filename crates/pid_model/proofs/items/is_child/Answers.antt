@@ -1,6 +1,6 @@
 use Rattle.std.proofs.Common.{◌∙◌}
 use Rattle.std.proofs.lemmas.Map.Text.{is_eq-slice_cmp}
-use Rattle.pid_ident.specs.PathTexts.{path_text}
+use Rattle.pid_file.specs.PathTexts.{path_text}
 use Rattle.pid_model.proofs.items.is_child.Goals as goal
 
 pub returns-in-Some : goal.returns-in-Some

@@ -1,6 +1,6 @@
 use Rattle.pid_moderation.specs.Judgement.{judge}
 use Rattle.pid_moderation.specs.Views.{views_of}
-use Rattle.pid_moderation.proofs.RevisionLemmas.{within, before_mark, kept, removed, given, named_already}
+use Rattle.pid_moderation.proofs.RevisionLemmas.{within, before_mark, kept, removed, given}
 use Rattle.pid_moderation.proofs.laws.sinces_are_last_changes.Goals as goal
 
 pub returns : goal.returns
@@ -10,5 +10,4 @@ returns c = record {
   kept = λ h asks path same. kept h asks path (judge (views_of h) asks) same;
   removed = λ h asks path none. removed h asks path (judge (views_of h) asks) none;
   given = λ h asks path name now other. given h asks path name (judge (views_of h) asks) now other;
-  already = named_already;
 }

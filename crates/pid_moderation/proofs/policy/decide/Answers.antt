@@ -4,11 +4,11 @@ use Rattle.pid_moderation.proofs.NeverFailed.{decides_live}
 use Rattle.pid_moderation.specs.History.{TooLong, asked}
 use Rattle.pid_moderation.proofs.policy.decide.Goals as goal
 
-pub returns-clause-reply : goal.returns-clause-reply
-returns-clause-reply c = λ v reading e. answered _ _ _ (c.by_facts.ensures reading) v e
-
-pub returns-clause-refusal : goal.returns-clause-refusal
-returns-clause-refusal c = λ v reading e. turned_down _ _ _ (c.by_facts.ensures reading) v e
+pub returns-clause-answers : goal.returns-clause-answers
+returns-clause-answers c = λ v reading e. record {
+  reply = answered _ _ _ (c.by_facts.ensures reading) v e;
+  refusal = turned_down _ _ _ (c.by_facts.ensures reading) v e;
+}
 
 pub returns-clause-change : goal.returns-clause-change
 returns-clause-change c = λ h reading marked e. leading _ _ _ (c.by_facts.ensures reading) h marked e

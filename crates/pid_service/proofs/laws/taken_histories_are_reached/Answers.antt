@@ -1,14 +1,14 @@
 use Rattle.std.proofs.Common.{sym, arith}
-use Rattle.pid_moderation.specs.History.{Begins, count_of}
+use Rattle.pid_moderation.specs.History.{Begins, accepted_count}
 use Rattle.pid_moderation.specs.Judgement.{after_all}
 use Rattle.pid_service.proofs.laws.taken_histories_are_reached.Goals as goal
 
 pub returns : goal.returns
 returns c mark commands made few = let h = after_all (Begins mark) commands in
     record {
-      mark = count_of h;
+      mark = accepted_count h;
       commands = commands;
       made = made;
-      reached = sym (c.marks_judge_nothing.ensures.after (count_of h) (Begins mark) commands (omega (arith, few)));
+      reached = sym (c.marks_judge_nothing.ensures.after (accepted_count h) (Begins mark) commands (omega (arith, few)));
       marked = c.taken_files_begin_anew.ensures.marked h;
     }

@@ -1,5 +1,5 @@
 use Rattle.std.proofs.Common.{◌≡◌, Some, refl}
-use Rattle.pid_ident.specs.PathTexts.{path_text}
+use Rattle.pid_file.specs.PathTexts.{path_text}
 use Rattle.pid_ident.specs.PathReading.{path_of}
 use Rattle.pid_lookup.proofs.cache_key.PathKeyHash.hash.Goals as goal
 

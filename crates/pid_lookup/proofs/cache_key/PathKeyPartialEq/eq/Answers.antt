@@ -1,6 +1,6 @@
 use Rattle.std.proofs.Common.{sym, ◌∙◌}
 use Rattle.std.specs.Cmp.Lexicographic.{texts_ties}
-use Rattle.pid_ident.specs.PathTexts.{path_text}
+use Rattle.pid_file.specs.PathTexts.{path_text}
 use Rattle.pid_lookup.proofs.cache_key.PathKeyPartialEq.eq.Goals as goal
 
 pub returns : goal.returns

@@ -1,6 +1,6 @@
 use Rattle.std.proofs.Common.{◌≡◌, subst, sym, rules}
 use Rattle.std.specs.Result.{IfOk}
-use Rattle.pid_ident.specs.PathTexts.{path_text}
+use Rattle.pid_file.specs.PathTexts.{path_text}
 use Rattle.pid_lookup.specs.CacheEntries.{Entries, entry_at, used}
 use Rattle.pid_lookup.specs.CacheAgreement.{Agrees}
 use Rattle.pid_lookup.proofs.CacheAgreeing.{used_agrees, answer_right}

@@ -1,4 +1,4 @@
-use Rattle.pid_ident.specs.PathTexts.{path_text}
+use Rattle.pid_file.specs.PathTexts.{path_text}
 use Rattle.pid_lookup.proofs.CacheAgreeing.{Outcome, put_outcome, outcome_agrees}
 use Rattle.pid_lookup.proofs.name_cache.NameCache.put.Goals as goal
 
