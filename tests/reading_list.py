@@ -10,7 +10,7 @@ import os
 import re
 import textwrap
 
-from program import TOP
+TOP = os.path.dirname(os.path.dirname(os.path.abspath(__file__)))
 
 CRATES = os.path.join(TOP, "crates")
 PAGE = os.path.join(TOP, "docs", "PROMISES.md")

@@ -78,7 +78,8 @@ class Build:
             self.chains[crate] = size(crate) + max(above, default=0)
 
     def ready(self):
-        """Returns the crates that can be built now, those with the longest chain above them first."""
+        """Returns the crates that can be built now, those with the longest chain above them
+        first."""
         waiting = [it for it in self.crates if it not in self.built and it not in self.jobs]
         ready = [it for it in waiting if self.built.issuperset(self.below[it])]
         return sorted(ready, key=lambda it: -self.chains[it])
