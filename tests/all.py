@@ -3,9 +3,11 @@ import glob
 import json
 import os
 import re
+import signal
 import subprocess
 import sys
 import tempfile
+import traceback
 
 HERE = os.path.dirname(os.path.abspath(__file__))
 sys.path[:0] = [os.path.join(HERE, "support")]
@@ -34,7 +36,7 @@ that are missing or older than a source are built first, and missing packages of
   tests/run words::test_tidy              one test of it
   tests/run -k refused -x                 tests by a part of their names, up to the first failure
   tests/run --durations=10                what takes long
-  tests/run -n 0 -s words                 without other processes, and with what is printed
+  tests/run words -n 0 -s                 without other processes, and with what is printed
   PCIIDS=/usr/bin/pciids tests/run        an installed program; nothing is built
 
 PCIIDS has to name the program itself, and not a script that calls it, since some parts refuse it
@@ -64,15 +66,33 @@ def parts_in_lines(parts):
     return "The parts are:\n" + "\n".join(f" {it}" for it in lines) + "\n"
 
 
+def has_pytest(environment):
+    words = [sys.executable, "-c", "import pytest, xdist"]
+    return subprocess.run(words, capture_output=True, env=environment).returncode == 0
+
+
 def with_pytest():
-    """The environment in which this Python finds pytest."""
-    paths = [os.environ[it] for it in ("PYTHONPATH",) if os.environ.get(it)]
-    if subprocess.run(
-        [sys.executable, "-c", "import pytest, xdist"], capture_output=True
-    ).returncode:
-        paths.append(DEBIANS)
-    more = {"PYTHONPATH": os.pathsep.join(paths)} if paths else {}
-    return {**os.environ, **more, "PYTHONDONTWRITEBYTECODE": "1"}
+    """The environment in which this Python finds pytest; None if there is none."""
+    found = {**os.environ, "PYTHONDONTWRITEBYTECODE": "1"}
+    if program.INSTALLED is not None:
+        found["PCIIDS"] = program.PROGRAM
+    if not has_pytest(found):
+        paths = [it for it in (found.get("PYTHONPATH"), DEBIANS) if it]
+        found["PYTHONPATH"] = os.pathsep.join(paths)
+    return found if has_pytest(found) else None
+
+
+def status_of(running):
+    """The status of a process at its end. An interrupt gives it time to stop what it runs."""
+    try:
+        return running.wait()
+    except KeyboardInterrupt:
+        try:
+            running.wait(timeout=10)
+        except subprocess.TimeoutExpired:
+            running.send_signal(signal.SIGINT)
+            running.wait()
+        raise
 
 
 def run_pytest(paths, words, environment):
@@ -80,7 +100,8 @@ def run_pytest(paths, words, environment):
     with tempfile.TemporaryDirectory() as folder:
         counts = os.path.join(folder, "counts")
         command = [sys.executable, "-B", "-m", "pytest", f"--counts={counts}", *paths, *words]
-        status = subprocess.run(command, cwd=HERE, env=environment).returncode
+        with subprocess.Popen(command, cwd=HERE, env=environment) as running:
+            status = status_of(running)
         if not os.path.exists(counts):
             print("FAILED: pytest has ended without counts")
             return (0, 1, 0), status
@@ -128,9 +149,6 @@ def main(words):
     sys.stdout.reconfigure(line_buffering=True, errors="backslashreplace")
     prepares = words[:1] == ["--prepare"]
     words, files = words[prepares:], files_of_parts()
-    if {"--help", "-h"} & {*words}:
-        print(USAGE + parts_in_lines(files), end="")
-        return (0, 0, 0), 0
     chosen = []
     while words and re.match(r"[a-z]", words[0]):
         chosen.append(words.pop(0))
@@ -145,19 +163,31 @@ def main(words):
     if fault:
         print(fault)
         return (0, 1, 0), 1
-    counts = try_named(
-        chosen or [it for it in files if it not in OF_SITE], words, files, with_pytest()
-    )
+    environment = with_pytest()
+    if environment is None:
+        print("tests/run: needs Debian's packages python3-pytest and python3-pytest-xdist")
+        return (0, 1, 0), 1
+    chosen = chosen or [it for it in files if it not in OF_SITE]
+    counts = try_named(chosen, words, files, environment)
     return counts, int(counts[1] != 0)
 
 
-if __name__ == "__main__":
-    counted, ended = (0, 1, 0), 1
+def closed(words):
+    """Runs the tests. Whatever happens, the last line has the counts."""
+    if {"--help", "-h"} & {*words}:
+        print(USAGE + parts_in_lines(files_of_parts()), end="")
+        return 0
+    counts, status = (0, 1, 0), 1
     try:
-        counted, ended = main(sys.argv[1:])
+        counts, status = main(words)
     except KeyboardInterrupt:
-        ended = 130
+        status = 130
         print("FAILED: interrupted")
-    if not {"--help", "-h"} & {*sys.argv[1:]}:
-        print(last_line(*counted))
-    sys.exit(ended)
+    except Exception:
+        traceback.print_exc(file=sys.stdout)
+    print(last_line(*counts))
+    return status
+
+
+if __name__ == "__main__":
+    sys.exit(closed(sys.argv[1:]))

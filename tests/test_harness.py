@@ -70,7 +70,7 @@ PARTS = {
     # A test that ends its process fails, and the others are tried.
     "lspci": (
         (
-            "import os\ndef test_one(cases):\n    os._exit(0)\n"
+            "import os, time\ndef test_one(cases):\n    time.sleep(0.5)\n    os._exit(0)\n"
             "def test_two(cases):\n    cases.equal('', 1, 1)\n"
         ),
         (1, 1, 0),
@@ -81,7 +81,9 @@ PARTS = {
         "def run(cases):\n    cases.equal('', 1, 2)\n    cases.skipped('one', 'why')\n",
         (0, 1, 1),
     ),
-    "machine": ("import os\ndef run(cases):\n    os._exit(0)\n", (0, 1, 0)),
+    "machine": (
+        "import os, time\ndef run(cases):\n    time.sleep(0.5)\n    os._exit(0)\n", (0, 1, 0)
+    ),
 }
 RUNS = ("proxy", "mirror", "front", "caches", "machine")
 

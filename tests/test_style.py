@@ -28,8 +28,11 @@ WIDEST_SOURCE = 120
 WIDER_SOURCES = 50
 
 # The files of one test, `run`.
-RUNS = [f"tests/{it}.py" for it in "caches front front_http2 installing keeping machine machine_load"
-        " mirror packages proxy publishing".split()]
+RUNS = (
+    "caches front front_http2 installing keeping machine machine_load mirror packages proxy"
+    " publishing"
+)
+RUNS = [f"tests/{it}.py" for it in RUNS.split()]
 
 # Help is a part of these.
 HELP = ("crates/pid_cli_words/src/commands.rt", "crates/pid_cli_first/src/pages.rt")
@@ -93,7 +96,8 @@ def words_of(names, read):
 
 
 def test_columns(cases):
-    cases.equal("lines that are too wide", wide_lines([it for it in files(*TEXTS) if it not in WIDE], WIDEST), [])
+    names = [it for it in files(*TEXTS) if it not in WIDE]
+    cases.equal("lines that are too wide", wide_lines(names, WIDEST), [])
 
 
 def test_columns_of_sources(cases):
