@@ -67,6 +67,12 @@ PARTS = {
         ),
         (1, 0, 0),
     ),
+    # A test that hangs is stopped.
+    "tour": (
+        "import time\ndef test_one(cases):\n    time.sleep(100)\n"
+        "def test_two(cases):\n    cases.equal('', 1, 1)\n",
+        (1, 1, 0),
+    ),
     # A test that ends its process fails, and the others are tried.
     "lspci": (
         (
@@ -123,6 +129,11 @@ def frame(folder):
         shutil.copyfile(os.path.join(HERE, name), os.path.join(folder, name))
     for name in SUPPORT:
         shutil.copyfile(os.path.join(HERE, "support", name), os.path.join(folder, "support", name))
+    conftest = os.path.join(folder, "conftest.py")
+    with open(conftest, encoding="utf-8") as file:
+        text = file.read()
+    with open(conftest, "w", encoding="utf-8") as file:
+        file.write(text.replace("LONGEST = 1_800", "LONGEST = 5"))
     for name, (text, _) in PARTS.items():
         name = f"{name}.py" if name in RUNS else f"test_{name}.py"
         with open(os.path.join(folder, name), "w", encoding="utf-8") as file:

@@ -22,9 +22,9 @@ KINDS = (
 
 
 @pytest.fixture
-def first():
+def first(monkeypatch):
     """`program.run` runs the first program."""
-    program.PROGRAM = program.FIRST
+    monkeypatch.setattr(program, "PROGRAM", program.FIRST)
     if program.FIRST is None:
         pytest.skip("the first program belongs to the source tree, and PCIIDS names another one")
 
