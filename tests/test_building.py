@@ -91,7 +91,8 @@ def test_builds(cases):
             "the lowest crate gets all processors", noted[0], "begin low lib --jobs 4 over new"
         )
         both = sorted(noted[2:4])
-        wanted = [f"begin {it} lib --jobs {n} over low new" for it, n in (("left", 4), ("right", 1))]
+        jobs = {"left": 4, "right": 1}
+        wanted = [f"begin {it} lib --jobs {n} over low new" for it, n in jobs.items()]
         cases.equal("a second crate goes on beside the first", both, wanted)
         cases.equal("the last one", noted[6], "begin top lib --jobs 4 over left low right new")
         cases.equal("no lane is left", lanes(folder), [])
