@@ -1,4 +1,5 @@
-/* Loads a file of names as libpci does, in a process of its own: the yardstick of `check` in bench/run. */
+/* Loads a file of names as libpci does, in a process of its own: the yardstick of `check` in
+   bench/run. */
 #include <pci/pci.h>
 
 int main(int argc, char **argv)

@@ -1,4 +1,5 @@
-/* Looks a vendor and a device up in a file of names, again and again, as libpci does: the yardstick of look-ups in bench/run. */
+/* Looks a vendor and a device up in a file of names, again and again, as libpci does: the yardstick
+   of look-ups in bench/run. */
 #include <pci/pci.h>
 #include <stdlib.h>
 

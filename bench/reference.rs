@@ -1,5 +1,6 @@
-//! What `pciids tidy` does, in plain Rust with std alone and without proofs: the yardstick of bench/run. It keeps slices of
-//! the text in an ordered map, with one search an entry, and prints into one buffer.
+//! What `pciids tidy` does, in plain Rust with std alone and without proofs: the yardstick of
+//! bench/run. It keeps slices of the text in an ordered map, with one search an entry, and prints
+//! into one buffer.
 
 use std::collections::btree_map::Entry;
 use std::collections::BTreeMap;
@@ -10,8 +11,8 @@ const MOST_BYTES: usize = 4_194_304;
 const MOST_ENTRIES: usize = 100_000;
 const LONGEST_NAME: usize = 1_000;
 
-/// A path as a number, ordered as the texts of paths are: the kind, and the numbers of its levels. A bit before the second
-/// and one before the third tell that they are there.
+/// A path as a number, ordered as the texts of paths are: the kind, and the numbers of its levels.
+/// A bit before the second and one before the third say that they are there.
 #[derive(Clone, Copy, PartialEq, Eq, PartialOrd, Ord)]
 struct Key(u128);
 
@@ -49,7 +50,8 @@ impl Key {
     }
 }
 
-/// What the lines below belong to: nothing yet, a block that is skipped, or one with its head and its open entry of depth 1.
+/// What the lines below belong to: nothing yet, a block that is skipped, or one with its head and
+/// its open entry of depth 1.
 #[derive(Clone, Copy)]
 enum Open {
     Nothing,
@@ -68,7 +70,7 @@ fn digit(byte: u8) -> Option<u16> {
     }
 }
 
-/// The number of WIDTH digits in front, and what stands behind it.
+/// The number of WIDTH digits in front, and what comes after it.
 fn number<const WIDTH: usize>(bytes: &[u8]) -> Option<(u16, &[u8])> {
     let (digits, rest) = bytes.split_first_chunk::<WIDTH>()?;
     let mut value = 0;
@@ -78,7 +80,7 @@ fn number<const WIDTH: usize>(bytes: &[u8]) -> Option<(u16, &[u8])> {
     Some((value, rest))
 }
 
-/// The number of WIDTH digits in front, behind which a blank stands, and what stands behind that.
+/// The number of WIDTH digits in front, before a blank, and what comes after that.
 fn id<const WIDTH: usize>(bytes: &[u8]) -> Result<(u16, &[u8]), &'static str> {
     match number::<WIDTH>(bytes) {
         Some((value, [b' ' | b'\t', rest @ ..])) => Ok((value, rest)),
@@ -103,7 +105,11 @@ fn name(bytes: &[u8]) -> Result<&[u8], &'static str> {
 }
 
 /// The key and the name of an entry; none where the line is no entry.
-fn entry<'a>(line: &'a [u8], open: &mut Open, items: &Items) -> Result<Option<(Key, &'a [u8])>, &'static str> {
+fn entry<'a>(
+    line: &'a [u8],
+    open: &mut Open,
+    items: &Items,
+) -> Result<Option<(Key, &'a [u8])>, &'static str> {
     if matches!(trimmed(line), [] | [b'#', ..]) {
         return Ok(None);
     }
@@ -165,7 +171,7 @@ fn entry<'a>(line: &'a [u8], open: &mut Open, items: &Items) -> Result<Option<(K
     Ok(Some((key, name)))
 }
 
-/// The block that a line of depth 0 opens, and what stands behind the number where the line is an entry.
+/// The block that a line of depth 0 opens, and for an entry what comes after its number.
 fn top<'a>(body: &'a [u8], items: &Items) -> Result<(Open, Option<&'a [u8]>), &'static str> {
     let block = |kind, number| Open::Block {
         head: Key::top(kind, number),
@@ -224,8 +230,9 @@ fn read(text: &[u8]) -> Result<Items<'_>, String> {
 }
 
 fn push_hex<const WIDTH: usize>(out: &mut Vec<u8>, number: u32) {
+    let digit = |at| number >> (4 * (WIDTH - 1 - at)) & 15;
     let digits: [u8; WIDTH] =
-        std::array::from_fn(|at| b"0123456789abcdef"[(number >> (4 * (WIDTH - 1 - at)) & 15) as usize]);
+        std::array::from_fn(|at| b"0123456789abcdef"[digit(at) as usize]);
     out.extend_from_slice(&digits);
 }
 

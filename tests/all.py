@@ -1,179 +1,193 @@
-"""Tries the program against files and real peers, part by part. tests/run calls it."""
-import importlib
+"""Tries the program against files and real peers, by pytest. tests/run calls it."""
+import glob
+import json
 import os
 import re
-import resource
 import signal
 import subprocess
 import sys
-import time
+import tempfile
 import traceback
 
-import program
+HERE = os.path.dirname(os.path.abspath(__file__))
+sys.path[:0] = [os.path.join(HERE, "support")]
 
-PARTS = (
-    "harness building worked_rows words fault_gallery limits real_file lspci lookups registry disks migrate"
-    " jobs progress stops refusing scripts manual documents tour serving loopback http_routes"
-    " serving_faults serving_memory proxy mirror memory keeping publishing front front_http2"
-    " caches packages installing machine machine_load"
-    " site_parts"
-).split()
-# What site_parts runs, several at a time.
-OF_SITE = "site_reader site_story site_once site_kept site_safety site_access site_firefox".split()
+import prepare  # noqa: E402
+import program  # noqa: E402
+from cases import last_line  # noqa: E402
 
-# Parts that mostly wait, each on its own. They are tried at once, each by a process of its own.
+# Parts that mostly wait: they are tried at once, each by a process of its own.
 AT_ONCE = "keeping publishing front front_http2 caches packages installing machine machine_load"
 AT_ONCE = AT_ONCE.split()
+# Parts that take times, or measure memory: nothing else is tried beside them.
+ALONE = "progress serving serving_memory proxy mirror site_parts".split()
+# What site_parts tries, several at a time.
+OF_SITE = "site_reader site_story site_once site_kept site_safety site_access site_firefox".split()
 
-# The parts that are tried in a browser have a folder to themselves.
-sys.path.append(os.path.join(os.path.dirname(os.path.abspath(__file__)), "site"))
+# Debian keeps pytest for its own Python.
+DEBIANS = "/usr/lib/python3/dist-packages"
 
-# No part takes nearly as long, in seconds. One that hangs is stopped, so that the others are tried.
-LONGEST = 1_800
-
-USAGE = """usage: tests/run [PART..]
+USAGE = """usage: tests/run [PART..] [ARGUMENT OF PYTEST..]
 
 Tries the built program against files and real peers: all parts, or those that are named. Programs
 that are missing or older than a source are built first, and missing packages of Debian installed.
-The last line is 'N passed, N failed', followed by ', N skipped' if cases were skipped.
 
-  PCIIDS=/usr/bin/pciids tests/run
+  tests/run words                         one part
+  tests/run words::test_tidy              one test of it
+  tests/run -k refused -x                 tests by a part of their names, up to the first failure
+  tests/run --durations=10                what takes long
+  tests/run words -n 0 -s                 without other processes, and with what is printed
+  PCIIDS=/usr/bin/pciids tests/run        an installed program; nothing is built
 
-tries an installed program, and nothing is built. The file has to be the program itself, and not a
-script that calls it, since some parts refuse it memory or stop its disk.
+PCIIDS has to name the program itself, and not a script that calls it, since some parts refuse it
+memory or stop its disk. The last line is 'N passed, N failed', followed by ', N skipped' if cases
+were skipped.
 
 """
 
 
-def parts_in_lines():
+def files_of_parts():
+    """The file of each part, by its name."""
+    found = {}
+    for path in sorted(glob.glob(os.path.join(HERE, "test_*.py"))):
+        found[os.path.basename(path)[len("test_") : -len(".py")]] = path
+    for name in AT_ONCE + ALONE + OF_SITE:
+        folder = os.path.join(HERE, "site") if name.startswith("site_") else HERE
+        found.setdefault(name, os.path.join(folder, f"{name}.py"))
+    return found
+
+
+def parts_in_lines(parts):
     lines = [""]
-    for name in PARTS + OF_SITE:
+    for name in parts:
         if len(lines[-1]) + len(name) > 96:
             lines.append("")
         lines[-1] += f" {name}"
     return "The parts are:\n" + "\n".join(f" {it}" for it in lines) + "\n"
 
 
-def processor_seconds():
-    used = [resource.getrusage(it) for it in (resource.RUSAGE_SELF, resource.RUSAGE_CHILDREN)]
-    return sum(it.ru_utime + it.ru_stime for it in used)
+def has_pytest(environment):
+    words = [sys.executable, "-c", "import pytest, xdist"]
+    return subprocess.run(words, capture_output=True, env=environment).returncode == 0
 
 
-def attempt(cases, name, call):
-    """Calls a function. Whatever ends it early is one failure, and the run goes on."""
-    under_test = program.PROGRAM
+def with_pytest():
+    """The environment in which this Python finds pytest; None if there is none."""
+    found = {**os.environ, "PYTHONDONTWRITEBYTECODE": "1"}
+    if program.INSTALLED is not None:
+        found["PCIIDS"] = program.PROGRAM
+    if not has_pytest(found):
+        paths = [it for it in (found.get("PYTHONPATH"), DEBIANS) if it]
+        found["PYTHONPATH"] = os.pathsep.join(paths)
+    return found if has_pytest(found) else None
+
+
+def status_of(running):
+    """The status of a process at its end. An interrupt gives it time to stop what it runs."""
     try:
-        return call()
-    except program.Skip as why:
-        cases.skipped(name, why)
+        return running.wait()
     except KeyboardInterrupt:
+        try:
+            running.wait(timeout=10)
+        except subprocess.TimeoutExpired:
+            running.send_signal(signal.SIGINT)
+            running.wait()
         raise
-    except BaseException as fault:
-        cases.failed += 1
-        print(f"FAILED {name}: ended by {type(fault).__name__}")
-        traceback.print_exc(file=sys.stdout)
-    finally:
-        program.PROGRAM = under_test
-    return None
 
 
-def stop_part(*_):
-    raise TimeoutError(f"the part has not ended after {LONGEST} seconds")
+def run_pytest(paths, words, environment):
+    """Runs pytest: the counts of its cases, and its exit status."""
+    with tempfile.TemporaryDirectory() as folder:
+        counts = os.path.join(folder, "counts")
+        command = [sys.executable, "-B", "-m", "pytest", f"--counts={counts}", *paths, *words]
+        with subprocess.Popen(command, cwd=HERE, env=environment) as running:
+            status = status_of(running)
+        if not os.path.exists(counts):
+            print("FAILED: pytest has ended without counts")
+            return (0, 1, 0), status
+        with open(counts, encoding="utf-8") as file:
+            passed, failed, left_out = json.load(file)
+    # 5: no test was chosen here. Any other status but 0 has a failure.
+    return (passed, failed + (status not in (0, 5) and not failed), left_out), status
 
 
-def run_part(cases, name):
-    """Imports the module of a part and runs it, for no longer than LONGEST."""
-    signal.signal(signal.SIGALRM, stop_part)
-    signal.alarm(LONGEST)
-    try:
-        importlib.import_module(name).run(cases)
-    finally:
-        signal.alarm(0)
+def turns(names):
+    """Which parts are tried together, and by how many processes."""
+    processors = len(os.sched_getaffinity(0))
+    together = [it for it in names if it not in AT_ONCE + ALONE + OF_SITE]
+    waiting = [it for it in names if it in AT_ONCE]
+    alone = [it for it in names if it in ALONE + OF_SITE]
+    yield together, min(processors, len(together))
+    yield [it for it in alone if not it.startswith("site_")], 1
+    yield waiting, len(waiting)
+    yield [it for it in alone if it.startswith("site_")], 1
 
 
-def try_part(cases, name):
-    part, used, start = program.Cases(), processor_seconds(), time.monotonic()
-    try:
-        attempt(part, name, lambda: run_part(part, name))
-    finally:
-        cases.add(part)
-    took = f"{processor_seconds() - used:.1f} processor seconds of {time.monotonic() - start:.1f}"
-    print(f"{name}: {part.counts()}, {took}")
-
-
-def try_at_once(cases, names):
-    """Runs this file for each part, and prints what each of them does but its last line."""
-    words = [sys.executable, "-B", os.path.abspath(__file__)]
-    how = {"stdin": subprocess.DEVNULL, "stdout": subprocess.PIPE, "stderr": subprocess.STDOUT}
-    runs = [(name, subprocess.Popen([*words, name], **how)) for name in names]
-    try:
-        for name, run in runs:
-            *lines, last = run.communicate()[0].decode(errors="replace").splitlines() or [""]
-            print(*lines, sep="\n")
-            counts = re.fullmatch(r"(\d+) passed, (\d+) failed(?:, (\d+) skipped)?", last)
-            if counts is None:
-                print(f"FAILED {name}: its last line is {last!r}")
-            part = program.Cases()
-            part.passed, part.failed, part.left_out = (
-                (int(it or 0) for it in counts.groups()) if counts else (0, 1, 0)
-            )
-            cases.add(part)
-    finally:
-        for _, run in runs:
-            if run.poll() is None:
-                run.send_signal(signal.SIGINT)
-                run.wait()
-
-
-def try_named(cases, names):
-    """Tries parts in their order; those of AT_ONCE with the first of them."""
-    at_once = [it for it in names if it in AT_ONCE]
-    for name in names:
-        if len(at_once) < 2 or name not in at_once:
-            try_part(cases, name)
-        elif name == at_once[0]:
-            try_at_once(cases, at_once)
-
-
-def try_parts(cases, names, prepares):
-    """Returns the exit status."""
-    unknown = [it for it in names if it not in PARTS + OF_SITE]
-    if unknown:
-        cases.failed += len(unknown)
-        print(f"tests/run: unknown part: {', '.join(unknown)}\n{parts_in_lines()}", file=sys.stderr)
-        return 2
-    fault = program.fault_of_installed()
-    if not fault and prepares:
-        fault = attempt(cases, "prepare", lambda: importlib.import_module("prepare").ready())
-    if fault:
-        cases.failed += 1
-        print(fault)
-    if not cases.failed:
-        try_named(cases, names or PARTS)
-    return int(cases.failed != 0)
+def try_named(chosen, words, files, environment):
+    """Tries parts, or tests of them. Returns the counts."""
+    totals = [0, 0, 0]
+    for names, processes in turns(list(dict.fromkeys(it.partition("::")[0] for it in chosen))):
+        paths = [
+            files[it.partition("::")[0]] + "".join(it.partition("::")[1:])
+            for it in chosen
+            if it.partition("::")[0] in names
+        ]
+        if not paths:
+            continue
+        spread = [] if any(it.startswith("-n") for it in words) else ["-n", str(processes)]
+        how = ["-v", "--dist", "load", *spread]
+        counts, _ = run_pytest(paths, [*how, *words], environment)
+        totals = [sum(it) for it in zip(totals, counts)]
+        if totals[1] and {"-x", "--exitfirst"} & {*words}:
+            break
+    if not any(totals):
+        print("FAILED: no test was chosen")
+    return totals if any(totals) else (0, 1, 0)
 
 
 def main(words):
     sys.stdout.reconfigure(line_buffering=True, errors="backslashreplace")
     prepares = words[:1] == ["--prepare"]
-    names = words[prepares:]
-    if {"--help", "-h"} & {*names}:
-        print(USAGE + parts_in_lines(), end="")
+    words, files = words[prepares:], files_of_parts()
+    chosen = []
+    while words and re.match(r"[a-z]", words[0]):
+        chosen.append(words.pop(0))
+    unknown = [it for it in chosen if it.partition("::")[0] not in files]
+    if unknown:
+        print(
+            f"tests/run: unknown part: {', '.join(unknown)}\n{parts_in_lines(files)}",
+            file=sys.stderr,
+        )
+        return (0, len(unknown), 0), 2
+    fault = program.fault_of_installed() or (prepare.ready() if prepares else None)
+    if fault:
+        print(fault)
+        return (0, 1, 0), 1
+    environment = with_pytest()
+    if environment is None:
+        print("tests/run: needs Debian's packages python3-pytest and python3-pytest-xdist")
+        return (0, 1, 0), 1
+    chosen = chosen or [it for it in files if it not in OF_SITE]
+    counts = try_named(chosen, words, files, environment)
+    return counts, int(counts[1] != 0)
+
+
+def closed(words):
+    """Runs the tests. Whatever happens, the last line has the counts."""
+    if {"--help", "-h"} & {*words}:
+        print(USAGE + parts_in_lines(files_of_parts()), end="")
         return 0
-    cases = program.Cases()
+    counts, status = (0, 1, 0), 1
     try:
-        status = try_parts(cases, names, prepares)
+        counts, status = main(words)
     except KeyboardInterrupt:
-        cases.failed, status = cases.failed + 1, 130
+        status = 130
         print("FAILED: interrupted")
-    print(cases.counts())
+    except Exception:
+        traceback.print_exc(file=sys.stdout)
+    print(last_line(*counts))
     return status
 
 
 if __name__ == "__main__":
-    ended = main(sys.argv[1:])
-    for call in program.AT_END:
-        call()
-    sys.stdout.flush()
-    # No thread that a part has left running prints anything after the last line.
-    os._exit(ended)
+    sys.exit(closed(sys.argv[1:]))

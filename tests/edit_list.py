@@ -7,7 +7,7 @@ import os
 import re
 import textwrap
 
-from program import TOP
+TOP = os.path.dirname(os.path.dirname(os.path.abspath(__file__)))
 
 PAGE = os.path.join(TOP, "docs", "PROOFS.md")
 BEGINS, ENDS = "<!-- edits: begins -->\n", "<!-- edits: ends -->\n"

@@ -28,8 +28,8 @@ Proves every crate and its tests from nothing, runs the tests and the programs a
 build them (`rt ci`, in a copy of the repository without the must-fail edits), and then tries the
 built program against real peers (tests/run). With --edits nothing is left out: `rt ci` runs in the
 repository itself, and the prover has to refuse each must-fail edit.
-Missing packages of Debian are installed: pci.ids, pciutils, libpci-dev, sqlite3, curl, nginx-light,
-apache2-utils, openssl, man-db. Cases whose package can't be installed are skipped.
+Missing packages of Debian are installed (docs/INSTALL.md lists them). Without pytest nothing is
+tried; tests that need another package that can't be installed are skipped.
 The last line is 'N passed, N failed', followed by ', N skipped' if cases were skipped.
 """
 

@@ -10,7 +10,7 @@ import os
 import re
 import textwrap
 
-from program import TOP
+TOP = os.path.dirname(os.path.dirname(os.path.abspath(__file__)))
 
 CRATES = os.path.join(TOP, "crates")
 PAGE = os.path.join(TOP, "docs", "PROMISES.md")
@@ -163,6 +163,8 @@ class Sources:
     """The contracts of the public calls, and the ghost members of the traits."""
 
     def __init__(self):
+        # The file of each call whose contract was asked for.
+        self.places = {}
         self.files = [(path, lines_of(path)) for crate in crates()
                       for path in files_in(os.path.join(CRATES, crate, "src"), ".rt")]
 
@@ -193,6 +195,7 @@ class Sources:
                 if owner and re.match(r"impl\b", line):
                     within = re.match(rf"impl(?:<.*?>)? {owner[0]}\b", line) and " for " not in line
                 if within and re.match(rf"\s*pub fn {name}\b", line):
+                    self.places[call] = os.path.relpath(path, TOP)
                     found.append((lines, self.block(lines, at)))
         assert len(found) == 1, (call, len(found))
         return found[0]
@@ -266,7 +269,9 @@ def page_part():
         keys = definitions_for(specs, sources, calls)
         size = sum(specs.definitions[key].size for key in keys)
         rows.append(f"| {promise} | {', '.join(map(name_of, calls))} | {len(keys)} | {size:,} |\n")
-        parts.append(f"\n### To read for {promise}\n\n" + "\n".join(lists(specs, keys)) + "\n")
+        files = ", ".join(dict.fromkeys(f"`{sources.places[it]}`" for it in calls))
+        head = f"\n### To read for {promise}\n\n- the clauses: {files}\n"
+        parts.append(head + "\n".join(lists(specs, keys)) + "\n")
     head = "\n| promise | public calls | definitions | lines |\n|---|---|---|---|\n"
     return head + "".join(rows) + "".join(parts) + "\n"
 

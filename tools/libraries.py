@@ -78,7 +78,8 @@ class Build:
             self.chains[crate] = size(crate) + max(above, default=0)
 
     def ready(self):
-        """Returns the crates that can be built now, those with the longest chain above them first."""
+        """Returns the crates that can be built now, those with the longest chain above them
+        first."""
         waiting = [it for it in self.crates if it not in self.built and it not in self.jobs]
         ready = [it for it in waiting if self.built.issuperset(self.below[it])]
         return sorted(ready, key=lambda it: -self.chains[it])
@@ -100,8 +101,9 @@ class Build:
         return not self.failed
 
     def jobs_for(self, crate):
-        """Returns how many jobs a crate can have now: all processors for the one that the most waits
-        for; for each other one a job, as long as half of the processors have no such crate."""
+        """Returns how many jobs a crate can have now: all processors for the one that the most
+        waits for; for each other one a job, as long as half of the processors have no such
+        crate."""
         waiting = [it for it in self.crates if it not in self.built]
         if crate == max(waiting, key=self.chains.get):
             return self.processors

@@ -1,0 +1,218 @@
+"""Scripts whose replies the rules of docs/REGISTRY.md, docs/SCRIPT.md and docs/LOOKUP.md say: pairs
+of a line and its reply."""
+from urllib.parse import quote_plus
+
+HEADER = "# PCI ID registry\n"
+
+
+def look_ups(text, answers):
+    """An import of a text, of which all is new, and look-ups after it, each with its answer."""
+    added = sum(not line.startswith("S ") for line in text.splitlines())
+    lines = [(f"import root file={quote_plus(text)}", f"ok added={added} renamed=0 same=0\n")]
+    return lines + [(f"lookup {asked}", f"{answer}\n") for asked, answer in answers.items()]
+
+
+ONE_VENDOR = "8086  Intel Corporation"
+A_CARD = (
+    "8086  Intel Corporation\n\t1237  440FX\n\t\t1af4 1100  Qemu machine\n1af4  Red Hat, Inc.\n"
+)
+QEMU = "vendor=8086&device=1237&subvendor=1af4"
+INVALID, TOO_SMALL = (
+    "text <pci_lookup_name: invalid request>",
+    "text <pci_lookup_name: buffer too small>",
+)
+
+A_MODERATOR = [
+    ("account root who=bob&rank=1", "ok\n"),
+    ("submit bob path=PC/8086/1237&name=440FX", "ok 1\n"),
+    ("approve root num=1", "refused 11 ParentMissing\n"),
+    ("submit bob path=PC/8086&name=Intel", "ok 2\n"),
+    ("approve root num=2", "ok\n"),
+    ("approve root num=1", "ok\n"),
+    ("export", HEADER + "8086  Intel\n\t1237  440FX\n"),
+]
+
+ROWS = {
+    "a first name": [
+        ("account root who=alice&rank=0", "ok\n"),
+        ("submit alice path=PC/8086&name=Intel+Corporation", "ok 1\n"),
+        ("approve alice num=1", "refused 5 RankTooLow\n"),
+        ("approve root num=1", "ok\n"),
+        ("export", HEADER + "8086  Intel Corporation\n"),
+    ],
+    "removals": A_MODERATOR + [
+        ("submit bob path=PC/8086&remove=yes", "ok 3\n"),
+        ("approve root num=3", "refused 12 HasChildren\n"),
+        ("submit bob path=PC/8086/1237&remove=yes", "ok 4\n"),
+        ("approve root num=4", "ok\n"),
+        ("approve root num=3", "ok\n"),
+        ("export", HEADER),
+    ],
+    "imports": [
+        ("import root key=k1&file=8086++Intel%0A", "ok added=1 renamed=0 same=0\n"),
+        ("import root key=k1&file=8086++Intel%0A", "ok added=1 renamed=0 same=0\n"),
+        ("import root file=8086++Intel%0A", "ok added=0 renamed=0 same=1\n"),
+        ("import root file=8086++Intel+Corporation", "ok added=0 renamed=1 same=0\n"),
+        ("import root key=k1&file=8086++Intel%0A", "ok added=1 renamed=0 same=0\n"),
+        ("read path=PC/8086", "name Intel Corporation\n"),
+    ],
+    "a faulty file": [
+        (
+            "import root file=8086++I%0A%091237++A%0A%091237++B",
+            "refused 14 FileFault line=3 kind=7 Duplicate\n",
+        ),
+        ("export", HEADER),
+    ],
+    "limits": [
+        ("account root who=bob&rank=1", "ok\n"),
+        (f"submit bob path=PC/8086&name={'a' * 1000}", "ok 1\n"),
+        (f"submit bob path=PC/8086&name={'a' * 1001}", "refused 2 BadName\n"),
+        (f"import root file=8086++{'a' * 1001}", "refused 14 FileFault line=1 kind=6 BadName\n"),
+        ("submit root path=PC/80A6&name=x", "refused 1 BadPath\n"),
+        (f"comment bob num=1&text=x&key={'k' * 65}", "refused 3 BadText\n"),
+        (f"comment bob num=1&text={'x' * 4001}", "refused 3 BadText\n"),
+        ("comment bob num=1&num=1&text=x", "refused 3 BadText\n"),
+    ],
+    "refusals": [
+        ("account root who=alice&rank=0", "ok\n"),
+        ("submit root path=PC/10ec&name=Realtek", "ok 1\n"),
+        ("approve root num=1", "refused 10 OwnDecision\n"),
+        ("withdraw alice num=1", "refused 9 NotAuthor\n"),
+        ("comment alice num=1&text=seen", "ok\n"),
+        ("account root who=root&rank=2", "refused 10 OwnDecision\n"),
+        ("account root who=alice&rank=0", "refused 13 NothingToDo\n"),
+        ("submit carol path=PC/10ec&name=X", "refused 4 NoAccount\n"),
+        ("approve root num=2", "refused 7 NoSubmission\n"),
+        ("withdraw root num=1", "ok\n"),
+        ("withdraw root num=1", "refused 8 NotPending\n"),
+        ("withdraw alice num=1", "refused 9 NotAuthor\n"),
+        ("reject alice num=1&reason=no", "refused 8 NotPending\n"),
+    ],
+    "comments and a rejection": A_MODERATOR[:2] + [
+        ("comment root num=1&text=which+stepping?&key=c1", "ok\n"),
+        ("comment root num=1&text=which+stepping?&key=c1", "ok\n"),
+        ("reject bob num=1&reason=mine", "refused 10 OwnDecision\n"),
+        ("reject root num=1&reason=", "refused 3 BadText\n"),
+        ("reject root num=1&reason=no+such+device&key=r1", "ok\n"),
+        ("reject root num=1&reason=no+such+device&key=r1", "ok\n"),
+        ("withdraw bob num=1", "refused 8 NotPending\n"),
+        ("export", HEADER),
+    ],
+    "look-ups of a vendor": look_ups(
+        ONE_VENDOR,
+        {
+            "flags=3&vendor=8086&device=ffff": "text Intel Corporation Device ffff",
+            "flags=40003&vendor=8086&device=ffff": "text Intel Corporation Device [8086:ffff]",
+            "flags=20003&vendor=8086&device=ffff": "none",
+            "flags=10003&vendor=8086&device=ffff": "text 8086:ffff",
+        },
+    ),
+    "look-ups of what has no name": look_ups(
+        ONE_VENDOR,
+        {
+            "flags=3&vendor=1234&device=1111": "text Device 1234:1111",
+            "flags=1&vendor=1234": "text Vendor 1234",
+            "flags=9&subvendor=1234": "text Unknown vendor 1234",
+            "flags=40003&vendor=1234&device=1111": "text Device [1234:1111]",
+        },
+    ),
+    "look-ups of classes": look_ups(
+        "C ff  Unassigned class",
+        {
+            "flags=4&class=ff00": "text Unassigned class [ff00]",
+            "flags=10004&class=ff00": "text ff00",
+            "flags=4&class=1234": "text Class 1234",
+            "flags=20004&class=1234": "none",
+            "flags=20004&class=ff00": "text Unassigned class [ff00]",
+        },
+    ),
+    "look-ups of interfaces": look_ups(
+        "C 01  Mass storage controller\n\t01  IDE interface",
+        {
+            "flags=10&class=0101&progif=8a": "text Master SecP PriP",
+            "flags=10&class=0101&progif=00": "text ",
+            "flags=20010&class=0101&progif=00": "text ",
+            "flags=40010&class=0101&progif=00": "text  [00]",
+            "flags=10&class=0101&progif=10": "text ProgIf 10",
+            "flags=10&class=0102&progif=8a": "text ProgIf 8a",
+        },
+    ),
+    "look-ups into small buffers": look_ups(
+        ONE_VENDOR + "\n1d00  Société",
+        {
+            "flags=1&vendor=8086&size=18": "text Intel Corporation",
+            "flags=1&vendor=8086&size=17": "text Intel Corpora...",
+            "flags=1&vendor=8086&size=4": "text ...",
+            "flags=1&vendor=8086&size=3": TOO_SMALL,
+            "flags=1&vendor=8086&size=0": TOO_SMALL,
+            # Cut within a character: the byte is written as surrogateescape has it.
+            "flags=1&vendor=1d00&size=9": "text Soci\udcc3...",
+        },
+    ),
+    "look-ups of subsystems": look_ups(
+        A_CARD,
+        {
+            f"flags=b&{QEMU}&subdevice=1100": "text Red Hat, Inc. Qemu machine",
+            f"flags=4000b&{QEMU}&subdevice=1100": "text Red Hat, Inc. Qemu machine [1af4:1100]",
+            f"flags=b&{QEMU}&subdevice=1101": "text Red Hat, Inc. Device 1101",
+            f"flags=a&{QEMU}&subdevice=1101": "text Device 1101",
+            f"flags=4000a&{QEMU}&subdevice=1101": "text Device [1101]",
+            "flags=b&vendor=8086&device=1237&subvendor=8086&subdevice=1237": (
+                "text Intel Corporation 440FX"
+            ),
+        },
+    ),
+    "look-ups of generic subsystems": look_ups(
+        "1af4  Red Hat\n\t0000  Zero\n\t\t1af4 1100  Per device\nS 1af4\n\t1100  Generic\n",
+        {
+            "flags=a&vendor=1af4&device=0000&subvendor=1af4&subdevice=1100": "text Generic",
+        },
+    ),
+    "flags of look-ups": look_ups(
+        ONE_VENDOR,
+        {
+            "flags=70001&vendor=8086": "text Intel Corporation [8086]",
+            "flags=70001&vendor=1234": "none",
+            "flags=30001&vendor=8086": "refused 26 BadFlags",
+            "flags=80001&vendor=8086": "refused 26 BadFlags",
+            "flags=30000&vendor=8086": "refused 26 BadFlags",
+            "flags=0&vendor=8086": INVALID,
+            "flags=5&vendor=8086": INVALID,
+            "flags=20&vendor=8086": INVALID,
+            "flags=10000&vendor=8086": INVALID,
+        },
+    ),
+    "blocks of generic subsystems": [
+        (
+            (
+                "import root"
+                " file=1af4++Red+Hat%0AS+1AF4%0A%091100++Qemu%0A%090001++Net"
+                "%0AC+01++Mass%0A8086++I%0AS+1af4%0A%090002++Blk"
+            ),
+            "ok added=6 renamed=0 same=0\n",
+        ),
+        (
+            "export",
+            HEADER
+            + "1af4  Red Hat\n8086  I\nC 01  Mass\nS 1af4\n\t0001  Net\n\t0002  Blk\n\t1100 "
+            " Qemu\n",
+        ),
+        ("import root file=1af4++R%0AS+1af4x", "refused 14 FileFault line=2 kind=4 BadId\n"),
+        ("import root file=1af4++R%0AS+1af", "refused 14 FileFault line=2 kind=4 BadId\n"),
+        (
+            "import root file=1af4++R%0AS+1af4%0A%091100++X%0A%09%091++Y",
+            "refused 14 FileFault line=4 kind=2 TooDeep\n",
+        ),
+        (
+            "import root file=1af4++R%0AS+1af4%0A%091100++X%0AS+1af4%0A%091100++Z",
+            "refused 14 FileFault line=5 kind=7 Duplicate\n",
+        ),
+        ("import root file=1af4++R%0AS+8086", "refused 14 FileFault line=2 kind=8 VendorMissing\n"),
+        (
+            "import root file=S+1af4%0A1af4++Red+Hat%0A",
+            "refused 14 FileFault line=1 kind=8 VendorMissing\n",
+        ),
+        ("import root file=1af4++R%0AS+1af4", "ok added=0 renamed=1 same=0\n"),
+        ("read path=PS/1af4/1100", "name Qemu\n"),
+    ],
+}

@@ -1,0 +1,32 @@
+"""Libraries that refuse the program under test a request for memory, or a call of its disk."""
+import os
+import subprocess
+
+from program import SUPPORT, WHOLE, Skip
+
+# In memory where that can be had, so that no run waits for a disk.
+ROOM = "/dev/shm" if os.access("/dev/shm", os.W_OK) else None
+
+
+def build_shims(folder):
+    """The paths of the libraries by their names, built in a folder."""
+    shims = {name: os.path.join(folder, f"{name}.so") for name in ("refuse_disk", "refuse_malloc")}
+    for name, shim in shims.items():
+        source = os.path.join(SUPPORT, f"{name}.c")
+        words = ["gcc", "-O1", "-shared", "-fPIC", source, "-o", shim, "-ldl"]
+        if subprocess.run(words, timeout=60).returncode != 0:
+            raise Skip("gcc could not build the shims")
+    return shims
+
+
+def run_refusing(shim, at, text, *words):
+    """Runs the program with its request number `at` refused: output, faults and status, and whether
+    there was such a request."""
+    reading, writing = os.pipe()
+    environment = dict(os.environ, LD_PRELOAD=shim, REFUSE_AT=str(at), REFUSE_FD=str(writing))
+    how = {"env": environment, "pass_fds": [writing], "timeout": 60}
+    ran = subprocess.run([WHOLE, *words], input=text, capture_output=True, **how)
+    os.close(writing)
+    with os.fdopen(reading, "rb") as pipe:
+        was_refused = pipe.read(1) == b"!"
+    return (ran.stdout, ran.stderr, ran.returncode), was_refused

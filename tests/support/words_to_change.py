@@ -1,0 +1,27 @@
+"""Words that no page, comment or help says, each with what to say in its place."""
+import re
+
+# Names in code are free.
+WORDS = (
+    (r"behind(?! (?:nginx|a proxy|caches)\b)", "after"),
+    (r"tells?|told|telling", "reports, prints, returns, answers, says"),
+    (r"(?:a|some|each|the) front of", "a prefix of"),
+    (r"wants? (?:of )?memory|memory (?:is|was|were) (?:short|wanted)", "out of memory"),
+    (r"(?:the|these|those) words (?:of (?:a|the) command|that no)", "the arguments"),
+    (r"named anew", "added or renamed"),
+    (r"(?:is|was|are|were|been) taken over|takes? \w+ over", "is upgraded, is migrated"),
+    (r"stands? beside|stood beside", "other tables are allowed"),
+    (r"(?:is|are|was|were) borne", "is allowed"),
+    (r"(?:in|by) pieces|piece by piece|cut anywhere", "in chunks of any size"),
+    (r"brings? (?:a|the|its) \w+ into", "imports"),
+    (r"stands? (?:at|in)|stood (?:at|in)", "is at, is in"),
+    (r"li(?:fe|ves)", "session"),
+)
+
+
+def found_in(text):
+    """The words of a text that are on the list, each with its line and what to say."""
+    text = re.sub(r"`[^`\n]*`", lambda it: " " * len(it[0]), text)
+    for word, better in WORDS:
+        for found in re.finditer(rf"\b(?:{word})\b".replace(" ", r"\s+"), text, re.I):
+            yield text.count("\n", 0, found.start()) + 1, " ".join(found[0].split()), better

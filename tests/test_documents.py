@@ -1,0 +1,308 @@
+"""The documents at the top and in docs/: their links lead somewhere, the calls that they promise
+exist, the pages that are meant to be read whole keep their width, and versions agree."""
+import os
+import re
+import shutil
+import subprocess
+
+import pytest
+
+import edit_list
+import reading_list
+import refusals
+from program import TOP
+from words_to_change import found_in
+
+WIDEST, WIDEST_ROW, WIDEST_CELL = 100, 120, 100
+README_LINES = 130
+
+
+def text_of(name):
+    with open(os.path.join(TOP, name), encoding="utf-8") as page:
+        return page.read()
+
+
+def pages():
+    """The pages of the repository, by their paths from the top."""
+    for folder in ("", "docs"):
+        for name in sorted(os.listdir(os.path.join(TOP, folder))):
+            if name.endswith(".md"):
+                yield os.path.join(folder, name)
+
+
+def anchor_of(heading):
+    """What a link to a heading has after its `#`."""
+    return re.sub(r"[^\w\- ]", "", heading.strip().lower()).replace(" ", "-")
+
+
+def prose_of(page):
+    """A page without its blocks of code."""
+    return re.sub(r"^```.*?^```$", "", text_of(page), flags=re.M | re.S)
+
+
+def broken_links(page):
+    """The links of a page that lead to no file of the repository, or to no heading of it."""
+    prose = prose_of(page)
+    targets = re.findall(r"\]\(([^)\s]+)\)", prose) + re.findall(r"^\[[^]]+\]: (\S+)$", prose, re.M)
+    for target in targets:
+        if re.match(r"[a-z]+:", target):
+            continue
+        path, _, anchor = target.partition("#")
+        file = os.path.normpath(os.path.join(os.path.dirname(page), path)) if path else page
+        if not os.path.exists(os.path.join(TOP, file)):
+            yield target
+        elif anchor:
+            headings = re.findall(r"^#+ (.*)$", prose_of(file), re.M)
+            if anchor not in map(anchor_of, headings):
+                yield target
+
+
+def wide_lines(page):
+    """The lines of a page that are too wide. What a program prints is shown as it is."""
+    kind = None
+    for line in text_of(page).splitlines():
+        if line.startswith("```"):
+            kind = line[3:] if kind is None else None
+        elif kind is None or kind in ("sh", "sql") or line.startswith("$ "):
+            cells = line.split(" | ") if kind is None and line.startswith("|") else []
+            widest = WIDEST_ROW if cells else WIDEST
+            if len(line) > widest or any(len(cell) > WIDEST_CELL for cell in cells):
+                yield line
+
+
+def words_to_change(page):
+    """The words of a page that are on the list, each with its line and what to say."""
+    text = re.sub(r"^```.*?^```$|`[^`]*`|\]\([^)]*\)", lambda it: re.sub(r"[^\n]", " ", it[0]),
+                  text_of(page), flags=re.M | re.S)
+    return found_in(text)
+
+
+def defined():
+    """The names of the functions and types in the sources, and of the crates."""
+    names = set(os.listdir(os.path.join(TOP, "crates")))
+    for folder, _, files in os.walk(os.path.join(TOP, "crates")):
+        if f"{os.sep}src" in folder[len(TOP):]:
+            for file in files:
+                with open(os.path.join(folder, file), encoding="utf-8") as source:
+                    names.update(re.findall(r"\b(?:fn|struct|enum|trait) (\w+)", source.read()))
+    return names
+
+
+def missing_calls(known):
+    """The calls that docs/PROMISES.md and README's table name and no source defines."""
+    listed = [line for line in text_of("docs/PROMISES.md").partition("## 1.")[2]
+              .partition("## What is only tested")[0].splitlines() if line.startswith(("- ", "  "))]
+    listed += [line.rpartition(" | ")[2] for line in text_of("README.md").splitlines()
+               if re.match(r"\| \d+ \|", line)]
+    calls = re.findall(r"`(?:\w+::)*(\w+)`", "\n".join(listed))
+    return len(calls), sorted(set(calls) - known)
+
+
+def sources_in(crate):
+    folder = os.path.join(TOP, "crates", crate, "src")
+    return "".join(open(os.path.join(at, it), encoding="utf-8").read()
+                   for at, _, files in os.walk(folder) for it in files)
+
+
+def missing_evidence():
+    """How many tests and calls SECURITY.md names, and those that do not exist."""
+    text = " ".join(text_of("SECURITY.md").partition("## What is not")[0].split())
+    text = text.partition("A client of `serve`:")[2]
+    named, missing = 0, []
+    for place, first, others in re.findall(r"`(pid_\w+|\w+\.py): (\w+)`((?:, `\w+`)*)", text):
+        for name in [first, *re.findall(r"\w+", others)]:
+            file = os.path.join("tests", place)
+            found = text_of(file) if place.endswith(".py") else sources_in(place)
+            named += 1
+            if not re.search(rf"\b(def|fn) {name}\b", found):
+                missing.append(f"{place}: {name}")
+    for crate, path in re.findall(r"`(pid_\w+)::([\w:]+)`", text):
+        named += 1
+        if not re.search(rf"\bfn {path.rpartition(':')[2]}\b", sources_in(crate)):
+            missing.append(f"{crate}::{path}")
+    return named, missing
+
+
+def all_specs():
+    """The text of each file of specs, by its path."""
+    found = {}
+    for folder, _, files in os.walk(os.path.join(TOP, "crates")):
+        for file in files if "/specs" in folder[len(TOP):] else ():
+            if file.endswith(".antt"):
+                with open(os.path.join(folder, file), encoding="utf-8") as spec:
+                    found[os.path.join(folder, file)] = spec.read()
+    return found
+
+
+def misplaced_definitions():
+    """How many definitions docs/PROOFS.md names with their files, and those that are not there."""
+    count, missing, specs = 0, [], all_specs()
+    for said in re.findall(r"\*Defined\s+by\*(.*?)\*[A-Z]", text_of("docs/PROOFS.md"), re.S):
+        said = " ".join(said.split())
+        for path, names in re.findall(r"`([A-Z][\w/]+)` \(((?:`\w+`(?:, )?)+)", said):
+            texts = [text for at, text in specs.items() if at.endswith(f"/{path}.antt")]
+            for name in re.findall(r"\w+", names):
+                count += 1
+                if not any(re.search(rf"\b{name}\b", text) for text in texts):
+                    missing.append(f"{path}: {name}")
+    return count, missing
+
+
+def fields():
+    """The fields of all records in specs, and those of the records that they cite."""
+    own, cited = {}, {}
+    pattern = (r"^( *)(?:pub )?record (\w+)(.*?)(?=^ *(?:pub |abbrev |unfoldable )*"
+               r"(?:record|data|abbrev|unfoldable|module)\b|\Z)")
+    for text in all_specs().values():
+        for indent, name, body in re.findall(pattern, text, re.M | re.S):
+            names = re.findall(rf"^{indent} +pub (\w+) :", body, re.M)
+            own.setdefault(name, set()).update(names)
+            cited.setdefault(name, set()).update(re.findall(r"\b[A-Z]\w+", body))
+    return {name: names.union(*(own.get(it, set()) for it in cited[name]))
+            for name, names in own.items()}
+
+
+def contracts():
+    """The name and the contract of each function, in any crate."""
+    for folder, _, files in os.walk(os.path.join(TOP, "crates")):
+        for file in files if "/src" in folder[len(TOP):] else ():
+            with open(os.path.join(folder, file), encoding="utf-8") as source:
+                name, contract = None, []
+                for line in source:
+                    begins = re.match(r"( *)(?:pub(?:\(\w+\))? )?(?:const )?fn (\w+)", line)
+                    if begins:
+                        indent, name, contract = begins[1], begins[2], []
+                    contract.append(line)
+                    ends = begins and line.endswith("{\n") or line == indent + "{\n" if name else ""
+                    if name and (ends or line.endswith(";\n") and " = " not in line):
+                        yield name, "".join(contract)
+                        name = None
+
+
+def clauses():
+    """For all functions of a name: the names of their clauses, and of the fields of the records
+    that these cite."""
+    found, records = {}, fields()
+    for name, contract in contracts():
+        names = found.setdefault(name, set())
+        names.update(re.findall(r"^ *ensures (\w+) \{", contract, re.M))
+        for word in set(re.findall(r"\b[A-Z]\w+", contract.partition("ensures")[2])):
+            names |= records.get(word, set())
+    return found
+
+
+def missing_clauses():
+    """How many clauses docs/PROOFS.md names with their calls, and those that no such call has."""
+    count, missing, known = 0, [], clauses()
+    for said in re.findall(r"\*Carried\s+by\*(.*?)\*[A-Z]", text_of("docs/PROOFS.md") + "*E", re.S):
+        said = " ".join(said.split())
+        pattern = r"((?:`[\w:]+`(?:, )?)+): ((?:`\w+`(?:, )?)+)(?=[;.(]| \(|$)"
+        for calls, names in re.findall(pattern, said):
+            calls = [it for it in re.findall(r"(\w+)`", calls) if it in known]
+            for name in re.findall(r"\w+", names) if calls else ():
+                count += 1
+                if not any(name in known[it] for it in calls):
+                    missing.append(f"{', '.join(calls)}: {name}")
+    return count, missing
+
+
+def missing_words():
+    """How many definitions docs/GLOSSARY.md names, and those that are not in specs or sources."""
+    names = re.findall(r"`(\w+)`\)", text_of("docs/GLOSSARY.md"))
+    text = "".join(open(os.path.join(at, it), encoding="utf-8").read()
+                   for at, _, files in os.walk(os.path.join(TOP, "crates"))
+                   if re.search(r"/(specs|src)\b", at[len(TOP):])
+                   for it in files)
+    return len(names), [it for it in names if not re.search(rf"\b{it}\b", text)]
+
+
+def missing_paths():
+    """The files that CONTRIBUTING.md names under "How to add", and those that do not exist. A path
+    that begins with src/ or specs/ is of the crate that was named last."""
+    named, missing, crate = 0, [], ""
+    text = text_of("CONTRIBUTING.md").partition("`src/` and `specs/`")[2]
+    for path in re.findall(r"`([\w/.]+)`", text):
+        crate = path.partition("/")[0] if path.startswith("pid_") else crate
+        if path.startswith(("pid_", "src/", "specs/", "tests/")):
+            at = path if path.startswith("tests/") else os.path.join("crates", path)
+            if path.startswith(("src/", "specs/")):
+                at = os.path.join("crates", crate, path)
+            named += 1
+            if not os.path.exists(os.path.join(TOP, at)):
+                missing.append(at)
+    return named, missing
+
+
+def has_reader(page):
+    """Whether the first sentence of a page says for whom it is."""
+    first = text_of(page).split("\n\n")[1]
+    return page == "README.md" or first.startswith("For ")
+
+
+@pytest.mark.parametrize("page", pages())
+def test_page(cases, page):
+    cases.equal("says for whom it is", has_reader(page), True)
+    cases.equal("links that lead nowhere", sorted(broken_links(page)), [])
+    cases.equal("lines and cells that are too wide", list(wide_lines(page)), [])
+    cases.equal("words to change", list(words_to_change(page)), [])
+
+
+def test_readme(cases):
+    lines = text_of("README.md").count("\n")
+    cases.equal(f"at most {README_LINES} lines", lines <= README_LINES, True)
+    count, missing = missing_calls(defined())
+    cases.equal("promises: calls that no source defines", missing, [])
+    cases.equal("promises: they name calls", count > 40, True)
+    kit = re.search(r"`(logic \w+)`", text_of("README.md"))
+    cases.equal("names the toolchain's line", kit is not None, True)
+    if shutil.which("rt") is None:
+        pytest.skip("the toolchain's line: the command rt is missing")
+    ran = subprocess.run(["rt", "version"], stdout=subprocess.PIPE, text=True, timeout=60)
+    cases.equal("the toolchain's logic", kit.group(1) in ran.stdout, True)
+
+
+def test_contributing(cases):
+    count, missing = missing_paths()
+    cases.equal("files that do not exist", missing, [])
+    cases.equal("it names some", count > 50, True)
+
+
+def test_security(cases):
+    count, missing = missing_evidence()
+    cases.equal("tests and calls that do not exist", missing, [])
+    cases.equal("it names some", count > 30, True)
+
+
+def test_refusals(cases):
+    cases.equal("as the definitions have them", refusals.shown(), refusals.defined())
+
+
+def test_reading_list(cases):
+    shown, printed = reading_list.shown_part(), reading_list.page_part()
+    cases.equal("PROMISES.md: what to read (run tests/reading_list.py)", shown == printed, True)
+    steps = set(re.findall(r"`(Steps/\w+)`", shown))
+    named = set(re.findall(r"`(Steps/\w+)`", text_of("docs/ARCHITECTURE.md")))
+    cases.equal("ARCHITECTURE.md: the steps that promises rest on", named, steps)
+
+
+def test_edits(cases):
+    shown, printed = edit_list.shown_part(), edit_list.page_part()
+    cases.equal("PROOFS.md: wrong bodies (run tests/edit_list.py)", shown == printed, True)
+    count, missing = edit_list.unknown()
+    cases.equal("PROOFS.md: edits that no crate has", missing, [])
+    cases.equal("PROOFS.md: it names some", count > 100, True)
+
+
+def test_evidence(cases):
+    count, missing = misplaced_definitions()
+    cases.equal("PROOFS.md: definitions that are not in their files", missing, [])
+    cases.equal("PROOFS.md: it names definitions", count > 100, True)
+    count, missing = missing_clauses()
+    cases.equal("PROOFS.md: clauses that no call has", missing, [])
+    cases.equal("PROOFS.md: it names clauses", count > 200, True)
+
+
+def test_glossary(cases):
+    count, missing = missing_words()
+    cases.equal("words that no definition has", missing, [])
+    cases.equal("it names some", count > 30, True)

@@ -1,0 +1,182 @@
+"""The tests' own frame: whatever ends a test early is one failure, and the counts come last."""
+import os
+import shutil
+import subprocess
+import sys
+
+import pytest
+
+from gate import counted
+from program import TOP
+
+HERE = os.path.join(TOP, "tests")
+FRAME = ("all.py", "conftest.py", "pytest.ini")
+SUPPORT = ("cases.py", "prepare.py", "program.py", "shims.py")
+
+# Files in place of some parts, and what each passes, fails and skips.
+PARTS = {
+    "words": ("def test_one(cases):\n    cases.equal('', 1, 1)\n", (1, 0, 0)),
+    "limits": (
+        (
+            "def test_one(cases):\n    cases.equal('', 1, 1)\n    cases.equal('', 1, 1)\n"
+            "    raise SystemExit(0)\n"
+            "def test_two():\n    pass\n"
+        ),
+        (3, 1, 0),
+    ),
+    "jobs": ("import no_such_module\n", (0, 1, 0)),
+    "disks": ("def test_one(cases)\n", (0, 1, 0)),
+    "stops": (
+        (
+            "import subprocess\n"
+            "def test_one(cases):\n    subprocess.run(['sleep', '20'], timeout=0.1)\n"
+        ),
+        (0, 1, 0),
+    ),
+    "registry": ("def test_one(cases):\n    open('/no/such/file')\n", (0, 1, 0)),
+    "scripts": (
+        (
+            "import program, pytest\ndef test_one(cases):\n    cases.skipped('one', 'why')\n   "
+            " program.need('no-such-command')\n@pytest.mark.needs('no-such-command')\ndef"
+            " test_two(cases):\n    cases.equal('', 1, 2)\n"
+        ),
+        (0, 0, 3),
+    ),
+    "migrate": (
+        (
+            "import pytest\n"
+            "@pytest.fixture\ndef broken():\n    raise OSError\n"
+            "def test_one(cases, broken):\n    cases.equal('', 1, 1)\n"
+            "def test_two(cases):\n    cases.equal('', 1, 1)\n"
+        ),
+        (1, 1, 0),
+    ),
+    "proxy": (
+        (
+            "import program\n"
+            "def run(cases):\n    program.PROGRAM = '/no/such/program'\n    program.run(b'')\n"
+        ),
+        (0, 1, 0),
+    ),
+    "mirror": (
+        (
+            "import threading, time, program\n"
+            "def late():\n    time.sleep(1)\n    print('late')\n"
+            "def run(cases):\n    threading.Thread(target=late).start()\n"
+            "    cases.equal('', program.PROGRAM == '/no/such/program', False)\n"
+        ),
+        (1, 0, 0),
+    ),
+    # A test that hangs is stopped.
+    "tour": (
+        "import time\ndef test_one(cases):\n    time.sleep(100)\n"
+        "def test_two(cases):\n    cases.equal('', 1, 1)\n",
+        (1, 1, 0),
+    ),
+    # A test that ends its process fails, and the others are tried.
+    "lspci": (
+        (
+            "import os, time\ndef test_one(cases):\n    time.sleep(0.5)\n    os._exit(0)\n"
+            "def test_two(cases):\n    cases.equal('', 1, 1)\n"
+        ),
+        (1, 1, 0),
+    ),
+    # These are tried at once.
+    "front": ("def run(cases):\n    cases.equal('', 1, 1)\n", (1, 0, 0)),
+    "caches": (
+        "def run(cases):\n    cases.equal('', 1, 2)\n    cases.skipped('one', 'why')\n",
+        (0, 1, 1),
+    ),
+    "machine": (
+        "import os, time\ndef run(cases):\n    time.sleep(0.5)\n    os._exit(0)\n", (0, 1, 0)
+    ),
+}
+RUNS = ("proxy", "mirror", "front", "caches", "machine")
+
+# The last lines of runs, and what the gate reads in them.
+LAST_LINES = {
+    "3 passed, 0 failed": (3, 0, 0),
+    "3 passed, 1 failed": (3, 1, 0),
+    "3 passed, 1 failed, 2 skipped": (3, 1, 2),
+    "3 passed, 1 failed, 2 skipped, or so": (0, 1, 0),
+    "words: 3 passed, 0 failed": (0, 1, 0),
+    "Traceback (most recent call last):": (0, 1, 0),
+    "": (0, 1, 0),
+}
+
+
+def line_of(passed, failed, skipped):
+    return f"{passed} passed, {failed} failed" + (f", {skipped} skipped" if skipped else "")
+
+
+def tried(folder, *words, **environment):
+    """What a run prints, line by line, and its exit status."""
+    outer = {
+        name: value
+        for name, value in os.environ.items()
+        if name != "PCIIDS" and not name.startswith("PYTEST")
+    }
+    words = [sys.executable, "-B", os.path.join(folder, "all.py"), *words]
+    ran = subprocess.run(words, capture_output=True, env={**outer, **environment}, timeout=120)
+    return ran.stdout.decode().splitlines(), ran.returncode
+
+
+@pytest.fixture
+def frame(folder):
+    """A copy of the frame, with files in place of parts."""
+    os.mkdir(os.path.join(folder, "support"))
+    for name in FRAME:
+        shutil.copyfile(os.path.join(HERE, name), os.path.join(folder, name))
+    for name in SUPPORT:
+        shutil.copyfile(os.path.join(HERE, "support", name), os.path.join(folder, "support", name))
+    conftest = os.path.join(folder, "conftest.py")
+    with open(conftest, encoding="utf-8") as file:
+        text = file.read()
+    with open(conftest, "w", encoding="utf-8") as file:
+        file.write(text.replace("LONGEST = 1_800", "LONGEST = 5"))
+    for name, (text, _) in PARTS.items():
+        name = f"{name}.py" if name in RUNS else f"test_{name}.py"
+        with open(os.path.join(folder, name), "w", encoding="utf-8") as file:
+            file.write(text)
+    return folder
+
+
+@pytest.mark.parametrize("line", LAST_LINES)
+def test_last_lines(cases, line):
+    cases.equal(f"gate: the last line {line!r}", counted(line), LAST_LINES[line])
+
+
+def test_broken_parts(cases, frame):
+    lines, status = tried(frame, *PARTS)
+    for name, (_, counts) in PARTS.items():
+        file = f"{name}.py" if name in RUNS else f"test_{name}.py"
+        found = [line for line in lines if line.startswith(f"{file}: {line_of(*counts)}, ")]
+        cases.equal(f"the counts of a part like {name}", len(found), 1)
+    whole = line_of(*map(sum, zip(*(counts for _, counts in PARTS.values()))))
+    cases.equal("the last line and the status", (lines[-1], status), (whole, 1))
+
+
+def test_calls(cases, frame):
+    lines, status = tried(frame, "words", "mirror")
+    cases.equal("all is well", (lines[-1], status), ("2 passed, 0 failed", 0))
+    lines, status = tried(frame, "limits::test_two")
+    cases.equal("one test", (lines[-1], status), ("1 passed, 0 failed", 0))
+    lines, status = tried(frame, "words", "limits", "-k", "two")
+    cases.equal("a part of a name", (lines[-1], status), ("1 passed, 0 failed", 0))
+    lines, status = tried(frame, "limits", "-n", "0", "-x")
+    cases.equal("up to the first failure", (lines[-1], status), ("2 passed, 1 failed", 1))
+
+
+def test_faulty_calls(cases, frame):
+    """What was asked for can't be tried: nothing is."""
+    lines, status = tried(frame, "words", "no_such_part")
+    cases.equal("an unknown part", (lines, status), (["0 passed, 1 failed"], 2))
+    lines, status = tried(frame, "words::no_such_test")
+    cases.equal("an unknown test", (lines[-1], status), ("0 passed, 1 failed", 1))
+    lines, status = tried(frame, "words", "-k", "no_such_test")
+    cases.equal("no test is chosen", (lines[-1], status), ("0 passed, 1 failed", 1))
+    file = os.path.join(frame, "all.py")
+    for name in ("", frame, file, os.path.join(frame, "none")):
+        lines, status = tried(frame, "words", PCIIDS=name)
+        got = (lines[0].startswith("PCIIDS "), lines[1:], status)
+        cases.equal(f"PCIIDS={name!r}", got, (True, ["0 passed, 1 failed"], 1))

@@ -1,0 +1,276 @@
+"""Each route with each refusal that it can answer, asked of two servers alike: one answers in JSON,
+the other in text."""
+import json
+import os
+
+import pytest
+
+import refusals
+from http_server import JSON, TEXT, Server
+from registry import asked, script
+
+pytestmark = pytest.mark.needs("curl")
+
+MANY = b"".join(b"%04x  a\n" % vendor for vendor in range(65_536)) + b"".join(
+    b"\t%04x  a\n" % device for device in range(34_465)
+)
+
+# The target, the account and the body of a command, and the refusal, 0 where it is accepted.
+COMMANDS = [
+    ("/account", "root", b"who=alice&rank=0", 0),
+    ("/account", "root", b"who=bob&rank=1", 0),
+    ("/account", "root", b"rank=2&who=mona", 0),
+    ("/account", None, b"who=dora&rank=0", 3),
+    ("/account", "Root", b"who=dora&rank=0", 3),
+    ("/account", "root", b"who=Dora&rank=0", 3),
+    ("/account", "root", b"who=dora&rank=4", 3),
+    ("/account", "root", b"who=dora", 3),
+    ("/account", "root", b"who=dora&rank=0&rank=0", 3),
+    ("/account", "root", b"who=dora&rank=0&of=us", 3),
+    ("/account", "root", b"who=dora&rank=0\xff", 3),
+    ("/account", "carol", b"who=dora&rank=0", 4),
+    ("/account", "mona", b"who=dora&rank=0", 5),
+    ("/account", "root", b"who=root&rank=3", 10),
+    ("/account", "root", b"who=alice&rank=0", 13),
+    ("/submit", "alice", b"path=PC/8086&name=Intel", 0),
+    ("/submit", "alice", b"path=PC/80A6&name=Intel", 1),
+    ("/submit", "alice", b"path=PC/8086&name=+Intel", 2),
+    ("/submit", "alice", b"path=PC/8086", 3),
+    ("/submit", "alice", b"path=PC/8086&name=Intel&remove=yes", 3),
+    ("/submit", "alice", b"path=PC/8086&remove=no", 3),
+    ("/submit", "carol", b"path=PC/8086&name=Intel", 4),
+    ("/submit", "alice", b"path=PC/8086/1237&name=440FX&note=a+bridge", 0),
+    ("/submit", "bob", b"path=PC/8086/7000&name=82371SB", 0),
+    ("/comment", "bob", b"num=1&text=seen+in+%22a+laptop%22%09%5C+%C3%A9+%F0%9F%98%80", 0),
+    ("/comment", "bob", b"num=1&text=", 3),
+    ("/comment", "bob", b"num=01&text=seen", 3),
+    ("/comment", "carol", b"num=1&text=seen", 4),
+    ("/comment", "bob", b"num=9&text=seen", 7),
+    ("/approve", "bob", b"num=0", 3),
+    ("/approve", "carol", b"num=1", 4),
+    ("/approve", "alice", b"num=1", 5),
+    ("/approve", "bob", b"num=1", 5),
+    ("/approve", "mona", b"num=9", 7),
+    ("/approve", "bob", b"num=3", 10),
+    ("/approve", "bob", b"num=2", 11),
+    ("/approve", "mona", b"num=1", 0),
+    ("/approve", "mona", b"num=1", 8),
+    ("/approve", "bob", b"num=2", 0),
+    ("/submit", "alice", b"path=PC/8086&name=Intel", 0),
+    ("/approve", "mona", b"num=4", 13),
+    ("/submit", "alice", b"path=PC/8086&remove=yes&note=gone", 0),
+    ("/approve", "mona", b"num=5", 12),
+    ("/reject", "mona", b"num=5", 3),
+    ("/reject", "mona", b"num=5&reason=", 3),
+    ("/reject", "carol", b"num=5&reason=still+sold", 4),
+    ("/reject", "bob", b"num=5&reason=still+sold", 5),
+    ("/reject", "mona", b"num=9&reason=still+sold", 7),
+    ("/reject", "bob", b"num=3&reason=still+sold", 10),
+    ("/reject", "mona", b"num=5&reason=still+sold", 0),
+    ("/reject", "mona", b"num=5&reason=still+sold", 8),
+    ("/withdraw", "alice", b"num=x", 3),
+    ("/withdraw", "carol", b"num=4", 4),
+    ("/withdraw", "alice", b"num=9", 7),
+    ("/withdraw", "bob", b"num=4", 9),
+    ("/withdraw", "alice", b"num=4", 0),
+    ("/withdraw", "alice", b"num=4", 8),
+    ("/import", None, b"10ec  Realtek\n", 3),
+    ("/import", "carol", b"10ec  Realtek\n", 4),
+    ("/import", "bob", b"10ec  Realtek\n", 5),
+    ("/import", "mona", b"10ec  Realtek\n10ec \n", 14),
+    ("/import", "mona", MANY, 14),
+    ("/import", "mona", b"10ec  Realtek\r\n8086  Intel Corporation\n\t1237  440FX\n", 0),
+    # The longest texts, as forms of up to 12,000 bytes.
+    ("/submit", "alice", b"path=PC/8086/7111&name=82371AB&note=" + b"%C3%A9" * 2_000, 0),
+    ("/submit", "alice", b"path=PC/8086/7111&name=82371AB&note=" + b"%C3%A9" * 2_000 + b"a", 3),
+    ("/submit", "alice", b"path=PC/8086/7112&name=" + b"%22" * 1_000, 0),
+    ("/submit", "alice", b"path=PC/8086/7112&name=" + b"%22" * 1_001, 2),
+    ("/comment", "bob", b"num=6&text=" + b"a" * 4_000, 0),
+    ("/comment", "alice", b"num=6&text=" + b"%5C" * 4_000, 0),
+    ("/comment", "bob", b"num=6&text=" + b"%5C" * 4_001, 3),
+    ("/comment", "mona", b"num=6&text=thanks", 0),
+    ("/reject", "mona", b"num=6&reason=" + b"%26" * 4_000, 0),
+]
+
+# What a registry that has counted as many commands as it may is asked: each that would be accepted
+# is refused.
+FULL = [
+    ("/account", "root", b"who=bob&rank=0", 15),
+    ("/account", "alice", b"who=bob&rank=0", 5),
+    ("/submit", "alice", b"path=PC/10ec&name=Realtek", 15),
+    ("/submit", "alice", b"path=PC/10ec", 3),
+    ("/comment", "mona", b"num=1&text=seen", 15),
+    ("/withdraw", "alice", b"num=1", 15),
+    ("/approve", "mona", b"num=1", 15),
+    ("/approve", "mona", b"num=2", 7),
+    ("/reject", "mona", b"num=1&reason=no", 15),
+    ("/import", "mona", b"8086  Intel\n", 15),
+    ("/import", "mona", b"8086 \n", 14),
+]
+
+# The target of a question and the refusal, 0 where it is answered.
+QUESTIONS = [
+    ("/read/PC/8086", 0),
+    ("/read/PC/8086/1237", 0),
+    ("/read/pc/8086", 1),
+    ("/read/PC/8087", 25),
+    ("/children", 0),
+    ("/children?of=PC/8086", 0),
+    ("/children?of=PC/8086/1237", 0),
+    ("/children?of=PC", 1),
+    ("/children?of=PC/8087", 25),
+    ("/children?of=" + "%41" * 4_000, 1),
+    ("/read/PC/8086?" + "&" * 8_000, 0),
+    *((f"/submission/{number}", 0) for number in range(1, 8)),
+    ("/submission/8", 7),
+    ("/submission/x", 3),
+    ("/pending", 0),
+    ("/pending?after=3", 0),
+    ("/changes", 0),
+    ("/changes?since=6&after=PC/8086", 0),
+    ("/changes?since=9000000000000000000", 0),
+    ("/changes?after=PC", 1),
+]
+
+
+def line_of(it):
+    """The line for one of a list."""
+    if "num" not in it:
+        return f"{it['path']} {it['name']}\n"
+    what = f"remove {it['path']}" if it["name"] is None else f"name {it['path']} {it['name']}"
+    return f"{it['num']} {it['author']} {what}\n"
+
+
+def discussion(told):
+    lines = [f"{word} {told[word]}" for word in ("num", "author", "path")]
+    lines.append("remove" if told["name"] is None else f"name {told['name']}")
+    lines += [f"{word} {told[word]}" for word in ("note", "state", "decider", "reason")]
+    return lines + [f"remark {it['author']} {it['text']}" for it in told["remarks"]]
+
+
+KINDS = {5: "NoName", 7: "Duplicate"}
+
+
+def as_text(told):
+    """The text that says what a JSON reply says."""
+    if isinstance(told, list):
+        return "".join(line_of(it) for it in told)
+    if "state" in told:
+        lines = discussion(told)
+    elif "revision" in told:
+        lines = [f"revision {told['revision']}"] + [
+            f"{it['since']} {it['path']} {it['name']}" for it in told["items"]
+        ]
+    elif "ok" not in told:
+        lines = [told["name"]]
+    elif not told["ok"]:
+        lines = [f"refused {told['refused']} {told['word']}"]
+        if told["refused"] == 14:
+            lines[0] += (
+                f" line={told['line']} kind={told['kind']} {KINDS[told['kind']]}"
+                if told["line"]
+                else " too many entries"
+            )
+    elif "num" in told:
+        lines = [f"ok {told['num']}"]
+    else:
+        counts = [f" {word}={told[word]}" for word in ("added", "renamed", "same") if word in told]
+        lines = ["ok" + "".join(counts)]
+    return "".join(line + "\n" for line in lines)
+
+
+def in_canonical_form(told):
+    """Compact JSON, keys in order, nothing escaped that need not be."""
+    return json.dumps(
+        json.loads(told), sort_keys=True, separators=(",", ":"), ensure_ascii=False
+    ).encode()
+
+
+def asked_alike(cases, known, servers, name, target, refusal, *words):
+    """The same asked of the server that is asked in JSON and of the one that is asked in text."""
+    both = target + ("&" if "?" in target else "?") + "format=text"
+    (status, kind, body), (text_status, text_kind, text) = servers[0].curl(target, *words), servers[
+        1
+    ].curl(both, *words)
+    told = json.loads(body)
+    word, want_status = known[refusal] if refusal else (None, 200)
+    got = (
+        (status, kind, told["refused"], told["word"])
+        if refusal and "refused" in told
+        else (status, kind)
+    )
+    cases.equal(name, got, (want_status, JSON, refusal, word) if refusal else (200, JSON))
+    cases.equal(f"{name}: its form", body, in_canonical_form(body))
+    cases.equal(
+        f"{name}: as text",
+        (text_status, text_kind, text.decode()),
+        (want_status, TEXT, as_text(told)),
+    )
+
+
+def ask_commands(cases, known, servers, commands, folder):
+    body = os.path.join(folder, "body")
+    for target, account, fields, refusal in commands:
+        with open(body, "wb") as file:
+            file.write(fields)
+        words = (["-H", f"X-Account: {account}"] if account else []) + ["--data-binary", f"@{body}"]
+        asked_alike(
+            cases, known, servers, f"{target} of {account}: {fields[:60]}", target, refusal, *words
+        )
+
+
+@pytest.mark.needs("sqlite3")
+def test_full(cases, folder):
+    """Registries that have counted as many commands as they may."""
+    known = refusals.shown()
+    files = [os.path.join(folder, name) for name in ("full in JSON", "full in text")]
+    for path in files:
+        script(
+            path,
+            "account root who=alice&rank=0",
+            "account root who=mona&rank=2",
+            "submit alice key=k1&path=PC/8086&name=Intel",
+        )
+        cases.equal(
+            "full: the revision is set",
+            asked(path, "UPDATE meta SET value = 9000000000000000000 WHERE label = 'revision'"),
+            "",
+        )
+    with Server(files[0]) as first, Server(files[1]) as second:
+        ask_commands(cases, known, (first, second), FULL, folder)
+        kept = [
+            it.post("/submit", "alice", "path=PC/10ec&name=Realtek", "-H", "X-Key: k1")
+            for it in (first, second)
+        ]
+        cases.equal("full: a reply that is kept", kept, [(200, JSON, b'{"num":1,"ok":true}')] * 2)
+        for server in (first, second):
+            cases.equal(
+                "full: nothing was done",
+                server.curl("/pending?format=text"),
+                (200, TEXT, b"1 alice name PC/8086 Intel\n"),
+            )
+            cases.equal(
+                "full: no item",
+                server.curl("/changes"),
+                (200, JSON, b'{"items":[],"revision":9000000000000000000}'),
+            )
+
+
+def test_routes(cases, folder):
+    known = refusals.shown()
+    cases.equal(
+        "docs/REFUSALS.md: the numbers",
+        sorted(known),
+        [*range(1, 6), *range(7, 19), *range(20, 29)],
+    )
+    with Server(os.path.join(folder, "json")) as first, Server(
+        os.path.join(folder, "text")
+    ) as second:
+        ask_commands(cases, known, (first, second), COMMANDS, folder)
+        for target, refusal in QUESTIONS:
+            asked_alike(cases, known, (first, second), f"GET {target[:60]}", target, refusal)
+        cases.equal(
+            "both registries hold the same", first.curl("/pci.ids"), second.curl("/pci.ids")
+        )
+        remarks = [len(it["text"]) for it in json.loads(first.curl("/submission/6")[2])["remarks"]]
+        cases.equal("a submission with three remarks", remarks, [4_000, 4_000, 6])

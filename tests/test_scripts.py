@@ -1,0 +1,80 @@
+"""Scripts on the built program: the example of docs/SCRIPT.md line for line, and each request for
+memory refused in turn."""
+import os
+import subprocess
+import tempfile
+
+import pytest
+
+from examples import example_of
+from program import PROGRAM, TOP, run as run_program
+from script_rows import A_MODERATOR, ROWS
+from shims import run_refusing
+
+
+def texts_of(rows):
+    """A script of these lines, and its replies."""
+    script = "".join(f"{line}\n" for line, _ in rows)
+    return script.encode(), "".join(reply for _, reply in rows).encode()
+
+
+SCRIPTS = {
+    "a first name": texts_of(ROWS["a first name"]),
+    "a parent first": texts_of(A_MODERATOR),
+    "imports": texts_of(ROWS["imports"]),
+    "refusals": texts_of(ROWS["refusals"]),
+}
+
+STOP = b"refused 16 Memory\n"
+
+
+def test_example(cases):
+    with open(os.path.join(TOP, "docs", "SCRIPT.md"), encoding="utf-8") as page:
+        commands = example_of(page.read())
+    cases.equal("docs/SCRIPT.md: the example has commands", len(commands) > 5, True)
+    with tempfile.TemporaryDirectory() as folder, tempfile.TemporaryDirectory() as tools:
+        os.symlink(PROGRAM, os.path.join(tools, "pciids"))
+        environment = dict(os.environ, PATH=tools + os.pathsep + os.environ["PATH"])
+        for command, printed in commands:
+            how = {"capture_output": True, "text": True, "timeout": 60}
+            ran = subprocess.run(["bash", "-c", command], cwd=folder, env=environment, **how)
+            got = (ran.stdout, ran.stderr, ran.returncode)
+            cases.equal(f"docs/SCRIPT.md: {command}", got, (printed, "", 0))
+
+
+def is_cut_short(got, whole):
+    """Whole lines of the output and then the refusal; or no registry was opened."""
+    out, err, status = got
+    if (out, status) == (b"", 3) and err in (b"no memory\n", b"open: Memory\n"):
+        return True
+    prefix = out[:-len(STOP)]
+    has_whole_lines = prefix == b"" or prefix.endswith(b"\n")
+    is_stopped = (err, status) == (b"", 3) and out == prefix + STOP
+    return is_stopped and whole.startswith(prefix) and has_whole_lines
+
+
+def refuse_in_turn(cases, shim, name, script, replies):
+    whole = (replies, b"", 0)
+    for at in range(1, 100_000):
+        got, was_refused = run_refusing(shim, at, script, "script")
+        if not was_refused:
+            cases.equal(f"refused memory: script: {name}", got, whole)
+            return at - 1
+        if got != whole and not is_cut_short(got, replies):
+            cases.equal(f"refused memory: script: {name}: request {at}", got, whole)
+            return at
+
+
+@pytest.mark.parametrize("name", SCRIPTS)
+def test_script(cases, name):
+    script, replies = SCRIPTS[name]
+    ran = run_program(script, "script")
+    cases.equal(f"script: {name}", (ran.out, ran.err, ran.status), (replies, b"", 0))
+
+
+@pytest.mark.needs("gcc")
+def test_refused_memory(cases, shims):
+    refusals = 0
+    for name, texts in SCRIPTS.items():
+        refusals += refuse_in_turn(cases, shims["refuse_malloc"], name, *texts)
+    cases.equal("refused memory: script: requests were refused", refusals > 100, True)

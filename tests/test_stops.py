@@ -1,0 +1,108 @@
+"""A script over a file with its disk stopped at each call in turn, and with every seventh request
+for memory refused: the file holds what some of the commands came to, the first ones, and at least
+those that were answered."""
+import os
+import shutil
+import subprocess
+import tempfile
+
+import pytest
+
+from program import WHOLE
+from registry import asked, script
+from shims import ROOM
+
+LINES = [
+    "account root who=bob&rank=1",
+    "import root file=8086++Intel",
+    "submit bob path=PC/0000&name=renamed",
+    "approve root num=1",
+]
+REPLIES = [b"ok\n", b"ok added=1 renamed=0 same=0\n", b"ok 1\n", b"ok\n"]
+TEXT = "".join(line + "\n" for line in LINES).encode()
+
+# What the tables hold after each transaction: accounts, items by meta and by rows, submissions
+# likewise, the state of the first.
+STATES = ["nothing", "1|0|0|0|0|", "2|0|0|0|0|", "2|1|1|0|0|", "2|1|1|1|1|0", "2|2|2|1|1|1"]
+
+QUESTION = """SELECT (SELECT count(*) FROM account),
+    (SELECT value FROM meta WHERE label = 'items'), (SELECT count(*) FROM item),
+    (SELECT value FROM meta WHERE label = 'submissions'), (SELECT count(*) FROM submission),
+    (SELECT state FROM submission WHERE num = 1)"""
+
+
+def state(path):
+    """What sqlite3 finds, on a copy, since it writes to a file that it recovers."""
+    with tempfile.TemporaryDirectory(dir=ROOM) as folder:
+        copy = os.path.join(folder, "copy.db")
+        for end in ("", "-wal"):
+            if os.path.exists(path + end):
+                shutil.copy(path + end, copy + end)
+        if not os.path.exists(copy):
+            return "nothing"
+        told = asked(copy, QUESTION).strip()
+        return "nothing" if told.startswith("Error: ") else told
+
+
+def run_refusing(shim, at, path):
+    """The replies and the status of a script whose call number `at` is refused, and whether there
+    was one."""
+    told, telling = os.pipe()
+    environment = dict(os.environ, LD_PRELOAD=shim, REFUSE_AT=str(at), REFUSE_FD=str(telling))
+    ran = subprocess.run(
+        [WHOLE, "script", "--db", path],
+        input=TEXT,
+        stdout=subprocess.PIPE,
+        stderr=subprocess.PIPE,
+        env=environment,
+        pass_fds=[telling],
+        timeout=60,
+    )
+    os.close(telling)
+    with os.fdopen(told, "rb") as pipe:
+        return ran.stdout.splitlines(True), ran.returncode, pipe.read(1) == b"!"
+
+
+def is_allowed(replies, status, found):
+    """The replies are the first ones, and where it stopped a refusal; the file holds what they
+    acknowledge and at most one command more."""
+    kept = replies[:-1] if replies and replies[-1].startswith(b"refused 1") else replies
+    states = STATES[len(kept) + 1 : len(kept) + 3] if kept else STATES[:3]
+    if status == 0:
+        return replies == REPLIES and found == STATES[-1]
+    return status == 3 and kept == REPLIES[: len(kept)] and found in states
+
+
+def refuse_in_turn(cases, shim, name, step):
+    """Refuses the first call of a run and every step-th after it, each in a new file, and answers
+    how many there were."""
+    refusals = 0
+    for at in range(1, 100_000, step):
+        with tempfile.TemporaryDirectory(dir=ROOM) as folder:
+            path = os.path.join(folder, "r.db")
+            replies, status, was_refused = run_refusing(shim, at, path)
+            found = state(path)
+            if not is_allowed(replies, status, found):
+                cases.equal(f"{name} {at}: replies {replies}, status {status}", found, STATES)
+                return refusals
+            if not was_refused:
+                cases.equal(
+                    f"{name}: none refused", (replies, status, found), (REPLIES, 0, STATES[-1])
+                )
+                return refusals
+            refusals += 1
+            # Also a file in which sqlite3 finds no table, or no database yet, is one that the
+            # program goes on with.
+            if refusals % 5 == 0 or found == "nothing":
+                again = script(path)
+                if again != (b"", b"", 0) or asked(path, "PRAGMA integrity_check") != "ok\n":
+                    cases.equal(f"{name} {at}: opened again", again, (b"", b"", 0))
+                    return refusals
+
+
+@pytest.mark.needs("sqlite3", "gcc")
+@pytest.mark.parametrize("name, step, least", [("refuse_disk", 1, 40), ("refuse_malloc", 7, 100)])
+def test_stops(cases, shims, name, step, least):
+    refusals = refuse_in_turn(cases, shims[name], name, step)
+    print(f"{name}: {refusals} calls refused, one in each run")
+    cases.equal(f"{name}: calls were refused", refusals >= least, True)

@@ -1,0 +1,145 @@
+"""The form of sources: columns, the layout of code, shell scripts, and the words of comments and of
+help. tests/test_documents.py looks at the pages."""
+import glob
+import io
+import os
+import re
+import shutil
+import subprocess
+import tokenize
+from concurrent.futures import ThreadPoolExecutor
+
+import pytest
+
+from program import TOP
+from words_to_change import found_in
+
+# What people read beside the pages, and how wide its lines may be.
+TEXTS = ("*", ".ci/*", "bench/*", "tests/**/*", "tools/*")
+WIDEST = 100
+# These have a line for each notice, and for each crate.
+LEFT_OUT = ("LICENSE", "NOTICE", "crates.txt")
+# Statements of SQL as the program has them, and tests that are older than the rule.
+WIDE = ("bench/registry.c", "tests/mirror.py", "tests/proxy.py")
+OLD = ("tests/visitors.py", "tests/built_packages.py", "tests/site/")
+SOURCES = ("crates/*/src/**/*.rt", "crates/*/specs/**/*.antt")
+WIDEST_SOURCE = 120
+# Sources are older than this rule: so many of their lines are wider, and none is to be added.
+WIDER_SOURCES = 50
+
+# The files of one test, `run`.
+RUNS = (
+    "caches front front_http2 installing keeping machine machine_load mirror packages proxy"
+    " publishing"
+)
+RUNS = [f"tests/{it}.py" for it in RUNS.split()]
+
+# Help is a part of these.
+HELP = ("crates/pid_cli_words/src/commands.rt", "crates/pid_cli_first/src/pages.rt")
+
+
+def files(*patterns):
+    """The text files that match, by their paths from the top."""
+    found = set()
+    for pattern in patterns:
+        for path in glob.glob(os.path.join(TOP, pattern), recursive=True):
+            name = os.path.relpath(path, TOP)
+            is_text = os.path.isfile(path) and not name.endswith((".md", ".png", ".pyc", ".svg"))
+            if is_text and name not in LEFT_OUT and "__pycache__" not in name:
+                found.add(name)
+    return sorted(found)
+
+
+def text_of(name):
+    with open(os.path.join(TOP, name), encoding="utf-8") as file:
+        return file.read()
+
+
+def wide_lines(names, widest):
+    return [f"{name}:{number}" for name in names
+            for number, line in enumerate(text_of(name).splitlines(), 1) if len(line) > widest]
+
+
+def scripts():
+    """The shell scripts, by their first lines."""
+    names = files(*TEXTS, "deploy/**/*", "debian/*")
+    return [it for it in names if re.match(r"#!.*\b(ba|da)?sh\b", text_of(it).partition("\n")[0])]
+
+
+# How comments begin, by the end of a file's name; those of shell scripts begin with `#`.
+MARKS = {".c": r"//|/\*|(?<=^)\s*\*", ".rs": "//", ".rt": "//", ".antt": "--"}
+
+
+def comments_of_python(text):
+    """The comments and the texts in three quotes, on their lines."""
+    kept = [""] * (text.count("\n") + 1)
+    for it in tokenize.generate_tokens(io.StringIO(text).readline):
+        if it.type == tokenize.COMMENT or it.string.startswith('"""'):
+            for at, line in enumerate(it.string.split("\n"), it.start[0] - 1):
+                kept[at] += line + " "
+    return "\n".join(kept)
+
+
+def comments_of(name):
+    """A file of which only comments are left, on their lines."""
+    text = text_of(name)
+    if name.endswith(".py") or text.startswith("#!/usr/bin/env python"):
+        return comments_of_python(text)
+    mark = MARKS.get(os.path.splitext(name)[1], "#")
+    found = [re.search(rf"(?:^|\s)(?:{mark})\S*(\s.*)$", line) for line in text.splitlines()]
+    return "\n".join(it[1] if it else "" for it in found)
+
+
+def words_of(names, read):
+    return [f"{name}:{line}: {word!r}, say {better}" for name in names
+            for line, word, better in found_in(read(name))]
+
+
+def test_columns(cases):
+    names = [it for it in files(*TEXTS) if it not in WIDE]
+    cases.equal("lines that are too wide", wide_lines(names, WIDEST), [])
+
+
+def test_columns_of_sources(cases):
+    wide = wide_lines(files(*SOURCES), WIDEST_SOURCE)
+    cases.equal("lines that are too wide", wide if len(wide) > WIDER_SOURCES else [], [])
+
+
+def test_words(cases):
+    names = [it for it in files(*TEXTS) if not it.startswith(OLD) and it not in RUNS]
+    cases.equal("words of comments to change", words_of(names, comments_of), [])
+    cases.equal("words of help to change", words_of(HELP, text_of), [])
+
+
+@pytest.mark.needs("shellcheck")
+def test_shell_scripts(cases):
+    names = scripts()
+    cases.equal("there are some", len(names) > 10, True)
+    words = ["shellcheck", "-x", *names]
+    ran = subprocess.run(words, cwd=TOP, capture_output=True, text=True, timeout=120)
+    cases.equal("shellcheck", (ran.stdout, ran.returncode), ("", 0))
+
+
+def laid_out(crate):
+    """Lays out a copy of a crate. Returns what `rt fmt` said, if it failed."""
+    ran = subprocess.run(["rt", "fmt"], cwd=crate, capture_output=True, text=True, timeout=120)
+    return ran.stdout + ran.stderr if ran.returncode else ""
+
+
+@pytest.mark.needs("rt")
+def test_layout(cases, folder):
+    """`rt fmt` changes nothing. The gate refuses another layout too, but at its end."""
+    names = files("crates/*/src/**/*", "crates/*/specs/**/*", "crates/*/proofs/**/*",
+                  "crates.txt", "HANDLES")
+    for name in names:
+        os.makedirs(os.path.dirname(os.path.join(folder, name)), exist_ok=True)
+        shutil.copyfile(os.path.join(TOP, name), os.path.join(folder, name))
+    os.mkdir(os.path.join(folder, ".git"))
+    with ThreadPoolExecutor(os.cpu_count()) as pool:
+        said = list(pool.map(laid_out, glob.glob(os.path.join(folder, "crates", "*"))))
+    cases.equal("rt fmt fails nowhere", [it for it in said if it], [])
+    other = []
+    for name in names:
+        with open(os.path.join(folder, name), encoding="utf-8") as file:
+            other += [name] if file.read() != text_of(name) else []
+    cases.equal("files that rt fmt lays out otherwise", other, [])
