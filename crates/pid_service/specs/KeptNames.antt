@@ -13,9 +13,9 @@ abbrev pub kept_names : {S : Type 0} {store : Ghosts S} → Registry S store →
 kept_names r = r.names
 
 -- they are those of the items
-abbrev pub AreNamesOf : Entries → Views → Type 0
-AreNamesOf names v = Agrees names (λ path. name_at path v.items)
+abbrev pub AreItemNames : Entries → Views → Type 0
+AreItemNames names v = Agrees names (λ path. name_at path v.items)
 
 -- while the disk returns what was written, what is kept is that of the items of the history
 abbrev pub KeepsNames : {S : Type 0} (store : Ghosts S) → Registry S store → History → Type 0
-KeepsNames store r h = HasCleanDisk store r → AreNamesOf (kept_names r) (views_of h)
+KeepsNames store r h = HasCleanDisk store r → AreItemNames (kept_names r) (views_of h)

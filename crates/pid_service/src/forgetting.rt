@@ -2,7 +2,7 @@
 ghost use Rattle.std.specs.Prelude.{◌≡◌, ◌⊎◌, ℕ, false, []};
 ghost use Rattle.pid_moderation.specs.Changes.{affected, changed};
 ghost use Rattle.pid_moderation.specs.Views.{Views};
-ghost use Rattle.pid_service.specs.KeptNames.{AreNamesOf};
+ghost use Rattle.pid_service.specs.KeptNames.{AreItemNames};
 
 use pid_lookup::NameCache;
 use pid_moderation::{Change, Effect};
@@ -22,8 +22,8 @@ fn writes_items(effect: &Effect) -> bool
 
 /// Forgets all names where the change writes an item.
 pub(crate) fn forget_for(names: &mut NameCache, change: &Change)
-    ensures right { (v : Views) → AreNamesOf names.old v
-        → AreNamesOf names.new (changed change.now v) }
+    ensures right { (v : Views) → AreItemNames names.old v
+        → AreItemNames names.new (changed change.now v) }
     ensures spares { (names.new ≡ []) ⊎ ((v : Views) → (changed change.now v).items ≡ v.items) }
     ensures none { names.old ≡ [] → names.new ≡ [] }
 {

@@ -1,7 +1,6 @@
 -- Steps beside LengthSinks.
 use Rattle.std.specs.Prelude.{ℕ, List, [], ◌∷◌, if◌then◌else◌}
 use Rattle.pid_tree.specs.Printing.{block_line, opens_block}
-use Rattle.pid_service.specs.declared.text_length.LengthSink.{LengthSink}
 
 -- the line that comes between two items, if one does
 abbrev pub block_behind : List ℕ → List ℕ → List (List ℕ)
