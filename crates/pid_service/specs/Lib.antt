@@ -1,5 +1,5 @@
 pub mod Registries
-pub mod KeptNames
+pub mod KeptViews
 pub mod Histories
 pub mod Obeying
 pub mod Importing
@@ -14,5 +14,5 @@ pub mod ItemTexts
 pub mod Exports
 pub mod ExportSinks
 pub mod EndsOfWalks
-pub mod LengthSinks
+pub mod TextSinks
 pub mod Steps

@@ -28,7 +28,7 @@ impl<S: Alter + Drop> Registry<S> {
         ensures fault { IfSome result (λ r. IfErr r IsFault) }
         ensures caused { IfSome result (λ r. IfErr r (λ e. HasCause S.Store self.old self.new e)) }
     {
-        match self.names.get(path) {
+        match self.kept.names.get(path) {
             Ok(None) => None,
             Ok(Some(name)) => Some(Ok(name)),
             Err(_) => Some(Err(Refusal::Memory)),
@@ -50,7 +50,7 @@ impl<S: Alter + Drop> Registry<S> {
         laws::reached_histories_are_kept(); // proof only
         match self.tables.item(self.alloc, path) {
             Ok(name) => {
-                self.names.put(path, &name);
+                self.kept.names.put(path, &name);
                 Ok(name)
             }
             Err(fault) => Err(refusal_of(fault)),
