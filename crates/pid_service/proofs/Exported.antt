@@ -7,7 +7,7 @@ use Rattle.pid_ident.specs.Sending.{SendsFront}
 use Rattle.pid_file.specs.declared.io.WriteFault.{WriteFault}
 use Rattle.pid_service.specs.declared.item_text.ExportEnd.{ExportEnd}
 use Rattle.pid_service.specs.declared.item_text.ExportEnd.TheVariants as ends
-use Rattle.pid_service.specs.Steps.Exports.{Exports}
+use Rattle.pid_service.specs.Steps.Exports.{WritesItems}
 use Rattle.pid_service.specs.ItemTexts.{text_of_items}
 use Rattle.pid_moderation.specs.History.{History}
 use Rattle.pid_moderation.specs.Views.{items_of, views_of}
@@ -33,10 +33,10 @@ use Rattle.pid_service.specs.declared.registry.Registry.{Registry}
 use Rattle.pid_service.specs.Steps.Exporting.{IsToldAs}
 use Rattle.pid_service.proofs.Causes.{caused_as}
 
-pub whole_tree : (old new : Option (List ℕ)) (h : History) → text_of_items (items_of h) ≡ print (tree_of h) → Exports {X = Unit {0}} (Ok tt) old new (items_of h) → ExportsTree {X = Unit {0}} (Ok tt) old new h
+pub whole_tree : (old new : Option (List ℕ)) (h : History) → text_of_items (items_of h) ≡ print (tree_of h) → WritesItems {X = Unit {0}} (Ok tt) old new (items_of h) → ExportsTree {X = Unit {0}} (Ok tt) old new h
 whole_tree old new h same all = subst (λ (text : List ℕ). Appends old new text) same all
 
-pub told_tree : (end : ExportEnd) (told : ExportFault) (old new : Option (List ℕ)) (h : History) → text_of_items (items_of h) ≡ print (tree_of h) → IsToldAs end told → Exports {X = Unit {0}} (Err end) old new (items_of h)
+pub told_tree : (end : ExportEnd) (told : ExportFault) (old new : Option (List ℕ)) (h : History) → text_of_items (items_of h) ≡ print (tree_of h) → IsToldAs end told → WritesItems {X = Unit {0}} (Err end) old new (items_of h)
     → ExportsTree {X = Unit {0}} (Err told) old new h
 told_tree (ends.Tables fault) told old new h same (e, is, bad, of) lines = subst (λ (x : ExportFault). ExportsTree {X = Unit {0}} (Err x) old new h) (sym is) (bad, lines)
 told_tree (ends.Write fault) told old new h same is front = subst (λ (x : ExportFault). ExportsTree {X = Unit {0}} (Err x) old new h) (sym is) (subst (λ (text : List ℕ). SendsFront old new text) same front)

@@ -12,7 +12,7 @@ use Rattle.pid_service.specs.Asking.{MayGive}
 use Rattle.pid_service.specs.Histories.{IsFault}
 use Rattle.sqlite_trees.specs.declared.store.Store.{Ghosts}
 use Rattle.pid_service.specs.declared.registry.Registry.{Registry}
-use Rattle.pid_service.specs.Importing.{DoesNotTellFailed, EndLasts, ForgetsAll, IsEndFault, leaves_live}
+use Rattle.pid_service.specs.Importing.{EndIsNotFailed, EndLasts, ForgetsAll, IsEndFault, leaves_live}
 use Rattle.pid_service.specs.Obeying.{Lasts}
 use Rattle.pid_service.specs.Registries.{is_live}
 use Rattle.pid_service.specs.Steps.Importing.{EndStaysLive}
@@ -53,13 +53,13 @@ end_fails (Err (Refused e)) before after (alive, inl fault) on off = fault
 end_fails (Err (Refused e)) before after (alive, inr same) on off = both before after same on off
 end_fails (Err Body) before after same on off = both before after same on off
 
-end_alive : (r : Result Reply ImportEnd) (before after : Bool) → EndStaysLive r before after → IfErr r DoesNotTellFailed
+end_alive : (r : Result Reply ImportEnd) (before after : Bool) → EndStaysLive r before after → IfErr r EndIsNotFailed
 end_alive (Ok reply) before after same = tt
 end_alive (Err (Refused e)) before after held = held.0
 end_alive (Err Body) before after same = tt
 
 -- what is not written stays as live
-pub still_live : (r : Result Reply ImportEnd) → IfErr r DoesNotTellFailed → (live : Bool) → EndStaysLive r live live
+pub still_live : (r : Result Reply ImportEnd) → IfErr r EndIsNotFailed → (live : Bool) → EndStaysLive r live live
 still_live (Ok reply) alive live = refl
 still_live (Err (Refused e)) alive live = (alive, inr refl)
 still_live (Err Body) alive live = refl

@@ -21,7 +21,7 @@ use Rattle.pid_service.specs.declared.judging.Judged.TheVariants.{Kept, Accepted
 use Rattle.pid_service.specs.declared.registry.Registry.{Registry}
 use Rattle.pid_service.specs.Histories.{IsReached, Shows, IsFault}
 use Rattle.pid_service.specs.Asking.{IsCausedAs}
-use Rattle.pid_service.specs.Steps.Judging.{IsJudgedFor, Judges}
+use Rattle.pid_service.specs.Steps.Judging.{IsJudgedFor, JudgesCommand}
 use Rattle.pid_service.specs.KeptViews.{IsRightFor, kept_by, nothing}
 use Rattle.pid_service.specs.declared.kept_views.KeptViews.{KeptViews}
 use Rattle.pid_service.specs.Obeying.{Forgets, IsAnswered, IsRefusedFor, Obeys}
@@ -32,14 +32,14 @@ module _ {S : Type 0} (store : Ghosts S) where
   pub only_read : (old new : Registry S store) (h : History) → is_live new ≡ is_live old → OnlyReads store old new → kept_by new ≡ kept_by old → Shows store old h → Shows store new h
   only_read old new h same reads names shows = record { lives = same ∙ shows.lives; history = shows.history; tables = reads.kept (views_of h) shows.tables; kept = λ clean. subst (λ (k : KeptViews). IsRightFor k (views_of h)) (sym names) (shows.kept (reads.clean clean)) }
 
-  pub refused : (r : Registry S store) (h : History) (c : Asked) (e : Refusal) → Shows store r h → Judges h c (Err e) → Obeys store (Err e) r h c
+  pub refused : (r : Registry S store) (h : History) (c : Asked) (e : Refusal) → Shows store r h → JudgesCommand h c (Err e) → Obeys store (Err e) r h c
   refused r h c e shows (inl told) = inl (sym told.0, subst (Shows store r) (sym told.1) shows)
   refused r h c e shows (inr fault) = inr (fault, inl shows)
 
-  pub kept : (r : Registry S store) (h : History) (c : Asked) (reply : Reply) → Shows store r h → Judges h c (Ok (Kept reply)) → Obeys store (Ok reply) r h c
+  pub kept : (r : Registry S store) (h : History) (c : Asked) (reply : Reply) → Shows store r h → JudgesCommand h c (Ok (Kept reply)) → Obeys store (Ok reply) r h c
   kept r h c reply shows told = inl (sym told.0, subst (Shows store r) (sym told.1) shows)
 
-  pub accepted : (old new : Registry S store) (h : History) (c : Asked) (change : Change) (reply : Reply) → Shows store old h → Judges h c (Ok (Accepted change reply)) → IsReached (after h c)
+  pub accepted : (old new : Registry S store) (h : History) (c : Asked) (change : Change) (reply : Reply) → Shows store old h → JudgesCommand h c (Ok (Accepted change reply)) → IsReached (after h c)
       → ((v : Views) → AtRest store (connection old) v → Fits change v → AtRest store (connection new) (changed change v)) → is_live new ≡ is_live old
       → (HasCleanDisk store new → HasCleanDisk store old) → ((v : Views) → IsRightFor (kept_by old) v → IsRightFor (kept_by new) (changed change v)) → Obeys store (Ok reply) new h c
   accepted old new h c change reply shows told reached stands same back names = inl (
@@ -52,7 +52,7 @@ module _ {S : Type 0} (store : Ghosts S) where
     },
   )
 
-  pub failed : (old new : Registry S store) (h : History) (c : Asked) (change : Change) (reply : Reply) (e : Refusal) → Shows store old h → Judges h c (Ok (Accepted change reply)) → IsReached (after h c)
+  pub failed : (old new : Registry S store) (h : History) (c : Asked) (change : Change) (reply : Reply) (e : Refusal) → Shows store old h → JudgesCommand h c (Ok (Accepted change reply)) → IsReached (after h c)
       → ((v : Views) → AtRest store (connection old) v → Fits change v → LeavesEither store (connection new) v (changed change v)) → is_live new ≡ false → IsFault e → Obeys store (Err e) new h c
   failed old new h c change reply e shows told reached either off fault = inr (
     fault,
@@ -77,7 +77,7 @@ module _ {S : Type 0} (store : Ghosts S) where
 
   -- a fault of the change leaves the registry failed, over a command that the judgement answers
   pub failed_over : (start new : Registry S store) (live : Bool) (h : History) (c : Asked) (change : Change) (reply : Reply) (r : Result Reply Refusal) → MatchResult r (λ x. is_live new ≡ live) (λ e. IsFault e × (is_live new ≡ false))
-      → Judges h c (Ok (Accepted change reply)) → IfErr r (IsRefusedFor store start new h c)
+      → JudgesCommand h c (Ok (Accepted change reply)) → IfErr r (IsRefusedFor store start new h c)
   failed_over start new live h c change reply (Ok x) held told = tt
   failed_over start new live h c change reply (Err e) (fault, off) told = inr (inr (off, (reply, told.0)))
 
@@ -115,14 +115,14 @@ well_made command reading other law =
 
 -- what a command leaves of the items
 
-pub accepted_spares : (None : Type 0) (h : History) (c : Asked) (change : Change) (reply : Reply) → Judges h c (Ok (Accepted change reply)) → None ⊎ ((v : Views) → (changed change v).items ≡ v.items) → None ⊎ (items_of (after h c) ≡ items_of h)
+pub accepted_spares : (None : Type 0) (h : History) (c : Asked) (change : Change) (reply : Reply) → JudgesCommand h c (Ok (Accepted change reply)) → None ⊎ ((v : Views) → (changed change v).items ≡ v.items) → None ⊎ (items_of (after h c) ≡ items_of h)
 accepted_spares None h c change reply told (inl none) = inl none
 accepted_spares None h c change reply told (inr same) = inr (ap (λ (v : Views). v.items) told.1 ∙ same (views_of h))
 
 abbrev told_err : Refusal → Result Reply Refusal
 told_err e = Err e
 
-pub refused_spares : (None : Type 0) (h : History) (c : Asked) (e : Refusal) → Judges h c (Err e) → None ⊎ ((items_of (after h c) ≡ items_of h) ⊎ IsErrAnd (told_err e) IsFault)
+pub refused_spares : (None : Type 0) (h : History) (c : Asked) (e : Refusal) → JudgesCommand h c (Err e) → None ⊎ ((items_of (after h c) ≡ items_of h) ⊎ IsErrAnd (told_err e) IsFault)
 refused_spares None h c e (inl told) = inr (inl (ap items_of told.1))
 refused_spares None h c e (inr fault) = inr (inr fault)
 

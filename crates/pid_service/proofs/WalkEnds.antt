@@ -15,7 +15,7 @@ use Rattle.pid_tables_lists.specs.declared.walk.EachEnd.{EachEnd}
 use Rattle.pid_tables_lists.specs.declared.walk.EachEnd.TheVariants.{Tables, Fault}
 use Rattle.pid_tree.specs.Printing.{ended, header, text_or_none}
 use Rattle.pid_service.specs.EndsOfWalks.{export_end}
-use Rattle.pid_service.specs.Steps.Exports.{Exports}
+use Rattle.pid_service.specs.Steps.Exports.{WritesItems}
 use Rattle.pid_service.specs.ExportSinks.{PrintsItem, StopsWithin, lines_of_entry}
 use Rattle.pid_service.specs.ItemTexts.{text_of_items}
 use Rattle.pid_service.specs.declared.item_text.ExportEnd.{ExportEnd}
@@ -45,9 +45,9 @@ no_fault : (t : TableFault) (f : WriteFault) → ends.Tables t ≡ ends.Write f 
 no_fault t f e = cc
 
 -- a fault within the header
-pub header_stopped : (a b : Option (List ℕ)) (r : Result (Unit {0}) ExportEnd) (end : ExportEnd) (f : WriteFault) (items : Items) → r ≡ Err end → end ≡ ends.Write f → SendsFront a b (ended (header ∷ [])) → Exports r a b items
+pub header_stopped : (a b : Option (List ℕ)) (r : Result (Unit {0}) ExportEnd) (end : ExportEnd) (f : WriteFault) (items : Items) → r ≡ Err end → end ≡ ends.Write f → SendsFront a b (ended (header ∷ [])) → WritesItems r a b items
 header_stopped a b r end f items is same front =
-    subst (λ (x : Result (Unit {0}) ExportEnd). Exports x a b items) (sym (is ∙ ap Err same))
+    subst (λ (x : Result (Unit {0}) ExportEnd). WritesItems x a b items) (sym (is ∙ ap Err same))
     (stopped a a b [] (ended (header ∷ [])) (text_behind [] items) (text_of_items items) (Appends-nil a) front refl)
 
 module _ {W : Type 0} (taken : W → Option (List ℕ)) (write_fault : W → Option WriteFault) where
@@ -89,7 +89,7 @@ module _ {W : Type 0} (taken : W → Option (List ℕ)) (write_fault : W → Opt
         (text_parted (text_or_none between.before) front (item_in entry) behind (last_printed between front h))
 
     by_end : (e : EachEnd WriteFault) (new : ExportSink W) (items : Items) → TakesEach {X = Unit {0}} (PrintsItem taken) (StopsWithin taken write_fault) (Err e) (placed_from 1 items) old new
-        → Exports {X = Unit {0}} (Err (export_end e)) a (taken new.out.now) items
+        → WritesItems {X = Unit {0}} (Err (export_end e)) a (taken new.out.now) items
     by_end (Fault f) new items (front, entry, behind, between, parts, took, stop) =
         let whole : items ≡ map item_in front ++ item_in entry ∷ map item_in behind = sym (placed_items 1 items) ∙ ap (map item_in) parts ∙ map-append item_in front (entry ∷ behind) in
         subst (λ (is : Items). SendsFront a (taken new.out.now) (text_of_items is)) (sym whole) (stopped_within between new (map item_in front) (map item_in behind) entry f (front_printed old between front took) stop)
@@ -98,5 +98,5 @@ module _ {W : Type 0} (taken : W → Option (List ℕ)) (write_fault : W → Opt
 
     -- some items, and a fault
     pub some_exported : (e : EachEnd WriteFault) (r : Result (Unit {0}) ExportEnd) (end : ExportEnd) (new : ExportSink W) (items : Items) → r ≡ Err end → end ≡ export_end e
-        → TakesEach {X = Unit {0}} (PrintsItem taken) (StopsWithin taken write_fault) (Err e) (placed_from 1 items) old new → Exports r a (taken new.out.now) items
-    some_exported e r end new items is same told = subst (λ (x : Result (Unit {0}) ExportEnd). Exports x a (taken new.out.now) items) (sym (is ∙ ap Err same)) (by_end e new items told)
+        → TakesEach {X = Unit {0}} (PrintsItem taken) (StopsWithin taken write_fault) (Err e) (placed_from 1 items) old new → WritesItems r a (taken new.out.now) items
+    some_exported e r end new items is same told = subst (λ (x : Result (Unit {0}) ExportEnd). WritesItems x a (taken new.out.now) items) (sym (is ∙ ap Err same)) (by_end e new items told)

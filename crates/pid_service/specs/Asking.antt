@@ -25,9 +25,9 @@ IsMissing found e = ((e ≡ NoSubmission) × (found ≡ None)) ⊎ IsFault e
 
 module _ {S : Type 0} (store : Ghosts S) where
   -- the history that was shown is shown still, and is what is told
-  abbrev pub Tells : {X : Type 0} → Registry S store → Registry S store → Result X Refusal
+  abbrev pub TellsHistory : {X : Type 0} → Registry S store → Registry S store → Result X Refusal
       → (History → X → Type 0) → (History → Refusal → Type 0) → Type 0
-  Tells old new result Says Denies = OverHistory store old new
+  TellsHistory old new result Says Denies = OverHistory store old new
       (λ h. MatchResult result (Says h) (Denies h) × Shows store new h)
 
   -- Memory may be short at any time. The store is told of where the disk failed or refused in the
@@ -38,8 +38,8 @@ module _ {S : Type 0} (store : Ghosts S) where
   IsCausedAs old new e = ⊥
 
   -- the same of what a registry is asked
-  abbrev pub HasCause : Registry S store → Registry S store → Refusal → Type 0
-  HasCause old new e = IsCausedAs (connection old) (connection new) e
+  abbrev pub FaultIsCaused : Registry S store → Registry S store → Refusal → Type 0
+  FaultIsCaused old new e = IsCausedAs (connection old) (connection new) e
 
   -- A question. A registry that has failed answers nothing else, and stays as it is.
   pub record Answers {X : Type 0} (old new : Registry S store) (result : Result X Refusal)
@@ -48,16 +48,17 @@ module _ {S : Type 0} (store : Ghosts S) where
     pub fault : IfErr result (MayGive (is_live old))
     pub lives : is_live new ≡ is_live old
     pub rests : OnlyReads store old new
-    pub told : Tells old new result Says (λ h e. IsFault e)
-    pub caused : OverHistory store old new (λ h. IfErr result (λ e. HasCause old new e))
+    pub told : TellsHistory old new result Says (λ h e. IsFault e)
+    pub caused : OverHistory store old new (λ h. IfErr result (λ e. FaultIsCaused old new e))
 
   -- A question for something that may not be there, which is told as `NoSubmission`.
-  pub record Finds {X Y : Type 0} (old new : Registry S store) (result : Result X Refusal)
+  pub record AnswersIfThere {X Y : Type 0} (old new : Registry S store) (result : Result X Refusal)
       (found : History → Option Y) (means : X → Y) : Type 0 where
     pub failed : is_live old ≡ false → (result ≡ Err Failed) × (new ≡ old)
     pub fault : IfErr result (λ e. (e ≡ NoSubmission) ⊎ MayGive (is_live old) e)
     pub lives : is_live new ≡ is_live old
     pub rests : OnlyReads store old new
-    pub told : Tells old new result (λ h x. found h ≡ Some (means x)) (λ h e. IsMissing (found h) e)
+    pub told : TellsHistory old new result (λ h x. found h ≡ Some (means x))
+        (λ h e. IsMissing (found h) e)
     pub caused : OverHistory store old new
-        (λ h. IfErr result (λ e. (e ≡ NoSubmission) ⊎ HasCause old new e))
+        (λ h. IfErr result (λ e. (e ≡ NoSubmission) ⊎ FaultIsCaused old new e))

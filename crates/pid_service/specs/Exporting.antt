@@ -16,7 +16,7 @@ use Rattle.pid_tree.specs.Printing.{print}
 use Rattle.pid_service.specs.declared.exporting.ExportFault.{ExportFault}
 use Rattle.pid_service.specs.declared.exporting.ExportFault.TheVariants.{Refused, Write}
 use Rattle.pid_service.specs.declared.registry.Registry.{Registry}
-use Rattle.pid_service.specs.Asking.{HasCause, MayGive}
+use Rattle.pid_service.specs.Asking.{FaultIsCaused, MayGive}
 use Rattle.pid_service.specs.Histories.{OverHistory, Shows}
 use Rattle.pid_service.specs.Registries.{OnlyReads, is_live}
 
@@ -42,6 +42,6 @@ pub record IsExported {S W : Type 0} (store : Ghosts S) (writer : outputs.Ghosts
       (ExportsTree result (writer.taken before) (writer.taken after))
   pub refused : (e : Refusal) → result ≡ Err (Refused e) → MayGive (is_live old) e
   pub caused : OverHistory store old new
-      (λ h. (e : Refusal) → result ≡ Err (Refused e) → HasCause store old new e)
+      (λ h. (e : Refusal) → result ≡ Err (Refused e) → FaultIsCaused store old new e)
   -- a fault of the writer is the one that it keeps
   pub fault : (f : WriteFault) → result ≡ Err (Write f) → writer.write_fault after ≡ Some f

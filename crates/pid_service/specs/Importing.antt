@@ -45,9 +45,9 @@ ObeysImport store (Err (Refused e)) r h c = Obeys store (Err e) r h c
 ObeysImport store (Err Body) r h c = Shows store r h
 
 -- it does not tell that the registry had failed before
-abbrev pub DoesNotTellFailed : ImportEnd → Type 0
-DoesNotTellFailed (Refused e) = e ≢ Failed
-DoesNotTellFailed Body = Unit {0}
+abbrev pub EndIsNotFailed : ImportEnd → Type 0
+EndIsNotFailed (Refused e) = e ≢ Failed
+EndIsNotFailed Body = Unit {0}
 
 -- where one of these is answered a live registry stays live: a reply, a refusal with a number from
 -- 1 to 15, or a fault of the input
@@ -81,7 +81,7 @@ module _ {S : Type 0} (store : Ghosts S) where
   pub record EndLasts (old new : Registry S store) (result : Result Reply ImportEnd) : Type 0 where
     pub forgets : ForgetsAll old new
     -- a live one does not answer that it had failed
-    pub alive : is_live old ≡ true → IfErr result DoesNotTellFailed
+    pub alive : is_live old ≡ true → IfErr result EndIsNotFailed
     -- nor does one fail but at an answer that memory was short or the store failed
     pub stays : is_live old ≡ true → leaves_live result ≡ true → is_live new ≡ true
     pub fails : is_live old ≡ true → is_live new ≡ false → IsErrAnd result IsEndFault
@@ -101,7 +101,7 @@ module _ {S : Type 0} (store : Ghosts S) where
     pub lasts : Lasts store old new result
 
 -- What became of an input that an import read.
-pub record IsRead {I : Type 0} (input : inputs.Ghosts I) (old new : I)
+pub record InputIsRead {I : Type 0} (input : inputs.Ghosts I) (old new : I)
     (result : Result Reply ImportEnd) : Type 0 where
   pub goes : input.goes old new
   -- Body is answered exactly where it failed

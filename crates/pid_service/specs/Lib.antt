@@ -1,9 +1,11 @@
+pub use Rattle.pid_tables.specs.Files
 pub mod Registries
 pub mod KeptViews
 pub mod Histories
 pub mod Obeying
 pub mod Importing
 pub mod Exporting
+pub mod FaultNumbers
 pub mod Opening
 pub mod LookingUp
 pub mod Asking

@@ -13,7 +13,7 @@ use Rattle.pid_moderation.specs.declared.refusal.Refusal.TheVariants.{Failed}
 use Rattle.pid_moderation.specs.History.{History}
 use Rattle.pid_moderation.specs.Writes.{tree_of}
 use Rattle.pid_service.specs.declared.registry.Registry.{Registry}
-use Rattle.pid_service.specs.Asking.{HasCause, MayGive}
+use Rattle.pid_service.specs.Asking.{FaultIsCaused, MayGive}
 use Rattle.pid_service.specs.Histories.{OverHistory, Shows}
 use Rattle.pid_service.specs.Registries.{HasCleanDisk, OnlyReads, is_live}
 
@@ -32,7 +32,7 @@ pub record IsLookedUp {S : Type 0} (store : Ghosts S) (old new : Registry S stor
   pub fault : (f : Refusal) → IsErrOf result (Names f) → MayGive (is_live old) f
   -- the fault has its cause in the call, or before
   pub caused : OverHistory store old new
-      (λ h. (f : Refusal) → IsErrOf result (Names f) → HasCause store old new f)
+      (λ h. (f : Refusal) → IsErrOf result (Names f) → FaultIsCaused store old new f)
   -- No name is asked for where numbers alone are, or nothing that there is.
   pub unasked : is_live old ≡ true → (switches_of flags).numeric ≡ true → (f : Refusal)
       → result ≢ Err (Names f)

@@ -13,7 +13,7 @@ use Rattle.pid_moderation.specs.Judgement.{after, answer, judge}
 use Rattle.pid_moderation.specs.Views.{items_of, views_of}
 use Rattle.pid_tables.specs.Files.{asks}
 use Rattle.pid_service.specs.declared.registry.Registry.{Registry}
-use Rattle.pid_service.specs.Asking.{HasCause}
+use Rattle.pid_service.specs.Asking.{FaultIsCaused}
 use Rattle.pid_service.specs.Histories.{IsFault, OverHistory, Shows, showing}
 use Rattle.pid_service.specs.KeptViews.{kept_by, nothing}
 use Rattle.pid_service.specs.Registries.{HasCleanDisk, is_live}
@@ -37,7 +37,8 @@ IsAnswered h c = (reply : Reply) × (answer (judge (views_of h) c) ≡ Ok reply)
 abbrev pub IsRefusedFor : {S : Type 0} → (store : Ghosts S) → Registry S store → Registry S store
     → History → Asked → Refusal → Type 0
 IsRefusedFor store old new h c e = (answer (judge (views_of h) c) ≡ Err e)
-    ⊎ (((is_live new ≡ true) × HasCause store old new e) ⊎ ((is_live new ≡ false) × IsAnswered h c))
+    ⊎ (((is_live new ≡ true) × FaultIsCaused store old new e)
+    ⊎ ((is_live new ≡ false) × IsAnswered h c))
 
 -- Of a command that leaves other items no name is kept in memory, unless the registry shows the
 -- history as before. So one that has failed keeps no old name either.

@@ -82,9 +82,9 @@ module _ {S : Type 0} (store : Ghosts S) where
       (λ e. Why e × clauses.OnlyReads store old new)
 
   -- the connection that an opening leaves: the registry's, or the one that came back
-  abbrev pub left : Result (Registry S store) (TableFault × Held S) → Held S
-  left (Ok r) = connection r
-  left (Err e) = e.1
+  abbrev pub connection_left : Result (Registry S store) (TableFault × Held S) → Held S
+  connection_left (Ok r) = connection r
+  connection_left (Err e) = e.1
 
   -- the connection that a migration leaves
   abbrev pub moved_to : Result (Held S × Step) (TableFault × Held S) → Held S
@@ -92,9 +92,10 @@ module _ {S : Type 0} (store : Ghosts S) where
   moved_to (Err e) = e.1
 
   -- how an opening ended, without the connection
-  abbrev pub end_of : {X : Type 0} → Result X (TableFault × Held S) → Result (Unit {0}) TableFault
-  end_of (Ok x) = Ok tt
-  end_of (Err e) = Err e.0
+  abbrev pub opening_end : {X : Type 0} → Result X (TableFault × Held S)
+      → Result (Unit {0}) TableFault
+  opening_end (Ok x) = Ok tt
+  opening_end (Err e) = Err e.0
 
   -- the step of a migration, or its fault
   abbrev pub step_of : Result (Held S × Step) (TableFault × Held S) → Result Step TableFault
@@ -148,16 +149,22 @@ module _ {S : Type 0} (store : Ghosts S) where
   pub record OpensRegistry (conn : Held S) (result : Result (Registry S store)
       (TableFault × Held S)) : Type 0 where
     pub lives : IfOk result (λ r. is_live r ≡ true)
+    pub kept : KeepsTables conn (connection_left result) (opening_end result)
+
+  -- What the laws over lives ask of an opening.
+  pub record OpensTo (conn : Held S) (result : Result (Registry S store)
+      (TableFault × Held S)) : Type 0 where
+    -- the disk had returned what was written before the call too
+    pub clean : clauses.HasCleanDisk store (connection_left result)
+        → clauses.HasCleanDisk store conn
     -- Tables that show a history are opened with that history, whichever schema they have. Where
     -- there is no table, a new registry is made.
     pub opened : (h : History) → IsReached h → tables.ShowsOrBlank store conn h → Opens result h
-    pub kept : KeepsTables conn (left result) (end_of result)
 
   -- What a migration leaves of a connection, whatever there is, also beside the tables.
   pub record MovesAtOnce (conn : Held S) (result : Result (Held S × Step) (TableFault × Held S))
       : Type 0 where
     pub settled : (moved_to result).in_transaction ≡ false
-    pub clean : clauses.HasCleanDisk store (moved_to result) → clauses.HasCleanDisk store conn
     -- a crash leaves what it left before, or all of one step; and after a fault nothing of it is
     -- seen
     pub once : tables.IsOneStep store conn (moved_to result)
@@ -171,20 +178,27 @@ module _ {S : Type 0} (store : Ghosts S) where
         (λ e. clauses.HasCleanDisk store e.1 → ¬ (IsMemoryOrStore e.0)
         → clauses.OnlyReads store conn e.1)
 
-  -- What was shown is shown afterwards.
-  pub record MovesShown (conn : Held S) (result : Result (Held S × Step) (TableFault × Held S))
+  -- What the laws over lives ask of a migration.
+  pub record MovesTo (conn : Held S) (result : Result (Held S × Step) (TableFault × Held S))
       : Type 0 where
+    -- the disk had returned what was written before the call too
+    pub clean : clauses.HasCleanDisk store (moved_to result) → clauses.HasCleanDisk store conn
+    -- the history that the tables showed is shown afterwards
     pub created : tables.RestsBare store conn → StepsTo Created result new_history
     pub moved : (h : History) → IsReached h → clauses.RestsIn store One conn (views_of h)
         → StepsTo Moved result h
     pub already : (h : History) → IsReached h → clauses.AtRest store conn (views_of h)
         → StepsTo Already result h
+
+  -- What becomes of views that the tables show, of a history or not.
+  pub record MovesShown (conn : Held S) (result : Result (Held S × Step) (TableFault × Held S))
+      : Type 0 where
     -- Tables of schema 2 are only read, whatever a crash would leave in their place.
     pub left_alone : (v : Views) → clauses.RestsIn store Two conn v
         → clauses.HasCleanDisk store (moved_to result)
         → clauses.OnlyReads store conn (moved_to result)
         × MatchResult result (λ r. r.1 ≡ Already) (λ e. IsMemoryOrStore e.0)
-    -- Tables of schema 1 that show views, of a history or not: the fault tells what fails of them.
+    -- Of tables of schema 1 the fault tells what fails of them.
     pub explained : (v : Views) → clauses.RestsIn store One conn v
         → clauses.HasCleanDisk store (moved_to result)
         → IfErr result (λ e. Explains (seen store conn) e.0)
@@ -208,11 +222,8 @@ module _ {S : Type 0} (store : Ghosts S) where
     pub latest : clauses.HasCleanDisk store (moved_to result)
         → IfOk result (λ r. IsTrue (clauses.is_open store r.0)
         → tables.HandsLatest store conn r.1 r.0)
-
-  -- Where there is no table, whatever else there is.
-  pub record MovesNone (conn : Held S) (result : Result (Held S × Step) (TableFault × Held S))
-      : Type 0 where
-    -- It answers no other step than that they were made, and tells of no later schema.
+    -- Where there is no table, whatever else there is, it answers no other step than that they were
+    -- made, and tells of no later schema.
     pub bare : clauses.HasCleanDisk store (moved_to result) → HasNoTable (seen store conn).schema
         → MatchResult result (λ r. r.1 ≡ Created) (λ e. IsNotNewerSchema e.0)
     -- Something else under the name of a table is refused,

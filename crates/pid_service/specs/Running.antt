@@ -21,8 +21,8 @@ use Rattle.pid_service.specs.Obeying.{Forgets}
 use Rattle.pid_service.specs.Registries.{HasCleanDisk, is_live}
 
 -- it does not tell that the registry had failed before
-abbrev pub DoesNotTellFailed : Result Reply Refusal → Type 0
-DoesNotTellFailed reply = IfErr reply (λ e. e ≢ Failed)
+abbrev pub ReplyIsNotFailed : Result Reply Refusal → Type 0
+ReplyIsNotFailed reply = IfErr reply (λ e. e ≢ Failed)
 
 -- none of the commands in turn leaves other items
 abbrev pub LeaveItems : History → List Asked → Type 0
@@ -83,4 +83,4 @@ module _ {S : Type 0} (store : Ghosts S) where
     pub stays : is_live old ≡ true → report.fault ≡ None → is_live new ≡ true
     pub fails : is_live old ≡ true → is_live new ≡ false → IsSomeAnd report.fault IsFault
     -- and no live one replies that it had failed.
-    pub alive : is_live old ≡ true → AllByRecursion DoesNotTellFailed report.replies.items
+    pub alive : is_live old ≡ true → AllByRecursion ReplyIsNotFailed report.replies.items

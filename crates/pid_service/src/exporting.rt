@@ -28,6 +28,20 @@ pub enum ExportFault {
     Write(WriteFault),
 }
 
+impl ExportFault {
+    ghost use Rattle.pid_service.specs.FaultNumbers.{export_fault_number};
+
+    /// Its number: 1 `Refused`, 2 `Write`.
+    pub fn number(self) -> u8
+        ensures { result ≡ export_fault_number self }
+    {
+        match self {
+            ExportFault::Refused(_) => 1,
+            ExportFault::Write(_) => 2,
+        }
+    }
+}
+
 fn fault_of(end: ExportEnd) -> ExportFault
     ensures { IsToldAs end result }
 {

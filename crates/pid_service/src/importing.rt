@@ -4,12 +4,12 @@ ghost use Rattle.pid_moderation.specs.BeforeFile.{import_of};
 ghost use Rattle.pid_service.specs.Histories.{IsFault};
 ghost use Rattle.pid_service.specs.Importing.{
   AnswersFailed,
-  DoesNotTellFailed,
+  EndIsNotFailed,
   EndLasts,
   ForgetsAll,
   HasRead,
   IsImported,
-  IsRead,
+  InputIsRead,
   ObeysText,
 };
 ghost use Rattle.pid_service.specs.KeptViews.{kept_by, nothing};
@@ -46,6 +46,20 @@ pub enum ImportEnd {
     Body,
 }
 
+impl ImportEnd {
+    ghost use Rattle.pid_service.specs.FaultNumbers.{import_end_number};
+
+    /// Its number: 1 `Refused`, 2 `Body`.
+    pub fn number(self) -> u8
+        ensures { result ≡ import_end_number self }
+    {
+        match self {
+            ImportEnd::Refused(_) => 1,
+            ImportEnd::Body => 2,
+        }
+    }
+}
+
 // An import whose file stands elsewhere.
 fn import_command(alloc: Global, account: Account, key: Option<Key>) -> Command
     ensures { result ≡ record { account = account; key = key; act = Act.Import [] } }
@@ -62,8 +76,8 @@ fn import_command(alloc: Global, account: Account, key: Option<Key>) -> Command
 fn answer_past<I: Input>(answer: Result<Reply, Refusal>, input: &mut I) -> Result<Reply, ImportEnd>
     ensures past { HasRead result (I.to_come input.old) (I.to_come input.new)
         (AnswersPast answer result) }
-    ensures reads { IsRead I.Input input.old input.new result }
-    ensures alive { IfErr answer (λ e. e ≢ Refusal.Failed) → IfErr result DoesNotTellFailed }
+    ensures reads { InputIsRead I.Input input.old input.new result }
+    ensures alive { IfErr answer (λ e. e ≢ Refusal.Failed) → IfErr result EndIsNotFailed }
 {
     match skip_input(FILE_BYTES, input) {
         Err(SkipEnd::ReadFault) => Err(ImportEnd::Body),
@@ -112,7 +126,7 @@ impl<S: Alter + Drop> Registry<S> {
         ensures obeyed { HasRead result (I.to_come input.old) (I.to_come input.new)
             (CarriesText S.Store self.old self.new result facts.old items command.now) }
         ensures forgets { kept_by self.new ≡ nothing }
-        ensures reads { IsRead I.Input input.old input.new result }
+        ensures reads { InputIsRead I.Input input.old input.new result }
         ensures held { EndStaysLive result (lives self.old) (lives self.new) }
     {
         self.kept.clear();
@@ -141,7 +155,7 @@ impl<S: Alter + Drop> Registry<S> {
             (TakesText S.Store self.old self.new result command.now) }
         ensures forgets { ForgetsAll S.Store self.old self.new }
         ensures none { kept_by self.old ≡ nothing → kept_by self.new ≡ nothing }
-        ensures reads { IsRead I.Input input.old input.new result }
+        ensures reads { InputIsRead I.Input input.old input.new result }
         ensures held { EndStaysLive result (lives self.old) (lives self.new) }
     {
         command_is_well_made(command); // proof only
@@ -188,7 +202,7 @@ impl<S: Alter + Drop> Registry<S> {
         // An import of what was read of the input is obeyed.
         ensures obeyed { HasRead result (I.to_come input.old) (I.to_come input.new)
             (ObeysText S.Store self.old self.new result (import_of account key)) }
-        ensures reads { IsRead I.Input input.old input.new result }
+        ensures reads { InputIsRead I.Input input.old input.new result }
         ensures lasts { EndLasts S.Store self.old self.new result }
     {
         if !self.live {

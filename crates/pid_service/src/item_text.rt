@@ -1,7 +1,7 @@
 //! All items of the tables, written as a canonical text.
 ghost use Rattle.std.specs.Prelude.{◌≡◌, false, Err, Some};
 ghost use Rattle.pid_service.specs.EndsOfWalks.{export_end};
-ghost use Rattle.pid_service.specs.Steps.Exports.{Exports};
+ghost use Rattle.pid_service.specs.Steps.Exports.{WritesItems};
 ghost use Rattle.pid_service.specs.declared.item_text.ExportEnd.TheVariants as ends;
 ghost use Rattle.pid_file.specs.declared.io.WriteFault.{WriteFault as OutputFault};
 ghost use Rattle.pid_moderation.specs.Views.{Views};
@@ -59,7 +59,7 @@ pub fn export_items<S: Alter + Drop, W: Output>(
     ensures rests { OnlyReads S.Store tables.old.conn tables.new.conn }
     ensures printed { HasCleanDisk S.Store tables.new.conn → (v : Views)
         → AtRest S.Store tables.old.conn v
-        → Exports result (W.taken out.old) (W.taken out.new) v.items }
+        → WritesItems result (W.taken out.old) (W.taken out.new) v.items }
     ensures fault { (f : OutputFault) → result ≡ Err (ends.Write f)
         → W.write_fault out.new ≡ Some f }
     ensures caused { HasCleanDisk S.Store tables.new.conn → (v : Views)

@@ -6,7 +6,7 @@ ghost use Rattle.pid_moderation.specs.Judgement.{answer, judge as judgement};
 ghost use Rattle.pid_moderation.specs.Revisions.{IsMarked};
 ghost use Rattle.pid_moderation.specs.Views.{views_of};
 ghost use Rattle.pid_tables_rows.specs.Clauses.{OnlyReads};
-ghost use Rattle.pid_service.specs.Steps.Judging.{IsJudgedFor, Judges, OverTables};
+ghost use Rattle.pid_service.specs.Steps.Judging.{IsJudgedFor, JudgesCommand, OverTables};
 
 use crate::laws;
 use pid_moderation::{Change, Command, Facts, Refusal, Reply, decide, needs};
@@ -32,7 +32,7 @@ fn judged_by(facts: &Facts, command: &Command) -> Result<Judged, Refusal>
     ensures judged { (h : History) (reading : Reading) → IsMarked h
         → is_import command.now.act ≡ false
         → facts.now ≡ facts_of (views_of h) (asked command.now reading)
-        → Judges h (asked command.now reading) result }
+        → JudgesCommand h (asked command.now reading) result }
     ensures refused { (h : History) (reading : Reading)
         → facts.now ≡ facts_of (views_of h) (asked command.now reading)
         → IfErr result (λ e. (answer (judgement (views_of h) (asked command.now reading)) ≡ Err e)
@@ -60,7 +60,7 @@ pub(crate) fn judge<S: Alter + Drop>(
     requires { tables.old.conn.in_transaction ≡ false }
     ensures rests { OnlyReads S.Store tables.old.conn tables.new.conn }
     ensures judged { OverTables S.Store tables.old.conn tables.new.conn command.now
-        (λ h c. Judges h c result) }
+        (λ h c. JudgesCommand h c result) }
     ensures caused { OverTables S.Store tables.old.conn tables.new.conn command.now
         (λ h c. IfErr result (IsJudgedFor S.Store tables.old.conn tables.new.conn h c)) }
     ensures alive { IfErr result (λ e. e ≢ Refusal.Failed) }

@@ -27,8 +27,8 @@ pub use laws::{
     taken_histories_are_reached,
 };
 pub use lives::{
-    clauses_meet_lives, first_openings_show_what_is_there, migrations_find_histories,
-    migrations_keep_histories, migrations_stand_between_lives, openings_find_histories,
+    clauses_meet_lives, first_openings_show_what_is_there, histories_are_kept,
+    histories_are_kept_between, migrations_find_histories, openings_find_histories,
     reopened_registries_show_prefixes, repeats_end_doubts,
 };
 pub use opening::{migrate, open};

@@ -4,7 +4,7 @@ ghost use Rattle.pid_ident.specs.PathTexts.{path_text};
 ghost use Rattle.pid_moderation.specs.History.{History};
 ghost use Rattle.pid_moderation.specs.Items.{name_at};
 ghost use Rattle.pid_moderation.specs.Views.{items_of};
-ghost use Rattle.pid_service.specs.Asking.{HasCause};
+ghost use Rattle.pid_service.specs.Asking.{FaultIsCaused};
 ghost use Rattle.pid_service.specs.Histories.{IsFault, OverHistory, Shows};
 ghost use Rattle.pid_service.specs.Registries.{HasCleanDisk, OnlyReads, is_live as lives};
 
@@ -26,7 +26,8 @@ impl<S: Alter + Drop> Registry<S> {
         ensures found { OverHistory S.Store self.old self.new (λ h. IfSome result
             (λ r. IfOk r (λ name. name ≡ name_at (path_text path.now) (items_of h)))) }
         ensures fault { IfSome result (λ r. IfErr r IsFault) }
-        ensures caused { IfSome result (λ r. IfErr r (λ e. HasCause S.Store self.old self.new e)) }
+        ensures caused { IfSome result
+            (λ r. IfErr r (FaultIsCaused S.Store self.old self.new)) }
     {
         match self.kept.names.get(path) {
             Ok(None) => None,
@@ -45,7 +46,7 @@ impl<S: Alter + Drop> Registry<S> {
             (λ h. IfOk result (λ name. name ≡ name_at (path_text path.now) (items_of h))) }
         ensures fault { IfErr result IsFault }
         ensures caused { OverHistory S.Store self.old self.new
-            (λ h. IfErr result (HasCause S.Store self.old self.new)) }
+            (λ h. IfErr result (FaultIsCaused S.Store self.old self.new)) }
     {
         laws::reached_histories_are_kept(); // proof only
         match self.tables.item(self.alloc, path) {
@@ -62,7 +63,7 @@ impl<S: Alter + Drop> Names for Registry<S> {
     ghost use Rattle.std.specs.Prelude.{◌≡◌, true};
     ghost use Rattle.pid_moderation.specs.History.{History};
     ghost use Rattle.pid_moderation.specs.Writes.{tree_of};
-    ghost use Rattle.pid_service.specs.Asking.{HasCause, MayGive};
+    ghost use Rattle.pid_service.specs.Asking.{FaultIsCaused, MayGive};
     ghost use Rattle.pid_service.specs.Histories.{Shows};
     ghost use Rattle.pid_service.specs.Registries.{HasCleanDisk, OnlyAsked, is_live};
 
@@ -80,7 +81,7 @@ impl<S: Alter + Drop> Names for Registry<S> {
 
     ghost may_tell = { λ r. is_live r ≡ true };
 
-    ghost has_cause = { HasCause S.Store };
+    ghost has_cause = { FaultIsCaused S.Store };
 
     ghost only_asked = { OnlyAsked S.Store };
 

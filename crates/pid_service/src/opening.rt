@@ -13,12 +13,13 @@ ghost use Rattle.pid_service.specs.Opening.{
   KeepsTables,
   MovesAtOnce,
   MovesJudged,
-  MovesNone,
   MovesShown,
+  MovesTo,
   OpensAtOnce,
   OpensRegistry,
-  end_of,
-  left,
+  OpensTo,
+  connection_left,
+  opening_end,
 };
 ghost use Rattle.pid_service.specs.Steps.Opening.{IsMadeReady};
 
@@ -98,11 +99,14 @@ pub fn open<S: Alter + Drop>(
     conn: Connection<S>,
 ) -> Result<Registry<S>, (TableFault, Connection<S>)>
     ensures busy { conn.in_transaction ≡ true → result ≡ Err (TableFault.Store, conn) }
-    ensures opens { conn.in_transaction ≡ false → OpensRegistry S.Store conn result }
+    ensures history { OpensTo S.Store conn result }
+    ensures registry { conn.in_transaction ≡ false → OpensRegistry S.Store conn result }
     ensures at_once { conn.in_transaction ≡ false
-        → OpensAtOnce S.Store conn (left S.Store result) (end_of S.Store result) }
+        → OpensAtOnce S.Store conn (connection_left S.Store result)
+        (opening_end S.Store result) }
     ensures explains { conn.in_transaction ≡ false
-        → ExplainsOpening S.Store conn (left S.Store result) (end_of S.Store result) }
+        → ExplainsOpening S.Store conn (connection_left S.Store result)
+        (opening_end S.Store result) }
 {
     if !conn.is_autocommit() {
         return Err((TableFault::Store, conn));
@@ -134,10 +138,10 @@ pub fn migrate<S: Alter + Drop>(
     mut conn: Connection<S>,
 ) -> Result<(Connection<S>, Step), (TableFault, Connection<S>)>
     ensures busy { conn.in_transaction ≡ true → result ≡ Err (TableFault.Store, conn) }
+    ensures history { MovesTo S.Store conn result }
     ensures at_once { conn.in_transaction ≡ false → MovesAtOnce S.Store conn result }
     ensures shown { conn.in_transaction ≡ false → MovesShown S.Store conn result }
     ensures judged { conn.in_transaction ≡ false → MovesJudged S.Store conn result }
-    ensures none { conn.in_transaction ≡ false → MovesNone S.Store conn result }
 {
     laws::reached_histories_are_kept(); // proof only
     if !conn.is_autocommit() {

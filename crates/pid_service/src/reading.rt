@@ -8,7 +8,7 @@ ghost use Rattle.pid_moderation.specs.ChangePages.{changes_in, page_of, start_te
 ghost use Rattle.pid_moderation.specs.Children.{children_of};
 ghost use Rattle.pid_moderation.specs.Submissions.{discussion_in, discussion_of};
 ghost use Rattle.pid_moderation.specs.PendingPages.{pending_in, told_of};
-ghost use Rattle.pid_service.specs.Asking.{Answers, Finds};
+ghost use Rattle.pid_service.specs.Asking.{Answers, AnswersIfThere};
 
 use crate::laws;
 use crate::registry::Registry;
@@ -75,7 +75,7 @@ impl<S: Alter + Drop> Registry<S> {
     /// The submission with the number, as it stands, and the remarks on it in their order.
     /// `NoSubmission` where there is none.
     pub fn submission(&mut self, number: u32) -> Result<Discussion, Refusal>
-        ensures { Finds S.Store self.old self.new result
+        ensures { AnswersIfThere S.Store self.old self.new result
             (λ h. discussion_in (views_of h) number) discussion_of }
     {
         if !self.live {

@@ -16,7 +16,7 @@ ghost use Rattle.std.specs.List.{AllByRecursion};
 ghost use Rattle.pid_tables.specs.Files.{asks};
 ghost use Rattle.pid_service.specs.Histories.{IsFault, OverHistory};
 ghost use Rattle.pid_service.specs.Registries.{HasCleanDisk, is_live as lives};
-ghost use Rattle.pid_service.specs.Running.{DoesNotTellFailed, ForgetsRun, IsRun, Runs};
+ghost use Rattle.pid_service.specs.Running.{ReplyIsNotFailed, ForgetsRun, IsRun, Runs};
 ghost use Rattle.pid_service.specs.Steps.Running.{CountsReplies, fault_in};
 
 use crate::registry::Registry;
@@ -64,7 +64,7 @@ impl<S: Alter + Drop> Registry<S> {
         ensures held { lives self.old ≡ true
             → (lives self.new ≡ true) ⊎ IsSomeAnd result.fault IsFault }
         ensures alive { lives self.old ≡ true
-            → AllByRecursion DoesNotTellFailed result.replies.items }
+            → AllByRecursion ReplyIsNotFailed result.replies.items }
     {
         for command in commands {
             let outcome = self.obey_lent(command);

@@ -13,10 +13,11 @@ use Rattle.pid_moderation.specs.Laws.{KeysStandOnce}
 use Rattle.pid_moderation.specs.Views.{views_of}
 use Rattle.pid_service_laws.specs.Outcomes.{IsFault, is_fault, is_outcome}
 use Rattle.pid_service_laws.specs.Lives.{Sent, NoDoubt, InDoubt, Life, AreJudged, AreLives, after_life, after_lives, after_sent, commands_in, prefix_of}
-use Rattle.pid_service_laws.specs.Calls.{AreNothing, Call, IsLifeOf, StopsAt, life_of, nothing_sent, obeyed, paired, ran, refusal_in, sent_in, stopped_by}
-use Rattle.pid_service_laws.specs.CallLaws.{CallsAreALife, DoubtsEndWhenSentAgain, LookingDoes, ObeyingDoes, OpeningsFindPrefixes, RunningDoes, SaysLive}
-use Rattle.pid_service_laws.specs.Doubts.{left}
-use Rattle.pid_service_laws.specs.Registries.{CallsLead, Does, Finds, Leaves, LivesLead, CommandLeaves, ListLeaves, Showing}
+use Rattle.pid_service_laws.specs.Calls.{AreNothing, Call, IsLifeOf, StopsAt, life_of, nothing_sent, obeyed, paired, ran, refusal_answered, sent_in, stopped_by}
+use Rattle.pid_service_laws.specs.CallLaws.{CallsAreALife, DoubtsEndWhenSentAgain, LookingDoes, NoLifeIsAPrefix, ObeyingDoes, OneLifeMore, RunningDoes, SaysLive}
+use Rattle.pid_service_laws.specs.CrashPrefix.{IsAfterPrefixes}
+use Rattle.pid_service_laws.specs.Doubts.{left_at_stop}
+use Rattle.pid_service_laws.specs.Registries.{CallsLead, Does, CallLeaves, CommandLeaves, ListLeaves, Showing}
 use Rattle.pid_service_laws.proofs.Joining.{after_more, after_parts, joined, joins, lives_hold, lives_keep}
 use Rattle.pid_service_laws.proofs.Keeping.{OwnKept, each_own}
 use Rattle.pid_service_laws.proofs.Judging.{outcome_of}
@@ -96,7 +97,7 @@ judges_no_fault Memory h = absurd cc
 judges_no_fault Store h = absurd cc
 judges_no_fault e h = refl
 
-stopped-outcome : (c : Asked) (result : Result Reply Refusal) (live : Bool) → is_outcome result ≡ true → stopped_by (refusal_in result) live (Some c) ≡ None
+stopped-outcome : (c : Asked) (result : Result Reply Refusal) (live : Bool) → is_outcome result ≡ true → stopped_by (refusal_answered result) live (Some c) ≡ None
 stopped-outcome c (Ok reply) live is = refl
 stopped-outcome c (Err e) live is = ap (λ b. cond (b && not live) (Some c) None) (judges_no_fault e is)
 
@@ -106,15 +107,15 @@ obeyed-outcome c result live is = λ i. record { sent = cond (is i) (record { co
 module _ {R : Type 0} (w : Showing R) where
   -- WHAT EACH CALL DOES
 
-  fault_leaves : (new : R) (h : History) (c : Asked) (live : Bool) → SaysLive w live new → w.shows new h ⊎ w.fails_between new h (after h c) → Leaves w (record { sent = []; stopped = cond (not live) (Some c) None }) new h
+  fault_leaves : (new : R) (h : History) (c : Asked) (live : Bool) → SaysLive w live new → w.shows new h ⊎ w.fails_between new h (after h c) → CallLeaves w (record { sent = []; stopped = cond (not live) (Some c) None }) new h
   fault_leaves new h c live told (inl s) = (tt, inl s)
   fault_leaves new h c live told (inr f) = (tt, inr (c, ap (λ (b : Bool). cond (not b) (Some c) None) (told h (after h c) f), f))
 
-  obeyed_leaves : (c : Asked) (result : Result Reply Refusal) (live : Bool) (new : R) (h : History) → SaysLive w live new → CommandLeaves w result new h c → Leaves w (obeyed c result live) new h
+  obeyed_leaves : (c : Asked) (result : Result Reply Refusal) (live : Bool) (new : R) (h : History) → SaysLive w live new → CommandLeaves w result new h c → CallLeaves w (obeyed c result live) new h
   obeyed_leaves c result live new h told (inl o) =
-      subst (λ (call : Call). Leaves w call new h) (sym (obeyed-outcome c result live (ap is_outcome o.0 ∙ outcome_of (views_of h) c))) ((o.0, tt), inl o.1)
+      subst (λ (call : Call). CallLeaves w call new h) (sym (obeyed-outcome c result live (ap is_outcome o.0 ∙ outcome_of (views_of h) c))) ((o.0, tt), inl o.1)
   obeyed_leaves c result live new h told (inr o) =
-      subst (λ (call : Call). Leaves w call new h) (sym (obeyed-fault c result live o.0)) (fault_leaves new h c live told o.1)
+      subst (λ (call : Call). CallLeaves w call new h) (sym (obeyed-fault c result live o.0)) (fault_leaves new h c live told o.1)
 
   pub obeyed_does : ObeyingDoes w
   obeyed_does old new c result live clean obeys failed told = record {
@@ -127,7 +128,7 @@ module _ {R : Type 0} (w : Showing R) where
       → w.shows new (after_all h (take (length replies) commands))
       ⊎ (IsSomeAnd fault IsFault × (length replies < length commands)
       × w.fails_between new (after_all h (take (length replies) commands)) (after_all h (take (length replies + 1) commands)))
-      → w.shows new g ⊎ ((c : Asked) × ((ran commands replies fault live).stopped ≡ Some c) × w.fails_between new (left g c false) (left g c true))
+      → w.shows new g ⊎ ((c : Asked) × ((ran commands replies fault live).stopped ≡ Some c) × w.fails_between new (left_at_stop g c false) (left_at_stop g c true))
   ran_ends commands replies fault live new h g told is (inl s) = inl (subst (λ x. w.shows new x) (sym is) s)
   ran_ends commands replies fault live new h g told is (inr f) =
       let s = ran_stops commands replies f.1 in
@@ -137,7 +138,7 @@ module _ {R : Type 0} (w : Showing R) where
       inr (s.next, fault_stops fault live (slice_get commands (length replies)) f.0 (told _ _ f.2) ∙ s.stopped, subst (λ x. w.fails_between new g x) next (subst (λ x. w.fails_between new x (after_all h (take (length replies + 1) commands))) (sym is) f.2))
 
   ran_leaves : (commands : List Asked) (replies : List (Result Reply Refusal)) (fault : Option Refusal) (live : Bool) (new : R) (h : History) → SaysLive w live new → ListLeaves w replies fault new h commands
-      → Leaves w (ran commands replies fault live) new h
+      → CallLeaves w (ran commands replies fault live) new h
   ran_leaves commands replies fault live new h told r = (
     ran_judged commands replies h r.replied,
     ran_ends commands replies fault live new h (after_sent h (paired commands replies)) told (ap (after_all h) (ran_sent commands replies)) r.ends,
@@ -179,34 +180,34 @@ module _ {R : Type 0} (w : Showing R) where
   record Ended (h : History) (calls : List Call) (new : R) : Type 0 where
     pub judged : AreJudged h (sent_in calls)
     pub ends : w.shows new (after_sent h (sent_in calls))
-        ⊎ ((c : Asked) × StopsAt c calls × w.fails_between new (left (after_sent h (sent_in calls)) c false) (left (after_sent h (sent_in calls)) c true))
+        ⊎ ((c : Asked) × StopsAt c calls × w.fails_between new (left_at_stop (after_sent h (sent_in calls)) c false) (left_at_stop (after_sent h (sent_in calls)) c true))
 
   then_ends : (call : Call) (calls : List Call) (new : R) (h : History)
       → w.shows new (after_sent (after_sent h call.sent) (sent_in calls))
-      ⊎ ((c : Asked) × StopsAt c calls × w.fails_between new (left (after_sent (after_sent h call.sent) (sent_in calls)) c false) (left (after_sent (after_sent h call.sent) (sent_in calls)) c true))
+      ⊎ ((c : Asked) × StopsAt c calls × w.fails_between new (left_at_stop (after_sent (after_sent h call.sent) (sent_in calls)) c false) (left_at_stop (after_sent (after_sent h call.sent) (sent_in calls)) c true))
       → w.shows new (after_sent h (sent_in (call ∷ calls)))
-      ⊎ ((c : Asked) × StopsAt c (call ∷ calls) × w.fails_between new (left (after_sent h (sent_in (call ∷ calls))) c false) (left (after_sent h (sent_in (call ∷ calls))) c true))
+      ⊎ ((c : Asked) × StopsAt c (call ∷ calls) × w.fails_between new (left_at_stop (after_sent h (sent_in (call ∷ calls))) c false) (left_at_stop (after_sent h (sent_in (call ∷ calls))) c true))
   then_ends call calls new h (inl s) = inl (subst (λ g. w.shows new g) (sym (sent_more call.sent (sent_in calls) h)) s)
   then_ends call calls new h (inr (c, stops, f)) =
-      inr (c, inr stops, subst (λ g. w.fails_between new (left g c false) (left g c true)) (sym (sent_more call.sent (sent_in calls) h)) f)
+      inr (c, inr stops, subst (λ g. w.fails_between new (left_at_stop g c false) (left_at_stop g c true)) (sym (sent_more call.sent (sent_in calls) h)) f)
 
   one_call : (call : Call) (calls : List Call) (between new : R) (h : History) → CallsLead w between calls new
       → ((g : History) → w.shows between g → Ended g calls new)
       → AreJudged h call.sent
       → w.shows between (after_sent h call.sent)
-      ⊎ ((c : Asked) × (call.stopped ≡ Some c) × w.fails_between between (left (after_sent h call.sent) c false) (left (after_sent h call.sent) c true))
+      ⊎ ((c : Asked) × (call.stopped ≡ Some c) × w.fails_between between (left_at_stop (after_sent h call.sent) c false) (left_at_stop (after_sent h call.sent) c true))
       → Ended h (call ∷ calls) new
   one_call call calls between new h rest then_on judged (inl s) =
       let e = then_on (after_sent h call.sent) s in
       record { judged = judged_then call.sent (sent_in calls) h judged e.judged; ends = then_ends call calls new h e.ends }
   one_call call calls between new h rest then_on judged (inr (c, stopped, f)) =
       let g = after_sent h call.sent in
-      let s = stays_failed calls between new (left g c false) (left g c true) rest f in
+      let s = stays_failed calls between new (left_at_stop g c false) (left_at_stop g c true) rest f in
       let none = nothing-sent calls s.nothing in
       let same : after_sent h (call.sent ++ sent_in calls) ≡ g = sent_more call.sent (sent_in calls) h ∙ ap (after_sent g) none in
       record {
         judged = judged_then call.sent (sent_in calls) h judged (subst (λ (xs : List Sent). AreJudged g xs) (sym none) tt);
-        ends = inr (c, inl (stopped, s.nothing), subst (λ x. w.fails_between new (left x c false) (left x c true)) (sym same) s.fails);
+        ends = inr (c, inl (stopped, s.nothing), subst (λ x. w.fails_between new (left_at_stop x c false) (left_at_stop x c true)) (sym same) s.fails);
       }
 
   calls_end : (calls : List Call) (old new : R) (h : History) → w.shows old h → CallsLead w old calls new → w.is_clean new → Ended h calls new
@@ -217,7 +218,7 @@ module _ {R : Type 0} (w : Showing R) where
 
   as_life : (calls : List Call) (new : R) (h : History)
       → w.shows new (after_sent h (sent_in calls))
-      ⊎ ((c : Asked) × StopsAt c calls × w.fails_between new (left (after_sent h (sent_in calls)) c false) (left (after_sent h (sent_in calls)) c true))
+      ⊎ ((c : Asked) × StopsAt c calls × w.fails_between new (left_at_stop (after_sent h (sent_in calls)) c false) (left_at_stop (after_sent h (sent_in calls)) c true))
       → w.shows new (after_life h (life_of calls NoDoubt))
       ⊎ ((c : Asked) × StopsAt c calls × w.fails_between new (after_life h (life_of calls (InDoubt c false))) (after_life h (life_of calls (InDoubt c true))))
   as_life calls new h (inl s) = inl (subst (λ g. w.shows new g) (sym (after_parts h (life_of calls NoDoubt))) s)
@@ -234,74 +235,6 @@ module _ {R : Type 0} (w : Showing R) where
       let e = calls_end calls old new h s lead k in
       record { judged = e.judged; ends = as_life calls new h e.ends }
 
-  -- LIVES
-
-  lives_clean : (lives : List (List Call)) (first last : R) → LivesLead w first lives last → w.is_clean last → w.is_clean first
-  lives_clean [] first last same k = subst (λ r. w.is_clean r) same k
-  lives_clean (calls ∷ lives) first last (ended, next, lead, finds, rest) k =
-      calls_clean calls first ended lead (finds.clean (lives_clean lives next last rest k))
-
-  -- what lives lead to
-  record Led (h : History) (calls : List (List Call)) (last : R) : Type 0 where
-    pub lives : List Life
-    pub are_of : AllZip IsLifeOf calls lives
-    pub judged : AreLives h lives
-    pub shown : w.shows last (after_lives h lives)
-
-  one_life : (calls : List Call) (more : List (List Call)) (next last : R) (h : History) (life : Life)
-      → ((g : History) → w.shows next g → Led g more last)
-      → IsLifeOf calls life → AreJudged h life.sent → w.shows next (after_life h life) → Led h (calls ∷ more) last
-  one_life calls more next last h life then_on is judged shown =
-      let l = then_on (after_life h life) shown in
-      record { lives = life ∷ l.lives; are_of = (is, l.are_of); judged = (judged, l.judged); shown = l.shown }
-
-  either_life : (calls : List Call) (more : List (List Call)) (next last : R) (h : History) (c : Asked)
-      → ((g : History) → w.shows next g → Led g more last)
-      → StopsAt c calls → AreJudged h (sent_in calls)
-      → w.shows next (after_life h (life_of calls (InDoubt c false))) ⊎ w.shows next (after_life h (life_of calls (InDoubt c true)))
-      → Led h (calls ∷ more) last
-  either_life calls more next last h c then_on stops judged (inl s) = one_life calls more next last h (life_of calls (InDoubt c false)) then_on (refl, stops) judged s
-  either_life calls more next last h c then_on stops judged (inr s) = one_life calls more next last h (life_of calls (InDoubt c true)) then_on (refl, stops) judged s
-
-  found : (calls : List Call) (more : List (List Call)) (ended next last : R) (h : History) → Finds w ended next → w.is_clean next
-      → ((g : History) → w.shows next g → Led g more last)
-      → AreJudged h (sent_in calls)
-      → w.shows ended (after_life h (life_of calls NoDoubt))
-      ⊎ ((c : Asked) × StopsAt c calls × w.fails_between ended (after_life h (life_of calls (InDoubt c false))) (after_life h (life_of calls (InDoubt c true))))
-      → Led h (calls ∷ more) last
-  found calls more ended next last h finds k then_on judged (inl s) =
-      one_life calls more next last h (life_of calls NoDoubt) then_on (refl, tt) judged (finds.shown k (after_life h (life_of calls NoDoubt)) s)
-  found calls more ended next last h finds k then_on judged (inr (c, stops, f)) =
-      either_life calls more next last h c then_on stops judged
-      (finds.either k (after_life h (life_of calls (InDoubt c false))) (after_life h (life_of calls (InDoubt c true))) f)
-
-  lives_led : (calls : List (List Call)) (first last : R) (h : History) → w.shows first h → LivesLead w first calls last → w.is_clean last → Led h calls last
-  lives_led [] first last h s same k = record { lives = []; are_of = tt; judged = tt; shown = subst (λ r. w.shows r h) (sym same) s }
-  lives_led (calls ∷ more) first last h s (ended, next, lead, finds, rest) k =
-      let clean = lives_clean more next last rest k in
-      let e = life_ends first ended h calls s lead (finds.clean clean) in
-      found calls more ended next last h finds clean (λ g shown. lives_led more next last g shown rest k) e.judged e.ends
-
-  pub prefixes_found : KeysStandOnce → ((h : History) (cs : List Asked) → mark_of (after_all h cs) ≡ mark_of h) → OpeningsFindPrefixes w
-  prefixes_found at_most_once same_mark mark before first last calls s lead k =
-      let start = after_all (Begins mark) before in
-      let l = lives_led calls first last start s lead k in
-      let behind = flat_map prefix_of l.lives in (
-        after_lives start l.lives,
-        l.shown,
-        record {
-          lives = l.lives;
-          are_of = l.are_of;
-          judged = l.judged;
-          joined = joined l.lives start;
-          marked = ap mark_of (joined l.lives start) ∙ same_mark start behind;
-          holds = lives_hold l.lives start l.judged;
-          once = λ account key. joins (λ h. times_under account key h ≤ 1) mark before l.lives (at_most_once mark (before ++ behind) account key);
-          kept = lives_keep l.lives start l.judged;
-          own = joins OwnKept mark before l.lives (each_own mark (before ++ behind));
-        },
-      )
-
   -- SENT AGAIN
 
   -- calls that sent nothing left the registry showing what it showed, or it has failed
@@ -309,7 +242,7 @@ module _ {R : Type 0} (w : Showing R) where
   sent_nothing calls new h none e = by_end e.ends
     where
       by_end : w.shows new (after_sent h (sent_in calls))
-          ⊎ ((c : Asked) × StopsAt c calls × w.fails_between new (left (after_sent h (sent_in calls)) c false) (left (after_sent h (sent_in calls)) c true))
+          ⊎ ((c : Asked) × StopsAt c calls × w.fails_between new (left_at_stop (after_sent h (sent_in calls)) c false) (left_at_stop (after_sent h (sent_in calls)) c true))
           → w.shows new h ⊎ ((next : History) × w.fails_between new h next)
       by_end (inl s) = inl (subst (λ xs. w.shows new (after_sent h xs)) none s)
       by_end (inr (c, stops, f)) = inr (after h c, subst (λ xs. w.fails_between new (after_sent h xs) (after (after_sent h xs) c)) none f)
@@ -319,7 +252,7 @@ module _ {R : Type 0} (w : Showing R) where
     pub outcome : result ≡ answer (judge (views_of g) c)
     pub shown : w.shows new (after g c)
 
-  one_judged : (new : R) (g : History) (c : Asked) (result : Result Reply Refusal) → Leaves w (record { sent = record { command = c; outcome = result } ∷ []; stopped = None }) new g → Judges g c result new
+  one_judged : (new : R) (g : History) (c : Asked) (result : Result Reply Refusal) → CallLeaves w (record { sent = record { command = c; outcome = result } ∷ []; stopped = None }) new g → Judges g c result new
   one_judged new g c result (judged, inl s) = record { outcome = judged.0; shown = s }
   one_judged new g c result (judged, inr (other, stopped, f)) = let none : ⊥ = cc in absurd none
 
@@ -332,24 +265,91 @@ module _ {R : Type 0} (w : Showing R) where
   judged_behind : (between last : R) (g : History) (c : Asked) (result : Result Reply Refusal) (live : Bool) → is_outcome result ≡ true → w.is_clean last → Does w between (obeyed c result live) last
       → w.shows between g ⊎ ((next : History) × w.fails_between between g next) → Judges g c result last
   judged_behind between last g c result live is k does (inl s) =
-      one_judged last g c result (subst (λ (call : Call). Leaves w call last g) (obeyed-outcome c result live is) (does.live k g s))
+      one_judged last g c result (subst (λ (call : Call). CallLeaves w call last g) (obeyed-outcome c result live is) (does.live k g s))
   judged_behind between last g c result live is k does (inr (next, f)) = absurd (something_sent c result live is (does.failed g next f).0)
 
-  settled_by : (h : History) (c : Asked) (key : List ℕ) (stands : Bool) (result : Result Reply Refusal) (last : R) → c.key ≡ Some key → Judges (left h c stands) c result last → (result ≡ answer (judge (views_of h) c)) × w.shows last (after h c)
+  settled_by : (h : History) (c : Asked) (key : List ℕ) (stands : Bool) (result : Result Reply Refusal) (last : R) → c.key ≡ Some key → Judges (left_at_stop h c stands) c result last → (result ≡ answer (judge (views_of h) c)) × w.shows last (after h c)
   settled_by h c key stands result last keyed j =
       let s = doubt_settled h c key stands keyed in
       (j.outcome ∙ s.outcome, subst (λ g. w.shows last g) s.history j.shown)
 
-  pub sent_again : DoubtsEndWhenSentAgain w
-  sent_again ended opened between last h c key calls result live keyed fails finds lead none does is k =
-      by_found (finds.either (calls_clean calls opened between lead (does.clean k)) h (after h c) fails)
-    where
-      over : (stands : Bool) → w.shows opened (left h c stands) → (result ≡ answer (judge (views_of h) c)) × w.shows last (after h c)
-      over stands s =
-          let g = left h c stands in
-          settled_by h c key stands result last keyed
-          (judged_behind between last g c result live is k does (sent_nothing calls between g none (calls_end calls opened between g s lead (does.clean k))))
+-- LIVES
 
-      by_found : w.shows opened h ⊎ w.shows opened (after h c) → (result ≡ answer (judge (views_of h) c)) × w.shows last (after h c)
+lives_more : (ls : List Life) (h : History) (life : Life) → AreLives h ls → AreJudged (after_lives h ls) life.sent → AreLives h (ls ++ life ∷ [])
+lives_more [] h life a j = (j, tt)
+lives_more (l ∷ ls) h life a j = (a.0, lives_more ls (after_life h l) life a.1 j)
+
+after_one_more : (ls : List Life) (h : History) (life : Life) → after_lives h (ls ++ life ∷ []) ≡ after_life (after_lives h ls) life
+after_one_more [] h life = refl
+after_one_more (l ∷ ls) h life = after_one_more ls (after_life h l) life
+
+zip_more : (cs : List (List Call)) (ls : List Life) (calls : List Call) (life : Life) → AllZip IsLifeOf cs ls → IsLifeOf calls life → AllZip IsLifeOf (cs ++ calls ∷ []) (ls ++ life ∷ [])
+zip_more [] [] calls life z is = (is, tt)
+zip_more [] (l ∷ ls) calls life z is = absurd z
+zip_more (c ∷ cs) [] calls life z is = absurd z
+zip_more (c ∷ cs) (l ∷ ls) calls life z is = (z.0, zip_more cs ls calls life z.1 is)
+
+abbrev KeepMarks : Type 0
+KeepMarks = (h : History) (cs : List Asked) → mark_of (after_all h cs) ≡ mark_of h
+
+-- what any lives leave of a start
+led_by : KeysStandOnce → KeepMarks → (mark : ℕ) (before : List Asked) (calls : List (List Call)) (lives : List Life) → let start = after_all (Begins mark) before in
+    AllZip IsLifeOf calls lives → AreLives start lives → IsAfterPrefixes start calls (after_lives start lives)
+led_by at_most_once same_mark mark before calls lives are judged =
+    let start = after_all (Begins mark) before in
+    let behind = flat_map prefix_of lives in
+    record {
+      lives = lives;
+      are_of = are;
+      judged = judged;
+      joined = joined lives start;
+      marked = ap mark_of (joined lives start) ∙ same_mark start behind;
+      holds = lives_hold lives start judged;
+      once = λ account key. joins (λ h. times_under account key h ≤ 1) mark before lives (at_most_once mark (before ++ behind) account key);
+      kept = lives_keep lives start judged;
+      own = joins OwnKept mark before lives (each_own mark (before ++ behind));
+    }
+
+pub no_life : KeysStandOnce → KeepMarks → NoLifeIsAPrefix
+no_life at_most_once same_mark mark before = led_by at_most_once same_mark mark before [] [] tt tt
+
+-- one life more behind lives that led to the history
+one_more : KeysStandOnce → KeepMarks → (mark : ℕ) (before : List Asked) (lives : List (List Call)) (h : History) (calls : List Call) (life : Life) → let start = after_all (Begins mark) before in
+    IsAfterPrefixes start lives h → IsLifeOf calls life → AreJudged h life.sent → IsAfterPrefixes start (lives ++ calls ∷ []) (after_life h life)
+one_more at_most_once same_mark mark before lives h calls life p is judged =
+    let start = after_all (Begins mark) before in
+    let all = p.lives ++ life ∷ [] in
+    let so_far : h ≡ after_lives start p.lives = p.joined ∙ sym (joined p.lives start) in
+    let ends : after_lives start all ≡ after_life h life = after_one_more p.lives start life ∙ ap (λ x. after_life x life) (sym so_far) in
+    let are : AreLives start all = lives_more p.lives start life p.judged (subst (λ x. AreJudged x life.sent) so_far judged) in
+    subst (λ x. IsAfterPrefixes start (lives ++ calls ∷ []) x) ends (led_by at_most_once same_mark mark before (lives ++ calls ∷ []) all (zip_more lives p.lives calls life p.are_of is) are)
+
+module _ {R T : Type 0} (w : Showing R) (u : Showing T) where
+  pub life_more : KeysStandOnce → KeepMarks → OneLifeMore w u
+  life_more at_most_once same_mark mark before opened ended next h lives calls shows p lead again k =
+      let e = life_ends w opened ended h calls shows lead (again.clean k) in
+      let start = after_all (Begins mark) before in
+      let led : (life : Life) → IsLifeOf calls life → AreJudged h life.sent → u.shows next (after_life h life) → (g : History) × u.shows next g × IsAfterPrefixes start (lives ++ calls ∷ []) g =
+      λ life is judged shown. (after_life h life, shown, one_more at_most_once same_mark mark before lives h calls life p is judged) in
+      elim e.ends [
+        | inl s ↦ led (life_of calls NoDoubt) (refl, tt) e.judged (again.shown k (after_life h (life_of calls NoDoubt)) s)
+        | inr (c, stops, f) ↦
+            elim (again.either k (after_life h (life_of calls (InDoubt c false))) (after_life h (life_of calls (InDoubt c true))) f) [
+              | inl s ↦ led (life_of calls (InDoubt c false)) (refl, stops) e.judged s
+              | inr s ↦ led (life_of calls (InDoubt c true)) (refl, stops) e.judged s
+            ]
+      ]
+
+  pub sent_again : DoubtsEndWhenSentAgain w u
+  sent_again ended opened between last h c key calls result live keyed fails again lead none does is k =
+      by_found (again.either (calls_clean u calls opened between lead (does.clean k)) h (after h c) fails)
+    where
+      over : (stands : Bool) → u.shows opened (left_at_stop h c stands) → (result ≡ answer (judge (views_of h) c)) × u.shows last (after h c)
+      over stands s =
+          let g = left_at_stop h c stands in
+          settled_by u h c key stands result last keyed
+          (judged_behind u between last g c result live is k does (sent_nothing u calls between g none (calls_end u calls opened between g s lead (does.clean k))))
+
+      by_found : u.shows opened h ⊎ u.shows opened (after h c) → (result ≡ answer (judge (views_of h) c)) × u.shows last (after h c)
       by_found (inl s) = over false s
       by_found (inr s) = over true s

@@ -9,7 +9,7 @@ use Rattle.pid_moderation.specs.FactsOfViews.{kept_in}
 use Rattle.pid_moderation.specs.History.{Asked, Accepted, Begins, More, History}
 use Rattle.pid_moderation.specs.Judgement.{Outcome, Refused, Repeated, Accepts, judge, answer, added, after, after_all}
 use Rattle.pid_moderation.specs.Views.{views_of, kept_of, receipted}
-use Rattle.pid_service_laws.specs.Acknowledged.{Stands, IsIn, Holds, HoldsOutcome, HoldsAll}
+use Rattle.pid_service_laws.specs.Acknowledged.{IsAcceptedIn, IsIn, HoldsReply, HoldsOutcome, HoldsAll}
 use Rattle.pid_service_laws.specs.Lives.{Sent, AreJudged, after_sent, commands_in}
 use Rattle.pid_service_laws.proofs.Judging.{entry, old_key}
 use Rattle.pid_service_laws.proofs.Staying.{stay}
@@ -17,7 +17,7 @@ use Rattle.pid_service_laws.proofs.Staying.{stay}
 -- what is kept is the reply of a command that stands there
 record KeptBy (h : History) (account key : List ℕ) (reply : Reply) : Type 0 where
   pub entry : Accepted
-  pub stands : Stands entry h
+  pub stands : IsAcceptedIn entry h
   pub account_is : entry.asked.account ≡ account
   pub key_is : entry.asked.key ≡ Some key
   pub reply_is : entry.reply ≡ reply
@@ -44,14 +44,14 @@ kept_by : (h : History) (a k : List ℕ) (reply : Reply) → kept_of a k h ≡ S
 kept_by (Begins mark) a k reply is = absurd cc
 kept_by (More e h) a k reply is = kept_at e h a k reply e.asked.key refl is (kept_by h a k reply)
 
-repeated_holds : (h : History) (c : Asked) (reply : Reply) (o : Option (List ℕ)) → c.key ≡ o → kept_in (views_of h) c.account o ≡ Some reply → Holds h c reply
+repeated_holds : (h : History) (c : Asked) (reply : Reply) (o : Option (List ℕ)) → c.key ≡ o → kept_in (views_of h) c.account o ≡ Some reply → HoldsReply h c reply
 repeated_holds h c reply None is k = absurd cc
 repeated_holds h c reply (Some key) is k = let b = kept_by h c.account key reply k in record { entry = b.entry; stands = b.stands; replied = b.reply_is; is_for = inr (key, b.account_is, b.key_is, is) }
 
 same_reply : (r reply : Reply) → answer (Repeated r) ≡ Ok reply → Some r ≡ Some reply
 same_reply r reply a = let e : r ≡ reply = cc in ap Some e
 
-answered_holds : (h : History) (c : Asked) (reply : Reply) (o : Outcome) → judge (views_of h) c ≡ o → answer o ≡ Ok reply → Holds (added h c o) c reply
+answered_holds : (h : History) (c : Asked) (reply : Reply) (o : Outcome) → judge (views_of h) c ≡ o → answer o ≡ Ok reply → HoldsReply (added h c o) c reply
 answered_holds h c reply (Refused e) is a = absurd cc
 answered_holds h c reply (Repeated r) is a = repeated_holds h c reply c.key refl (old_key h c r is ∙ same_reply r reply a)
 answered_holds h c reply (Accepts r) is a = record { entry = entry c r; stands = inl refl; replied = cc; is_for = inl refl }
@@ -80,24 +80,24 @@ holding_stays sent cs h k = stay (λ g. HoldsAll g sent) (λ g c reply new j. al
 
 -- NOTHING ELSE
 
-one_only : (h : History) (c : Asked) (o : Outcome) (e : Accepted) → Stands e (added h c o) → Stands e h ⊎ (e.asked ≡ c)
+one_only : (h : History) (c : Asked) (o : Outcome) (e : Accepted) → IsAcceptedIn e (added h c o) → IsAcceptedIn e h ⊎ (e.asked ≡ c)
 one_only h c (Refused r) e s = inl s
 one_only h c (Repeated reply) e s = inl s
 one_only h c (Accepts reply) e (inl is) = inr (ap (λ (x : Accepted). x.asked) is)
 one_only h c (Accepts reply) e (inr s) = inl s
 
-before_or_here : (h : History) (c : Asked) (cs : List Asked) (e : Accepted) → Stands e h ⊎ (e.asked ≡ c) → Stands e h ⊎ IsIn e.asked (c ∷ cs)
+before_or_here : (h : History) (c : Asked) (cs : List Asked) (e : Accepted) → IsAcceptedIn e h ⊎ (e.asked ≡ c) → IsAcceptedIn e h ⊎ IsIn e.asked (c ∷ cs)
 before_or_here h c cs e (inl s) = inl s
 before_or_here h c cs e (inr is) = inr (inl is)
 
-here_or_later : (h : History) (c : Asked) (cs : List Asked) (e : Accepted) → Stands e (after h c) ⊎ IsIn e.asked cs → Stands e h ⊎ IsIn e.asked (c ∷ cs)
+here_or_later : (h : History) (c : Asked) (cs : List Asked) (e : Accepted) → IsAcceptedIn e (after h c) ⊎ IsIn e.asked cs → IsAcceptedIn e h ⊎ IsIn e.asked (c ∷ cs)
 here_or_later h c cs e (inl s) = before_or_here h c cs e (one_only h c (judge (views_of h) c) e s)
 here_or_later h c cs e (inr i) = inr (inr i)
 
-pub only_sent : (cs : List Asked) (h : History) (e : Accepted) → Stands e (after_all h cs) → Stands e h ⊎ IsIn e.asked cs
+pub only_sent : (cs : List Asked) (h : History) (e : Accepted) → IsAcceptedIn e (after_all h cs) → IsAcceptedIn e h ⊎ IsIn e.asked cs
 only_sent [] h e s = inl s
 only_sent (c ∷ cs) h e s = here_or_later h c cs e (only_sent cs (after h c) e s)
 
-pub only_sent_at_all : (mark : ℕ) (cs : List Asked) (e : Accepted) → Stands e (Begins mark) ⊎ IsIn e.asked cs → IsIn e.asked cs
+pub only_sent_at_all : (mark : ℕ) (cs : List Asked) (e : Accepted) → IsAcceptedIn e (Begins mark) ⊎ IsIn e.asked cs → IsIn e.asked cs
 only_sent_at_all mark cs e (inl s) = absurd s
 only_sent_at_all mark cs e (inr i) = i

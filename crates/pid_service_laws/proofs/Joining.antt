@@ -4,8 +4,8 @@ use Rattle.std.specs.List.{flat_map}
 use Rattle.std.proofs.Math.Seq.{take-append-add}
 use Rattle.pid_moderation.specs.History.{Asked, Accepted, Begins, History}
 use Rattle.pid_moderation.specs.Judgement.{after, after_all}
-use Rattle.pid_service_laws.specs.Acknowledged.{Stands, IsIn, HoldsAll, HoldsLives}
-use Rattle.pid_service_laws.specs.KeptReplies.{IsKept, KeepsAll, KeepsLives}
+use Rattle.pid_service_laws.specs.Acknowledged.{IsAcceptedIn, IsIn, HoldsAll, HoldsLives}
+use Rattle.pid_service_laws.specs.KeptReplies.{IsKept, KeepsSent, KeepsLives}
 use Rattle.pid_service_laws.specs.Lives.{Sent, Doubt, NoDoubt, InDoubt, Life, AreLives, after_life, after_lives, after_sent, commands_in, doubted, prefix_of, standing}
 use Rattle.pid_service_laws.proofs.Holding.{sent_hold, holding_stays, only_sent, only_sent_at_all}
 use Rattle.pid_service_laws.proofs.Keeping.{sent_kept, keeping_stays, each_own}
@@ -66,19 +66,19 @@ lives_hold (life ∷ lives) h j = (
 pub lives_keep : (lives : List Life) (h : History) → AreLives h lives → KeepsLives (after_lives h lives) lives
 lives_keep [] h j = tt
 lives_keep (life ∷ lives) h j = (
-  behind (λ g. KeepsAll g life.sent) (keeping_stays life.sent) h life lives (sent_kept life.sent h j.0),
+  behind (λ g. KeepsSent g life.sent) (keeping_stays life.sent) h life lives (sent_kept life.sent h j.0),
   lives_keep lives (after_life h life) j.1,
 )
 
-pub lives_only : (mark : ℕ) (lives : List Life) (e : Accepted) → Stands e (after_lives (Begins mark) lives) → IsIn e.asked (flat_map prefix_of lives)
+pub lives_only : (mark : ℕ) (lives : List Life) (e : Accepted) → IsAcceptedIn e (after_lives (Begins mark) lives) → IsIn e.asked (flat_map prefix_of lives)
 lives_only mark lives e s =
     let cs = flat_map prefix_of lives in
-    only_sent_at_all mark cs e (only_sent cs (Begins mark) e (subst (λ h. Stands e h) (joined lives (Begins mark)) s))
+    only_sent_at_all mark cs e (only_sent cs (Begins mark) e (subst (λ h. IsAcceptedIn e h) (joined lives (Begins mark)) s))
 
-pub lives_own : (mark : ℕ) (lives : List Life) (e : Accepted) → Stands e (after_lives (Begins mark) lives) → IsKept (after_lives (Begins mark) lives) e.asked.account e.asked.key e.reply
+pub lives_own : (mark : ℕ) (lives : List Life) (e : Accepted) → IsAcceptedIn e (after_lives (Begins mark) lives) → IsKept (after_lives (Begins mark) lives) e.asked.account e.asked.key e.reply
 lives_own mark lives e s =
     subst (λ h. IsKept h e.asked.account e.asked.key e.reply) (sym (joined lives (Begins mark)))
-    (each_own mark (flat_map prefix_of lives) e (subst (λ h. Stands e h) (joined lives (Begins mark)) s))
+    (each_own mark (flat_map prefix_of lives) e (subst (λ h. IsAcceptedIn e h) (joined lives (Begins mark)) s))
 
 -- what holds after every list of commands holds after commands and then lives
 pub joins : (P : History → Type 0) (mark : ℕ) (before : List Asked) (lives : List Life) → P (after_all (Begins mark) (before ++ flat_map prefix_of lives)) → P (after_lives (after_all (Begins mark) before) lives)

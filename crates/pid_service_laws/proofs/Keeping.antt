@@ -9,8 +9,8 @@ use Rattle.pid_moderation.specs.FactsOfViews.{kept_in}
 use Rattle.pid_moderation.specs.History.{Deed, Asked, Accepted, Begins, More, History}
 use Rattle.pid_moderation.specs.Judgement.{Outcome, Refused, Repeated, Accepts, judge, answer, added, after, after_all}
 use Rattle.pid_moderation.specs.Views.{views_of, kept_of, receipted}
-use Rattle.pid_service_laws.specs.Acknowledged.{Stands}
-use Rattle.pid_service_laws.specs.KeptReplies.{IsKept, KeepsOutcome, KeepsAll}
+use Rattle.pid_service_laws.specs.Acknowledged.{IsAcceptedIn}
+use Rattle.pid_service_laws.specs.KeptReplies.{IsKept, KeepsOutcome, KeepsSent}
 use Rattle.pid_service_laws.specs.Lives.{Sent, AreJudged, after_sent, commands_in}
 use Rattle.pid_service_laws.proofs.Judging.{asks, entry, old_key}
 use Rattle.pid_service_laws.proofs.Staying.{stay}
@@ -45,7 +45,7 @@ kept_now h account (Some key) deed (Ok reply) (Refused e) is a = absurd cc
 kept_now h account (Some key) deed (Ok reply) (Repeated r) is a = let e : r ≡ reply = cc in old_key h (asks account (Some key) deed) r is ∙ ap Some e
 kept_now h account (Some key) deed (Ok reply) (Accepts r) is a = let e : r ≡ reply = cc in own_kept h account key deed r ∙ ap Some e
 
-pub sent_kept : (sent : List Sent) (h : History) → AreJudged h sent → KeepsAll (after_sent h sent) sent
+pub sent_kept : (sent : List Sent) (h : History) → AreJudged h sent → KeepsSent (after_sent h sent) sent
 sent_kept [] h j = tt
 sent_kept (s ∷ sent) h j = (
   stay (λ g. KeepsOutcome g s.command.account s.command.key s.outcome) (λ g c reply new k. kept_later g c reply s.command.account s.command.key s.outcome new k) (commands_in sent) (after h s.command)
@@ -53,17 +53,17 @@ sent_kept (s ∷ sent) h j = (
   sent_kept sent (after h s.command) j.1,
 )
 
-kept_all : (h : History) (c : Asked) (reply : Reply) (sent : List Sent) → kept_in (views_of h) c.account c.key ≡ None → KeepsAll h sent → KeepsAll (More (entry c reply) h) sent
+kept_all : (h : History) (c : Asked) (reply : Reply) (sent : List Sent) → kept_in (views_of h) c.account c.key ≡ None → KeepsSent h sent → KeepsSent (More (entry c reply) h) sent
 kept_all h c reply [] new k = tt
 kept_all h c reply (s ∷ sent) new k = (kept_later h c reply s.command.account s.command.key s.outcome new k.0, kept_all h c reply sent new k.1)
 
-pub keeping_stays : (sent : List Sent) (cs : List Asked) (h : History) → KeepsAll h sent → KeepsAll (after_all h cs) sent
-keeping_stays sent cs h k = stay (λ g. KeepsAll g sent) (λ g c reply new j. kept_all g c reply sent new j) cs h k
+pub keeping_stays : (sent : List Sent) (cs : List Asked) (h : History) → KeepsSent h sent → KeepsSent (after_all h cs) sent
+keeping_stays sent cs h k = stay (λ g. KeepsSent g sent) (λ g c reply new j. kept_all g c reply sent new j) cs h k
 
 -- THE COMMAND'S OWN REPLY
 
 abbrev pub OwnKept : History → Type 0
-OwnKept h = (e : Accepted) → Stands e h → IsKept h e.asked.account e.asked.key e.reply
+OwnKept h = (e : Accepted) → IsAcceptedIn e h → IsKept h e.asked.account e.asked.key e.reply
 
 own_reply : (h : History) (account : List ℕ) (key : Option (List ℕ)) (deed : Deed) (reply : Reply) → IsKept (More (entry (asks account key deed) reply) h) account key reply
 own_reply h account None deed reply = tt
@@ -73,5 +73,5 @@ own_stays : (h : History) (c : Asked) (reply : Reply) → kept_in (views_of h) c
 own_stays h c reply new old e (inl is) = subst (λ (x : Accepted). IsKept (More (entry c reply) h) x.asked.account x.asked.key x.reply) (sym is) (own_reply h c.account c.key c.deed reply)
 own_stays h c reply new old e (inr s) = reply_later h c reply e.asked.account e.asked.key e.reply new (old e s)
 
-pub each_own : (mark : ℕ) (cs : List Asked) (e : Accepted) → Stands e (after_all (Begins mark) cs) → IsKept (after_all (Begins mark) cs) e.asked.account e.asked.key e.reply
+pub each_own : (mark : ℕ) (cs : List Asked) (e : Accepted) → IsAcceptedIn e (after_all (Begins mark) cs) → IsKept (after_all (Begins mark) cs) e.asked.account e.asked.key e.reply
 each_own mark cs = stay OwnKept own_stays cs (Begins mark) (λ e s. absurd s)

@@ -6,8 +6,8 @@ use Rattle.pid_moderation.specs.FactsOfViews.{kept_in}
 use Rattle.pid_moderation.specs.History.{Asked, More, History}
 use Rattle.pid_moderation.specs.Judgement.{Outcome, Refused, Repeated, Accepts, judge, answer, added}
 use Rattle.pid_moderation.specs.Views.{views_of}
-use Rattle.pid_service_laws.specs.Doubts.{left}
-use Rattle.pid_service_laws.specs.LifeLaws.{IsSettled}
+use Rattle.pid_service_laws.specs.Doubts.{left_at_stop}
+use Rattle.pid_service_laws.specs.LifeLaws.{EndsAlike}
 use Rattle.pid_service_laws.proofs.Judging.{asks, entry, formed, repeats, same_form}
 use Rattle.pid_service_laws.proofs.Keeping.{own_kept}
 
@@ -18,14 +18,14 @@ again h c key reply is accepted =
     (same_form g (views_of h) c.account c.key c.deed ∙ formed h c reply accepted)
     (subst (λ (o : Option (List ℕ)). kept_in (views_of (More (entry (asks c.account o c.deed) reply) h)) c.account o ≡ Some reply) (sym is) (own_kept h c.account key c.deed reply))
 
-settled : (h : History) (c : Asked) (key : List ℕ) (o : Outcome) → c.key ≡ Some key → judge (views_of h) c ≡ o → IsSettled h (added h c o) c
+settled : (h : History) (c : Asked) (key : List ℕ) (o : Outcome) → c.key ≡ Some key → judge (views_of h) c ≡ o → EndsAlike h (added h c o) c
 settled h c key (Refused e) is j = record { outcome = refl; history = refl }
 settled h c key (Repeated reply) is j = record { outcome = refl; history = refl }
 settled h c key (Accepts reply) is j =
     let r = again h c key reply is j in
     record { outcome = ap answer r ∙ ap answer (sym j); history = ap (added (More (entry c reply) h) c) r ∙ ap (added h c) (sym j) }
 
-pub doubt_settled : (h : History) (c : Asked) (key : List ℕ) (stands : Bool) → c.key ≡ Some key → IsSettled h (left h c stands) c
+pub doubt_settled : (h : History) (c : Asked) (key : List ℕ) (stands : Bool) → c.key ≡ Some key → EndsAlike h (left_at_stop h c stands) c
 doubt_settled h c key false is = record { outcome = refl; history = refl }
 doubt_settled h c key true is = settled h c key (judge (views_of h) c) is refl
 

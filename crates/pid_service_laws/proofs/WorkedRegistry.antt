@@ -4,10 +4,12 @@ use Rattle.pid_moderation.specs.declared.command.Reply.TheVariants.{Done}
 use Rattle.pid_moderation.specs.declared.refusal.Refusal.TheVariants.{Memory, NoSubmission, Store}
 use Rattle.pid_moderation.specs.History.{History, Approves, new_history}
 use Rattle.pid_moderation.specs.Judgement.{after}
+use Rattle.pid_service_laws.specs.CallLaws.{OneLifeMore}
+use Rattle.pid_service_laws.specs.CrashPrefix.{IsAfterPrefixes}
 use Rattle.pid_service_laws.specs.Calls.{Call, nothing_sent, obeyed}
-use Rattle.pid_service_laws.specs.Doubts.{left}
+use Rattle.pid_service_laws.specs.Doubts.{left_at_stop}
 use Rattle.pid_service_laws.specs.Lives.{after_lives}
-use Rattle.pid_service_laws.specs.Registries.{CallsLead, Does, Finds, Leaves, LivesLead, Showing}
+use Rattle.pid_service_laws.specs.Registries.{CallsLead, Does, ShowsAgain, CallLeaves, Showing}
 use Rattle.pid_service_laws.proofs.WorkedLives.{alice, approval, by, first_calls, lives, second_calls, submission, welcome}
 
 data Registry : Type 0 where
@@ -33,10 +35,10 @@ model = record {
   fails_between = λ r h next. (is_live r ≡ false) × (history_in r ≡ h) × (next_in r ≡ next);
 }
 
-live_does : (h : History) (call : Call) (new : Registry) → Leaves model call new h → Does model (Live h) call new
+live_does : (h : History) (call : Call) (new : Registry) → CallLeaves model call new h → Does model (Live h) call new
 live_does h call new leaves = record {
   clean = λ k. tt;
-  live = λ k g s. subst (λ x. Leaves model call new x) s.1 leaves;
+  live = λ k g s. subst (λ x. CallLeaves model call new x) s.1 leaves;
   failed = λ g next f. let none : ⊥ = cc in absurd none;
 }
 
@@ -47,7 +49,7 @@ torn_does h next = record {
   failed = λ g n f. (refl, f);
 }
 
-live_found : (h : History) → Finds model (Live h) (Live h)
+live_found : (h : History) → ShowsAgain model model (Live h) (Live h)
 live_found h = record {
   clean = λ k. tt;
   shown = λ k g s. s;
@@ -58,7 +60,7 @@ one_found : (h next : History) (c : Bool) (g n : History) → h ≡ g → next �
 one_found h next true g n p q = inr (refl, q)
 one_found h next false g n p q = inl (refl, p)
 
-torn_found : (h next : History) (stands : Bool) → Finds model (Torn h next) (Live (elim stands [ true ↦ next | false ↦ h ]))
+torn_found : (h next : History) (stands : Bool) → ShowsAgain model model (Torn h next) (Live (elim stands [ true ↦ next | false ↦ h ]))
 torn_found h next stands = record {
   clean = λ k. tt;
   shown = λ k g s. let none : ⊥ = cc in absurd none;
@@ -94,25 +96,15 @@ first_lead = (
   ),
 )
 
-second_lead : (stands : Bool) → CallsLead model (Live (left welcomed submission stands)) second_calls (Live ended)
+second_lead : (stands : Bool) → CallsLead model (Live (left_at_stop welcomed submission stands)) second_calls (Live ended)
 second_lead true = (Live ended, live_does (after welcomed submission) _ (Live ended) ((refl, (refl, tt)), inl (refl, refl)), refl)
 second_lead false = (Live ended, live_does welcomed _ (Live ended) ((refl, (refl, tt)), inl (refl, refl)), refl)
 
-lives_lead : (stands : Bool) → LivesLead model (Live new_history) (first_calls ∷ second_calls ∷ []) (Live ended)
-lives_lead true = (
-  Torn welcomed (after welcomed submission),
-  Live (after welcomed submission),
-  first_lead,
-  torn_found welcomed (after welcomed submission) true,
-  (Live ended, Live ended, second_lead true, live_found ended, refl),
-)
-lives_lead false = (
-  Torn welcomed (after welcomed submission),
-  Live welcomed,
-  first_lead,
-  torn_found welcomed (after welcomed submission) false,
-  (Live ended, Live ended, second_lead false, live_found ended, refl),
-)
+-- the two lives of the worked example, whichever way the doubt went
+lives_lead : OneLifeMore model model → (stands : Bool) → IsAfterPrefixes new_history [] new_history
+    → (g : History) × model.shows (Live (left_at_stop welcomed submission stands)) g × IsAfterPrefixes new_history (first_calls ∷ []) g
+lives_lead more true none = more 0 [] (Live new_history) _ _ new_history [] first_calls (refl, refl) none first_lead (torn_found welcomed (after welcomed submission) true) tt
+lives_lead more false none = more 0 [] (Live new_history) _ _ new_history [] first_calls (refl, refl) none first_lead (torn_found welcomed (after welcomed submission) false) tt
 
 ended_after_lives : after_lives new_history (lives true) ≡ ended
 ended_after_lives = refl

@@ -8,9 +8,9 @@ use Rattle.pid_moderation.specs.History.{Asked, Accepted, Begins, More, History}
 use Rattle.pid_service_laws.specs.Lives.{Sent, Life}
 
 -- it is one of the accepted commands
-abbrev pub Stands : Accepted → History → Type 0
-Stands e (Begins mark) = ⊥
-Stands e (More x h) = (e ≡ x) ⊎ Stands e h
+abbrev pub IsAcceptedIn : Accepted → History → Type 0
+IsAcceptedIn e (Begins mark) = ⊥
+IsAcceptedIn e (More x h) = (e ≡ x) ⊎ IsAcceptedIn e h
 
 -- it is one of the commands
 abbrev pub IsIn : Asked → List Asked → Type 0
@@ -18,20 +18,20 @@ IsIn c [] = ⊥
 IsIn c (x ∷ cs) = (c ≡ x) ⊎ IsIn c cs
 
 -- The command itself; or one of the same account under the same key, of which this one is a repeat.
-abbrev pub IsFor : Asked → Asked → Type 0
-IsFor a c = (a ≡ c) ⊎ ((key : List ℕ) × (a.account ≡ c.account) × (a.key ≡ Some key)
+abbrev pub IsSameOrRepeat : Asked → Asked → Type 0
+IsSameOrRepeat a c = (a ≡ c) ⊎ ((key : List ℕ) × (a.account ≡ c.account) × (a.key ≡ Some key)
     × (c.key ≡ Some key))
 
 -- the history holds the command that was acknowledged by this reply, with this reply
-pub record Holds (h : History) (c : Asked) (reply : Reply) : Type 0 where
+pub record HoldsReply (h : History) (c : Asked) (reply : Reply) : Type 0 where
   pub entry : Accepted
-  pub stands : Stands entry h
+  pub stands : IsAcceptedIn entry h
   pub replied : entry.reply ≡ reply
-  pub is_for : IsFor entry.asked c
+  pub is_for : IsSameOrRepeat entry.asked c
 
 -- a refusal acknowledges nothing
 abbrev pub HoldsOutcome : History → Asked → Result Reply Refusal → Type 0
-HoldsOutcome h c (Ok reply) = Holds h c reply
+HoldsOutcome h c (Ok reply) = HoldsReply h c reply
 HoldsOutcome h c (Err refusal) = Unit {0}
 
 -- every acknowledged one of the commands

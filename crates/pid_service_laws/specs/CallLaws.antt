@@ -1,6 +1,7 @@
 -- The laws that lead from calls to lives, for any type of registries: each is the contract of a
 -- function of `calls`. A choice of this project.
-use Rattle.std.specs.Prelude.{◌≡◌, ℕ, Bool, true, false, List, [], Option, Some, Err, Result}
+use Rattle.std.specs.Prelude.{◌≡◌, ℕ, Bool, true, false, List, [], ◌∷◌, ◌++◌, Option, Some, Err}
+use Rattle.std.specs.Prelude.{Result}
 use Rattle.pid_moderation.specs.declared.command.Reply.{Reply}
 use Rattle.pid_moderation.specs.declared.refusal.Refusal.{Refusal}
 use Rattle.pid_moderation.specs.declared.refusal.Refusal.TheVariants.{Failed}
@@ -10,8 +11,8 @@ use Rattle.pid_moderation.specs.Views.{views_of}
 use Rattle.pid_service_laws.specs.Calls.{Call, nothing_sent, obeyed, ran, sent_in}
 use Rattle.pid_service_laws.specs.CrashPrefix.{IsAfterPrefixes}
 use Rattle.pid_service_laws.specs.Outcomes.{is_outcome}
-use Rattle.pid_service_laws.specs.Registries.{CallsLead, CommandLeaves, Does, EndsLife, Finds}
-use Rattle.pid_service_laws.specs.Registries.{ListLeaves, LivesLead, Showing}
+use Rattle.pid_service_laws.specs.Registries.{CallsLead, CommandLeaves, Does, EndsLife}
+use Rattle.pid_service_laws.specs.Registries.{ListLeaves, Showing, ShowsAgain}
 
 module _ {R : Type 0} (w : Showing R) where
   -- a disk that has returned what was written up to the second has done so up to the first
@@ -20,7 +21,7 @@ module _ {R : Type 0} (w : Showing R) where
 
   -- while the disk returns what was written, this is left of the history that was shown
   abbrev pub OverShown : R → R → (History → Type 0) → Type 0
-  OverShown old new Leaves = w.is_clean new → (h : History) → w.shows old h → Leaves h
+  OverShown old new CallLeaves = w.is_clean new → (h : History) → w.shows old h → CallLeaves h
 
   -- a registry that has failed between two histories has this of them
   abbrev pub WhereFailed : R → (History → History → Type 0) → Type 0
@@ -66,27 +67,35 @@ module _ {R : Type 0} (w : Showing R) where
       → w.is_clean new
       → EndsLife w h calls new
 
-  -- Lives lead from an opening that shows a history, to which commands led from its beginning, to
-  -- one that shows the history after that one and a prefix of the commands of each life.
-  abbrev pub OpeningsFindPrefixes : Type 0
-  OpeningsFindPrefixes = (mark : ℕ) (before : List Asked) (first last : R)
-      (calls : List (List Call)) → let start = after_all (Begins mark) before in
-      w.shows first start
-      → LivesLead w first calls last
-      → w.is_clean last
-      → (h : History) × w.shows last h × IsAfterPrefixes start calls h
+-- No life leaves the history at the start.
+abbrev pub NoLifeIsAPrefix : Type 0
+NoLifeIsAPrefix = (mark : ℕ) (before : List Asked) → let start = after_all (Begins mark) before in
+    IsAfterPrefixes start [] start
+
+module _ {R T : Type 0} (w : Showing R) (u : Showing T) where
+  -- One life more. A registry shows the history after earlier lives. After its calls another is
+  -- opened, which shows again what it showed: that shows the history after one life more.
+  abbrev pub OneLifeMore : Type 0
+  OneLifeMore = (mark : ℕ) (before : List Asked) (opened ended : R) (next : T) (h : History)
+      (lives : List (List Call)) (calls : List Call) → let start = after_all (Begins mark) before in
+      w.shows opened h
+      → IsAfterPrefixes start lives h
+      → CallsLead w opened calls ended
+      → ShowsAgain w u ended next
+      → u.is_clean next
+      → (g : History) × u.shows next g × IsAfterPrefixes start (lives ++ calls ∷ []) g
 
   -- A command under a key met a fault by which the registry failed. After the next opening, and
   -- calls that sent nothing, it is sent again and has an outcome: that of the judgement before.
   abbrev pub DoubtsEndWhenSentAgain : Type 0
-  DoubtsEndWhenSentAgain = (ended opened between last : R) (h : History) (c : Asked)
+  DoubtsEndWhenSentAgain = (ended : R) (opened between last : T) (h : History) (c : Asked)
       (key : List ℕ) (calls : List Call) (result : Result Reply Refusal) (live : Bool)
       → c.key ≡ Some key
       → w.fails_between ended h (after h c)
-      → Finds w ended opened
-      → CallsLead w opened calls between
+      → ShowsAgain w u ended opened
+      → CallsLead u opened calls between
       → sent_in calls ≡ []
-      → Does w between (obeyed c result live) last
+      → Does u between (obeyed c result live) last
       → is_outcome result ≡ true
-      → w.is_clean last
-      → (result ≡ answer (judge (views_of h) c)) × w.shows last (after h c)
+      → u.is_clean last
+      → (result ≡ answer (judge (views_of h) c)) × u.shows last (after h c)

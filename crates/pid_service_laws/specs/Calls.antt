@@ -28,15 +28,15 @@ stopped_by None live next = None
 stopped_by (Some refusal) live next = if is_fault refusal && not live then next else None
 
 -- the refusal, if it is one
-abbrev pub refusal_in : Result Reply Refusal → Option Refusal
-refusal_in (Ok reply) = None
-refusal_in (Err refusal) = Some refusal
+abbrev pub refusal_answered : Result Reply Refusal → Option Refusal
+refusal_answered (Ok reply) = None
+refusal_answered (Err refusal) = Some refusal
 
 -- a command that was answered so, by a registry that then was live, or had failed
 abbrev pub obeyed : Asked → Result Reply Refusal → (live : Bool) → Call
 obeyed c answer live = record {
   sent = if is_outcome answer then record { command = c; outcome = answer } ∷ [] else [];
-  stopped = stopped_by (refusal_in answer) live (Some c);
+  stopped = stopped_by (refusal_answered answer) live (Some c);
 }
 
 -- the first commands, with these outcomes

@@ -6,7 +6,7 @@ use Rattle.pid_moderation.specs.History.{Accepted, History, mark_of}
 use Rattle.pid_moderation.specs.Judgement.{after_all}
 use Rattle.pid_moderation.specs.Keys.{times_under}
 use Rattle.pid_service_laws.specs.Lives.{Life, AreLives, prefix_of}
-use Rattle.pid_service_laws.specs.Acknowledged.{HoldsLives, Stands}
+use Rattle.pid_service_laws.specs.Acknowledged.{HoldsLives, IsAcceptedIn}
 use Rattle.pid_service_laws.specs.KeptReplies.{IsKept, KeepsLives}
 use Rattle.pid_service_laws.specs.Calls.{Call, IsLifeOf}
 
@@ -24,4 +24,4 @@ pub record IsAfterPrefixes (start : History) (calls : List (List Call)) (h : His
   -- there is that command's
   pub once : (account key : List ℕ) → times_under account key h ≤ 1
   pub kept : KeepsLives h lives
-  pub own : (e : Accepted) → Stands e h → IsKept h e.asked.account e.asked.key e.reply
+  pub own : (e : Accepted) → IsAcceptedIn e h → IsKept h e.asked.account e.asked.key e.reply

@@ -4,5 +4,5 @@ use Rattle.pid_moderation.specs.History.{Asked, History}
 use Rattle.pid_moderation.specs.Judgement.{after}
 
 -- the history that a stop leaves at a command, where it stands and where it does not
-abbrev pub left : History → Asked → Bool → History
-left h c stands = if stands then after h c else h
+abbrev pub left_at_stop : History → Asked → Bool → History
+left_at_stop h c stands = if stands then after h c else h

@@ -19,10 +19,10 @@ KeepsOutcome h account key (Ok reply) = IsKept h account key reply
 KeepsOutcome h account key (Err refusal) = Unit {0}
 
 -- every reply to the commands
-abbrev pub KeepsAll : History → List Sent → Type 0
-KeepsAll h sent = AllByRecursion
+abbrev pub KeepsSent : History → List Sent → Type 0
+KeepsSent h sent = AllByRecursion
     (λ s. KeepsOutcome h s.command.account s.command.key s.outcome) sent
 
 -- every reply of the lives
 abbrev pub KeepsLives : History → List Life → Type 0
-KeepsLives h lives = AllByRecursion (λ life. KeepsAll h life.sent) lives
+KeepsLives h lives = AllByRecursion (λ life. KeepsSent h life.sent) lives

@@ -6,7 +6,7 @@ use Rattle.pid_moderation.specs.History.{Accepted, Asked, Begins, History, mark_
 use Rattle.pid_moderation.specs.Judgement.{after, after_all, answer, judge}
 use Rattle.pid_moderation.specs.Keys.{times_under}
 use Rattle.pid_moderation.specs.Views.{views_of}
-use Rattle.pid_service_laws.specs.Acknowledged.{IsIn, Stands}
+use Rattle.pid_service_laws.specs.Acknowledged.{IsIn, IsAcceptedIn}
 use Rattle.pid_service_laws.specs.KeptReplies.{IsKept}
 use Rattle.pid_service_laws.specs.Lives.{InDoubt, Life, after_lives, commands_in, prefix_of}
 
@@ -20,8 +20,8 @@ abbrev pub all_prefixes : List Life → List Asked
 all_prefixes lives = flat_map prefix_of lives
 
 -- the history that lives leave, the first of which began with this mark and no command
-abbrev pub left_by : ℕ → List Life → History
-left_by mark lives = after_lives (Begins mark) lives
+abbrev pub history_left : ℕ → List Life → History
+history_left mark lives = after_lives (Begins mark) lives
 
 -- What any lives leave.
 pub record JoinsPrefixes (mark : ℕ) (lives : List Life) (h : History) : Type 0 where
@@ -30,18 +30,18 @@ pub record JoinsPrefixes (mark : ℕ) (lives : List Life) (h : History) : Type 0
   -- it keeps the mark with which it began
   pub marked : mark_of h ≡ mark
   -- it holds no command that was not sent
-  pub only : (e : Accepted) → Stands e h → IsIn e.asked (all_prefixes lives)
+  pub only : (e : Accepted) → IsAcceptedIn e h → IsIn e.asked (all_prefixes lives)
   -- it holds at most one command of an account under a key
   pub once : (account key : List ℕ) → times_under account key h ≤ 1
   -- and the reply to that one is the reply that is kept there
-  pub own : (e : Accepted) → Stands e h → IsKept h e.asked.account e.asked.key e.reply
+  pub own : (e : Accepted) → IsAcceptedIn e h → IsKept h e.asked.account e.asked.key e.reply
 
 -- the command was sent under a key
 abbrev pub HasKey : Asked → Type 0
 HasKey c = (key : List ℕ) × (c.key ≡ Some key)
 
 -- the command has the same outcome over both histories, and leads to the same
-pub record IsSettled (h g : History) (c : Asked) : Type 0 where
+pub record EndsAlike (h g : History) (c : Asked) : Type 0 where
   pub outcome : answer (judge (views_of g) c) ≡ answer (judge (views_of h) c)
   pub history : after g c ≡ after h c
 

@@ -38,8 +38,8 @@ doubted NoDoubt = []
 doubted (InDoubt command stands) = command ∷ []
 
 -- the commands of a life: those with an outcome, and the one in doubt
-abbrev pub commands_of : Life → List Asked
-commands_of life = commands_in life.sent ++ doubted life.doubt
+abbrev pub life_commands : Life → List Asked
+life_commands life = commands_in life.sent ++ doubted life.doubt
 
 -- one more where the command in doubt stands
 abbrev pub standing : Doubt → ℕ
@@ -48,12 +48,12 @@ standing (InDoubt command stands) = if stands then 1 else 0
 
 -- how many of them the prefix has: as many as have an outcome, the refused ones too, and one more
 -- where the command in doubt stands
-abbrev pub count_of : Life → ℕ
-count_of life = length life.sent + standing life.doubt
+abbrev pub prefix_length : Life → ℕ
+prefix_length life = length life.sent + standing life.doubt
 
 -- the first ones, so many
 abbrev pub prefix_of : Life → List Asked
-prefix_of life = take (count_of life) (commands_of life)
+prefix_of life = take (prefix_length life) (life_commands life)
 
 -- the history after commands that were sent
 abbrev pub after_sent : History → List Sent → History

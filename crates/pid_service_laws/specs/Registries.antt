@@ -1,10 +1,10 @@
 -- What the public calls of a registry promise, as far as lives speak of it. A choice of this
 -- project.
 --
--- The way to the crash prefix, for any type R of registries: each call `Does` what it promises;
--- through a life `CallsLead` from the registry as it was opened to how it ended; a later opening
--- `Finds` what a stop may have left; so `LivesLead` from a first opening to a last one. The laws of
--- `calls` say what the last one shows.
+-- The way to the crash prefix, for any types of registries: each call `Does` what it promises;
+-- through a life `CallsLead` from the registry as it was opened to how it ended; a later opening,
+-- maybe of another type, `ShowsAgain` what the one before it showed. The laws of `calls` say, life
+-- by life, what it shows.
 use Rattle.std.specs.Prelude.{◌≡◌, ◌⊎◌, ◌<◌, ◌+◌, true, false, List, [], ◌∷◌, length, take, Option}
 use Rattle.std.specs.Prelude.{Some, Result, IsErrAnd, IsSomeAnd}
 use Rattle.pid_moderation.specs.declared.command.Reply.{Reply}
@@ -15,7 +15,7 @@ use Rattle.pid_moderation.specs.Views.{views_of}
 use Rattle.pid_service_laws.specs.Outcomes.{IsFault}
 use Rattle.pid_service_laws.specs.Lives.{after_sent, AreJudged, NoDoubt, InDoubt, after_life}
 use Rattle.pid_service_laws.specs.Calls.{Call, nothing_sent, sent_in, StopsAt, life_of}
-use Rattle.pid_service_laws.specs.Doubts.{left}
+use Rattle.pid_service_laws.specs.Doubts.{left_at_stop}
 
 -- the words by which a registry is told
 pub record Showing (R : Type 0) : Type 1 where
@@ -49,19 +49,19 @@ module _ {R : Type 0} (w : Showing R) where
   -- The same for every call: each outcome is that of the judgement, over the history so far, and
   -- the registry shows the history after them. Or it has failed between that and the history after
   -- one command more.
-  abbrev pub Leaves : Call → R → History → Type 0
-  Leaves call new h =
+  abbrev pub CallLeaves : Call → R → History → Type 0
+  CallLeaves call new h =
       AreJudged h call.sent
       × (w.shows new (after_sent h call.sent)
       ⊎ ((c : Asked) × (call.stopped ≡ Some c)
-      × w.fails_between new (left (after_sent h call.sent) c false)
-      (left (after_sent h call.sent) c true)))
+      × w.fails_between new (left_at_stop (after_sent h call.sent) c false)
+      (left_at_stop (after_sent h call.sent) c true)))
 
   -- what a call does, from the registry before it to the registry after it
   pub record Does (old : R) (call : Call) (new : R) : Type 0 where
     pub clean : w.is_clean new → w.is_clean old
     -- one that is live, while the disk returns what was written
-    pub live : w.is_clean new → (h : History) → w.shows old h → Leaves call new h
+    pub live : w.is_clean new → (h : History) → w.shows old h → CallLeaves call new h
     -- one that has failed obeys nothing, and stays so
     pub failed : (h next : History) → w.fails_between old h next
         → (call ≡ nothing_sent) × w.fails_between new h next
@@ -72,20 +72,6 @@ module _ {R : Type 0} (w : Showing R) where
   CallsLead old (call ∷ calls) new = (between : R) × Does old call between
       × CallsLead between calls new
 
-  -- a later opening finds what the registry showed; where it had failed, the one history or the
-  -- other
-  pub record Finds (ended opened : R) : Type 0 where
-    pub clean : w.is_clean opened → w.is_clean ended
-    pub shown : w.is_clean opened → (h : History) → w.shows ended h → w.shows opened h
-    pub either : w.is_clean opened → (h next : History) → w.fails_between ended h next
-        → w.shows opened h ⊎ w.shows opened next
-
-  -- lives in turn, each told by its calls, lead from an opening to an opening
-  abbrev pub LivesLead : R → List (List Call) → R → Type 0
-  LivesLead opened [] last = last ≡ opened
-  LivesLead opened (calls ∷ lives) last = (ended next : R) × CallsLead opened calls ended
-      × Finds ended next × LivesLead next lives last
-
   -- After the calls of a life: each outcome is that of the judgement, and the registry shows the
   -- history after the life, without a doubt. Or it has failed at a command: the history after the
   -- life where that does not stand, or where it does.
@@ -95,3 +81,12 @@ module _ {R : Type 0} (w : Showing R) where
         ⊎ ((c : Asked) × StopsAt c calls
         × w.fails_between ended (after_life h (life_of calls (InDoubt c false)))
         (after_life h (life_of calls (InDoubt c true))))
+
+module _ {R T : Type 0} (w : Showing R) (u : Showing T) where
+  -- A later opening, maybe over another store, shows what the registry showed; where that had
+  -- failed, the one history or the other.
+  pub record ShowsAgain (ended : R) (opened : T) : Type 0 where
+    pub clean : u.is_clean opened → w.is_clean ended
+    pub shown : u.is_clean opened → (h : History) → w.shows ended h → u.shows opened h
+    pub either : u.is_clean opened → (h next : History) → w.fails_between ended h next
+        → u.shows opened h ⊎ u.shows opened next

@@ -4,8 +4,9 @@ ghost use Rattle.pid_service_laws.specs.CallLaws.{
   CallsAreALife,
   DoubtsEndWhenSentAgain,
   LookingDoes,
+  NoLifeIsAPrefix,
   ObeyingDoes,
-  OpeningsFindPrefixes,
+  OneLifeMore,
   RunningDoes,
 };
 ghost use Rattle.pid_service_laws.specs.Registries.{Showing};
@@ -35,22 +36,24 @@ pub fn calls_make_a_life<R: ShowsHistories>()
     ensures { CallsAreALife R.showing }
 {}
 
-/// The crash prefix. Let a registry be opened that shows a history to which commands led from its
-/// beginning: a new one shows no command. Then others are opened, each finding what a stop of the
-/// one before it may leave. The last one shows the history after that one and a prefix of the
-/// commands of each life, joined in order, which holds every acknowledged one and has kept its
-/// mark. All while the disk returns what was written.
-pub fn openings_find_prefixes<R: ShowsHistories>()
-    ensures { OpeningsFindPrefixes R.showing }
+/// The crash prefix, life by life. Let a registry be opened that shows a history to which commands
+/// led from its beginning: a new one shows no command. After any calls it ends anywhere, and
+/// another is opened, maybe over another store, that shows again what a stop may have left. That
+/// one shows the history after the first one's and a prefix of the commands of each life, joined in
+/// order, which holds every acknowledged one and has kept its mark; and so does each one after it.
+/// All while the disk returns what was written.
+pub fn openings_find_prefixes<R: ShowsHistories, T: ShowsHistories>()
+    ensures none { NoLifeIsAPrefix }
+    ensures more { OneLifeMore R.showing T.showing }
 {
-    keys_stand_once();
-    marks_stay();
+    keys_stand_once(); // proof only
+    marks_stay(); // proof only
 }
 
 /// A command under a key was in doubt, and after another opening it is sent again: the first
 /// command with an outcome there, maybe behind questions, and others that count as not sent. Then
 /// its outcome is that of the judgement before the doubt, and the registry shows the history after
 /// the one command, whichever way the doubt went.
-pub fn doubts_end_when_sent_again<R: ShowsHistories>()
-    ensures { DoubtsEndWhenSentAgain R.showing }
+pub fn doubts_end_when_sent_again<R: ShowsHistories, T: ShowsHistories>()
+    ensures { DoubtsEndWhenSentAgain R.showing T.showing }
 {}

@@ -7,16 +7,16 @@ ghost use Rattle.pid_moderation.specs.Sound.{IsSound};
 ghost use Rattle.pid_moderation.specs.Views.{Views};
 ghost use Rattle.pid_moderation.specs.WellMade.{AreWellMade};
 ghost use Rattle.pid_service_laws.specs.Acknowledged.{HoldsLives};
-ghost use Rattle.pid_service_laws.specs.Doubts.{left};
+ghost use Rattle.pid_service_laws.specs.Doubts.{left_at_stop};
 ghost use Rattle.pid_service_laws.specs.KeptReplies.{KeepsLives};
 ghost use Rattle.pid_service_laws.specs.LifeLaws.{
   HasKey,
   IsOutcomesAndDoubt,
   IsRefusedOver,
-  IsSettled,
+  EndsAlike,
   JoinsPrefixes,
   all_prefixes,
-  left_by,
+  history_left,
 };
 ghost use Rattle.pid_service_laws.specs.Lives.{AreLives, Life, prefix_of};
 ghost use Rattle.pid_service_laws.specs.Outcomes.{is_outcome};
@@ -32,24 +32,24 @@ use pid_moderation::{histories_are_sound, keys_stand_once, marks_stay};
 pub fn lives_are_prefixes()
     ensures prefix { (life : Life) → IsOutcomesAndDoubt life (prefix_of life) }
     ensures joined { (mark : ℕ) (lives : List Life)
-        → JoinsPrefixes mark lives (left_by mark lives) }
+        → JoinsPrefixes mark lives (history_left mark lives) }
     ensures holds { (mark : ℕ) (lives : List Life)
-        → AreLives (Begins mark) lives → HoldsLives (left_by mark lives) lives }
+        → AreLives (Begins mark) lives → HoldsLives (history_left mark lives) lives }
     ensures kept { (mark : ℕ) (lives : List Life)
-        → AreLives (Begins mark) lives → KeepsLives (left_by mark lives) lives }
+        → AreLives (Begins mark) lives → KeepsLives (history_left mark lives) lives }
     ensures sound { (mark : ℕ) (lives : List Life)
-        → AreWellMade (all_prefixes lives) → IsSound (left_by mark lives) }
+        → AreWellMade (all_prefixes lives) → IsSound (history_left mark lives) }
 {
-    histories_are_sound();
-    keys_stand_once();
-    marks_stay();
+    histories_are_sound(); // proof only
+    keys_stand_once(); // proof only
+    marks_stay(); // proof only
 }
 
 /// A command under a key that was in doubt, and is sent again as the next one, has the outcome and
 /// leaves the history that it would have had without the stop, whichever way that went.
 pub fn doubts_end()
     ensures { (h : History) (c : Asked) (stands : Bool)
-        → HasKey c → IsSettled h (left h c stands) c }
+        → HasKey c → EndsAlike h (left_at_stop h c stands) c }
 {}
 
 /// What the judgement answers is an outcome: a reply, or a refusal with a number from 1 to 15.

@@ -10,8 +10,8 @@ use Rattle.pid_service.specs.Exports.{TakesWholeLines}
 
 -- the whole text; a front of it, and not all, where the writer failed; whole lines of it where the
 -- tables did
-abbrev pub Exports : {X : Type 0} → Result X ExportEnd → Option (List ℕ) → Option (List ℕ) → Items
-    → Type 0
-Exports (Ok x) old new items = Appends old new (text_of_items items)
-Exports (Err (Write fault)) old new items = SendsFront old new (text_of_items items)
-Exports (Err (Tables fault)) old new items = TakesWholeLines old new items
+abbrev pub WritesItems : {X : Type 0} → Result X ExportEnd → Option (List ℕ) → Option (List ℕ)
+    → Items → Type 0
+WritesItems (Ok x) old new items = Appends old new (text_of_items items)
+WritesItems (Err (Write fault)) old new items = SendsFront old new (text_of_items items)
+WritesItems (Err (Tables fault)) old new items = TakesWholeLines old new items

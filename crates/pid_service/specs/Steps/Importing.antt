@@ -49,7 +49,7 @@ EndSpares (Err Body) h c = Unit {0}
 
 module _ {S : Type 0} (store : Ghosts S) where
   -- the registry shows a history, over which the import hangs on its file, and it can go on
-  pub record IsWaiting (r : Registry S store) (facts : Facts) (items : ℕ) (command : Command)
+  pub record HangsOnFile (r : Registry S store) (facts : Facts) (items : ℕ) (command : Command)
       (h : History) (c : Asked) : Type 0 where
     pub shows : Shows store r h
     pub import : is_import command.act ≡ true
@@ -61,7 +61,7 @@ module _ {S : Type 0} (store : Ghosts S) where
   abbrev pub CarriesText : Registry S store → Registry S store → Result Reply ImportEnd → Facts → ℕ
       → Command → List ℕ → Type 0
   CarriesText old new result facts items command text = HasCleanDisk store new → (h : History)
-      → IsWaiting old facts items command h (asked command (file_reading text))
+      → HangsOnFile old facts items command h (asked command (file_reading text))
       → ObeysImport store result new h (asked command (file_reading text))
 
   -- the same of an import, whatever was known of it; and no name is kept in memory, or it leaves

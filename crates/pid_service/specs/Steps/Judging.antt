@@ -17,11 +17,11 @@ use Rattle.pid_service.specs.Histories.{IsFault, IsReached}
 -- A reply that was kept changes nothing. An accepted command has a change, which leads from what
 -- the history shows to what it shows with the command. A refusal is that of the judgement and
 -- changes nothing, or memory was short or the store failed.
-abbrev pub Judges : History → Asked → Result Judged Refusal → Type 0
-Judges h c (Ok (Kept reply)) = (answer (judge (views_of h) c) ≡ Ok reply) × (after h c ≡ h)
-Judges h c (Ok (Accepted change reply)) = (answer (judge (views_of h) c) ≡ Ok reply)
+abbrev pub JudgesCommand : History → Asked → Result Judged Refusal → Type 0
+JudgesCommand h c (Ok (Kept reply)) = (answer (judge (views_of h) c) ≡ Ok reply) × (after h c ≡ h)
+JudgesCommand h c (Ok (Accepted change reply)) = (answer (judge (views_of h) c) ≡ Ok reply)
     × (views_of (after h c) ≡ changed change (views_of h)) × Fits change (views_of h)
-Judges h c (Err e) = ((answer (judge (views_of h) c) ≡ Err e) × (after h c ≡ h)) ⊎ IsFault e
+JudgesCommand h c (Err e) = ((answer (judge (views_of h) c) ≡ Err e) × (after h c ≡ h)) ⊎ IsFault e
 
 module _ {S : Type 0} (store : Ghosts S) where
   -- while the disk returns what was written, this holds of the history that the tables showed, and

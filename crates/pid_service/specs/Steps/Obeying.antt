@@ -13,7 +13,7 @@ use Rattle.pid_service.specs.declared.registry.Registry.{Registry}
 use Rattle.pid_service.specs.Histories.{IsFault, IsReached, Shows}
 use Rattle.pid_service.specs.KeptViews.{kept_by, nothing}
 use Rattle.pid_service.specs.Registries.{is_live}
-use Rattle.pid_service.specs.Steps.Judging.{Judges}
+use Rattle.pid_service.specs.Steps.Judging.{JudgesCommand}
 
 -- The registry is as live as before. Or it does not tell that it had failed, and memory was short
 -- or the store failed.
@@ -33,7 +33,7 @@ module _ {S : Type 0} (store : Ghosts S) where
       (c : Asked) : Type 0 where
     pub shows : Shows store r h
     pub reached : IsReached (after h c)
-    pub judged : Judges h c (Ok (Accepted change reply))
+    pub judged : JudgesCommand h c (Ok (Accepted change reply))
 
   -- the reply was answered, and the registry is as live as before; or it has failed
   abbrev pub LivesOrFails : Result Reply Refusal → Registry S store → Registry S store → Type 0

@@ -2,7 +2,7 @@ use Rattle.std.proofs.Common.{◌≡◌, rules, [], ◌∷◌, Some}
 use Rattle.std.proofs.lemmas.Result.{err_from_is_err_and}
 use Rattle.std.specs.Io.KnownBytes.{Appends}
 use Rattle.pid_tree.specs.Printing.{ended, header}
-use Rattle.pid_service.specs.Steps.Exports.{Exports}
+use Rattle.pid_service.specs.Steps.Exports.{WritesItems}
 use Rattle.pid_service.specs.ItemTexts.{text_of_items}
 use Rattle.pid_service.proofs.WalkEnds.{fault_told, header_stopped, walk_same, all_exported, some_exported}
 use Rattle.pid_service.proofs.item_text.export_items.Goals as goal
@@ -23,7 +23,7 @@ returns-in_err-each_item-clause-printed g c clean v rest =
     let p = err_from_is_err_and result c.from_residual-in_err-each_item.ensures.1 in
     let name : end.out.ghost_name ≡ start.out.ghost_name = walk_same taken write_fault c.each_item.result start end c.each_item.ensures.some in
     let head : Appends (taken c.args.out.now) (taken start.out.now) (ended (header ∷ [])) = rw c.new-sink.ensures.now c.in_ok-write_header.ensures.sent in
-    let told : Exports result (taken c.args.out.now) (taken end.out.now) v.items =
+    let told : WritesItems result (taken c.args.out.now) (taken end.out.now) v.items =
     some_exported taken write_fault (taken c.args.out.now) start c.new-sink.ensures.first head c.in_err-each_item.field-0.0 result _ end v.items p.1 p.2 (c.in_err-each_item.ensures.told clean v rest) in
     search rules
 

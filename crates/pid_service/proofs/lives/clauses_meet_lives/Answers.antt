@@ -4,27 +4,19 @@ use Rattle.pid_service.proofs.ImportLives.{LooksLaw, ObeysLaw, import_lives}
 use Rattle.pid_service.proofs.RunLives.{run_lives}
 use Rattle.pid_service.proofs.lives.clauses_meet_lives.Goals as goal
 
-pub returns-clause-obeys : goal.returns-clause-obeys
-returns-clause-obeys g c old new asked result clean failed told =
-    c.calls_do.ensures.obeys old new asked result (is_live new) clean told
-    (λ h next between. let is = failed between.has_failed in (is.0, still_between g.S.Store old new h next is.1 between))
-    (λ h next between. between.has_failed)
-
-pub returns-clause-imports : goal.returns-clause-imports
-returns-clause-imports g c =
+pub returns : goal.returns
+returns g c =
     let obeys : ObeysLaw g.S.Store = λ old new asked result clean failed told. c.calls_do.ensures.obeys old new asked result (is_live new) clean told
     (λ h next between. let is = failed between.has_failed in (is.0, still_between g.S.Store old new h next is.1 between))
     (λ h next between. between.has_failed) in
     let looks : LooksLaw g.S.Store = λ old new clean failed told. c.calls_do.ensures.looks old new clean told
     (λ h next between. still_between g.S.Store old new h next (failed between.has_failed) between) in
-    import_lives g.S.Store obeys looks
-
-pub returns-clause-runs : goal.returns-clause-runs
-returns-clause-runs g c old new commands report clean failed told =
-    c.calls_do.ensures.runs old new commands report.replies.items report.fault (is_live new) clean (λ disk h shows. run_lives g.S.Store report new h commands (told disk h shows))
-    (λ h next between. let is = failed between.has_failed in (is.0, is.1, still_between g.S.Store old new h next is.2 between))
-    (λ h next between. between.has_failed)
-
-pub returns-clause-looks : goal.returns-clause-looks
-returns-clause-looks g c old new clean failed told =
-    c.calls_do.ensures.looks old new clean told (λ h next between. still_between g.S.Store old new h next (failed between.has_failed) between)
+    record {
+      obeys = obeys;
+      imports = import_lives g.S.Store obeys looks;
+      runs = λ old new commands report clean failed told.
+          c.calls_do.ensures.runs old new commands report.replies.items report.fault (is_live new) clean (λ disk h shows. run_lives g.S.Store report new h commands (told disk h shows))
+          (λ h next between. let is = failed between.has_failed in (is.0, is.1, still_between g.S.Store old new h next is.2 between))
+          (λ h next between. between.has_failed);
+      looks = looks;
+    }

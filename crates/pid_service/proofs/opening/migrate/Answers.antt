@@ -15,20 +15,24 @@ returns-in-Ok-clause-at_once g c off =
     let new = state g.S.Store c.migrate.new.conn in
     record {
       settled = c.migrate.ensures.at_once.settled;
-      clean = c.migrate.ensures.at_once.clean;
       once = c.migrate.ensures.at_once.once;
       back = tt;
       unchanged = λ is. seen_back old new (c.is_autocommit.ensures.settled (c.is_autocommit.ensures.value ∙ ap not off)) (reads_back old new (c.in-Ok.ensures.judged.only_read is));
       only_read = λ is. c.in-Ok.ensures.judged.only_read is;
     }
 
-pub returns-in-Ok-clause-shown : goal.returns-in-Ok-clause-shown
-returns-in-Ok-clause-shown g c off = record {
+pub returns-in-Ok-clause-history : goal.returns-in-Ok-clause-history
+returns-in-Ok-clause-history g c = record {
+  clean = c.migrate.ensures.at_once.clean;
   created = λ bare clean. c.in-Ok.ensures.shown.created clean bare;
   moved = λ h reached older clean. c.in-Ok.ensures.shown.moved clean h (c.reached_histories_are_kept.ensures.sound h reached) older;
   already = λ h reached rest clean.
       let so = c.in-Ok.ensures.shown.already clean (views_of h) (rests_in_two (state g.S.Store c.args.conn) (views_of h) rest) in
       (so.0, so.1.kept (views_of h) rest);
+}
+
+pub returns-in-Ok-clause-shown : goal.returns-in-Ok-clause-shown
+returns-in-Ok-clause-shown g c off = record {
   left_alone = λ v rest clean. let so = c.in-Ok.ensures.shown.already clean v rest in (so.1, so.0);
   explained = λ v rest clean. tt;
   kept = λ clean version v rest. c.in-Ok.ensures.shown.kept clean version v rest;
@@ -39,10 +43,6 @@ returns-in-Ok-clause-judged g c off = record {
   told = λ clean some. c.in-Ok.ensures.judged.found clean some;
   named = λ clean is. c.in-Ok.ensures.judged.named clean is;
   latest = λ clean opened. c.in-Ok.ensures.judged.latest clean opened;
-}
-
-pub returns-in-Ok-clause-none : goal.returns-in-Ok-clause-none
-returns-in-Ok-clause-none g c off = record {
   bare = λ clean none. c.in-Ok.ensures.none.bare clean none;
   met = λ clean none met. c.in-Ok.ensures.none.met clean none met;
   shut = λ clean closed. c.in-Ok.ensures.none.shut clean closed;
@@ -53,20 +53,24 @@ returns-in-Ok-clause-none g c off = record {
 pub returns-in-Err-clause-at_once : goal.returns-in-Err-clause-at_once
 returns-in-Err-clause-at_once g c off = record {
   settled = c.migrate.ensures.at_once.settled;
-  clean = c.migrate.ensures.at_once.clean;
   once = c.migrate.ensures.at_once.once;
   back = c.in-Err.ensures.at_once.back;
   unchanged = seen_back (state g.S.Store c.args.conn) (state g.S.Store c.migrate.new.conn) (c.is_autocommit.ensures.settled (c.is_autocommit.ensures.value ∙ ap not off)) c.in-Err.ensures.at_once.back;
   only_read = λ clean told. c.in-Err.ensures.at_once.unchanged clean told;
 }
 
-pub returns-in-Err-clause-shown : goal.returns-in-Err-clause-shown
-returns-in-Err-clause-shown g c off = record {
+pub returns-in-Err-clause-history : goal.returns-in-Err-clause-history
+returns-in-Err-clause-history g c = record {
+  clean = c.migrate.ensures.at_once.clean;
   created = λ bare clean. let so = c.in-Err.ensures.shown.created clean bare in (so.0, inr (inr (so.1, refl)));
   moved = λ h reached older clean. let so = c.in-Err.ensures.shown.moved clean h (c.reached_histories_are_kept.ensures.sound h reached) older in (so.0, inr (inl so.1));
   already = λ h reached rest clean.
       let so = c.in-Err.ensures.shown.already clean (views_of h) (rests_in_two (state g.S.Store c.args.conn) (views_of h) rest) in
       (so.0, inl (so.1.kept (views_of h) rest));
+}
+
+pub returns-in-Err-clause-shown : goal.returns-in-Err-clause-shown
+returns-in-Err-clause-shown g c off = record {
   left_alone = λ v rest clean. let so = c.in-Err.ensures.shown.already clean v rest in (so.1, so.0);
   explained = λ v rest clean. c.in-Err.ensures.shown.told clean v rest;
   kept = λ clean. tt;
@@ -77,10 +81,6 @@ returns-in-Err-clause-judged g c off = record {
   told = λ clean some. c.in-Err.ensures.judged.found clean some;
   named = λ clean. tt;
   latest = λ clean. tt;
-}
-
-pub returns-in-Err-clause-none : goal.returns-in-Err-clause-none
-returns-in-Err-clause-none g c off = record {
   bare = λ clean none. c.in-Err.ensures.none.bare clean none;
   met = λ clean none met. c.in-Err.ensures.none.met clean none met;
   shut = λ clean closed. c.in-Err.ensures.none.shut clean closed;

@@ -13,12 +13,11 @@ use Rattle.pid_service.proofs.opening.open.Goals as goal
 
 -- ---- no memory for the names
 
-pub returns-in_default-clause-opens : goal.returns-in_default-clause-opens
-returns-in_default-clause-opens g c off = record {
-  lives = tt;
-  opened = λ h reached shown clean. (tt, shown);
-  kept = record { judged = λ clean. tt; kept = λ clean. tt };
-}
+pub returns-in_default-clause-history : goal.returns-in_default-clause-history
+returns-in_default-clause-history g c = record { clean = λ clean. clean; opened = λ h reached shown clean. (tt, shown) }
+
+pub returns-in_default-clause-registry : goal.returns-in_default-clause-registry
+returns-in_default-clause-registry g c off = record { lives = tt; kept = record { judged = λ clean. tt; kept = λ clean. tt } }
 
 pub returns-in_default-clause-at_once : goal.returns-in_default-clause-at_once
 returns-in_default-clause-at_once g c off =
@@ -40,18 +39,21 @@ returns-in_default-clause-explains g c off =
 
 -- ---- it is opened
 
-pub returns-in-Ok-make_ready-clause-opens : goal.returns-in-Ok-make_ready-clause-opens
-returns-in-Ok-make_ready-clause-opens g c off =
+pub returns-in-Ok-make_ready-clause-history : goal.returns-in-Ok-make_ready-clause-history
+returns-in-Ok-make_ready-clause-history g c =
+    let once = at_once_of c.new-tables.ensures refl c.in-Ok-make_ready.ensures.at_once in
     record {
-      lives = refl;
+      clean = once.clean;
       opened = λ h reached shown clean. record {
         lives = refl;
         history = reached;
         tables = c.in-Ok-make_ready.ensures.ready clean h reached (subst (λ k. ShowsOrBlank g.S.Store k h) (sym c.new-tables.ensures) shown);
         kept = λ clean. nothing_kept c.in-Ok.kept (views_of h) c.in-Ok.ensures;
       };
-      kept = kept_of c.new-tables.ensures refl c.in-Ok-make_ready.ensures.kept;
     }
+
+pub returns-in-Ok-make_ready-clause-registry : goal.returns-in-Ok-make_ready-clause-registry
+returns-in-Ok-make_ready-clause-registry g c off = record { lives = refl; kept = kept_of c.new-tables.ensures refl c.in-Ok-make_ready.ensures.kept }
 
 pub returns-in-Ok-make_ready-clause-at_once : goal.returns-in-Ok-make_ready-clause-at_once
 returns-in-Ok-make_ready-clause-at_once g c off = at_once_of c.new-tables.ensures refl c.in-Ok-make_ready.ensures.at_once
@@ -61,14 +63,18 @@ returns-in-Ok-make_ready-clause-explains g c off = explains_of c.new-tables.ensu
 
 -- ---- the connection comes back
 
-pub returns-in-Err-clause-opens : goal.returns-in-Err-clause-opens
-returns-in-Err-clause-opens g c off = record {
-  lives = tt;
-  opened = λ h reached.
-      moved (λ x y. ShowsOrBlank g.S.Store x h → HasCleanDisk g.S.Store y → IsMemoryOrStore c.in-Err.fault × ShowsOrBlank g.S.Store y h) c.new-tables.ensures c.into_conn.ensures
-      (λ shown clean. c.in-Err.ensures.ready clean h reached shown);
-  kept = record { judged = λ clean. tt; kept = λ clean. tt };
-}
+pub returns-in-Err-clause-history : goal.returns-in-Err-clause-history
+returns-in-Err-clause-history g c =
+    let once = at_once_of c.new-tables.ensures c.into_conn.ensures c.in-Err.ensures.at_once in
+    record {
+      clean = once.clean;
+      opened = λ h reached.
+          moved (λ x y. ShowsOrBlank g.S.Store x h → HasCleanDisk g.S.Store y → IsMemoryOrStore c.in-Err.fault × ShowsOrBlank g.S.Store y h) c.new-tables.ensures c.into_conn.ensures
+          (λ shown clean. c.in-Err.ensures.ready clean h reached shown);
+    }
+
+pub returns-in-Err-clause-registry : goal.returns-in-Err-clause-registry
+returns-in-Err-clause-registry g c off = record { lives = tt; kept = record { judged = λ clean. tt; kept = λ clean. tt } }
 
 pub returns-in-Err-clause-at_once : goal.returns-in-Err-clause-at_once
 returns-in-Err-clause-at_once g c off = at_once_of c.new-tables.ensures c.into_conn.ensures c.in-Err.ensures.at_once

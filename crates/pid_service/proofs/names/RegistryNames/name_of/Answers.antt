@@ -14,7 +14,7 @@ use Rattle.sqlite.specs.Held.{state}
 use Rattle.pid_moderation.specs.declared.refusal.Refusal.TheVariants.{Memory, Store}
 use Rattle.pid_tables_rows.specs.declared.fault.TableFault.TheVariants as faults
 use Rattle.pid_tables_rows.proofs.CauseLemmas.{caused_later}
-use Rattle.pid_service.specs.Asking.{HasCause, MayGive}
+use Rattle.pid_service.specs.Asking.{FaultIsCaused, MayGive}
 use Rattle.pid_service.specs.Registries.{HasCleanDisk, OnlyAsked, OnlyReads, connection}
 use Rattle.pid_service.proofs.Questions.{asked_then}
 use Rattle.pid_service.proofs.names.RegistryNames.name_of.Goals as goal
@@ -64,13 +64,13 @@ returns-clause-kept g c =
           (asked_then g.S.Store start c.args.self.now c.known.new.self on c.known.ensures.lives c.known.ensures.rests asked);
     }
 
-since : {S : Type 0} (store : Ghosts S) (start old new : Registry S store) (e : Refusal) → OnlyAsked store start old → OnlyReads store old new → HasCleanDisk store new → HasCause store old new e → HasCause store start new e
+since : {S : Type 0} (store : Ghosts S) (start old new : Registry S store) (e : Refusal) → OnlyAsked store start old → OnlyReads store old new → HasCleanDisk store new → FaultIsCaused store old new e → FaultIsCaused store start new e
 since store start old new Memory asked reads clean cause = tt
 since store start old new Store asked reads clean cause =
     caused_later (state store (connection start)) (state store (connection old)) (state store (connection new)) (λ _. ⊥) faults.Store asked.rests.survives reads.survives.counts (reads.clean clean) cause
 since store start old new e asked reads clean cause = cause
 
-since_all : {S : Type 0} (store : Ghosts S) (start old new : Registry S store) {X : Type 0} (r : Result X Refusal) → OnlyAsked store start old → OnlyReads store old new → HasCleanDisk store new → IfErr r (λ e. HasCause store old new e) → IfErr r (λ e. HasCause store start new e)
+since_all : {S : Type 0} (store : Ghosts S) (start old new : Registry S store) {X : Type 0} (r : Result X Refusal) → OnlyAsked store start old → OnlyReads store old new → HasCleanDisk store new → IfErr r (λ e. FaultIsCaused store old new e) → IfErr r (λ e. FaultIsCaused store start new e)
 since_all store start old new (Ok x) asked reads clean cause = tt
 since_all store start old new (Err e) asked reads clean cause = since store start old new e asked reads clean cause
 

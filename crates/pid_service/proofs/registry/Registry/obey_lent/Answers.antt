@@ -3,14 +3,13 @@ use Rattle.pid_moderation.specs.History.{Asked, History, is_import}
 use Rattle.pid_moderation.specs.CheckTables.{is_broken}
 use Rattle.pid_moderation.specs.Judgement.{answer}
 use Rattle.pid_moderation.specs.Views.{items_of, views_of}
-use Rattle.pid_moderation.specs.declared.refusal.Refusal.TheVariants.{BadText}
 use Rattle.pid_tables.specs.Files.{asks, file_of, file_reading}
 use Rattle.pid_service.specs.declared.judging.Judged.{Judged}
 use Rattle.pid_service.specs.declared.judging.Judged.TheVariants.{Accepted}
 use Rattle.pid_service.specs.Histories.{Shows}
 use Rattle.pid_service.specs.Obeying.{Obeys}
 use Rattle.pid_service.specs.Registries.{HasCleanDisk}
-use Rattle.pid_service.specs.Steps.Judging.{Judges}
+use Rattle.pid_service.specs.Steps.Judging.{JudgesCommand}
 use Rattle.pid_service.specs.Steps.Obeying.{SparesNames}
 use Rattle.pid_service.proofs.Imported.{file_given}
 use Rattle.pid_service.proofs.Lasting.{carried, lasting, not_failed}
@@ -95,7 +94,7 @@ returns-in-Ok-Kept-clause-does g c =
       form = search rules;
       obeyed = λ clean h shows.
           kept g.S.Store _ h (asks c.args.command.now) c.in-Ok-Kept.reply (only_read g.S.Store c.args.self.now _ h refl c.judge.ensures.rests refl shows)
-          (subst (λ (j : Judged). Judges h (asks c.args.command.now) (Ok j)) c.in-Ok-Kept.field-0-is (c.in-Ok-Kept.ensures.judged clean h reading shows.history shows.tables other));
+          (subst (λ (j : Judged). JudgesCommand h (asks c.args.command.now) (Ok j)) c.in-Ok-Kept.field-0-is (c.in-Ok-Kept.ensures.judged clean h reading shows.history shows.tables other));
       caused = λ clean h shows same. tt;
       forgets = λ clean h shows same. inr (only_read g.S.Store c.args.self.now _ h refl c.judge.ensures.rests refl shows);
       lasts = lasting g.S.Store c.args.self.now _ _ refl;
@@ -104,7 +103,7 @@ returns-in-Ok-Kept-clause-does g c =
 pub returns-in-Ok-Kept-clause-spares : goal.returns-in-Ok-Kept-clause-spares
 returns-in-Ok-Kept-clause-spares g c clean h shows =
     let other : is_import c.args.command.now.act ≡ false = search rules in
-    let told = subst (λ (j : Judged). Judges h (asks c.args.command.now) (Ok j)) c.in-Ok-Kept.field-0-is (c.in-Ok-Kept.ensures.judged clean h (file_reading (file_of c.args.command.now.act)) shows.history shows.tables other) in
+    let told = subst (λ (j : Judged). JudgesCommand h (asks c.args.command.now) (Ok j)) c.in-Ok-Kept.field-0-is (c.in-Ok-Kept.ensures.judged clean h (file_reading (file_of c.args.command.now.act)) shows.history shows.tables other) in
     inr (inl (ap items_of told.1))
 
 -- ---- a change
@@ -113,8 +112,8 @@ pub returns-in-Ok-Accepted-clause-does : goal.returns-in-Ok-Accepted-clause-does
 returns-in-Ok-Accepted-clause-does g c =
     let reading = file_reading (file_of c.args.command.now.act) in
     let other : is_import c.args.command.now.act ≡ false = search rules in
-    let told : (clean : HasCleanDisk g.S.Store c.carry_out.new.self) (h : History) (shows : Shows g.S.Store c.args.self.now h) → Judges h (asks c.args.command.now) (Ok (Accepted c.in-Ok-Accepted.change c.in-Ok-Accepted.reply)) =
-    λ clean h shows. subst (λ (j : Judged). Judges h (asks c.args.command.now) (Ok j)) c.in-Ok-Accepted.field-0-is (c.in-Ok-Accepted.ensures.judged (c.carry_out.ensures.clean clean) h reading shows.history shows.tables other) in
+    let told : (clean : HasCleanDisk g.S.Store c.carry_out.new.self) (h : History) (shows : Shows g.S.Store c.args.self.now h) → JudgesCommand h (asks c.args.command.now) (Ok (Accepted c.in-Ok-Accepted.change c.in-Ok-Accepted.reply)) =
+    λ clean h shows. subst (λ (j : Judged). JudgesCommand h (asks c.args.command.now) (Ok j)) c.in-Ok-Accepted.field-0-is (c.in-Ok-Accepted.ensures.judged (c.carry_out.ensures.clean clean) h reading shows.history shows.tables other) in
     record {
       clean = λ clean. c.judge.ensures.rests.clean (c.carry_out.ensures.clean clean);
       failed = search rules;
@@ -148,5 +147,5 @@ returns-in-Ok-Accepted-clause-spares g c clean h shows =
     (record {
       shows = only_read g.S.Store c.args.self.now _ h refl c.judge.ensures.rests refl shows;
       reached = c.commands_lead_on.ensures h (asks c.args.command.now) shows.history (well_made c.args.command.now reading other c.command_is_well_made.ensures);
-      judged = subst (λ (j : Judged). Judges h (asks c.args.command.now) (Ok j)) c.in-Ok-Accepted.field-0-is (c.in-Ok-Accepted.ensures.judged (c.carry_out.ensures.clean clean) h reading shows.history shows.tables other);
+      judged = subst (λ (j : Judged). JudgesCommand h (asks c.args.command.now) (Ok j)) c.in-Ok-Accepted.field-0-is (c.in-Ok-Accepted.ensures.judged (c.carry_out.ensures.clean clean) h reading shows.history shows.tables other);
     }))

@@ -1,7 +1,7 @@
 use Rattle.std.proofs.Common.{◌≡◌, ◌<◌, [], inl, length, refl, rules, subst, sym}
 use Rattle.std.specs.List.{AllByRecursion}
 use Rattle.pid_moderation.specs.declared.refusal.Refusal.TheVariants.{Memory}
-use Rattle.pid_service.specs.Running.{DoesNotTellFailed}
+use Rattle.pid_service.specs.Running.{ReplyIsNotFailed}
 use Rattle.pid_tables.specs.Files.{asks}
 use Rattle.std.specs.Prelude.{map}
 use Rattle.pid_service.proofs.Lasting.{fault_so, given_live, most_so, stays_so}
@@ -38,5 +38,5 @@ returns-in-Err g c =
       forgets = λ clean h shows. forgets_none g.S.Store _ c.args.self.now h (map asks c.args.commands.now) none shows;
       stays = λ on fine. on;
       fails = λ on off. inl refl;
-      alive = λ on. subst (AllByRecursion DoesNotTellFailed) (sym none) tt;
+      alive = λ on. subst (AllByRecursion ReplyIsNotFailed) (sym none) tt;
     }

@@ -3,7 +3,7 @@ use Rattle.pid_moderation.specs.History.{Asked}
 use Rattle.pid_moderation.specs.Judgement.{after_all}
 use Rattle.pid_tables.specs.Files.{asks}
 use Rattle.std.specs.List.{AllByRecursion}
-use Rattle.pid_service.specs.Running.{DoesNotTellFailed}
+use Rattle.pid_service.specs.Running.{ReplyIsNotFailed}
 use Rattle.pid_service.proofs.Lasting.{all_more, on_after, some_fault}
 use Rattle.pid_service.proofs.Runs.{ends_at, forgets_at, forgets_more, next_is, none_of, none_then, obeyed_more, one_more, so_many}
 use Rattle.pid_service.proofs.registry.Registry.run_into.Goals as goal
@@ -40,8 +40,8 @@ loop-command-preserved g c =
           (rw good at c.push.ensures.items ∙ more.0, more.1),
       λ on. on_after c.obey_lent-outcome.result c.obey_lent-outcome.new.self.live none (λ off. c.obey_lent-outcome.ensures.does.lasts.fails (c.loop-command.invariant.5 on) off),
       λ on.
-          subst (AllByRecursion DoesNotTellFailed) (sym (rw good at c.push.ensures.items))
-          (all_more DoesNotTellFailed c.loop-command.replies.items c.obey_lent-outcome.result (c.loop-command.invariant.6 on) (c.obey_lent-outcome.ensures.does.lasts.alive (c.loop-command.invariant.5 on))),
+          subst (AllByRecursion ReplyIsNotFailed) (sym (rw good at c.push.ensures.items))
+          (all_more ReplyIsNotFailed c.loop-command.replies.items c.obey_lent-outcome.result (c.loop-command.invariant.6 on) (c.obey_lent-outcome.ensures.does.lasts.alive (c.loop-command.invariant.5 on))),
       λ clean h shows.
           let was = c.obey_lent-outcome.ensures.does.clean clean in
           forgets_more _ _ c.obey_lent-outcome.result h (take i all) (take (i + 1) all) (asks c.command-item.result)
