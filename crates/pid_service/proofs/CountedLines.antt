@@ -1,6 +1,7 @@
 -- What a sink that adds up lengths has counted of items, and how long their text may be.
-use Rattle.std.proofs.Common.{◌≡◌, ℕ, ◌+◌, ◌*◌, ◌<◌, ◌≤◌, ◌^◌, Bool, true, false, List, [], ◌∷◌, ◌++◌, length, map, Option, None, reverse, refl, sym, ap, subst, ◌∙◌, arith, length-append, length-take}
-use Rattle.std.specs.Prelude.{if◌then◌else◌, codes, take, drop}
+use Rattle.std.proofs.Common.{◌≡◌, ℕ, ◌+◌, ◌*◌, ◌<◌, ◌≤◌, ◌^◌, Bool, true, false, List, [], ◌∷◌, ◌++◌, length, map, Option, Some, None, IfSome, reverse, refl, sym, ap, subst, ◌∙◌, append_assoc, append-nil, arith, length-append, length-take}
+use Rattle.std.specs.Prelude.{if◌then◌else◌, codes, take, drop, Vec}
+use Rattle.std.specs.declared.alloc.Global.{Global}
 use Rattle.std.proofs.lemmas.Bool.Decides.{nat_tests}
 use Rattle.std.proofs.Math.Nat.{min-le_left}
 use Rattle.std.proofs.lemmas.List.{map-append, reverse-append, reverse-reverse}
@@ -16,34 +17,52 @@ use Rattle.pid_tree.specs.Labels.{label}
 use Rattle.pid_tree.specs.Printing.{block_line, ended, header, item_line, label_of, opens_block, text_or_none}
 use Rattle.pid_tree.proofs.Labelled.{label_of_text}
 use Rattle.pid_service.specs.ItemTexts.{text_of_items}
-use Rattle.pid_service.specs.LengthSinks.{CountsItem, length_of_entry}
-use Rattle.pid_service.specs.declared.text_length.LengthSink.{LengthSink}
+use Rattle.pid_service.specs.Steps.TextSinks.{Lengthens, text_in}
+use Rattle.pid_service.specs.TextSinks.{TakesItem, lines_of_entry}
+use Rattle.pid_service.specs.declared.items_text.TextBuffer.{TextBuffer}
+use Rattle.pid_service.specs.declared.items_text.TextSink.{TextSink}
 use Rattle.pid_service.proofs.ItemLines.{last_joined, last_path, text_behind, text_first, text_joined}
 use Rattle.pid_service.proofs.WalkEnds.{placed_items}
 
 -- these items are counted
-pub record HasCounted (s : LengthSink) (items : Items) (t : LengthSink) : Type 0 where
+pub record HasCounted (s : TextSink) (items : Items) (t : TextSink) : Type 0 where
   pub last : text_or_none t.before ≡ last_path (text_or_none s.before) items
   pub counted : s.bytes + length (text_behind (text_or_none s.before) items) < 2 ^ 64 → t.bytes ≡ s.bytes + length (text_behind (text_or_none s.before) items)
+  pub text : Lengthens s.text t.text (text_behind (text_or_none s.before) items)
 
-one_more : (old between new : LengthSink) (items : Items) (entry : Numbered) → HasCounted old items between → CountsItem between entry new → HasCounted old (items ++ item_in entry ∷ []) new
+-- what is kept is the same
+none_more : (text : Option TextBuffer) → Lengthens text text []
+none_more text now is = (now, is, sym (append-nil now))
+
+-- some bytes, and then others
+then_more : (old between new : Option TextBuffer) (first more : List ℕ) → Lengthens old between first → Lengthens between new more → Lengthens old new (first ++ more)
+then_more old between new first more one other now is =
+    let (mid, there, parts) = other now is in
+    let (was, start, front) = one mid there in
+    (was, start, parts ∙ ap (λ (l : List ℕ). l ++ more) front ∙ append_assoc was first more)
+
+one_more : (old between new : TextSink) (items : Items) (entry : Numbered) → HasCounted old items between → TakesItem between entry new → HasCounted old (items ++ item_in entry ∷ []) new
 one_more old between new items entry h step =
     let before = text_or_none old.before in
     let line = item_in entry ∷ [] in
     let whole : length (text_behind before (items ++ line)) ≡ length (text_behind before items) + length (text_behind (last_path before items) line) =
     ap length (text_joined before items line) ∙ length-append (text_behind before items) (text_behind (last_path before items) line) in
-    let here : length_of_entry between entry ≡ length (text_behind (last_path before items) line) = ap (λ (b : List ℕ). length (text_behind b line)) h.last in
+    let lines : lines_of_entry between entry ≡ text_behind (last_path before items) line = ap (λ (b : List ℕ). text_behind b line) h.last in
+    let here : length (lines_of_entry between entry) ≡ length (text_behind (last_path before items) line) = ap length lines in
     record {
       last = step.before ∙ sym (last_joined before items (item_in entry));
       counted = λ fits.
           let so_far : between.bytes ≡ old.bytes + length (text_behind before items) = h.counted (omega (arith, whole, fits)) in
-          let more : new.bytes ≡ between.bytes + length_of_entry between entry = step.counted (omega (arith, whole, here, so_far, fits)) in
+          let more : new.bytes ≡ between.bytes + length (lines_of_entry between entry) = step.counted (omega (arith, whole, here, so_far, fits)) in
           omega (arith, whole, here, so_far, more);
+      text = subst (Lengthens old.text new.text) (sym (text_joined before items line))
+          (then_more old.text between.text new.text (text_behind before items) (text_behind (last_path before items) line) h.text
+          (subst (Lengthens between.text new.text) lines step.text));
     }
 
 -- the last entry is the first here
-took_counted : (old new : LengthSink) (es : List Numbered) → Took CountsItem old es new → HasCounted old (map item_in (reverse es)) new
-took_counted old new [] took = subst (HasCounted old []) (sym took) (record { last = refl; counted = λ fits. omega arith })
+took_counted : (old new : TextSink) (es : List Numbered) → Took TakesItem old es new → HasCounted old (map item_in (reverse es)) new
+took_counted old new [] took = subst (HasCounted old []) (sym took) (record { last = refl; counted = λ fits. omega arith; text = none_more old.text })
 took_counted old new (e ∷ es) (between, took, step) =
     let back : map item_in (reverse (e ∷ es)) ≡ map item_in (reverse es) ++ item_in e ∷ [] = ap (map item_in) (reverse-append (e ∷ []) es) ∙ map-append item_in (reverse es) (e ∷ []) in
     subst (λ (items : Items). HasCounted old items new) (sym back) (one_more old between new (map item_in (reverse es)) e (took_counted old between es took) step)
@@ -106,12 +125,29 @@ fits start first text items is same short few = omega arith
 summed : (bytes start first text whole : ℕ) → start ≡ 18 → first ≡ text → bytes ≡ start + first → whole ≡ 18 + text → bytes ≡ whole
 summed bytes start first text whole is same sum all = omega arith
 
--- a walk over all items has counted their text behind the header
-pub all_counted : (old new : LengthSink) (items : Items) → old.before ≡ None → old.bytes ≡ 18 → Took CountsItem old (reverse (placed_from 1 items)) new → AllItems items → length items < 2 ^ 32
+-- what is kept begins with the header
+head_kept : (text : Option TextBuffer) (was : List ℕ) → IfSome text (λ t. t.taken.items ≡ ended (header ∷ [])) → text_in text ≡ Some was → was ≡ ended (header ∷ [])
+head_kept None was start there = absurd (let no : ⊥ = cc in no)
+head_kept (Some text) was start there = let same : text.taken.items ≡ was = cc in sym same ∙ start
+
+-- a walk over all items
+all_taken : (old new : TextSink) (items : Items) → Took TakesItem old (reverse (placed_from 1 items)) new → HasCounted old items new
+all_taken old new items took =
+    let same : map item_in (reverse (reverse (placed_from 1 items))) ≡ items = ap (map item_in) (reverse-reverse (placed_from 1 items)) ∙ placed_items 1 items in
+    subst (λ (is : Items). HasCounted old is new) same (took_counted old new (reverse (placed_from 1 items)) took)
+
+-- it has counted their text behind the header
+pub all_counted : (old new : TextSink) (items : Items) → old.before ≡ None → old.bytes ≡ 18 → Took TakesItem old (reverse (placed_from 1 items)) new → AllItems items → length items < 2 ^ 32
     → new.bytes ≡ length (text_of_items items)
 all_counted old new items first start took all few =
-    let counted = took_counted old new (reverse (placed_from 1 items)) took in
-    let same : map item_in (reverse (reverse (placed_from 1 items))) ≡ items = ap (map item_in) (reverse-reverse (placed_from 1 items)) ∙ placed_items 1 items in
-    let told : HasCounted old items new = subst (λ (is : Items). HasCounted old is new) same counted in
     let text : length (text_behind (text_or_none old.before) items) ≡ length (text_behind [] items) = ap (λ (b : Option Path). length (text_behind (text_or_none b) items)) first in
-    summed _ _ _ _ _ start text (told.counted (fits _ _ _ _ start text (text_length [] items all) few)) (headed header (text_behind [] items) refl)
+    summed _ _ _ _ _ start text ((all_taken old new items took).counted (fits _ _ _ _ start text (text_length [] items all) few)) (headed header (text_behind [] items) refl)
+
+-- and what it keeps is their text, if the header was kept before
+pub all_kept : (old new : TextSink) (items : Items) (text : Option (Vec ℕ Global)) → old.before ≡ None → IfSome old.text (λ t. t.taken.items ≡ ended (header ∷ [])) → Took TakesItem old (reverse (placed_from 1 items)) new
+    → IfSome text (λ bytes. text_in new.text ≡ Some bytes.items) → IfSome text (λ bytes. bytes.items ≡ text_of_items items)
+all_kept old new items None first start took same = tt
+all_kept old new items (Some bytes) first start took same =
+    let (was, there, parts) = (all_taken old new items took).text bytes.items same in
+    let begun : was ≡ ended (header ∷ []) = head_kept old.text was start there in
+    parts ∙ ap (λ (l : List ℕ). l ++ text_behind (text_or_none old.before) items) begun ∙ ap (λ (b : Option Path). ended (header ∷ []) ++ text_behind (text_or_none b) items) first

@@ -1,6 +1,8 @@
 -- What a registry exports, by what its tables did.
-use Rattle.std.proofs.Common.{◌≡◌, ℕ, List, Option, Result, Ok, Err, refl, sym, ap, subst, ◌∙◌}
+use Rattle.std.proofs.Common.{◌≡◌, ℕ, List, Option, Some, IfSome, Result, Ok, Err, refl, sym, ap, subst, ◌∙◌}
 use Rattle.std.specs.Io.KnownBytes.{Appends}
+use Rattle.std.specs.Prelude.{Vec}
+use Rattle.std.specs.declared.alloc.Global.{Global}
 use Rattle.pid_ident.specs.Sending.{SendsFront}
 use Rattle.pid_file.specs.declared.io.WriteFault.{WriteFault}
 use Rattle.pid_service.specs.declared.item_text.ExportEnd.{ExportEnd}
@@ -8,7 +10,7 @@ use Rattle.pid_service.specs.declared.item_text.ExportEnd.TheVariants as ends
 use Rattle.pid_service.specs.Steps.Exports.{WritesItems}
 use Rattle.pid_service.specs.ItemTexts.{text_of_items}
 use Rattle.pid_moderation.specs.History.{History}
-use Rattle.pid_moderation.specs.Views.{items_of}
+use Rattle.pid_moderation.specs.Views.{items_of, views_of}
 use Rattle.pid_moderation.specs.Writes.{tree_of}
 use Rattle.pid_tree.specs.Printing.{print}
 use Rattle.pid_service.specs.declared.exporting.ExportFault.{ExportFault}
@@ -21,6 +23,13 @@ use Rattle.pid_tables_rows.specs.Clauses as clauses
 use Rattle.pid_tables_rows.specs.declared.fault.TableFault.{TableFault}
 use Rattle.pid_service.specs.Asking.{IsCausedAs}
 use Rattle.pid_service.specs.Exporting.{ExportsTree}
+use Rattle.pid_service.specs.Histories.{Shows}
+use Rattle.pid_service.specs.KeptViews.{kept_by}
+use Rattle.pid_service.specs.Registries.{HasCleanDisk, OnlyReads, is_live}
+use Rattle.pid_lookup.specs.CacheAgreement.{Agrees}
+use Rattle.pid_lookup.specs.CacheEntries.{Entries}
+use Rattle.pid_moderation.specs.Items.{name_at}
+use Rattle.pid_service.specs.declared.registry.Registry.{Registry}
 use Rattle.pid_service.specs.Steps.Exporting.{IsToldAs}
 use Rattle.pid_service.proofs.Causes.{caused_as}
 
@@ -53,3 +62,18 @@ told_cause store old new (ends.Write fault) told e is asked caused = absurd (let
 
 pub told_by : {X : Type 0} (r : Result X ExportFault) (told : ExportFault) (e : Refusal) → r ≡ Err told → r ≡ Err (Refused e) → told ≡ Refused e
 told_by r told e is asked = let same = sym is ∙ asked in cc
+
+module _ {S : Type 0} (store : Ghosts S) where
+  -- a text that is kept is that of the tree
+  pub text_told : (r : Registry S store) (h : History) (text : Vec ℕ Global) → (kept_by r).text ≡ Some text → HasCleanDisk store r → Shows store r h → text_of_items (items_of h) ≡ print (tree_of h) → text.items ≡ print (tree_of h)
+  text_told r h text is clean shows same = subst (λ (t : Option (Vec ℕ Global)). IfSome t (λ bytes. bytes.items ≡ text_of_items (items_of h))) is (shows.kept clean).text ∙ same
+
+  -- a registry that has read keeps a text that is right, and shows what it did
+  pub text_kept : (old new : Registry S store) (h : History) → Shows store old h → is_live new ≡ is_live old → (kept_by new).names ≡ (kept_by old).names → OnlyReads store old new
+      → IfSome (kept_by new).text (λ bytes. bytes.items ≡ text_of_items (items_of h)) → Shows store new h
+  text_kept old new h shows same names reads text = record {
+    lives = same ∙ shows.lives;
+    history = shows.history;
+    tables = reads.kept (views_of h) shows.tables;
+    kept = λ clean. record { names = subst (λ (n : Entries). Agrees n (λ path. name_at path (items_of h))) (sym names) (shows.kept (reads.clean clean)).names; text = text };
+  }

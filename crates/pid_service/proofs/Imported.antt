@@ -26,7 +26,7 @@ use Rattle.pid_service.specs.declared.registry.Registry.{Registry}
 use Rattle.pid_service.specs.Histories.{IsFault, IsReached, Shows}
 use Rattle.pid_service.specs.Importing.{ObeysImport, ReadsImport}
 use Rattle.pid_service.specs.Steps.Importing.{AnswersPast, EndSpares, IsPlain}
-use Rattle.pid_service.specs.KeptNames.{KeepsNames}
+use Rattle.pid_service.specs.KeptViews.{KeepsRight}
 use Rattle.pid_service.specs.Obeying.{Obeys}
 use Rattle.pid_service.specs.Registries.{connection, is_live}
 
@@ -98,30 +98,30 @@ module _ {S : Type 0} (store : Ghosts S) where
 
   -- an import whose file was brought in
 
-  shows_still : (old new : Registry S store) (h : History) → Shows store old h → is_live new ≡ is_live old → AtRest store (connection new) (views_of h) → KeepsNames store new h → Shows store new h
-  shows_still old new h shows same rest names = record { lives = same ∙ shows.lives; history = shows.history; tables = rest; names = names }
+  shows_still : (old new : Registry S store) (h : History) → Shows store old h → is_live new ≡ is_live old → AtRest store (connection new) (views_of h) → KeepsRight store new h → Shows store new h
+  shows_still old new h shows same rest names = record { lives = same ∙ shows.lives; history = shows.history; tables = rest; kept = names }
 
-  pub ok_obeyed : (old new : Registry S store) (h : History) (c : Asked) (reply : Reply) → Shows store old h → is_live new ≡ is_live old → IsReached (after h c) → KeepsNames store new (after h c) → EndsImport store (connection new) (Ok reply) h c → ObeysImport store (Ok reply) new h c
-  ok_obeyed old new h c reply shows same reached names stops = inl (sym stops.0, record { lives = same ∙ shows.lives; history = reached; tables = stops.1; names = names })
+  pub ok_obeyed : (old new : Registry S store) (h : History) (c : Asked) (reply : Reply) → Shows store old h → is_live new ≡ is_live old → IsReached (after h c) → KeepsRight store new (after h c) → EndsImport store (connection new) (Ok reply) h c → ObeysImport store (Ok reply) new h c
+  ok_obeyed old new h c reply shows same reached names stops = inl (sym stops.0, record { lives = same ∙ shows.lives; history = reached; tables = stops.1; kept = names })
 
-  pub body_obeyed : (old new : Registry S store) (h : History) (c : Asked) → Shows store old h → is_live new ≡ is_live old → KeepsNames store new h → EndsImport store (connection new) (Err stops.Body) h c → ObeysImport store (Err imports.Body) new h c
+  pub body_obeyed : (old new : Registry S store) (h : History) (c : Asked) → Shows store old h → is_live new ≡ is_live old → KeepsRight store new h → EndsImport store (connection new) (Err stops.Body) h c → ObeysImport store (Err imports.Body) new h c
   body_obeyed old new h c shows same names stops = shows_still old new h shows same stops names
 
   refused_by : (r : Registry S store) (h : History) (c : Asked) (e : Refusal) → Shows store r h → Refuses h c e → Obeys store (Err e) r h c
   refused_by r h c e shows (inl told) = told_so r h c (Err e) shows told.0 told.1
   refused_by r h c e shows (inr fault) = inr (fault, inl shows)
 
-  pub refused_obeyed : (old new : Registry S store) (h : History) (c : Asked) (e : Refusal) → Shows store old h → is_live new ≡ is_live old → KeepsNames store new h → EndsImport store (connection new) (Err (stops.Refused e)) h c → ObeysImport store (Err (imports.Refused e)) new h c
+  pub refused_obeyed : (old new : Registry S store) (h : History) (c : Asked) (e : Refusal) → Shows store old h → is_live new ≡ is_live old → KeepsRight store new h → EndsImport store (connection new) (Err (stops.Refused e)) h c → ObeysImport store (Err (imports.Refused e)) new h c
   refused_obeyed old new h c e shows same names stops = refused_by new h c e (shows_still old new h shows same stops.0 names) stops.1
 
   pub failed_obeyed : (old new : Registry S store) (h : History) (c : Asked) (e : Refusal) → Shows store old h → is_live new ≡ false → IsReached (after h c) → EndsImport store (connection new) (Err (stops.Failed e)) h c → ObeysImport store (Err (imports.Refused e)) new h c
   failed_obeyed old new h c e shows off reached stops = inr (stops.1, inr (record { has_failed = off; before = shows.history; next = reached; leaves = stops.0 }))
 
-  pub body_carried : (old new : Registry S store) (h : History) (c : Asked) (stop : Stop) → stop ≡ stops.Body → Shows store old h → is_live new ≡ is_live old → KeepsNames store new h
+  pub body_carried : (old new : Registry S store) (h : History) (c : Asked) (stop : Stop) → stop ≡ stops.Body → Shows store old h → is_live new ≡ is_live old → KeepsRight store new h
       → EndsImport store (connection new) (Err stop) h c → ObeysImport store (Err imports.Body) new h c
   body_carried old new h c stop is shows same names ends = body_obeyed old new h c shows same names (subst (λ (s : Stop). EndsImport store (connection new) (Err s) h c) is ends)
 
-  pub refused_carried : (old new : Registry S store) (h : History) (c : Asked) (stop : Stop) (e : Refusal) → stop ≡ stops.Refused e → Shows store old h → is_live new ≡ is_live old → KeepsNames store new h
+  pub refused_carried : (old new : Registry S store) (h : History) (c : Asked) (stop : Stop) (e : Refusal) → stop ≡ stops.Refused e → Shows store old h → is_live new ≡ is_live old → KeepsRight store new h
       → EndsImport store (connection new) (Err stop) h c → ObeysImport store (Err (imports.Refused e)) new h c
   refused_carried old new h c stop e is shows same names ends = refused_obeyed old new h c e shows same names (subst (λ (s : Stop). EndsImport store (connection new) (Err s) h c) is ends)
 

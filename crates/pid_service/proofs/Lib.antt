@@ -1,5 +1,6 @@
 pub mod Leading
 pub mod Judged
+pub mod Keeping
 pub mod WriteLemmas
 pub mod ReadFiles
 pub mod Obeyed

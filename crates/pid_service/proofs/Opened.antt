@@ -24,7 +24,6 @@ use Rattle.pid_lookup.specs.CacheEntries.{Entries}
 use Rattle.pid_tables.specs.declared.migration.Step.{Step}
 use Rattle.pid_tables.specs.declared.migration.Step.TheVariants.{Created, Moved, Already}
 use Rattle.pid_tables.specs.ShowsOrBlank.{ShowsOrBlank}
-use Rattle.pid_service.specs.KeptNames.{AreItemNames}
 use Rattle.pid_service.specs.Opening.{ExplainsNow, ExplainsOpening, KeepsTables, OpensAtOnce, IsFound, MayHaveMade, KeepsViews}
 use Rattle.pid_tables_rows.proofs.OnlyReading.{reads_then, rests_in_still}
 
@@ -109,9 +108,6 @@ explained_now Else mid new (Err e) same explains = inr (λ opened. subst (λ d. 
 -- a step of the opening, said of the connections around it
 pub moved : {X : Type 0} (P : X → X → Type 0) {a a' b b' : X} → a ≡ a' → b' ≡ b → P a b → P a' b'
 moved P {a} {a'} {b} {b'} start end p = subst (λ x. P x b') start (subst (λ y. P a y) (sym end) p)
-
-pub no_names : (names : Entries) (v : Views) → names ≡ [] → AreItemNames names v
-no_names names v none = subst (λ (n : Entries). AreItemNames n v) (sym none) (record { known = λ entry there. absurd (let no : ⊥ = search rules in no) })
 
 -- ---- in one step, whatever there was
 

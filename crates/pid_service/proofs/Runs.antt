@@ -9,7 +9,7 @@ use Rattle.pid_moderation.specs.Judgement.{judge, answer, answers, after, after_
 use Rattle.pid_moderation.specs.Views.{items_of, views_of}
 use Rattle.pid_service.specs.declared.registry.Registry.{Registry}
 use Rattle.pid_service.specs.Histories.{Shows, IsFault}
-use Rattle.pid_service.specs.KeptNames.{kept_names}
+use Rattle.pid_service.specs.KeptViews.{kept_by, nothing}
 use Rattle.pid_service.specs.Obeying.{Forgets, Obeys}
 use Rattle.pid_service.specs.declared.running.RunReport.{RunReport}
 use Rattle.pid_service.specs.Running.{EndsRun, ForgetsNext, ForgetsRun, LeaveItems, Runs}
@@ -154,9 +154,9 @@ forgets_more Before After r h cs more c is keep (inr left) (inr (inl same)) sure
 module _ {S : Type 0} (store : Ghosts S) where
   -- the list ends at a fault
   pub forgets_at : (report : RunReport) (new : Registry S store) (h : History) (i : ℕ) (all rest : List Asked) (c : Asked) → drop i all ≡ c ∷ rest → length report.replies.items ≡ i
-      → (kept_names new ≡ []) ⊎ LeaveItems h (take i all) → Forgets store new (after_all h (take i all)) c → ForgetsRun store report new h all
+      → (kept_by new ≡ nothing) ⊎ LeaveItems h (take i all) → Forgets store new (after_all h (take i all)) c → ForgetsRun store report new h all
   forgets_at report new h i all rest c is count left forgets = record {
-    replied = subst (λ n. (kept_names new ≡ []) ⊎ LeaveItems h (take n all)) (sym count) left;
+    replied = subst (λ n. (kept_by new ≡ nothing) ⊎ LeaveItems h (take n all)) (sym count) left;
     next = subst (λ n. ForgetsNext store (drop n all) new (after_all h (take n all))) (sym count) (subst (λ l. ForgetsNext store l new (after_all h (take i all))) (sym is) forgets);
   }
 
@@ -164,9 +164,9 @@ module _ {S : Type 0} (store : Ghosts S) where
   no_next cs r h is = subst (λ l. ForgetsNext store l r h) (sym is) tt
 
   -- all were obeyed
-  pub forgets_all : (report : RunReport) (new : Registry S store) (h : History) (i : ℕ) (all : List Asked) → drop i all ≡ [] → length report.replies.items ≡ i → (kept_names new ≡ []) ⊎ LeaveItems h (take i all) → ForgetsRun store report new h all
+  pub forgets_all : (report : RunReport) (new : Registry S store) (h : History) (i : ℕ) (all : List Asked) → drop i all ≡ [] → length report.replies.items ≡ i → (kept_by new ≡ nothing) ⊎ LeaveItems h (take i all) → ForgetsRun store report new h all
   forgets_all report new h i all is count left = record {
-    replied = subst (λ n. (kept_names new ≡ []) ⊎ LeaveItems h (take n all)) (sym count) left;
+    replied = subst (λ n. (kept_by new ≡ nothing) ⊎ LeaveItems h (take n all)) (sym count) left;
     next = subst (λ n. ForgetsNext store (drop n all) new (after_all h (take n all))) (sym count) (no_next (drop i all) new (after_all h (take i all)) is);
   }
 
@@ -179,6 +179,6 @@ module _ {S : Type 0} (store : Ghosts S) where
   forgets_none report r h all none shows =
       let count : length report.replies.items ≡ 0 = ap length none in
       record {
-        replied = subst (λ n. (kept_names r ≡ []) ⊎ LeaveItems h (take n all)) (sym count) (inr tt);
+        replied = subst (λ n. (kept_by r ≡ nothing) ⊎ LeaveItems h (take n all)) (sym count) (inr tt);
         next = subst (λ n. ForgetsNext store (drop n all) r (after_all h (take n all))) (sym count) (next_shown all r h shows);
       }

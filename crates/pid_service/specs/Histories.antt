@@ -11,7 +11,7 @@ use Rattle.pid_service_laws.specs.Registries.{Showing}
 use Rattle.pid_tables_rows.specs.Clauses.{AtRest, LeavesEither}
 use Rattle.pid_service.specs.declared.registry.Registry.{Registry}
 use Rattle.pid_service.specs.Registries.{HasCleanDisk, connection, is_live}
-use Rattle.pid_service.specs.KeptNames.{KeepsNames}
+use Rattle.pid_service.specs.KeptViews.{KeepsRight}
 
 -- Commands lead to the history from its beginning, at least as many accepted as its mark says. What
 -- the mark is no table tells.
@@ -24,13 +24,13 @@ pub record IsReached (h : History) : Type 0 where
 
 module _ {S : Type 0} (store : Ghosts S) where
   -- The registry is live, and outside a transaction its tables show the history, while no fault has
-  -- shut the connection. So does everything that a crash may leave, and so do the names that are
-  -- kept in memory.
+  -- shut the connection. So does everything that a crash may leave, and what is kept in memory is
+  -- right about it.
   pub record Shows (r : Registry S store) (h : History) : Type 0 where
     pub lives : is_live r ≡ true
     pub history : IsReached h
     pub tables : AtRest store (connection r) (views_of h)
-    pub names : KeepsNames store r h
+    pub kept : KeepsRight store r h
 
   -- The registry has failed. Everything that a crash may leave shows the one history or the other,
   -- and commands lead to both.

@@ -16,7 +16,7 @@ use Rattle.pid_service.specs.declared.importing.ImportEnd.{ImportEnd}
 use Rattle.pid_service.specs.declared.importing.ImportEnd.TheVariants.{Refused, Body}
 use Rattle.pid_service.specs.declared.registry.Registry.{Registry}
 use Rattle.pid_service.specs.Histories.{IsFault, OverHistory, Shows}
-use Rattle.pid_service.specs.KeptNames.{kept_names}
+use Rattle.pid_service.specs.KeptViews.{kept_by, nothing}
 use Rattle.pid_service.specs.Obeying.{Lasts, Obeys}
 use Rattle.pid_service.specs.Registries.{HasCleanDisk, is_live}
 
@@ -75,7 +75,7 @@ module _ {S : Type 0} (store : Ghosts S) where
   -- no name is kept in memory, unless the registry shows the history as before
   abbrev pub ForgetsAll : Registry S store → Registry S store → Type 0
   ForgetsAll old new = (h : History) → Shows store old h
-      → (kept_names new ≡ []) ⊎ Shows store new h
+      → (kept_by new ≡ nothing) ⊎ Shows store new h
 
   -- What becomes of a registry that is to obey an import of an input, whatever its disk does.
   pub record EndLasts (old new : Registry S store) (result : Result Reply ImportEnd) : Type 0 where

@@ -1,6 +1,6 @@
 pub use Rattle.pid_tables.specs.Files
 pub mod Registries
-pub mod KeptNames
+pub mod KeptViews
 pub mod Histories
 pub mod Obeying
 pub mod Importing
@@ -16,5 +16,5 @@ pub mod ItemTexts
 pub mod Exports
 pub mod ExportSinks
 pub mod EndsOfWalks
-pub mod LengthSinks
+pub mod TextSinks
 pub mod Steps

@@ -15,7 +15,7 @@ use Rattle.pid_tables.specs.Files.{asks}
 use Rattle.pid_service.specs.declared.registry.Registry.{Registry}
 use Rattle.pid_service.specs.Asking.{FaultIsCaused}
 use Rattle.pid_service.specs.Histories.{IsFault, OverHistory, Shows, showing}
-use Rattle.pid_service.specs.KeptNames.{kept_names}
+use Rattle.pid_service.specs.KeptViews.{kept_by, nothing}
 use Rattle.pid_service.specs.Registries.{HasCleanDisk, is_live}
 
 -- What lives ask of a command (`CommandLeaves` of pid_service_laws). The answer is that of the
@@ -43,7 +43,7 @@ IsRefusedFor store old new h c e = (answer (judge (views_of h) c) ≡ Err e)
 -- Of a command that leaves other items no name is kept in memory, unless the registry shows the
 -- history as before. So one that has failed keeps no old name either.
 abbrev pub Forgets : {S : Type 0} → (store : Ghosts S) → Registry S store → History → Asked → Type 0
-Forgets store r h c = items_of (after h c) ≢ items_of h → (kept_names r ≡ []) ⊎ Shows store r h
+Forgets store r h c = items_of (after h c) ≢ items_of h → (kept_by r ≡ nothing) ⊎ Shows store r h
 
 module _ {S : Type 0} (store : Ghosts S) where
   -- What becomes of a live registry that is to obey, whatever its disk does.

@@ -16,7 +16,7 @@ use Rattle.pid_service.specs.declared.registry.Registry.{Registry}
 use Rattle.pid_service.specs.declared.running.RunReport.{RunReport}
 use Rattle.pid_service.specs.Asking.{MayGive}
 use Rattle.pid_service.specs.Histories.{Shows, FailsBetween, IsFault, OverHistory}
-use Rattle.pid_service.specs.KeptNames.{kept_names}
+use Rattle.pid_service.specs.KeptViews.{kept_by, nothing}
 use Rattle.pid_service.specs.Obeying.{Forgets}
 use Rattle.pid_service.specs.Registries.{HasCleanDisk, is_live}
 
@@ -57,7 +57,7 @@ module _ {S : Type 0} (store : Ghosts S) where
   -- one it is as after a single command.
   pub record ForgetsRun (report : RunReport) (r : Registry S store) (h : History)
       (commands : List Asked) : Type 0 where
-    pub replied : (kept_names r ≡ []) ⊎ LeaveItems h (take (length report.replies.items) commands)
+    pub replied : (kept_by r ≡ nothing) ⊎ LeaveItems h (take (length report.replies.items) commands)
     pub next : ForgetsNext (drop (length report.replies.items) commands) r
         (after_all h (take (length report.replies.items) commands))
 

@@ -3,7 +3,7 @@ pub mod Exporting
 pub mod Exports
 pub mod Importing
 pub mod Judging
-pub mod LengthSinks
+pub mod TextSinks
 pub mod Obeying
 pub mod Opening
 pub mod Running

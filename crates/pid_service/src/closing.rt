@@ -4,7 +4,7 @@ ghost use Rattle.pid_moderation.specs.History.{History};
 ghost use Rattle.pid_moderation.specs.Views.{views_of};
 ghost use Rattle.pid_tables_rows.specs.Clauses.{AtRest};
 ghost use Rattle.pid_service.specs.Histories.{Shows};
-ghost use Rattle.pid_service.specs.KeptNames.{kept_names};
+ghost use Rattle.pid_service.specs.KeptViews.{kept_by};
 ghost use Rattle.pid_service.specs.Registries.{connection, is_live as lives};
 
 use crate::registry::Registry;
@@ -20,10 +20,10 @@ impl<S: Alter + Drop> Registry<S> {
 
     /// How many paths it keeps in memory, each with its name or the absence of one: at most 1,024.
     pub fn cached(&self) -> u32
-        ensures count { result ≡ length (kept_names self.now) }
+        ensures count { result ≡ length (kept_by self.now).names }
         ensures limit { result ≤ 1024 }
     {
-        self.names.len()
+        self.kept.names.len()
     }
 
     /// Hands the connection back, outside a transaction. Of a registry that has failed, open the

@@ -7,10 +7,10 @@ ghost use Rattle.pid_service.specs.Exporting.{IsExported};
 ghost use Rattle.pid_service.specs.Steps.Exporting.{IsToldAs};
 
 use crate::item_text::{ExportEnd, export_items};
+use crate::items_text::{ItemsText, items_text};
 use crate::laws;
 use crate::registry::Registry;
-use crate::text_length::items_length;
-use pid_ident::{Output, WriteFault};
+use pid_ident::{Output, WriteFault, write_all};
 use pid_moderation::Refusal;
 use pid_tables::refusal_of;
 use sqlite::Alter;
@@ -52,7 +52,8 @@ fn fault_of(end: ExportEnd) -> ExportFault
 }
 
 impl<S: Alter + Drop> Registry<S> {
-    /// Writes the canonical text of all items, while they are read one by one.
+    /// Writes the canonical text of all items: the text that is kept in memory, or one that is
+    /// printed while the items are read one by one.
     ///
     /// A registry that has failed writes nothing and answers `Refused(Failed)`. Where memory is
     /// short or the store fails, `Refused` has `Memory` or `Store`, and the first lines were
@@ -67,14 +68,20 @@ impl<S: Alter + Drop> Registry<S> {
         }
         laws::reached_histories_are_kept(); // proof only
         laws::items_print_as_their_tree(); // proof only
+        if let Some(text) = &self.kept.text {
+            return match write_all(output, text.as_slice()) {
+                Ok(()) => Ok(()),
+                Err(fault) => Err(ExportFault::Write(fault)),
+            };
+        }
         match export_items(&mut self.tables, output) {
             Ok(()) => Ok(()),
             Err(end) => Err(fault_of(end)),
         }
     }
 
-    /// How many bytes `export` would write. The items are read one by one, and no list of them is
-    /// made.
+    /// How many bytes `export` would write. Where the text is not kept in memory the items are read
+    /// one by one, and it is kept from then on: up to 16,777,216 bytes, if memory is there for them.
     pub fn export_length(&mut self) -> Result<u64, Refusal>
         ensures { Answers S.Store self.old self.new result (λ h n. n ≡ length (print (tree_of h))) }
     {
@@ -83,8 +90,14 @@ impl<S: Alter + Drop> Registry<S> {
         }
         laws::reached_histories_are_kept(); // proof only
         laws::items_print_as_their_tree(); // proof only
-        match items_length(&mut self.tables) {
-            Ok(bytes) => Ok(bytes),
+        if let Some(text) = &self.kept.text {
+            return Ok(text.len() as u64);
+        }
+        match items_text(&mut self.tables, self.alloc) {
+            Ok(ItemsText { bytes, text }) => {
+                self.kept.text = text;
+                Ok(bytes)
+            }
             Err(fault) => Err(refusal_of(fault)),
         }
     }

@@ -12,7 +12,7 @@ ghost use Rattle.pid_service.specs.Importing.{
   InputIsRead,
   ObeysText,
 };
-ghost use Rattle.pid_service.specs.KeptNames.{kept_names};
+ghost use Rattle.pid_service.specs.KeptViews.{kept_by, nothing};
 ghost use Rattle.pid_service.specs.Obeying.{Obeys};
 ghost use Rattle.pid_service.specs.Registries.{HasCleanDisk, is_live as lives};
 ghost use Rattle.pid_service.specs.Steps.Importing.{
@@ -125,11 +125,11 @@ impl<S: Alter + Drop> Registry<S> {
         ensures clean { HasCleanDisk S.Store self.new → HasCleanDisk S.Store self.old }
         ensures obeyed { HasRead result (I.to_come input.old) (I.to_come input.new)
             (CarriesText S.Store self.old self.new result facts.old items command.now) }
-        ensures forgets { kept_names self.new ≡ [] }
+        ensures forgets { kept_by self.new ≡ nothing }
         ensures reads { InputIsRead I.Input input.old input.new result }
         ensures held { EndStaysLive result (lives self.old) (lives self.new) }
     {
-        self.names.clear();
+        self.kept.clear();
         match bring_in(
             &mut self.tables.conn,
             self.alloc,
@@ -154,7 +154,7 @@ impl<S: Alter + Drop> Registry<S> {
         ensures taken { HasRead result (I.to_come input.old) (I.to_come input.new)
             (TakesText S.Store self.old self.new result command.now) }
         ensures forgets { ForgetsAll S.Store self.old self.new }
-        ensures none { kept_names self.old ≡ [] → kept_names self.new ≡ [] }
+        ensures none { kept_by self.old ≡ nothing → kept_by self.new ≡ nothing }
         ensures reads { InputIsRead I.Input input.old input.new result }
         ensures held { EndStaysLive result (lives self.old) (lives self.new) }
     {
@@ -177,7 +177,7 @@ impl<S: Alter + Drop> Registry<S> {
         ensures forgets { ForgetsAll S.Store self.old self.new }
         ensures spares { OverBytes S.Store self.old self.new command.now file.now
             (SparesNames result self.new) }
-        ensures none { kept_names self.old ≡ [] → kept_names self.new ≡ [] }
+        ensures none { kept_by self.old ≡ nothing → kept_by self.new ≡ nothing }
         ensures held { StaysLive result (lives self.old) (lives self.new) }
     {
         let mut input = SliceInput::new(file);
@@ -189,7 +189,7 @@ impl<S: Alter + Drop> Registry<S> {
     ///
     /// The input is read to its end whatever the answer is, in reads of at most 4,096 bytes; where
     /// more than 4,194,304 bytes came, the file is `BadText` and no more is read. `Body` where the
-    /// input failed: then the registry is as before, but for names that it kept in memory.
+    /// input failed: then the registry is as before, but for what it kept in memory.
     pub fn import_from<I: Input>(
         &mut self,
         account: Account,

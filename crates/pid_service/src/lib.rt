@@ -4,10 +4,11 @@
 mod closing;
 mod export_sink;
 mod exporting;
-mod forgetting;
 mod importing;
 mod item_text;
+mod items_text;
 mod judging;
+mod kept_views;
 pub mod laws;
 mod lives;
 mod looking_up;
@@ -17,7 +18,6 @@ mod opening;
 mod reading;
 mod registry;
 mod running;
-mod text_length;
 mod writing;
 
 pub use exporting::ExportFault;

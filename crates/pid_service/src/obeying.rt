@@ -5,12 +5,11 @@ ghost use Rattle.pid_moderation.specs.Judgement.{after};
 ghost use Rattle.pid_moderation.specs.Views.{items_of};
 ghost use Rattle.pid_tables.specs.Files.{asks};
 ghost use Rattle.pid_service.specs.Histories.{OverHistory};
-ghost use Rattle.pid_service.specs.KeptNames.{kept_names};
+ghost use Rattle.pid_service.specs.KeptViews.{kept_by, nothing};
 ghost use Rattle.pid_service.specs.Obeying.{IsObeyed, Obeys};
 ghost use Rattle.pid_service.specs.Registries.{HasCleanDisk};
 ghost use Rattle.pid_service.specs.Steps.Obeying.{IsAccepted, LivesOrFails, SparesNames};
 
-use crate::forgetting::forget_for;
 use crate::judging::{Judged, judge};
 use crate::laws;
 use crate::registry::Registry;
@@ -27,11 +26,11 @@ impl<S: Alter + Drop> Registry<S> {
             → IsAccepted S.Store self.old change.now reply h c → Obeys S.Store result self.new h c }
         ensures spares { (h : History) (c : Asked)
             → IsAccepted S.Store self.old change.now reply h c
-            → (kept_names self.new ≡ []) ⊎ (items_of (after h c) ≡ items_of h) }
-        ensures none { kept_names self.old ≡ [] → kept_names self.new ≡ [] }
+            → (kept_by self.new ≡ nothing) ⊎ (items_of (after h c) ≡ items_of h) }
+        ensures none { kept_by self.old ≡ nothing → kept_by self.new ≡ nothing }
         ensures held { LivesOrFails S.Store result self.old self.new }
     {
-        forget_for(&mut self.names, change);
+        self.kept.forget_for(change);
         match write(&mut self.tables.conn, self.alloc, change) {
             Ok(()) => Ok(reply),
             Err(fault) => {
@@ -46,7 +45,7 @@ impl<S: Alter + Drop> Registry<S> {
         ensures does { IsObeyed S.Store self.old self.new command.now result }
         ensures spares { OverHistory S.Store self.old self.new
             (λ h. SparesNames result self.new h (asks command.now)) }
-        ensures none { kept_names self.old ≡ [] → kept_names self.new ≡ [] }
+        ensures none { kept_by self.old ≡ nothing → kept_by self.new ≡ nothing }
     {
         command_is_well_made(command); // proof only
         laws::commands_lead_on(); // proof only

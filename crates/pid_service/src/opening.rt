@@ -23,9 +23,9 @@ ghost use Rattle.pid_service.specs.Opening.{
 };
 ghost use Rattle.pid_service.specs.Steps.Opening.{IsMadeReady};
 
+use crate::kept_views::KeptViews;
 use crate::laws;
 use crate::registry::Registry;
-use pid_lookup::NameCache;
 use pid_tables::{Step, TableFault, Tables, Version};
 use sqlite::{Alter, Connection};
 use std::alloc::Global;
@@ -111,14 +111,14 @@ pub fn open<S: Alter + Drop>(
     if !conn.is_autocommit() {
         return Err((TableFault::Store, conn));
     }
-    let Ok(names) = NameCache::new(alloc) else {
+    let Ok(kept) = KeptViews::new(alloc) else {
         return Err((TableFault::Memory, conn));
     };
     let mut tables = Tables::new(conn);
     match make_ready(&mut tables, alloc) {
         Ok(()) => Ok(Registry {
             tables,
-            names,
+            kept,
             live: true,
             alloc,
         }),

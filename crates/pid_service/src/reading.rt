@@ -13,9 +13,12 @@ ghost use Rattle.pid_service.specs.Asking.{Answers, AnswersIfThere};
 use crate::laws;
 use crate::registry::Registry;
 use pid_ident::{Name, Path};
-use pid_moderation::{Changes, Discussion, Item, PAGE, Pending, Refusal};
+use pid_moderation::{
+    Changes, Discussion, Item, PAGE, Pending, Refusal, sinces_are_last_changes,
+};
 use pid_tables::refusal_of;
 use pid_tables_lists::changes_page;
+use pid_tables_rows::meta::revision;
 use sqlite::Alter;
 
 impl<S: Alter + Drop> Registry<S> {
@@ -86,11 +89,8 @@ impl<S: Alter + Drop> Registry<S> {
         }
     }
 
-    /// The items that were named anew after a revision, in the canonical order, `PAGE` at most:
-    /// each with its path, its name and the number of the last change of it. Behind none, and then
-    /// behind the last path that was told, pages go through all of them. Items that were removed
-    /// are not told. With it the revision that they are told of.
-    pub fn changes(&mut self, since: u64, after: Option<&Path>) -> Result<Changes, Refusal>
+    // The page by a walk over the numbers of all items.
+    fn changes_by_rows(&mut self, since: u64, after: Option<&Path>) -> Result<Changes, Refusal>
         ensures { Answers S.Store self.old self.new result
             (λ h changes. page_of changes
             ≡ changes_in PAGE since (start_text (option_copied after.entry)) (views_of h)) }
@@ -102,6 +102,33 @@ impl<S: Alter + Drop> Registry<S> {
         match changes_page(&mut self.tables.conn, self.alloc, since, after) {
             Ok(changes) => Ok(changes),
             Err(fault) => Err(refusal_of(fault)),
+        }
+    }
+
+    /// The items that were named anew after a revision, in the canonical order, `PAGE` at most:
+    /// each with its path, its name and the number of the last change of it. Behind none, and then
+    /// behind the last path that was told, pages go through all of them. Items that were removed
+    /// are not told. With it the revision that they are told of; where `since` is not below it, the
+    /// items are not looked at.
+    pub fn changes(&mut self, since: u64, after: Option<&Path>) -> Result<Changes, Refusal>
+        ensures { Answers S.Store self.old self.new result
+            (λ h changes. page_of changes
+            ≡ changes_in PAGE since (start_text (option_copied after.entry)) (views_of h)) }
+    {
+        if !self.live {
+            return Err(Refusal::Failed);
+        }
+        laws::reached_histories_are_kept(); // proof only
+        sinces_are_last_changes(); // proof only
+        match revision(&mut self.tables.conn) {
+            Err(fault) => Err(refusal_of(fault)),
+            Ok(revision) => {
+                if revision <= since {
+                    let items = Vec::new(self.alloc);
+                    return Ok(Changes { revision, items });
+                }
+                self.changes_by_rows(since, after)
+            }
         }
     }
 }

@@ -18,7 +18,7 @@ use Rattle.pid_service.specs.declared.importing.ImportEnd.TheVariants.{Refused, 
 use Rattle.pid_service.specs.declared.registry.Registry.{Registry}
 use Rattle.pid_service.specs.Histories.{IsFault, IsReached, OverHistory, Shows}
 use Rattle.pid_service.specs.Importing.{ObeysImport}
-use Rattle.pid_service.specs.KeptNames.{kept_names}
+use Rattle.pid_service.specs.KeptViews.{kept_by, nothing}
 use Rattle.pid_service.specs.Registries.{HasCleanDisk}
 
 -- The registry is as live as before. Or it does not tell that it had failed, and memory was short
@@ -71,7 +71,7 @@ module _ {S : Type 0} (store : Ghosts S) where
     pub obeyed : OverHistory store old new (λ h. is_import command.act ≡ true
         → ObeysImport store result new h (asked command (file_reading text)))
     pub spares : OverHistory store old new (λ h. is_import command.act ≡ true
-        → (kept_names new ≡ []) ⊎ EndSpares result h (asked command (file_reading text)))
+        → (kept_by new ≡ nothing) ⊎ EndSpares result h (asked command (file_reading text)))
 
   -- this holds of an import of these bytes, which are not too many
   abbrev pub OverBytes : Registry S store → Registry S store → Command → List ℕ

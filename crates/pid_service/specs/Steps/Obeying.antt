@@ -11,7 +11,7 @@ use Rattle.pid_moderation.specs.Views.{items_of}
 use Rattle.pid_service.specs.declared.judging.Judged.TheVariants.{Accepted}
 use Rattle.pid_service.specs.declared.registry.Registry.{Registry}
 use Rattle.pid_service.specs.Histories.{IsFault, IsReached, Shows}
-use Rattle.pid_service.specs.KeptNames.{kept_names}
+use Rattle.pid_service.specs.KeptViews.{kept_by, nothing}
 use Rattle.pid_service.specs.Registries.{is_live}
 use Rattle.pid_service.specs.Steps.Judging.{JudgesCommand}
 
@@ -24,7 +24,7 @@ StaysLive result before after = MatchResult result (λ _. after ≡ before)
 -- no name is kept in memory, or the items are left, or memory was short or the store failed
 abbrev pub SparesNames : {S : Type 0} {store : Ghosts S} → Result Reply Refusal → Registry S store
     → History → Asked → Type 0
-SparesNames result r h c = (kept_names r ≡ [])
+SparesNames result r h c = (kept_by r ≡ nothing)
     ⊎ ((items_of (after h c) ≡ items_of h) ⊎ IsErrAnd result IsFault)
 
 module _ {S : Type 0} (store : Ghosts S) where

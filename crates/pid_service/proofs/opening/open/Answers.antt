@@ -7,7 +7,8 @@ use Rattle.pid_tables.specs.Bringing.{Fails}
 use Rattle.pid_tables.specs.Clauses.{ShowsOrBlank}
 use Rattle.pid_tables.proofs.AtOnceLemmas.{reads_back, reads_once}
 use Rattle.pid_tables_check.proofs.Asking.{nothing_read}
-use Rattle.pid_service.proofs.Opened.{at_once_of, explains_of, kept_of, moved, no_names}
+use Rattle.pid_service.proofs.Opened.{at_once_of, explains_of, kept_of, moved}
+use Rattle.pid_service.proofs.Keeping.{nothing_kept}
 use Rattle.pid_service.proofs.opening.open.Goals as goal
 
 -- ---- no memory for the names
@@ -47,7 +48,7 @@ returns-in-Ok-make_ready-clause-history g c =
         lives = refl;
         history = reached;
         tables = c.in-Ok-make_ready.ensures.ready clean h reached (subst (λ k. ShowsOrBlank g.S.Store k h) (sym c.new-tables.ensures) shown);
-        names = λ clean. no_names c.in-Ok.names (views_of h) c.in-Ok.ensures.empty;
+        kept = λ clean. nothing_kept c.in-Ok.kept (views_of h) c.in-Ok.ensures;
       };
     }
 

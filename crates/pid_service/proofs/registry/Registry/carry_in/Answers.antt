@@ -3,6 +3,7 @@ use Rattle.pid_tables.specs.declared.put_file.Stop.TheVariants as stops
 use Rattle.pid_moderation.specs.History.{asked}
 use Rattle.pid_tables.specs.Files.{file_reading}
 use Rattle.pid_service.proofs.Imported.{body_carried, body_read, failed_carried, failed_read, ok_obeyed, refused_carried, refused_read}
+use Rattle.pid_service.proofs.Keeping.{nothing_kept}
 use Rattle.pid_service.proofs.registry.Registry.carry_in.Goals as goal
 
 pub returns-in-Ok-clause-obeyed : goal.returns-in-Ok-clause-obeyed
@@ -11,7 +12,7 @@ returns-in-Ok-clause-obeyed g c = let r = c.in-Ok.ensures.stops in
       text = r.0;
       consumed = r.1;
       read = r.2;
-      holds = λ clean h w. ok_obeyed g.S.Store c.args.self.now _ h (asked c.args.command.now (file_reading r.0)) c.in-Ok.reply w.shows refl w.reached (λ clean. c.clear.ensures.agrees _) (r.3 clean h w.shows.tables w.shows.history.marked w.import w.waits w.many);
+      holds = λ clean h w. ok_obeyed g.S.Store c.args.self.now _ h (asked c.args.command.now (file_reading r.0)) c.in-Ok.reply w.shows refl w.reached (λ clean. nothing_kept _ _ c.clear.ensures) (r.3 clean h w.shows.tables w.shows.history.marked w.import w.waits w.many);
     }
 
 pub returns-in-Err-Body-clause-obeyed : goal.returns-in-Err-Body-clause-obeyed
@@ -23,7 +24,7 @@ returns-in-Err-Body-clause-obeyed g c =
       consumed = r.1;
       read = body_read c.in-Err-Body.field-0 _ r.0 is r.2;
       holds = λ clean h w.
-          body_carried g.S.Store c.args.self.now _ h (asked c.args.command.now (file_reading r.0)) c.in-Err-Body.field-0 is w.shows refl (λ clean. c.clear.ensures.agrees _)
+          body_carried g.S.Store c.args.self.now _ h (asked c.args.command.now (file_reading r.0)) c.in-Err-Body.field-0 is w.shows refl (λ clean. nothing_kept _ _ c.clear.ensures)
           (r.3 clean h w.shows.tables w.shows.history.marked w.import w.waits w.many);
     }
 
@@ -36,7 +37,7 @@ returns-in-Err-Refused-clause-obeyed g c =
       consumed = r.1;
       read = refused_read c.in-Err-Refused.field-0 c.in-Err-Refused.refusal _ r.0 is r.2;
       holds = λ clean h w.
-          refused_carried g.S.Store c.args.self.now _ h (asked c.args.command.now (file_reading r.0)) c.in-Err-Refused.field-0 c.in-Err-Refused.refusal is w.shows refl (λ clean. c.clear.ensures.agrees _)
+          refused_carried g.S.Store c.args.self.now _ h (asked c.args.command.now (file_reading r.0)) c.in-Err-Refused.field-0 c.in-Err-Refused.refusal is w.shows refl (λ clean. nothing_kept _ _ c.clear.ensures)
           (r.3 clean h w.shows.tables w.shows.history.marked w.import w.waits w.many);
     }
 

@@ -1,7 +1,19 @@
-use Rattle.std.proofs.Common.{rules}
-use Rattle.pid_moderation.specs.Views.{views_of}
+use Rattle.std.proofs.Common.{◌≡◌, ◌≤◌, ℕ, List, [], map, true, refl, rules, arith, ap, sym, ◌∙◌}
+use Rattle.std.specs.Option.{option_copied}
+use Rattle.pid_moderation.specs.ChangePages.{ChangePage, Changed, changed_of, start_text}
+use Rattle.pid_moderation.specs.declared.lists.ChangedItem.{ChangedItem}
+use Rattle.pid_moderation.specs.Views.{since_of, views_of}
+use Rattle.pid_moderation.specs.declared.lists.TheConstants.{PAGE}
 use Rattle.pid_service.proofs.Causes.{caused_by}
+use Rattle.pid_service.proofs.Obeyed.{only_read}
+use Rattle.pid_service.proofs.Questions.{answers_then, none_changed}
 use Rattle.pid_service.proofs.registry.Registry.changes.Goals as goal
+
+page_without : (revision now : ℕ) (told : List ChangedItem) (items : List Changed) → revision ≡ now → told ≡ [] → items ≡ []
+    → ◌≡◌ {A = ChangePage} (record { revision = revision; items = map changed_of told }) (record { revision = now; items = items })
+page_without revision now told items same empty none =
+    let left : map changed_of told ≡ [] = ap (map changed_of) empty in
+    ap (λ (l : List Changed). record { revision = revision; items = l }) (left ∙ sym none) ∙ ap (λ (n : ℕ). record { revision = n; items = items }) same
 
 pub returns-in-Err : goal.returns-in-Err
 returns-in-Err g c = record {
@@ -11,5 +23,26 @@ returns-in-Err g c = record {
   rests = search rules;
   told = search rules;
   caused = λ clean h shows.
-      caused_by g.S.Store c.args.self.now.tables.conn c.changes_page.new.conn c.in-Err.fault c.refusal_of.result c.refusal_of.ensures.same (c.in-Err.ensures.page.told clean (views_of h) shows.tables (c.reached_histories_are_kept.ensures.readable h shows.history));
+      caused_by g.S.Store c.args.self.now.tables.conn c.revision.new.conn c.in-Err.fault c.refusal_of.result c.refusal_of.ensures.same (c.in-Err.ensures.told clean (views_of h) shows.tables (c.reached_histories_are_kept.ensures.readable h shows.history));
 }
+
+pub returns-then-revision-since : goal.returns-then-revision-since
+returns-then-revision-since g c = record {
+  failed = search rules;
+  fault = tt;
+  lives = refl;
+  rests = c.revision.ensures.rests;
+  told = λ clean h shows.
+      let now : c.in-Ok.revision ≡ (views_of h).revision = c.in-Ok.ensures.told clean (views_of h) shows.tables in
+      let past : c.in-Ok.revision ≤ c.args.since = search rules in
+      let within : (path : List ℕ) → since_of path h ≤ c.args.since = λ path. (let one : since_of path h ≤ (views_of h).revision = c.sinces_are_last_changes.ensures.within h path in let most : since_of path h ≤ c.args.since = omega (arith, one, now, past) in most) in (
+        page_without c.in-Ok.revision (views_of h).revision c.new-items.result.items _ now c.new-items.ensures.items (none_changed PAGE c.args.since (start_text (option_copied c.args.after)) (views_of h) within),
+        only_read g.S.Store c.args.self.now _ h refl c.revision.ensures.rests refl shows,
+      );
+  caused = λ clean h shows. tt;
+}
+
+pub returns-else-revision-since : goal.returns-else-revision-since
+returns-else-revision-since g c =
+    let on : c.args.self.now.live ≡ true = search rules in
+    answers_then g.S.Store c.args.self.now _ c.changes_by_rows.new.self c.changes_by_rows.result _ on refl c.revision.ensures.rests refl c.changes_by_rows.ensures

@@ -1,18 +1,30 @@
-use Rattle.std.proofs.Common.{length, rules, refl, ap, ◌∙◌}
+use Rattle.std.proofs.Common.{◌≡◌, length, rules, refl, ap, ◌∙◌}
 use Rattle.pid_moderation.specs.Views.{views_of}
 use Rattle.pid_service.proofs.Causes.{caused_by}
+use Rattle.pid_service.proofs.Exported.{text_kept, text_told}
 use Rattle.pid_service.proofs.registry.Registry.export_length.Goals as goal
+
+pub returns-in-Some : goal.returns-in-Some
+returns-in-Some g c = record {
+  failed = search rules;
+  fault = tt;
+  lives = refl;
+  rests = search rules;
+  told = λ clean h shows.
+      let many : c.len.result ≡ length c.in-Some.text.items = search rules in
+      (many ∙ ap length (text_told g.S.Store c.args.self.now h c.in-Some.text c.in-Some.is clean shows (c.items_print_as_their_tree.ensures h)), shows);
+  caused = λ clean h shows. tt;
+}
 
 pub returns-in-Ok : goal.returns-in-Ok
 returns-in-Ok g c = record {
   failed = search rules;
   fault = tt;
   lives = refl;
-  rests = c.items_length.ensures.rests;
-  told = λ clean h shows. (
-    c.in-Ok.ensures.told clean (views_of h) shows.tables (c.reached_histories_are_kept.ensures.readable h shows.history) ∙ ap length (c.items_print_as_their_tree.ensures h),
-    search rules,
-  );
+  rests = c.items_text.ensures.rests;
+  told = λ clean h shows.
+      let told = c.in-Ok.ensures.told clean (views_of h) shows.tables (c.reached_histories_are_kept.ensures.readable h shows.history) in
+      (told.counted ∙ ap length (c.items_print_as_their_tree.ensures h), text_kept g.S.Store c.args.self.now _ h shows refl refl c.items_text.ensures.rests told.kept);
   caused = λ clean h shows. tt;
 }
 
@@ -24,5 +36,5 @@ returns-in-Err g c = record {
   rests = search rules;
   told = search rules;
   caused = λ clean h shows.
-      caused_by g.S.Store c.args.self.now.tables.conn c.items_length.new.tables.conn c.in-Err.fault c.refusal_of.result c.refusal_of.ensures.same (c.in-Err.ensures.told clean (views_of h) shows.tables (c.reached_histories_are_kept.ensures.readable h shows.history));
+      caused_by g.S.Store c.args.self.now.tables.conn c.items_text.new.tables.conn c.in-Err.fault c.refusal_of.result c.refusal_of.ensures.same (c.in-Err.ensures.told clean (views_of h) shows.tables (c.reached_histories_are_kept.ensures.readable h shows.history));
 }

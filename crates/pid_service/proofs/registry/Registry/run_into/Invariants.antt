@@ -5,7 +5,7 @@ use Rattle.pid_moderation.specs.Judgement.{answers, after_all}
 use Rattle.pid_tables.specs.Files.{asks}
 use Rattle.pid_service.specs.Histories.{Shows}
 use Rattle.pid_service.specs.Registries.{HasCleanDisk, is_live}
-use Rattle.pid_service.specs.KeptNames.{kept_names}
+use Rattle.pid_service.specs.KeptViews.{kept_by, nothing}
 use Rattle.pid_service.specs.Running.{ReplyIsNotFailed, LeaveItems}
 use Rattle.pid_service.proofs.registry.Registry.run_into.Given as goal
 
@@ -17,4 +17,4 @@ invariant-loop-command g l =
     → (l.replies.items ≡ answers h (take l.command-index (map asks l.commands))) × Shows g.S.Store l.self (after_all h (take l.command-index (map asks l.commands))))
     × (is_live l.fn.self ≡ true → is_live l.self ≡ true)
     × (is_live l.fn.self ≡ true → AllByRecursion ReplyIsNotFailed l.replies.items)
-    × (HasCleanDisk g.S.Store l.self → (h : History) → Shows g.S.Store l.fn.self h → (kept_names l.self ≡ []) ⊎ LeaveItems h (take l.command-index (map asks l.commands)))
+    × (HasCleanDisk g.S.Store l.self → (h : History) → Shows g.S.Store l.fn.self h → (kept_by l.self ≡ nothing) ⊎ LeaveItems h (take l.command-index (map asks l.commands)))
