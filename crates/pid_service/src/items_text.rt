@@ -83,8 +83,8 @@ impl Output for TextBuffer {
     }
 }
 
-// The header in memory, where there is some.
-fn first_line(alloc: Global) -> Option<TextBuffer>
+/// The header in memory, where there is some.
+pub(crate) fn first_line(alloc: Global) -> Option<TextBuffer>
     ensures { IfSome result (λ text. text.taken.items ≡ ended (header ∷ [])) }
 {
     let mut text = TextBuffer {
@@ -168,19 +168,21 @@ pub(crate) struct ItemsText {
 }
 
 /// What `export_items` writes, by one walk over the items, of which each is lent by the connection.
-/// A text of more than 16,777,216 bytes is counted alone, and so is one for which memory is short.
+/// It is kept behind its first line, if that is; a text of more than 16,777,216 bytes is counted
+/// alone, and so is one for which memory is short.
 pub(crate) fn items_text<S: Alter + Drop>(
     tables: &mut Tables<S>,
-    alloc: Global,
+    first: Option<TextBuffer>,
 ) -> Result<ItemsText, TableFault>
-    requires { tables.old.conn.in_transaction ≡ false }
+    requires settled { tables.old.conn.in_transaction ≡ false }
+    requires first { IfSome first (λ text. text.taken.items ≡ ended (header ∷ [])) }
     ensures { Reads S.Store tables.old.conn tables.new.conn result
         (λ v found. IsReadable v → IsTextOf found.bytes found.text v.items) }
 {
     let mut sink = TextSink {
         bytes: HEADER,
         before: None,
-        text: first_line(alloc),
+        text: first,
     };
     match tables.each_item(&mut sink) {
         Ok(()) => Ok(ItemsText {
