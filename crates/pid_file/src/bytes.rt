@@ -28,13 +28,7 @@ pub fn are_printed(bytes: &[u8]) -> bool
     // Without an early end the compiler takes many bytes at a step.
     let mut all = true;
     for byte in bytes {
-        all &= is_printed(*byte);
+        all &= (*byte >= b' ' || *byte == b'\t') && *byte != 127;
     }
     all
-}
-
-fn is_printed(byte: u8) -> bool
-    ensures { result ≡ printed_byte byte }
-{
-    (byte >= b' ' || byte == b'\t') && byte != 127
 }

@@ -6,7 +6,6 @@ ghost use Rattle.pid_file.specs.Faults.{line_fault_of};
 ghost use Rattle.pid_file.specs.OpenLevels.{IsOpenAt, IsNamed, Says};
 ghost use Rattle.pid_file.specs.Steps.OpenLevels.{
   below as below_at,
-  deeper_below as below_deeper,
   first_below as below_at_one,
   second_below as below_at_two,
 };
@@ -79,16 +78,6 @@ fn second_below(levels: OpenLevels) -> Result<Option<Place>, LineKind>
     }
 }
 
-// No line below depth 2 names anything.
-fn deeper_below(levels: OpenLevels) -> Result<Option<Place>, LineKind>
-    ensures { result ≡ below_deeper levels }
-{
-    match levels {
-        OpenLevels::Unknown => Ok(None),
-        _ => Err(LineKind::TooDeep),
-    }
-}
-
 // What a line of this depth, which is not 0, names, if it is not skipped.
 fn place_below(levels: OpenLevels, depth: usize) -> Result<Option<Place>, LineKind>
     ensures { result ≡ below_at levels depth }
@@ -97,8 +86,10 @@ fn place_below(levels: OpenLevels, depth: usize) -> Result<Option<Place>, LineKi
         first_below(levels)
     } else if depth == 2 {
         second_below(levels)
+    } else if let OpenLevels::Unknown = levels {
+        Ok(None)
     } else {
-        deeper_below(levels)
+        Err(LineKind::TooDeep)
     }
 }
 

@@ -41,34 +41,39 @@ fn head_of(path: Path) -> Head
     Head { letter, first }
 }
 
-fn second_of(path: Path) -> Option<u16>
-    ensures { result ≡ slice_get (numbers_of path) 1 }
-{
-    match path {
-        Path::Vendor { .. } | Path::Class { .. } => None,
-        Path::Device { device, .. }
-        | Path::Subsystem { device, .. }
-        | Path::Generic { device, .. } => { Some(device) }
-        Path::Subclass { subclass, .. } | Path::ProgIf { subclass, .. } => Some(subclass as u16),
-    }
+// The numbers behind the first.
+#[derive(Clone, Copy)]
+struct Rest {
+    second: Option<u16>,
+    third: Option<u16>,
+    fourth: Option<u16>,
 }
 
-fn third_of(path: Path) -> Option<u16>
-    ensures { result ≡ slice_get (numbers_of path) 2 }
+fn rest_of(path: Path) -> Rest
+    ensures second { result.second ≡ slice_get (numbers_of path) 1 }
+    ensures third { result.third ≡ slice_get (numbers_of path) 2 }
+    ensures fourth { result.fourth ≡ slice_get (numbers_of path) 3 }
 {
-    match path {
-        Path::Subsystem { subvendor, .. } => Some(subvendor),
-        Path::ProgIf { progif, .. } => Some(progif as u16),
-        _ => None,
-    }
-}
-
-fn fourth_of(path: Path) -> Option<u16>
-    ensures { result ≡ slice_get (numbers_of path) 3 }
-{
-    match path {
-        Path::Subsystem { subdevice, .. } => Some(subdevice),
-        _ => None,
+    let (second, third, fourth) = match path {
+        Path::Vendor { .. } | Path::Class { .. } => (None, None, None),
+        Path::Device { device, .. } | Path::Generic { device, .. } => (Some(device), None, None),
+        Path::Subsystem {
+            device,
+            subvendor,
+            subdevice,
+            ..
+        } => (Some(device), Some(subvendor), Some(subdevice)),
+        Path::Subclass { subclass, .. } => (Some(subclass as u16), None, None),
+        Path::ProgIf {
+            subclass,
+            progif,
+            ..
+        } => (Some(subclass as u16), Some(progif as u16), None),
+    };
+    Rest {
+        second,
+        third,
+        fourth,
     }
 }
 
@@ -76,12 +81,14 @@ fn fourth_of(path: Path) -> Option<u16>
 fn compare_rests(mine: Path, theirs: Path) -> Ordering
     ensures { result ≡ rest_cmp (numbers_of mine) (numbers_of theirs) }
 {
-    let by_second = second_of(mine).cmp(&second_of(theirs));
+    let mine = rest_of(mine);
+    let theirs = rest_of(theirs);
+    let by_second = mine.second.cmp(&theirs.second);
     if by_second.is_ne() {
         return by_second;
     }
-    let by_third = third_of(mine).cmp(&third_of(theirs));
-    let by_fourth = fourth_of(mine).cmp(&fourth_of(theirs));
+    let by_third = mine.third.cmp(&theirs.third);
+    let by_fourth = mine.fourth.cmp(&theirs.fourth);
     by_third.then(by_fourth)
 }
 
