@@ -177,7 +177,7 @@ class Counts:
             self.add(name, (0, 1, 0))
         elif report.skipped:
             self.add(name, (0, 0, 1))
-            self.reasons.append(f"{report.nodeid}: {report.longrepr[2]}")
+            self.reasons.append(f"{report.nodeid}: {report.longrepr[2].removeprefix('Skipped: ')}")
 
     def pytest_collectreport(self, report):
         if report.failed and report.nodeid not in self.broken:

@@ -1,6 +1,7 @@
 """What ./test does: `rt ci`, then tests/run, and at the end where the processor time went.
 
 tests/run tries the programs that `rt ci` has built: they stay in crates/NAME/out."""
+import glob
 import os
 import re
 import resource
@@ -233,17 +234,26 @@ def copy_without_edits(to):
 
     def left_out(folder, names):
         is_crate = os.path.dirname(folder) == os.path.join(TOP, "crates")
-        unwanted = {"out", "must-fail", "edits-on-demand"} if is_crate else {".git"}
+        unwanted = {"out", "must-fail"} if is_crate else {".git"}
         return unwanted & set(names)
 
     shutil.copytree(TOP, to, symlinks=True, ignore=left_out)
     os.mkdir(os.path.join(to, ".git"))
 
 
+def put_edits(to):
+    """Gives a copy its edits, which the tests of the documents look at."""
+    for path in glob.glob(os.path.join(TOP, "crates", "*", "must-fail")):
+        place = os.path.join(to, os.path.relpath(path, TOP))
+        if not os.path.exists(place):
+            shutil.copytree(path, place)
+
+
 def run(folder):
     clock = Clock()
     clock.say("rt ci: every crate and its tests from nothing")
     passed, failed, meter, whole = prove(folder, clock)
+    put_edits(folder)
     clock.say("tests/run: the built program against lspci, libpci, sqlite3, curl, nginx and files")
     more_passed, more_failed, skipped, peers = try_program(folder)
     print_table(meter, whole, peers, clock)

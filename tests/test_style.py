@@ -15,10 +15,8 @@ from program import TOP
 from words_to_change import found_in
 
 # What people read beside the pages, and how wide its lines may be.
-TEXTS = ("*", ".ci/*", "bench/*", "tests/**/*", "tools/*")
+TEXTS = ("pciids", "test", ".ci/*", "bench/*", "tests/**/*", "tools/*")
 WIDEST = 100
-# These have a line for each notice, and for each crate.
-LEFT_OUT = ("LICENSE", "NOTICE", "crates.txt")
 # Statements of SQL as the program has them, and tests that are older than the rule.
 WIDE = ("bench/registry.c", "tests/mirror.py", "tests/proxy.py")
 OLD = ("tests/visitors.py", "tests/built_packages.py", "tests/site/")
@@ -45,7 +43,7 @@ def files(*patterns):
         for path in glob.glob(os.path.join(TOP, pattern), recursive=True):
             name = os.path.relpath(path, TOP)
             is_text = os.path.isfile(path) and not name.endswith((".md", ".png", ".pyc", ".svg"))
-            if is_text and name not in LEFT_OUT and "__pycache__" not in name:
+            if is_text and "__pycache__" not in name:
                 found.add(name)
     return sorted(found)
 
