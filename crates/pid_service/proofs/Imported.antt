@@ -18,8 +18,8 @@ use Rattle.pid_tables.specs.declared.put_file.Stop.{Stop}
 use Rattle.pid_tables.specs.declared.put_file.Stop.TheVariants as stops
 use Rattle.pid_tables.specs.ImportClauses.{EndsImport}
 use Rattle.pid_tables.specs.Files.{asks, file_reading, reading_of}
-use Rattle.pid_tables.specs.Importing.{ReadsFile, Refuses}
-use Rattle.pid_tables.specs.Judging.{IsSettled}
+use Rattle.pid_tables.specs.Importing.{ReadsFile, RefusesImport}
+use Rattle.pid_tables.specs.Judging.{HasOneOutcome}
 use Rattle.pid_service.specs.declared.importing.ImportEnd.{ImportEnd}
 use Rattle.pid_service.specs.declared.importing.ImportEnd.TheVariants as imports
 use Rattle.pid_service.specs.declared.registry.Registry.{Registry}
@@ -79,17 +79,17 @@ module _ {S : Type 0} (store : Ghosts S) where
       subst (λ (c : Asked). Obeys store result r h c) (import_asks command (file_reading text) is) (told_so r h (import_of command.account command.key (file_reading text)) result shows (told (file_reading text) short).0 (told (file_reading text) short).1)
 
   settled_err : (r : Registry S store) (h : History) (command : Command) (text : List ℕ) (e : Refusal) → is_import command.act ≡ true → Shows store r h → file_reading text ≢ TooLong
-      → IsSettled h command (Err e) → Obeys store (Err e) r h (asked command (file_reading text))
+      → HasOneOutcome h command (Err e) → Obeys store (Err e) r h (asked command (file_reading text))
   settled_err r h command text e is shows short (inl told) = settled r h command text (Err e) is shows short told
   settled_err r h command text e is shows short (inr fault) = inr (fault, inl shows)
 
   -- an import that was answered before its file was read
   pub past_obeyed : (r : Registry S store) (h : History) (command : Command) (given : Result Reply Refusal) (result : Result Reply ImportEnd) (text : List ℕ) → LongFiles → LongRefused → is_import command.act ≡ true → Shows store r h
-      → IsSettled h command given → AnswersPast given result text → ObeysImport store result r h (asked command (file_reading text))
+      → HasOneOutcome h command given → AnswersPast given result text → ObeysImport store result r h (asked command (file_reading text))
   past_obeyed r h command given (Ok reply) text long refused is shows told past =
-      settled r h command text (Ok reply) is shows (fits text long past.1) (subst (IsSettled h command) past.0 told)
+      settled r h command text (Ok reply) is shows (fits text long past.1) (subst (HasOneOutcome h command) past.0 told)
   past_obeyed r h command given (Err (imports.Refused e)) text long refused is shows told (inl past) =
-      settled_err r h command text e is shows (fits text long past.1) (subst (IsSettled h command) past.0 told)
+      settled_err r h command text e is shows (fits text long past.1) (subst (HasOneOutcome h command) past.0 told)
   past_obeyed r h command given (Err (imports.Refused e)) text long refused is shows told (inr past) =
       let over : most_file_bytes < length text = let n = past.1 in omega (arith, n) in
       let no = refused h command text is over in
@@ -107,7 +107,7 @@ module _ {S : Type 0} (store : Ghosts S) where
   pub body_obeyed : (old new : Registry S store) (h : History) (c : Asked) → Shows store old h → is_live new ≡ is_live old → KeepsRight store new h → EndsImport store (connection new) (Err stops.Body) h c → ObeysImport store (Err imports.Body) new h c
   body_obeyed old new h c shows same names stops = shows_still old new h shows same stops names
 
-  refused_by : (r : Registry S store) (h : History) (c : Asked) (e : Refusal) → Shows store r h → Refuses h c e → Obeys store (Err e) r h c
+  refused_by : (r : Registry S store) (h : History) (c : Asked) (e : Refusal) → Shows store r h → RefusesImport h c e → Obeys store (Err e) r h c
   refused_by r h c e shows (inl told) = told_so r h c (Err e) shows told.0 told.1
   refused_by r h c e shows (inr fault) = inr (fault, inl shows)
 
@@ -170,15 +170,15 @@ settled_spares : (h : History) (command : Command) (text : List ℕ) (result : R
     → after h (asked command (file_reading text)) ≡ h
 settled_spares h command text result is short told = subst (λ (c : Asked). after h c ≡ h) (import_asks command (file_reading text) is) (told (file_reading text) short).1
 
-early_spares : (h : History) (command : Command) (text : List ℕ) (e : Refusal) → is_import command.act ≡ true → file_reading text ≢ TooLong → IsSettled h command (Err e)
+early_spares : (h : History) (command : Command) (text : List ℕ) (e : Refusal) → is_import command.act ≡ true → file_reading text ≢ TooLong → HasOneOutcome h command (Err e)
     → (after h (asked command (file_reading text)) ≡ h) ⊎ IsFault e
 early_spares h command text e is short (inl told) = inl (settled_spares h command text (Err e) is short told)
 early_spares h command text e is short (inr fault) = inr fault
 
 pub past_spares : (h : History) (command : Command) (given : Result Reply Refusal) (result : Result Reply ImportEnd) (text : List ℕ) → LongFiles → LongRefused → is_import command.act ≡ true
-    → IsSettled h command given → AnswersPast given result text → EndSpares result h (asked command (file_reading text))
-past_spares h command given (Ok reply) text long refused is told past = settled_spares h command text (Ok reply) is (fits text long past.1) (subst (IsSettled h command) past.0 told)
-past_spares h command given (Err (imports.Refused e)) text long refused is told (inl past) = early_spares h command text e is (fits text long past.1) (subst (IsSettled h command) past.0 told)
+    → HasOneOutcome h command given → AnswersPast given result text → EndSpares result h (asked command (file_reading text))
+past_spares h command given (Ok reply) text long refused is told past = settled_spares h command text (Ok reply) is (fits text long past.1) (subst (HasOneOutcome h command) past.0 told)
+past_spares h command given (Err (imports.Refused e)) text long refused is told (inl past) = early_spares h command text e is (fits text long past.1) (subst (HasOneOutcome h command) past.0 told)
 past_spares h command given (Err (imports.Refused e)) text long refused is told (inr past) =
     let over : most_file_bytes < length text = let n = past.1 in omega (arith, n) in
     inl (refused h command text is over).1

@@ -13,7 +13,7 @@ use Rattle.pid_tables_rows.specs.declared.version.Version.TheVariants.{One, Two}
 use Rattle.pid_tables_rows.specs.Faults.{IsMemoryOrStore}
 use Rattle.pid_tables_rows.specs.Clauses as clauses
 use Rattle.pid_tables_rows.specs.Leaves.{AtRest, OnlyReads, RestsIn}
-use Rattle.pid_tables_check.specs.Checking.{Explains, Finds}
+use Rattle.pid_tables_check.specs.Checking.{Explains, FindsVersion}
 use Rattle.pid_tables_check.specs.Shapes.{HasSomeTable}
 use Rattle.pid_tables.specs.AtOnce.{IsOneStep, IsTakenBack}
 use Rattle.pid_tables.specs.Clauses as tables
@@ -53,14 +53,14 @@ judged_ready s t h (Err e) reads rest untold = (untold, inl (reads.kept (views_o
 -- where there is some table: a migration before the judgement leaves them, or found a registry in schema 1
 
 abbrev Judged : {X : Type 0} → Database → Result X TableFault → Type 0
-Judged d r = MatchResult r (λ x. Finds d (Some Two)) (Explains d)
+Judged d r = MatchResult r (λ x. FindsVersion d (Some Two)) (Explains d)
 
 -- while the connection is open, the fault tells what fails of what it sees
 abbrev Now : State → TableFault → Type 0
 Now new e = IsTrue new.is_open → Explains new.now e
 
 abbrev IsReady : {X : Type 0} → State → State → Result X TableFault → Type 0
-IsReady old new r = MatchResult r (λ x. IsFound old.now) (λ e. Refuses old e new ⊎ (Finds old.now (Some One) × Now new e))
+IsReady old new r = MatchResult r (λ x. IsFound old.now) (λ e. Refuses old e new ⊎ (FindsVersion old.now (Some One) × Now new e))
 
 untold_explains : (d : Database) (e : TableFault) → IsMemoryOrStore e → Explains d e
 untold_explains d Memory untold = tt
@@ -79,7 +79,7 @@ shut_judged : {X : Type 0} (old new : State) (r : Result X TableFault) → OnlyR
 shut_judged old new (Ok x) reads untold = absurd untold
 shut_judged old new (Err e) reads untold = inl (Fails (untold_explains old.now e untold) reads)
 
-moved_found : {X : Type 0} (old mid new : State) (r : Result X TableFault) → (IsTrue new.is_open → new.now ≡ mid.now) → Judged mid.now r → Finds old.now (Some One) → IsReady old new r
+moved_found : {X : Type 0} (old mid new : State) (r : Result X TableFault) → (IsTrue new.is_open → new.now ≡ mid.now) → Judged mid.now r → FindsVersion old.now (Some One) → IsReady old new r
 moved_found old mid new (Ok x) same judged found = (One, found)
 moved_found old mid new (Err e) same explains found = inr (found, λ opened. subst (λ d. Explains d e) (sym (same opened)) explains)
 
@@ -97,8 +97,8 @@ told_then old mid new r step settled reads same shut judged (Raised is found) = 
 
 -- what was judged is so of what is seen then
 
-pub judged_now : {X : Type 0} (mid new : State) (r : Result X TableFault) → (IsTrue new.is_open → new.now ≡ mid.now) → Judged mid.now r → IfOk r (λ x. IsTrue new.is_open → Finds new.now (Some Two))
-judged_now mid new (Ok x) same found = λ opened. subst (λ d. Finds d (Some Two)) (sym (same opened)) found
+pub judged_now : {X : Type 0} (mid new : State) (r : Result X TableFault) → (IsTrue new.is_open → new.now ≡ mid.now) → Judged mid.now r → IfOk r (λ x. IsTrue new.is_open → FindsVersion new.now (Some Two))
+judged_now mid new (Ok x) same found = λ opened. subst (λ d. FindsVersion d (Some Two)) (sym (same opened)) found
 judged_now mid new (Err e) same explains = tt
 
 pub explained_now : {X : Type 0} (Else : TableFault → Type 0) (mid new : State) (r : Result X TableFault) → (IsTrue new.is_open → new.now ≡ mid.now) → Judged mid.now r → IfErr r (λ e. Else e ⊎ Now new e)
@@ -123,17 +123,17 @@ seen_back old new settled back opened = (back.was_open opened, (back.same old.no
 
 -- a migration of tables that are not in schema 1, or do not keep its conditions, only reads
 
-pub brought_reads : (old mid : State) (step : Step) → Brings old step mid → ¬ (Finds old.now (Some One)) → OnlyReads old mid
+pub brought_reads : (old mid : State) (step : Step) → Brings old step mid → ¬ (FindsVersion old.now (Some One)) → OnlyReads old mid
 brought_reads old mid step (Left is reads) none = reads
 brought_reads old mid step (Raised is found) none = absurd (none found)
 
-pub refused_reads : (old mid : State) (e : TableFault) → Refuses old e mid → ¬ (Finds old.now (Some One)) → OnlyReads old mid
+pub refused_reads : (old mid : State) (e : TableFault) → Refuses old e mid → ¬ (FindsVersion old.now (Some One)) → OnlyReads old mid
 refused_reads old mid e (Fails explains reads) none = reads
 refused_reads old mid e (Stays found later) none = absurd (none found)
 
 -- where the judgement behind a migration fails
 
-made_found : (old mid : State) (step : Step) → (step ≡ Already → ⊥) → Brings old step mid → Finds old.now (Some One)
+made_found : (old mid : State) (step : Step) → (step ≡ Already → ⊥) → Brings old step mid → FindsVersion old.now (Some One)
 made_found old mid step made (Left is reads) = absurd (made is)
 made_found old mid step made (Raised is found) = found
 

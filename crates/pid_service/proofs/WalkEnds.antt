@@ -10,7 +10,7 @@ use Rattle.pid_moderation.specs.Items.{Items}
 use Rattle.pid_tables_rows.specs.declared.fault.TableFault.{TableFault}
 use Rattle.pid_reader.specs.Numbered.{Numbered, item_in}
 use Rattle.pid_reader.specs.Sinks.{Took}
-use Rattle.pid_tables_lists.specs.EachItem.{TakesEach, TakesSome, placed_from}
+use Rattle.pid_tables_lists.specs.EachItem.{Walks, WalksSome, placed_from}
 use Rattle.pid_tables_lists.specs.declared.walk.EachEnd.{EachEnd}
 use Rattle.pid_tables_lists.specs.declared.walk.EachEnd.TheVariants.{Tables, Fault}
 use Rattle.pid_tree.specs.Printing.{ended, header, text_or_none}
@@ -55,18 +55,18 @@ module _ {W : Type 0} (taken : W → Option (List ℕ)) (write_fault : W → Opt
   front_printed : (old new : ExportSink W) (es : List Numbered) → Took (PrintsItem taken) old (reverse es) new → HasPrinted taken old (map item_in es) new
   front_printed old new es took = subst (λ (l : List Numbered). HasPrinted taken old (map item_in l) new) (reverse-reverse es) (took_printed taken old new (reverse es) took)
 
-  pub walk_same : (r : Result (Unit {0}) (EachEnd WriteFault)) (old new : ExportSink W) → TakesSome (PrintsItem taken) (StopsWithin taken write_fault) r old new → new.out.ghost_name ≡ old.out.ghost_name
-  walk_same (Ok x) old new (items, took) = (took_printed taken old new items took).same_reference
-  walk_same (Err (Fault f)) old new (items, entry, between, took, stop) = stop.same_reference ∙ (took_printed taken old between items took).same_reference
-  walk_same (Err (Tables t)) old new (items, took) = (took_printed taken old new items took).same_reference
+  pub walk_same : (r : Result (Unit {0}) (EachEnd WriteFault)) (old new : ExportSink W) → WalksSome (PrintsItem taken) (StopsWithin taken write_fault) r old new → new.out.ghost_name ≡ old.out.ghost_name
+  walk_same (Ok x) old new w = (took_printed taken old new (reverse w.items) w.walked).same_reference
+  walk_same (Err (Fault f)) old new w = w.walked.faulted.same_reference ∙ (took_printed taken old w.walked.between (reverse w.walked.front) w.walked.took).same_reference
+  walk_same (Err (Tables t)) old new w = (took_printed taken old new (reverse w.walked.front) w.walked.took).same_reference
 
-  by_fault : (e : EachEnd WriteFault) (f : WriteFault) (old new : ExportSink W) → export_end e ≡ ends.Write f → TakesSome {X = Unit {0}} (PrintsItem taken) (StopsWithin taken write_fault) (Err e) old new → write_fault new.out.now ≡ Some f
-  by_fault (Fault g) f old new same (items, entry, between, took, stop) = stop.told ∙ ap Some (same_fault g f same)
+  by_fault : (e : EachEnd WriteFault) (f : WriteFault) (old new : ExportSink W) → export_end e ≡ ends.Write f → WalksSome (PrintsItem taken) (StopsWithin taken write_fault) {X = Unit {0}} (Err e) old new → write_fault new.out.now ≡ Some f
+  by_fault (Fault g) f old new same w = w.walked.faulted.told ∙ ap Some (same_fault g f same)
   by_fault (Tables t) f old new same told = absurd (no_fault t f same)
 
   -- a fault of the writer is the one that it keeps
   pub fault_told : (e : EachEnd WriteFault) (r : Result (Unit {0}) ExportEnd) (end : ExportEnd) (f : WriteFault) (old new : ExportSink W) → r ≡ Err end → end ≡ export_end e → r ≡ Err (ends.Write f)
-      → TakesSome {X = Unit {0}} (PrintsItem taken) (StopsWithin taken write_fault) (Err e) old new → write_fault new.out.now ≡ Some f
+      → WalksSome (PrintsItem taken) (StopsWithin taken write_fault) {X = Unit {0}} (Err e) old new → write_fault new.out.now ≡ Some f
   fault_told e r end f old new is same told walked = by_fault e f old new (same_end (export_end e) (ends.Write f) (sym (is ∙ ap Err same) ∙ told)) walked
 
   module _ (a : Option (List ℕ)) (old : ExportSink W) (first : old.before ≡ None) (head : Appends a (taken old.out.now) (ended (header ∷ []))) where
@@ -88,15 +88,15 @@ module _ {W : Type 0} (taken : W → Option (List ℕ)) (write_fault : W → Opt
         stopped a (taken between.out.now) (taken new.out.now) (text_of_items front) (lines_of_entry between entry) (text_behind (item_in entry).0 behind) (text_of_items (front ++ item_in entry ∷ behind)) (behind_header between front h) stop.front
         (text_parted (text_or_none between.before) front (item_in entry) behind (last_printed between front h))
 
-    by_end : (e : EachEnd WriteFault) (new : ExportSink W) (items : Items) → TakesEach {X = Unit {0}} (PrintsItem taken) (StopsWithin taken write_fault) (Err e) (placed_from 1 items) old new
+    by_end : (e : EachEnd WriteFault) (new : ExportSink W) (items : Items) → Walks (PrintsItem taken) (StopsWithin taken write_fault) {X = Unit {0}} (Err e) (placed_from 1 items) old new
         → WritesItems {X = Unit {0}} (Err (export_end e)) a (taken new.out.now) items
-    by_end (Fault f) new items (front, entry, behind, between, parts, took, stop) =
-        let whole : items ≡ map item_in front ++ item_in entry ∷ map item_in behind = sym (placed_items 1 items) ∙ ap (map item_in) parts ∙ map-append item_in front (entry ∷ behind) in
-        subst (λ (is : Items). SendsFront a (taken new.out.now) (text_of_items is)) (sym whole) (stopped_within between new (map item_in front) (map item_in behind) entry f (front_printed old between front took) stop)
-    by_end (Tables t) new items (front, behind, parts, took) =
-        (map item_in front, map item_in behind, sym (placed_items 1 items) ∙ ap (map item_in) parts ∙ map-append item_in front behind, behind_header new (map item_in front) (front_printed old new front took))
+    by_end (Fault f) new items w =
+        let whole : items ≡ map item_in w.front ++ item_in w.item ∷ map item_in w.rest = sym (placed_items 1 items) ∙ ap (map item_in) w.parts ∙ map-append item_in w.front (w.item ∷ w.rest) in
+        subst (λ (is : Items). SendsFront a (taken new.out.now) (text_of_items is)) (sym whole) (stopped_within w.between new (map item_in w.front) (map item_in w.rest) w.item f (front_printed old w.between w.front w.took) w.faulted)
+    by_end (Tables t) new items w =
+        (map item_in w.front, map item_in w.rest, sym (placed_items 1 items) ∙ ap (map item_in) w.parts ∙ map-append item_in w.front w.rest, behind_header new (map item_in w.front) (front_printed old new w.front w.took))
 
     -- some items, and a fault
     pub some_exported : (e : EachEnd WriteFault) (r : Result (Unit {0}) ExportEnd) (end : ExportEnd) (new : ExportSink W) (items : Items) → r ≡ Err end → end ≡ export_end e
-        → TakesEach {X = Unit {0}} (PrintsItem taken) (StopsWithin taken write_fault) (Err e) (placed_from 1 items) old new → WritesItems r a (taken new.out.now) items
+        → Walks (PrintsItem taken) (StopsWithin taken write_fault) {X = Unit {0}} (Err e) (placed_from 1 items) old new → WritesItems r a (taken new.out.now) items
     some_exported e r end new items is same told = subst (λ (x : Result (Unit {0}) ExportEnd). WritesItems x a (taken new.out.now) items) (sym (is ∙ ap Err same)) (by_end e new items told)

@@ -12,7 +12,7 @@ use Rattle.pid_tables_rows.specs.declared.version.Version.TheVariants.{One, Two}
 use Rattle.pid_tables_rows.specs.Clauses as clauses
 use Rattle.pid_tables_rows.specs.Clauses.{seen}
 use Rattle.pid_tables_rows.specs.Faults.{IsMemoryOrStore, IsNotNewerSchema}
-use Rattle.pid_tables_check.specs.Checking.{Explains, Finds}
+use Rattle.pid_tables_check.specs.Checking.{Explains, FindsVersion}
 use Rattle.pid_tables_check.specs.Shapes.{HasNoTable, HasSomeTable}
 use Rattle.pid_tables.specs.declared.migration.Step.{Step}
 use Rattle.pid_tables.specs.declared.migration.Step.TheVariants.{Created, Moved, Already}
@@ -25,7 +25,7 @@ use Rattle.pid_service.specs.Registries.{connection, is_live}
 
 -- the tables are found to be a registry's, in some schema
 abbrev pub IsFound : Database → Type 0
-IsFound db = (version : Version) × Finds db (Some version)
+IsFound db = (version : Version) × FindsVersion db (Some version)
 
 module _ {S : Type 0} (store : Ghosts S) where
   -- a registry that shows the history; or memory was short or the store failed, and the connection
@@ -44,7 +44,7 @@ module _ {S : Type 0} (store : Ghosts S) where
 
   -- while it is open, the tables keep all conditions of a registry in the schema of today
   abbrev pub KeepsConditions : Held S → Type 0
-  KeepsConditions conn = IsTrue (clauses.is_open store conn) → Finds (seen store conn) (Some Two)
+  KeepsConditions conn = IsTrue (clauses.is_open store conn) → FindsVersion (seen store conn) (Some Two)
 
   -- while it is open, the fault tells what fails of the tables as they are now
   abbrev pub ExplainsNow : Held S → TableFault → Type 0
@@ -54,7 +54,7 @@ module _ {S : Type 0} (store : Ghosts S) where
   -- moved that kept all conditions, and the fault tells what fails of what they became.
   abbrev pub RefusesToOpen : Held S → TableFault → Held S → Type 0
   RefusesToOpen conn fault back = tables.Refuses store conn fault back
-      ⊎ (Finds (seen store conn) (Some One) × ExplainsNow back fault)
+      ⊎ (FindsVersion (seen store conn) (Some One) × ExplainsNow back fault)
 
   -- while it is open it was open, and sees what it saw
   abbrev pub SeesTheSame : Held S → Held S → Type 0
@@ -71,7 +71,7 @@ module _ {S : Type 0} (store : Ghosts S) where
   -- are shown as before, and the fault tells what fails of what is seen now.
   pub record MayHaveMade (old : Held S) (fault : TableFault) (new : Held S) : Type 0 where
     pub found : clauses.HasCleanDisk store new → HasSomeTable (seen store old).schema
-        → Finds (seen store old) (Some One)
+        → FindsVersion (seen store old) (Some One)
     pub kept : clauses.HasCleanDisk store new → KeepsViews old new
     pub told : clauses.HasCleanDisk store new → ExplainsNow new fault
 
@@ -122,7 +122,7 @@ module _ {S : Type 0} (store : Ghosts S) where
         → MatchResult result (λ _. IsFound (seen store old)) (λ e. RefusesToOpen old e new)
     -- Some table, but none of schema 1 that keeps its conditions: nothing is written.
     pub only_read : clauses.HasCleanDisk store new → HasSomeTable (seen store old).schema
-        → ¬ (Finds (seen store old) (Some One)) → clauses.OnlyReads store old new
+        → ¬ (FindsVersion (seen store old) (Some One)) → clauses.OnlyReads store old new
     -- Tables of schema 1 that show views, of a history or not: the fault tells what fails of them,
     -- or, while the connection is open, of what they became.
     pub explained : clauses.HasCleanDisk store new → (v : Views) → clauses.RestsIn store One old v
@@ -132,7 +132,8 @@ module _ {S : Type 0} (store : Ghosts S) where
         → IfErr result (λ e. IsNotNewerSchema e ⊎ ExplainsNow new e)
     -- No table, but something else under the name of one.
     pub met : clauses.HasCleanDisk store new → HasNoTable (seen store old).schema
-        → tables.IsMet store old → Rejects old new result IsNotNewerSchema
+        → (IsTrue (clauses.is_open store old) → tables.IsNameTaken store old)
+        → Rejects old new result IsNotNewerSchema
     -- A connection that a fault has shut.
     pub shut : clauses.HasCleanDisk store new → clauses.is_open store old ≡ false
         → Rejects old new result IsMemoryOrStore
@@ -228,7 +229,7 @@ module _ {S : Type 0} (store : Ghosts S) where
         → MatchResult result (λ r. r.1 ≡ Created) (λ e. IsNotNewerSchema e.0)
     -- Something else under the name of a table is refused,
     pub met : clauses.HasCleanDisk store (moved_to result) → HasNoTable (seen store conn).schema
-        → tables.IsMet store conn
+        → (IsTrue (clauses.is_open store conn) → tables.IsNameTaken store conn)
         → Rejects conn (moved_to result) (step_of result) IsNotNewerSchema
     -- and so is a connection that a fault has shut.
     pub shut : clauses.HasCleanDisk store (moved_to result) → clauses.is_open store conn ≡ false

@@ -30,9 +30,8 @@ use crate::registry::Registry;
 use pid_ident::{Account, Input, Key};
 use pid_moderation::{Act, Command, FILE_BYTES, Facts, File, Refusal, Reply, command_is_well_made};
 use pid_reader::{SkipEnd, SliceInput, skip_input};
-use pid_tables::{
-    Early, Stop, bring_in, judge_import, long_files_are_refused, texts_read_to_files,
-};
+use pid_tables::laws::{long_files_are_refused, texts_read_to_files};
+use pid_tables::{Early, Stop, bring_in, judge_import};
 use sqlite::Alter;
 use std::alloc::Global;
 use thiserror::Error;

@@ -6,7 +6,7 @@ ghost use Rattle.pid_tables_rows.specs.declared.version.Version.TheVariants.{Two
 ghost use Rattle.pid_tables_rows.specs.declared.version.Version.{Version as Schema};
 ghost use Rattle.pid_tables_rows.specs.Clauses.{AtRest, HasCleanDisk, OnlyReads, is_open, seen};
 ghost use Rattle.pid_tables_rows.specs.Faults.{IsMemoryOrStore};
-ghost use Rattle.pid_tables_check.specs.Checking.{Explains, Finds};
+ghost use Rattle.pid_tables_check.specs.Checking.{Explains, FindsVersion};
 ghost use Rattle.pid_service.specs.Histories.{IsReached};
 ghost use Rattle.pid_service.specs.Opening.{
   ExplainsOpening,
@@ -50,7 +50,7 @@ fn judge_tables<S: Alter + Drop>(tables: &mut Tables<S>, alloc: Global) -> Resul
     ensures shut { HasCleanDisk S.Store tables.new.conn → is_open S.Store tables.old.conn ≡ false
         → MatchResult result (λ _. ⊥) IsMemoryOrStore }
     ensures told { HasCleanDisk S.Store tables.new.conn
-        → MatchResult result (λ _. Finds (seen S.Store tables.old.conn) (Some Two))
+        → MatchResult result (λ _. FindsVersion (seen S.Store tables.old.conn) (Some Two))
         (Explains (seen S.Store tables.old.conn)) }
 {
     laws::reached_histories_are_kept(); // proof only

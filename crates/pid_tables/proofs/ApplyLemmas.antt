@@ -10,11 +10,11 @@ use Rattle.pid_moderation.specs.Changes.{affected, keeping, changed, FitsEffect,
 use Rattle.pid_moderation.specs.Views.{Views}
 use Rattle.pid_tables_rows.specs.Shows.{Counts, ShowsCounting, Shows, counts_of}
 use Rattle.pid_tables_rows.specs.Writes.{with_revision}
-use Rattle.pid_tables.specs.Applies.{IsCounted}
+use Rattle.pid_tables.specs.Applies.{CountsFit}
 use Rattle.pid_tables.specs.Steps.Applies.{recounted}
 
 -- meta has the counts of the changed views
-pub recounted_is : (n : ℕ) (e : Effect) (c : Counts) (v : Views) → IsCounted e c v → FitsEffect e v → recounted e c ≡ counts_of (affected n e v)
+pub recounted_is : (n : ℕ) (e : Effect) (c : Counts) (v : Views) → CountsFit e c v → FitsEffect e v → recounted e c ≡ counts_of (affected n e v)
 recounted_is n Nothing c v is fits = is
 recounted_is n (Ranked who rank is_new) c v is fits = is
 recounted_is n (Submitted number author path proposal note) c v is fits =
@@ -44,10 +44,10 @@ kept_counts None v = refl
 kept_counts (Some r) v = refl
 
 -- so the tables show them whole
-pub shows_whole : (change : Change) (c : Counts) (v : Views) (db : Database) → IsCounted change.effect c v → FitsEffect change.effect v → ShowsCounting (recounted change.effect c) db (changed change v) → Shows db (changed change v)
+pub shows_whole : (change : Change) (c : Counts) (v : Views) (db : Database) → CountsFit change.effect c v → FitsEffect change.effect v → ShowsCounting (recounted change.effect c) db (changed change v) → Shows db (changed change v)
 shows_whole change c v db is fits = subst (λ counts. ShowsCounting counts db (changed change v)) (recounted_is change.revision change.effect c v is fits ∙ sym (kept_counts change.receipt (affected change.revision change.effect v)))
 
-pub whole_with : (change : Change) (r : Option Receipt) (c : Counts) (v : Views) (db : Database) → change.receipt ≡ r → IsCounted change.effect c v → FitsEffect change.effect v
+pub whole_with : (change : Change) (r : Option Receipt) (c : Counts) (v : Views) (db : Database) → change.receipt ≡ r → CountsFit change.effect c v → FitsEffect change.effect v
     → ShowsCounting (recounted change.effect c) db (with_revision change.revision (keeping r (affected change.revision change.effect v))) → Shows db (changed change v)
 whole_with change r c v db is counted fits h =
     shows_whole change c v db counted fits (subst (λ r. ShowsCounting (recounted change.effect c) db (with_revision change.revision (keeping r (affected change.revision change.effect v)))) (sym is) h)

@@ -27,7 +27,7 @@ use Rattle.pid_tables.specs.declared.put_file.Stop.TheVariants as stops
 use Rattle.pid_tables.specs.declared.tally.Tally.{Tally}
 use Rattle.pid_tables.specs.Files.{file_reading, read_as}
 use Rattle.pid_tables.specs.Faults.{IsFault}
-use Rattle.pid_tables.specs.Importing.{DoesNotTellFailed, ReadsFile, EndsImport}
+use Rattle.pid_tables.specs.Importing.{StopIsNotFailed, ReadsFile, EndsImport}
 use Rattle.pid_tables.specs.Steps.ImportParts.{IsStopOf}
 use Rattle.pid_tables.specs.Steps.Importing.{Applies}
 use Rattle.pid_tables.specs.Judging.{IsOpen}
@@ -103,10 +103,10 @@ fault_live : (e : Refusal) → IsFault e → e ≢ refusals.Failed
 fault_live e (inl memory) bad = let both = sym memory ∙ bad in let no : ⊥ = cc in no
 fault_live e (inr store) bad = let both = sym store ∙ bad in let no : ⊥ = cc in no
 
-pub stop_live : (end : InputEnd TableFault) (stop : Stop) → IsStopOf end stop → DoesNotTellFailed stop
-stop_live ends.ReadFault stop is = subst DoesNotTellFailed (sym is) tt
-stop_live ends.TooLong stop is = subst DoesNotTellFailed (sym is) (λ bad. let no : ⊥ = cc in no)
-stop_live (ends.Cut (cuts.Refused (reads.Line line kind))) stop is = subst DoesNotTellFailed (sym is) (λ bad. let no : ⊥ = cc in no)
-stop_live (ends.Cut (cuts.Refused reads.TooManyEntries)) stop is = subst DoesNotTellFailed (sym is) (λ bad. let no : ⊥ = cc in no)
-stop_live (ends.Cut (cuts.Refused reads.Memory)) stop is = subst DoesNotTellFailed (sym is) (λ bad. let no : ⊥ = cc in no)
-stop_live (ends.Cut (cuts.Fault f)) stop (e, is, fault) = subst DoesNotTellFailed (sym is) (fault_live e fault)
+pub stop_live : (end : InputEnd TableFault) (stop : Stop) → IsStopOf end stop → StopIsNotFailed stop
+stop_live ends.ReadFault stop is = subst StopIsNotFailed (sym is) tt
+stop_live ends.TooLong stop is = subst StopIsNotFailed (sym is) (λ bad. let no : ⊥ = cc in no)
+stop_live (ends.Cut (cuts.Refused (reads.Line line kind))) stop is = subst StopIsNotFailed (sym is) (λ bad. let no : ⊥ = cc in no)
+stop_live (ends.Cut (cuts.Refused reads.TooManyEntries)) stop is = subst StopIsNotFailed (sym is) (λ bad. let no : ⊥ = cc in no)
+stop_live (ends.Cut (cuts.Refused reads.Memory)) stop is = subst StopIsNotFailed (sym is) (λ bad. let no : ⊥ = cc in no)
+stop_live (ends.Cut (cuts.Fault f)) stop (e, is, fault) = subst StopIsNotFailed (sym is) (fault_live e fault)

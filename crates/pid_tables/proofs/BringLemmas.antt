@@ -23,7 +23,7 @@ use Rattle.pid_tables_rows.proofs.LeaveLemmas.{rests_in_two}
 use Rattle.pid_tables_rows.proofs.OnlyReading.{reads_then, rests_in_still}
 use Rattle.pid_tables_check.specs.Shapes.{HasNoTable, HasSomeTable, IsMadeFirst}
 use Rattle.pid_tables_check.proofs.Complete.{made_first}
-use Rattle.pid_tables.specs.Creation.{table_names, IsMet, RestsBare}
+use Rattle.pid_tables.specs.Creation.{table_names, IsNameTaken, RestsBare}
 use Rattle.pid_tables.specs.Bringing.{Brings, Left, Raised, HandsLatest, NamesLatest, Refuses, Stays}
 use Rattle.pid_tables.specs.Steps.Bringing.{IsStanding, Named, Found, step_for}
 use Rattle.pid_tables.specs.declared.migration.Step.{Step}
@@ -57,7 +57,7 @@ with_step P Q what found (Err e) is step h = h
 abbrev MetIn : Database → Type 0
 MetIn db = (name : List ℕ) × Has table_names name × (is_used db.schema name ≡ true)
 
-pub still_met : (old new : State) → OnlyReads old new → (IsTrue new.is_open → new.now ≡ old.now) → IsMet old → IsMet new
+pub still_met : (old new : State) → OnlyReads old new → (IsTrue new.is_open → new.now ≡ old.now) → (IsTrue old.is_open → IsNameTaken old) → IsTrue new.is_open → IsNameTaken new
 still_met old new reads same met opened = subst MetIn (sym (same opened)) (met (reads.was_open opened))
 
 -- none was made

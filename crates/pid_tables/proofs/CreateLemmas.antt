@@ -38,7 +38,7 @@ use Rattle.pid_tables_rows.specs.Faults.{IsMemoryOrStore}
 use Rattle.pid_tables_rows.specs.Leaves.{GoesOn}
 use Rattle.pid_tables_rows.specs.Queries.{IsWriteAs}
 use Rattle.pid_tables.specs.Creation.{AreMade}
-use Rattle.pid_tables.specs.Steps.MakingTables.{making, Creates, IsKnown, Makes, HasOnlyMeta, with_label}
+use Rattle.pid_tables.specs.Steps.MakingTables.{making, Creates, IsKnownDefinition, Makes, HasOnlyMeta, with_label}
 use Rattle.pid_tables_rows.proofs.SetLemmas.{all_with, text_set}
 use Rattle.pid_tables_rows.proofs.WriteLemmas.{went, same_value}
 
@@ -56,15 +56,15 @@ fold_on (u ∷ ts) s t = fold_on ts (created s u) t
 -- ---- a text that is known
 
 module _ (text : List ℕ) where
-  pub command_is : (r : Result Compiled CompileError) → IsKnown text r → command_of r ≡ CreateTable
+  pub command_is : (r : Result Compiled CompileError) → IsKnownDefinition text r → command_of r ≡ CreateTable
   command_is (Ok c) h = h.0
   command_is (Err e) h = absurd h
 
-  pub whole_is : (r : Result Compiled CompileError) → IsKnown text r → statement_of text r ≡ text
+  pub whole_is : (r : Result Compiled CompileError) → IsKnownDefinition text r → statement_of text r ≡ text
   whole_is (Ok c) h = h.3
   whole_is (Err e) h = absurd h
 
-  pub plain_is : (r : Result Compiled CompileError) → IsKnown text r → IsPlain r
+  pub plain_is : (r : Result Compiled CompileError) → IsKnownDefinition text r → IsPlain r
   plain_is (Ok c) h = (h.1, h.2)
   plain_is (Err e) h = absurd h
 

@@ -4,7 +4,7 @@ use Rattle.sqlite.specs.State.{State, HasCleanDisk, Survives}
 use Rattle.pid_reader.specs.LookingBack.{Item}
 use Rattle.pid_moderation.specs.Items.{Items, name_at, imported}
 use Rattle.pid_moderation.specs.Views.{Views}
-use Rattle.pid_tables_rows.specs.Leaves.{Holds, Within, Written}
+use Rattle.pid_tables_rows.specs.Leaves.{KeepsCommitted, Within, Written}
 use Rattle.pid_tables_rows.specs.Shows.{Counts}
 use Rattle.pid_tables_rows.specs.Writes.{with_name}
 use Rattle.pid_tables_rows.specs.declared.fault.TableFault.{TableFault}
@@ -40,7 +40,7 @@ module _ {K : Type 0} (n : ℕ) (st : K → State) (puts : K → Item → Put �
       counted ∙ ap (λ (p : Put). tallied p before) (told ∙ ap (λ (is : Items). put_over item.1 (name_at item.0 is)) there)
       ∙ ap (λ (t : Tally). tallied (put_over item.1 (name_at item.0 (imported items w.items))) t) earlier
 
-  pub some_holds : (old new : K) → PutSome puts gives_up old new → (c : Counts) (v w : Views) → Within c (st old) v w → Holds (st new) v
+  pub some_holds : (old new : K) → PutSome puts gives_up old new → (c : Counts) (v w : Views) → Within c (st old) v w → KeepsCommitted (st new) v
   some_holds old new (items, tally, inl all) c v w within = (all_within old new items tally all c v w within).holds
   some_holds old new (items, tally, inr (between, all, gave)) c v w within = (gives between new gave).holds c v (put_in_turn n items w) (all_within old between items tally all c v w within)
 
@@ -63,6 +63,6 @@ pub put_means : {N : Type 0} (n : ℕ) (first second : N) (r : Result Put TableF
 put_means n first second (Ok p) old new path name same survives written told = (same, record { clean = earlier old new survives; written = written; told = told })
 put_means n first second (Err f) old new path name same survives written told = tt
 
-pub put_gives_up : {X N : Type 0} (r : Result X TableFault) (first second : N) (old new : State) → first ≡ second → Survives old new (λ _. ⊥) → ((c : Counts) (v w : Views) → Within c old v w → Holds new v) → OnErr r ((first ≡ second) × GivesUp old new)
+pub put_gives_up : {X N : Type 0} (r : Result X TableFault) (first second : N) (old new : State) → first ≡ second → Survives old new (λ _. ⊥) → ((c : Counts) (v w : Views) → Within c old v w → KeepsCommitted new v) → OnErr r ((first ≡ second) × GivesUp old new)
 put_gives_up (Ok x) first second old new same survives holds = tt
 put_gives_up (Err f) first second old new same survives holds = (same, record { clean = earlier old new survives; holds = holds })

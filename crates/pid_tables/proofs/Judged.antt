@@ -30,10 +30,10 @@ use Rattle.pid_moderation.specs.Ranks.{has_rank}
 use Rattle.pid_moderation.specs.Views.{Views, views_of, items_of}
 use Rattle.pid_moderation.specs.WellMade.{AreApart}
 use Rattle.pid_tables_rows.specs.Shows.{counts_of}
-use Rattle.pid_tables.specs.Applies.{IsCounted}
+use Rattle.pid_tables.specs.Applies.{CountsFit}
 use Rattle.pid_tables.specs.declared.tally.Tally.{Tally}
 use Rattle.pid_tables.specs.Files.{file_reading}
-use Rattle.pid_tables.specs.Importing.{Refuses}
+use Rattle.pid_tables.specs.Importing.{RefusesImport}
 use Rattle.pid_tables.specs.Steps.ImportParts.{IsNext, IsPut, JudgesFile}
 use Rattle.pid_tables.specs.Judging.{IsOpen}
 use Rattle.pid_tables.specs.Steps.Tallies.{tally_of}
@@ -80,7 +80,7 @@ faulty_by None true low last reply f none passes = absurd (let no : ⊥ = cc in 
 faulty_by None false true last reply f none passes = absurd (let no : ⊥ = cc in no)
 faulty_by None false false last reply f none passes = refl
 
-pub faulty : (h : History) (command : Command) (g : Facts) (reading : Reading) (f : FileFault) → is_import command.act ≡ true → IsOpen h command g → reading ≡ Faulty f → Refuses h (asked command reading) (refusals.FileFault f)
+pub faulty : (h : History) (command : Command) (g : Facts) (reading : Reading) (f : FileFault) → is_import command.act ≡ true → IsOpen h command g → reading ≡ Faulty f → RefusesImport h (asked command reading) (refusals.FileFault f)
 faulty h command g reading f is open_ faulty_is =
     let v = views_of h in
     let a = command.account in
@@ -158,7 +158,7 @@ judged_good h account key pairs f (Ok d) none is told =
       told.0,
       subst (λ (ps : Items). views_of (after h c) ≡ changed d.0 (with_pairs ps v)) parts.0 told.2,
       subst (λ (ps : Items). FitsViews d.0 (with_pairs ps v)) parts.0 told.3,
-      subst (λ (x : Change). IsCounted x.effect (counts_of v) (with_pairs pairs v)) (sym whole) refl,
+      subst (λ (x : Change). CountsFit x.effect (counts_of v) (with_pairs pairs v)) (sym whole) refl,
     )
 
 pub judged_file : (h : History) (command : Command) (text : List ℕ) (f : Facts) (t : Tally) (g : Facts) (result : Result (Change × Reply) Refusal) → is_import command.act ≡ true → IsOpen h command g → IsPut h text t

@@ -16,7 +16,7 @@ use Rattle.sqlite_resolve.specs.Lowering.{Checked, and_then}
 use Rattle.sqlite_syntax.specs.declared.statement.Parsed.{Parsed}
 use Rattle.sqlite_tied.specs.Compute.{everything}
 use Rattle.pid_tables_rows.specs.Schema.{meta, account, item, submission, remark, receipt, item_since, pid_schema}
-use Rattle.pid_tables.specs.Steps.MakingTables.{IsMaker, IsMakerOf, IsRefused}
+use Rattle.pid_tables.specs.Steps.MakingTables.{IsMaker, IsMakerOf, IsTextRefused}
 use Rattle.pid_tables.proofs.CreateTexts.{create_meta, create_account, create_item, create_submission, create_remark, create_receipt, create_item_since, meta_creates, account_creates, item_creates, submission_creates, remark_creates, receipt_creates, item_since_creates}
 
 abbrev MakesIfGiven : Checked Command → Type 0
@@ -129,6 +129,6 @@ pub item_since_maker : IsMakerOf create_item_since (codes "item_since")
 item_since_maker = record { table = record item_since { tree = 0 }; defined = item_since_creates.defined; named = refl; makes = maker create_item_since only_item_since }
 
 -- a registry has a table of this name already
-pub meta_met : IsRefused (understood pid_schema create_meta)
+pub meta_met : IsTextRefused (understood pid_schema create_meta)
 unfolding understood everything
 meta_met = tt

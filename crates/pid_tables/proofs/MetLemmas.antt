@@ -24,15 +24,15 @@ use Rattle.sqlite_rules.specs.Lists.{Has}
 use Rattle.sqlite_schema.specs.Names.{same_name}
 use Rattle.pid_tables_rows.specs.declared.fault.TableFault.{TableFault}
 use Rattle.pid_tables_rows.specs.declared.fault.TableFault.TheVariants.{Memory, Store, NewerSchema, Damaged}
-use Rattle.pid_tables_rows.specs.Faults.{fault_of, IsNotNewerSchema}
+use Rattle.pid_tables_rows.specs.Faults.{fault_of_sql, IsNotNewerSchema}
 use Rattle.pid_tables_rows.specs.Causes.{IsCaused}
 use Rattle.pid_moderation.specs.Views.{Views}
 use Rattle.pid_tables_rows.specs.Leaves.{AtRest, GoesOn, OnlyReads}
 use Rattle.pid_tables_rows.specs.Schema.{pid_schema}
 use Rattle.pid_tables_rows.proofs.CauseLemmas.{of_store, caused_first}
 use Rattle.pid_tables_rows.proofs.WriteLemmas.{went, same_value}
-use Rattle.pid_tables.specs.Creation.{table_names, IsMet, IsMetFault}
-use Rattle.pid_tables.specs.Steps.MakingTables.{IsMaker, IsKnown, IsMakerOf, IsRefused, TookNames}
+use Rattle.pid_tables.specs.Creation.{table_names, IsNameTaken, IsFaultOfTaken}
+use Rattle.pid_tables.specs.Steps.MakingTables.{IsMaker, IsKnownDefinition, IsMakerOf, IsTextRefused, TookNames}
 use Rattle.pid_tables.proofs.CreateLemmas.{command_is, whole_is, plain_is}
 
 -- ---- names that are taken stay so
@@ -56,7 +56,7 @@ sequence_more db after name false gives h = subst (λ (d : Database). is_used d.
 
 -- ---- one table
 
-known : (text : List ℕ) (r : Result Compiled CompileError) (c : Compiled) → r ≡ Ok c → IsMaker text r → IsKnown text r
+known : (text : List ℕ) (r : Result Compiled CompileError) (c : Compiled) → r ≡ Ok c → IsMaker text r → IsKnownDefinition text r
 known text (Ok d) c is h = h
 known text (Err e) c is h = absurd (let bad : ⊥ = cc in bad)
 
@@ -78,7 +78,7 @@ took text name old new it count h =
           subst (λ (d : Database). is_used d.schema other ≡ true) (sym now) (sequence_more first.0 all.0 other (lacks_sequence first.0.schema) first.2 made);
     }
 
-making_fault : (e : Error) → IsNotNewerSchema (fault_of e)
+making_fault : (e : Error) → IsNotNewerSchema (fault_of_sql e)
 making_fault (SqliteFailure code.OutOfMemory) = tt
 making_fault (SqlInputError compile.OutOfMemory) = tt
 making_fault _ = tt
@@ -87,7 +87,7 @@ abbrev Ran : List ℕ → State → State → Type 0
 Ran text old new = (count : ℕ) × Executes text [] old new (Ok count)
 
 abbrev Failed : List ℕ → State → State → TableFault → Type 0
-Failed text old new fault = (e : Error) × (fault ≡ fault_of e) × ExecutesInside 0 text [] old new (Err e)
+Failed text old new fault = (e : Error) × (fault ≡ fault_of_sql e) × ExecutesInside 0 text [] old new (Err e)
 
 pub taken : (text name : List ℕ) (old new : State) → IsMakerOf text name → (r : Result (Unit {0}) TableFault) → OnOk r (Ran text old new) → IfErr r (Failed text old new)
     → MatchResult r (λ _. TookNames (name ∷ []) old.now.schema new.now.schema) IsNotNewerSchema
@@ -128,33 +128,33 @@ none_met a b took met = free_at a table_names took.free met.0 met.1 met.2
 
 -- ---- why a text is refused that the schema has a table for already
 
-never : (r : Result Compiled CompileError) (c : Compiled) → IsRefused r → r ≡ Ok c → ⊥
+never : (r : Result Compiled CompileError) (c : Compiled) → IsTextRefused r → r ≡ Ok c → ⊥
 never (Ok d) c bad is = bad
 never (Err e) c bad is = cc
 
-shut_fault : (old new : State) (f : TableFault) → old.is_open ≡ false → IsNotNewerSchema f → IsMetFault old new f
+shut_fault : (old new : State) (f : TableFault) → old.is_open ≡ false → IsNotNewerSchema f → IsFaultOfTaken old new f
 shut_fault old new Memory shut h = tt
 shut_fault old new Store shut h = inr (inl shut)
 shut_fault old new (NewerSchema n) shut h = h
 shut_fault old new Damaged shut h = tt
 
-pub met_if_caused : (old new : State) (f : TableFault) → IsCaused old new f → IsMetFault old new f
+pub met_if_caused : (old new : State) (f : TableFault) → IsCaused old new f → IsFaultOfTaken old new f
 met_if_caused old new Memory h = tt
 met_if_caused old new Store h = h
 met_if_caused old new (NewerSchema n) h = h
 met_if_caused old new Damaged h = tt
 
-pub met_first : (old mid new : State) (e : TableFault) → mid.faults ≤ new.faults → IsMetFault old mid e → IsMetFault old new e
+pub met_first : (old mid new : State) (e : TableFault) → mid.faults ≤ new.faults → IsFaultOfTaken old mid e → IsFaultOfTaken old new e
 met_first old mid new Memory more h = tt
 met_first old mid new Store more h = caused_first old mid new Store more h
 met_first old mid new (NewerSchema n) more h = h
 met_first old mid new Damaged more h = tt
 
-module _ (text : List ℕ) (old new : State) (bad : IsRefused (understood pid_schema text)) where
-  moved : (e f : Error) → e ≡ f → IsMetFault old new (fault_of f) → IsMetFault old new (fault_of e)
-  moved e f same h = subst (λ x. IsMetFault old new (fault_of x)) (sym same) h
+module _ (text : List ℕ) (old new : State) (bad : IsTextRefused (understood pid_schema text)) where
+  moved : (e f : Error) → e ≡ f → IsFaultOfTaken old new (fault_of_sql f) → IsFaultOfTaken old new (fault_of_sql e)
+  moved e f same h = subst (λ x. IsFaultOfTaken old new (fault_of_sql x)) (sym same) h
 
-  misread : (f : CompileError) → IsMetFault old new (fault_of (SqlInputError f))
+  misread : (f : CompileError) → IsFaultOfTaken old new (fault_of_sql (SqlInputError f))
   misread compile.OutOfMemory = tt
   misread _ = tt
 
@@ -162,28 +162,28 @@ module _ (text : List ℕ) (old new : State) (bad : IsRefused (understood pid_sc
     no_text : (c : Compiled) → understood old.now.schema text ≡ Ok c → ⊥
     no_text c is = never (understood pid_schema text) c bad (subst (λ s. understood s text ≡ Ok c) has is)
 
-    not_run : IsNotRun old new text [] e → IsMetFault old new (fault_of e)
+    not_run : IsNotRun old new text [] e → IsFaultOfTaken old new (fault_of_sql e)
     unfolding IsNotRun
     not_run (inl (inl h, same)) = moved e _ h.2 (misread h.0)
     not_run (inl (inr h, same)) = absurd (no_text h.0 h.1)
     not_run (inr fails) = moved e _ fails.1 (met_if_caused old new _ (of_store old new fails.0 fails.2))
 
-    runs : ExecutesIn false text [] old new (Err e) → IsMetFault old new (fault_of e)
+    runs : ExecutesIn false text [] old new (Err e) → IsFaultOfTaken old new (fault_of_sql e)
     unfolding ExecutesIn
     runs (inl h) = not_run h
     runs (inr h) = absurd (no_text h.0 h.1.is)
 
-    inside : ExecutesInside 0 text [] old new (Err e) → IsMetFault old new (fault_of e)
+    inside : ExecutesInside 0 text [] old new (Err e) → IsFaultOfTaken old new (fault_of_sql e)
     unfolding EndsScope
     inside (inl h) = runs h.0
     inside (inr h) = absurd (no_text h.0.0 h.0.1.is)
 
   pub met_fault : (IsTrue old.is_open → old.now.schema ≡ pid_schema) → (r : Result (Unit {0}) TableFault) → HasCleanDisk new → IsTrue old.in_transaction → GoesOn old new r → OnOk r (Ran text old new) → IfErr r (Failed text old new)
-      → MatchResult r (λ _. ⊥) (IsMetFault old new)
+      → MatchResult r (λ _. ⊥) (IsFaultOfTaken old new)
   unfolding ExecutesIn
   met_fault has (Ok x) clean within goes ran failed = no_text (has (goes.was_open clean (goes.going clean within).0)) (SqliteFailure code.OutOfMemory) ran.1.0 ran.1.1.is
   met_fault has (Err f) clean within goes ran failed = elim (cases_Bool old.is_open) [
-    | inl opened ↦ subst (IsMetFault old new) (sym failed.1) (inside (has opened) failed.0 failed.2)
+    | inl opened ↦ subst (IsFaultOfTaken old new) (sym failed.1) (inside (has opened) failed.0 failed.2)
     | inr shut ↦ shut_fault old new f shut (subst IsNotNewerSchema (sym failed.1) (making_fault failed.0))
   ]
 
@@ -194,7 +194,7 @@ unfolding same_name
 meta_used = refl
 
 -- tables that show views have their names
-pub met_at_rest : (s : State) (v : Views) → AtRest s v → IsMet s
+pub met_at_rest : (s : State) (v : Views) → AtRest s v → IsTrue s.is_open → IsNameTaken s
 met_at_rest s v rest opened = (codes "meta", inl refl, ap (λ schema. is_used schema (codes "meta")) (rest.shows opened).schema ∙ meta_used)
 
 pub reads_if_never : (old new : State) (P : Trees → Type 0) → Survives old new P → (HasCleanDisk new → HasCleanDisk old) → new.in_transaction ≡ false → (IsTrue new.is_open → HasCleanDisk new) → (HasCleanDisk new → ⊥) → OnlyReads old new

@@ -10,7 +10,7 @@ use Rattle.pid_reader.specs.Reading.{entries_of}
 use Rattle.pid_file.specs.declared.whole_input.InputEnd.{InputEnd}
 use Rattle.pid_moderation.specs.Views.{Views}
 use Rattle.pid_tables_rows.specs.declared.fault.TableFault.{TableFault}
-use Rattle.pid_tables_rows.specs.Leaves.{Holds, Within}
+use Rattle.pid_tables_rows.specs.Leaves.{KeepsCommitted, Within}
 use Rattle.pid_tables_rows.specs.Shows.{Counts, counts_of}
 use Rattle.pid_tables.specs.declared.putting.Put.{Put}
 use Rattle.pid_tables.specs.declared.tally.Tally.{Tally}
@@ -42,7 +42,7 @@ module _ {S : Type 0} (store : Ghosts S) where
     pub put_clean : HasCleanDisk (shown end) → HasCleanDisk (shown start)
     put_clean = some_clean n shown (puts n) gives_up (λ s item put t h. h.1) (λ s t h. h.1) start end some
 
-    pub put_holds : (c : Counts) (v w : Views) → Within c (shown start) v w → Holds (shown end) v
+    pub put_holds : (c : Counts) (v w : Views) → Within c (shown start) v w → KeepsCommitted (shown end) v
     put_holds = some_holds n shown (puts n) gives_up (λ s item put t h. h.1) (λ s t h. h.1) start end some
 
   module _ (n : ℕ) (tally : Tally) (rest : Option (List ℕ)) (text : List ℕ) (start end : Transaction S) (put : PutsFile (puts n) gives_up (Ok tally) rest text start end) (v : Views) (begun : Within (counts_of v) (shown start) v v) where

@@ -5,7 +5,7 @@ use Rattle.pid_moderation.specs.declared.refusal.Refusal.TheVariants.{BadPath, B
 use Rattle.pid_moderation.specs.History.{Asked, History}
 use Rattle.pid_moderation.specs.Judgement.{Outcome, Refused, Repeated, Accepts, judge, answer, added, after}
 use Rattle.pid_moderation.specs.Views.{views_of}
-use Rattle.pid_tables.specs.Importing.{Refuses}
+use Rattle.pid_tables.specs.Importing.{RefusesImport}
 
 refusal_adds : (h : History) (c : Asked) (o : Outcome) (e : Refusal) → answer o ≡ Err e → added h c o ≡ h
 refusal_adds h c (Refused r) e same = refl
@@ -15,10 +15,10 @@ refusal_adds h c (Accepts r) e same = absurd (let no : ⊥ = cc in no)
 pub refused_stays : (h : History) (c : Asked) (e : Refusal) → answer (judge (views_of h) c) ≡ Err e → after h c ≡ h
 refused_stays h c e same = refusal_adds h c (judge (views_of h) c) e same
 
-pub told_by : (h : History) (c : Asked) (e : Refusal) → answer (judge (views_of h) c) ≡ Err e → Refuses h c e
+pub told_by : (h : History) (c : Asked) (e : Refusal) → answer (judge (views_of h) c) ≡ Err e → RefusesImport h c e
 told_by h c e same = inl (same, refused_stays h c e same)
 
-pub refusal_told : (h : History) (c : Asked) (e : Refusal) → (e ≢ Memory → answer (judge (views_of h) c) ≡ Err e) → Refuses h c e
+pub refusal_told : (h : History) (c : Asked) (e : Refusal) → (e ≢ Memory → answer (judge (views_of h) c) ≡ Err e) → RefusesImport h c e
 refusal_told h c BadPath told = told_by h c BadPath (told (λ bad. let no : ⊥ = cc in no))
 refusal_told h c BadName told = told_by h c BadName (told (λ bad. let no : ⊥ = cc in no))
 refusal_told h c BadText told = told_by h c BadText (told (λ bad. let no : ⊥ = cc in no))

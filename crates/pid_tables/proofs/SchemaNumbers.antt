@@ -16,49 +16,49 @@ use Rattle.pid_tables_rows.specs.Faults.{IsMemoryOrStore}
 use Rattle.pid_tables_rows.specs.Leaves.{OnlyReads}
 use Rattle.pid_tables_rows.specs.LabelRows.{HasLabel, IsDamageOf, LacksNumber, ExplainsNumber, ShowsNumber}
 use Rattle.pid_tables_rows.specs.PairRows.{IsPairRow}
-use Rattle.pid_tables_rows.specs.Schema.{number_of}
+use Rattle.pid_tables_rows.specs.Schema.{version_number}
 use Rattle.pid_tables_rows.specs.Shows.{Counts, Numbers, ShowsKeeping, labels_of}
 use Rattle.pid_tables_rows.specs.TableRows.{number, meta_row}
 use Rattle.pid_tables_rows.proofs.Keys.{pos_same}
 use Rattle.pid_tables_check.proofs.Asking.{IsSame, caused_then}
 use Rattle.pid_tables.specs.Steps.Bringing.{is_latest}
 
-small : (version : Version) → number_of version < 2 ^ 32
+small : (version : Version) → version_number version < 2 ^ 32
 small One = omega arith
 small Two = omega arith
 
 module _ {version : Version} {c : Counts} {numbers : Numbers} (db : Database) (v : Views) (shows : ShowsKeeping version c numbers db v) where
-  labelled : (r : Row) (pair : IsPairRow meta_row (labels_of version c numbers.revision) r) → column r 1 ≡ Text (codes "schema") → pair.value ≡ number_of version
+  labelled : (r : Row) (pair : IsPairRow meta_row (labels_of version c numbers.revision) r) → column r 1 ≡ Text (codes "schema") → pair.value ≡ version_number version
   labelled r pair label =
       let text : Text pair.key ≡ Text (codes "schema") = ap (λ x. column x 1) (sym pair.is) ∙ label in
       let same : pair.key ≡ codes "schema" = cc in
-      let found : Some (number_of version) ≡ Some pair.value = subst (λ k. labels_of version c numbers.revision k ≡ Some pair.value) same pair.maps in
+      let found : Some (version_number version) ≡ Some pair.value = subst (λ k. labels_of version c numbers.revision k ≡ Some pair.value) same pair.maps in
       cc
 
   -- the number that meta has is that of the schema
-  pub schema_told : (n : ℕ) → HasLabel db.trees (codes "schema") n → n ≡ number_of version
+  pub schema_told : (n : ℕ) → HasLabel db.trees (codes "schema") n → n ≡ version_number version
   schema_told n it =
       let pair = shows.meta.sound it.0 it.1 in
       let values : number pair.value ≡ number n = ap (λ x. column x 2) (sym pair.is) ∙ it.3 in
       let both = labelled it.0 pair it.2 in
-      pos_same n (number_of version) (let same : number n ≡ number (number_of version) = sym values ∙ ap number both in cc)
+      pos_same n (version_number version) (let same : number n ≡ number (version_number version) = sym values ∙ ap number both in cc)
 
   -- and it is there
   pub schema_there : LacksNumber db.trees (codes "schema") → ⊥
-  schema_there (inl none) = let row = shows.meta.complete (codes "schema") (number_of version) refl in none (meta_row row.0 (codes "schema") (number_of version)) row.1 refl
+  schema_there (inl none) = let row = shows.meta.complete (codes "schema") (version_number version) refl in none (meta_row row.0 (codes "schema") (version_number version)) row.1 refl
   schema_there (inr it) =
       let pair = shows.meta.sound it.0 it.1 in
-      it.3 (number_of version, small version, ap (λ x. column x 2) pair.is ∙ ap number (labelled it.0 pair it.2))
+      it.3 (version_number version, small version, ap (λ x. column x 2) pair.is ∙ ap number (labelled it.0 pair it.2))
 
   -- so it is told, where no fault hinders
-  pub number_told : (r : Result ℕ TableFault) → IfOk r (HasLabel db.trees (codes "schema")) → IfErr r (ExplainsNumber db.trees (codes "schema")) → MatchResult r (λ n. n ≡ number_of version) IsMemoryOrStore
+  pub number_told : (r : Result ℕ TableFault) → IfOk r (HasLabel db.trees (codes "schema")) → IfErr r (ExplainsNumber db.trees (codes "schema")) → MatchResult r (λ n. n ≡ version_number version) IsMemoryOrStore
   number_told (Ok n) label bad = schema_told n label
   number_told (Err Memory) label bad = tt
   number_told (Err Store) label bad = tt
   number_told (Err (NewerSchema n)) label bad = bad
   number_told (Err Damaged) label bad = schema_there bad
 
-pub second_is_latest : (version : Version) (n : ℕ) → n ≡ number_of version → (n == 2) ≡ is_latest version
+pub second_is_latest : (version : Version) (n : ℕ) → n ≡ version_number version → (n == 2) ≡ is_latest version
 second_is_latest One n is = ap (λ m. m == 2) is
 second_is_latest Two n is = ap (λ m. m == 2) is
 
@@ -74,9 +74,13 @@ untold_damage This Store h = tt
 untold_damage This (NewerSchema n) h = h
 untold_damage This Damaged h = absurd h
 
-pub both_told : (P : ℕ → Type 0) (Q : TableFault → Type 0) (r : Result ℕ TableFault) → IfOk r P → IfErr r Q → MatchResult r P Q
-both_told P Q (Ok n) good bad = good
-both_told P Q (Err e) good bad = bad
+pub good_of : {X E : Type 0} (P : X → Type 0) (Q : E → Type 0) (r : Result X E) → MatchResult r P Q → IfOk r P
+good_of P Q (Ok x) h = h
+good_of P Q (Err e) h = tt
+
+pub bad_of : {X E : Type 0} (P : X → Type 0) (Q : E → Type 0) (r : Result X E) → MatchResult r P Q → IfErr r Q
+bad_of P Q (Ok x) h = tt
+bad_of P Q (Err e) h = h
 
 -- a cause of what came later is one of the whole
 pub caused_all : (a b c : State) (Readable : Type 0) (P : ℕ → Type 0) (r : Result ℕ TableFault) → IsSame a b → OnlyReads b c → HasCleanDisk c → MatchResult r P (λ e. Readable → IsCaused b c e) → MatchResult r P (λ e. Readable → IsCaused a c e)

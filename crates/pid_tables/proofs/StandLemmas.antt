@@ -21,7 +21,7 @@ use Rattle.pid_tables_rows.specs.Schema.{more_tables, schema_of}
 use Rattle.pid_tables_rows.specs.Shows.{ShowsIn}
 use Rattle.pid_tables_rows.proofs.LabelLemmas.{label_stored}
 use Rattle.pid_tables_rows.proofs.TurnLemmas.{has_mapped, permuted}
-use Rattle.pid_tables_check.specs.Checking.{Explains, Finds, IsRegistry}
+use Rattle.pid_tables_check.specs.Checking.{Explains, FindsVersion, IsRegistry}
 use Rattle.pid_tables_check.specs.Conditions.{columns, label_row, rows_in}
 use Rattle.pid_tables_check.specs.Shapes.{HasNoTable, HasSomeTable, HasTables, IsMadeFirst}
 use Rattle.pid_tables_check.proofs.Complete.{as_six, made_first}
@@ -48,11 +48,11 @@ untold_told P Q db (Err e) h = untold_explains db e h.0
 
 -- what it tells behind reads is so of what was before them
 pub told_before : (old mid : State) (r : Result (Option Version) TableFault) → (IsTrue mid.is_open → mid.now ≡ old.now) → (mid.is_open ≡ false → MatchResult r (λ _. ⊥) IsMemoryOrStore)
-    → MatchResult r (Finds mid.now) (Explains mid.now) → MatchResult r (Finds old.now) (Explains old.now)
-told_before old mid (Ok x) same shut told = elim (cases_Bool mid.is_open) [ inl opened ↦ subst (λ (d : Database). Finds d x) (same opened) told | inr closed ↦ absurd (shut closed) ]
+    → MatchResult r (FindsVersion mid.now) (Explains mid.now) → MatchResult r (FindsVersion old.now) (Explains old.now)
+told_before old mid (Ok x) same shut told = elim (cases_Bool mid.is_open) [ inl opened ↦ subst (λ (d : Database). FindsVersion d x) (same opened) told | inr closed ↦ absurd (shut closed) ]
 told_before old mid (Err e) same shut told = elim (cases_Bool mid.is_open) [ inl opened ↦ subst (λ (d : Database). Explains d e) (same opened) told | inr closed ↦ untold_explains old.now e (shut closed) ]
 
-pub as_standing : (db : Database) (r : Result (Option Version) TableFault) → MatchResult r (Finds db) (Explains db) → MatchResult r (IsStanding db) (Explains db)
+pub as_standing : (db : Database) (r : Result (Option Version) TableFault) → MatchResult r (FindsVersion db) (Explains db) → MatchResult r (IsStanding db) (Explains db)
 as_standing db (Ok x) told = Found told
 as_standing db (Err e) told = told
 
@@ -62,7 +62,7 @@ tables_some One schema has = (_, inl refl, has.0 _ (inl refl))
 tables_some Two schema has = (_, inl refl, has.0 _ (inl refl))
 
 -- where there is no table, it finds none
-pub none_found : (db : Database) (r : Result (Option Version) TableFault) → HasNoTable db.schema → MatchResult r (Finds db) (Explains db) → MatchResult r (λ found. found ≡ None) IsMemoryOrStore
+pub none_found : (db : Database) (r : Result (Option Version) TableFault) → HasNoTable db.schema → MatchResult r (FindsVersion db) (Explains db) → MatchResult r (λ found. found ≡ None) IsMemoryOrStore
 none_found db (Ok None) none told = refl
 none_found db (Ok (Some version)) none told = absurd (none (tables_some version db.schema told.0))
 none_found db (Err Memory) none told = tt
@@ -120,10 +120,10 @@ pub names_latest : (db : Database) → ShowsLatest db → NamesLatest db
 names_latest db shown = record { shown = shown; stored = latest_stored db shown }
 
 -- the labels show schema 2 where the check finds it
-found_latest : (db : Database) → Finds db (Some Two) → ShowsLatest db
+found_latest : (db : Database) → FindsVersion db (Some Two) → ShowsLatest db
 found_latest db finds = let it = finds.1 in inr (it.0.meta, it.1.meta, it.2.counts.labels.there (codes "schema", 2) (inl refl))
 
 -- and where it stands
 pub standing_latest : (db : Database) (found : Option Version) → IsStanding db found → found ≡ Some Two → NamesLatest db
 standing_latest db found (Named is names) two = names
-standing_latest db found (Found finds) two = names_latest db (found_latest db (subst (Finds db) two finds))
+standing_latest db found (Found finds) two = names_latest db (found_latest db (subst (FindsVersion db) two finds))

@@ -8,10 +8,10 @@ use Rattle.pid_tables_rows.specs.Shows.{Counts, counts_of}
 
 -- meta has the counts of the views; of a file whose items are written one by one it has yet to
 -- learn how many there are
-abbrev pub IsCounted : Effect → Counts → Views → Type 0
-IsCounted (Imported items) c v = c.submissions ≡ length v.submits
-IsCounted Nothing c v = c ≡ counts_of v
-IsCounted (Ranked who rank is_new) c v = c ≡ counts_of v
-IsCounted (Submitted number author path proposal note) c v = c ≡ counts_of v
-IsCounted (Remarked number place author text) c v = c ≡ counts_of v
-IsCounted (Decided number state write) c v = c ≡ counts_of v
+abbrev pub CountsFit : Effect → Counts → Views → Type 0
+CountsFit (Imported items) c v = c.submissions ≡ length v.submits
+CountsFit Nothing c v = c ≡ counts_of v
+CountsFit (Ranked who rank is_new) c v = c ≡ counts_of v
+CountsFit (Submitted number author path proposal note) c v = c ≡ counts_of v
+CountsFit (Remarked number place author text) c v = c ≡ counts_of v
+CountsFit (Decided number state write) c v = c ≡ counts_of v

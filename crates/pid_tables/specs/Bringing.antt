@@ -14,10 +14,10 @@ use Rattle.pid_tables_rows.specs.declared.version.Version.TheVariants.{One, Two}
 use Rattle.pid_tables_rows.specs.Faults.{IsMemoryOrStore, IsNotNewerSchema}
 use Rattle.pid_tables_rows.specs.LabelRows.{HasLabel, ShowsNumber}
 use Rattle.pid_tables_rows.specs.Leaves.{AtRest, OnlyReads, RestsIn}
-use Rattle.pid_tables_check.specs.Checking.{Explains, Finds}
+use Rattle.pid_tables_check.specs.Checking.{Explains, FindsVersion}
 use Rattle.pid_tables_check.specs.Conditions.{label_row}
 use Rattle.pid_tables_check.specs.Shapes.{HasNoTable, HasSomeTable, IsMadeFirst, ShowsRows}
-use Rattle.pid_tables.specs.Creation.{IsMet, RestsBare}
+use Rattle.pid_tables.specs.Creation.{IsNameTaken, RestsBare}
 use Rattle.pid_tables.specs.declared.migration.Step.{Step}
 use Rattle.pid_tables.specs.declared.migration.Step.TheVariants.{Created, Moved, Already}
 
@@ -43,14 +43,14 @@ pub data Brings (old : State) (step : Step) (new : State) : Type 0 where
   -- tables of schema 2 were only read
   Left : step ≡ Already → OnlyReads old new → Brings old step new
   -- those of schema 1 were moved, since they keep all conditions of a registry
-  Raised : step ≡ Moved → Finds old.now (Some One) → Brings old step new
+  Raised : step ≡ Moved → FindsVersion old.now (Some One) → Brings old step new
 
 -- Some table was there, and this fault is told.
 pub data Refuses (old : State) (fault : TableFault) (new : State) : Type 0 where
   -- it tells which condition of a registry fails, and everything is as it was
   Fails : Explains old.now fault → OnlyReads old new → Refuses old fault new
   -- none fails, and tables of schema 1 could not be moved, which tells of no later schema
-  Stays : Finds old.now (Some One) → IsNotNewerSchema fault → Refuses old fault new
+  Stays : FindsVersion old.now (Some One) → IsNotNewerSchema fault → Refuses old fault new
 
 -- What was brought has the labels of schema 2: tables that were left alone, whatever they are, show
 -- them; and those that were made where there was nothing, or moved where views were shown in schema
@@ -105,7 +105,8 @@ pub record MigratesNone (old new : State) (result : Result Step TableFault) : Ty
   pub bare : HasCleanDisk new → HasNoTable old.now.schema
       → MatchResult result (λ step. step ≡ Created) IsNotNewerSchema
   -- Something else under the name of a table is refused, and left as it is.
-  pub met : HasCleanDisk new → HasNoTable old.now.schema → IsMet old
+  pub met : HasCleanDisk new → HasNoTable old.now.schema
+      → (IsTrue old.is_open → IsNameTaken old)
       → MatchResult result (λ _. ⊥) (λ fault. IsNotNewerSchema fault × OnlyReads old new)
   -- So is a connection that a fault has shut.
   pub shut : HasCleanDisk new → old.is_open ≡ false

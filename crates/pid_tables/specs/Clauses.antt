@@ -7,10 +7,13 @@ use Rattle.sqlite_trees.specs.declared.store.Store.{Ghosts}
 use Rattle.pid_moderation.specs.History.{History}
 use Rattle.pid_tables_rows.specs.declared.fault.TableFault.{TableFault}
 use Rattle.pid_tables_rows.specs.declared.version.Version.{Version}
+use Rattle.pid_reader.specs.LookingBack.{Item}
 use Rattle.pid_tables.specs.declared.migration.Step.{Step}
+use Rattle.pid_tables.specs.declared.putting.Put.{Put}
 use Rattle.pid_tables.specs.AtOnce as at_once
 use Rattle.pid_tables.specs.Bringing as bringing
 use Rattle.pid_tables.specs.Creation as creation
+use Rattle.pid_tables.specs.Putting as putting
 use Rattle.pid_tables.specs.SchemaNumbers as numbers
 use Rattle.pid_tables.specs.ShowsOrBlank as shows
 
@@ -18,14 +21,21 @@ module _ {S : Type 0} (store : Ghosts S) where
   abbrev pub IsBlank : Held S → Type 0
   IsBlank conn = creation.IsBlank (state store conn)
 
-  abbrev pub IsMet : Held S → Type 0
-  IsMet conn = creation.IsMet (state store conn)
+  abbrev pub IsNameTaken : Held S → Type 0
+  IsNameTaken conn = creation.IsNameTaken (state store conn)
 
-  abbrev pub IsMetFault : Held S → Held S → TableFault → Type 0
-  IsMetFault old new fault = creation.IsMetFault (state store old) (state store new) fault
+  abbrev pub IsFaultOfTaken : Held S → Held S → TableFault → Type 0
+  IsFaultOfTaken old new fault = creation.IsFaultOfTaken (state store old) (state store new) fault
 
   abbrev pub IsUndone : Held S → Held S → Type 0
   IsUndone old new = creation.IsUndone (state store old) (state store new)
+
+  abbrev pub FailsToCommit : {X : Type 0} → Held S → Held S → Result X TableFault → Type 0
+  FailsToCommit old new result = creation.FailsToCommit (state store old) (state store new) result
+
+  abbrev pub PutsName : Held S → Held S → Result Put TableFault → ℕ → Item → Type 0
+  PutsName old new result n item = putting.PutsName (state store old) (state store new)
+      result n item
 
   abbrev pub RestsBare : Held S → Type 0
   RestsBare conn = creation.RestsBare (state store conn)

@@ -16,8 +16,8 @@ use Rattle.pid_tables_rows.specs.declared.fault.TableFault.TheVariants.{Memory, 
 use Rattle.pid_tables_rows.specs.Causes.{IsCaused}
 use Rattle.pid_tables_rows.specs.Faults.{IsMemoryOrStore, IsNotNewerSchema}
 use Rattle.pid_tables_rows.specs.Schema.{no_schema}
-use Rattle.pid_tables_rows.specs.Shows.{Shows}
-use Rattle.pid_tables_rows.specs.Leaves.{AtRest, OnlyReads, as_found}
+use Rattle.pid_tables_rows.specs.Shows.{Shows, counts_of}
+use Rattle.pid_tables_rows.specs.Leaves.{AtRest, OnlyReads, Written, as_found}
 
 -- the schema that the tables make, in this order
 abbrev pub making : List Table → Schema
@@ -46,6 +46,15 @@ pub record IsUndone (old new : State) : Type 0 where
   pub sees : IsTrue new.is_open → new.now ≡ old.committed
   pub committed : IsTrue new.is_open → new.committed ≡ old.committed
 
+-- What a commit that fails leaves.
+pub record FailsToCommit {X : Type 0} (old new : State) (result : Result X TableFault)
+    : Type 0 where
+  pub caused : HasCleanDisk new → IsTrue old.in_transaction → IfErr result (IsCaused old new)
+  -- while it is open, the connection shows the views that were held
+  pub given_back : (v w : Views) → Written (counts_of w) old v w
+      → OnErr result (IsTrue new.is_open → Shows new.now v)
+  pub undone : HasCleanDisk new → IsTrue old.in_transaction → OnErr result (IsUndone old new)
+
 -- everything that a crash may leave has no table, or shows the history of a new registry
 pub record LeavesBareOrNew (s : State) : Type 0 where
   pub each : HasCleanDisk s → (db : Trees) → s.may_leave db
@@ -63,17 +72,16 @@ abbrev pub table_names : List (List ℕ)
 table_names = codes "meta" ∷ codes "account" ∷ codes "item" ∷ codes "submission" ∷ codes "remark"
     ∷ codes "receipt" ∷ codes "item_since" ∷ []
 
--- some table, index or view has the name of one of the seven, or the connection is shut
-abbrev pub IsMet : State → Type 0
-IsMet s = IsTrue s.is_open → (name : List ℕ) × Has table_names name
-    × (is_used s.now.schema name ≡ true)
+-- some table, index or view has the name of one of the seven
+abbrev pub IsNameTaken : State → Type 0
+IsNameTaken s = (name : List ℕ) × Has table_names name × (is_used s.now.schema name ≡ true)
 
 -- tables of a registry are there already, which is told as damage; else a fault has its cause
-abbrev pub IsMetFault : State → State → TableFault → Type 0
-IsMetFault old new Memory = Unit {0}
-IsMetFault old new Store = IsCaused old new Store
-IsMetFault old new (NewerSchema n) = ⊥
-IsMetFault old new Damaged = Unit {0}
+abbrev pub IsFaultOfTaken : State → State → TableFault → Type 0
+IsFaultOfTaken old new Memory = Unit {0}
+IsFaultOfTaken old new Store = IsCaused old new Store
+IsFaultOfTaken old new (NewerSchema n) = ⊥
+IsFaultOfTaken old new Damaged = Unit {0}
 
 -- Where there is no table, a new registry is made. After a fault there is still none, and it tells
 -- nothing of the rows.
@@ -86,8 +94,9 @@ pub record MakesNew {X : Type 0} (old new : State) (result : Result X TableFault
 -- views go on to show them.
 pub record MakesNothing {X : Type 0} (old new : State) (result : Result X TableFault)
     : Type 0 where
-  pub rests : IsMet old → OnlyReads old new
-  pub refused : HasCleanDisk new → IsMet old → MatchResult result (λ _. ⊥) IsNotNewerSchema
+  pub rests : (IsTrue old.is_open → IsNameTaken old) → OnlyReads old new
+  pub refused : HasCleanDisk new → (IsTrue old.is_open → IsNameTaken old)
+      → MatchResult result (λ _. ⊥) IsNotNewerSchema
   pub shut : HasCleanDisk new → old.is_open ≡ false
       → MatchResult result (λ _. ⊥) IsMemoryOrStore
   pub kept : (v : Views) → AtRest old v → AtRest new v

@@ -1,5 +1,6 @@
 -- An import whose file is brought in, step by step.
-use Rattle.std.specs.Prelude.{◌≡◌, ◌≢◌, ◌⊎◌, ◌+◌, ◌≤◌, ℕ, List, length, Option, Result, Ok, Err}
+use Rattle.std.specs.Prelude.{◌≡◌, ◌≢◌, ◌⊎◌, ◌+◌, ◌≤◌, ℕ, List, length, Option, IsSome}
+use Rattle.std.specs.Prelude.{Result, Ok, Err}
 use Rattle.sqlite.specs.State.{State}
 use Rattle.pid_reader.specs.Reading.{refused}
 use Rattle.pid_reader.specs.WholeInputs.{IsWhole}
@@ -16,30 +17,52 @@ use Rattle.pid_tables.specs.declared.put_file.Stop.TheVariants as stops
 use Rattle.pid_tables.specs.Faults.{IsFault}
 
 -- the judgement refuses, and nothing changes; or memory was short or the store failed
-abbrev pub Refuses : History → Asked → Refusal → Type 0
-Refuses h c e = ((answer (judge (views_of h) c) ≡ Err e) × (after h c ≡ h)) ⊎ IsFault e
+abbrev pub RefusesImport : History → Asked → Refusal → Type 0
+RefusesImport h c e = ((answer (judge (views_of h) c) ≡ Err e) × (after h c ≡ h)) ⊎ IsFault e
 
--- what the tables show after the transaction: the history with the import; or the one before it;
--- or, where the store failed, what a crash may leave shows the one or the other
+-- What an answer to an import says: how much of the input was read, by what is still to come and
+-- the text that came, and what the transaction leaves of a history and the import.
+pub record Ending : Type 1 where
+  pub read : Option (List ℕ) → List ℕ → Type 0
+  pub leaves : State → History → Asked → Type 0
+
+abbrev pub ending_of : Result Reply Stop → Ending
+-- the whole input was read, and the tables show the history with the import
+ending_of (Ok reply) = record {
+  read = λ rest text. IsWhole most_file_bytes rest text;
+  leaves = λ s h c. (answer (judge (views_of h) c) ≡ Ok reply) × AtRest s (views_of (after h c));
+}
+-- what came before the fault of the input was read, and they show the history
+ending_of (Err stops.Body) = record {
+  read = λ rest text. length text ≤ most_file_bytes;
+  leaves = λ s h c. AtRest s (views_of h);
+}
+-- they show the history; one byte more than a file may have is a broken form
+ending_of (Err (stops.Refused e)) = record {
+  read = λ rest text. IsWhole most_file_bytes rest text
+      ⊎ ((e ≡ refusals.BadText) × (length text ≡ most_file_bytes + 1));
+  leaves = λ s h c. AtRest s (views_of h) × RefusesImport h c e;
+}
+-- what a crash may leave shows the history with the import or without it
+ending_of (Err (stops.Failed e)) = record {
+  read = λ rest text. IsWhole most_file_bytes rest text;
+  leaves = λ s h c. LeavesEither s (views_of h) (views_of (after h c)) × IsFault e;
+}
+
 abbrev pub EndsImport : Result Reply Stop → State → History → Asked → Type 0
-EndsImport (Ok reply) s h c = (answer (judge (views_of h) c) ≡ Ok reply)
-    × AtRest s (views_of (after h c))
-EndsImport (Err stops.Body) s h c = AtRest s (views_of h)
-EndsImport (Err (stops.Refused e)) s h c = AtRest s (views_of h) × Refuses h c e
-EndsImport (Err (stops.Failed e)) s h c = LeavesEither s (views_of h) (views_of (after h c))
-    × IsFault e
+EndsImport result s h c = (ending_of result).leaves s h c
 
--- how much of the input was read: all of it, where it is not too long; one byte more than a file
--- may have, where it is, which is refused as a broken form; or what stands before its fault
 abbrev pub ReadsFile : Result Reply Stop → Option (List ℕ) → List ℕ → Type 0
-ReadsFile (Ok reply) rest text = IsWhole most_file_bytes rest text
-ReadsFile (Err stops.Body) rest text = length text ≤ most_file_bytes
-ReadsFile (Err (stops.Refused e)) rest text = IsWhole most_file_bytes rest text
-    ⊎ ((e ≡ refusals.BadText) × (length text ≡ most_file_bytes + 1))
-ReadsFile (Err (stops.Failed e)) rest text = IsWhole most_file_bytes rest text
+ReadsFile result rest text = (ending_of result).read rest text
+
+-- it tells of a fault of the input exactly where the input has one
+pub record TellsReadFault {F : Type 0} (result : Result Reply Stop) (fault : Option F)
+    : Type 0 where
+  pub told : result ≡ Err stops.Body → IsSome fault
+  pub first : IsSome fault → result ≡ Err stops.Body
 
 -- it does not tell that the registry had failed before
-abbrev pub DoesNotTellFailed : Stop → Type 0
-DoesNotTellFailed stops.Body = Unit {0}
-DoesNotTellFailed (stops.Refused e) = e ≢ refusals.Failed
-DoesNotTellFailed (stops.Failed e) = e ≢ refusals.Failed
+abbrev pub StopIsNotFailed : Stop → Type 0
+StopIsNotFailed stops.Body = Unit {0}
+StopIsNotFailed (stops.Refused e) = e ≢ refusals.Failed
+StopIsNotFailed (stops.Failed e) = e ≢ refusals.Failed

@@ -27,16 +27,16 @@ WhereOpen h command facts items Holds = IsMarked h → is_import command.act ≡
 
 -- that is the answer whatever the file reads to, if it is not too long; or memory was short or the
 -- store failed
-abbrev pub IsSettled : History → Command → Result Reply Refusal → Type 0
-IsSettled h command (Ok reply) = SettlesImport h command.account command.key (Ok reply)
-IsSettled h command (Err e) = SettlesImport h command.account command.key (Err e) ⊎ IsFault e
+abbrev pub HasOneOutcome : History → Command → Result Reply Refusal → Type 0
+HasOneOutcome h command (Ok reply) = SettlesImport h command.account command.key (Ok reply)
+HasOneOutcome h command (Err e) = SettlesImport h command.account command.key (Err e) ⊎ IsFault e
 
 -- the import is answered, or it hangs on its file, and there are so many items
 abbrev pub IsJudgedEarly : History → Command → Early → Type 0
-IsJudgedEarly h command (Answered result) = IsSettled h command result
+IsJudgedEarly h command (Answered result) = HasOneOutcome h command result
 IsJudgedEarly h command (Open facts items) = IsOpen h command facts × (items ≡ length (items_of h))
 
 -- it does not tell that the registry had failed before
-abbrev pub DoesNotTellFailed : Early → Type 0
-DoesNotTellFailed (Answered result) = IfErr result (λ e. e ≢ Failed)
-DoesNotTellFailed (Open facts items) = Unit {0}
+abbrev pub EarlyIsNotFailed : Early → Type 0
+EarlyIsNotFailed (Answered result) = IfErr result (λ e. e ≢ Failed)
+EarlyIsNotFailed (Open facts items) = Unit {0}

@@ -8,10 +8,8 @@ ghost use Rattle.std.specs.Prelude.{
   is_none,
   IsSome,
   IsTrue,
-  IfOk,
   IfErr,
   OnOk,
-  OnErr,
 };
 ghost use Rattle.pid_ident.specs.PathTexts.{path_text};
 ghost use Rattle.pid_moderation.specs.Items.{name_at};
@@ -22,7 +20,6 @@ ghost use Rattle.pid_moderation.specs.Changes.{
   affected,
   changed,
   FitsEdit,
-  FitsEffect,
   FitsWrite,
   FitsViews,
 };
@@ -30,22 +27,19 @@ ghost use Rattle.pid_tables_rows.specs.Faults.{IsMemoryOrStore};
 ghost use Rattle.pid_tables_rows.specs.Shows.{Counts, Shows, counts_of};
 ghost use Rattle.pid_tables_rows.specs.Writes.{
   with_rank,
-  with_name,
   with_revision,
   with_submission,
 };
-ghost use Rattle.pid_tables.specs.Puts.{put_over};
-ghost use Rattle.pid_tables.specs.Applies.{IsCounted};
-ghost use Rattle.pid_tables.specs.Steps.Applies.{recounted};
+ghost use Rattle.pid_tables.specs.Applies.{CountsFit};
+ghost use Rattle.pid_tables.specs.Steps.Applies.{recounted, turn_of};
 ghost use Rattle.pid_tables.specs.Steps.Clauses.{WritesChange};
-ghost use Rattle.pid_tables.specs.Clauses.{IsUndone};
+ghost use Rattle.pid_tables.specs.Clauses.{FailsToCommit, PutsName};
 ghost use Rattle.pid_tables_rows.specs.Clauses.{
   AtRest,
   ChangesTo,
   GoesOn,
   HasCleanDisk,
-  Holds,
-  IsCaused,
+  KeepsCommitted,
   LeadsTo,
   LeavesEither,
   Survives,
@@ -101,13 +95,16 @@ fn submit<S: Alter>(
     ensures same_reference { batch.new.conn.ghost_name ≡ batch.old.conn.ghost_name }
     ensures goes { GoesOn S.Store batch.old.conn.now batch.new.conn.now result }
     ensures shows { LeadsTo S.Store batch.old.conn.now batch.new.conn.now result
-        (λ v. number ≡ length v.submits + 1) (λ c. record c { submissions = number })
-        (with_submission (record {
-          author = author.now;
-          path = path;
-          proposal = proposal.now;
-          note = note.now;
-        })) }
+        (record {
+          IsFor = λ c v. number ≡ length v.submits + 1;
+          recount = λ c. record c { submissions = number };
+          next = with_submission (record {
+            author = author.now;
+            path = path;
+            proposal = proposal.now;
+            note = note.now;
+          });
+        }) }
 {
     add_submission(batch, alloc, number, author, path, proposal, note)?;
     count_submissions(batch, number)
@@ -141,9 +138,12 @@ fn write_item<S: Alter>(
     ensures same_reference { batch.new.conn.ghost_name ≡ batch.old.conn.ghost_name }
     ensures goes { GoesOn S.Store batch.old.conn.now batch.new.conn.now result }
     ensures shows { LeadsTo S.Store batch.old.conn.now batch.new.conn.now result
-        (λ v. FitsEdit write.now.edit (name_at (path_text write.now.path) v.items))
-        (λ c. record c { items = write.now.items })
-        (λ v. with_items revision (edited (path_text write.now.path) write.now.edit v.items) v) }
+        (record {
+          IsFor = λ c v. FitsEdit write.now.edit (name_at (path_text write.now.path) v.items);
+          recount = λ c. record c { items = write.now.items };
+          next = λ v. with_items revision
+              (edited (path_text write.now.path) write.now.edit v.items) v;
+        }) }
 {
     let path = write.path.path_text(alloc)?;
     edit_item(batch, path.as_str(), &write.edit, revision)?;
@@ -161,9 +161,11 @@ fn decision<S: Alter>(
     ensures same_reference { batch.new.conn.ghost_name ≡ batch.old.conn.ghost_name }
     ensures goes { GoesOn S.Store batch.old.conn.now batch.new.conn.now result }
     ensures shows { LeadsTo S.Store batch.old.conn.now batch.new.conn.now result
-        (λ v. IsSome (submission_at number v.submits) × FitsWrite write.now v.items)
-        (recounted (Effect.Decided number state.now write.now))
-        (affected revision (Effect.Decided number state.now write.now)) }
+        (record {
+          IsFor = λ c v. IsSome (submission_at number v.submits) × FitsWrite write.now v.items;
+          recount = recounted (Effect.Decided number state.now write.now);
+          next = affected revision (Effect.Decided number state.now write.now);
+        }) }
 {
     decide(batch, number, state)?;
     match write {
@@ -181,7 +183,7 @@ fn write_effect<S: Alter>(
     ensures same_reference { batch.new.conn.ghost_name ≡ batch.old.conn.ghost_name }
     ensures goes { GoesOn S.Store batch.old.conn.now batch.new.conn.now result }
     ensures shows { LeadsTo S.Store batch.old.conn.now batch.new.conn.now result
-        (λ v. FitsEffect effect.now v) (recounted effect.now) (affected revision effect.now) }
+        (turn_of effect.now (affected revision effect.now)) }
 {
     match effect {
         Effect::Nothing => touch(batch),
@@ -217,8 +219,7 @@ fn write_counted<S: Alter>(
     ensures same_reference { batch.new.conn.ghost_name ≡ batch.old.conn.ghost_name }
     ensures goes { GoesOn S.Store batch.old.conn.now batch.new.conn.now result }
     ensures shows { LeadsTo S.Store batch.old.conn.now batch.new.conn.now result
-        (λ v. FitsEffect effect.now v) (recounted effect.now)
-        (λ v. with_revision revision (affected revision effect.now v)) }
+        (turn_of effect.now (λ v. with_revision revision (affected revision effect.now v))) }
 {
     write_effect(batch, alloc, effect, revision)?;
     set_revision(batch, revision)
@@ -263,17 +264,8 @@ pub fn put<S: Alter>(
 ) -> Result<Put, TableFault>
     ensures same_reference { batch.new.conn.ghost_name ≡ batch.old.conn.ghost_name }
     ensures survives { Survives S.Store batch.old.conn.now batch.new.conn.now (λ _. ⊥) }
-    ensures holds { (c : Counts) (v w : Views) → Within S.Store batch.old.conn.now c v w
-        → Holds S.Store batch.new.conn.now v }
-    ensures written { (c : Counts) (v w : Views) → Within S.Store batch.old.conn.now c v w
-        → OnOk result (Written S.Store batch.new.conn.now c v
-        (with_name revision (path_text path.now) name.now w)) }
-    ensures told { HasCleanDisk S.Store batch.new.conn.now → (c : Counts) (v w : Views)
-        → Within S.Store batch.old.conn.now c v w
-        → IfOk result (λ put. put ≡ put_over name.now (name_at (path_text path.now) w.items)) }
-    ensures untold { HasCleanDisk S.Store batch.new.conn.now
-        → IsTrue (is_open S.Store batch.old.conn.now) → (c : Counts) (v w : Views)
-        → Within S.Store batch.old.conn.now c v w → IfErr result IsMemoryOrStore }
+    ensures puts { PutsName S.Store batch.old.conn.now batch.new.conn.now result revision
+        (path_text path.now, name.now) }
 {
     let path = path.path_text(alloc)?;
     put_text(batch, path.as_str(), name, revision)
@@ -292,15 +284,15 @@ pub fn apply<S: Alter>(
     ensures same_reference { batch.new.conn.ghost_name ≡ batch.old.conn.ghost_name }
     ensures survives { Survives S.Store batch.old.conn.now batch.new.conn.now (λ _. ⊥) }
     ensures holds { (c : Counts) (v w : Views) → Within S.Store batch.old.conn.now c v w
-        → Holds S.Store batch.new.conn.now v }
+        → KeepsCommitted S.Store batch.new.conn.now v }
     ensures applied { (c : Counts) (v w : Views) → Within S.Store batch.old.conn.now c v w
-        → IsCounted change.now.effect c w → FitsViews change.now w
+        → CountsFit change.now.effect c w → FitsViews change.now w
         → OnOk result (Written S.Store batch.new.conn.now (counts_of (changed change.now w)) v
         (changed change.now w)) }
     ensures untold { HasCleanDisk S.Store batch.new.conn.now
         → IsTrue (is_open S.Store batch.old.conn.now) → (c : Counts) (v w : Views)
         → Within S.Store batch.old.conn.now c v w
-        → IsCounted change.now.effect c w → FitsViews change.now w → IfErr result IsMemoryOrStore }
+        → CountsFit change.now.effect c w → FitsViews change.now w → IfErr result IsMemoryOrStore }
 {
     write_change(batch, alloc, change)
 }
@@ -316,15 +308,8 @@ pub fn commit<S: Alter>(batch: Batch<'_, S>) -> Result<(), TableFault>
         → OnOk result (AtRest S.Store batch.exit.0.now w) }
     ensures either { (v w : Views) → Written S.Store batch.entry.conn.now (counts_of w) v w
         → LeavesEither S.Store batch.exit.0.now v w }
-    ensures caused { HasCleanDisk S.Store batch.exit.0.now
-        → IsTrue batch.entry.conn.now.in_transaction
-        → IfErr result (IsCaused S.Store batch.entry.conn.now batch.exit.0.now) }
-    ensures given_back { (v w : Views) → Written S.Store batch.entry.conn.now (counts_of w) v w
-        → OnErr result (IsTrue (is_open S.Store batch.exit.0.now)
-        → Shows (seen S.Store batch.exit.0.now) v) }
-    ensures undone { HasCleanDisk S.Store batch.exit.0.now
-        → IsTrue batch.entry.conn.now.in_transaction
-        → OnErr result (IsUndone S.Store batch.entry.conn.now batch.exit.0.now) }
+    // After a fault: it has its cause, and the connection sees what was committed before.
+    ensures fails { FailsToCommit S.Store batch.entry.conn.now batch.exit.0.now result }
 {
     batch.commit()?;
     Ok(())
@@ -337,7 +322,7 @@ pub fn commit<S: Alter>(batch: Batch<'_, S>) -> Result<(), TableFault>
 pub fn roll_back<S: Alter>(batch: Batch<'_, S>)
     ensures ended { batch.exit.0.now.in_transaction ≡ false }
     ensures survives { Survives S.Store batch.entry.conn.now batch.exit.0.now (λ _. ⊥) }
-    ensures given_back { (v : Views) → Holds S.Store batch.entry.conn.now v
+    ensures given_back { (v : Views) → KeepsCommitted S.Store batch.entry.conn.now v
         → AtRest S.Store batch.exit.0.now v }
 {
     batch.rollback();

@@ -25,7 +25,7 @@ ghost use Rattle.pid_tables.specs.Steps.MakingTables.{
   making,
   Creates,
   IsMakerOf,
-  IsRefused,
+  IsTextRefused,
   HasOnlyMeta,
   with_label,
 };
@@ -36,8 +36,14 @@ ghost use Rattle.pid_tables.specs.Steps.Making.{
   first_tables,
   six_tables,
 };
-ghost use Rattle.pid_tables_rows.specs.Clauses.{AtRest, GoesOn, HasCleanDisk, seen};
-ghost use Rattle.pid_tables.specs.Clauses.{IsMet, IsMetFault, MakesNew, MakesNothing, WritesAtOnce};
+ghost use Rattle.pid_tables_rows.specs.Clauses.{AtRest, GoesOn, HasCleanDisk, is_open, seen};
+ghost use Rattle.pid_tables.specs.Clauses.{
+  IsFaultOfTaken,
+  IsNameTaken,
+  MakesNew,
+  MakesNothing,
+  WritesAtOnce,
+};
 ghost use Rattle.pid_tables.specs.Steps.Clauses.{FindsTables, Makes, Takes};
 
 use crate::batch::commit;
@@ -86,7 +92,7 @@ fn make_table<S: Alter>(tx: &mut Transaction<'_, S>, sql: &str) -> Result<(), Ta
         → Makes S.Store tx.old.conn.now tx.new.conn.now result before (before ++ table ∷ []) }
     ensures takes { (name : List ℕ) → IsMakerOf sql.now name
         → Takes S.Store tx.old.conn.now tx.new.conn.now result (name ∷ []) }
-    ensures met { IsRefused (understood pid_schema sql.now)
+    ensures met { IsTextRefused (understood pid_schema sql.now)
         → FindsTables S.Store tx.old.conn.now tx.new.conn.now result }
 {
     write_one(tx, sql, &[])
@@ -172,7 +178,8 @@ fn fill<S: Alter>(tx: &mut Transaction<'_, S>) -> Result<(), TableFault>
     ensures never { HasCleanDisk S.Store tx.new.conn.now → IsTrue tx.old.conn.now.in_transaction
         → IfErr result IsNotNewerSchema }
     ensures refused { HasCleanDisk S.Store tx.new.conn.now → IsTrue tx.old.conn.now.in_transaction
-        → IsMet S.Store tx.old.conn.now → MatchResult result (λ _. ⊥) IsNotNewerSchema }
+        → (IsTrue (is_open S.Store tx.old.conn.now) → IsNameTaken S.Store tx.old.conn.now)
+        → MatchResult result (λ _. ⊥) IsNotNewerSchema }
     ensures met { FindsTables S.Store tx.old.conn.now tx.new.conn.now result }
 {
     make_tables(tx)?;
@@ -196,7 +203,7 @@ pub fn create<S: Alter>(conn: &mut Connection<S>) -> Result<(), TableFault>
     ensures makes { MakesNew S.Store conn.old conn.new result }
     ensures spares { MakesNothing S.Store conn.old conn.new result }
     ensures met { HasCleanDisk S.Store conn.new → (v : Views) → AtRest S.Store conn.old v
-        → MatchResult result (λ _. ⊥) (IsMetFault S.Store conn.old conn.new) }
+        → MatchResult result (λ _. ⊥) (IsFaultOfTaken S.Store conn.old conn.new) }
     ensures never { HasCleanDisk S.Store conn.new → IfErr result IsNotNewerSchema }
 {
     let mut batch = conn.transaction();

@@ -4,7 +4,7 @@ ghost use Rattle.pid_moderation.specs.History.{History};
 ghost use Rattle.pid_moderation.specs.Sound.{IsSound};
 ghost use Rattle.pid_moderation.specs.Views.{views_of};
 ghost use Rattle.pid_tables_rows.specs.Clauses.{AtRest, HasCleanDisk, OnlyReads};
-ghost use Rattle.pid_tables.specs.Judging.{DoesNotTellFailed, IsJudgedEarly};
+ghost use Rattle.pid_tables.specs.Judging.{EarlyIsNotFailed, IsJudgedEarly};
 
 use crate::faults::refusal_of;
 use crate::laws;
@@ -36,7 +36,7 @@ pub fn judge_import<S: Alter + Drop>(
     ensures rests { OnlyReads S.Store tables.old.conn tables.new.conn }
     ensures judged { HasCleanDisk S.Store tables.new.conn → (h : History) → IsSound h
         → AtRest S.Store tables.old.conn (views_of h) → IsJudgedEarly h command.now result }
-    ensures alive { DoesNotTellFailed result }
+    ensures alive { EarlyIsNotFailed result }
 {
     laws::views_of_sound_histories(); // proof only
     match tables.gather(alloc, &command.account, &command.key, Rows::Nothing) {

@@ -6,7 +6,7 @@ mod creation;
 mod faults;
 mod gather;
 mod judging;
-mod laws;
+pub mod laws;
 mod migration;
 mod put_file;
 mod put_sink;
@@ -18,10 +18,6 @@ pub use batch::{Batch, apply, begin, commit, put, roll_back};
 pub use creation::create;
 pub use faults::refusal_of;
 pub use judging::{Early, judge_import};
-pub use laws::{
-    long_files_are_refused, opened_tables_rest, reads_keep_what_is_shown, texts_read_to_files,
-    views_of_sound_histories,
-};
 pub use migration::{Step, migrate};
 pub use pid_tables_lists::EachEnd;
 pub use pid_tables_rows::{TableFault, Version};

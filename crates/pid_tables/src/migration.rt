@@ -27,16 +27,22 @@ ghost use Rattle.pid_tables_rows.specs.Shows.{Counts, Numbers, ShowsKeeping};
 ghost use Rattle.pid_tables_rows.specs.declared.version.Version.TheVariants.{One, Two};
 ghost use Rattle.pid_tables_check.specs.Checking.{Explains};
 ghost use Rattle.pid_tables_check.specs.Shapes.{HasNoTable};
-ghost use Rattle.pid_tables.specs.Clauses.{IsMet, MigratesJudged, MigratesNone, MigratesShown, RestsBare, WritesAtOnce};
+ghost use Rattle.pid_tables.specs.Clauses.{
+  IsNameTaken,
+  MigratesJudged,
+  MigratesNone,
+  MigratesShown,
+  RestsBare,
+  WritesAtOnce,
+};
 ghost use Rattle.pid_tables.specs.Steps.Clauses.{FindsShown};
 ghost use Rattle.pid_tables.specs.Bringing.{NamesLatest};
 ghost use Rattle.pid_tables.specs.Steps.Bringing.{IsStanding, TellsLatest, is_latest, step_for};
 
 use crate::batch::commit;
 use crate::creation::create;
-use pid_tables_check::{
-    check, has_some_table, schemas_have_tables, sound_histories_are_registries,
-};
+use pid_tables_check::laws::{schemas_have_tables, sound_histories_are_registries};
+use pid_tables_check::{check, has_some_table};
 use pid_tables_rows::meta::schema_number;
 use pid_tables_rows::moving::move_tables;
 use pid_tables_rows::{TableFault, Version};
@@ -144,7 +150,8 @@ fn bring<S: Alter>(conn: &mut Connection<S>, found: Option<Version>) -> Result<S
     ensures created { HasCleanDisk S.Store conn.new → found ≡ None → RestsBare S.Store conn.old
         → MatchResult result (λ _. AtRest S.Store conn.new (views_of new_history))
         (λ fault. IsMemoryOrStore fault × RestsBare S.Store conn.new) }
-    ensures met { HasCleanDisk S.Store conn.new → found ≡ None → IsMet S.Store conn.old
+    ensures met { HasCleanDisk S.Store conn.new → found ≡ None
+        → (IsTrue (is_open S.Store conn.old) → IsNameTaken S.Store conn.old)
         → MatchResult result (λ _. ⊥)
         (λ fault. IsNotNewerSchema fault × OnlyReads S.Store conn.old conn.new) }
     ensures moved { HasCleanDisk S.Store conn.new → found ≡ Some One → (v : Views)

@@ -5,12 +5,12 @@ ghost use Rattle.pid_reader.specs.Lines.{lines_of};
 ghost use Rattle.pid_reader.specs.Reading.{entries_of};
 ghost use Rattle.pid_moderation.specs.History.{History, asked};
 ghost use Rattle.pid_moderation.specs.Views.{Views, views_of};
-ghost use Rattle.pid_tables_rows.specs.Clauses.{AtRest, HasCleanDisk, Holds, Within};
+ghost use Rattle.pid_tables_rows.specs.Clauses.{AtRest, HasCleanDisk, KeepsCommitted, Within};
 ghost use Rattle.pid_tables_rows.specs.Shows.{Counts};
-ghost use Rattle.pid_tables.specs.ImportClauses.{EndsImport};
+ghost use Rattle.pid_tables.specs.ImportClauses.{EndsImport, EndsOutside};
 ghost use Rattle.pid_tables.specs.Steps.ImportClauses.{Applies, HoldsPut};
 ghost use Rattle.pid_tables.specs.Files.{file_reading};
-ghost use Rattle.pid_tables.specs.Importing.{DoesNotTellFailed, ReadsFile};
+ghost use Rattle.pid_tables.specs.Importing.{ReadsFile, StopIsNotFailed, TellsReadFault};
 ghost use Rattle.pid_tables.specs.Steps.ImportParts.{IsNext, IsPut, IsStopOf, JudgesFile};
 ghost use Rattle.pid_tables.specs.Judging.{WhereOpen};
 ghost use Rattle.pid_tables.specs.Steps.PutFiles.{PutsFile};
@@ -138,13 +138,13 @@ fn apply_file<S: Alter>(
     ensures clean { HasCleanDisk S.Store batch.new.conn.now
         → HasCleanDisk S.Store batch.old.conn.now }
     ensures holds { (c : Counts) (v w : Views) → Within S.Store batch.old.conn.now c v w
-        → Holds S.Store batch.new.conn.now v }
+        → KeepsCommitted S.Store batch.new.conn.now v }
     ensures applied { (h : History) (text : List ℕ) (n : ℕ)
         → WhereOpen h command.now facts.old items (IsPut h text tally → IsNext facts.old.revision n
         → HoldsPut S.Store batch.old.conn.now h n (entries_of (lines_of text))
         → Applies S.Store batch.new.conn.now result h (asked command.now (file_reading text))) }
     ensures reads { IfErr result (λ e. e ≢ Stop.Body) }
-    ensures alive { IfErr result DoesNotTellFailed }
+    ensures alive { IfErr result StopIsNotFailed }
 {
     laws::texts_read_to_files(); // proof only
     match judge_file(facts, items, tally, command) {
@@ -171,8 +171,7 @@ pub fn bring_in<S: Alter, I: Input>(
     input: &mut I,
 ) -> Result<Reply, Stop>
     requires { conn.old.in_transaction ≡ false }
-    ensures settled { conn.new.in_transaction ≡ false }
-    ensures clean { HasCleanDisk S.Store conn.new → HasCleanDisk S.Store conn.old }
+    ensures ends { EndsOutside S.Store conn.old conn.new }
     // Some text was read; the import is answered, and the tables are left, as of a command with
     // this file.
     ensures stops { (text : List ℕ) × Consumes (I.to_come input.old) (I.to_come input.new) text
@@ -180,11 +179,10 @@ pub fn bring_in<S: Alter, I: Input>(
         × (HasCleanDisk S.Store conn.new → (h : History) → AtRest S.Store conn.old (views_of h)
         → WhereOpen h command.now facts.old items
         (EndsImport S.Store conn.new result h (asked command.now (file_reading text)))) }
-    ensures fault { result ≡ Err Stop.Body → IsSome (I.read_fault input.new) }
-    ensures fault_first { IsSome (I.read_fault input.new) → result ≡ Err Stop.Body }
+    ensures read_fault { TellsReadFault result (I.read_fault input.new) }
     ensures goes { I.goes input.old input.new }
     // Only a registry that has failed is told as such.
-    ensures alive { IfErr result DoesNotTellFailed }
+    ensures alive { IfErr result StopIsNotFailed }
 {
     let revision = next_revision(facts);
     let mut batch = begin(conn);

@@ -23,15 +23,14 @@ ghost use Rattle.pid_moderation.specs.FactsOfViews.{facts_at};
 ghost use Rattle.pid_moderation.specs.Items.{name_at};
 ghost use Rattle.pid_moderation.specs.Wants.{wanted_by};
 ghost use Rattle.pid_moderation.specs.WellMade.{AllItems, HoldsParents};
-ghost use Rattle.pid_tables_check.specs.Checking.{Explains, Finds, IsRegistry};
+ghost use Rattle.pid_tables_check.specs.Checking.{Explains, FindsVersion, IsRegistry};
 ghost use Rattle.pid_tables_check.specs.Shapes.{IsMadeFirst};
 ghost use Rattle.pid_tables_rows.specs.Causes.{IsReadable};
 ghost use Rattle.pid_tables_rows.specs.Faults.{IsMemoryOrStore, IsNotNewerSchema};
-ghost use Rattle.pid_moderation.specs.ItemPairs.{pair_of};
 ghost use Rattle.pid_moderation.specs.ChangePages.{AreHeld, changes_in, page_of, start_text};
-ghost use Rattle.pid_moderation.specs.Children.{children_of};
+ghost use Rattle.pid_tables_lists.specs.Children.{AreChildren};
 ghost use Rattle.pid_moderation.specs.Submissions.{discussion_in, discussion_of};
-ghost use Rattle.pid_tables_lists.specs.EachItem.{TakesEach, TakesSome, placed_from};
+ghost use Rattle.pid_tables_lists.specs.EachItem.{Walks, WalksSome, placed_from};
 ghost use Rattle.pid_moderation.specs.PendingPages.{pending_in, told_of};
 ghost use Rattle.pid_tables_rows.specs.Clauses.{
   AtRest,
@@ -50,8 +49,11 @@ use crate::gather::gather_facts;
 use pid_ident::{Account, Key, Name, Path, PathText};
 use pid_moderation::{Changes, Discussion, Facts, Item, PAGE, Pending, Rows};
 use pid_reader::Sink;
-use pid_tables_check::{check, has_some_table, sound_histories_are_registries};
-use pid_tables_lists::{EachEnd, changes_page, children, discussed, each_item, pending_page};
+use pid_tables_check::laws::sound_histories_are_registries;
+use pid_tables_check::{check, has_some_table};
+use pid_tables_lists::{
+    EachEnd, changes_page, children_below, each_item, pending_page, submission_with_remarks,
+};
 use pid_tables_rows::item::item_name;
 use pid_tables_rows::meta::{items, schema_number};
 use pid_tables_rows::{TableFault, Version};
@@ -103,8 +105,8 @@ impl<S: Alter + Drop> Tables<S> {
         ensures rests { OnlyReads S.Store self.old.conn self.new.conn }
         ensures told { HasCleanDisk S.Store self.new.conn → (v : Views)
             → AtRest S.Store self.old.conn v
-            → TakesEach K.takes K.faults result (placed_from 1 v.items) sink.old sink.new }
-        ensures some { TakesSome K.takes K.faults result sink.old sink.new }
+            → Walks K.takes K.faults result (placed_from 1 v.items) sink.old sink.new }
+        ensures some { WalksSome K.takes K.faults result sink.old sink.new }
         ensures caused { HasCleanDisk S.Store self.new.conn → (v : Views)
             → AtRest S.Store self.old.conn v → IsReadable v
             → IfErr result (IsCausedEnd S.Store self.old.conn self.new.conn) }
@@ -113,17 +115,16 @@ impl<S: Alter + Drop> Tables<S> {
     }
 
     /// The items directly below a path, in the canonical order, which puts the generic subsystems
-    /// of a vendor behind its devices. Without a path, the vendors and the classes.
+    /// of a vendor after its devices. Without a path, the vendors and the classes.
     ///
     /// Vendors and classes are found by a walk over all items. It holds of views whose paths are
     /// paths, as those of every history are.
     pub fn children(&mut self, alloc: Global, above: Option<Path>) -> Result<Vec<Item>, TableFault>
         requires { self.old.conn.in_transaction ≡ false }
         ensures { Reads S.Store self.old.conn self.new.conn result
-            (λ v items. AllItems v.items
-            → map pair_of items.items ≡ children_of (option_map path_text above) v.items) }
+            (λ v items. AreChildren (option_map path_text above) v items.items) }
     {
-        children(&mut self.conn, alloc, above)
+        children_below(&mut self.conn, alloc, above)
     }
 
     /// The submission with the number, as it stands, and the remarks on it in their order.
@@ -136,11 +137,11 @@ impl<S: Alter + Drop> Tables<S> {
         ensures { Reads S.Store self.old.conn self.new.conn result
             (λ v d. option_map discussion_of d ≡ discussion_in v number) }
     {
-        discussed(&mut self.conn, alloc, number)
+        submission_with_remarks(&mut self.conn, alloc, number)
     }
 
     /// The first pending submissions whose numbers are above a number, `PAGE` at most. From 0 on,
-    /// and then from the last number that was told, pages go through all that are pending.
+    /// and then from the last number that was listed, pages go through all that are pending.
     pub fn pending_page(&mut self, alloc: Global, after: u32) -> Result<Vec<Pending>, TableFault>
         requires { self.old.conn.in_transaction ≡ false }
         ensures { Reads S.Store self.old.conn self.new.conn result
@@ -149,9 +150,9 @@ impl<S: Alter + Drop> Tables<S> {
         pending_page(&mut self.conn, alloc, after)
     }
 
-    /// The first items whose names were changed by a command behind this number, and whose paths
-    /// come behind that path, `PAGE` at most; with the revision. From no path on, and then from the
-    /// last path that was told, pages go through all of them.
+    /// The first items whose names were changed by a command after this number, and whose paths
+    /// come after that path, `PAGE` at most; with the revision. From no path on, and then from the
+    /// last path that was listed, pages go through all of them.
     ///
     /// It holds of views whose numbers SQLite holds, as those of every history do whose revision is
     /// within its limit.
@@ -211,7 +212,7 @@ impl<S: Alter + Drop> Tables<S> {
         // Whatever the schema: what it tells is so of the rows that the queries of the tables
         // answer.
         ensures told { HasCleanDisk S.Store self.new.conn
-            → MatchResult result (Finds (seen S.Store self.old.conn))
+            → MatchResult result (FindsVersion (seen S.Store self.old.conn))
             (Explains (seen S.Store self.old.conn)) }
         // Where the tables of a schema were made first, whatever else stands behind them: it finds
         // the schema exactly where storage has a registry in it.

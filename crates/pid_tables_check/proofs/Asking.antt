@@ -17,7 +17,7 @@ use Rattle.sqlite_rules.specs.Lists as members
 use Rattle.pid_moderation.specs.Views.{Views}
 use Rattle.pid_tables_rows.specs.declared.fault.TableFault.{TableFault}
 use Rattle.pid_tables_rows.specs.declared.fault.TableFault.TheVariants.{Damaged}
-use Rattle.pid_tables_rows.specs.Faults.{fault_of}
+use Rattle.pid_tables_rows.specs.Faults.{fault_of_sql}
 use Rattle.pid_tables_rows.specs.Causes.{IsCaused}
 use Rattle.pid_tables_rows.specs.Leaves.{AtRest, OnlyReads}
 use Rattle.pid_tables_rows.specs.Queries.{IsQuery}
@@ -29,7 +29,7 @@ use Rattle.pid_tables_rows.proofs.ReadLemmas.{not_run}
 use Rattle.pid_tables_check.specs.declared.shape.Table.{Table}
 use Rattle.pid_tables_check.specs.declared.shape.Table.TheVariants.{Meta, Account, Item, Submission, Remark, Receipt, Since}
 use Rattle.pid_tables_check.specs.Queries.{query_of}
-use Rattle.pid_tables_check.specs.Shapes.{IsAsked, HasEachTable, HasSomeTable}
+use Rattle.pid_tables_check.specs.Shapes.{CanBeAsked, HasEachTable, HasSomeTable}
 use Rattle.pid_tables_check.proofs.Each.{same_there, one_more, each_member, each_place, some_member, some_place}
 
 pub err_of : {X E : Type 0} (r : Result X E) (e : E) → result_err r ≡ Some e → r ≡ Err e
@@ -45,7 +45,7 @@ pub rests : {X : Type 0} (P : X → Type 0) (r : Result X Error) (old new : Stat
     → (HasCleanDisk new → IfOk r (λ s. P s × IsUnchanged old new)) → (HasCleanDisk new → IfErr r (λ e. (params : Row) → IsNotRun old new sql params e)) → OnlyReads old new
 rests P r old new sql law ended survives good bad = rests_on old new law survives ended (λ clean. keeps_left old new (left_by P r old new sql (good clean) (bad clean)))
 
-of_store : (cause : StoreError) → fault_of (store_error cause) ≡ Damaged → ⊥
+of_store : (cause : StoreError) → fault_of_sql (store_error cause) ≡ Damaged → ⊥
 of_store store.OutOfMemory h = cc
 of_store store.Io h = cc
 of_store store.Corrupt h = cc
@@ -54,20 +54,20 @@ of_store store.Broken h = cc
 of_store store.Unstorable h = cc
 
 -- only a text that is not understood is refused as damage
-pub refused : (old new : State) (sql : List ℕ) (e : Error) → IsNotRun old new sql [] e → fault_of e ≡ Damaged → ((f : CompileError) × (understood old.now.schema sql ≡ Err f)) × IsUnchanged old new
+pub refused : (old new : State) (sql : List ℕ) (e : Error) → IsNotRun old new sql [] e → fault_of_sql e ≡ Damaged → ((f : CompileError) × (understood old.now.schema sql ≡ Err f)) × IsUnchanged old new
 unfolding IsNotRun
 refused old new sql e (inl (inl h, same)) damaged = ((h.0, h.1), same)
 refused old new sql e (inl (inr h, same)) damaged = absurd (elim h.2 [
-  | inl many ↦ let bad = sym (ap fault_of many.1) ∙ damaged in cc
-  | inr other ↦ elim other [ inl count ↦ let bad = sym (ap fault_of count.1) ∙ damaged in cc | inr clock ↦ let bad = sym (ap fault_of clock.1) ∙ damaged in cc ]
+  | inl many ↦ let bad = sym (ap fault_of_sql many.1) ∙ damaged in cc
+  | inr other ↦ elim other [ inl count ↦ let bad = sym (ap fault_of_sql count.1) ∙ damaged in cc | inr clock ↦ let bad = sym (ap fault_of_sql clock.1) ∙ damaged in cc ]
 ])
-refused old new sql e (inr fails) damaged = absurd (of_store fails.0 (sym (ap fault_of fails.1) ∙ damaged))
+refused old new sql e (inr fails) damaged = absurd (of_store fails.0 (sym (ap fault_of_sql fails.1) ∙ damaged))
 
 -- on tables of the schema what keeps a query from being prepared has a cause
-pub unasked_caused : (old new : State) (v : Views) (sql : List ℕ) (e : Error) → AtRest old v → IsQuery pid_schema sql [] → IsNotRun old new sql [] e → IsCaused old new (fault_of e)
+pub unasked_caused : (old new : State) (v : Views) (sql : List ℕ) (e : Error) → AtRest old v → IsQuery pid_schema sql [] → IsNotRun old new sql [] e → IsCaused old new (fault_of_sql e)
 unasked_caused old new v sql e rest query h = not_run_caused sql [] old new (λ opened. (rest.shows opened).schema) query e h
 
-pub unasked : (schema : Schema) (sql : List ℕ) (f : CompileError) → understood schema sql ≡ Err f → IsAsked schema sql → ⊥
+pub unasked : (schema : Schema) (sql : List ℕ) (f : CompileError) → understood schema sql ≡ Err f → CanBeAsked schema sql → ⊥
 unasked schema sql f is asked = let both = sym is ∙ asked.1 in cc
 
 pub on_if_ok : {X E Q : Type 0} {P : X → Type 0} (r : Result X E) → ((x : X) → P x → Q) → IfOk r P → OnOk r Q
@@ -108,12 +108,12 @@ pub said_first : (a b c : State) (P : Schema → Type 0) → IsSame a b → Only
 said_first a b c P one rests clean h = subst (λ d. P d.schema) (one.1 (rests.clean clean)) h
 
 module _ (a b c : State) (tables : List Table) (at : ℕ) (t : Table) (sql : List ℕ) (is : sql ≡ query_of (get_or tables at t)) (asked : Bool) (less : at < length tables) (one : IsSame a b) (rests : OnlyReads b c)
-    (judged : HasCleanDisk c → IsTrue asked ↔ IsAsked b.now.schema sql) where
+    (judged : HasCleanDisk c → IsTrue asked ↔ CanBeAsked b.now.schema sql) where
   abbrev Has : Table → Type 0
-  Has x = IsAsked a.now.schema (query_of x)
+  Has x = CanBeAsked a.now.schema (query_of x)
 
   here : HasCleanDisk c → IsTrue asked ↔ Has (get_or tables at t)
-  here clean = subst (λ text. IsTrue asked ↔ IsAsked a.now.schema text) is (said_first a b c (λ s. IsTrue asked ↔ IsAsked s sql) one rests clean (judged clean))
+  here clean = subst (λ text. IsTrue asked ↔ CanBeAsked a.now.schema text) is (said_first a b c (λ s. IsTrue asked ↔ CanBeAsked s sql) one rests clean (judged clean))
 
   more : (P : Table → Type 0) → P (get_or tables at t) → ((k : ℕ) (d : Table) → k < at → P (get_or tables k d)) → (k : ℕ) (d : Table) → k < at + 1 → P (get_or tables k d)
   more P = one_more (λ _ x. P x) tables at (get_or tables at t) less (same_there tables at t (get_or tables at t) less)
@@ -137,22 +137,22 @@ seven = Meta ∷ Account ∷ Item ∷ Submission ∷ Remark ∷ Receipt ∷ Sinc
 
 module _ (schema : Schema) (tables : List Table) where
   abbrev Is : Table → Type 0
-  Is t = IsAsked schema (query_of t)
+  Is t = CanBeAsked schema (query_of t)
 
   from : (text : List ℕ) → members.Has (map query_of tables) text → (t : Table) × members.Has tables t × (text ≡ query_of t)
   from text has = unmapped query_of tables text has
 
-  each_of : All Is tables → (text : List ℕ) → members.Has (map query_of tables) text → IsAsked schema text
-  each_of all text has = let t = from text has in subst (IsAsked schema) (sym t.2) (each_member Is tables all t.0 t.1)
+  each_of : All Is tables → (text : List ℕ) → members.Has (map query_of tables) text → CanBeAsked schema text
+  each_of all text has = let t = from text has in subst (CanBeAsked schema) (sym t.2) (each_member Is tables all t.0 t.1)
 
-  all_of : ((text : List ℕ) → members.Has (map query_of tables) text → IsAsked schema text) → All Is tables
+  all_of : ((text : List ℕ) → members.Has (map query_of tables) text → CanBeAsked schema text) → All Is tables
   all_of each = each_place Is tables (λ t has. each (query_of t) (mapped query_of tables t has))
 
-  some_of : Any Is tables → (text : List ℕ) × members.Has (map query_of tables) text × IsAsked schema text
+  some_of : Any Is tables → (text : List ℕ) × members.Has (map query_of tables) text × CanBeAsked schema text
   some_of any = let t = some_member Is tables any in (query_of t.0, mapped query_of tables t.0 t.1, t.2)
 
-  any_of : ((text : List ℕ) × members.Has (map query_of tables) text × IsAsked schema text) → Any Is tables
-  any_of some = let t = from some.0 some.1 in some_place Is tables t.0 t.1 (subst (IsAsked schema) t.2 some.2)
+  any_of : ((text : List ℕ) × members.Has (map query_of tables) text × CanBeAsked schema text) → Any Is tables
+  any_of some = let t = from some.0 some.1 in some_place Is tables t.0 t.1 (subst (CanBeAsked schema) t.2 some.2)
 
 pub each_table : (schema : Schema) (asked : Bool) → (IsTrue asked ↔ All (Is schema six) six) → IsTrue asked ↔ HasEachTable schema
 each_table schema asked judged = (λ on. each_of schema six (judged.0 on), λ each. judged.1 (all_of schema six each))

@@ -13,11 +13,11 @@ use Rattle.sqlite.specs.Order.{Row, column}
 use Rattle.pid_ident.specs.Trees.{text_cmp}
 use Rattle.pid_tables_rows.proofs.SetLemmas.{tied}
 use Rattle.pid_tables_rows.specs.TableRows.{number}
-use Rattle.pid_tables_check.specs.Steps.AuthorSets.{author_cmp, IsBy, AreAuthorsOf}
+use Rattle.pid_tables_check.specs.Steps.AuthorSets.{author_cmp, IsByAuthor, AreAuthorsOf}
 use Rattle.pid_tables_check.proofs.ItemFacts.{split, before, last, texts_same}
 use Rattle.pid_tables_check.proofs.RemarkFacts.{chosen, either, numbers_same}
 
-by_before : (rows : List Row) (r : Row) (n : ℕ) (author : List ℕ) → IsBy rows n author → IsBy (rows ++ r ∷ []) n author
+by_before : (rows : List Row) (r : Row) (n : ℕ) (author : List ℕ) → IsByAuthor rows n author → IsByAuthor (rows ++ r ∷ []) n author
 by_before rows r n author it = (it.0, before rows r it.0 it.1, it.2, it.3)
 
 pub author_skipped : (authors : BTreeSet (ℕ × String Global)) (rows : List Row) (r : Row) → ((n : ℕ) (t : List ℕ) → column r 0 ≡ number n → column r 1 ≡ Text t → ¬ (IsUtf8 t)) → AreAuthorsOf authors rows → AreAuthorsOf authors (rows ++ r ∷ [])
@@ -60,7 +60,7 @@ pub authors_step : (authors : BTreeSet (ℕ × String Global)) (rows : List Row)
 authors_step authors rows i r less is are = subst (AreAuthorsOf authors) (sym (take_more rows i r less ∙ ap (λ x. take i rows ++ x ∷ []) is)) are
 
 pub by_key : (authors : BTreeSet (ℕ × String Global)) (rows : List Row) (n : ℕ) (author : String Global) (account : List ℕ) (b : Bool) → IsUtf8 account → string_bytes author ≡ account → b ≡ contains author_cmp authors (n, author)
-    → AreAuthorsOf authors rows → (b ≡ true) ↔ IsBy rows n account
+    → AreAuthorsOf authors rows → (b ≡ true) ↔ IsByAuthor rows n account
 by_key authors rows n author account b utf8 same is are =
     let it = are (n, author) (subst IsUtf8 (sym same) utf8) in
-    (λ yes. subst (IsBy rows n) same (it.0 (sym is ∙ yes)), λ by. is ∙ it.1 (subst (IsBy rows n) (sym same) by))
+    (λ yes. subst (IsByAuthor rows n) same (it.0 (sym is ∙ yes)), λ by. is ∙ it.1 (subst (IsByAuthor rows n) (sym same) by))

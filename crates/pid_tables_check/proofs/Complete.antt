@@ -17,7 +17,7 @@ use Rattle.pid_tables_rows.specs.Schema.{schema_of, no_schema, item_since, more_
 use Rattle.pid_tables_check.specs.declared.shape.Table.{Table}
 use Rattle.pid_tables_check.specs.declared.shape.Table.TheVariants.{Meta, Account, Item, Submission, Remark, Receipt, Since}
 use Rattle.pid_tables_check.specs.Queries.{query_of, any_since}
-use Rattle.pid_tables_check.specs.Shapes.{table_texts, IsAsked, HasEachTable, HasSomeTable, HasNoTable, HasTables, IsMadeFirst}
+use Rattle.pid_tables_check.specs.Shapes.{table_texts, CanBeAsked, HasEachTable, HasSomeTable, HasNoTable, HasTables, IsMadeFirst}
 use Rattle.pid_tables_check.proofs.Asking.{unasked}
 use Rattle.pid_tables_check.proofs.WholeTexts.{six_first, meta_is, account_is, item_is, submission_is, remark_is, receipt_is, since_is}
 
@@ -25,8 +25,8 @@ asked : (r : Result Compiled CompileError) → IsPlain r → (c : Compiled) × (
 asked (Ok c) plain = (c, refl)
 asked (Err e) plain = absurd plain
 
-text_asked : (schema : Schema) (text : List ℕ) → IsPlain (understood schema text) → (other : List ℕ) → other ≡ text → IsAsked schema other
-text_asked schema text plain other same = subst (IsAsked schema) (sym same) (asked (understood schema text) plain)
+text_asked : (schema : Schema) (text : List ℕ) → IsPlain (understood schema text) → (other : List ℕ) → other ≡ text → CanBeAsked schema other
+text_asked schema text plain other same = subst (CanBeAsked schema) (sym same) (asked (understood schema text) plain)
 
 -- ---- six tables first
 
@@ -55,8 +55,8 @@ pub seven_first : (schema : Schema) → IsMadeFirst Two schema → HasTables Two
 seven_first schema first =
     let is = sym (as_six Two schema first) in (
       complete_first Two schema first,
-      subst (λ s. IsAsked s any_since) is (asked _ (any_plain first.0 schema.indexes schema.views)),
-      subst (λ s. IsAsked s (query_of Since)) is (asked _ (since_is first.0 schema.indexes schema.views).plain),
+      subst (λ s. CanBeAsked s any_since) is (asked _ (any_plain first.0 schema.indexes schema.views)),
+      subst (λ s. CanBeAsked s (query_of Since)) is (asked _ (since_is first.0 schema.indexes schema.views).plain),
     )
 
 -- ---- the schemas themselves
@@ -96,10 +96,10 @@ table_none Remark = refl
 table_none Receipt = refl
 table_none Since = refl
 
-not_asked : (table : Table) (other : List ℕ) → other ≡ query_of table → IsAsked no_schema other → ⊥
-not_asked table other same asked = unasked no_schema (query_of table) NoSuchTable (table_none table) (subst (IsAsked no_schema) same asked)
+not_asked : (table : Table) (other : List ℕ) → other ≡ query_of table → CanBeAsked no_schema other → ⊥
+not_asked table other same asked = unasked no_schema (query_of table) NoSuchTable (table_none table) (subst (CanBeAsked no_schema) same asked)
 
-none_there : (text : List ℕ) → Has (table_texts Two) text → IsAsked no_schema text → ⊥
+none_there : (text : List ℕ) → Has (table_texts Two) text → CanBeAsked no_schema text → ⊥
 none_there text (inl same) = not_asked Meta text same
 none_there text (inr (inl same)) = not_asked Account text same
 none_there text (inr (inr (inl same))) = not_asked Item text same

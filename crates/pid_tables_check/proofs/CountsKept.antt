@@ -21,11 +21,11 @@ use Rattle.pid_tables_rows.proofs.Keys.{numbers_decided}
 use Rattle.pid_tables_rows.proofs.SetLemmas.{tied}
 use Rattle.pid_tables_rows.specs.declared.version.Version.{Version}
 use Rattle.pid_tables_rows.specs.declared.version.Version.TheVariants.{One, Two}
-use Rattle.pid_tables_rows.specs.Schema.{number_of}
+use Rattle.pid_tables_rows.specs.Schema.{version_number}
 use Rattle.pid_tables_rows.specs.Shows.{ShowsIn, counts_of, labels_of, more_labels as more_rows}
 use Rattle.pid_tables_rows.specs.TableRows.{meta_row, item_row, submission_row, number}
 use Rattle.pid_moderation.specs.Submissions.{Standing}
-use Rattle.pid_tables_check.specs.Conditions.{columns, rows_in, more_labels, labels, label_row, AreLabels}
+use Rattle.pid_tables_check.specs.Conditions.{columns, rows_in, labels_beside, labels, label_row, AreLabels}
 use Rattle.pid_tables_rows.proofs.Lengths.{IsDistinct, some_there, same_length, mapped, unmapped}
 use Rattle.pid_tables_rows.proofs.OneRowEach.{rowids_apart, item_keys_apart}
 use Rattle.pid_tables_check.proofs.SubmissionsKept.{submitted_at, there_at, stands_as}
@@ -127,7 +127,7 @@ module _ (version : Version) (db : Database) (v : Views) (shows : ShowsIn versio
   same_pair : (key l : List ℕ) (value n : ℕ) → bytes_eq key l ≡ true → ◌≡◌ {A = Option ℕ} (Some n) (Some value) → ◌≡◌ {A = List ℕ × ℕ} (key, value) (l, n)
   same_pair key l value n t same = let is : key ≡ l = (bytes_eq-Decides key l).0 t in let that : n ≡ value = cc in λ i. (is i, sym that i)
 
-  more_told : (it : Version) (key : List ℕ) (value : ℕ) → more_rows it v.revision key ≡ Some value → Has {X = List ℕ × ℕ} (more_labels it v.revision) (key, value)
+  more_told : (it : Version) (key : List ℕ) (value : ℕ) → more_rows it v.revision key ≡ Some value → Has {X = List ℕ × ℕ} (labels_beside it v.revision) (key, value)
   more_told One key value e = absurd cc
   more_told Two key value e = go (bytes_eq key (codes "revision")) refl e
     where
@@ -139,8 +139,8 @@ module _ (version : Version) (db : Database) (v : Views) (shows : ShowsIn versio
   label_told key value e = go (bytes_eq key (codes "schema")) refl (bytes_eq key (codes "items")) refl (bytes_eq key (codes "submissions")) refl e
     where
       go : (a : Bool) → bytes_eq key (codes "schema") ≡ a → (b : Bool) → bytes_eq key (codes "items") ≡ b → (d : Bool) → bytes_eq key (codes "submissions") ≡ d
-          → cond a (Some (number_of version)) (cond b (Some (length v.items)) (cond d (Some (length v.submits)) (more_rows version v.revision key))) ≡ Some value → Told (key, value)
-      go true p b q d r same = inl (same_pair key (codes "schema") value (number_of version) p same)
+          → cond a (Some (version_number version)) (cond b (Some (length v.items)) (cond d (Some (length v.submits)) (more_rows version v.revision key))) ≡ Some value → Told (key, value)
+      go true p b q d r same = inl (same_pair key (codes "schema") value (version_number version) p same)
       go false p true q d r same = inr (inl (same_pair key (codes "items") value (length v.items) q same))
       go false p false q true r same = inr (inr (inl (same_pair key (codes "submissions") value (length v.submits) r same)))
       go false p false q false r same = inr (inr (inr (more_told version key value same)))
@@ -148,13 +148,13 @@ module _ (version : Version) (db : Database) (v : Views) (shows : ShowsIn versio
   at : (label : List ℕ) (n : ℕ) → labels_of version (counts_of v) v.revision label ≡ Some n → (e : List ℕ × ℕ) → e ≡ (label, n) → Has (rows_in db.trees).meta (label_row e)
   at label n is e same = let row = shows.meta.complete label n is in subst (λ (x : List ℕ × ℕ). Has (rows_in db.trees).meta (label_row x)) (sym same) (mapped (columns (1 ∷ 2 ∷ [])) (db.trees 0) (meta_row row.0 label n) row.1)
 
-  more_there : (it : Version) → it ≡ version → (e : List ℕ × ℕ) → Has (more_labels it v.revision) e → Has (rows_in db.trees).meta (label_row e)
+  more_there : (it : Version) → it ≡ version → (e : List ℕ × ℕ) → Has (labels_beside it v.revision) e → Has (rows_in db.trees).meta (label_row e)
   more_there One is e none = absurd none
   more_there Two is e (inl same) = at (codes "revision") v.revision (ap (λ x. labels_of x (counts_of v) v.revision (codes "revision")) (sym is)) e same
   more_there Two is e (inr none) = absurd none
 
   told_there : (e : List ℕ × ℕ) → Told e → Has (rows_in db.trees).meta (label_row e)
-  told_there e (inl same) = at (codes "schema") (number_of version) refl e same
+  told_there e (inl same) = at (codes "schema") (version_number version) refl e same
   told_there e (inr (inl same)) = at (codes "items") (length v.items) refl e same
   told_there e (inr (inr (inl same))) = at (codes "submissions") (length v.submits) refl e same
   told_there e (inr (inr (inr more))) = more_there version refl e more

@@ -17,7 +17,7 @@ use Rattle.pid_ident.specs.Words.{is_name}
 use Rattle.pid_moderation.specs.CheckTables.{most_items}
 use Rattle.pid_tables_rows.proofs.SetLemmas.{tied}
 use Rattle.pid_file.proofs.Kin.{same_path, parent_in_range}
-use Rattle.pid_tables_check.specs.Conditions.{HasValue, HasItem, AreItems}
+use Rattle.pid_tables_check.specs.Conditions.{HasValue, HasItemRow, AreItems}
 use Rattle.pid_tables_check.specs.Steps.PathSets.{ArePathsOf, HasPathText, IsItemAmong}
 use Rattle.pid_tables_check.proofs.Each.{each_member, each_place}
 
@@ -92,10 +92,10 @@ pub paths_step : (paths : BTreeSet Path) (rows : List Row) (i : ℕ) (r : Row) �
 paths_step paths rows i r less is are = subst (ArePathsOf paths) (sym (take_more rows i r less ∙ ap (λ x. take i rows ++ x ∷ []) is)) are
 
 module _ (paths : BTreeSet Path) (rows : List Row) (are : ArePathsOf paths rows) (p : Path) where
-  pub path_known : contains path_cmp paths p ≡ true → HasItem rows p
+  pub path_known : contains path_cmp paths p ≡ true → HasItemRow rows p
   path_known there = let it = (are p).0 there in subst (λ t. HasValue rows 0 (Text t)) it.2 it.3
 
-  pub path_listed : IsPath p → HasItem rows p → contains path_cmp paths p ≡ true
+  pub path_listed : IsPath p → HasItemRow rows p → contains path_cmp paths p ≡ true
   path_listed range has = (are p).1 (p, range, refl, has)
 
 -- ---- rows by the set

@@ -19,14 +19,14 @@ use Rattle.pid_moderation.specs.Laws.{ItemsAreSorted}
 use Rattle.pid_tables_rows.specs.Shows.{ShowsIn}
 use Rattle.pid_tables_rows.specs.declared.version.Version.{Version}
 use Rattle.pid_tables_rows.specs.TableRows.{item_row}
-use Rattle.pid_tables_check.specs.Conditions.{columns, rows_in, HasItem, IsItemRow, AreItems}
+use Rattle.pid_tables_check.specs.Conditions.{columns, rows_in, HasItemRow, IsItemRow, AreItems}
 use Rattle.pid_tables_rows.proofs.Lengths.{some_there, mapped, unmapped}
 
 module _ (sorted : ItemsAreSorted) (h : History) (sound : IsSound h) (version : Version) (db : Database) (shows : ShowsIn version db (views_of h)) where
   got : (k : List ℕ) → get (tree_of h) k ≡ name_at k (items_of h)
   got k = get-from_sorted text_cmp (items_of h) k (sorted h)
 
-  item_there : (path : Path) → IsSome (get (tree_of h) (path_text path)) → HasItem (rows_in db.trees).items path
+  item_there : (path : Path) → IsSome (get (tree_of h) (path_text path)) → HasItemRow (rows_in db.trees).items path
   item_there path there =
       let name = some_there (name_at (path_text path) (items_of h)) (ap is_some (sym (got (path_text path))) ∙ there) in
       let row = shows.items.complete (path_text path) name.0 name.1 in
@@ -38,7 +38,7 @@ module _ (sorted : ItemsAreSorted) (h : History) (sound : IsSound h) (version : 
   name_good : (key name : List ℕ) → get (tree_of h) key ≡ Some name → is_name name ≡ true
   name_good key name e = subst (λ (o : Option (List ℕ)). IfSome o (λ n. IsTrue (is_name n))) e (sound.tree.names key)
 
-  parent_there : (path : Path) → IsPath path → IsSome (get (tree_of h) (path_text path)) → (above : Path) → parent_of path ≡ Some above → HasItem (rows_in db.trees).items above
+  parent_there : (path : Path) → IsPath path → IsSome (get (tree_of h) (path_text path)) → (above : Path) → parent_of path ≡ Some above → HasItemRow (rows_in db.trees).items above
   parent_there path range there above e = item_there above (subst (λ (o : Option Path). IfSome o (λ q. IsSome (get (tree_of h) (path_text q)))) e (sound.tree.parents path range there))
 
   item_good : (r : Row) → Has (rows_in db.trees).items r → IsItemRow (rows_in db.trees).items r

@@ -7,7 +7,7 @@ use Rattle.pid_tables_rows.specs.declared.fault.TableFault.{TableFault}
 use Rattle.pid_tables_rows.specs.declared.version.Version.{Version}
 use Rattle.pid_tables_rows.specs.declared.version.Version.TheVariants.{One, Two}
 use Rattle.pid_tables_check.specs.Conditions.{AreRemarks}
-use Rattle.pid_tables_check.specs.Steps.Keeping.{IsJudged, KeepsAccounts, KeepsItems, KeepsSubmissions, GoWith, AreOfAuthors, ShowsNamed, ShowsSubmitted, ShowsJudged}
+use Rattle.pid_tables_check.specs.Steps.Keeping.{IsPartJudged, KeepsAccounts, KeepsItems, KeepsSubmissions, GoWith, AreOfAuthors, ShowsNamed, ShowsSubmitted, ShowsJudged}
 use Rattle.pid_tables_check.specs.Queries.{query_of}
 use Rattle.pid_tables_check.specs.Shapes.{ShowsRows}
 use Rattle.pid_tables_check.specs.declared.account.Accounts.{Accounts}
@@ -77,7 +77,7 @@ submitted d a s r inner good in_both both accounts submissions receipts =
     }
 
 pub judged : (version : Version) (revision : ℕ) (d : Database) (s n : Part) (r inner good : Bool) → IsBoth inner n.good r → IsBoth good s.good inner → ShowsSubmitted d s → ShowsNamed version revision d n
-    → Has d Remark (λ rows. IsJudged AreRemarks rows r) → ShowsJudged version revision d (record { good = good; items = n.count; submissions = s.count })
+    → Has d Remark (λ rows. IsPartJudged AreRemarks rows r) → ShowsJudged version revision d (record { good = good; items = n.count; submissions = s.count })
 judged version revision d s n r inner good in_both both of named remarks = record {
   rows = record { meta = []; accounts = of.accounts; items = named.items; submissions = of.submissions; remarks = remarks.0; receipts = of.receipts; sinces = named.sinces };
   shows = λ meta shown. record { meta = shown; accounts = of.has_accounts; items = named.has_items; submissions = of.has_submissions; remarks = remarks.1; receipts = of.has_receipts; sinces = named.has_sinces };

@@ -8,7 +8,7 @@ use Rattle.pid_tables_rows.specs.TableRows.{number}
 use Rattle.pid_tables_rows.specs.declared.version.Version.{Version}
 use Rattle.pid_tables_rows.specs.declared.version.Version.TheVariants.{One, Two}
 use Rattle.pid_tables_check.specs.Conditions.{labels, label_row, IsNewer, AreLabels}
-use Rattle.pid_tables_check.specs.Steps.Labels.{IsLabelled, HasLabel, HasMore}
+use Rattle.pid_tables_check.specs.Steps.Labels.{IsLabelled, HasLabelRow, HasMore}
 use Rattle.pid_moderation.specs.CheckTables.{most_revision}
 use Rattle.pid_tables_check.proofs.Each.{each_member, each_place, some_member, some_place, at_place}
 use Rattle.pid_tables_check.proofs.ItemFacts.{two}
@@ -59,13 +59,13 @@ module _ (version : Version) (items submissions revision : ℕ) (rows : List Row
   abbrev Listed : Row → Type 0
   Listed r = (e : List ℕ × ℕ) × Has (labels version items submissions revision) e × (r ≡ label_row e)
 
-  there : (e : List ℕ × ℕ) → HasLabel e rows → Has rows (label_row e)
+  there : (e : List ℕ × ℕ) → HasLabelRow e rows → Has rows (label_row e)
   there e any = let it = some_member _ rows any in subst (Has rows) it.2 it.1
 
-  pub items_of : AreLabels version items submissions revision rows → HasLabel (codes "items", items) rows
+  pub items_of : AreLabels version items submissions revision rows → HasLabelRow (codes "items", items) rows
   items_of good = some_place _ rows _ (good.there (codes "items", items) (inr (inl refl))) refl
 
-  pub submissions_of : AreLabels version items submissions revision rows → HasLabel (codes "submissions", submissions) rows
+  pub submissions_of : AreLabels version items submissions revision rows → HasLabelRow (codes "submissions", submissions) rows
   submissions_of good = some_place _ rows _ (good.there (codes "submissions", submissions) (inr (inr (inl refl)))) refl
 
 module _ (items submissions revision : ℕ) (rows : List Row) where
@@ -89,7 +89,7 @@ module _ (items submissions revision : ℕ) (rows : List Row) where
   unlisted Two r (e, inr (inr (inr (inl same))), is) = inr (is ∙ ap label_row same)
   unlisted Two r (e, inr (inr (inr (inr none))), is) = absurd none
 
-  has : (version : Version) → HasMore version revision rows → HasLabel (codes "items", items) rows → HasLabel (codes "submissions", submissions) rows
+  has : (version : Version) → HasMore version revision rows → HasLabelRow (codes "items", items) rows → HasLabelRow (codes "submissions", submissions) rows
       → (e : List ℕ × ℕ) → Has (labels version items submissions revision) e → Has rows (label_row e)
   has One more two three e (inl same) = subst (λ (x : List ℕ × ℕ). Has rows (label_row x)) (sym same) (there One items submissions revision rows (codes "schema", 1) more)
   has Two more two three e (inl same) = subst (λ (x : List ℕ × ℕ). Has rows (label_row x)) (sym same) (there Two items submissions revision rows (codes "schema", 2) more.0)
@@ -104,7 +104,7 @@ module _ (items submissions revision : ℕ) (rows : List Row) where
   more Two good = (some_place _ rows _ (good.there (codes "schema", 2) (inl refl)) refl, some_place _ rows _ (good.there (codes "revision", revision) (inr (inr (inr (inl refl))))) refl)
 
 module _ (version : Version) (items submissions revision : ℕ) (rows : List Row) where
-  pub labels_made : All (IsLabelled version items submissions revision) rows → HasMore version revision rows → HasLabel (codes "items", items) rows → HasLabel (codes "submissions", submissions) rows
+  pub labels_made : All (IsLabelled version items submissions revision) rows → HasMore version revision rows → HasLabelRow (codes "items", items) rows → HasLabelRow (codes "submissions", submissions) rows
       → AreLabels version items submissions revision rows
   labels_made all one two three = record {
     each = λ r h. listed items submissions revision rows version r (each_member (IsLabelled version items submissions revision) rows all r h);

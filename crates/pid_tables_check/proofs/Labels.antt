@@ -21,7 +21,7 @@ use Rattle.pid_tables_check.specs.Conditions.{IsNewer}
 use Rattle.pid_tables_check.specs.Queries.{query_of}
 use Rattle.pid_tables_check.specs.declared.shape.Table.{Table}
 use Rattle.pid_tables_check.specs.declared.shape.Table.TheVariants.{Meta, Account, Item, Submission, Remark, Receipt, Since}
-use Rattle.pid_tables_check.specs.Shapes.{IsAsked, ShowsRows, ShowsLater}
+use Rattle.pid_tables_check.specs.Shapes.{CanBeAsked, ShowsRows, ShowsLater}
 use Rattle.std.specs.declared.alloc.Global.{Global}
 use Rattle.pid_tables_rows.proofs.ReadLemmas.{shown_same}
 use Rattle.pid_tables_rows.specs.declared.fault.TableFault.{TableFault}
@@ -84,7 +84,7 @@ plain table schema = elim (reads_listing schema (query_of table)) as (λ b. IsPl
   | false ↦ compiled_plain table schema
 ]
 
-pub asked_plain : (table : Table) (schema : Schema) → IsAsked schema (query_of table) → IsPlain (understood schema (query_of table))
+pub asked_plain : (table : Table) (schema : Schema) → CanBeAsked schema (query_of table) → IsPlain (understood schema (query_of table))
 asked_plain table schema asked = subst IsPlain (sym asked.1) (subst IsPlainIfAsked asked.1 (plain table schema))
 
 rows_shown : (table : Table) (old new : State) (rows : List Row) → Shown (query_of table) [] old new rows → ShowsRows old.now (query_of table) rows
@@ -96,10 +96,10 @@ rows_shown table old new rows h =
 
 pub answered : (table : Table) (sql : List ℕ) → sql ≡ query_of table → (old new : State) (r : Result (Vec Row Global) TableFault) → IfOk r (λ rows. Shown sql [] old new rows.items)
     → ((schema : Schema) → old.now.schema ≡ schema → IsPlain (understood schema sql) → IfErr r IsMemoryOrStore)
-    → (d : Database) → old.now ≡ d → IsAsked d.schema (query_of table) → MatchResult r (λ rows. ShowsRows d (query_of table) rows.items × (new.now ≡ d)) IsMemoryOrStore
+    → (d : Database) → old.now ≡ d → CanBeAsked d.schema (query_of table) → MatchResult r (λ rows. ShowsRows d (query_of table) rows.items × (new.now ≡ d)) IsMemoryOrStore
 answered table sql text old new (Ok rows) told fault d is asked =
     let shown = subst (λ q. Shown q [] old new rows.items) text told in
-    let plain = asked_plain table old.now.schema (subst (λ (x : Database). IsAsked x.schema (query_of table)) (sym is) asked) in (
+    let plain = asked_plain table old.now.schema (subst (λ (x : Database). CanBeAsked x.schema (query_of table)) (sym is) asked) in (
       subst (λ (x : Database). ShowsRows x (query_of table) rows.items) is (rows_shown table old new rows.items shown),
       (shown_same (query_of table) [] old new rows.items plain shown).0.now_is ∙ is,
     )

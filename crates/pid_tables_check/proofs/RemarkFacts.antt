@@ -13,7 +13,7 @@ use Rattle.pid_ident.specs.Words.{is_text}
 use Rattle.pid_moderation.specs.CheckTables.{most_remarks}
 use Rattle.pid_tables_rows.specs.TableRows.{number}
 use Rattle.pid_tables_check.specs.Conditions.{HasRemark, AreRemarks}
-use Rattle.pid_tables_check.specs.Steps.PlaceSets.{pair_cmp, ArePlacesOf, Follows, HasPlace, IsRemarkAmong}
+use Rattle.pid_tables_check.specs.Steps.PlaceSets.{pair_cmp, ArePlacesOf, FollowsPlace, HasPlace, IsRemarkAmong}
 use Rattle.pid_tables_check.proofs.Each.{each_member, each_place}
 use Rattle.pid_tables_check.proofs.ItemFacts.{split, before, last}
 
@@ -79,10 +79,10 @@ place_added places next rows r n p first second added are num place = (
 pub places_step : (places : BTreeSet (ℕ × ℕ)) (rows : List Row) (i : ℕ) (r : Row) → i < length rows → get_or rows i r ≡ r → ArePlacesOf places (take i rows ++ r ∷ []) → ArePlacesOf places (take (i + 1) rows)
 places_step places rows i r less is are = subst (ArePlacesOf places) (sym (take_more rows i r less ∙ ap (λ x. take i rows ++ x ∷ []) is)) are
 
-pub follows_made : (places : BTreeSet (ℕ × ℕ)) (num place : ℕ) → 2 ≤ place → place ≤ most_remarks → contains pair_cmp places (num, place - 1) ≡ true → Follows places num place
+pub follows_made : (places : BTreeSet (ℕ × ℕ)) (num place : ℕ) → 2 ≤ place → place ≤ most_remarks → contains pair_cmp places (num, place - 1) ≡ true → FollowsPlace places num place
 follows_made places num place low high there = (omega (arith, low), high, λ earlier least next. let same : place - 1 ≡ earlier = omega (arith, next) in subst (λ e. contains pair_cmp places (num, e) ≡ true) same there)
 
-pub follows_back : (places : BTreeSet (ℕ × ℕ)) (num place : ℕ) → 2 ≤ place → Follows places num place → contains pair_cmp places (num, place - 1) ≡ true
+pub follows_back : (places : BTreeSet (ℕ × ℕ)) (num place : ℕ) → 2 ≤ place → FollowsPlace places num place → contains pair_cmp places (num, place - 1) ≡ true
 follows_back places num place low it = it.2 (place - 1) (omega (arith, low)) (omega (arith, low))
 
 -- ---- rows by the set

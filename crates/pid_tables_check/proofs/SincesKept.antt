@@ -20,7 +20,7 @@ use Rattle.pid_tables_rows.specs.TableRows.{since_row}
 use Rattle.pid_tables_rows.specs.declared.version.Version.{Version}
 use Rattle.pid_tables_rows.specs.declared.version.Version.TheVariants.{One, Two}
 use Rattle.pid_tables_rows.proofs.Lengths.{mapped, unmapped}
-use Rattle.pid_tables_check.specs.Conditions.{columns, rows_in, HasItem, IsSinceRow, AreSinces, AreNumbered}
+use Rattle.pid_tables_check.specs.Conditions.{columns, rows_in, HasItemRow, IsSinceRow, AreSinces, AreNumbered}
 use Rattle.pid_tables_check.proofs.ItemFacts.{texts_same}
 
 -- the number of a path, where it has an item
@@ -44,7 +44,7 @@ module _ (sorted : ItemsAreSorted) (h : History) (sound : IsSound h) (within : (
         within = subst (λ n. n ≤ revision_of h) it.1 (within pair.key);
       }
 
-  since_there : (path : Path) → IsPath path → HasItem (rows_in db.trees).items path → HasItem (rows_in db.trees).sinces path
+  since_there : (path : Path) → IsPath path → HasItemRow (rows_in db.trees).items path → HasItemRow (rows_in db.trees).sinces path
   since_there path range (r, has, is) =
       let from = unmapped (columns (1 ∷ 2 ∷ [])) (db.trees 4) r has in
       let pair = shows.items.sound from.0 from.1 in

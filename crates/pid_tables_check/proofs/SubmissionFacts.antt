@@ -16,7 +16,7 @@ use Rattle.pid_moderation.specs.declared.facts.State.TheVariants.{Pending, Appro
 use Rattle.pid_moderation.specs.WellMade.{ProposesName}
 use Rattle.pid_tables_rows.specs.TableRows.{number, form_of, name_of}
 use Rattle.pid_tables_check.specs.Conditions.{HasAccount, AreAccounts, IsDecided, IsSubmissionRow, AreSubmissions}
-use Rattle.pid_tables_check.specs.Steps.NamesRead.{IsAmong, IsDecidedAmong, IsSubmissionAmong, Stands}
+use Rattle.pid_tables_check.specs.Steps.NamesRead.{IsAmong, IsDecidedAmong, IsSubmissionAmong, StandsInRows}
 use Rattle.pid_tables_check.specs.Steps.NameSets.{AreNamesOf}
 use Rattle.std.specs.List.{All}
 use Rattle.pid_tables_check.specs.Steps.NumberSets.{CountFromOne}
@@ -43,19 +43,19 @@ module _ (names : BTreeSet (String Global)) (r : Row) where
   abbrev pub IsByOther : List ℕ → Type 0
   IsByOther author = (decider : List ℕ) × (column r 7 ≡ Text decider) × (decider ≢ author) × IsAmong names decider
 
-  pub approved : (author : List ℕ) → column r 6 ≡ number 1 → IsByOther author → column r 8 ≡ Text [] → Stands names r author
+  pub approved : (author : List ℕ) → column r 6 ≡ number 1 → IsByOther author → column r 8 ≡ Text [] → StandsInRows names r author
   approved author e by none = (Approved by.0, e, by.1, none, (by.2, by.3))
 
-  pub rejected : (author : List ℕ) → column r 6 ≡ number 2 → IsByOther author → ((text : List ℕ) × (column r 8 ≡ Text text) × (is_text text ≡ true) × (is_empty text ≡ false)) → Stands names r author
+  pub rejected : (author : List ℕ) → column r 6 ≡ number 2 → IsByOther author → ((text : List ℕ) × (column r 8 ≡ Text text) × (is_text text ≡ true) × (is_empty text ≡ false)) → StandsInRows names r author
   rejected author e by why = (Rejected by.0 why.0, e, by.1, why.1, (by.2, by.3, why.2, why.3))
 
-  pub approved_reason : (author : List ℕ) → column r 6 ≡ number 1 → Stands names r author → column r 8 ≡ Text []
+  pub approved_reason : (author : List ℕ) → column r 6 ≡ number 1 → StandsInRows names r author → column r 8 ≡ Text []
   approved_reason author e (Pending, n, d, w, good) = w
   approved_reason author e (Approved decider, n, d, w, good) = w
   approved_reason author e (Rejected decider reason, n, d, w, good) = absurd (let bad : 1 ≡ 2 = numbers_same 1 2 (sym e ∙ n) in omega (arith, bad))
   approved_reason author e (Withdrawn, n, d, w, good) = w
 
-  pub rejected_reason : (author : List ℕ) → column r 6 ≡ number 2 → Stands names r author → (text : List ℕ) × (column r 8 ≡ Text text) × (is_text text ≡ true) × (is_empty text ≡ false)
+  pub rejected_reason : (author : List ℕ) → column r 6 ≡ number 2 → StandsInRows names r author → (text : List ℕ) × (column r 8 ≡ Text text) × (is_text text ≡ true) × (is_empty text ≡ false)
   rejected_reason author e (Pending, n, d, w, good) = absurd (let bad : 2 ≡ 0 = numbers_same 2 0 (sym e ∙ n) in omega (arith, bad))
   rejected_reason author e (Approved decider, n, d, w, good) = absurd (let bad : 2 ≡ 1 = numbers_same 2 1 (sym e ∙ n) in omega (arith, bad))
   rejected_reason author e (Rejected decider reason, n, d, w, good) = (reason, w, good.2, good.3)
@@ -74,7 +74,7 @@ module _ (names : BTreeSet (String Global)) (r : Row) where
     pub note_of : IsSubmissionAmong names count r → (text : List ℕ) × (column r 5 ≡ Text text) × (is_text text ≡ true)
     note_of it = (it.standing.submitted.note, ap (λ (x : Row). column x 5) it.is, it.note)
 
-    pub author_of : IsSubmissionAmong names count r → (author : List ℕ) × (column r 1 ≡ Text author) × IsAmong names author × Stands names r author
+    pub author_of : IsSubmissionAmong names count r → (author : List ℕ) × (column r 1 ≡ Text author) × IsAmong names author × StandsInRows names r author
     author_of it = (
       it.standing.submitted.author,
       ap (λ (x : Row). column x 1) it.is,
@@ -82,8 +82,8 @@ module _ (names : BTreeSet (String Global)) (r : Row) where
       (it.standing.state, ap (λ (x : Row). column x 6) it.is, ap (λ (x : Row). column x 7) it.is, ap (λ (x : Row). column x 8) it.is, it.state),
     )
 
-    pub stands_of : (author : List ℕ) → column r 1 ≡ Text author → IsSubmissionAmong names count r → IsAmong names author × Stands names r author
-    stands_of author is it = let of = author_of it in subst (λ a. IsAmong names a × Stands names r a) (texts_same _ _ (sym of.1 ∙ is)) (of.2, of.3)
+    pub stands_of : (author : List ℕ) → column r 1 ≡ Text author → IsSubmissionAmong names count r → IsAmong names author × StandsInRows names r author
+    stands_of author is it = let of = author_of it in subst (λ a. IsAmong names a × StandsInRows names r a) (texts_same _ _ (sym of.1 ∙ is)) (of.2, of.3)
 
 nine : (r : Row) → length r ≡ 9 → r ≡ column r 0 ∷ column r 1 ∷ column r 2 ∷ column r 3 ∷ column r 4 ∷ column r 5 ∷ column r 6 ∷ column r 7 ∷ column r 8 ∷ []
 nine (a ∷ b ∷ c ∷ d ∷ e ∷ f ∷ g ∷ h ∷ i ∷ []) len = refl
@@ -99,7 +99,7 @@ nine (a ∷ b ∷ c ∷ d ∷ e ∷ f ∷ g ∷ []) len = absurd (omega (arith, 
 nine (a ∷ b ∷ c ∷ d ∷ e ∷ f ∷ g ∷ h ∷ []) len = absurd (omega (arith, len))
 
 pub submission_made : (names : BTreeSet (String Global)) (count : ℕ) (r : Row) (author : List ℕ) → length r ≡ 9 → ((n : ℕ) × (column r 0 ≡ number n) × (1 ≤ n) × (n ≤ count)) → ((p : Path) × IsPath p × (column r 2 ≡ Text (path_text p)))
-    → Proposes r → ((text : List ℕ) × (column r 5 ≡ Text text) × (is_text text ≡ true)) → column r 1 ≡ Text author → (IsAmong names author × Stands names r author) → IsSubmissionAmong names count r
+    → Proposes r → ((text : List ℕ) × (column r 5 ≡ Text text) × (is_text text ≡ true)) → column r 1 ≡ Text author → (IsAmong names author × StandsInRows names r author) → IsSubmissionAmong names count r
 submission_made names count r author len num path proposal note is it = record {
   num = num.0;
   within = (num.2, num.3);

@@ -14,7 +14,7 @@ use Rattle.pid_tables_rows.specs.declared.fault.TableFault.TheVariants.{Memory, 
 use Rattle.pid_tables_rows.specs.Faults.{IsMemoryOrStore}
 use Rattle.pid_tables_rows.proofs.TurnLemmas.{permuted}
 use Rattle.pid_tables_check.specs.declared.shape.Table.TheVariants.{Meta}
-use Rattle.pid_tables_check.specs.Checking.{Explains, Finds, IsRegistry, ShowsRegistry}
+use Rattle.pid_tables_check.specs.Checking.{Explains, FindsVersion, IsRegistry, ShowsRegistry}
 use Rattle.pid_tables_check.specs.Conditions.{Rows, rows_in, labels, label_row, IsNewer, AreOfRegistry}
 use Rattle.pid_tables_check.specs.Steps.Lacking.{ExplainsLater}
 use Rattle.pid_tables_check.specs.Queries.{query_of}
@@ -68,7 +68,7 @@ module _ (d : Database) (found : Option Version) (each : HasEachTable d.schema) 
   explained (NewerSchema n) h = h
   explained Damaged h = (each_some d.schema each, λ asked. h.0, λ it there. h.1 it (same_version found d.schema it has there))
 
-pub finds : (d : Database) (found : Option Version) → HasTablesOf found d.schema → ShowsFound found d → Finds d found
+pub finds : (d : Database) (found : Option Version) → HasTablesOf found d.schema → ShowsFound found d → FindsVersion d found
 finds d None has h = absurd h
 finds d (Some found) has h = (has, h.0, h.1)
 
@@ -85,7 +85,7 @@ module _ (a b c : Database) (found : Option Version) (one : b ≡ a) (two : c �
       let late = told (back (λ d. HasEachTable d.schema) each) (back (λ d. HasTablesOf found d.schema) has) in
       explained a found each has e (subst (λ d. TellsLater found d e) (two ∙ one) late)
 
-  pub whole_found : (HasEachTable c.schema → HasTablesOf found c.schema → ShowsFound found c) → Finds a found
+  pub whole_found : (HasEachTable c.schema → HasTablesOf found c.schema → ShowsFound found c) → FindsVersion a found
   whole_found told =
       let late = told (back (λ d. HasEachTable d.schema) each) (back (λ d. HasTablesOf found d.schema) has) in
       finds a found has (subst (λ d. ShowsFound found d) (two ∙ one) late)
@@ -126,7 +126,7 @@ module _ (d : Database) (version : Version) (first : IsMadeFirst version d.schem
   never (NewerSchema n) h good = no_later version (rows_in d.trees) good.rows n (newer_stored h.0 n h.1 h.2)
   never Damaged h good = never_damaged version d first good.rows (h.2 version good.tables)
 
-  is_found : (found : Option Version) → Finds d found → (found ≡ Some version) ↔ IsRegistry version d
+  is_found : (found : Option Version) → FindsVersion d found → (found ≡ Some version) ↔ IsRegistry version d
   is_found None h = (λ same. absurd cc, λ good. absurd (h (each_some d.schema (tables_each version d.schema good.tables))))
   is_found (Some found) h = (
     λ same.
@@ -135,7 +135,7 @@ module _ (d : Database) (version : Version) (first : IsMadeFirst version d.schem
     λ good. ap Some (both found version d.schema h.0 good.tables),
   )
 
-pub told_stored : (d : Database) (r : Result (Option Version) TableFault) → MatchResult r (Finds d) (Explains d) → (version : Version) → IsMadeFirst version d.schema
+pub told_stored : (d : Database) (r : Result (Option Version) TableFault) → MatchResult r (FindsVersion d) (Explains d) → (version : Version) → IsMadeFirst version d.schema
     → MatchResult r (λ found. (found ≡ Some version) ↔ IsRegistry version d) (λ e. IsRegistry version d → IsMemoryOrStore e)
 told_stored d (Ok found) h version first = is_found d version first found h
 told_stored d (Err e) h version first = never d version first e h

@@ -6,7 +6,7 @@ use Rattle.pid_tables_rows.specs.declared.fault.TableFault.{TableFault}
 use Rattle.pid_tables_rows.specs.declared.fault.TableFault.TheVariants.{Memory, Store, NewerSchema, Damaged}
 use Rattle.pid_tables_check.specs.Conditions.{Rows, rows_in, AreOfRegistry}
 use Rattle.pid_tables_check.specs.Queries.{query_of}
-use Rattle.pid_tables_check.specs.Shapes.{HasTables, HasSomeTable, HasNoTable, IsAsked, ShowsTables, ShowsLater}
+use Rattle.pid_tables_check.specs.Shapes.{HasTables, HasSomeTable, HasNoTable, CanBeAsked, ShowsTables, ShowsLater}
 use Rattle.pid_tables_check.specs.declared.shape.Table.TheVariants.{Meta}
 
 -- the rows that the tables of a schema show are those of a registry, or are not
@@ -18,9 +18,9 @@ ShowsDamage version db = (t : Rows) × ShowsTables version db t × ¬ (AreOfRegi
 
 -- A database of which nothing is there is told as none. One in a schema has its tables, which show
 -- a registry, and no later schema.
-abbrev pub Finds : Database → Option Version → Type 0
-Finds db None = HasNoTable db.schema
-Finds db (Some found) = HasTables found db.schema × ShowsRegistry found db × ShowsLater db None
+abbrev pub FindsVersion : Database → Option Version → Type 0
+FindsVersion db None = HasNoTable db.schema
+FindsVersion db (Some found) = HasTables found db.schema × ShowsRegistry found db × ShowsLater db None
 
 -- A later schema is judged before all else. Damaged is told where there is some table, and where
 -- the tables of a schema are there, of rows that are not a registry's.
@@ -29,7 +29,7 @@ Explains db Memory = Unit {0}
 Explains db Store = Unit {0}
 Explains db (NewerSchema n) = ShowsLater db (Some n)
 Explains db Damaged = HasSomeTable db.schema
-    × (IsAsked db.schema (query_of Meta) → ShowsLater db None)
+    × (CanBeAsked db.schema (query_of Meta) → ShowsLater db None)
     × ((version : Version) → HasTables version db.schema → ShowsDamage version db)
 
 -- The same by what storage has: the tables of a schema are there, and their rows are those of a

@@ -18,9 +18,9 @@ use Rattle.pid_moderation.specs.CheckTables.{most_revision}
 use Rattle.pid_moderation.specs.WellMade.{ProposesName}
 use Rattle.pid_tables_rows.specs.declared.version.Version.{Version}
 use Rattle.pid_tables_rows.specs.declared.version.Version.TheVariants.{One, Two}
-use Rattle.pid_tables_rows.specs.Schema.{number_of}
+use Rattle.pid_tables_rows.specs.Schema.{version_number}
 use Rattle.pid_tables_rows.specs.Schema as tables
-use Rattle.pid_tables_rows.specs.TableRows.{number, kind_of, first_of, second_of, third_of}
+use Rattle.pid_tables_rows.specs.TableRows.{number, reply_kind, first_number, second_number, third_number}
 use Rattle.pid_moderation.specs.Submissions.{Standing}
 use Rattle.pid_tables_rows.specs.Answers.{standing_row}
 
@@ -59,15 +59,15 @@ HasValue rows at value = (r : Row) × Has rows r × (column r at ≡ value)
 -- ---- meta
 
 -- what a schema has in labels beside the three: schema 2 has the revision
-abbrev pub more_labels : Version → ℕ → List (List ℕ × ℕ)
-more_labels One revision = []
-more_labels Two revision = (codes "revision", revision) ∷ []
+abbrev pub labels_beside : Version → ℕ → List (List ℕ × ℕ)
+labels_beside One revision = []
+labels_beside Two revision = (codes "revision", revision) ∷ []
 
 -- the labels of a schema with their numbers: that of the schema, how many items there are, and how
 -- many submissions
 abbrev pub labels : Version → ℕ → ℕ → ℕ → List (List ℕ × ℕ)
-labels version items submissions revision = (codes "schema", number_of version)
-    ∷ (codes "items", items) ∷ (codes "submissions", submissions) ∷ more_labels version revision
+labels version items submissions revision = (codes "schema", version_number version)
+    ∷ (codes "items", items) ∷ (codes "submissions", submissions) ∷ labels_beside version revision
 
 abbrev pub label_row : List ℕ × ℕ → Row
 label_row e = Text e.0 ∷ number e.1 ∷ []
@@ -105,8 +105,8 @@ pub record AreAccounts (accounts : List Row) : Type 0 where
 
 -- ---- item
 
-abbrev pub HasItem : List Row → Path → Type 0
-HasItem items path = HasValue items 0 (Text (path_text path))
+abbrev pub HasItemRow : List Row → Path → Type 0
+HasItemRow items path = HasValue items 0 (Text (path_text path))
 
 -- a path and a name; the parent of the path is there too
 pub record IsItemRow (items : List Row) (r : Row) : Type 0 where
@@ -115,7 +115,7 @@ pub record IsItemRow (items : List Row) (r : Row) : Type 0 where
   pub is : r ≡ Text (path_text path) ∷ Text name ∷ []
   pub in_range : IsPath path
   pub good : is_name name ≡ true
-  pub parent : (above : Path) → parent_of path ≡ Some above → HasItem items above
+  pub parent : (above : Path) → parent_of path ≡ Some above → HasItemRow items above
 
 -- at most 100,000 items
 pub record AreItems (items : List Row) : Type 0 where
@@ -187,8 +187,8 @@ pub record IsReceiptRow (submissions : List Row) (r : Row) : Type 0 where
   pub account : List ℕ
   pub token : List ℕ
   pub reply : Reply
-  pub is : r ≡ Text account ∷ Text token ∷ number (kind_of reply) ∷ number (first_of reply)
-      ∷ number (second_of reply) ∷ number (third_of reply) ∷ []
+  pub is : r ≡ Text account ∷ Text token ∷ number (reply_kind reply) ∷ number (first_number reply)
+      ∷ number (second_number reply) ∷ number (third_number reply) ∷ []
   pub good : is_account account ≡ true
   pub key : is_key token ≡ true
   pub own : IsOwn submissions account reply
@@ -209,7 +209,7 @@ pub record IsSinceRow (revision : ℕ) (r : Row) : Type 0 where
 -- each item has a row
 pub record AreSinces (revision : ℕ) (items sinces : List Row) : Type 0 where
   pub each : (r : Row) → Has sinces r → IsSinceRow revision r
-  pub there : (path : Path) → IsPath path → HasItem items path → HasItem sinces path
+  pub there : (path : Path) → IsPath path → HasItemRow items path → HasItemRow sinces path
 
 -- schema 1 keeps no numbers of changes
 abbrev pub AreNumbered : Version → ℕ → Rows → Type 0

@@ -24,29 +24,29 @@ table_texts Two = query_of Meta ∷ query_of Account ∷ query_of Item ∷ query
     ∷ query_of Remark ∷ query_of Receipt ∷ query_of Since ∷ []
 
 -- the text can be prepared: it is understood as a statement under the schema
-abbrev pub IsAsked : Schema → List ℕ → Type 0
-IsAsked schema text = (c : Compiled) × (understood schema text ≡ Ok c)
+abbrev pub CanBeAsked : Schema → List ℕ → Type 0
+CanBeAsked schema text = (c : Compiled) × (understood schema text ≡ Ok c)
 
 -- each of the six tables that both schemas have can be asked for
 abbrev pub HasEachTable : Schema → Type 0
-HasEachTable schema = (text : List ℕ) → Has (table_texts One) text → IsAsked schema text
+HasEachTable schema = (text : List ℕ) → Has (table_texts One) text → CanBeAsked schema text
 
 -- some of the seven can
 abbrev pub HasSomeTable : Schema → Type 0
-HasSomeTable schema = (text : List ℕ) × Has (table_texts Two) text × IsAsked schema text
+HasSomeTable schema = (text : List ℕ) × Has (table_texts Two) text × CanBeAsked schema text
 
 abbrev pub HasNoTable : Schema → Type 0
 HasNoTable schema = ¬ (HasSomeTable schema)
 
 -- a table, or a view, has the name item_since, whatever its columns
 abbrev pub HasSinceTable : Schema → Type 0
-HasSinceTable schema = IsAsked schema any_since
+HasSinceTable schema = CanBeAsked schema any_since
 
 -- the tables of a schema are there: beside the six, schema 1 has no table item_since, and schema 2
 -- has it with its columns
 abbrev pub HasTables : Version → Schema → Type 0
 HasTables One schema = HasEachTable schema × ¬ (HasSinceTable schema)
-HasTables Two schema = HasEachTable schema × HasSinceTable schema × IsAsked schema (query_of Since)
+HasTables Two schema = HasEachTable schema × HasSinceTable schema × CanBeAsked schema (query_of Since)
 
 -- the tables of a schema were made first, in their order; whatever else was made stands behind them
 abbrev pub IsMadeFirst : Version → Schema → Type 0

@@ -7,7 +7,7 @@ ghost use Rattle.pid_tables_rows.specs.TableRows.{number};
 ghost use Rattle.pid_tables_rows.specs.Clauses.{GoesOn};
 ghost use Rattle.pid_tables_rows.specs.Faults.{IsMemoryOrStore};
 ghost use Rattle.pid_tables_check.specs.Conditions.{IsAccountRow, AreAccounts};
-ghost use Rattle.pid_tables_check.specs.Steps.Clauses.{Keeps};
+ghost use Rattle.pid_tables_check.specs.Steps.Clauses.{KeepsTable};
 ghost use Rattle.pid_tables_check.specs.Steps.Keeping.{KeepsAccounts};
 ghost use Rattle.pid_tables_check.specs.declared.shape.Table.TheVariants as table;
 
@@ -116,7 +116,8 @@ pub(crate) fn read_accounts<S: Alter>(
 ) -> Result<Accounts, TableFault>
     ensures same_reference { tx.new.conn.ghost_name ≡ tx.old.conn.ghost_name }
     ensures goes { GoesOn S.Store tx.old.conn.now tx.new.conn.now result }
-    ensures keeps { Keeps S.Store tx.old.conn.now tx.new.conn.now result table.Account KeepsAccounts }
+    ensures keeps { KeepsTable S.Store tx.old.conn.now tx.new.conn.now result table.Account
+        KeepsAccounts }
 {
     let rows = table_rows(tx, Table::Account)?;
     keep_accounts(rows.as_slice(), alloc)

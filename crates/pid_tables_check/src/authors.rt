@@ -15,7 +15,7 @@ ghost use Rattle.std.specs.Prelude.{
 ghost use Rattle.sqlite.specs.declared.types.Value.TheVariants.{Text as TextValue};
 ghost use Rattle.sqlite.specs.Order.{column, Row as Values};
 ghost use Rattle.pid_tables_rows.specs.TableRows.{number};
-ghost use Rattle.pid_tables_check.specs.Steps.AuthorSets.{AreAuthorsOf, IsBy};
+ghost use Rattle.pid_tables_check.specs.Steps.AuthorSets.{AreAuthorsOf, IsByAuthor};
 ghost use Rattle.pid_tables_rows.specs.Faults.{IsMemoryOrStore};
 
 use crate::value::{number_at, text_at};
@@ -84,7 +84,7 @@ pub(crate) fn is_by(
     account: &str,
 ) -> Result<bool, TableFault>
     ensures judged { IfOk result (λ is. (rows : List Values) → AreAuthorsOf authors.now rows
-        → IsTrue is ↔ IsBy rows submission account.now) }
+        → IsTrue is ↔ IsByAuthor rows submission account.now) }
     ensures untold { IfErr result IsMemoryOrStore }
 {
     let author = String::from_str(alloc, account)?;

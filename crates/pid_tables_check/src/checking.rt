@@ -5,11 +5,11 @@ ghost use Rattle.pid_tables_rows.specs.Faults.{IsMemoryOrStore};
 ghost use Rattle.pid_tables_rows.specs.declared.version.Version.{Version as Schema};
 ghost use Rattle.pid_tables_rows.specs.Clauses.{GoesOn, HasCleanDisk, OnlyReads, is_open, seen};
 ghost use Rattle.pid_tables_check.specs.declared.shape.Table.TheVariants.{Meta};
-ghost use Rattle.pid_tables_check.specs.Checking.{Explains, Finds, IsRegistry, ShowsRegistry};
-ghost use Rattle.pid_tables_check.specs.Steps.Clauses.{Judges};
+ghost use Rattle.pid_tables_check.specs.Checking.{Explains, FindsVersion, IsRegistry, ShowsRegistry};
+ghost use Rattle.pid_tables_check.specs.Steps.Clauses.{JudgesRows};
 ghost use Rattle.pid_tables_check.specs.Queries.{query_of};
 ghost use Rattle.pid_tables_check.specs.Steps.Reading.{ShowsFound, TellsDamage, TellsLater};
-ghost use Rattle.pid_tables_check.specs.Shapes.{HasEachTable, HasTables, IsMadeFirst, ShowsLater, ShowsRows};
+ghost use Rattle.pid_tables_check.specs.Shapes.{HasEachTable, HasTables, IsMadeFirst, ShowsRows};
 ghost use Rattle.pid_tables_check.specs.Steps.Shapes.{HasTablesOf};
 
 use crate::lacking::check_lacking;
@@ -29,7 +29,7 @@ fn check_rows<S: Alter>(
 ) -> Result<(), TableFault>
     ensures same_reference { tx.new.conn.ghost_name ≡ tx.old.conn.ghost_name }
     ensures goes { GoesOn S.Store tx.old.conn.now tx.new.conn.now result }
-    ensures told { Judges S.Store tx.old.conn.now tx.new.conn.now result
+    ensures told { JudgesRows S.Store tx.old.conn.now tx.new.conn.now result
         (λ d. HasTables version d.schema × ShowsRows d (query_of Meta) meta.items)
         (λ d x. ShowsRegistry version d) (TellsDamage version) }
 {
@@ -52,7 +52,7 @@ fn check_tables<S: Alter>(
 ) -> Result<(), TableFault>
     ensures same_reference { tx.new.conn.ghost_name ≡ tx.old.conn.ghost_name }
     ensures goes { GoesOn S.Store tx.old.conn.now tx.new.conn.now result }
-    ensures told { Judges S.Store tx.old.conn.now tx.new.conn.now result
+    ensures told { JudgesRows S.Store tx.old.conn.now tx.new.conn.now result
         (λ d. HasEachTable d.schema × HasTablesOf version d.schema)
         (λ d x. ShowsFound version d) (TellsLater version) }
 {
@@ -103,7 +103,7 @@ pub fn check<S: Alter>(
         → MatchResult result (λ x. ⊥) IsMemoryOrStore }
     // Whatever the schema: what it tells is so of the rows that the queries of the tables answer.
     ensures told { HasCleanDisk S.Store conn.new
-        → MatchResult result (Finds (seen S.Store conn.old))
+        → MatchResult result (FindsVersion (seen S.Store conn.old))
         (Explains (seen S.Store conn.old)) }
     // Where the tables of a schema were made first, whatever else stands behind them: it finds the
     // schema exactly where storage has a registry in it.

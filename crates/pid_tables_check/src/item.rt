@@ -20,7 +20,7 @@ ghost use Rattle.sqlite.specs.Order.{Row as Values};
 ghost use Rattle.pid_ident.specs.PathTexts.{path_cmp, parent_of};
 ghost use Rattle.pid_tables_check.specs.Conditions.{AreItems};
 ghost use Rattle.pid_tables_check.specs.Steps.PathSets.{ArePathsOf, IsItemAmong};
-ghost use Rattle.pid_tables_check.specs.Steps.Clauses.{Keeps};
+ghost use Rattle.pid_tables_check.specs.Steps.Clauses.{KeepsTable};
 ghost use Rattle.pid_tables_check.specs.Steps.Keeping.{KeepsItems};
 ghost use Rattle.pid_tables_check.specs.declared.shape.Table.TheVariants as table;
 ghost use Rattle.pid_tables_rows.specs.Faults.{IsMemoryOrStore};
@@ -129,7 +129,8 @@ pub(crate) fn read_items<S: Alter>(
 ) -> Result<Items, TableFault>
     ensures same_reference { tx.new.conn.ghost_name ≡ tx.old.conn.ghost_name }
     ensures goes { GoesOn S.Store tx.old.conn.now tx.new.conn.now result }
-    ensures keeps { Keeps S.Store tx.old.conn.now tx.new.conn.now result table.Item KeepsItems }
+    ensures keeps { KeepsTable S.Store tx.old.conn.now tx.new.conn.now result table.Item
+        KeepsItems }
 {
     let rows = table_rows(tx, Table::Item)?;
     keep_items(rows.as_slice(), alloc)

@@ -3,9 +3,9 @@ ghost use Rattle.std.specs.Prelude.{◌≡◌, false, MatchResult};
 ghost use Rattle.pid_tables_rows.specs.Faults.{IsMemoryOrStore};
 ghost use Rattle.pid_tables_rows.specs.Clauses.{GoesOn, HasCleanDisk, OnlyReads, seen};
 ghost use Rattle.pid_tables_check.specs.declared.shape.Table.TheVariants.{Meta};
-ghost use Rattle.pid_tables_check.specs.Steps.Clauses.{Judges};
+ghost use Rattle.pid_tables_check.specs.Steps.Clauses.{JudgesRows};
 ghost use Rattle.pid_tables_check.specs.Queries.{query_of};
-ghost use Rattle.pid_tables_check.specs.Shapes.{IsAsked, ShowsLater};
+ghost use Rattle.pid_tables_check.specs.Shapes.{CanBeAsked, ShowsLater};
 ghost use Rattle.pid_tables_check.specs.Steps.Lacking.{ExplainsLater};
 
 use crate::meta::newer;
@@ -17,8 +17,8 @@ use sqlite::{Alter, Connection, Transaction};
 fn read_later<S: Alter>(tx: &mut Transaction<'_, S>) -> Result<Option<u64>, TableFault>
     ensures same_reference { tx.new.conn.ghost_name ≡ tx.old.conn.ghost_name }
     ensures goes { GoesOn S.Store tx.old.conn.now tx.new.conn.now result }
-    ensures shows { Judges S.Store tx.old.conn.now tx.new.conn.now result
-        (λ d. IsAsked d.schema (query_of Meta)) ShowsLater (λ d. IsMemoryOrStore) }
+    ensures shows { JudgesRows S.Store tx.old.conn.now tx.new.conn.now result
+        (λ d. CanBeAsked d.schema (query_of Meta)) ShowsLater (λ d. IsMemoryOrStore) }
 {
     let rows = table_rows(tx, Table::Meta)?;
     Ok(newer(rows.as_slice()))
@@ -29,7 +29,7 @@ fn later_schema<S: Alter>(conn: &mut Connection<S>) -> Result<Option<u64>, Table
     requires { conn.old.in_transaction ≡ false }
     ensures rests { OnlyReads S.Store conn.old conn.new }
     ensures shows { HasCleanDisk S.Store conn.new
-        → IsAsked (seen S.Store conn.old).schema (query_of Meta)
+        → CanBeAsked (seen S.Store conn.old).schema (query_of Meta)
         → MatchResult result (ShowsLater (seen S.Store conn.old)) IsMemoryOrStore }
 {
     let mut tx = conn.transaction();

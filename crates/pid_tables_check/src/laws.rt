@@ -24,8 +24,8 @@ pub fn sound_histories_are_registries()
         → (version : Version) (db : Database) → ShowsIn version db (views_of h)
         → IsRegistry version db }
 {
-    items_are_sorted();
-    sinces_are_last_changes();
+    items_are_sorted(); // proof only
+    sinces_are_last_changes(); // proof only
 }
 
 /// So does every database that shows what well made commands lead to, from any beginning.
@@ -34,9 +34,9 @@ pub fn shown_tables_are_registries()
         → (version : Version) (db : Database)
         → ShowsIn version db (views_of (after_all (Begins mark) commands)) → IsRegistry version db }
 {
-    histories_are_sound();
-    revisions_are_within();
-    sound_histories_are_registries();
+    histories_are_sound(); // proof only
+    revisions_are_within(); // proof only
+    sound_histories_are_registries(); // proof only
 }
 
 /// A database without any table has none of the seven. Those of each schema have all tables of the

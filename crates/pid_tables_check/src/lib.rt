@@ -6,7 +6,7 @@ mod authors;
 mod checking;
 mod item;
 mod lacking;
-mod laws;
+pub mod laws;
 mod meta;
 mod names;
 mod numbers;
@@ -21,5 +21,4 @@ mod value;
 mod words;
 
 pub use checking::check;
-pub use laws::{schemas_have_tables, shown_tables_are_registries, sound_histories_are_registries};
 pub use shape::has_some_table;

@@ -2,7 +2,7 @@
 ghost use Rattle.std.specs.Prelude.{◌≡◌};
 ghost use Rattle.pid_tables_check.specs.Queries.{query_of};
 ghost use Rattle.pid_tables_rows.specs.Clauses.{GoesOn};
-ghost use Rattle.pid_tables_check.specs.Steps.Clauses.{Answers};
+ghost use Rattle.pid_tables_check.specs.Steps.Clauses.{AnswersTable};
 
 use crate::shape::{Table, query};
 use pid_tables_rows::TableFault;
@@ -16,7 +16,7 @@ pub(crate) fn table_rows<S: Alter>(
 ) -> Result<Vec<Row>, TableFault>
     ensures same_reference { tx.new.conn.ghost_name ≡ tx.old.conn.ghost_name }
     ensures goes { GoesOn S.Store tx.old.conn.now tx.new.conn.now result }
-    ensures answers { Answers S.Store tx.old.conn.now tx.new.conn.now result (query_of table) }
+    ensures answers { AnswersTable S.Store tx.old.conn.now tx.new.conn.now result (query_of table) }
 {
     read_inside(tx, query(table), &[])
 }

@@ -7,7 +7,7 @@ ghost use Rattle.std.specs.List.{All};
 ghost use Rattle.pid_tables_rows.specs.TableRows.{number};
 ghost use Rattle.pid_tables_rows.specs.Clauses.{GoesOn};
 ghost use Rattle.pid_tables_check.specs.Conditions.{IsReceiptRow};
-ghost use Rattle.pid_tables_check.specs.Steps.Clauses.{Keeps};
+ghost use Rattle.pid_tables_check.specs.Steps.Clauses.{KeepsTable};
 ghost use Rattle.pid_tables_check.specs.Steps.Keeping.{AreOfAuthors};
 ghost use Rattle.pid_tables_check.specs.declared.shape.Table.TheVariants as table;
 ghost use Rattle.pid_tables_check.specs.Steps.AuthorSets.{
@@ -172,7 +172,7 @@ pub(crate) fn read_receipts<S: Alter>(
 ) -> Result<bool, TableFault>
     ensures same_reference { tx.new.conn.ghost_name ≡ tx.old.conn.ghost_name }
     ensures goes { GoesOn S.Store tx.old.conn.now tx.new.conn.now result }
-    ensures keeps { Keeps S.Store tx.old.conn.now tx.new.conn.now result table.Receipt
+    ensures keeps { KeepsTable S.Store tx.old.conn.now tx.new.conn.now result table.Receipt
         (AreOfAuthors authors.now) }
 {
     let rows = table_rows(tx, Table::Receipt)?;

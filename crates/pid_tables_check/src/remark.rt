@@ -5,12 +5,12 @@ ghost use Rattle.sqlite.specs.Order.{column, Row as Values};
 ghost use Rattle.pid_tables_rows.specs.TableRows.{number};
 ghost use Rattle.pid_tables_rows.specs.Clauses.{GoesOn};
 ghost use Rattle.pid_tables_check.specs.Conditions.{AreRemarks};
-ghost use Rattle.pid_tables_check.specs.Steps.Clauses.{Keeps};
-ghost use Rattle.pid_tables_check.specs.Steps.Keeping.{IsJudged};
+ghost use Rattle.pid_tables_check.specs.Steps.Clauses.{KeepsTable};
+ghost use Rattle.pid_tables_check.specs.Steps.Keeping.{IsPartJudged};
 ghost use Rattle.pid_tables_check.specs.declared.shape.Table.TheVariants as table;
 ghost use Rattle.pid_tables_check.specs.Steps.PlaceSets.{
   ArePlacesOf,
-  Follows,
+  FollowsPlace,
   HasPlace,
   IsRemarkAmong,
 };
@@ -69,7 +69,7 @@ fn places_of(rows: &[Row], alloc: Global) -> Result<BTreeSet<(u64, u64)>, TableF
 }
 
 fn follows(places: &BTreeSet<(u64, u64)>, submission: u64, place: u64) -> bool
-    ensures { IsTrue result ↔ Follows places.now submission place }
+    ensures { IsTrue result ↔ FollowsPlace places.now submission place }
 {
     if place == 0 || place > REMARKS as u64 {
         return false;
@@ -115,7 +115,7 @@ fn are_remark_rows(rows: &[Row], places: &BTreeSet<(u64, u64)>) -> bool
 }
 
 fn are_remarks(rows: &[Row], alloc: Global) -> Result<bool, TableFault>
-    ensures judged { IfOk result (IsJudged AreRemarks rows.now) }
+    ensures judged { IfOk result (IsPartJudged AreRemarks rows.now) }
     ensures untold { IfErr result IsMemoryOrStore }
 {
     let places = places_of(rows, alloc)?;
@@ -129,8 +129,8 @@ pub(crate) fn read_remarks<S: Alter>(
 ) -> Result<bool, TableFault>
     ensures same_reference { tx.new.conn.ghost_name ≡ tx.old.conn.ghost_name }
     ensures goes { GoesOn S.Store tx.old.conn.now tx.new.conn.now result }
-    ensures keeps { Keeps S.Store tx.old.conn.now tx.new.conn.now result table.Remark
-        (IsJudged AreRemarks) }
+    ensures keeps { KeepsTable S.Store tx.old.conn.now tx.new.conn.now result table.Remark
+        (IsPartJudged AreRemarks) }
 {
     let rows = table_rows(tx, Table::Remark)?;
     are_remarks(rows.as_slice(), alloc)

@@ -14,12 +14,12 @@ ghost use Rattle.std.specs.Prelude.{
 };
 ghost use Rattle.std.specs.List.{All, Any};
 ghost use Rattle.sqlite.specs.Held.{state};
-ghost use Rattle.pid_tables_rows.specs.Faults.{fault_of, IsMemoryOrStore};
+ghost use Rattle.pid_tables_rows.specs.Faults.{fault_of_sql, IsMemoryOrStore};
 ghost use Rattle.pid_tables_rows.specs.declared.fault.TableFault.TheVariants.{Damaged};
 ghost use Rattle.pid_moderation.specs.Views.{Views};
 ghost use Rattle.pid_tables_rows.specs.Queries.{IsQuery};
 ghost use Rattle.pid_tables_rows.specs.Schema.{pid_schema};
-ghost use Rattle.pid_tables_check.specs.Shapes.{IsAsked, HasEachTable, HasSomeTable};
+ghost use Rattle.pid_tables_check.specs.Shapes.{CanBeAsked, HasEachTable, HasSomeTable};
 ghost use Rattle.pid_tables_check.specs.Steps.Shapes.{HasTablesOf};
 ghost use Rattle.pid_tables_check.specs.Queries.{query_of};
 ghost use Rattle.pid_tables_rows.specs.Clauses.{
@@ -27,7 +27,7 @@ ghost use Rattle.pid_tables_rows.specs.Clauses.{
   HasCleanDisk,
   IsCaused,
   OnlyReads,
-  Tells,
+  Reads,
   is_open,
   seen,
 };
@@ -37,9 +37,9 @@ use sqlite::{Alter, Connection, Error};
 
 // No text is refused as damage but one that is not understood.
 fn unasked(error: Error) -> Result<bool, TableFault>
-    ensures refused { IfOk result (λ asked. (asked ≡ false) × (fault_of error ≡ Damaged)) }
+    ensures refused { IfOk result (λ asked. (asked ≡ false) × (fault_of_sql error ≡ Damaged)) }
     ensures untold { IfErr result IsMemoryOrStore }
-    ensures told { IfErr result (λ fault. fault ≡ fault_of error) }
+    ensures told { IfErr result (λ fault. fault ≡ fault_of_sql error) }
 {
     match TableFault::from(error) {
         TableFault::Damaged => Ok(false),
@@ -54,7 +54,7 @@ pub(crate) fn can_ask<S: Alter>(conn: &mut Connection<S>, sql: &str) -> Result<b
     ensures same { HasCleanDisk S.Store conn.new
         → IfOk result (λ asked. (seen S.Store conn.new) ≡ (seen S.Store conn.old)) }
     ensures asked { HasCleanDisk S.Store conn.new
-        → IfOk result (λ asked. IsTrue asked ↔ IsAsked (seen S.Store conn.old).schema sql.now) }
+        → IfOk result (λ asked. IsTrue asked ↔ CanBeAsked (seen S.Store conn.old).schema sql.now) }
     ensures was_open { HasCleanDisk S.Store conn.new
         → OnOk result (IsTrue (is_open S.Store conn.old)) }
     ensures untold { IfErr result IsMemoryOrStore }
@@ -125,7 +125,7 @@ fn has_all<S: Alter>(conn: &mut Connection<S>, tables: &[Table]) -> Result<bool,
         → IfOk result (λ all. (seen S.Store conn.new) ≡ (seen S.Store conn.old)) }
     ensures asked { HasCleanDisk S.Store conn.new
         → IfOk result (λ all. IsTrue all
-        ↔ All (λ t. IsAsked (seen S.Store conn.old).schema (query_of t)) tables.now) }
+        ↔ All (λ t. CanBeAsked (seen S.Store conn.old).schema (query_of t)) tables.now) }
     ensures was_open { HasCleanDisk S.Store conn.new → 0 < length tables.now
         → OnOk result (IsTrue (is_open S.Store conn.old)) }
     ensures untold { IfErr result IsMemoryOrStore }
@@ -145,7 +145,7 @@ fn has_any<S: Alter>(conn: &mut Connection<S>, tables: &[Table]) -> Result<bool,
         → IfOk result (λ any. (seen S.Store conn.new) ≡ (seen S.Store conn.old)) }
     ensures asked { HasCleanDisk S.Store conn.new
         → IfOk result (λ any. IsTrue any
-        ↔ Any (λ t. IsAsked (seen S.Store conn.old).schema (query_of t)) tables.now) }
+        ↔ Any (λ t. CanBeAsked (seen S.Store conn.old).schema (query_of t)) tables.now) }
     ensures was_open { HasCleanDisk S.Store conn.new → 0 < length tables.now
         → OnOk result (IsTrue (is_open S.Store conn.old)) }
     ensures untold { IfErr result IsMemoryOrStore }
@@ -179,7 +179,7 @@ pub(crate) fn has_each_table<S: Alter>(conn: &mut Connection<S>) -> Result<bool,
 /// prepared. Nothing is said of its rows.
 pub fn has_some_table<S: Alter>(conn: &mut Connection<S>) -> Result<bool, TableFault>
     requires { conn.old.in_transaction ≡ false }
-    ensures rests { OnlyReads S.Store conn.old conn.new }
+    ensures reads { Reads S.Store conn.old conn.new result (λ v some. some ≡ true) }
     ensures same { HasCleanDisk S.Store conn.new
         → IfOk result (λ some. (seen S.Store conn.new) ≡ (seen S.Store conn.old)) }
     ensures asked { HasCleanDisk S.Store conn.new
@@ -187,7 +187,6 @@ pub fn has_some_table<S: Alter>(conn: &mut Connection<S>) -> Result<bool, TableF
     ensures was_open { HasCleanDisk S.Store conn.new
         → OnOk result (IsTrue (is_open S.Store conn.old)) }
     ensures untold { IfErr result IsMemoryOrStore }
-    ensures found { Tells S.Store conn.old conn.new result (λ v some. some ≡ true) }
 {
     has_any(conn, &SEVEN)
 }

@@ -8,7 +8,7 @@ ghost use Rattle.pid_tables_rows.specs.Clauses.{GoesOn};
 ghost use Rattle.pid_tables_rows.specs.Faults.{IsMemoryOrStore};
 ghost use Rattle.pid_tables_rows.specs.TableRows.{number};
 ghost use Rattle.pid_tables_check.specs.Conditions.{IsSinceRow};
-ghost use Rattle.pid_tables_check.specs.Steps.Clauses.{Keeps};
+ghost use Rattle.pid_tables_check.specs.Steps.Clauses.{KeepsTable};
 ghost use Rattle.pid_tables_check.specs.Steps.Keeping.{GoWith};
 ghost use Rattle.pid_tables_check.specs.declared.shape.Table.TheVariants as table;
 
@@ -77,7 +77,7 @@ pub(crate) fn read_sinces<S: Alter>(
 ) -> Result<bool, TableFault>
     ensures same_reference { tx.new.conn.ghost_name ≡ tx.old.conn.ghost_name }
     ensures goes { GoesOn S.Store tx.old.conn.now tx.new.conn.now result }
-    ensures keeps { Keeps S.Store tx.old.conn.now tx.new.conn.now result table.Since
+    ensures keeps { KeepsTable S.Store tx.old.conn.now tx.new.conn.now result table.Since
         (GoWith items.now revision) }
 {
     let rows = table_rows(tx, Table::Since)?;

@@ -10,11 +10,11 @@ ghost use Rattle.pid_tables_check.specs.Steps.NamesRead.{
   IsAmong,
   IsDecidedAmong,
   IsSubmissionAmong,
-  Stands,
+  StandsInRows,
 };
 ghost use Rattle.std.specs.List.{All};
 ghost use Rattle.pid_tables_rows.specs.Clauses.{GoesOn};
-ghost use Rattle.pid_tables_check.specs.Steps.Clauses.{Keeps};
+ghost use Rattle.pid_tables_check.specs.Steps.Clauses.{KeepsTable};
 ghost use Rattle.pid_tables_check.specs.Steps.Keeping.{AreOfAccounts, KeepsSubmissions};
 ghost use Rattle.pid_tables_check.specs.declared.shape.Table.TheVariants as table;
 
@@ -84,7 +84,8 @@ fn is_decided(row: &Row, names: &BTreeSet<String>, author: &str) -> bool
 }
 
 fn is_of_author(row: &Row, names: &BTreeSet<String>, author: &str) -> bool
-    ensures { IsTrue result ↔ (IsAmong names.now author.now × Stands names.now row.now author.now) }
+    ensures { IsTrue result ↔ (IsAmong names.now author.now
+        × StandsInRows names.now row.now author.now) }
 {
     if !names::has_name(names, author) {
         return false;
@@ -172,7 +173,7 @@ pub(crate) fn read_submissions<S: Alter>(
 ) -> Result<Submissions, TableFault>
     ensures same_reference { tx.new.conn.ghost_name ≡ tx.old.conn.ghost_name }
     ensures goes { GoesOn S.Store tx.old.conn.now tx.new.conn.now result }
-    ensures keeps { Keeps S.Store tx.old.conn.now tx.new.conn.now result table.Submission
+    ensures keeps { KeepsTable S.Store tx.old.conn.now tx.new.conn.now result table.Submission
         (KeepsSubmissions names.now) }
 {
     let rows = table_rows(tx, Table::Submission)?;

@@ -5,7 +5,7 @@ ghost use Rattle.pid_tables_rows.specs.Faults.{IsMemoryOrStore};
 ghost use Rattle.pid_tables_rows.specs.Clauses.{GoesOn};
 ghost use Rattle.pid_tables_check.specs.Shapes.{HasTables, HasEachTable};
 ghost use Rattle.pid_tables_check.specs.Steps.Keeping.{ShowsNamed, ShowsSubmitted, ShowsJudged};
-ghost use Rattle.pid_tables_check.specs.Steps.Clauses.{Judges};
+ghost use Rattle.pid_tables_check.specs.Steps.Clauses.{JudgesRows};
 
 use crate::account::read_accounts;
 use crate::item::read_items;
@@ -48,7 +48,7 @@ fn read_named<S: Alter>(
 ) -> Result<Part, TableFault>
     ensures same_reference { tx.new.conn.ghost_name ≡ tx.old.conn.ghost_name }
     ensures goes { GoesOn S.Store tx.old.conn.now tx.new.conn.now result }
-    ensures told { Judges S.Store tx.old.conn.now tx.new.conn.now result
+    ensures told { JudgesRows S.Store tx.old.conn.now tx.new.conn.now result
         (λ d. HasTables version d.schema) (ShowsNamed version revision) (λ d. IsMemoryOrStore) }
 {
     let items = read_items(tx, alloc)?;
@@ -72,7 +72,7 @@ fn read_named<S: Alter>(
 fn read_submitted<S: Alter>(tx: &mut Transaction<'_, S>, alloc: Global) -> Result<Part, TableFault>
     ensures same_reference { tx.new.conn.ghost_name ≡ tx.old.conn.ghost_name }
     ensures goes { GoesOn S.Store tx.old.conn.now tx.new.conn.now result }
-    ensures told { Judges S.Store tx.old.conn.now tx.new.conn.now result
+    ensures told { JudgesRows S.Store tx.old.conn.now tx.new.conn.now result
         (λ d. HasEachTable d.schema) ShowsSubmitted (λ d. IsMemoryOrStore) }
 {
     let accounts = read_accounts(tx, alloc)?;
@@ -94,7 +94,7 @@ pub(crate) fn read_tables<S: Alter>(
 ) -> Result<Judged, TableFault>
     ensures same_reference { tx.new.conn.ghost_name ≡ tx.old.conn.ghost_name }
     ensures goes { GoesOn S.Store tx.old.conn.now tx.new.conn.now result }
-    ensures told { Judges S.Store tx.old.conn.now tx.new.conn.now result
+    ensures told { JudgesRows S.Store tx.old.conn.now tx.new.conn.now result
         (λ d. HasTables version d.schema) (ShowsJudged version revision) (λ d. IsMemoryOrStore) }
 {
     let submitted = read_submitted(tx, alloc)?;

@@ -13,7 +13,7 @@ use Rattle.pid_moderation.specs.Views.{Views}
 use Rattle.pid_tables_rows.specs.declared.fault.TableFault.{TableFault}
 use Rattle.pid_tables_rows.specs.declared.fault.TableFault.TheVariants.{Memory}
 use Rattle.pid_tables_rows.specs.Causes.{IsCaused}
-use Rattle.pid_tables_lists.specs.EachItem.{TakesEach, IsCausedEnd, placed_from}
+use Rattle.pid_tables_lists.specs.EachItem.{Walks, IsCausedEnd, placed_from}
 use Rattle.pid_tables_lists.specs.declared.walk.EachEnd.{EachEnd}
 use Rattle.pid_tables_lists.specs.declared.walk.EachEnd.TheVariants.{Tables, Fault}
 use Rattle.pid_tables_rows.proofs.ChildLemmas.{item_path, stands, is_no_vendor, generics_of}
@@ -160,9 +160,9 @@ kept_items f (e ∷ items) all = elim (f e) as (λ b. AllItems (cond b (e ∷ fi
 -- the walk that keeps some ended for a cause, or the sink's memory was short
 pub top_caused : {S : Type 0} (old new : State) (v : Views) (takes : S → Numbered → S → Type 0) (before after : S) (end : EachEnd TableFault) (fault : TableFault)
     → ((t : TableFault) → end ≡ Tables t → fault ≡ t) → ((t : TableFault) → end ≡ Fault t → fault ≡ t) → IsCausedEnd old new end
-    → TakesEach {X = Unit {0}} takes (λ s e f t. f ≡ Memory) (Err end) (placed_from 1 v.items) before after → IsCaused old new fault
+    → Walks takes (λ s e f t. f ≡ Memory) {X = Unit {0}} (Err end) (placed_from 1 v.items) before after → IsCaused old new fault
 top_caused old new v takes before after (Tables t) fault tables sink caused took = subst (IsCaused old new) (sym (tables t refl)) caused
-top_caused old new v takes before after (Fault t) fault tables sink caused took = subst (IsCaused old new) (sym (sink t refl ∙ took.6)) tt
+top_caused old new v takes before after (Fault t) fault tables sink caused took = subst (IsCaused old new) (sym (sink t refl ∙ took.faulted)) tt
 
 -- ---- what is kept in turn
 

@@ -8,7 +8,7 @@ use Rattle.pid_ident.specs.PathTexts.{path_text}
 use Rattle.pid_moderation.specs.Items.{name_at}
 use Rattle.pid_moderation.specs.Views.{Views}
 use Rattle.pid_tables_rows.specs.Causes.{IsReadable}
-use Rattle.pid_tables_rows.specs.Unread.{IsWhole}
+use Rattle.pid_tables_rows.specs.Unread.{IsWholeNumber}
 use Rattle.pid_tables_rows.specs.Steps.Unread.{IsPathText, IsWord}
 use Rattle.pid_tables_rows.proofs.RangeLemmas.{found_in}
 use Rattle.pid_tables_rows.proofs.ReadBack.{among}
@@ -26,5 +26,5 @@ module _ (v : Views) (item : Changed) (row : Row) (named : name_at item.path v.i
       let it = (among v.items (item.path, item.name) readable.items (found_in item.path item.name v.items named)).0 in
       (it.0, it.1.in_range, ap (λ r. column r 0) is ∙ ap Text it.1.same)
 
-  pub since_written : IsWhole (column row 1)
+  pub since_written : IsWholeNumber (column row 1)
   since_written = (item.since, ap (λ r. column r 1) is)

@@ -18,8 +18,8 @@ use Rattle.pid_moderation.specs.declared.facts.State.{State}
 use Rattle.pid_moderation.specs.CheckTables.{is_pending}
 use Rattle.pid_moderation.specs.Submissions.{Standing}
 use Rattle.pid_moderation.specs.ChangePages.{Changed, numbered_in, is_later, changes_in, changed_behind}
-use Rattle.pid_tables_lists.specs.Laws.{number_of, path_of}
-use Rattle.pid_tables_lists.specs.Pages.{last_of, pages_behind}
+use Rattle.pid_tables_lists.specs.Laws.{pending_number, changed_path}
+use Rattle.pid_tables_lists.specs.Pages.{last_of, pages_after}
 use Rattle.pid_moderation.specs.PendingPages.{standings_from, waiting_above}
 use Rattle.pid_tables_lists.proofs.ItemLists.{less_is}
 
@@ -44,14 +44,14 @@ module _ {X K : Type 0} (key : X → K) (all : K → List X) (next : (asked : K)
     pub behind_page : (asked : K) → all (last_of key asked (page asked)) ≡ drop m (all asked)
     behind_page asked = ap (λ p. all (last_of key asked p)) (is asked) ∙ goes_on m asked
 
-    pub joined : (count : ℕ) (asked : K) → pages_behind key page count asked ≡ take (count * m) (all asked)
+    pub joined : (count : ℕ) (asked : K) → pages_after key page count asked ≡ take (count * m) (all asked)
     joined zero asked = ap (λ n. take n (all asked)) (sym (zero-mul m))
     joined (suc count) asked =
         let rest = joined count (last_of key asked (page asked)) ∙ ap (take (count * m)) (behind_page asked) in
         let more : m + count * m ≡ suc count * m = omega (arith, suc-mul count m) in
         (λ i. is asked i ++ rest i) ∙ fronts m (count * m) (all asked) ∙ ap (λ n. take n (all asked)) more
 
-    pub whole : (count : ℕ) (asked : K) → length (all asked) ≤ count * m → pages_behind key page count asked ≡ all asked
+    pub whole : (count : ℕ) (asked : K) → length (all asked) ≤ count * m → pages_after key page count asked ≡ all asked
     whole count asked room = joined count asked ∙ take_all (count * m) (all asked) room
 
 -- ---- elements that come behind a key and pass a test, in the order of their keys
@@ -105,16 +105,16 @@ numbers_strict = record {
 abbrev pub waits : ℕ × Standing → Bool
 waits s = is_pending s.1.state
 
-above_all : (m n : ℕ) (submits : List Submitted) (state : ℕ → State) → m < n → AllByRecursion (λ s. nat_lt m (number_of s) ≡ true) (standings_from n submits state)
+above_all : (m n : ℕ) (submits : List Submitted) (state : ℕ → State) → m < n → AllByRecursion (λ s. nat_lt m (pending_number s) ≡ true) (standings_from n submits state)
 above_all m n [] state low = tt
 above_all m n (s ∷ submits) state low = (grind (arith, nat_tests), above_all m (n + 1) submits state (omega (arith, low)))
 
-standings_rise : (n : ℕ) (submits : List Submitted) (state : ℕ → State) → Rise number_of nat_lt numbers_strict waits (standings_from n submits state)
+standings_rise : (n : ℕ) (submits : List Submitted) (state : ℕ → State) → Rise pending_number nat_lt numbers_strict waits (standings_from n submits state)
 standings_rise n [] state = tt
 standings_rise n (s ∷ submits) state = (above_all n (n + 1) submits state (omega arith), standings_rise (n + 1) submits state)
 
-pub next_waiting : (v : Views) (after : ℕ) (s : ℕ × Standing) (more : List (ℕ × Standing)) → waiting_above after v ≡ s ∷ more → waiting_above (number_of s) v ≡ more
-next_waiting v = next_one number_of nat_lt numbers_strict waits (standings_from 1 v.submits v.state) (standings_rise 1 v.submits v.state)
+pub next_waiting : (v : Views) (after : ℕ) (s : ℕ × Standing) (more : List (ℕ × Standing)) → waiting_above after v ≡ s ∷ more → waiting_above (pending_number s) v ≡ more
+next_waiting v = next_one pending_number nat_lt numbers_strict waits (standings_from 1 v.submits v.state) (standings_rise 1 v.submits v.state)
 
 -- ---- changes
 
@@ -157,7 +157,7 @@ module _ (v : Views) (since : ℕ) where
       subst (λ (y : Changed). changed_behind since y.path v ≡ more) first
       (ap (map (numbered_in v)) (next_one (λ (e : List ℕ × List ℕ). e.0) path_lt paths_strict is_new v.items (items_rise v.items sorted) after x found is) ∙ others)
 
-  pub next_changed : is_sorted text_cmp v.items ≡ true → (after : List ℕ) (item : Changed) (more : List Changed) → changed_behind since after v ≡ item ∷ more → changed_behind since (path_of item) v ≡ more
+  pub next_changed : is_sorted text_cmp v.items ≡ true → (after : List ℕ) (item : Changed) (more : List Changed) → changed_behind since after v ≡ item ∷ more → changed_behind since (changed_path item) v ≡ more
   next_changed sorted after item more is = next_mapped sorted after (filter (is_later since after v) v.items) refl item more is
 
   pub changes_front : (most : ℕ) (after : List ℕ) → (changes_in most since after v).items ≡ take most (changed_behind since after v)

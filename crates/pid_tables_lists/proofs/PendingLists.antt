@@ -51,7 +51,7 @@ use Rattle.pid_tables_rows.proofs.OneRowEach.{rowids_apart}
 use Rattle.pid_tables_rows.proofs.Select.{passing, said, out, integers_equal, integer_equal}
 use Rattle.pid_tables_rows.proofs.TurnLemmas.{hits}
 use Rattle.pid_moderation.specs.PendingPages.{standings_from, waits_above, pending_in}
-use Rattle.pid_tables_lists.specs.Steps.PendingRows.{pending_row, IsReadablePending, AreIn}
+use Rattle.pid_tables_lists.specs.Steps.PendingRows.{pending_row, IsReadablePending, AreStandingIn}
 use Rattle.pid_tables_lists.proofs.ItemLists.{kept_distinct, finer_distinct}
 use Rattle.pid_tables_lists.proofs.OrderedLemmas.{StandsFor, listed}
 
@@ -192,10 +192,10 @@ module _ (v : Views) where
       taken_has (suc k) (x ∷ xs) e (inl same) = inl same
       taken_has (suc k) (x ∷ xs) e (inr later) = inr (taken_has k xs e later)
 
-  pub page_in : (after most : ℕ) → AreIn v (pending_in most after v)
+  pub page_in : (after most : ℕ) → AreStandingIn v (pending_in most after v)
   page_in after most = each (pending_in most after v) (λ e h. in_standing e (among_all after most e h))
     where
-      each : (xs : List (ℕ × Standing)) → ((e : ℕ × Standing) → Has xs e → standing_in v e.0 ≡ Some e.1) → AreIn v xs
+      each : (xs : List (ℕ × Standing)) → ((e : ℕ × Standing) → Has xs e → standing_in v e.0 ≡ Some e.1) → AreStandingIn v xs
       each [] f = tt
       each (x ∷ xs) f = (f x (inl refl), each xs (λ e h. f e (inr h)))
 
@@ -255,7 +255,7 @@ number_within v n s is = let from = mapped_some _ (submission_at n v.submits) s 
     within zero x there = absurd (let bad : ⊥ = cc in bad)
     within (suc k) x there = let low = slice_get_within v.submits k x there in omega (arith, low)
 
-pub all_readable : (v : Views) (all : List (ℕ × Standing)) → IsReadable v → AreIn v all → AllByRecursion IsReadablePending all
+pub all_readable : (v : Views) (all : List (ℕ × Standing)) → IsReadable v → AreStandingIn v all → AllByRecursion IsReadablePending all
 all_readable v [] readable there = tt
 all_readable v (s ∷ all) readable there =
     let good = standing_readable v s.0 s.1 readable there.0 in

@@ -1,6 +1,6 @@
 -- A walk over the items, row by row.
-use Rattle.std.proofs.Common.{◌≡◌, ◌⊎◌, inl, inr, ℕ, suc, ◌+◌, ◌^◌, ◌≤◌, List, [], ◌∷◌, ◌++◌, length, map, take, drop, true, false, IsTrue, Ok, Err, Result, IfErr, OnErr, None, Some, Option, length-append, reverse, refl, sym, ap, subst, ◌∙◌, arith, take-append-drop}
-use Rattle.std.proofs.lemmas.List.{reverse-append, length-map}
+use Rattle.std.proofs.Common.{◌≡◌, ◌⊎◌, inl, inr, ℕ, suc, ◌+◌, ◌^◌, ◌≤◌, List, [], ◌∷◌, ◌++◌, length, map, take, drop, true, false, IsTrue, Ok, Err, Result, IfErr, OnErr, None, Some, Option, length-append, append-nil, reverse, refl, sym, ap, subst, ◌∙◌, arith, take-append-drop}
+use Rattle.std.proofs.lemmas.List.{reverse-append, reverse-reverse, length-map}
 use Rattle.std.proofs.Math.Seq.{take-length}
 use Rattle.sqlite.specs.Order.{Row}
 use Rattle.sqlite.specs.Tree.{Trees}
@@ -22,10 +22,10 @@ use Rattle.sqlite.specs.Order.{column}
 use Rattle.sqlite_rules.specs.Lists.{Has}
 use Rattle.pid_tables_rows.specs.declared.fault.TableFault.{TableFault}
 use Rattle.pid_tables_rows.specs.Causes.{IsCaused, IsReadable}
-use Rattle.pid_tables_rows.specs.Faults.{fault_of}
+use Rattle.pid_tables_rows.specs.Faults.{fault_of_sql}
 use Rattle.pid_tables_rows.specs.Leaves.{AtRest, OnlyReads}
 use Rattle.pid_tables_rows.specs.Schema.{pid_schema}
-use Rattle.pid_tables_rows.specs.Unread.{IsItemRow}
+use Rattle.pid_tables_rows.specs.Unread.{ReadsAsItem}
 use Rattle.pid_tables_rows.specs.Steps.Unread.{IsWord}
 use Rattle.pid_tables_rows.proofs.CauseLemmas.{caused, caused_later}
 use Rattle.pid_tables_rows.proofs.ReadBack.{among}
@@ -35,7 +35,7 @@ use Rattle.pid_tables_rows.specs.Shows.{counts_of}
 use Rattle.pid_tables_rows.proofs.GoingLemmas.{earlier}
 use Rattle.pid_tables_rows.proofs.ReadLemmas.{fails_to_query}
 use Rattle.pid_tables_rows.proofs.OnlyReading.{Keeps, keeps_same, keeps_back, keeps_then, rests_on}
-use Rattle.pid_tables_lists.specs.EachItem.{TakesEach, TakesSome, IsCausedEnd, placed_from}
+use Rattle.pid_tables_lists.specs.EachItem.{Walks, WalksSome, TookFirst, FaultedAtOne, IsCausedEnd, placed_from}
 use Rattle.pid_tables_lists.specs.Steps.EachItem.{TakesOne, IsUnreadEnd}
 use Rattle.pid_tables_lists.specs.declared.walk.EachEnd.{EachEnd}
 use Rattle.pid_tables_lists.specs.declared.walk.EachEnd.TheVariants.{Tables, Fault}
@@ -61,7 +61,7 @@ refused g old new r e is law settled told =
 
 -- and why it did not
 pub refused_caused : {S X : Type 0} (g : Ghosts S) (old new : Held S) (v : Views) → AtRest (state g old) v → (r : Result X Error) (e : Error) → r ≡ Err e → HasCleanDisk (state g new) → OnErr r (IsRefused g select_all [] old r new)
-    → IsCaused (state g old) (state g new) (fault_of e)
+    → IsCaused (state g old) (state g new) (fault_of_sql e)
 refused_caused g old new v rest r e is clean told =
     let h = subst (λ x. OnErr x (IsRefused g select_all [] old x new)) is told in
     caused select_all [] (state g old) (state g new) (λ opened. (rest.shows opened).schema) all_query e (inl (h.err clean))
@@ -75,10 +75,10 @@ tables_caused old new r y fault is same h = end_caused old new r y (Tables fault
 
 -- ---- the texts of an item's row
 
-pub path_word : (row : Row) → IsItemRow row → IsWord is_utf8 (column row 0)
+pub path_word : (row : Row) → ReadsAsItem row → IsWord is_utf8 (column row 0)
 path_word row good = (good.0, subst (λ t. is_utf8 t ≡ true) (sym good.2.0.1.same) (path_utf8 good.2.0.0), good.3)
 
-pub name_word : (row : Row) → IsItemRow row → IsWord is_utf8 (column row 1)
+pub name_word : (row : Row) → ReadsAsItem row → IsWord is_utf8 (column row 1)
 name_word row good = (good.1, name_utf8 good.1 good.2.1, good.4)
 
 -- ---- lists
@@ -139,9 +139,9 @@ module _ {S K F : Type 0} (g : Ghosts S) (takes : K → Numbered → K → Type 
 
   -- the tables faulted behind some items
   pub faulted : {X : Type 0} (mid new : Held S) (sink : K) (n : ℕ) → HasWalked g takes old mid before sink n → Survives (state g mid) (state g new) (λ _. ⊥) → HasCleanDisk (state g new) → (v : Views) → AtRest (state g old) v
-      → (r : Result X (EachEnd F)) (t : _) → r ≡ Err (Tables t) → TakesEach takes faults r (placed_from 1 v.items) before sink
-  faulted mid new sink n w s clean v rest r t is = subst (λ r. TakesEach takes faults r (placed_from 1 v.items) before sink) (sym is)
-      (take n (placed_from 1 v.items), drop n (placed_from 1 v.items), sym (take-append-drop n (placed_from 1 v.items)), w.took (earlier (state g mid) (state g new) s clean) v rest)
+      → (r : Result X (EachEnd F)) (t : _) → r ≡ Err (Tables t) → Walks takes faults r (placed_from 1 v.items) before sink
+  faulted mid new sink n w s clean v rest r t is = subst (λ r. Walks takes faults r (placed_from 1 v.items) before sink) (sym is)
+      (record { front = take n (placed_from 1 v.items); rest = drop n (placed_from 1 v.items); parts = sym (take-append-drop n (placed_from 1 v.items)); took = w.took (earlier (state g mid) (state g new) s clean) v rest })
 
   -- the query began
   pub begun : (new : Held S) → old.in_transaction ≡ false → new.in_transaction ≡ false → Survives (state g old) (state g new) (CommitsShowing select_all [] (state g old)) → (HasCleanDisk (state g new) → HasBegun g select_all [] old new)
@@ -200,20 +200,20 @@ module _ {S K F : Type 0} (g : Ghosts S) (takes : K → Numbered → K → Type 
       → (HasCleanDisk (state g new) → IsUnchanged (state g mid) (state g new))
       → (HasCleanDisk (state g new) → (rows : List Row) → HasGiven g select_all [] mid rows → HasGiven g select_all [] new (rows ++ row ∷ []))
       → r ≡ Err e → end ≡ Err e → ((item : Item) → row ≡ item_shown item → TakesOne takes faults r (n + 1, item) sink after) → HasCleanDisk (state g new) → (v : Views) → AtRest (state g old) v
-      → TakesEach takes faults end (placed_from 1 v.items) before after
+      → Walks takes faults end (placed_from 1 v.items) before after
   not_taken {X = X} {Y = Y} mid new sink after n row r e end w s same gives is ended takes_it clean v rest =
       let it = its_item new row n v rest (one_more mid new sink n row w s same gives clean) in
       let took = w.took (earlier (state g mid) (state g new) s clean) v rest in
-      subst (λ r. TakesEach takes faults r all before after) (sym ended)
+      subst (λ r. Walks takes faults r all before after) (sym ended)
       (by_end e (n + 1, it.item) it.behind it.parts took (subst (λ r. TakesOne takes faults r (n + 1, it.item) sink after) is (takes_it it.item it.is)))
     where
       all : List Numbered
       all = placed_from 1 v.items
 
       by_end : (e : EachEnd F) (item : Numbered) (behind : List Numbered) → all ≡ take n all ++ item ∷ behind → Took takes before (reverse (take n all)) sink → TakesOne {X = X} takes faults (Err e) item sink after
-          → TakesEach {X = Y} takes faults (Err e) all before after
-      by_end (Fault f) item behind split took h = (take n all, item, behind, sink, split, took, h)
-      by_end (Tables t) item behind split took h = (take n all, item ∷ behind, split, subst (Took takes before (reverse (take n all))) (sym h) took)
+          → Walks takes faults {X = Y} (Err e) all before after
+      by_end (Fault f) item behind split took h = record { front = take n all; item = item; rest = behind; parts = split; between = sink; took = took; faulted = h }
+      by_end (Tables t) item behind split took h = record { front = take n all; rest = item ∷ behind; parts = split; took = subst (Took takes before (reverse (take n all))) (sym h) took }
 
   -- no row is left
   pub all_taken : (mid new : Held S) (sink : K) (n : ℕ) → HasWalked g takes old mid before sink n → Survives (state g mid) (state g new) (λ _. ⊥)
@@ -232,24 +232,24 @@ module _ {S K F : Type 0} (g : Ghosts S) (takes : K → Numbered → K → Type 
 
   -- the next row did not come
   pub step_caused : (mid new : Held S) (sink : K) (n : ℕ) → HasWalked g takes old mid before sink n → Survives (state g mid) (state g new) (λ _. ⊥) → HasCleanDisk (state g new) → (v : Views) → AtRest (state g old) v
-      → (e : Error) → FailsToAdvance g mid new e → IsCaused (state g old) (state g new) (fault_of e)
+      → (e : Error) → FailsToAdvance g mid new e → IsCaused (state g old) (state g new) (fault_of_sql e)
   step_caused mid new sink n w s clean v rest e fails =
       let early = earlier (state g mid) (state g new) s clean in
       let was = w.given early in
       let same = was.3.0 in
       let has : IsTrue (state g mid).is_open → (state g mid).now.schema ≡ pid_schema = λ opened. ap (λ (d : Database). d.schema) same.now_is ∙ (rest.shows same.was_open).schema in
-      caused_later (state g old) (state g mid) (state g new) (λ _. ⊥) (fault_of e) w.survives s.counts early (caused select_all [] (state g mid) (state g new) has all_query e (inl (fails select_all [] was.0 was.2)))
+      caused_later (state g old) (state g mid) (state g new) (λ _. ⊥) (fault_of_sql e) w.survives s.counts early (caused select_all [] (state g mid) (state g new) has all_query e (inl (fails select_all [] was.0 was.2)))
 
   -- an item was not read
   pub unread_caused : (mid new : Held S) (sink : K) (n : ℕ) (row : Row) → HasWalked g takes old mid before sink n → Survives (state g mid) (state g new) (λ _. ⊥)
       → (HasCleanDisk (state g new) → IsUnchanged (state g mid) (state g new))
       → (HasCleanDisk (state g new) → (rows : List Row) → HasGiven g select_all [] mid rows → HasGiven g select_all [] new (rows ++ row ∷ []))
-      → HasCleanDisk (state g new) → (v : Views) → AtRest (state g old) v → IsReadable v → (end : EachEnd F) → IsUnreadEnd (IsItemRow row) end → IsCausedEnd (state g old) (state g new) end
+      → HasCleanDisk (state g new) → (v : Views) → AtRest (state g old) v → IsReadable v → (end : EachEnd F) → IsUnreadEnd (ReadsAsItem row) end → IsCausedEnd (state g old) (state g new) end
   unread_caused mid new sink n row w s same gives clean v rest readable end =
       let it = its_item new row n v rest (one_more mid new sink n row w s same gives clean) in
       by_end end (it.item.0, it.item.1, among v.items it.item readable.items it.there, ap (λ r. column r 0) it.is, ap (λ r. column r 1) it.is)
     where
-      by_end : (end : EachEnd F) → IsItemRow row → IsUnreadEnd (IsItemRow row) end → IsCausedEnd (state g old) (state g new) end
+      by_end : (end : EachEnd F) → ReadsAsItem row → IsUnreadEnd (ReadsAsItem row) end → IsCausedEnd (state g old) (state g new) end
       by_end (Tables t) good h = caused_unread (state g old) (state g new) t good h
       by_end (Fault f) good h = tt
 
@@ -270,15 +270,26 @@ module _ {S F : Type 0} (takes : S → Numbered → S → Type 0) (faults : S �
   pub took_more : {X : Type 0} (r : Result X (EachEnd F)) (x : X) → r ≡ Ok x → ((items : List Numbered) × Took takes old items sink) → ((item : Numbered) × TakesOne takes faults r item sink after) → (items : List Numbered) × Took takes old items after
   took_more r x is (items, took) (item, one) = (item ∷ items, (sink, took, subst (λ r. TakesOne takes faults r item sink after) is one))
 
+  -- what was taken, in the order in which it was handed
+  some_taken : (items : List Numbered) (sink : S) → Took takes old items sink → Took takes old (reverse (reverse items)) sink
+  some_taken items sink took = subst (λ l. Took takes old l sink) (sym (reverse-reverse items)) took
+
+  none_after : (items : List Numbered) → items ≡ items ++ []
+  none_after items = sym (append-nil items)
+
   -- the walk ended at an item
   pub some_stopped : {X Y : Type 0} (r : Result X (EachEnd F)) (e : EachEnd F) (end : Result Y (EachEnd F)) → r ≡ Err e → end ≡ Err e → ((items : List Numbered) × Took takes old items sink) → ((item : Numbered) × TakesOne takes faults r item sink after)
-      → TakesSome takes faults end old after
-  some_stopped {X = X} {Y = Y} r e end is ended (items, took) (item, one) = subst (λ r. TakesSome takes faults r old after) (sym ended) (by_end e (subst (λ r. TakesOne takes faults r item sink after) is one))
+      → WalksSome takes faults end old after
+  some_stopped {X = X} {Y = Y} r e end is ended (items, took) (item, one) = subst (λ r. WalksSome takes faults r old after) (sym ended) (by_end e (subst (λ r. TakesOne takes faults r item sink after) is one))
     where
-      by_end : (e : EachEnd F) → TakesOne {X = X} takes faults (Err e) item sink after → TakesSome {X = Y} takes faults (Err e) old after
-      by_end (Fault f) h = (items, item, sink, took, h)
-      by_end (Tables t) h = (items, subst (Took takes old items) (sym h) took)
+      by_end : (e : EachEnd F) → TakesOne {X = X} takes faults (Err e) item sink after → WalksSome takes faults {X = Y} (Err e) old after
+      by_end (Fault f) h = record { items = reverse items ++ item ∷ []; walked = record { front = reverse items; item = item; rest = []; parts = refl; between = sink; took = some_taken items sink took; faulted = h } }
+      by_end (Tables t) h = record { items = reverse items; walked = record { front = reverse items; rest = []; parts = none_after (reverse items); took = some_taken items after (subst (Took takes old items) (sym h) took) } }
 
   -- or between two
-  pub some_left : {Y : Type 0} (t : TableFault) (end : Result Y (EachEnd F)) → end ≡ Err (Tables t) → ((items : List Numbered) × Took takes old items sink) → TakesSome takes faults end old sink
-  some_left t end ended some = subst (λ r. TakesSome takes faults r old sink) (sym ended) some
+  pub some_left : {Y : Type 0} (t : TableFault) (end : Result Y (EachEnd F)) → end ≡ Err (Tables t) → ((items : List Numbered) × Took takes old items sink) → WalksSome takes faults end old sink
+  some_left t end ended (items, took) = subst (λ r. WalksSome takes faults r old sink) (sym ended) (record { items = reverse items; walked = record { front = reverse items; rest = []; parts = none_after (reverse items); took = some_taken items sink took } })
+
+  -- or with the last of them
+  pub some_all : {Y : Type 0} (x : Y) (end : Result Y (EachEnd F)) → end ≡ Ok x → ((items : List Numbered) × Took takes old items sink) → WalksSome takes faults end old sink
+  some_all x end ended (items, took) = subst (λ r. WalksSome takes faults r old sink) (sym ended) (record { items = reverse items; walked = some_taken items sink took })

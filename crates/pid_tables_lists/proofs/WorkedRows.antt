@@ -13,7 +13,7 @@ use Rattle.pid_moderation.specs.Submissions.{Standing, discussion_in}
 use Rattle.pid_tables_lists.specs.declared.walk.EachEnd.TheVariants.{Fault}
 use Rattle.pid_moderation.specs.ChangePages.{Changed, changes_in, start_text}
 use Rattle.pid_moderation.specs.Children.{children_of}
-use Rattle.pid_tables_lists.specs.EachItem.{TakesEach, placed_from}
+use Rattle.pid_tables_lists.specs.EachItem.{Walks, placed_from}
 use Rattle.pid_moderation.specs.PendingPages.{pending_in}
 
 abbrev intel : Item
@@ -124,8 +124,8 @@ Writes before item after = after ≡ item ∷ before
 abbrev Refuses : List Numbered → Numbered → ℕ → List Numbered → Type 0
 Refuses before item fault after = after ≡ before
 
-whole_walk : TakesEach {S = List Numbered} {F = ℕ} {X = Unit {0}} Writes Refuses (Ok tt) (placed_from 1 (intel ∷ bridge ∷ [])) [] ((2, bridge) ∷ (1, intel) ∷ [])
+whole_walk : Walks {S = List Numbered} {F = ℕ} Writes Refuses {X = Unit {0}} (Ok tt) (placed_from 1 (intel ∷ bridge ∷ [])) [] ((2, bridge) ∷ (1, intel) ∷ [])
 whole_walk = ((1, intel) ∷ [], ([], refl, refl), refl)
 
-refused_at_the_second : TakesEach {S = List Numbered} {F = ℕ} {X = Unit {0}} Writes Refuses (Err (Fault 7)) (placed_from 1 (intel ∷ bridge ∷ storage ∷ [])) [] ((1, intel) ∷ [])
-refused_at_the_second = ((1, intel) ∷ [], (2, bridge), (3, storage) ∷ [], (1, intel) ∷ [], refl, ([], refl, refl), refl)
+refused_at_the_second : Walks {S = List Numbered} {F = ℕ} Writes Refuses {X = Unit {0}} (Err (Fault 7)) (placed_from 1 (intel ∷ bridge ∷ storage ∷ [])) [] ((1, intel) ∷ [])
+refused_at_the_second = record { front = (1, intel) ∷ []; item = (2, bridge); rest = (3, storage) ∷ []; parts = refl; between = (1, intel) ∷ []; took = ([], refl, refl); faulted = refl }

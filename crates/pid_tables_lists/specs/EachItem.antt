@@ -1,4 +1,4 @@
--- What became of a sink that was handed items, each with its place among them, counted from 1.
+-- How a walk ends that hands items to a sink, each with its place among them, counted from 1.
 use Rattle.std.specs.Prelude.{◌≡◌, ℕ, ◌+◌, List, [], ◌∷◌, ◌++◌, Result, Ok, Err, reverse}
 use Rattle.pid_reader.specs.Numbered.{Numbered}
 use Rattle.pid_reader.specs.Sinks.{Took}
@@ -18,23 +18,33 @@ abbrev pub IsCausedEnd : {F : Type 0} → State → State → EachEnd F → Type
 IsCausedEnd old new (Tables fault) = IsCaused old new fault
 IsCausedEnd old new (Fault f) = Unit {0}
 
--- all of them in their order: it took them all; or it took those before one and faulted at that
--- one; or the tables faulted behind some
-abbrev pub TakesEach : {S F X : Type 0} → (S → Numbered → S → Type 0)
-    → (S → Numbered → F → S → Type 0) → Result X (EachEnd F) → List Numbered → S → S → Type 0
-TakesEach takes faults (Ok x) items old new = Took takes old (reverse items) new
-TakesEach takes faults (Err (Fault f)) items old new =
-    (front : List Numbered) × (item : Numbered) × (behind : List Numbered) × (between : _)
-    × (items ≡ front ++ item ∷ behind) × Took takes old (reverse front) between
-    × faults between item f new
-TakesEach takes faults (Err (Tables t)) items old new = (front : List Numbered)
-    × (behind : List Numbered) × (items ≡ front ++ behind) × Took takes old (reverse front) new
+-- what a sink takes, and where it faults
+module _ {S F : Type 0} (takes : S → Numbered → S → Type 0)
+    (faults : S → Numbered → F → S → Type 0) where
+  -- it took the first of the items, in their order, and was handed no more
+  pub record TookFirst (old : S) (items : List Numbered) (new : S) : Type 0 where
+    pub front : List Numbered
+    pub rest : List Numbered
+    pub parts : items ≡ front ++ rest
+    pub took : Took takes old (reverse front) new
 
--- whatever the tables hold and the disk does: the sink took some items, and where it faulted it did
--- so at one behind them
-abbrev pub TakesSome : {S F X : Type 0} → (S → Numbered → S → Type 0)
-    → (S → Numbered → F → S → Type 0) → Result X (EachEnd F) → S → S → Type 0
-TakesSome takes faults (Ok x) old new = (items : List Numbered) × Took takes old items new
-TakesSome takes faults (Err (Fault f)) old new = (items : List Numbered) × (item : Numbered)
-    × (between : _) × Took takes old items between × faults between item f new
-TakesSome takes faults (Err (Tables t)) old new = (items : List Numbered) × Took takes old items new
+  -- it took the items before one, in their order, and gave the fault at that one
+  pub record FaultedAtOne (old : S) (items : List Numbered) (fault : F) (new : S) : Type 0 where
+    pub front : List Numbered
+    pub item : Numbered
+    pub rest : List Numbered
+    pub parts : items ≡ front ++ item ∷ rest
+    pub between : S
+    pub took : Took takes old (reverse front) between
+    pub faulted : faults between item fault new
+
+  -- the walk over these items: the sink took all, or faulted at one; or the tables faulted
+  abbrev pub Walks : {X : Type 0} → Result X (EachEnd F) → List Numbered → S → S → Type 0
+  Walks (Ok x) items old new = Took takes old (reverse items) new
+  Walks (Err (Fault f)) items old new = FaultedAtOne old items f new
+  Walks (Err (Tables t)) items old new = TookFirst old items new
+
+  -- the walk over some items
+  pub record WalksSome {X : Type 0} (result : Result X (EachEnd F)) (old new : S) : Type 0 where
+    pub items : List Numbered
+    pub walked : Walks result items old new

@@ -5,54 +5,54 @@ use Rattle.pid_ident.specs.Trees.{text_cmp}
 use Rattle.pid_moderation.specs.Views.{Views}
 use Rattle.pid_moderation.specs.Submissions.{Standing}
 use Rattle.pid_moderation.specs.ChangePages.{Changed, changes_in, changed_behind}
-use Rattle.pid_tables_lists.specs.Pages.{last_of, most_listed, pages_behind}
+use Rattle.pid_tables_lists.specs.Pages.{last_of, most_listed, pages_after}
 use Rattle.pid_moderation.specs.PendingPages.{pending_in, waiting_above}
 use Rattle.pid_moderation.specs.declared.lists.TheConstants.{PAGE}
 
 -- what a page of pending submissions goes on from
-abbrev pub number_of : ℕ × Standing → ℕ
-number_of s = s.0
+abbrev pub pending_number : ℕ × Standing → ℕ
+pending_number s = s.0
 
 -- what a page of changes goes on from
-abbrev pub path_of : Changed → List ℕ
-path_of item = item.path
+abbrev pub changed_path : Changed → List ℕ
+changed_path item = item.path
 
 -- what waits behind the last number of a page is all that the page left out, so that the next page
 -- begins with it
 abbrev pub PendingGoOn : Type 0
 PendingGoOn = (most after : ℕ) (v : Views)
-    → waiting_above (last_of number_of after (pending_in most after v)) v
+    → waiting_above (last_of pending_number after (pending_in most after v)) v
     ≡ drop most (waiting_above after v)
 
 -- pages one after the other are the first of all that wait: each once, in order
 abbrev pub PendingPagesJoin : Type 0
 PendingPagesJoin = (most count after : ℕ) (v : Views)
-    → pages_behind number_of (λ behind. pending_in most behind v) count after
+    → pages_after pending_number (λ behind. pending_in most behind v) count after
     ≡ take (count * most) (waiting_above after v)
 
 -- so many pages as have room for them are all of them
 abbrev pub PendingPagesAreAll : Type 0
 PendingPagesAreAll = (most count after : ℕ) (v : Views)
     → length (waiting_above after v) ≤ count * most
-    → pages_behind number_of (λ behind. pending_in most behind v) count after
+    → pages_after pending_number (λ behind. pending_in most behind v) count after
     ≡ waiting_above after v
 
 -- what was changed and comes behind the last path of a page is all that the page left out
 abbrev pub ChangesGoOn : Type 0
 ChangesGoOn = (most since : ℕ) (after : List ℕ) (v : Views) → is_sorted text_cmp v.items ≡ true
-    → changed_behind since (last_of path_of after (changes_in most since after v).items) v
+    → changed_behind since (last_of changed_path after (changes_in most since after v).items) v
     ≡ drop most (changed_behind since after v)
 
 abbrev pub ChangePagesJoin : Type 0
 ChangePagesJoin = (most since count : ℕ) (after : List ℕ) (v : Views)
     → is_sorted text_cmp v.items ≡ true
-    → pages_behind path_of (λ behind. (changes_in most since behind v).items) count after
+    → pages_after changed_path (λ behind. (changes_in most since behind v).items) count after
     ≡ take (count * most) (changed_behind since after v)
 
 abbrev pub ChangePagesAreAll : Type 0
 ChangePagesAreAll = (most since count : ℕ) (after : List ℕ) (v : Views)
     → is_sorted text_cmp v.items ≡ true → length (changed_behind since after v) ≤ count * most
-    → pages_behind path_of (λ behind. (changes_in most since behind v).items) count after
+    → pages_after changed_path (λ behind. (changes_in most since behind v).items) count after
     ≡ changed_behind since after v
 
 -- no page tells more than it holds

@@ -1,5 +1,6 @@
 pub mod Pages
 pub mod EachItem
+pub mod Children
 pub mod Clauses
 pub mod Laws
 pub mod Steps

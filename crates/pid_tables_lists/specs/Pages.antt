@@ -13,7 +13,7 @@ last_of key asked [] = asked
 last_of key asked (entry ∷ page) = last_of key (key entry) page
 
 -- so many pages, each asked behind the last entry of the one before
-abbrev pub pages_behind : {X K : Type 0} → (X → K) → (K → List X) → ℕ → K → List X
-pages_behind key page zero asked = []
-pages_behind key page (suc count) asked = page asked ++ pages_behind key page count
+abbrev pub pages_after : {X K : Type 0} → (X → K) → (K → List X) → ℕ → K → List X
+pages_after key page zero asked = []
+pages_after key page (suc count) asked = page asked ++ pages_after key page count
     (last_of key asked (page asked))

@@ -1,4 +1,6 @@
 -- What serves private functions alone; no promise rests on it.
+pub mod Adding
 pub mod ChangeRows
+pub mod Children
 pub mod PendingRows
 pub mod EachItem

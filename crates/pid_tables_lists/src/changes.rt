@@ -2,30 +2,22 @@
 ghost use Rattle.std.specs.Prelude.{
   ◌≡◌,
   ◌∷◌,
-  ◌++◌,
   [],
   List,
   false,
   length,
   map,
   Some,
-  MatchResult,
   IfOk,
-  IfErr,
   string_bytes,
 };
 ghost use Rattle.std.specs.Option.{option_copied};
-ghost use Rattle.sqlite.specs.Order.{column};
 ghost use Rattle.sqlite_value.specs.Value.{owned};
-ghost use Rattle.sqlite.specs.declared.types.Value.TheVariants.{Text as TextValue};
 ghost use Rattle.pid_ident.specs.PathTexts.{path_text};
-ghost use Rattle.pid_moderation.specs.Items.{name_at};
-ghost use Rattle.pid_moderation.specs.Views.{Views};
-ghost use Rattle.pid_tables_rows.specs.Causes.{IsReadable};
-ghost use Rattle.pid_tables_rows.specs.Clauses.{AtRest, HasCleanDisk, IsCaused, OnlyReads, Reads};
+ghost use Rattle.pid_tables_rows.specs.Clauses.{OnlyReads, Reads};
+ghost use Rattle.pid_tables_lists.specs.Clauses.{TellsOf};
+ghost use Rattle.pid_tables_lists.specs.Steps.Adding.{Adds};
 ghost use Rattle.pid_tables_rows.specs.TableRows.{number};
-ghost use Rattle.pid_tables_rows.specs.Unread.{IsUnread};
-ghost use Rattle.pid_tables_rows.specs.Steps.Unread.{IsPathText};
 ghost use Rattle.pid_moderation.specs.ChangePages.{
   AreHeld,
   Changed,
@@ -37,19 +29,19 @@ ghost use Rattle.pid_moderation.specs.ChangePages.{
 };
 ghost use Rattle.pid_tables_lists.specs.Pages.{most_listed};
 ghost use Rattle.pid_tables_lists.specs.Steps.ChangeRows.{
-  since_shown,
-  AreNamed,
+  AreChangesIn,
+  IsChangeAt,
+  IsChangeIn,
   held as held_number,
 };
 
-use crate::walk::lent;
-use pid_ident::{Name, Path, PathText};
+use pid_ident::{Path, PathText};
 use pid_moderation::{ChangedItem, Changes, PAGE};
 use pid_tables_rows::TableFault;
 use pid_tables_rows::item::item_name;
 use pid_tables_rows::meta::revision;
 use pid_tables_rows::run::read_rows;
-use pid_tables_rows::value::whole_at;
+use pid_tables_rows::value::{path_at, whole_at};
 use sqlite::types::{ToSql, ValueRef};
 use sqlite::{Alter, Connection, Row};
 use std::alloc::{AllocError, Global};
@@ -72,8 +64,8 @@ fn change_rows<S: Alter>(
 ) -> Result<Vec<Row>, TableFault>
     requires { conn.old.in_transaction ≡ false }
     ensures { Reads S.Store conn.old conn.new result
-        (λ v rows. AreNamed v (changes_in PAGE (held_number since) after.now v).items
-        × (rows.items ≡ map since_shown (changes_in PAGE (held_number since) after.now v).items)) }
+        (λ v rows. AreChangesIn v (changes_in PAGE (held_number since) after.now v).items
+        rows.items) }
 {
     let after = after.to_sql();
     let since = held(since);
@@ -82,17 +74,6 @@ fn change_rows<S: Alter>(
         "SELECT path, since FROM item_since WHERE path > ?1 AND since > ?2 ORDER BY path LIMIT 100",
         &[after, since],
     )
-}
-
-// The path in the first column.
-fn path_of(row: &Row) -> Result<Path, TableFault>
-    ensures read { IfOk result (λ path. column row.now 0 ≡ TextValue (path_text path)) }
-    ensures unread { IfErr result (IsUnread (IsPathText (column row.now 0))) }
-{
-    match Path::parse(lent(row, 0)?) {
-        Some(path) => Ok(path),
-        None => Err(TableFault::Damaged),
-    }
 }
 
 // The item at a path that has one, with its number.
@@ -104,12 +85,8 @@ fn named<S: Alter>(
 ) -> Result<ChangedItem, TableFault>
     requires { conn.old.in_transaction ≡ false }
     ensures rests { OnlyReads S.Store conn.old conn.new }
-    ensures told { HasCleanDisk S.Store conn.new → (v : Views) (item : Changed)
-        → AtRest S.Store conn.old v
-        → name_at item.path v.items ≡ Some item.name → path_text path ≡ item.path
-        → since ≡ item.since
-        → MatchResult result (λ told. changed_of told ≡ item)
-        (λ fault. IsReadable v → IsCaused S.Store conn.old conn.new fault) }
+    ensures told { TellsOf S.Store conn.old conn.new result
+        (λ v item. IsChangeAt v item (path_text path) since) (λ item told. changed_of told ≡ item) }
 {
     let text = path.path_text(alloc)?;
     match item_name(conn, alloc, text.as_str())? {
@@ -126,13 +103,10 @@ fn changed_at<S: Alter>(
 ) -> Result<ChangedItem, TableFault>
     requires { conn.old.in_transaction ≡ false }
     ensures rests { OnlyReads S.Store conn.old conn.new }
-    ensures told { HasCleanDisk S.Store conn.new → (v : Views) (item : Changed)
-        → AtRest S.Store conn.old v
-        → name_at item.path v.items ≡ Some item.name → row.now ≡ since_shown item
-        → MatchResult result (λ told. changed_of told ≡ item)
-        (λ fault. IsReadable v → IsCaused S.Store conn.old conn.new fault) }
+    ensures told { TellsOf S.Store conn.old conn.new result
+        (λ v item. IsChangeIn v item row.now) (λ item told. changed_of told ≡ item) }
 {
-    let path = path_of(row)?;
+    let path = path_at(row, 0)?;
     let since = whole_at(row, 1)?;
     named(conn, alloc, path, since)
 }
@@ -145,12 +119,9 @@ fn add_changed<S: Alter>(
 ) -> Result<(), TableFault>
     requires { conn.old.in_transaction ≡ false }
     ensures rests { OnlyReads S.Store conn.old conn.new }
-    ensures told { HasCleanDisk S.Store conn.new → (v : Views) (item : Changed)
-        → AtRest S.Store conn.old v
-        → name_at item.path v.items ≡ Some item.name → row.now ≡ since_shown item
-        → MatchResult result (λ _. map changed_of items.new.items
-        ≡ map changed_of items.old.items ++ item ∷ [])
-        (λ fault. IsReadable v → IsCaused S.Store conn.old conn.new fault) }
+    ensures told { TellsOf S.Store conn.old conn.new result
+        (λ v item. IsChangeIn v item row.now)
+        (λ item _. Adds changed_of items.old.items items.new.items (item ∷ [])) }
 {
     let item = changed_at(conn, alloc, row)?;
     match items.push(item) {
@@ -167,11 +138,9 @@ fn changed_items<S: Alter>(
 ) -> Result<Vec<ChangedItem>, TableFault>
     requires { conn.old.in_transaction ≡ false }
     ensures rests { OnlyReads S.Store conn.old conn.new }
-    ensures told { HasCleanDisk S.Store conn.new → (v : Views) (all : List Changed)
-        → AtRest S.Store conn.old v
-        → AreNamed v all → rows.now ≡ map since_shown all
-        → MatchResult result (λ items. map changed_of items.items ≡ all)
-        (λ fault. IsReadable v → IsCaused S.Store conn.old conn.new fault) }
+    ensures told { TellsOf S.Store conn.old conn.new result
+        (λ v (all : List Changed). AreChangesIn v all rows.now)
+        (λ all items. map changed_of items.items ≡ all) }
 {
     let mut items = Vec::new(alloc);
     for row in rows {
@@ -180,7 +149,7 @@ fn changed_items<S: Alter>(
     Ok(items)
 }
 
-// The text behind which a page begins.
+// The text after which a page begins.
 fn start_of(alloc: Global, after: Option<&Path>) -> Result<String, AllocError>
     ensures { IfOk result (λ text. string_bytes text ≡ start_text (option_copied after.entry)) }
 {
@@ -190,7 +159,7 @@ fn start_of(alloc: Global, after: Option<&Path>) -> Result<String, AllocError>
     }
 }
 
-/// The first items whose last change has a number above this one and whose paths come behind that
+/// The first items whose last change has a number above this one and whose paths come after that
 /// path, at most a page of them, in the canonical order. Without a path the page begins with the
 /// first item. Items that were removed are not told. Items without such a change are passed over,
 /// row by row.

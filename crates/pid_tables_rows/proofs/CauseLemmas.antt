@@ -21,14 +21,14 @@ use Rattle.sqlite_typing.specs.Types.{accepts_program}
 use Rattle.pid_tables_rows.specs.declared.fault.TableFault.{TableFault}
 use Rattle.pid_tables_rows.specs.declared.fault.TableFault.TheVariants.{Memory, Store, NewerSchema, Damaged}
 use Rattle.pid_tables_rows.specs.Causes.{IsCaused}
-use Rattle.pid_tables_rows.specs.Faults.{fault_of}
-use Rattle.pid_tables_rows.specs.Queries.{Asks, IsOneStatement, IsQueryAs, IsQuery}
+use Rattle.pid_tables_rows.specs.Faults.{fault_of_sql}
+use Rattle.pid_tables_rows.specs.Queries.{IsSafeSelect, IsOneStatement, IsQueryAs, IsQuery}
 use Rattle.sqlite.specs.Schema.{Schema}
 
-pub moved : (old new : State) (e f : Error) → e ≡ f → IsCaused old new (fault_of f) → IsCaused old new (fault_of e)
-moved old new e f same h = subst (λ x. IsCaused old new (fault_of x)) (sym same) h
+pub moved : (old new : State) (e f : Error) → e ≡ f → IsCaused old new (fault_of_sql f) → IsCaused old new (fault_of_sql e)
+moved old new e f same h = subst (λ x. IsCaused old new (fault_of_sql x)) (sym same) h
 
-pub of_store : (old new : State) (cause : StoreError) → HasCause old new ⊥ cause → IsCaused old new (fault_of (store_error cause))
+pub of_store : (old new : State) (cause : StoreError) → HasCause old new ⊥ cause → IsCaused old new (fault_of_sql (store_error cause))
 of_store old new store.OutOfMemory h = tt
 of_store old new store.Io h = inl h
 of_store old new store.Corrupt h = inl h
@@ -39,15 +39,15 @@ of_store old new store.Unstorable h = absurd h
 -- ---- a fixed text is refused in none of the other ways
 
 module _ (schema : Schema) (sql : List ℕ) (params : Row) where
-  statement : (r : Result Compiled CompileError) (c : Compiled) → r ≡ Ok c → IsQueryAs schema sql params r → IsOneStatement sql params c × Asks schema params c.command
-  statement (Ok d) c is h = let same : d ≡ c = cc in subst (λ x. IsOneStatement sql params x × Asks schema params x.command) same h
+  statement : (r : Result Compiled CompileError) (c : Compiled) → r ≡ Ok c → IsQueryAs schema sql params r → IsOneStatement sql params c × IsSafeSelect schema params c.command
+  statement (Ok d) c is h = let same : d ≡ c = cc in subst (λ x. IsOneStatement sql params x × IsSafeSelect schema params x.command) same h
   statement (Err e) c is h = absurd h
 
   is_one : (r : Result Compiled CompileError) (fault : CompileError) → r ≡ Err fault → IsQueryAs schema sql params r → ⊥
   is_one (Ok d) fault is h = cc
   is_one (Err e) fault is h = h
 
-  read_refused : (old new : State) (command : Command) (db : Database) (e : Error) → db.schema ≡ schema → Asks schema params command → RefusesToRead old.step_limit command db params e → IsCaused old new (fault_of e)
+  read_refused : (old new : State) (command : Command) (db : Database) (e : Error) → db.schema ≡ schema → IsSafeSelect schema params command → RefusesToRead old.step_limit command db params e → IsCaused old new (fault_of_sql e)
   read_refused old new (Select q names) db e has asks (inl typed) = absurd (let refused = subst (λ s. accepts_program s (lets_of q) q.body params ≡ false) has typed.1 in let bad = sym refused ∙ asks.0 in let no : ⊥ = cc in no)
   read_refused old new (Select q names) db e has asks (inr (inl overflows)) = absurd (asks.1 db.trees overflows.1)
   read_refused old new (Select q names) db e has asks (inr (inr stopped)) = moved old new e _ stopped.0 (inr (inr stopped.1))
@@ -67,7 +67,7 @@ module _ {schema : Schema} (sql : List ℕ) (params : Row) where
           | inr other ↦ elim other [ inl count ↦ count.0 it.0.given | inr clock ↦ clock.0 it.0.timeless ]
         ]
 
-    pub not_run_caused : IsNotRun old new sql params e → IsCaused old new (fault_of e)
+    pub not_run_caused : IsNotRun old new sql params e → IsCaused old new (fault_of_sql e)
     unfolding IsNotRun
     not_run_caused (inl h) = absurd (no_statement h.1.0.was_open h.0)
     not_run_caused (inr h) = moved old new e _ h.1 (of_store old new h.0 h.2)
@@ -76,7 +76,7 @@ module _ {schema : Schema} (sql : List ℕ) (params : Row) where
     shut closed opened = let bad = sym opened ∙ closed in let no : ⊥ = cc in no
 
     -- on a connection that is shut nothing is refused
-    closed_store : (too_big : Type 0) (cause : StoreError) → old.is_open ≡ false → HasCause old new too_big cause → IsCaused old new (fault_of (store_error cause))
+    closed_store : (too_big : Type 0) (cause : StoreError) → old.is_open ≡ false → HasCause old new too_big cause → IsCaused old new (fault_of_sql (store_error cause))
     closed_store too_big store.OutOfMemory closed h = tt
     closed_store too_big store.Io closed h = inl h
     closed_store too_big store.Corrupt closed h = inl h
@@ -84,12 +84,12 @@ module _ {schema : Schema} (sql : List ℕ) (params : Row) where
     closed_store too_big store.Broken closed h = inr (inl h)
     closed_store too_big store.Unstorable closed h = inr (inl closed)
 
-    show_closed : (c : Compiled) (given : Row) (o : Option Returning) → old.is_open ≡ false → FailsToShow old new sql c given e o → IsCaused old new (fault_of e)
+    show_closed : (c : Compiled) (given : Row) (o : Option Returning) → old.is_open ≡ false → FailsToShow old new sql c given e o → IsCaused old new (fault_of_sql e)
     show_closed c given None closed h = absurd (shut closed h.3.0.was_open)
     show_closed c given (Some what) closed (inl refused) = absurd (shut closed refused.1.0.was_open)
     show_closed c given (Some what) closed (inr fails) = moved old new e _ fails.1 (closed_store _ fails.0 closed fails.2)
 
-    show_opened : (c : Compiled) (it : IsStatement old sql params c) → IsTrue old.is_open → FailsToShow old new sql c (timed params c.formats it.now) e c.returning → IsCaused old new (fault_of e)
+    show_opened : (c : Compiled) (it : IsStatement old sql params c) → IsTrue old.is_open → FailsToShow old new sql c (timed params c.formats it.now) e c.returning → IsCaused old new (fault_of_sql e)
     show_opened c it opened h =
         let one = statement schema sql params _ c it.is (known opened) in
         let shown = subst (FailsToShow old new sql c (timed params c.formats it.now) e) one.0.bare h in
@@ -105,7 +105,7 @@ module _ {schema : Schema} (sql : List ℕ) (params : Row) where
         let no : ⊥ = cc in
         no
 
-    pub caused : FailsToQuery sql params old new e ⊎ IsTooLate sql params old new e → IsCaused old new (fault_of e)
+    pub caused : FailsToQuery sql params old new e ⊎ IsTooLate sql params old new e → IsCaused old new (fault_of_sql e)
     unfolding FailsToQuery
     caused (inl (inl h)) = not_run_caused h
     caused (inl (inr h)) = elim (cases_Bool old.is_open) [ inl opened ↦ show_opened h.0 h.1 opened h.2 | inr closed ↦ show_closed h.0 (timed params h.0.formats h.1.now) h.0.returning closed h.2 ]

@@ -15,7 +15,7 @@ use Rattle.pid_moderation.specs.declared.facts.State.{State}
 use Rattle.pid_moderation.specs.declared.facts.State.TheVariants.{Pending, Approved, Rejected, Withdrawn}
 use Rattle.pid_moderation.specs.Views.{Views, Submitted, submission_at}
 use Rattle.pid_moderation.specs.declared.lists.Submission.{Submission}
-use Rattle.pid_tables_rows.specs.TableRows.{number, form_of, name_of, state_number, kind_of, first_of, second_of, third_of}
+use Rattle.pid_tables_rows.specs.TableRows.{number, form_of, name_of, state_number, reply_kind, first_number, second_number, third_number}
 use Rattle.pid_moderation.specs.Submissions.{Standing, decider_of, reason_of, standing_in, standing_of}
 use Rattle.pid_tables_rows.specs.Answers.{standing_row}
 use Rattle.pid_tables_rows.specs.Steps.Answers.{reply_row}
@@ -34,7 +34,7 @@ some_row row_of (Some x) row e = (x, refl, cc)
 
 -- ---- replies
 
-pub replies_same : (r s : Reply) → kind_of r ≡ kind_of s → first_of r ≡ first_of s → second_of r ≡ second_of s → third_of r ≡ third_of s → r ≡ s
+pub replies_same : (r s : Reply) → reply_kind r ≡ reply_kind s → first_number r ≡ first_number s → second_number r ≡ second_number s → third_number r ≡ third_number s → r ≡ s
 replies_same Done Done k a b c = refl
 replies_same Done (Numbered n) k a b c = absurd (let bad : ⊥ = cc in bad)
 replies_same Done (Counts x y z) k a b c = absurd (let bad : ⊥ = cc in bad)
@@ -45,8 +45,8 @@ replies_same (Counts x y z) Done k a b c = absurd (let bad : ⊥ = cc in bad)
 replies_same (Counts x y z) (Numbered n) k a b c = absurd (let bad : ⊥ = cc in bad)
 replies_same (Counts x y z) (Counts p q r) k a b c = λ i. Counts (a i) (b i) (c i)
 
-pub reply_read : (o : Option Reply) (row : Row) (reply : Reply) → Some row ≡ option_map reply_row o → column row 0 ≡ number (kind_of reply) → column row 1 ≡ number (first_of reply) → column row 2 ≡ number (second_of reply)
-    → column row 3 ≡ number (third_of reply) → Some reply ≡ o
+pub reply_read : (o : Option Reply) (row : Row) (reply : Reply) → Some row ≡ option_map reply_row o → column row 0 ≡ number (reply_kind reply) → column row 1 ≡ number (first_number reply) → column row 2 ≡ number (second_number reply)
+    → column row 3 ≡ number (third_number reply) → Some reply ≡ o
 reply_read o row reply first kind a b c =
     let it = some_row reply_row o row first in
     let at = λ (i : ℕ). ap (λ r. column r i) (sym it.2) in

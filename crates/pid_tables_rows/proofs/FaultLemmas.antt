@@ -18,13 +18,13 @@ use Rattle.sqlite.specs.Effect.{Database, RefusesToRead}
 use Rattle.sqlite.specs.State.{State, IsNotRun, FailsToShow, FailsToQuery, IsTooLate, store_error}
 use Rattle.sqlite.specs.Clock.{timed}
 use Rattle.sqlite.proofs.Callers.{IsPlain}
-use Rattle.pid_tables_rows.specs.Faults.{fault_of, IsMemoryOrStore, IsNotNewerSchema}
+use Rattle.pid_tables_rows.specs.Faults.{fault_of_sql, IsMemoryOrStore, IsNotNewerSchema}
 
-pub failed : (c : ErrorCode) → IsMemoryOrStore (fault_of (SqliteFailure c))
+pub failed : (c : ErrorCode) → IsMemoryOrStore (fault_of_sql (SqliteFailure c))
 failed code.OutOfMemory = tt
 failed _ = tt
 
-pub of_store : (cause : StoreError) → IsMemoryOrStore (fault_of (store_error cause))
+pub of_store : (cause : StoreError) → IsMemoryOrStore (fault_of_sql (store_error cause))
 of_store store.OutOfMemory = tt
 of_store store.Io = tt
 of_store store.Corrupt = tt
@@ -32,21 +32,21 @@ of_store store.Full = tt
 of_store store.Broken = tt
 of_store store.Unstorable = tt
 
-pub moved : (e f : Error) → e ≡ f → IsMemoryOrStore (fault_of f) → IsMemoryOrStore (fault_of e)
-moved e f same h = subst (λ x. IsMemoryOrStore (fault_of x)) (sym same) h
+pub moved : (e f : Error) → e ≡ f → IsMemoryOrStore (fault_of_sql f) → IsMemoryOrStore (fault_of_sql e)
+moved e f same h = subst (λ x. IsMemoryOrStore (fault_of_sql x)) (sym same) h
 
 never_bad : (r : Result Compiled CompileError) (fault : CompileError) → IsPlain r → r ≡ Err fault → ⊥
 never_bad (Ok c) fault plain e = cc
 never_bad (Err x) fault plain e = plain
 
-read_refused : (limit : Option ℕ) (command : Command) (db : Database) (params : Row) (e : Error) → RefusesToRead limit command db params e → IsMemoryOrStore (fault_of e)
+read_refused : (limit : Option ℕ) (command : Command) (db : Database) (params : Row) (e : Error) → RefusesToRead limit command db params e → IsMemoryOrStore (fault_of_sql e)
 read_refused limit (Select q names) db params e (inl h) = moved e _ h.0 (failed code.TypeMismatch)
 read_refused limit (Select q names) db params e (inr (inl h)) = moved e _ h.0 (failed code.IntegerOverflow)
 read_refused limit (Select q names) db params e (inr (inr h)) = moved e _ h.0 (failed code.OperationInterrupted)
 read_refused limit (Rows values width names) db params e h = moved e _ h.0 (failed code.OperationInterrupted)
 read_refused limit _ db params e h = moved e _ h tt
 
-pub not_run : (sql : List ℕ) (params : Row) (old new : State) (e : Error) → (IsTrue old.is_open → (fault : CompileError) → understood old.now.schema sql ≡ Err fault → ⊥) → IsNotRun old new sql params e → IsMemoryOrStore (fault_of e)
+pub not_run : (sql : List ℕ) (params : Row) (old new : State) (e : Error) → (IsTrue old.is_open → (fault : CompileError) → understood old.now.schema sql ≡ Err fault → ⊥) → IsNotRun old new sql params e → IsMemoryOrStore (fault_of_sql e)
 unfolding IsNotRun
 not_run sql params old new e never (inl (inl h, same)) = absurd (never same.0.was_open h.0 h.1)
 not_run sql params old new e never (inl (inr h, same)) = elim h.2 [
@@ -56,7 +56,7 @@ not_run sql params old new e never (inl (inr h, same)) = elim h.2 [
 not_run sql params old new e never (inr h) = moved e _ h.1 (of_store h.0)
 
 -- no fault of the database is told as a later schema
-pub not_later : (e : Error) → IsNotNewerSchema (fault_of e)
+pub not_later : (e : Error) → IsNotNewerSchema (fault_of_sql e)
 not_later (SqliteFailure code.OutOfMemory) = tt
 not_later (SqliteFailure _) = tt
 not_later (SqlInputError compile.OutOfMemory) = tt
@@ -67,7 +67,7 @@ module _ {schema : Schema} (sql : List ℕ) (params : Row) (old new : State) (ha
   known : IsPlain (understood old.now.schema sql)
   known = subst (λ x. IsPlain (understood x sql)) (sym has) plain
 
-  pub untold : FailsToQuery sql params old new e ⊎ IsTooLate sql params old new e → IsMemoryOrStore (fault_of e)
+  pub untold : FailsToQuery sql params old new e ⊎ IsTooLate sql params old new e → IsMemoryOrStore (fault_of_sql e)
   unfolding FailsToQuery
   untold (inl (inl h)) = not_run sql params old new e (λ opened fault is. never_bad _ fault known is) h
   untold (inl (inr h)) =

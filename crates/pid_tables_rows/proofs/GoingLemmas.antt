@@ -5,14 +5,14 @@ use Rattle.sqlite.specs.State.{State, Survives}
 use Rattle.sqlite.specs.State.{HasCleanDisk}
 use Rattle.pid_moderation.specs.Views.{Views}
 use Rattle.pid_tables_rows.specs.Shows.{Counts, ShowsCounting, Shows}
-use Rattle.pid_tables_rows.specs.Leaves.{Holds, Within, Written, GoesOn}
+use Rattle.pid_tables_rows.specs.Leaves.{KeepsCommitted, Within, Written, GoesOn}
 use Rattle.pid_tables_rows.proofs.LeaveLemmas.{leaves_on}
 
 pub earlier : {P : Trees → Type 0} (old new : State) → Survives old new P → HasCleanDisk new → HasCleanDisk old
 earlier old new s clean = omega (arith, s.clean)
 
 -- what was committed before stays, whatever the call answers
-pub holds_on : {X E : Type 0} (old new : State) (r : Result X E) (c : Counts) (v w : Views) → (IsTrue new.is_open → HasCleanDisk new) → GoesOn old new r → Within c old v w → Holds new v
+pub holds_on : {X E : Type 0} (old new : State) (r : Result X E) (c : Counts) (v w : Views) → (IsTrue new.is_open → HasCleanDisk new) → GoesOn old new r → Within c old v w → KeepsCommitted new v
 holds_on old new r c v w law goes within = record {
   committed = λ opened.
       let clean = law opened in

@@ -14,7 +14,7 @@ use Rattle.pid_moderation.specs.declared.command.Reply.{Reply}
 use Rattle.pid_moderation.specs.Ranks.{rank_number}
 use Rattle.pid_moderation.specs.Views.{Remark}
 use Rattle.pid_tables_rows.specs.Schema.{meta, account, item, submission, remark, receipt, item_since}
-use Rattle.pid_tables_rows.specs.TableRows.{number, meta_row, account_row, item_row, submission_row, remark_row, receipt_row, since_row, form_of, name_of, state_number, kind_of, first_of, second_of, third_of}
+use Rattle.pid_tables_rows.specs.TableRows.{number, meta_row, account_row, item_row, submission_row, remark_row, receipt_row, since_row, form_of, name_of, state_number, reply_kind, first_number, second_number, third_number}
 use Rattle.pid_moderation.specs.Submissions.{Standing, decider_of, reason_of}
 use Rattle.pid_tables_rows.proofs.Select.{texts_equal, text_equal, integers_equal, integer_equal}
 use Rattle.pid_tables_rows.proofs.WriteLemmas.{IsPlainTable, cast_null, cast_int}
@@ -106,7 +106,7 @@ pub remark_found : Finds remark_row by_both (λ at. number at.0 ∷ number at.1 
 remark_found = numbers_found (λ (r : Remark). Text r.author ∷ Text r.text ∷ [])
 
 pub receipt_found : Finds receipt_row by_both (λ at. Text at.0 ∷ Text at.1 ∷ [])
-receipt_found = texts_found (λ (r : Reply). number (kind_of r) ∷ number (first_of r) ∷ number (second_of r) ∷ number (third_of r) ∷ [])
+receipt_found = texts_found (λ (r : Reply). number (reply_kind r) ∷ number (first_number r) ∷ number (second_number r) ∷ number (third_number r) ∷ [])
 
 pub since_found : Finds since_row by_first (λ key. Text key ∷ [])
 since_found = text_found (λ n. number n ∷ [])

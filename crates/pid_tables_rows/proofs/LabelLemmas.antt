@@ -30,7 +30,7 @@ use Rattle.pid_tables_rows.specs.declared.fault.TableFault.{TableFault}
 use Rattle.pid_tables_rows.specs.declared.fault.TableFault.TheVariants.{Memory, Store, NewerSchema, Damaged}
 use Rattle.pid_tables_rows.specs.Faults.{IsMemoryOrStore, IsNotNewerSchema}
 use Rattle.pid_tables_rows.specs.LabelRows.{ExplainsNumber, HasLabel, IsDamageOf, IsMetaFirst, LacksNumber, ShowsNoNumber, ShowsNumber, ShowsValues, value_text}
-use Rattle.pid_tables_rows.specs.Unread.{IsUnread, IsNumber}
+use Rattle.pid_tables_rows.specs.Unread.{IsUnreadable, IsNumber}
 use Rattle.pid_tables_rows.specs.TableRows.{number}
 use Rattle.pid_tables_rows.proofs.KeyTexts.{by_first}
 use Rattle.pid_tables_rows.proofs.LabelTexts.{IsPlainIfAsked, plain_if_asked, value_is}
@@ -59,12 +59,12 @@ number_shown db label rows x shows is (Ok n) read = (rows, shows, x, sym is, rea
 number_shown db label rows x shows is (Err e) read = tt
 
 -- the first row's value is no number
-pub number_refused : (db : Database) (label : List ℕ) (rows : List Row) (x : Row) → ShowsValues db label rows → Some x ≡ slice_get rows 0 → (r : Result ℕ TableFault) → IfErr r (IsUnread (IsNumber (column x 0)))
+pub number_refused : (db : Database) (label : List ℕ) (rows : List Row) (x : Row) → ShowsValues db label rows → Some x ≡ slice_get rows 0 → (r : Result ℕ TableFault) → IfErr r (IsUnreadable (IsNumber (column x 0)))
     → IfErr r (IsDamageOf (ShowsNoNumber db label))
 number_refused db label rows x shows is (Ok n) h = tt
 number_refused db label rows x shows is (Err e) h = go e h
   where
-    go : (e : TableFault) → IsUnread (IsNumber (column x 0)) e → IsDamageOf (ShowsNoNumber db label) e
+    go : (e : TableFault) → IsUnreadable (IsNumber (column x 0)) e → IsDamageOf (ShowsNoNumber db label) e
     go Memory h = tt
     go Store h = tt
     go (NewerSchema n) h = h
@@ -81,7 +81,7 @@ query_refused db label Store untold never = tt
 query_refused db label (NewerSchema n) untold never = never
 query_refused db label Damaged untold never = inl untold
 
-pub unread_never : (Written : Type 0) (r : Result ℕ TableFault) → IfErr r (IsUnread Written) → IfErr r IsNotNewerSchema
+pub unread_never : (Written : Type 0) (r : Result ℕ TableFault) → IfErr r (IsUnreadable Written) → IfErr r IsNotNewerSchema
 unread_never Written (Ok n) h = tt
 unread_never Written (Err Memory) h = tt
 unread_never Written (Err Store) h = tt

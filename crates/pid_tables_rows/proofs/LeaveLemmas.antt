@@ -12,12 +12,12 @@ use Rattle.pid_tables_rows.specs.Shows.{Counts, Numbers, ShowsKeeping, ShowsIn, 
 use Rattle.pid_tables_rows.specs.declared.version.Version.{Version}
 use Rattle.pid_tables_rows.specs.declared.version.Version.TheVariants.{Two}
 use Rattle.pid_tables_rows.specs.Schema.{schema_of}
-use Rattle.pid_tables_rows.specs.Leaves.{found_in, Leaves, LeavesEither, LeavesShown, AtRest, RestsIn, Holds, Within, Written}
+use Rattle.pid_tables_rows.specs.Leaves.{found_in, LeavesViews, LeavesEither, LeavesShown, AtRest, RestsIn, KeepsCommitted, Within, Written}
 
-pub leaves_on : (old new : State) (v : Views) → Survives old new (λ _. ⊥) → Leaves old v → Leaves new v
+pub leaves_on : (old new : State) (v : Views) → Survives old new (λ _. ⊥) → LeavesViews old v → LeavesViews new v
 leaves_on old new v s all = record { each = λ clean db may. elim (s.crash clean db may) [ inl was ↦ all.each (omega (arith, s.clean)) db was | inr none ↦ absurd none ] }
 
-pub leaves_once : (old new : State) (first second : Views) → Survives old new (λ _. ⊥) → Leaves old first → LeavesEither new first second
+pub leaves_once : (old new : State) (first second : Views) → Survives old new (λ _. ⊥) → LeavesViews old first → LeavesEither new first second
 leaves_once old new first second s all = record { each = λ clean db may. inl ((leaves_on old new first s all).each clean db may) }
 
 -- the trees, with the schema that they list
@@ -26,12 +26,12 @@ pub shows_found : {version : Version} {c : Counts} {numbers : Numbers} (db : Dat
 shows_found {version = version} {c = c} {numbers = numbers} db v h trees same =
     subst (λ t. ShowsKeeping version c numbers (found_in (schema_of version) t) v) (sym same) (subst (λ (d : Database). ShowsKeeping version c numbers d v) (ap (λ s. record { schema = s; trees = db.trees }) h.schema) h)
 
-pub leaves_either : (old new : State) (first second : Views) → Survives old new (λ db. db ≡ old.now.trees) → Leaves old first → (HasCleanDisk new → Shows old.now second) → LeavesEither new first second
+pub leaves_either : (old new : State) (first second : Views) → Survives old new (λ db. db ≡ old.now.trees) → LeavesViews old first → (HasCleanDisk new → Shows old.now second) → LeavesEither new first second
 leaves_either old new first second s all shows =
     record { each = λ clean db may. elim (s.crash clean db may) [ inl was ↦ inl (all.each (omega (arith, s.clean)) db was) | inr made ↦ inr (shows_found old.now second (shows clean) db made) ] }
 
 -- a transaction that was rolled back leaves what it held
-pub given_back : (old new : State) (v : Views) → (IsTrue new.is_open → HasCleanDisk new) → new.in_transaction ≡ false → (HasCleanDisk new → IsRolledBack old new) → Survives old new (λ _. ⊥) → Holds old v → AtRest new v
+pub given_back : (old new : State) (v : Views) → (IsTrue new.is_open → HasCleanDisk new) → new.in_transaction ≡ false → (HasCleanDisk new → IsRolledBack old new) → Survives old new (λ _. ⊥) → KeepsCommitted old v → AtRest new v
 given_back old new v law ended undone survives holds = record {
   settled = ended;
   same = λ opened. let back = (undone (law opened)).undone opened in back.0 ∙ sym back.1;
@@ -79,7 +79,7 @@ on_err (Err e) q = q
 pub shown_on : (old new : State) (v : Views) → Survives old new (λ _. ⊥) → LeavesShown old v → LeavesShown new v
 shown_on old new v s all = record { each = λ clean db may. elim (s.crash clean db may) [ inl was ↦ all.each (omega (arith, s.clean)) db was | inr none ↦ absurd none ] }
 
-pub leaves_shown : (s : State) (v : Views) → Leaves s v → LeavesShown s v
+pub leaves_shown : (s : State) (v : Views) → LeavesViews s v → LeavesShown s v
 leaves_shown s v all = record { each = λ clean db may. (Two, all.each clean db may) }
 
 pub rests_in_two : (s : State) (v : Views) → AtRest s v → RestsIn Two s v

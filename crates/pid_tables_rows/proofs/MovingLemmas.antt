@@ -19,7 +19,7 @@ use Rattle.pid_tables_rows.specs.Steps.Moving.{IsBetween}
 use Rattle.pid_tables_rows.specs.PairRows.{RowsAre}
 use Rattle.pid_tables_rows.specs.Queries.{IsWriteAs}
 use Rattle.pid_tables_rows.specs.Schema.{schema_of, meta, item_since}
-use Rattle.pid_tables_rows.specs.Shows.{Counts, ShowsKeeping, ShowsCounting, labels_of, numbers_of, remark_in, receipt_in, since_in}
+use Rattle.pid_tables_rows.specs.Shows.{Counts, ShowsKeeping, ShowsCounting, labels_of, numbers_in, remark_in, receipt_in, since_in}
 use Rattle.pid_moderation.specs.Submissions.{standing_in}
 use Rattle.pid_tables_rows.specs.TableRows.{number, meta_row, account_row, item_row, submission_row, remark_row, receipt_row, since_row}
 use Rattle.pid_tables_rows.proofs.KeyTexts.{by_first, pair_terms, pair_change, insert_meta_is, update_meta_is}
@@ -67,7 +67,7 @@ zero_or None n h = refl
 zero_or (Some name) n h = ap Some (sym (h n refl))
 
 -- the table is made and filled
-pub table_added : (old mid new : State) (c : Counts) (v : Views) → ShowsKeeping One c (numbers_of v) old.now v → Ran create_since [] old mid → Ran fill_since [] mid new → IsBetween c new.now v
+pub table_added : (old mid new : State) (c : Counts) (v : Views) → ShowsKeeping One c (numbers_in v) old.now v → Ran create_since [] old mid → Ran fill_since [] mid new → IsBetween c new.now v
 table_added old mid new c v shows made (count, h) =
     let table = table_made old mid shows.schema made in
     let it = filled mid new (λ p. name_at p v.items) table.schema (subst (RowsAre item_row _) (sym table.kept.1.1.0) shows.items) table.empty count h in

@@ -15,7 +15,7 @@ use Rattle.sqlite_tied.specs.Compute.{everything}
 use Rattle.sqlite_value.specs.declared.keys.Key.{Key}
 use Rattle.sqlite.specs.Schema.{Schema}
 use Rattle.pid_tables_rows.specs.TableRows.{number}
-use Rattle.pid_tables_rows.specs.Queries.{Asks, IsOneStatement, IsQueryAs, IsQuery}
+use Rattle.pid_tables_rows.specs.Queries.{IsSafeSelect, IsOneStatement, IsQueryAs, IsQuery}
 use Rattle.sqlite_typing.specs.Types.{accepts_program}
 use Rattle.pid_tables_rows.specs.declared.version.Version.{Version}
 use Rattle.pid_tables_rows.specs.Schema.{schema_of}
@@ -29,8 +29,8 @@ abbrev pub IsOneAs : List ℕ → Row → Result Compiled CompileError → Type 
 IsOneAs sql params (Ok c) = IsOneStatement sql params c
 IsOneAs sql params (Err e) = ⊥
 
-whole_query : (schema : Schema) (sql : List ℕ) (params : Row) (r : Result Compiled CompileError) (p : Program) (names : List (List ℕ)) → IsOneAs sql params r → command_of r ≡ Select p names → Asks schema params (Select p names) → IsQueryAs schema sql params r
-whole_query schema sql params (Ok c) p names one is asks = (one, subst (Asks schema params) (sym is) asks)
+whole_query : (schema : Schema) (sql : List ℕ) (params : Row) (r : Result Compiled CompileError) (p : Program) (names : List (List ℕ)) → IsOneAs sql params r → command_of r ≡ Select p names → IsSafeSelect schema params (Select p names) → IsQueryAs schema sql params r
+whole_query schema sql params (Ok c) p names one is asks = (one, subst (IsSafeSelect schema params) (sym is) asks)
 whole_query schema sql params (Err e) p names one is asks = absurd one
 
 -- a listing sums nothing

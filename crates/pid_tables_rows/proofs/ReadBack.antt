@@ -18,7 +18,7 @@ use Rattle.pid_tables_rows.specs.Shows.{Counts, labels_of, more_labels, counts_o
 use Rattle.pid_tables_rows.specs.Steps.Shows.{meta_of}
 use Rattle.pid_moderation.specs.Submissions.{standing_in, Standing}
 use Rattle.pid_tables_rows.specs.TableRows.{number}
-use Rattle.pid_tables_rows.specs.Unread.{IsUnread, IsNumber, IsWhole, IsStandingRow}
+use Rattle.pid_tables_rows.specs.Unread.{IsUnreadable, IsNumber, IsWholeNumber, ReadsAsStanding}
 use Rattle.pid_tables_rows.specs.Steps.Unread.{IsWord}
 use Rattle.pid_tables_rows.proofs.DecodeLemmas.{some_row, number_same, mapped_some, all_at}
 use Rattle.pid_tables_rows.proofs.RangeLemmas.{found_in}
@@ -26,18 +26,18 @@ use Rattle.pid_tables_rows.proofs.UnreadLemmas.{caused_unread}
 
 -- a number in a row of its own
 module _ (old new : State) (v : Views) (row : Row) (r : Result ℕ TableFault) where
-  pub number_read : (n : ℕ) → row ≡ value_row n → (IsReadable v → n < 2 ^ 32) → IfOk r (λ m. column row 0 ≡ number m) → IfErr r (IsUnread (IsNumber (column row 0)))
+  pub number_read : (n : ℕ) → row ≡ value_row n → (IsReadable v → n < 2 ^ 32) → IfOk r (λ m. column row 0 ≡ number m) → IfErr r (IsUnreadable (IsNumber (column row 0)))
       → MatchResult r (λ m. m ≡ n) (λ fault. IsReadable v → IsCaused old new fault)
   number_read n is small = go r
     where
       at : column row 0 ≡ number n
       at = ap (λ x. column x 0) is
 
-      go : (r : Result ℕ TableFault) → IfOk r (λ m. column row 0 ≡ number m) → IfErr r (IsUnread (IsNumber (column row 0))) → MatchResult r (λ m. m ≡ n) (λ fault. IsReadable v → IsCaused old new fault)
+      go : (r : Result ℕ TableFault) → IfOk r (λ m. column row 0 ≡ number m) → IfErr r (IsUnreadable (IsNumber (column row 0))) → MatchResult r (λ m. m ≡ n) (λ fault. IsReadable v → IsCaused old new fault)
       go (Ok m) read unread = number_same m n (sym read ∙ at)
       go (Err e) read unread = λ readable. caused_unread old new e (n, small readable, at) unread
 
-  pub value_read : (o : Option ℕ) → Some row ≡ option_map value_row o → (IsReadable v → (n : ℕ) → o ≡ Some n → n < 2 ^ 32) → IfOk r (λ m. column row 0 ≡ number m) → IfErr r (IsUnread (IsNumber (column row 0)))
+  pub value_read : (o : Option ℕ) → Some row ≡ option_map value_row o → (IsReadable v → (n : ℕ) → o ≡ Some n → n < 2 ^ 32) → IfOk r (λ m. column row 0 ≡ number m) → IfErr r (IsUnreadable (IsNumber (column row 0)))
       → MatchResult r (λ m. Some m ≡ o) (λ fault. IsReadable v → IsCaused old new fault)
   value_read o first small read unread =
       let it = some_row value_row o row first in
@@ -52,7 +52,7 @@ only_row rows row is first (inl none) = absurd (let e = first ∙ ap (λ l. slic
 only_row rows row is first (inr one) = let e : Some row ≡ Some is = first ∙ ap (λ l. slice_get l 0) one in cc
 
 -- a whole number in a row of its own
-pub whole_read : (old new : State) (v : Views) (row : Row) (r : Result ℕ TableFault) (n : ℕ) → row ≡ value_row n → IfOk r (λ m. column row 0 ≡ number m) → IfErr r (IsUnread (IsWhole (column row 0)))
+pub whole_read : (old new : State) (v : Views) (row : Row) (r : Result ℕ TableFault) (n : ℕ) → row ≡ value_row n → IfOk r (λ m. column row 0 ≡ number m) → IfErr r (IsUnreadable (IsWholeNumber (column row 0)))
     → MatchResult r (λ m. m ≡ n) (λ fault. IsReadable v → IsCaused old new fault)
 whole_read old new v row (Ok m) n is read unread = number_same m n (sym read ∙ ap (λ x. column x 0) is)
 whole_read old new v row (Err e) n is read unread = λ readable. caused_unread old new e (n, ap (λ x. column x 0) is) unread
@@ -100,7 +100,7 @@ standing_readable v n s readable is =
     let from = mapped_some _ (submission_at n v.submits) s is in
     (subst (λ (x : Standing). IsReadableSubmission x.submitted) from.2 (readable_at v n from.0 readable from.1), subst (λ (x : Standing). IsReadableState x.state) from.2 (readable.states n))
 
-pub standing_written : (v : Views) (n : ℕ) (row : Row) → IsReadable v → Some row ≡ option_map standing_row (standing_in v n) → IsStandingRow row
+pub standing_written : (v : Views) (n : ℕ) (row : Row) → IsReadable v → Some row ≡ option_map standing_row (standing_in v n) → ReadsAsStanding row
 standing_written v n row readable first =
     let it = some_row standing_row (standing_in v n) row first in
     let good = standing_readable v n it.0 readable it.1 in

@@ -22,9 +22,9 @@ use Rattle.pid_moderation.specs.Views.{Views, Submitted, Remark, submission_at, 
 use Rattle.pid_tables_rows.specs.PairRows.{Map}
 use Rattle.pid_tables_rows.specs.declared.version.Version.{Version}
 use Rattle.pid_tables_rows.specs.declared.version.Version.TheVariants.{One, Two}
-use Rattle.pid_tables_rows.specs.Schema.{number_of}
+use Rattle.pid_tables_rows.specs.Schema.{version_number}
 use Rattle.pid_moderation.specs.Submissions.{Standing, decider_of, standing_in}
-use Rattle.pid_tables_rows.specs.Shows.{Counts, labels_of, more_labels, counted_from_one, remark_in, receipt_in, since_in, numbers_of}
+use Rattle.pid_tables_rows.specs.Shows.{Counts, labels_of, more_labels, counted_from_one, remark_in, receipt_in, since_in, numbers_in}
 use Rattle.pid_tables_rows.specs.Writes.{with_name, without_item, with_submission, with_state, with_remark, with_reply}
 use Rattle.pid_tables_rows.specs.Steps.Writes.{with_number, NamesDecider}
 use Rattle.pid_tables_rows.proofs.MapLemmas.{Sets}
@@ -92,14 +92,14 @@ labels_past k false false false one i j s t more f g = refl
 pub items_set : (version : Version) (c : Counts) (revision n : ℕ) → Sets (labels_of version c revision) (codes "items") (Some n) (labels_of version (record c { items = n }) revision)
 items_set version c revision n = record {
   at = refl;
-  past = λ k other. labels_past k (bytes_eq k (codes "items")) (bytes_eq k (codes "submissions")) (bytes_eq k (codes "schema")) (Some (number_of version)) (Some n) (Some c.items) (Some c.submissions) (Some c.submissions) (more_labels version revision k)
+  past = λ k other. labels_past k (bytes_eq k (codes "items")) (bytes_eq k (codes "submissions")) (bytes_eq k (codes "schema")) (Some (version_number version)) (Some n) (Some c.items) (Some c.submissions) (Some c.submissions) (more_labels version revision k)
       (λ same. absurd (other ((bytes_eq-Decides k (codes "items")).0 same))) (λ _. refl);
 }
 
 pub submissions_set : (version : Version) (c : Counts) (revision n : ℕ) → Sets (labels_of version c revision) (codes "submissions") (Some n) (labels_of version (record c { submissions = n }) revision)
 submissions_set version c revision n = record {
   at = refl;
-  past = λ k other. labels_past k (bytes_eq k (codes "items")) (bytes_eq k (codes "submissions")) (bytes_eq k (codes "schema")) (Some (number_of version)) (Some c.items) (Some c.items) (Some n) (Some c.submissions) (more_labels version revision k)
+  past = λ k other. labels_past k (bytes_eq k (codes "items")) (bytes_eq k (codes "submissions")) (bytes_eq k (codes "schema")) (Some (version_number version)) (Some c.items) (Some c.items) (Some n) (Some c.submissions) (more_labels version revision k)
       (λ _. refl) (λ same. absurd (other ((bytes_eq-Decides k (codes "submissions")).0 same)));
 }
 
@@ -151,7 +151,7 @@ named_as_before None n since = refl
 named_as_before (Some name) n since = ap (λ b. Some (cond (not b) n since)) ((bytes_eq-Decides name name).1 refl)
 
 -- the number of the path that is named anew, and of no other
-pub since_named : (n : ℕ) (path name : List ℕ) (v : Views) → is_named_anew (name_at path v.items) (Some name) ≡ true → (k : List ℕ) → (with_number path n (numbers_of v)).since k ≡ since_in (with_name n path name v) k
+pub since_named : (n : ℕ) (path name : List ℕ) (v : Views) → is_named_anew (name_at path v.items) (Some name) ≡ true → (k : List ℕ) → (with_number path n (numbers_in v)).since k ≡ since_in (with_name n path name v) k
 since_named n path name v anew k = elim (cases_Bool (bytes_eq k path)) [
   | inl same ↦
       let is : k ≡ path = (bytes_eq-Decides k path).0 same in

@@ -21,18 +21,18 @@ use Rattle.pid_file.specs.declared.path.Path.TheVariants.{Vendor, Device, Subsys
 use Rattle.pid_tables_rows.specs.declared.fault.TableFault.{TableFault}
 use Rattle.pid_tables_rows.specs.declared.fault.TableFault.TheVariants.{Memory, Store, NewerSchema, Damaged}
 use Rattle.pid_tables_rows.specs.Causes.{IsCaused}
-use Rattle.pid_tables_rows.specs.Faults.{fault_of}
-use Rattle.pid_tables_rows.specs.Unread.{IsUnread}
+use Rattle.pid_tables_rows.specs.Faults.{fault_of_sql}
+use Rattle.pid_tables_rows.specs.Unread.{IsUnreadable}
 use Rattle.pid_tables_rows.specs.Steps.Unread.{IsWord}
 
 -- what is written as it should be is read
-pub caused_unread : {Written : Type 0} (old new : State) (e : TableFault) → Written → IsUnread Written e → IsCaused old new e
+pub caused_unread : {Written : Type 0} (old new : State) (e : TableFault) → Written → IsUnreadable Written e → IsCaused old new e
 caused_unread old new Memory good h = tt
 caused_unread old new Store good h = absurd h
 caused_unread old new (NewerSchema n) good h = absurd h
 caused_unread old new Damaged good h = absurd (h good)
 
-pub unread_more : {Less More : Type 0} (e : TableFault) → (Less → More) → IsUnread More e → IsUnread Less e
+pub unread_more : {Less More : Type 0} (e : TableFault) → (Less → More) → IsUnreadable More e → IsUnreadable Less e
 unread_more Memory f h = tt
 unread_more Store f h = h
 unread_more (NewerSchema n) f h = h
@@ -46,16 +46,16 @@ there (v ∷ row) zero t e = omega arith
 there (v ∷ row) (suc at) t e = let low = there row at t e in omega (arith, low)
 
 pub unread_text : (row : Row) (at : ℕ) (e : Error) → IsReadError at (column row at) e
-    → (e ≢ SqliteFailure OutOfMemory → at < length row → ((t : List ℕ) × (column row at ≡ Text t) × IsUtf8 t) → ⊥) → IsUnread (IsWord is_utf8 (column row at)) (fault_of e)
+    → (e ≢ SqliteFailure OutOfMemory → at < length row → ((t : List ℕ) × (column row at ≡ Text t) × IsUtf8 t) → ⊥) → IsUnreadable (IsWord is_utf8 (column row at)) (fault_of_sql e)
 unread_text row at e named kind = go named
   where
     bad : e ≢ SqliteFailure OutOfMemory → IsWord is_utf8 (column row at) → ⊥
     bad ample good = kind ample (there row at good.0 good.2) (good.0, good.2, IsUtf8-from_is_utf8 good.0 good.1)
 
-    from : (f : Error) → e ≡ f → IsUnread (IsWord is_utf8 (column row at)) (fault_of f) → IsUnread (IsWord is_utf8 (column row at)) (fault_of e)
-    from f same h = subst (λ x. IsUnread (IsWord is_utf8 (column row at)) (fault_of x)) (sym same) h
+    from : (f : Error) → e ≡ f → IsUnreadable (IsWord is_utf8 (column row at)) (fault_of_sql f) → IsUnreadable (IsWord is_utf8 (column row at)) (fault_of_sql e)
+    from f same h = subst (λ x. IsUnreadable (IsWord is_utf8 (column row at)) (fault_of_sql x)) (sym same) h
 
-    go : IsReadError at (column row at) e → IsUnread (IsWord is_utf8 (column row at)) (fault_of e)
+    go : IsReadError at (column row at) e → IsUnreadable (IsWord is_utf8 (column row at)) (fault_of_sql e)
     go (inl same) = from _ same (bad (λ other. let no : ⊥ = cc in no))
     go (inr (inl same)) = from _ same (bad (λ other. let no : ⊥ = cc in no))
     go (inr (inr (inl same))) = from _ same (bad (λ other. let no : ⊥ = cc in no))

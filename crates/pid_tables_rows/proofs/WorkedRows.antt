@@ -12,7 +12,7 @@ use Rattle.pid_moderation.specs.Items.{name_at}
 use Rattle.pid_moderation.specs.Views.{Views}
 use Rattle.pid_tables_rows.specs.declared.version.Version.TheVariants.{One, Two}
 use Rattle.pid_tables_rows.specs.Schema.{schema_of, item_since, to_item}
-use Rattle.pid_tables_rows.specs.Shows.{ShowsNumbers, labels_of, counts_of, numbers_of, since_in}
+use Rattle.pid_tables_rows.specs.Shows.{ShowsNumbers, labels_of, counts_of, numbers_in, since_in}
 use Rattle.pid_tables_rows.specs.Steps.Shows.{meta_of}
 use Rattle.pid_tables_rows.specs.TableRows.{since_row}
 use Rattle.pid_tables_rows.specs.Writes.{with_name, with_revision, without_item}
@@ -90,15 +90,15 @@ numbers_of_removed : map (since_in (without_item bridge views)) (intel ∷ bridg
 numbers_of_removed = refl
 
 -- schema 1 does not show what was counted
-one_counts_nothing : (db : Trees) → ShowsNumbers One (numbers_of views) db → ⊥
+one_counts_nothing : (db : Trees) → ShowsNumbers One (numbers_in views) db → ⊥
 one_counts_nothing db shows = let bad = shows.0 in cc
 
 -- nor a change of an item, even where nothing else was counted
-one_numbers_nothing : (db : Trees) → ShowsNumbers One (numbers_of (with_revision 0 views)) db → ⊥
+one_numbers_nothing : (db : Trees) → ShowsNumbers One (numbers_in (with_revision 0 views)) db → ⊥
 one_numbers_nothing db shows = let bad = shows.1 intel 3 refl in cc
 
 -- what stands before the mark has the number 0, and that it shows
-one_shows_old : (db : Trees) → ShowsNumbers One (numbers_of (record views { revision = 0; since = λ path. 0 })) db
+one_shows_old : (db : Trees) → ShowsNumbers One (numbers_in (record views { revision = 0; since = λ path. 0 })) db
 one_shows_old db = (refl, λ path since is. old (name_at path views.items) since is)
   where
     old : (o : Option (List ℕ)) (since : ℕ) → option_map (λ (name : List ℕ). 0) o ≡ Some since → since ≡ 0

@@ -36,48 +36,48 @@ use Rattle.sqlite_schema.specs.declared.schema.Constraint.TheVariants.{ForeignKe
 use Rattle.sqlite_schema.specs.declared.schema.Keys.{Keys}
 use Rattle.sqlite_schema.specs.declared.schema.Schema.{Schema}
 use Rattle.pid_tables_rows.specs.declared.fault.TableFault.{TableFault}
-use Rattle.pid_tables_rows.specs.Faults.{fault_of, IsMemoryOrStore}
+use Rattle.pid_tables_rows.specs.Faults.{fault_of_sql, IsMemoryOrStore}
 use Rattle.pid_tables_rows.specs.Queries.{IsWrite, IsWriteAs}
 use Rattle.pid_tables_rows.proofs.FaultLemmas.{failed, of_store, moved, not_run}
 use Rattle.pid_tables_rows.proofs.Statements.{IsInsert, IsUpdate, IsDelete}
 use Rattle.sqlite.specs.Term.{Term}
 
 -- a part that stops where the whole refuses has refused so
-stopped : {A : Type 0} (e : Error) (P : Option Error → Type 0) (stop : Option Error) → ((x : Error) → P (Some x) → IsMemoryOrStore (fault_of x)) → P stop → ◌≡◌ {A = Result A (Option Error)} (Err (Some e)) (Err stop) → IsMemoryOrStore (fault_of e)
+stopped : {A : Type 0} (e : Error) (P : Option Error → Type 0) (stop : Option Error) → ((x : Error) → P (Some x) → IsMemoryOrStore (fault_of_sql x)) → P stop → ◌≡◌ {A = Result A (Option Error)} (Err (Some e)) (Err stop) → IsMemoryOrStore (fault_of_sql e)
 stopped e P stop told h same = let is : stop ≡ Some e = cc in told e (subst P is h)
 
 no_value : {A : Type 0} {Q : Type 0} (stop : Option Error) (a : A) → ◌≡◌ {A = Result A (Option Error)} (Err stop) (Ok a) → Q
 no_value stop a h = absurd (let bad : ⊥ = cc in bad)
 
-refused : {A : Type 0} (e f : Error) → ◌≡◌ {A = Result A (Option Error)} (Err (Some e)) (Err (Some f)) → IsMemoryOrStore (fault_of f) → IsMemoryOrStore (fault_of e)
+refused : {A : Type 0} (e f : Error) → ◌≡◌ {A = Result A (Option Error)} (Err (Some e)) (Err (Some f)) → IsMemoryOrStore (fault_of_sql f) → IsMemoryOrStore (fault_of_sql e)
 refused e f h untold = let same : e ≡ f = cc in moved e f same untold
 
 either : {P Q U : Type 0} (b : Bool) → (P → U) → (Q → U) → MatchBool b P Q → U
 either true p q h = p h
 either false p q h = q h
 
-query_told : (limit : Option ℕ) (db : Database) (q : Program) (params : Row) (e : Error) → RefusesQuery limit db q params e → IsMemoryOrStore (fault_of e)
+query_told : (limit : Option ℕ) (db : Database) (q : Program) (params : Row) (e : Error) → RefusesQuery limit db q params e → IsMemoryOrStore (fault_of_sql e)
 query_told limit db q params e (inl h) = moved e _ h.0 (failed code.TypeMismatch)
 query_told limit db q params e (inr (inl h)) = moved e _ h.0 (failed code.IntegerOverflow)
 query_told limit db q params e (inr (inr h)) = moved e _ h.0 (failed code.OperationInterrupted)
 
-source_told : (limit : Option ℕ) (db : Database) (params : Row) (from : Source) (e : Error) → RefusesSource limit db params from e → IsMemoryOrStore (fault_of e)
+source_told : (limit : Option ℕ) (db : Database) (params : Row) (from : Source) (e : Error) → RefusesSource limit db params from e → IsMemoryOrStore (fault_of_sql e)
 source_told limit db params (Values terms width) e (inl h) = moved e _ h.0 (failed code.TypeMismatch)
 source_told limit db params (Values terms width) e (inr h) = moved e _ h.0 (failed code.OperationInterrupted)
 source_told limit db params (Query q) e h = query_told limit db q params e h
 
-refusal_told : (r : Refusal) → IsMemoryOrStore (fault_of (edit_error r))
+refusal_told : (r : Refusal) → IsMemoryOrStore (fault_of_sql (edit_error r))
 refusal_told (Violates rule) = failed (code.ConstraintViolation rule)
 refusal_told Mismatch = failed code.TypeMismatch
 refusal_told BadReference = failed code.ForeignKeyMismatch
 refusal_told NoRowid = failed code.NoRowid
 refusal_told TooDeep = failed code.TooDeep
 
-why_told : (why : Option Refusal) (e : Error) → Some e ≡ option_map edit_error why → IsMemoryOrStore (fault_of e)
+why_told : (why : Option Refusal) (e : Error) → Some e ≡ option_map edit_error why → IsMemoryOrStore (fault_of_sql e)
 why_told None e same = absurd (let bad : ⊥ = cc in bad)
 why_told (Some r) e same = let is : e ≡ edit_error r = cc in moved e _ is (refusal_told r)
 
-edit_told : (schema : Schema) (keys : Keys) (db : Trees) (edit : Edit) (e : Error) → Edited schema keys db edit (Err (Some e)) → IsMemoryOrStore (fault_of e)
+edit_told : (schema : Schema) (keys : Keys) (db : Trees) (edit : Edit) (e : Error) → Edited schema keys db edit (Err (Some e)) → IsMemoryOrStore (fault_of_sql e)
 edit_told schema keys db edit e h = why_told h.0 e h.2
 
 module _ (task : Task) where
@@ -86,24 +86,24 @@ module _ (task : Task) where
   at : Trees → Database
   at db = record { schema = task.schema; trees = db }
 
-  counter_in_told : (db : Trees) (o : Option Table) (e : Error) → CounterIn task db o (Err (Some e)) → IsMemoryOrStore (fault_of e)
+  counter_in_told : (db : Trees) (o : Option Table) (e : Error) → CounterIn task db o (Err (Some e)) → IsMemoryOrStore (fault_of_sql e)
   counter_in_told db None e h = refused e InvalidQuery h tt
   counter_in_told db (Some counters) e h = no_value _ _ h
 
-  counter_told : (db : Trees) (e : Error) → Counter task db (Err (Some e)) → IsMemoryOrStore (fault_of e)
+  counter_told : (db : Trees) (e : Error) → Counter task db (Err (Some e)) → IsMemoryOrStore (fault_of_sql e)
   counter_told db e h = either table.is_counted (counter_in_told db (sequence schema) e) (λ k. no_value _ _ k) h
 
-  counts_in_told : (db : Trees) (counter : Option Row) (top : ℤ) (o : Option Table) (e : Error) → CountsIn task db counter top o (Err (Some e)) → IsMemoryOrStore (fault_of e)
+  counts_in_told : (db : Trees) (counter : Option Row) (top : ℤ) (o : Option Table) (e : Error) → CountsIn task db counter top o (Err (Some e)) → IsMemoryOrStore (fault_of_sql e)
   counts_in_told db counter top None e h = refused e InvalidQuery h tt
   counts_in_told db counter top (Some counters) e h = edit_told _ _ _ _ e h
 
-  counts_told : (db : Trees) (counter : Option Row) (top : ℤ) (e : Error) → Counts task db counter top (Err (Some e)) → IsMemoryOrStore (fault_of e)
+  counts_told : (db : Trees) (counter : Option Row) (top : ℤ) (e : Error) → Counts task db counter top (Err (Some e)) → IsMemoryOrStore (fault_of_sql e)
   counts_told db counter top e h = either (if table.is_counted then is_lt (int_cmp (count_of counter) top) else false) (counts_in_told db counter top (sequence schema) e) (unchanged db e) h
     where
-      unchanged : (db : Trees) (e : Error) → Gives db (Err (Some e)) → IsMemoryOrStore (fault_of e)
+      unchanged : (db : Trees) (e : Error) → Gives db (Err (Some e)) → IsMemoryOrStore (fault_of_sql e)
       unchanged db e k = no_value _ _ k
 
-  inserts_told : (from : Source) (db : Trees) (e : Error) → Inserts task from db (Err (Some e)) → IsMemoryOrStore (fault_of e)
+  inserts_told : (from : Source) (db : Trees) (e : Error) → Inserts task from db (Err (Some e)) → IsMemoryOrStore (fault_of_sql e)
   unfolding at
   inserts_told from db e (inl h) = stopped e (λ s. Sourced limit (at db) (stamped table params) from (Err s)) h.0 (source_told limit (at db) (stamped table params) from) h.1 h.2
   inserts_told from db e (inr (rows, given, inl h)) = stopped e (λ s. Counter task db (Err s)) h.0 (counter_told db) h.1 h.2
@@ -115,7 +115,7 @@ module _ (task : Task) where
       stopped e (λ s. Counts task mid counter top (Err s)) h.0 (counts_told mid counter top) h.1 h.2
   inserts_told from db e (inr (rows, given, inr (counter, counted, inr (mid, made, inr (next, noted, h))))) = no_value _ _ h
 
-  updates_told : (q : Program) (given : Row) (db : Trees) (e : Error) → Updates task q given db (Err (Some e)) → IsMemoryOrStore (fault_of e)
+  updates_told : (q : Program) (given : Row) (db : Trees) (e : Error) → Updates task q given db (Err (Some e)) → IsMemoryOrStore (fault_of_sql e)
   unfolding at
   updates_told q given db e (inl h) = stopped e (λ s. Queried limit (at db) q given (Err s)) h.0 (query_told limit (at db) q given) h.1 h.2
   updates_told q given db e (inr (rows, found, inl h)) =
@@ -123,7 +123,7 @@ module _ (task : Task) where
       stopped e (λ s. Edited schema keys db edit (Err s)) h.0 (edit_told schema keys db edit) h.1 h.2
   updates_told q given db e (inr (rows, found, inr (next, made, h))) = no_value _ _ h
 
-  deletes_told : (q : Program) (db : Trees) (e : Error) → Deletes task q db (Err (Some e)) → IsMemoryOrStore (fault_of e)
+  deletes_told : (q : Program) (db : Trees) (e : Error) → Deletes task q db (Err (Some e)) → IsMemoryOrStore (fault_of_sql e)
   unfolding at
   deletes_told q db e (inl h) = stopped e (λ s. Queried limit (at db) q params (Err s)) h.0 (query_told limit (at db) q params) h.1 h.2
   deletes_told q db e (inr (rows, found, inl h)) =
@@ -131,7 +131,7 @@ module _ (task : Task) where
       stopped e (λ s. Edited schema keys db edit (Err s)) h.0 (edit_told schema keys db edit) h.1 h.2
   deletes_told q db e (inr (rows, found, inr (next, made, h))) = no_value _ _ h
 
-  concludes_told : (mode : Mode) (w : Written) (e : Error) → Concludes task mode None w (Err (Some e)) → IsMemoryOrStore (fault_of e)
+  concludes_told : (mode : Mode) (w : Written) (e : Error) → Concludes task mode None w (Err (Some e)) → IsMemoryOrStore (fault_of_sql e)
   concludes_told mode w e (inl h) =
       let broken = SqliteFailure (code.ConstraintViolation ForeignKey) in
       let is : h.0 ≡ Some e = (let same = h.2 in cc) in
@@ -140,17 +140,17 @@ module _ (task : Task) where
   concludes_told mode w e (inr (doubt, tested, inl h)) = no_value _ _ h.1
   concludes_told mode w e (inr (doubt, tested, inr (rows, none, h))) = no_value _ _ h
 
-  rows_told : (mode : Mode) (P : Outcome Written → Type 0) → ((e : Error) → P (Err (Some e)) → IsMemoryOrStore (fault_of e)) → (e : Error) → Then P (Concludes task mode None) (Err (Some e)) → IsMemoryOrStore (fault_of e)
+  rows_told : (mode : Mode) (P : Outcome Written → Type 0) → ((e : Error) → P (Err (Some e)) → IsMemoryOrStore (fault_of_sql e)) → (e : Error) → Then P (Concludes task mode None) (Err (Some e)) → IsMemoryOrStore (fault_of_sql e)
   rows_told mode P told e (inl h) = stopped e (λ s. P (Err s)) h.0 told h.1 h.2
   rows_told mode P told e (inr h) = concludes_told mode h.0 e h.2
 
-at_place : (P : Table → Outcome (Tally × Database) → Type 0) (o : Option Table) (e : Error) → ((t : Table) → P t (Err (Some e)) → IsMemoryOrStore (fault_of e)) → AtPlace P o (Err (Some e)) → IsMemoryOrStore (fault_of e)
+at_place : (P : Table → Outcome (Tally × Database) → Type 0) (o : Option Table) (e : Error) → ((t : Table) → P t (Err (Some e)) → IsMemoryOrStore (fault_of_sql e)) → AtPlace P o (Err (Some e)) → IsMemoryOrStore (fault_of_sql e)
 at_place P None e told h = refused e InvalidQuery h tt
 at_place P (Some t) e told h = told t h
 
 -- ---- a table that is made
 
-made_told : (text : List ℕ) (db : Database) (e : Error) → (table : Table) × (table_defined_by text ≡ Ok table) → MakesTable text db (Err (Some e)) → IsMemoryOrStore (fault_of e)
+made_told : (text : List ℕ) (db : Database) (e : Error) → (table : Table) × (table_defined_by text ≡ Ok table) → MakesTable text db (Err (Some e)) → IsMemoryOrStore (fault_of_sql e)
 made_told text db e defined (inl h) = moved e _ h.1 (failed code.BadName)
 made_told text db e defined (inr (why.Invalid x, refuses, is)) = absurd (let both = sym defined.1 ∙ refuses in let bad : ⊥ = cc in bad)
 made_told text db e defined (inr (why.NameTaken, refuses, is)) = moved e _ is (failed code.NameTaken)
@@ -164,22 +164,22 @@ sequence_defined : (table : Table) × (table_defined_by sequence_text ≡ Ok tab
 unfolding everything
 sequence_defined = (_, refl)
 
-sequence_told : (db : Database) (e : Error) → MakesSequence db (Err (Some e)) → IsMemoryOrStore (fault_of e)
+sequence_told : (db : Database) (e : Error) → MakesSequence db (Err (Some e)) → IsMemoryOrStore (fault_of_sql e)
 sequence_told db e h = either (lacks_sequence db.schema) (made_told sequence_text db e sequence_defined) (λ k. no_value _ _ k) h
 
 module _ (limit : Option ℕ) (mode : Mode) (params : Row) (db : Database) (text : List ℕ) where
   abbrev job : Table → Task
   job table = record { limit = limit; keys = mode.keys; schema = db.schema; table = table; params = params }
 
-  both_told : (table : Table) × (table_defined_by text ≡ Ok table) → (e : Error) → Then (MakesTable text db) MakesSequence (Err (Some e)) → IsMemoryOrStore (fault_of e)
+  both_told : (table : Table) × (table_defined_by text ≡ Ok table) → (e : Error) → Then (MakesTable text db) MakesSequence (Err (Some e)) → IsMemoryOrStore (fault_of_sql e)
   both_told defined e (inl h) = stopped e (λ s. MakesTable text db (Err s)) h.0 (λ x. made_told text db x defined) h.1 h.2
   both_told defined e (inr h) = sequence_told h.0 e h.2
 
-  creates_told : (table : Table) × (table_defined_by text ≡ Ok table) → (e : Error) → Defines mode (Then (MakesTable text db) MakesSequence) (Err (Some e)) → IsMemoryOrStore (fault_of e)
+  creates_told : (table : Table) × (table_defined_by text ≡ Ok table) → (e : Error) → Defines mode (Then (MakesTable text db) MakesSequence) (Err (Some e)) → IsMemoryOrStore (fault_of_sql e)
   creates_told defined e (inl h) = stopped e (λ s. Then (MakesTable text db) MakesSequence (Err s)) h.0 (both_told defined) h.1 h.2
   creates_told defined e (inr h) = no_value _ _ h.2
 
-  does_told : (command : Command) → IsWrite text command → (e : Error) → Does limit mode params db text None command (Err (Some e)) → IsMemoryOrStore (fault_of e)
+  does_told : (command : Command) → IsWrite text command → (e : Error) → Does limit mode params db text None command (Err (Some e)) → IsMemoryOrStore (fault_of_sql e)
   does_told (Insert at from) w e h =
       at_place (λ t. OnRows (job t) mode None (Insert at from) db.trees) (slice_get db.schema.tables at) e (λ t. rows_told (job t) mode (Inserts (job t) from db.trees) (inserts_told (job t) from db.trees) e) h
   does_told (Update at q) w e h =
@@ -201,7 +201,7 @@ module _ (schema : Schema) (sql : List ℕ) (params : Row) (old new : State) (ha
   known : IsTrue old.is_open → IsWriteAs sql (understood old.now.schema sql)
   known opened = subst (λ x. IsWriteAs sql (understood x sql)) (sym (has opened)) write
 
-  ran : (c : Compiled) (given : Row) → understood old.now.schema sql ≡ Ok c → RunsCommand old new sql c given (Err e) → IsMemoryOrStore (fault_of e)
+  ran : (c : Compiled) (given : Row) → understood old.now.schema sql ≡ Ok c → RunsCommand old new sql c given (Err e) → IsMemoryOrStore (fault_of_sql e)
   ran c given is (inl (inl (inl misplaced), same)) = moved e _ misplaced.0 (failed code.TransactionState)
   ran c given is (inl (inl (inr unnamed), same)) = moved e _ unnamed.0 (failed code.NoSuchSavepoint)
   ran c given is (inl (inr refused, same)) =
@@ -209,7 +209,7 @@ module _ (schema : Schema) (sql : List ℕ) (params : Row) (old new : State) (ha
       does_told old.step_limit (mode_of old) given old.now (text_of sql c) c.command it.1 e (subst (λ r. Does old.step_limit (mode_of old) given old.now (text_of sql c) r c.command (Err (Some e))) it.0 refused.1)
   ran c given is (inr fails) = moved e _ fails.1 (of_store fails.0)
 
-  runs : ExecutesIn false sql params old new (Err e) → IsMemoryOrStore (fault_of e)
+  runs : ExecutesIn false sql params old new (Err e) → IsMemoryOrStore (fault_of_sql e)
   unfolding ExecutesIn
   runs (inl h) = not_run sql params old new e (λ opened fault is. never_bad sql _ fault (known opened) is) h
   runs (inr h) = elim (cases_Bool (shows_rows false h.0)) [
@@ -217,7 +217,7 @@ module _ (schema : Schema) (sql : List ℕ) (params : Row) (old new : State) (ha
     | inr writes ↦ ran h.0 (timed params h.0.formats h.1.now) h.1.is (rw writes at h.2)
   ]
 
-  pub write_untold : ExecutesInside 0 sql params old new (Err e) → IsMemoryOrStore (fault_of e)
+  pub write_untold : ExecutesInside 0 sql params old new (Err e) → IsMemoryOrStore (fault_of_sql e)
   write_untold (inl h) = runs h.0
   write_untold (inr h) = moved e _ h.1 (failed code.TransactionState)
 

@@ -17,11 +17,11 @@ use Rattle.pid_moderation.specs.Views.{Views, Submitted, Remark, submission_at, 
 use Rattle.pid_tables_rows.specs.declared.version.Version.{Version}
 use Rattle.pid_tables_rows.specs.declared.version.Version.TheVariants.{Two}
 use Rattle.pid_tables_rows.specs.Schema.{schema_of, meta, account, item, submission, remark, receipt, item_since}
-use Rattle.pid_tables_rows.specs.TableRows.{number, meta_row, account_row, item_row, submission_row, remark_row, receipt_row, since_row, form_of, name_of, state_number, kind_of, first_of, second_of, third_of}
+use Rattle.pid_tables_rows.specs.TableRows.{number, meta_row, account_row, item_row, submission_row, remark_row, receipt_row, since_row, form_of, name_of, state_number, reply_kind, first_number, second_number, third_number}
 use Rattle.pid_moderation.specs.Submissions.{decider_of, reason_of, standing_in}
-use Rattle.pid_tables_rows.specs.Shows.{Counts, Numbers, ShowsKeeping, ShowsCounting, labels_of, remark_in, receipt_in, since_in, numbers_of}
+use Rattle.pid_tables_rows.specs.Shows.{Counts, Numbers, ShowsKeeping, ShowsCounting, labels_of, remark_in, receipt_in, since_in, numbers_in}
 use Rattle.pid_tables_rows.specs.Writes.{with_rank, with_name, with_revision, without_item, with_submission, with_state, with_remark, with_reply}
-use Rattle.pid_tables_rows.specs.Steps.Writes.{with_item, with_number, NamesDecider}
+use Rattle.pid_tables_rows.specs.Steps.Writes.{with_item_named, with_number, NamesDecider}
 use Rattle.pid_tables_rows.proofs.WriteLemmas.{cast_null, cast_int}
 use Rattle.pid_tables_rows.proofs.RanLemmas.{updates_alone}
 use Rattle.pid_tables_rows.proofs.MapLemmas.{map_added, map_changed}
@@ -65,7 +65,7 @@ module _ {version : Version} {numbers : Numbers} (old new : State) (c : Counts) 
 
   -- ---- items
 
-  pub item_added : (path name : List ℕ) → name_at path v.items ≡ None → Ran insert_item (Text path ∷ Text name ∷ []) old new → ShowsKeeping version c numbers new.now (with_item path name v)
+  pub item_added : (path name : List ℕ) → name_at path v.items ≡ None → Ran insert_item (Text path ∷ Text name ∷ []) old new → ShowsKeeping version c numbers new.now (with_item_named path name v)
   item_added path name none ran =
       wrote_item old new c v shows _ (put_sorted path name v.items shows.views.sorted)
       (map_added item_row by_first _ item_found (λ p. name_at p v.items) path (schema_of version) item 2 refl item_plain old new shows.schema shows.items insert_item pair_terms 3 (insert_item_is version)
@@ -73,7 +73,7 @@ module _ {version : Version} {numbers : Numbers} (old new : State) (c : Counts) 
       (λ rs. (next_rowid rs, ap (λ r. numbered Chosen rs (r ∷ [])) (item_cast Null path name ∙ ap (λ w. w ∷ Text path ∷ Text name ∷ []) cast_null)))
       _ (name_put v.items path name) ran.0 none ran.1)
 
-  pub item_renamed : (path name : List ℕ) → IsSome (name_at path v.items) → Ran update_item (Text path ∷ Text name ∷ []) old new → ShowsKeeping version c numbers new.now (with_item path name v)
+  pub item_renamed : (path name : List ℕ) → IsSome (name_at path v.items) → Ran update_item (Text path ∷ Text name ∷ []) old new → ShowsKeeping version c numbers new.now (with_item_named path name v)
   item_renamed path name some ran =
       let was = some_there (name_at path v.items) some in
       wrote_item old new c v shows _ (put_sorted path name v.items shows.views.sorted)
@@ -145,14 +145,14 @@ module _ {version : Version} {numbers : Numbers} (old new : State) (c : Counts) 
       _ (remark_set v n r place last) ran.0 (past_all (v.remarks n) place last) ran.1)
 
   pub reply_kept : (who token : List ℕ) (reply : Reply) → v.kept who token ≡ None
-      → Ran insert_receipt (Text who ∷ Text token ∷ number (kind_of reply) ∷ number (first_of reply) ∷ number (second_of reply) ∷ number (third_of reply) ∷ []) old new
+      → Ran insert_receipt (Text who ∷ Text token ∷ number (reply_kind reply) ∷ number (first_number reply) ∷ number (second_number reply) ∷ number (third_number reply) ∷ []) old new
       → ShowsKeeping version c numbers new.now (with_reply who token reply v)
   reply_kept who token reply none ran =
-      let rest = number (kind_of reply) ∷ number (first_of reply) ∷ number (second_of reply) ∷ number (third_of reply) ∷ [] in
+      let rest = number (reply_kind reply) ∷ number (first_number reply) ∷ number (second_number reply) ∷ number (third_number reply) ∷ [] in
       wrote_receipt old new c v shows _
       (map_added receipt_row by_both _ receipt_found (receipt_in v) (who, token) (schema_of version) receipt 5 refl receipt_plain old new shows.schema shows.receipts insert_receipt receipt_terms 7 (insert_receipt_is version)
       rest (Null ∷ Text who ∷ Text token ∷ rest) refl reply
-      (λ rs. (next_rowid rs, ap (λ x. numbered Chosen rs (x ∷ [])) (receipt_cast Null who token (kind_of reply) (first_of reply) (second_of reply) (third_of reply) ∙ ap (λ w. w ∷ Text who ∷ Text token ∷ rest) cast_null)))
+      (λ rs. (next_rowid rs, ap (λ x. numbered Chosen rs (x ∷ [])) (receipt_cast Null who token (reply_kind reply) (first_number reply) (second_number reply) (third_number reply) ∙ ap (λ w. w ∷ Text who ∷ Text token ∷ rest) cast_null)))
       _ (reply_set v who token reply) ran.0 none ran.1)
 
 -- ---- what schema 2 has beside
@@ -200,7 +200,7 @@ item_removed old new c v shows path ran =
     }
 
 -- an item that is named anew has its number
-pub named_shows : (c : Counts) (n : ℕ) (path name : List ℕ) (v : Views) (db : Database) → is_named_anew (name_at path v.items) (Some name) ≡ true → ShowsKeeping Two c (with_number path n (numbers_of v)) db (with_item path name v)
+pub named_shows : (c : Counts) (n : ℕ) (path name : List ℕ) (v : Views) (db : Database) → is_named_anew (name_at path v.items) (Some name) ≡ true → ShowsKeeping Two c (with_number path n (numbers_in v)) db (with_item_named path name v)
     → ShowsCounting c db (with_name n path name v)
 named_shows c n path name v db anew h = record {
   schema = h.schema;

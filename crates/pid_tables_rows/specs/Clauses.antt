@@ -1,18 +1,24 @@
 -- What clauses say of a connection before and after a call. Each word is that of Leaves, Causes or
 -- sqlite's State, said of what the connections show; `store` is `S.Store`, which says what their
 -- store means.
-use Rattle.std.specs.Prelude.{ℕ, Bool, List, Result}
+use Rattle.std.specs.Prelude.{◌≡◌, ℕ, Bool, List, Result, Ok, Err, OnOk, IfErr, IsTrue}
 use Rattle.sqlite.specs.Tree.{Trees}
 use Rattle.sqlite.specs.Effect.{Database}
+use Rattle.sqlite.specs.Given.{IsPlain}
 use Rattle.sqlite.specs.Held.{Held, state}
+use Rattle.sqlite.specs.Listing.{understood}
 use Rattle.sqlite.specs.Order.{Row}
+use Rattle.sqlite.specs.Schema.{Schema}
 use Rattle.sqlite.specs.declared.error.Error.{Error}
 use Rattle.sqlite.specs.State as states
 use Rattle.sqlite_trees.specs.declared.store.Store.{Ghosts}
 use Rattle.pid_moderation.specs.Views.{Views}
 use Rattle.pid_tables_rows.specs.declared.fault.TableFault.{TableFault}
 use Rattle.pid_tables_rows.specs.Causes as causes
+use Rattle.pid_tables_rows.specs.Faults.{fault_of_sql, IsMemoryOrStore}
 use Rattle.pid_tables_rows.specs.Leaves as leaves
+use Rattle.pid_tables_rows.specs.Leaves.{Turn}
+use Rattle.pid_tables_rows.specs.Queries.{IsQuery, IsWriteAs}
 use Rattle.pid_tables_rows.specs.Shows.{Counts}
 use Rattle.pid_tables_rows.specs.declared.version.Version.{Version}
 
@@ -35,8 +41,8 @@ module _ {S : Type 0} (store : Ghosts S) where
   abbrev pub RestsIn : Version → Held S → Views → Type 0
   RestsIn version conn v = leaves.RestsIn version (state store conn) v
 
-  abbrev pub Holds : Held S → Views → Type 0
-  Holds conn v = leaves.Holds (state store conn) v
+  abbrev pub KeepsCommitted : Held S → Views → Type 0
+  KeepsCommitted conn v = leaves.KeepsCommitted (state store conn) v
 
   abbrev pub Within : Held S → Counts → Views → Views → Type 0
   Within conn c held now = leaves.Within c (state store conn) held now
@@ -67,6 +73,32 @@ module _ {S : Type 0} (store : Ghosts S) where
   abbrev pub IsCaused : Held S → Held S → TableFault → Type 0
   IsCaused old new fault = causes.IsCaused (state store old) (state store new) fault
 
+  -- A statement that writes, with these parameters, inside a transaction.
+  pub record RunsWrite {X : Type 0} (sql : List ℕ) (params : Row) (old new : Held S)
+      (result : Result X TableFault) : Type 0 where
+    -- where it answers a value, it was carried out
+    pub ran : HasCleanDisk new → IsTrue old.in_transaction
+        → OnOk result ((count : ℕ) × Executes sql params old new (Ok count))
+    -- a text that writes in the schema is not damage
+    pub untold : HasCleanDisk new → (schema : Schema)
+        → (IsTrue (is_open old) → (seen old).schema ≡ schema)
+        → IsWriteAs sql (understood schema sql) → IfErr result IsMemoryOrStore
+    -- a fault is that of the database
+    pub refused : HasCleanDisk new → IsTrue old.in_transaction
+        → IfErr result (λ fault. (e : Error) × (fault ≡ fault_of_sql e)
+        × ExecutesInside 0 sql params old new (Err e))
+
+  -- Why a query with these parameters, inside a transaction, is answered with a fault.
+  pub record FaultsQuery {X : Type 0} (sql : List ℕ) (params : Row) (old new : Held S)
+      (result : Result X TableFault) : Type 0 where
+    -- a text that is understood in the schema is not damage
+    pub untold : HasCleanDisk new → (schema : Schema) → (seen old).schema ≡ schema
+        → IsPlain (understood schema sql) → IfErr result IsMemoryOrStore
+    -- a query on its tables faults for a cause
+    pub caused : HasCleanDisk new → (schema : Schema)
+        → (IsTrue (is_open old) → (seen old).schema ≡ schema)
+        → IsQuery schema sql params → IfErr result (IsCaused old new)
+
   abbrev pub OnlyReads : Held S → Held S → Type 0
   OnlyReads old new = leaves.OnlyReads (state store old) (state store new)
 
@@ -83,15 +115,17 @@ module _ {S : Type 0} (store : Ghosts S) where
   abbrev pub GoesOn : {X E : Type 0} → Held S → Held S → Result X E → Type 0
   GoesOn old new result = leaves.GoesOn (state store old) (state store new) result
 
-  abbrev pub LeadsTo : {X : Type 0} → Held S → Held S → Result X TableFault → (Views → Type 0)
-      → (Counts → Counts) → (Views → Views) → Type 0
-  LeadsTo old new result IsFor recount next = leaves.LeadsTo (state store old)
-      (state store new) result (λ c v. IsFor v) recount next
+  abbrev pub LeadsTo : {X : Type 0} → Held S → Held S → Result X TableFault → Turn → Type 0
+  LeadsTo old new result turn = leaves.LeadsTo (state store old) (state store new) result turn
 
   -- the same, where the counts stay as they are
   abbrev pub ChangesTo : {X : Type 0} → Held S → Held S → Result X TableFault → (Views → Type 0)
       → (Views → Views) → Type 0
-  ChangesTo old new result IsFor next = LeadsTo old new result IsFor (λ c. c) next
+  ChangesTo old new result IsFor next = LeadsTo old new result (record {
+    IsFor = λ c v. IsFor v;
+    recount = λ c. c;
+    next = next;
+  })
 
   abbrev pub Moves : {X : Type 0} → Held S → Held S → Result X TableFault → Type 0
   Moves old new result = leaves.Moves (state store old) (state store new) result

@@ -1,4 +1,5 @@
 -- What a fault of the database is told as: a choice of this project.
+use Rattle.std.specs.Prelude.{ℕ}
 use Rattle.sqlite.specs.declared.error.Error.{Error}
 use Rattle.sqlite.specs.declared.error.Error.TheVariants.{SqliteFailure, SqlInputError}
 use Rattle.sqlite.specs.declared.error.Error.TheVariants.{InvalidColumnIndex, InvalidColumnType}
@@ -10,17 +11,24 @@ use Rattle.pid_file.specs.declared.word_fault.WordFault.TheVariants as words
 use Rattle.pid_tables_rows.specs.declared.fault.TableFault.{TableFault}
 use Rattle.pid_tables_rows.specs.declared.fault.TableFault.TheVariants.{Memory, Store, NewerSchema, Damaged}
 
+-- the number of a fault: a choice of this project
+abbrev pub table_fault_number : TableFault → ℕ
+table_fault_number Memory = 1
+table_fault_number Store = 2
+table_fault_number (NewerSchema n) = 3
+table_fault_number Damaged = 4
+
 -- Memory was short; or the tables or their values are not those of the schema; else the store
 -- failed or refused.
-abbrev pub fault_of : Error → TableFault
-fault_of (SqliteFailure OutOfMemory) = Memory
-fault_of (SqlInputError compile.OutOfMemory) = Memory
-fault_of (SqlInputError e) = Damaged
-fault_of (InvalidColumnIndex at) = Damaged
-fault_of (InvalidColumnType at kind) = Damaged
-fault_of (IntegralValueOutOfRange at) = Damaged
-fault_of (Utf8Error at) = Damaged
-fault_of e = Store
+abbrev pub fault_of_sql : Error → TableFault
+fault_of_sql (SqliteFailure OutOfMemory) = Memory
+fault_of_sql (SqlInputError compile.OutOfMemory) = Memory
+fault_of_sql (SqlInputError e) = Damaged
+fault_of_sql (InvalidColumnIndex at) = Damaged
+fault_of_sql (InvalidColumnType at kind) = Damaged
+fault_of_sql (IntegralValueOutOfRange at) = Damaged
+fault_of_sql (Utf8Error at) = Damaged
+fault_of_sql e = Store
 
 -- a word in a row that breaks its rule is damage
 abbrev pub fault_of_word : WordFault → TableFault

@@ -8,11 +8,11 @@
 --        ▲     begin       │       writes      │       commit
 --        │                 │ a call fails      │ the commit fails
 --        │ roll_back       ▼                   ▼
---        └─────────────  Holds v           LeavesEither v w
+--        └────────── KeepsCommitted v      LeavesEither v w
 --                        failed
 --
 -- A crash at rest leaves v (at the end w), so does one in a transaction (each of the three is a
--- `Holds v`), and one after a failed commit the one or the other. `Written` says more than
+-- `KeepsCommitted v`), and one after a failed commit the one or the other. `Written` says more than
 -- `Within`: the connection is open. A read goes from at rest to at rest (`OnlyReads`), a call in a
 -- transaction stays in it (`GoesOn`) and leads on to the next views (`LeadsTo`). A connection that
 -- a fault has shut shows nothing, but what a crash leaves is as good as it was.
@@ -31,7 +31,7 @@ use Rattle.pid_tables_rows.specs.Causes.{IsCaused, IsReadable}
 use Rattle.pid_tables_rows.specs.declared.version.Version.{Version}
 use Rattle.pid_tables_rows.specs.declared.version.Version.TheVariants.{One}
 use Rattle.pid_tables_rows.specs.Schema.{schema_of, pid_schema}
-use Rattle.pid_tables_rows.specs.Shows.{Counts, ShowsKeeping, ShowsIn, ShowsCounting, Shows, numbers_of}
+use Rattle.pid_tables_rows.specs.Shows.{Counts, ShowsKeeping, ShowsIn, ShowsCounting, Shows, numbers_in}
 
 -- trees as an open finds them, with the schema that they list
 abbrev pub found_in : Schema → Trees → Database
@@ -42,7 +42,7 @@ abbrev pub as_found : Trees → Database
 as_found = found_in pid_schema
 
 -- everything that a crash may leave shows the views
-pub record Leaves (s : State) (v : Views) : Type 0 where
+pub record LeavesViews (s : State) (v : Views) : Type 0 where
   pub each : HasCleanDisk s → (db : Trees) → s.may_leave db → Shows (as_found db) v
 
 -- everything that a crash may leave shows the one or the other
@@ -72,19 +72,19 @@ pub record AtRest (s : State) (v : Views) : Type 0 where
   pub settled : s.in_transaction ≡ false
   pub same : IsTrue s.is_open → s.now ≡ s.committed
   pub shows : IsTrue s.is_open → Shows s.now v
-  pub leaves : Leaves s v
+  pub leaves : LeavesViews s v
 
 -- whatever a transaction does, what was committed before it shows the views, and so does each thing
 -- that a crash may leave
-pub record Holds (s : State) (v : Views) : Type 0 where
+pub record KeepsCommitted (s : State) (v : Views) : Type 0 where
   pub committed : IsTrue s.is_open → Shows s.committed v
-  pub leaves : Leaves s v
+  pub leaves : LeavesViews s v
 
 -- a transaction is under way that holds the first views and shows the second, where meta has these
 -- counts
 pub record Within (c : Counts) (s : State) (held now : Views) : Type 0 where
   pub inside : HasCleanDisk s → IsTrue s.in_transaction
-  pub holds : Holds s held
+  pub holds : KeepsCommitted s held
   pub shows : IsTrue s.is_open → ShowsCounting c s.now now
 
 -- the same, once a statement was carried out: no fault has shut the connection
@@ -102,15 +102,25 @@ pub record GoesOn {X E : Type 0} (old new : State) (result : Result X E) : Type 
   pub going : HasCleanDisk new → IsTrue old.in_transaction
       → OnOk result (IsTrue new.is_open × IsTrue new.in_transaction)
 
--- Where the transaction shows views that the call is for, it answers a value only with the
--- transaction showing the next ones, and a fault only for want of memory, or where the store failed
+-- What a call in a transaction changes: the counts of meta and the views that it is for, and what
+-- it makes of each.
+pub record Turn : Type 1 where
+  pub IsFor : Counts → Views → Type 0
+  pub recount : Counts → Counts
+  pub next : Views → Views
+
+-- the counts alone are changed
+abbrev pub recounting : (Counts → Counts) → Turn
+recounting recount = record { IsFor = λ c v. Unit {0}; recount = recount; next = λ v. v }
+
+-- Where the transaction shows what the turn is for, the call answers a value only with the
+-- transaction showing what comes next, and a fault only where memory was short or the store failed
 -- or refused.
-abbrev pub LeadsTo : {X : Type 0} → State → State → Result X TableFault → (Counts → Views → Type 0)
-    → (Counts → Counts) → (Views → Views) → Type 0
-LeadsTo old new result IsFor recount next =
+abbrev pub LeadsTo : {X : Type 0} → State → State → Result X TableFault → Turn → Type 0
+LeadsTo old new result turn =
     HasCleanDisk new → IsTrue old.in_transaction → (c : Counts) (v : Views)
-    → ShowsCounting c old.now v → IsFor c v
-    → MatchResult result (λ _. ShowsCounting (recount c) new.now (next v)) IsMemoryOrStore
+    → ShowsCounting c old.now v → turn.IsFor c v
+    → MatchResult result (λ _. ShowsCounting (turn.recount c) new.now (turn.next v)) IsMemoryOrStore
 
 -- Where the transaction, while it is open, shows views in schema 1, it answers a value only with it
 -- showing the same in schema 2, and a fault only for want of memory, or where the store failed or
@@ -118,7 +128,7 @@ LeadsTo old new result IsFor recount next =
 abbrev pub Moves : {X : Type 0} → State → State → Result X TableFault → Type 0
 Moves old new result =
     HasCleanDisk new → IsTrue old.in_transaction → (c : Counts) (v : Views)
-    → (IsTrue old.is_open → ShowsKeeping One c (numbers_of v) old.now v)
+    → (IsTrue old.is_open → ShowsKeeping One c (numbers_in v) old.now v)
     → MatchResult result (λ _. ShowsCounting c new.now v) IsMemoryOrStore
 
 -- while it is open, the connection sees this database, and it is committed

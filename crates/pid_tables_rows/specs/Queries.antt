@@ -16,10 +16,10 @@ use Rattle.sqlite_sql.specs.Program.{ProgramOverflows}
 use Rattle.sqlite_typing.specs.Types.{accepts_program}
 
 -- a query whose types accept the parameters, and whose sums never overflow
-abbrev pub Asks : Schema → Row → Command → Type 0
-Asks schema params (Select q names) = (accepts_program schema (lets_of q) q.body params ≡ true)
+abbrev pub IsSafeSelect : Schema → Row → Command → Type 0
+IsSafeSelect schema params (Select q names) = (accepts_program schema (lets_of q) q.body params ≡ true)
     × ((db : Trees) → ProgramOverflows db params [] (lets_of q) q.body → ⊥)
-Asks schema params _ = ⊥
+IsSafeSelect schema params _ = ⊥
 
 -- one statement alone, with as many parameters as are given, without RETURNING, that does not read
 -- the time
@@ -30,7 +30,7 @@ pub record IsOneStatement (sql : List ℕ) (params : Row) (c : Compiled) : Type 
   pub timeless : c.formats ≡ []
 
 abbrev pub IsQueryAs : Schema → List ℕ → Row → Result Compiled CompileError → Type 0
-IsQueryAs schema sql params (Ok c) = IsOneStatement sql params c × Asks schema params c.command
+IsQueryAs schema sql params (Ok c) = IsOneStatement sql params c × IsSafeSelect schema params c.command
 IsQueryAs schema sql params (Err e) = ⊥
 
 -- the text is one query on the tables, and nothing about it is refused

@@ -16,7 +16,7 @@ use Rattle.pid_moderation.specs.Submissions.{standing_in}
 use Rattle.pid_moderation.specs.Views.{Views, Submitted, Remark, submission_at}
 use Rattle.pid_tables_rows.specs.declared.version.Version.{Version}
 use Rattle.pid_tables_rows.specs.declared.version.Version.TheVariants.{One, Two}
-use Rattle.pid_tables_rows.specs.Schema.{schema_of, number_of}
+use Rattle.pid_tables_rows.specs.Schema.{schema_of, version_number}
 use Rattle.pid_tables_rows.specs.Schema as tables
 use Rattle.pid_tables_rows.specs.PairRows.{Map, RowsAre}
 use Rattle.pid_tables_rows.specs.TableRows.{meta_row, account_row, item_row, submission_row}
@@ -40,7 +40,7 @@ more_labels Two revision label = if bytes_eq label (codes "revision") then Some 
 -- the labels of a schema: its number and the counts, and in schema 2 the revision
 abbrev pub labels_of : Version → Counts → ℕ → Map (List ℕ) ℕ
 labels_of version counts revision label =
-    if bytes_eq label (codes "schema") then Some (number_of version)
+    if bytes_eq label (codes "schema") then Some (version_number version)
     else if bytes_eq label (codes "items") then Some counts.items
     else if bytes_eq label (codes "submissions") then Some counts.submissions
     else more_labels version revision label
@@ -96,16 +96,16 @@ abbrev pub since_in : Views → Map (List ℕ) ℕ
 since_in v path = option_map (λ name. v.since path) (name_at path v.items)
 
 -- the numbers that the views have
-abbrev pub numbers_of : Views → Numbers
-numbers_of v = record { revision = v.revision; since = since_in v }
+abbrev pub numbers_in : Views → Numbers
+numbers_in v = record { revision = v.revision; since = since_in v }
 
 -- tables of a schema show the views
 abbrev pub ShowsIn : Version → Database → Views → Type 0
-ShowsIn version db v = ShowsKeeping version (counts_of v) (numbers_of v) db v
+ShowsIn version db v = ShowsKeeping version (counts_of v) (numbers_in v) db v
 
 -- tables of schema 2 show the views, but that meta has these counts
 abbrev pub ShowsCounting : Counts → Database → Views → Type 0
-ShowsCounting counts db v = ShowsKeeping Two counts (numbers_of v) db v
+ShowsCounting counts db v = ShowsKeeping Two counts (numbers_in v) db v
 
 -- tables of schema 2, which this program makes, show the views
 abbrev pub Shows : Database → Views → Type 0

@@ -63,31 +63,31 @@ remark_row id at remark = Int id ∷ number at.0 ∷ number at.1 ∷ Text remark
     ∷ []
 
 -- 0 done, 1 a number, 2 counts
-abbrev pub kind_of : Reply → ℕ
-kind_of Done = 0
-kind_of (Numbered n) = 1
-kind_of (Counts added renamed same) = 2
+abbrev pub reply_kind : Reply → ℕ
+reply_kind Done = 0
+reply_kind (Numbered n) = 1
+reply_kind (Counts added renamed same) = 2
 
 -- the numbers of a reply, 0 where it has none
-abbrev pub first_of : Reply → ℕ
-first_of Done = 0
-first_of (Numbered n) = n
-first_of (Counts added renamed same) = added
+abbrev pub first_number : Reply → ℕ
+first_number Done = 0
+first_number (Numbered n) = n
+first_number (Counts added renamed same) = added
 
-abbrev pub second_of : Reply → ℕ
-second_of Done = 0
-second_of (Numbered n) = 0
-second_of (Counts added renamed same) = renamed
+abbrev pub second_number : Reply → ℕ
+second_number Done = 0
+second_number (Numbered n) = 0
+second_number (Counts added renamed same) = renamed
 
-abbrev pub third_of : Reply → ℕ
-third_of Done = 0
-third_of (Numbered n) = 0
-third_of (Counts added renamed same) = same
+abbrev pub third_number : Reply → ℕ
+third_number Done = 0
+third_number (Numbered n) = 0
+third_number (Counts added renamed same) = same
 
 -- receipt: an account and its key, with the reply
 abbrev pub receipt_row : ℤ → List ℕ × List ℕ → Reply → Row
-receipt_row id at reply = Int id ∷ Text at.0 ∷ Text at.1 ∷ number (kind_of reply)
-    ∷ number (first_of reply) ∷ number (second_of reply) ∷ number (third_of reply) ∷ []
+receipt_row id at reply = Int id ∷ Text at.0 ∷ Text at.1 ∷ number (reply_kind reply)
+    ∷ number (first_number reply) ∷ number (second_number reply) ∷ number (third_number reply) ∷ []
 
 -- item_since: the text of a path, and the number of the last change of its name
 abbrev pub since_row : ℤ → List ℕ → ℕ → Row

@@ -1,7 +1,7 @@
 //! Faults of the tables.
 ghost use Rattle.std.specs.Prelude.{◌≡◌};
 ghost use Rattle.pid_tables_rows.specs.declared.fault.TableFault.TheVariants as variants;
-ghost use Rattle.pid_tables_rows.specs.Faults.{fault_of, fault_of_word};
+ghost use Rattle.pid_tables_rows.specs.Faults.{fault_of_sql, fault_of_word};
 
 use pid_ident::WordFault;
 use sqlite::{Error as SqlError, ErrorCode};
@@ -30,6 +30,23 @@ pub enum TableFault {
     Damaged,
 }
 
+impl TableFault {
+    ghost use Rattle.std.specs.Prelude.{◌≡◌};
+    ghost use Rattle.pid_tables_rows.specs.Faults.{table_fault_number};
+
+    /// 1 to 4, in the order above.
+    pub fn number(self) -> u8
+        ensures { result ≡ table_fault_number self }
+    {
+        match self {
+            TableFault::Memory => 1,
+            TableFault::Store => 2,
+            TableFault::NewerSchema(_) => 3,
+            TableFault::Damaged => 4,
+        }
+    }
+}
+
 impl From<AllocError> for TableFault {
     ghost from_gives = { λ _ fault. fault ≡ variants.Memory };
 
@@ -39,7 +56,7 @@ impl From<AllocError> for TableFault {
 }
 
 impl From<SqlError> for TableFault {
-    ghost from_gives = { λ e fault. fault ≡ fault_of e };
+    ghost from_gives = { λ e fault. fault ≡ fault_of_sql e };
 
     fn from(error: SqlError) -> TableFault {
         match error {

@@ -1,12 +1,10 @@
 //! The tables of items: paths and their names, and the numbers of the last changes of these.
 ghost use Rattle.std.specs.Prelude.{
   ◌≡◌,
-  ◌⊎◌,
   ◌||◌,
   ◌++◌,
   [],
   ◌∷◌,
-  true,
   false,
   None,
   IfOk,
@@ -14,7 +12,6 @@ ghost use Rattle.std.specs.Prelude.{
   IsSome,
   option_map,
   slice_get,
-  codes,
 };
 ghost use Rattle.pid_moderation.specs.Items.{
   name_at as item_at,
@@ -24,14 +21,14 @@ ghost use Rattle.pid_moderation.specs.Items.{
 ghost use Rattle.sqlite.specs.Order.{column};
 ghost use Rattle.sqlite.specs.declared.types.Value.TheVariants.{Text as TextValue};
 ghost use Rattle.pid_tables_rows.specs.Steps.Answers.{name_row};
-ghost use Rattle.pid_tables_rows.specs.Steps.Ranges.{holds_between};
-ghost use Rattle.pid_ident.specs.Identifiers.{hex4 as hex4_text};
+ghost use Rattle.pid_tables_rows.specs.Steps.Ranges.{generics_from, holds_between, holds_under};
+ghost use Rattle.pid_tables_rows.specs.Steps.Answers.{IsFirstWithin};
 ghost use Rattle.pid_ident.specs.PathTexts.{path_text};
 ghost use Rattle.pid_moderation.specs.WellMade.{AllItems, HoldsParents};
 ghost use Rattle.pid_tables_rows.specs.Shows.{AreViews};
-ghost use Rattle.pid_tables_rows.specs.Unread.{IsUnread, IsItemRow};
+ghost use Rattle.pid_tables_rows.specs.Unread.{IsUnreadable, ReadsAsItem};
 ghost use Rattle.pid_tables_rows.specs.Writes.{with_name, without_item};
-ghost use Rattle.pid_tables_rows.specs.Steps.Writes.{with_item, with_number};
+ghost use Rattle.pid_tables_rows.specs.Steps.Writes.{with_item_named, with_number};
 ghost use Rattle.pid_tables_rows.specs.Clauses.{ChangesTo, GoesOn, Reads};
 ghost use Rattle.pid_tables_rows.specs.Steps.Clauses.{LeadsKeeping};
 
@@ -52,7 +49,11 @@ fn insert_item<S: Alter>(
     ensures same_reference { tx.new.conn.ghost_name ≡ tx.old.conn.ghost_name }
     ensures goes { GoesOn S.Store tx.old.conn.now tx.new.conn.now result }
     ensures shows { LeadsKeeping S.Store tx.old.conn.now tx.new.conn.now result
-        (λ n v. item_at path.now v.items ≡ None) (λ n. n) (with_item path.now name.now) }
+        (record {
+          IsFor = λ n v. item_at path.now v.items ≡ None;
+          renumber = λ n. n;
+          next = with_item_named path.now name.now;
+        }) }
 {
     let path = path.to_sql();
     let name = name.to_sql();
@@ -71,7 +72,11 @@ fn insert_since<S: Alter>(
     ensures same_reference { tx.new.conn.ghost_name ≡ tx.old.conn.ghost_name }
     ensures goes { GoesOn S.Store tx.old.conn.now tx.new.conn.now result }
     ensures shows { LeadsKeeping S.Store tx.old.conn.now tx.new.conn.now result
-        (λ n v. n.since path.now ≡ None) (with_number path.now since) (λ v. v) }
+        (record {
+          IsFor = λ n v. n.since path.now ≡ None;
+          renumber = with_number path.now since;
+          next = λ v. v;
+        }) }
 {
     let path = path.to_sql();
     let since = stored(since)?;
@@ -109,7 +114,11 @@ fn update_item<S: Alter>(
     ensures same_reference { tx.new.conn.ghost_name ≡ tx.old.conn.ghost_name }
     ensures goes { GoesOn S.Store tx.old.conn.now tx.new.conn.now result }
     ensures shows { LeadsKeeping S.Store tx.old.conn.now tx.new.conn.now result
-        (λ n v. IsSome (item_at path.now v.items)) (λ n. n) (with_item path.now name.now) }
+        (record {
+          IsFor = λ n v. IsSome (item_at path.now v.items);
+          renumber = λ n. n;
+          next = with_item_named path.now name.now;
+        }) }
 {
     let path = path.to_sql();
     let name = name.to_sql();
@@ -128,7 +137,11 @@ fn update_since<S: Alter>(
     ensures same_reference { tx.new.conn.ghost_name ≡ tx.old.conn.ghost_name }
     ensures goes { GoesOn S.Store tx.old.conn.now tx.new.conn.now result }
     ensures shows { LeadsKeeping S.Store tx.old.conn.now tx.new.conn.now result
-        (λ n v. IsSome (n.since path.now)) (with_number path.now since) (λ v. v) }
+        (record {
+          IsFor = λ n v. IsSome (n.since path.now);
+          renumber = with_number path.now since;
+          next = λ v. v;
+        }) }
 {
     let path = path.to_sql();
     let since = stored(since)?;
@@ -196,14 +209,51 @@ pub fn item_name<S: Alter>(
     }
 }
 
+/// A range of paths: those above the one text and below the other, neither of them included.
+#[derive(Drop)]
+pub struct Range {
+    pub low: Vec<u8>,
+    pub high: Vec<u8>,
+}
+
+// The two parts and a last byte, joined.
+fn edge(alloc: Global, front: &[u8], rest: &[u8], last: u8) -> Result<Vec<u8>, AllocError>
+    ensures { IfOk result (λ edge. edge.items ≡ (front.now ++ rest.now) ++ last ∷ []) }
+{
+    let mut edge = Vec::from_slice(alloc, front)?;
+    edge.extend_from_slice(rest)?;
+    edge.push(last)?;
+    Ok(edge)
+}
+
+/// The paths that go on after the text of the two parts and a slash. Those below `PC/8086` are
+/// between `PC/8086/` and `PC/80860`.
+pub fn range_below(alloc: Global, front: &[u8], rest: &[u8]) -> Result<Range, AllocError>
+    ensures low { IfOk result (λ range. range.low.items ≡ (front.now ++ rest.now) ++ 47 ∷ []) }
+    ensures high { IfOk result (λ range. range.high.items ≡ (front.now ++ rest.now) ++ 48 ∷ []) }
+{
+    let low = edge(alloc, front, rest, b'/')?;
+    let high = edge(alloc, front, rest, b'0')?;
+    Ok(Range { low, high })
+}
+
+/// The paths of the generic subsystems of a vendor.
+pub fn range_of_generics(alloc: Global, vendor: Id16) -> Result<Range, AllocError>
+    ensures low { IfOk result (λ range. range.low.items ≡ generics_from vendor ++ 47 ∷ []) }
+    ensures high { IfOk result (λ range. range.high.items ≡ generics_from vendor ++ 48 ∷ []) }
+{
+    let digits = hex4(vendor);
+    range_below(alloc, b"PS/", digits.as_slice())
+}
+
 fn range_rows<S: Alter>(
     conn: &mut Connection<S>,
     low: &[u8],
     high: &[u8],
 ) -> Result<Vec<Row>, TableFault>
     requires { conn.old.in_transaction ≡ false }
-    ensures { Reads S.Store conn.old conn.new result (λ v rows. AreViews v × (
-        ((rows.items ≡ []) × (holds_between low.now high.now v.items ≡ false)) ⊎ ((row : _) × (rows.items ≡ row ∷ []) × (holds_between low.now high.now v.items ≡ true)))) }
+    ensures { Reads S.Store conn.old conn.new result
+        (λ v rows. AreViews v × IsFirstWithin low.now high.now v.items rows.items) }
 {
     let low = ValueRef::Text(low);
     let high = ValueRef::Text(high);
@@ -214,48 +264,30 @@ fn range_rows<S: Alter>(
     )
 }
 
-fn any_between<S: Alter>(
-    conn: &mut Connection<S>,
-    low: &[u8],
-    high: &[u8],
-) -> Result<bool, TableFault>
+fn any_within<S: Alter>(conn: &mut Connection<S>, range: &Range) -> Result<bool, TableFault>
     requires { conn.old.in_transaction ≡ false }
-    ensures { Reads S.Store conn.old conn.new result
-        (λ v some. AreViews v × (some ≡ holds_between low.now high.now v.items)) }
+    ensures { Reads S.Store conn.old conn.new result (λ v some. AreViews v
+        × (some ≡ holds_between range.now.low.items range.now.high.items v.items)) }
 {
-    let rows = range_rows(conn, low, high)?;
+    let rows = range_rows(conn, range.low.as_slice(), range.high.as_slice())?;
     match rows.first() {
         Some(_) => Ok(true),
         None => Ok(false),
     }
 }
 
-/// The two parts and a last byte, joined: an end of a range of paths. Behind `PC/8086` they lie
-/// between `PC/8086/` and `PC/80860`.
-pub fn edge(alloc: Global, front: &[u8], rest: &[u8], last: u8) -> Result<Vec<u8>, AllocError>
-    ensures { IfOk result (λ edge. edge.items ≡ (front.now ++ rest.now) ++ last ∷ []) }
-{
-    let mut edge = Vec::from_slice(alloc, front)?;
-    edge.extend_from_slice(rest)?;
-    edge.push(last)?;
-    Ok(edge)
-}
-
-// Whether an item's path goes on behind the text of the two parts and a slash.
+// Whether an item's path goes on after the text and a slash.
 fn any_below<S: Alter>(
     conn: &mut Connection<S>,
     alloc: Global,
-    front: &[u8],
-    rest: &[u8],
+    text: &str,
 ) -> Result<bool, TableFault>
     requires { conn.old.in_transaction ≡ false }
     ensures { Reads S.Store conn.old conn.new result
-        (λ v some. AreViews v × (some ≡ holds_between ((front.now ++ rest.now) ++ 47 ∷ [])
-        ((front.now ++ rest.now) ++ 48 ∷ []) v.items)) }
+        (λ v some. AreViews v × (some ≡ holds_under text.now v.items)) }
 {
-    let low = edge(alloc, front, rest, b'/')?;
-    let high = edge(alloc, front, rest, b'0')?;
-    any_between(conn, low.as_slice(), high.as_slice())
+    let range = range_below(alloc, b"", text.as_bytes())?;
+    any_within(conn, &range)
 }
 
 // Whether some item is a generic subsystem of the vendor.
@@ -265,12 +297,11 @@ fn any_generic<S: Alter>(
     vendor: Id16,
 ) -> Result<bool, TableFault>
     requires { conn.old.in_transaction ≡ false }
-    ensures { Reads S.Store conn.old conn.new result (λ v some. AreViews v
-        × (some ≡ holds_between ((codes "PS/" ++ hex4_text vendor) ++ 47 ∷ [])
-        ((codes "PS/" ++ hex4_text vendor) ++ 48 ∷ []) v.items)) }
+    ensures { Reads S.Store conn.old conn.new result
+        (λ v some. AreViews v × (some ≡ holds_under (generics_from vendor) v.items)) }
 {
-    let digits = hex4(vendor);
-    any_below(conn, alloc, b"PS/", digits.as_slice())
+    let range = range_of_generics(alloc, vendor)?;
+    any_within(conn, &range)
 }
 
 fn either(one: bool, other: bool) -> bool
@@ -291,7 +322,7 @@ pub fn has_children<S: Alter>(
         → some ≡ are_children (path_text path) v.items) }
 {
     let text = path.path_text(alloc)?;
-    let below = any_below(conn, alloc, b"", text.as_bytes())?;
+    let below = any_below(conn, alloc, text.as_str())?;
     match path {
         Path::Vendor { vendor } => {
             let generic = any_generic(conn, alloc, vendor)?;
@@ -307,7 +338,7 @@ pub fn has_children<S: Alter>(
 pub fn item_of(row: &Row, alloc: Global) -> Result<Item, TableFault>
     ensures path { IfOk result (λ item. column row.now 0 ≡ TextValue (path_text item.path)) }
     ensures name { IfOk result (λ item. column row.now 1 ≡ TextValue item.name) }
-    ensures unread { IfErr result (IsUnread (IsItemRow row.now)) }
+    ensures unread { IfErr result (IsUnreadable (ReadsAsItem row.now)) }
 {
     let path = path_at(row, 0)?;
     let name = name_at(row, alloc, 1)?;

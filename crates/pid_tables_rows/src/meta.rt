@@ -6,6 +6,7 @@ ghost use Rattle.std.specs.Prelude.{
   IsSome,
   IfOk,
   IfErr,
+  MatchResult,
   Ok,
   codes,
   length,
@@ -29,6 +30,7 @@ ghost use Rattle.pid_tables_rows.specs.LabelRows.{
 ghost use Rattle.pid_tables_rows.specs.declared.version.Version.TheVariants.{One};
 ghost use Rattle.pid_tables_rows.specs.Shows.{Counts, labels_of, counts_of};
 ghost use Rattle.pid_tables_rows.specs.Steps.Shows.{meta_of};
+ghost use Rattle.pid_tables_rows.specs.Leaves.{recounting};
 ghost use Rattle.pid_tables_rows.specs.Writes.{with_revision};
 ghost use Rattle.pid_tables_rows.specs.Clauses.{
   ChangesTo,
@@ -51,8 +53,8 @@ use sqlite::{Alter, Connection, Row, Transaction};
 pub fn count_items<S: Alter>(tx: &mut Transaction<'_, S>, count: u32) -> Result<(), TableFault>
     ensures same_reference { tx.new.conn.ghost_name ≡ tx.old.conn.ghost_name }
     ensures goes { GoesOn S.Store tx.old.conn.now tx.new.conn.now result }
-    ensures shows { LeadsTo S.Store tx.old.conn.now tx.new.conn.now result (λ v. Unit {0})
-        (λ c. record c { items = count }) (λ v. v) }
+    ensures shows { LeadsTo S.Store tx.old.conn.now tx.new.conn.now result
+        (recounting (λ c. record c { items = count })) }
 {
     let label = "items".to_sql();
     let value = count.to_sql();
@@ -70,8 +72,8 @@ pub fn count_submissions<S: Alter>(
 ) -> Result<(), TableFault>
     ensures same_reference { tx.new.conn.ghost_name ≡ tx.old.conn.ghost_name }
     ensures goes { GoesOn S.Store tx.old.conn.now tx.new.conn.now result }
-    ensures shows { LeadsTo S.Store tx.old.conn.now tx.new.conn.now result (λ v. Unit {0})
-        (λ c. record c { submissions = count }) (λ v. v) }
+    ensures shows { LeadsTo S.Store tx.old.conn.now tx.new.conn.now result
+        (recounting (λ c. record c { submissions = count })) }
 {
     let label = "submissions".to_sql();
     let value = count.to_sql();
@@ -188,14 +190,12 @@ pub fn schema_number<S: Alter>(conn: &mut Connection<S>) -> Result<u32, TableFau
     // Whatever the schema: it is what the query of the label answers first, and `Damaged` where
     // that is no number.
     ensures shown { HasCleanDisk S.Store conn.new
-        → IfOk result (ShowsNumber (seen S.Store conn.old) (codes "schema")) }
-    ensures refused { HasCleanDisk S.Store conn.new
-        → IfErr result (IsDamageOf (ShowsNoNumber (seen S.Store conn.old) (codes "schema"))) }
+        → MatchResult result (ShowsNumber (seen S.Store conn.old) (codes "schema"))
+        (IsDamageOf (ShowsNoNumber (seen S.Store conn.old) (codes "schema"))) }
     // The same by what storage has, where the table was made first, whatever stands behind it.
-    ensures labelled { HasCleanDisk S.Store conn.new → IsMetaFirst (seen S.Store conn.old).schema
-        → IfOk result (HasLabel (seen S.Store conn.old).trees (codes "schema")) }
-    ensures lacking { HasCleanDisk S.Store conn.new → IsMetaFirst (seen S.Store conn.old).schema
-        → IfErr result (ExplainsNumber (seen S.Store conn.old).trees (codes "schema")) }
+    ensures stored { HasCleanDisk S.Store conn.new → IsMetaFirst (seen S.Store conn.old).schema
+        → MatchResult result (HasLabel (seen S.Store conn.old).trees (codes "schema"))
+        (ExplainsNumber (seen S.Store conn.old).trees (codes "schema")) }
     ensures never { IfErr result IsNotNewerSchema }
 {
     count(conn, "schema")

@@ -4,7 +4,7 @@ ghost use Rattle.pid_moderation.specs.Views.{Views};
 ghost use Rattle.pid_tables_rows.specs.declared.version.Version.TheVariants.{One};
 ghost use Rattle.pid_tables_rows.specs.Faults.{IsMemoryOrStore, IsNotNewerSchema};
 ghost use Rattle.pid_tables_rows.specs.Steps.Moving.{IsBetween};
-ghost use Rattle.pid_tables_rows.specs.Shows.{Counts, ShowsKeeping, ShowsCounting, numbers_of};
+ghost use Rattle.pid_tables_rows.specs.Shows.{Counts, ShowsKeeping, ShowsCounting, numbers_in};
 ghost use Rattle.pid_tables_rows.specs.Clauses.{GoesOn, HasCleanDisk, Moves, is_open, seen};
 
 use crate::fault::TableFault;
@@ -19,12 +19,13 @@ fn add_table<S: Alter>(tx: &mut Transaction<'_, S>) -> Result<(), TableFault>
     ensures never { IfErr result IsNotNewerSchema }
     ensures added { HasCleanDisk S.Store tx.new.conn.now → IsTrue tx.old.conn.now.in_transaction
         → (c : Counts) (v : Views) → (IsTrue (is_open S.Store tx.old.conn.now)
-        → ShowsKeeping One c (numbers_of v) (seen S.Store tx.old.conn.now) v)
+        → ShowsKeeping One c (numbers_in v) (seen S.Store tx.old.conn.now) v)
         → MatchResult result (λ _. IsBetween c (seen S.Store tx.new.conn.now) v) IsMemoryOrStore }
 {
     write_one(
         tx,
-        "CREATE TABLE item_since (path TEXT NOT NULL PRIMARY KEY REFERENCES item(path) ON DELETE CASCADE, since INTEGER NOT NULL) STRICT",
+        "CREATE TABLE item_since (path TEXT NOT NULL PRIMARY KEY REFERENCES item(path) ON DELETE \
+            CASCADE, since INTEGER NOT NULL) STRICT",
         &[],
     )?;
     write_one(

@@ -1,6 +1,11 @@
 //! The table of receipts: replies kept under accounts and keys.
 ghost use Rattle.std.specs.Prelude.{◌≡◌, false, None, option_map, slice_get};
-ghost use Rattle.pid_tables_rows.specs.TableRows.{kind_of, first_of, second_of, third_of};
+ghost use Rattle.pid_tables_rows.specs.TableRows.{
+  first_number,
+  reply_kind,
+  second_number,
+  third_number,
+};
 ghost use Rattle.pid_tables_rows.specs.Steps.Answers.{reply_row};
 ghost use Rattle.pid_tables_rows.specs.Writes.{with_reply};
 ghost use Rattle.pid_tables_rows.specs.Clauses.{ChangesTo, GoesOn, Reads};
@@ -14,7 +19,7 @@ use sqlite::types::ToSql;
 use sqlite::{Alter, Connection, Row, Transaction};
 
 fn kind(reply: Reply) -> u32
-    ensures { result ≡ kind_of reply }
+    ensures { result ≡ reply_kind reply }
 {
     match reply {
         Reply::Done => 0,
@@ -24,7 +29,7 @@ fn kind(reply: Reply) -> u32
 }
 
 fn first(reply: Reply) -> u32
-    ensures { result ≡ first_of reply }
+    ensures { result ≡ first_number reply }
 {
     match reply {
         Reply::Done => 0,
@@ -34,7 +39,7 @@ fn first(reply: Reply) -> u32
 }
 
 fn second(reply: Reply) -> u32
-    ensures { result ≡ second_of reply }
+    ensures { result ≡ second_number reply }
 {
     match reply {
         Reply::Done | Reply::Numbered(_) => 0,
@@ -43,7 +48,7 @@ fn second(reply: Reply) -> u32
 }
 
 fn third(reply: Reply) -> u32
-    ensures { result ≡ third_of reply }
+    ensures { result ≡ third_number reply }
 {
     match reply {
         Reply::Done | Reply::Numbered(_) => 0,

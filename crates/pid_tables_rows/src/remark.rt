@@ -3,7 +3,7 @@ ghost use Rattle.std.specs.Prelude.{◌≡◌, ◌⊎◌, ◌+◌, [], ◌∷◌
 ghost use Rattle.sqlite.specs.Order.{column};
 ghost use Rattle.sqlite.specs.declared.types.Value.TheVariants.{Text as TextValue};
 ghost use Rattle.pid_tables_rows.specs.Steps.Answers.{value_row};
-ghost use Rattle.pid_tables_rows.specs.Unread.{IsUnread, IsRemarkRow};
+ghost use Rattle.pid_tables_rows.specs.Unread.{IsUnreadable, ReadsAsRemark};
 ghost use Rattle.pid_tables_rows.specs.Writes.{with_remark};
 ghost use Rattle.pid_tables_rows.specs.Clauses.{ChangesTo, GoesOn, Reads};
 
@@ -76,7 +76,7 @@ pub fn remark_count<S: Alter>(conn: &mut Connection<S>, number: u32) -> Result<u
 pub fn comment_of(row: &Row, alloc: Global) -> Result<Comment, TableFault>
     ensures author { IfOk result (λ comment. column row.now 0 ≡ TextValue comment.author) }
     ensures text { IfOk result (λ comment. column row.now 1 ≡ TextValue comment.text) }
-    ensures unread { IfErr result (IsUnread (IsRemarkRow row.now)) }
+    ensures unread { IfErr result (IsUnreadable (ReadsAsRemark row.now)) }
 {
     let author = account_at(row, alloc, 0)?;
     let text = words_at(row, alloc, 1)?;

@@ -1,25 +1,23 @@
 //! One statement at a time.
-ghost use Rattle.std.specs.Prelude.{◌≡◌, ℕ, false, true, IfOk, IfErr, OnOk, IsTrue, Ok, Err};
+ghost use Rattle.std.specs.Prelude.{◌≡◌, false, true, IfOk, IfErr};
 ghost use Rattle.sqlite.specs.Given.{IsPlain};
 ghost use Rattle.sqlite.specs.Listing.{understood};
 ghost use Rattle.sqlite.specs.Schema.{Schema};
 ghost use Rattle.sqlite.specs.Values.{bound};
 ghost use Rattle.sqlite.specs.Held.{Held};
-ghost use Rattle.sqlite.specs.declared.error.Error.{Error};
-ghost use Rattle.pid_tables_rows.specs.Faults.{fault_of, IsMemoryOrStore, IsNotNewerSchema};
+ghost use Rattle.pid_tables_rows.specs.Faults.{IsMemoryOrStore, IsNotNewerSchema};
 ghost use Rattle.pid_moderation.specs.Views.{Views};
-ghost use Rattle.pid_tables_rows.specs.Queries.{IsQuery, IsWriteAs};
+ghost use Rattle.pid_tables_rows.specs.Queries.{IsQuery};
 ghost use Rattle.pid_tables_rows.specs.Schema.{pid_schema};
 ghost use Rattle.pid_tables_rows.specs.Clauses.{
   AtRest,
-  Executes,
-  ExecutesInside,
+  FaultsQuery,
   GoesOn,
   HasCleanDisk,
   IsCaused,
   OnlyReads,
+  RunsWrite,
   Shown,
-  is_open,
   seen,
 };
 
@@ -36,18 +34,9 @@ pub fn write_one<S: Alter>(
 ) -> Result<(), TableFault>
     ensures same_reference { tx.new.conn.ghost_name ≡ tx.old.conn.ghost_name }
     ensures goes { GoesOn S.Store tx.old.conn.now tx.new.conn.now result }
-    ensures ran { HasCleanDisk S.Store tx.new.conn.now → IsTrue tx.old.conn.now.in_transaction
-        → OnOk result ((count : ℕ) × Executes S.Store sql.now
-        (bound params.now) tx.old.conn.now tx.new.conn.now (Ok count)) }
-    ensures untold { HasCleanDisk S.Store tx.new.conn.now → (schema : Schema)
-        → (IsTrue (is_open S.Store tx.old.conn.now)
-        → (seen S.Store tx.old.conn.now).schema ≡ schema)
-        → IsWriteAs sql.now (understood schema sql.now) → IfErr result IsMemoryOrStore }
+    ensures runs { RunsWrite S.Store sql.now (bound params.now) tx.old.conn.now tx.new.conn.now
+        result }
     ensures never { IfErr result IsNotNewerSchema }
-    ensures refused { HasCleanDisk S.Store tx.new.conn.now → IsTrue tx.old.conn.now.in_transaction
-        → IfErr result (λ fault. (e : Error) × (fault ≡ fault_of e)
-        × ExecutesInside S.Store 0 sql.now (bound params.now) tx.old.conn.now tx.new.conn.now
-        (Err e)) }
 {
     tx.execute(sql, params)?;
     Ok(())
@@ -65,15 +54,9 @@ pub fn read_inside<S: Alter>(
     ensures shown { HasCleanDisk S.Store tx.new.conn.now
         → IfOk result (λ rows. Shown S.Store sql.now
         (bound params.now) tx.old.conn.now tx.new.conn.now rows.items) }
-    ensures untold { HasCleanDisk S.Store tx.new.conn.now → (schema : Schema)
-        → (seen S.Store tx.old.conn.now).schema ≡ schema → IsPlain (understood schema sql.now)
-        → IfErr result IsMemoryOrStore }
+    ensures faults { FaultsQuery S.Store sql.now (bound params.now) tx.old.conn.now tx.new.conn.now
+        result }
     ensures never { IfErr result IsNotNewerSchema }
-    ensures caused { HasCleanDisk S.Store tx.new.conn.now → (schema : Schema)
-        → (IsTrue (is_open S.Store tx.old.conn.now)
-        → (seen S.Store tx.old.conn.now).schema ≡ schema)
-        → IsQuery schema sql.now (bound params.now)
-        → IfErr result (IsCaused S.Store tx.old.conn.now tx.new.conn.now) }
 {
     Ok(tx.query_all(sql, params)?)
 }

@@ -19,7 +19,7 @@ ghost use Rattle.pid_moderation.specs.Submissions.{decider_of, reason_of, standi
 ghost use Rattle.pid_tables_rows.specs.Answers.{standing_row};
 ghost use Rattle.pid_tables_rows.specs.Shows.{AreViews};
 ghost use Rattle.pid_tables_rows.specs.Standings.{ReadsTo};
-ghost use Rattle.pid_tables_rows.specs.Unread.{IsUnread, IsStandingRow};
+ghost use Rattle.pid_tables_rows.specs.Unread.{IsUnreadable, ReadsAsStanding};
 ghost use Rattle.pid_tables_rows.specs.Writes.{with_submission, with_state};
 ghost use Rattle.pid_tables_rows.specs.Steps.Writes.{NamesDecider};
 ghost use Rattle.pid_tables_rows.specs.Clauses.{ChangesTo, GoesOn, Reads};
@@ -65,7 +65,12 @@ fn insert_submission<'x, S: Alter>(
     ensures goes { GoesOn S.Store tx.old.conn.now tx.new.conn.now result }
     ensures shows { ChangesTo S.Store tx.old.conn.now tx.new.conn.now result
         (λ v. number ≡ length v.submits + 1)
-        (with_submission (record { author = author.now; path = path; proposal = proposal.now; note = note.now })) }
+        (with_submission (record {
+          author = author.now;
+          path = path;
+          proposal = proposal.now;
+          note = note.now;
+        })) }
 {
     let number = number.to_sql();
     let author = author.as_str().to_sql();
@@ -75,7 +80,8 @@ fn insert_submission<'x, S: Alter>(
     let note = note.as_str().to_sql();
     write_one(
         tx,
-        "INSERT INTO submission (num, author, path, form, name, note, state, decider, reason) VALUES (?1, ?2, ?3, ?4, ?5, ?6, 0, '', '')",
+        "INSERT INTO submission (num, author, path, form, name, note, state, decider, reason) \
+            VALUES (?1, ?2, ?3, ?4, ?5, ?6, 0, '', '')",
         &[number, author, text, form, name, note],
     )
 }
@@ -96,7 +102,12 @@ pub fn add_submission<S: Alter>(
     ensures goes { GoesOn S.Store tx.old.conn.now tx.new.conn.now result }
     ensures shows { ChangesTo S.Store tx.old.conn.now tx.new.conn.now result
         (λ v. number ≡ length v.submits + 1)
-        (with_submission (record { author = author.now; path = path; proposal = proposal.now; note = note.now })) }
+        (with_submission (record {
+          author = author.now;
+          path = path;
+          proposal = proposal.now;
+          note = note.now;
+        })) }
 {
     let text = path.path_text(alloc)?;
     insert_submission(tx, number, author, path, text.as_str(), proposal, note)
@@ -197,7 +208,7 @@ pub fn decide<S: Alter>(
 /// breaks its rule, the row is `Damaged`.
 pub fn submission_of(row: &Row, alloc: Global) -> Result<Submission, TableFault>
     ensures read { IfOk result (ReadsTo row.now) }
-    ensures unread { IfErr result (IsUnread (IsStandingRow row.now)) }
+    ensures unread { IfErr result (IsUnreadable (ReadsAsStanding row.now)) }
 {
     let author = account_at(row, alloc, 0)?;
     let path = path_at(row, 1)?;
@@ -222,7 +233,8 @@ fn submission_rows<S: Alter>(conn: &mut Connection<S>, number: u32) -> Result<Ve
     let number = number.to_sql();
     read_rows(
         conn,
-        "SELECT author, path, form, name, note, state, decider, reason FROM submission WHERE num = ?1",
+        "SELECT author, path, form, name, note, state, decider, reason FROM submission \
+            WHERE num = ?1",
         &[number],
     )
 }
@@ -238,7 +250,7 @@ pub fn standing<S: Alter>(
     ensures { Reads S.Store conn.old conn.new result
         (λ v s. option_map standing_of s ≡ standing_in v number) }
 {
-    texts_have_one_path();
+    texts_have_one_path(); // proof only
     let rows = submission_rows(conn, number)?;
     match rows.first() {
         Some(row) => Ok(Some(submission_of(row, alloc)?)),

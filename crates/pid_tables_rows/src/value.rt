@@ -1,5 +1,5 @@
 //! The values of a row as what they stand for. What breaks its rule is damage.
-ghost use Rattle.std.specs.Prelude.{◌≡◌, ℕ, List, OnOk, IfOk, IfErr, MatchResult, string_bytes};
+ghost use Rattle.std.specs.Prelude.{◌≡◌, ℕ, List, OnOk, IfOk, IfErr, MatchResult};
 ghost use Rattle.std.specs.Str.{bytes_eq, is_utf8};
 ghost use Rattle.sqlite.specs.declared.types.Value.TheVariants.{Text as TextValue};
 ghost use Rattle.sqlite.specs.Order.{column};
@@ -15,17 +15,23 @@ ghost use Rattle.pid_moderation.specs.declared.command.Reply.{Reply as ReplyValu
 ghost use Rattle.pid_moderation.specs.declared.rank.Rank.{Rank as RankValue};
 ghost use Rattle.pid_moderation.specs.Ranks.{rank_number};
 ghost use Rattle.pid_tables_rows.specs.Faults.{IsMemoryOrStore};
-ghost use Rattle.pid_tables_rows.specs.Unread.{IsUnread, IsMistold, IsNumber, IsWhole};
-ghost use Rattle.pid_tables_rows.specs.Steps.Unread.{IsWord, IsPathText, IsProposal, IsState, IsReplyRow};
+ghost use Rattle.pid_tables_rows.specs.Unread.{IsUnreadable, IsMistold, IsNumber, IsWholeNumber};
+ghost use Rattle.pid_tables_rows.specs.Steps.Unread.{
+  IsWord,
+  IsPathText,
+  IsProposal,
+  IsState,
+  IsReplyRow,
+};
 ghost use Rattle.pid_tables_rows.specs.TableRows.{
   number,
   form_of,
   name_of,
   state_number,
-  kind_of,
-  first_of,
-  second_of,
-  third_of,
+  reply_kind,
+  first_number,
+  second_number,
+  third_number,
 };
 ghost use Rattle.pid_moderation.specs.Submissions.{decider_of, reason_of};
 
@@ -39,7 +45,7 @@ use std::alloc::Global;
 /// The whole number below 2 to the 32 in a column, counted from 0. Any other value is `Damaged`.
 pub fn number_at(row: &Row, at: usize) -> Result<u32, TableFault>
     ensures read { IfOk result (λ n. column row.now at ≡ number n) }
-    ensures unread { IfErr result (IsUnread (IsNumber (column row.now at))) }
+    ensures unread { IfErr result (IsUnreadable (IsNumber (column row.now at))) }
 {
     let number = row.get(at)?;
     Ok(number)
@@ -48,7 +54,7 @@ pub fn number_at(row: &Row, at: usize) -> Result<u32, TableFault>
 /// The whole number in a column, counted from 0. Any other value is `Damaged`.
 pub fn whole_at(row: &Row, at: usize) -> Result<u64, TableFault>
     ensures read { IfOk result (λ n. column row.now at ≡ number n) }
-    ensures unread { IfErr result (IsUnread (IsWhole (column row.now at))) }
+    ensures unread { IfErr result (IsUnreadable (IsWholeNumber (column row.now at))) }
 {
     let whole = row.get(at)?;
     Ok(whole)
@@ -64,11 +70,19 @@ pub(crate) fn stored<'a>(whole: u64) -> Result<ValueRef<'a>, TableFault>
     }
 }
 
-fn text_at(row: &Row, at: usize) -> Result<String, TableFault>
-    ensures read { IfOk result (λ text. column row.now at ≡ TextValue (string_bytes text)) }
-    ensures unread { IfErr result (IsUnread (IsWord is_utf8 (column row.now at))) }
+/// The text in a column, counted from 0, lent by the row. A value that is no text, or a text that
+/// is not UTF-8, is `Damaged`.
+pub fn text_at(row: &Row, at: usize) -> Result<&str, TableFault>
+    ensures read { IfOk result (λ text. column row.now at ≡ TextValue text.now) }
+    ensures unread { IfErr result (IsUnreadable (IsWord is_utf8 (column row.now at))) }
 {
-    Ok(row.get(at)?)
+    match row.get_ref(at)? {
+        ValueRef::Text(bytes) => match str::from_utf8(bytes) {
+            Ok(text) => Ok(text),
+            Err(_) => Err(TableFault::Damaged),
+        },
+        _ => Err(TableFault::Damaged),
+    }
 }
 
 /// Whether the text in a column, counted from 0, is this one, byte for byte. A value that is no
@@ -87,26 +101,26 @@ pub fn is_text_at(row: &Row, at: usize, text: &str) -> Result<bool, TableFault>
 
 pub(crate) fn name_at(row: &Row, alloc: Global, at: usize) -> Result<Name, TableFault>
     ensures read { IfOk result (λ name. column row.now at ≡ TextValue name) }
-    ensures unread { IfErr result (IsUnread (IsWord name_rule (column row.now at))) }
+    ensures unread { IfErr result (IsUnreadable (IsWord name_rule (column row.now at))) }
 {
     let text = text_at(row, at)?;
-    Ok(Name::of(alloc, text.as_str())?)
+    Ok(Name::of(alloc, text)?)
 }
 
 pub(crate) fn account_at(row: &Row, alloc: Global, at: usize) -> Result<Account, TableFault>
     ensures read { IfOk result (λ account. column row.now at ≡ TextValue account) }
-    ensures unread { IfErr result (IsUnread (IsWord account_rule (column row.now at))) }
+    ensures unread { IfErr result (IsUnreadable (IsWord account_rule (column row.now at))) }
 {
     let text = text_at(row, at)?;
-    Ok(Account::of(alloc, text.as_str())?)
+    Ok(Account::of(alloc, text)?)
 }
 
 pub(crate) fn words_at(row: &Row, alloc: Global, at: usize) -> Result<Text, TableFault>
     ensures read { IfOk result (λ words. column row.now at ≡ TextValue words) }
-    ensures unread { IfErr result (IsUnread (IsWord text_rule (column row.now at))) }
+    ensures unread { IfErr result (IsUnreadable (IsWord text_rule (column row.now at))) }
 {
     let text = text_at(row, at)?;
-    Ok(Text::of(alloc, text.as_str())?)
+    Ok(Text::of(alloc, text)?)
 }
 
 fn parsed(text: &str) -> Result<Path, TableFault>
@@ -119,13 +133,14 @@ fn parsed(text: &str) -> Result<Path, TableFault>
     }
 }
 
-pub(crate) fn path_at(row: &Row, at: usize) -> Result<Path, TableFault>
+/// The path whose text is in a column, counted from 0. Any other value is `Damaged`.
+pub fn path_at(row: &Row, at: usize) -> Result<Path, TableFault>
     ensures read { IfOk result (λ path. IsPath path
         × (column row.now at ≡ TextValue (path_text path))) }
-    ensures unread { IfErr result (IsUnread (IsPathText (column row.now at))) }
+    ensures unread { IfErr result (IsUnreadable (IsPathText (column row.now at))) }
 {
     let text = text_at(row, at)?;
-    parsed(text.as_str())
+    parsed(text)
 }
 
 fn rank_of(number: u32) -> Result<Rank, TableFault>
@@ -143,7 +158,7 @@ fn rank_of(number: u32) -> Result<Rank, TableFault>
 
 pub(crate) fn rank_at(row: &Row, at: usize) -> Result<Rank, TableFault>
     ensures read { IfOk result (λ rank. column row.now at ≡ number (rank_number rank)) }
-    ensures unread { IfErr result (IsUnread
+    ensures unread { IfErr result (IsUnreadable
         ((rank : RankValue) × (column row.now at ≡ number (rank_number rank)))) }
 {
     let number = number_at(row, at)?;
@@ -171,7 +186,7 @@ pub(crate) fn proposal_at(
 ) -> Result<Proposal, TableFault>
     ensures form { IfOk result (λ proposal. column row.now form ≡ number (form_of proposal)) }
     ensures name { IfOk result (λ proposal. column row.now name ≡ TextValue (name_of proposal)) }
-    ensures unread { IfErr result (IsUnread
+    ensures unread { IfErr result (IsUnreadable
         (IsProposal (column row.now form) (column row.now name))) }
 {
     match number_at(row, form)? {
@@ -191,7 +206,7 @@ pub(crate) fn state_at(row: &Row, alloc: Global, author: &Account) -> Result<Sta
     ensures decider { IfOk result (λ state. column row.now 6
         ≡ TextValue (decider_of author.now state)) }
     ensures reason { IfOk result (λ state. column row.now 7 ≡ TextValue (reason_of state)) }
-    ensures unread { IfErr result (IsUnread
+    ensures unread { IfErr result (IsUnreadable
         (IsState author.now (column row.now 5) (column row.now 6) (column row.now 7))) }
 {
     match number_at(row, 5)? {
@@ -221,11 +236,11 @@ pub(crate) fn state_at(row: &Row, alloc: Global, author: &Account) -> Result<Sta
 }
 
 fn reply_of(kind: u32, a: u32, b: u32, c: u32) -> Result<Reply, TableFault>
-    ensures read { IfOk result (λ reply. (kind ≡ kind_of reply) × (a ≡ first_of reply)
-        × (b ≡ second_of reply) × (c ≡ third_of reply)) }
+    ensures read { IfOk result (λ reply. (kind ≡ reply_kind reply) × (a ≡ first_number reply)
+        × (b ≡ second_number reply) × (c ≡ third_number reply)) }
     ensures none { IfErr result (IsMistold
-        ((reply : ReplyValue) × (kind ≡ kind_of reply) × (a ≡ first_of reply)
-        × (b ≡ second_of reply) × (c ≡ third_of reply))) }
+        ((reply : ReplyValue) × (kind ≡ reply_kind reply) × (a ≡ first_number reply)
+        × (b ≡ second_number reply) × (c ≡ third_number reply))) }
 {
     match (kind, a, b, c) {
         (0, 0, 0, 0) => Ok(Reply::Done),
@@ -241,11 +256,11 @@ fn reply_of(kind: u32, a: u32, b: u32, c: u32) -> Result<Reply, TableFault>
 
 /// A reply by its kind and its three numbers.
 pub(crate) fn reply_at(row: &Row) -> Result<Reply, TableFault>
-    ensures kind { IfOk result (λ reply. column row.now 0 ≡ number (kind_of reply)) }
-    ensures first { IfOk result (λ reply. column row.now 1 ≡ number (first_of reply)) }
-    ensures second { IfOk result (λ reply. column row.now 2 ≡ number (second_of reply)) }
-    ensures third { IfOk result (λ reply. column row.now 3 ≡ number (third_of reply)) }
-    ensures unread { IfErr result (IsUnread (IsReplyRow row.now)) }
+    ensures kind { IfOk result (λ reply. column row.now 0 ≡ number (reply_kind reply)) }
+    ensures first { IfOk result (λ reply. column row.now 1 ≡ number (first_number reply)) }
+    ensures second { IfOk result (λ reply. column row.now 2 ≡ number (second_number reply)) }
+    ensures third { IfOk result (λ reply. column row.now 3 ≡ number (third_number reply)) }
+    ensures unread { IfErr result (IsUnreadable (IsReplyRow row.now)) }
 {
     let kind = number_at(row, 0)?;
     let a = number_at(row, 1)?;

@@ -3,6 +3,9 @@ use Rattle.std.specs.Prelude.{Some, None}
 use Rattle.pid_moderation.specs.declared.change.Effect.{Effect}
 use Rattle.pid_moderation.specs.declared.change.Effect.TheVariants.{Nothing, Ranked, Submitted}
 use Rattle.pid_moderation.specs.declared.change.Effect.TheVariants.{Remarked, Decided, Imported}
+use Rattle.pid_moderation.specs.Changes.{FitsEffect}
+use Rattle.pid_moderation.specs.Views.{Views}
+use Rattle.pid_tables_rows.specs.Leaves.{Turn}
 use Rattle.pid_tables_rows.specs.Shows.{Counts}
 
 -- the counts that an effect leaves
@@ -14,3 +17,11 @@ recounted (Submitted number author path proposal note) c = record c { submission
 recounted (Remarked number place author text) c = c
 recounted (Decided number state None) c = c
 recounted (Decided number state (Some w)) c = record c { items = w.items }
+
+-- an effect on views to which it fits, which makes these of them
+abbrev pub turn_of : Effect → (Views → Views) → Turn
+turn_of effect next = record {
+  IsFor = λ c v. FitsEffect effect v;
+  recount = recounted effect;
+  next = next;
+}

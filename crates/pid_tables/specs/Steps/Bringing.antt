@@ -12,7 +12,7 @@ use Rattle.pid_tables_rows.specs.declared.version.Version.TheVariants.{One, Two}
 use Rattle.pid_tables_rows.specs.Faults.{IsMemoryOrStore}
 use Rattle.pid_tables_rows.specs.Leaves.{RestsIn}
 use Rattle.pid_tables_rows.specs.Shows.{Counts, Numbers, ShowsKeeping}
-use Rattle.pid_tables_check.specs.Checking.{Finds}
+use Rattle.pid_tables_check.specs.Checking.{FindsVersion}
 use Rattle.pid_tables_check.specs.Shapes.{HasNoTable}
 use Rattle.pid_tables.specs.Bringing.{NamesLatest}
 use Rattle.pid_tables.specs.declared.migration.Step.{Step}
@@ -39,7 +39,7 @@ pub data IsStanding (db : Database) (found : Option Version) : Type 0 where
   -- labels that name schema 2 are believed
   Named : found ≡ Some Two → NamesLatest db → IsStanding db found
   -- else the check finds it
-  Found : Finds db found → IsStanding db found
+  Found : FindsVersion db found → IsStanding db found
 
 -- What is shown is found, where memory is enough and the store does not fail.
 pub record FindsShown (old new : State) (result : Result (Option Version) TableFault)

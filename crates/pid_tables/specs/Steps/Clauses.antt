@@ -8,7 +8,7 @@ use Rattle.pid_tables_rows.specs.declared.fault.TableFault.{TableFault}
 use Rattle.pid_tables_rows.specs.Clauses.{HasCleanDisk, seen}
 use Rattle.pid_tables_rows.specs.Faults.{IsMemoryOrStore}
 use Rattle.pid_tables_rows.specs.Shows.{Counts, Shows, ShowsCounting}
-use Rattle.pid_tables.specs.Applies.{IsCounted}
+use Rattle.pid_tables.specs.Applies.{CountsFit}
 use Rattle.std.specs.Prelude.{ℕ, List, Option}
 use Rattle.sqlite.specs.Held.{Held, state}
 use Rattle.sqlite.specs.Table.{Table}
@@ -41,5 +41,5 @@ module _ {S : Type 0} (store : Ghosts S) where
   abbrev pub WritesChange : {X : Type 0} → Held S → Held S → Result X TableFault → Change → Type 0
   WritesChange old new result change = HasCleanDisk store new → IsTrue old.in_transaction
       → (counts : Counts) (v : Views) → ShowsCounting counts (seen store old) v
-      → IsCounted change.effect counts v → FitsViews change v
+      → CountsFit change.effect counts v → FitsViews change v
       → MatchResult result (λ _. Shows (seen store new) (changed change v)) IsMemoryOrStore

@@ -18,14 +18,14 @@ use Rattle.pid_moderation.specs.Judgement.{judge, answer, after}
 use Rattle.pid_moderation.specs.Views.{views_of, items_of, revision_of}
 use Rattle.pid_tables_rows.specs.declared.fault.TableFault.{TableFault}
 use Rattle.pid_tables_rows.specs.Shows.{counts_of}
-use Rattle.pid_tables.specs.Applies.{IsCounted}
+use Rattle.pid_tables.specs.Applies.{CountsFit}
 use Rattle.pid_tables.specs.declared.put_file.Stop.{Stop}
 use Rattle.pid_tables.specs.declared.put_file.Stop.TheVariants as stops
 use Rattle.pid_tables.specs.declared.tally.Tally.{Tally}
 use Rattle.pid_tables.specs.Faults.{IsFault}
 use Rattle.pid_tables.specs.Files.{fault_as}
 use Rattle.pid_tables.specs.Steps.Tallies.{tally_of}
-use Rattle.pid_tables.specs.Importing.{Refuses}
+use Rattle.pid_tables.specs.Importing.{RefusesImport}
 
 -- a file that was read whole and put.
 pub record IsPut (h : History) (text : List ℕ) (t : Tally) : Type 0 where
@@ -44,8 +44,8 @@ JudgesFile h c pairs (Ok d) = (revision_of h < most_revision)
     × (answer (judge (views_of h) c) ≡ Ok d.1)
     × (views_of (after h c) ≡ changed d.0 (with_pairs pairs (views_of h)))
     × FitsViews d.0 (with_pairs pairs (views_of h))
-    × IsCounted d.0.effect (counts_of (views_of h)) (with_pairs pairs (views_of h))
-JudgesFile h c pairs (Err e) = Refuses h c e
+    × CountsFit d.0.effect (counts_of (views_of h)) (with_pairs pairs (views_of h))
+JudgesFile h c pairs (Err e) = RefusesImport h c e
 
 -- how the end of a reading stops an import.
 abbrev pub IsStopOf : InputEnd TableFault → Stop → Type 0

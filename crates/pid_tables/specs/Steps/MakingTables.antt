@@ -22,20 +22,20 @@ use Rattle.pid_tables_rows.specs.Schema.{pid_schema}
 use Rattle.pid_tables_rows.specs.Schema as tables
 use Rattle.pid_tables_rows.specs.TableRows.{meta_row}
 pub use Rattle.pid_tables.specs.Creation.{making}
-use Rattle.pid_tables.specs.Creation.{AreMade, IsMetFault}
+use Rattle.pid_tables.specs.Creation.{AreMade, IsFaultOfTaken}
 
 -- one statement that defines a table
 abbrev pub IsDefinition : List ℕ → Compiled → Type 0
 IsDefinition text c = (c.command ≡ CreateTable) × (c.returning ≡ None) × (c.formats ≡ [])
     × (text_of text c ≡ text)
 
-abbrev pub IsKnown : List ℕ → Result Compiled CompileError → Type 0
-IsKnown text (Ok c) = IsDefinition text c
-IsKnown text (Err e) = ⊥
+abbrev pub IsKnownDefinition : List ℕ → Result Compiled CompileError → Type 0
+IsKnownDefinition text (Ok c) = IsDefinition text c
+IsKnownDefinition text (Err e) = ⊥
 
 -- in the schema of the tables so far, the text makes this table
 pub record Creates (so_far : List Table) (text : List ℕ) (table : Table) : Type 0 where
-  pub known : IsKnown text (understood (making so_far) text)
+  pub known : IsKnownDefinition text (understood (making so_far) text)
   pub defined : table_defined_by text ≡ Ok (record table { tree = 0 })
   pub tree : next_tree (making so_far) ≡ table.tree
   pub alone : lacks_sequence (created (making so_far) (record table { tree = 0 })) ≡ false
@@ -71,15 +71,15 @@ abbrev pub Takes : {X : Type 0} → State → State → Result X TableFault → 
 Takes old new result names = HasCleanDisk new → IsTrue old.in_transaction
     → MatchResult result (λ _. TookNames names old.now.schema new.now.schema) IsNotNewerSchema
 
-abbrev pub IsRefused : Result Compiled CompileError → Type 0
-IsRefused (Ok c) = ⊥
-IsRefused (Err e) = Unit {0}
+abbrev pub IsTextRefused : Result Compiled CompileError → Type 0
+IsTextRefused (Ok c) = ⊥
+IsTextRefused (Err e) = Unit {0}
 
 -- a step that meets the tables of a registry
 abbrev pub FindsTables : {X : Type 0} → State → State → Result X TableFault → Type 0
 FindsTables old new result = HasCleanDisk new → IsTrue old.in_transaction
     → (IsTrue old.is_open → old.now.schema ≡ pid_schema)
-    → MatchResult result (λ _. ⊥) (IsMetFault old new)
+    → MatchResult result (λ _. ⊥) (IsFaultOfTaken old new)
 
 -- all seven, where meta has some rows and the others have none
 pub record HasOnlyMeta (m : Map (List ℕ) ℕ) (db : Database) : Type 0 where

@@ -1,5 +1,6 @@
 -- What putting a whole file does.
-use Rattle.std.specs.Prelude.{◌≡◌, ◌⊎◌, ◌+◌, ◌≤◌, ℕ, List, [], ◌∷◌, length, Option, Some, None, Result, Ok, Err}
+use Rattle.std.specs.Prelude.{◌≡◌, ◌⊎◌, ◌+◌, ◌≤◌, ℕ, List, [], ◌∷◌, length, Option, Some, None}
+use Rattle.std.specs.Prelude.{Result, Ok, Err}
 use Rattle.pid_file.specs.declared.refusal.ReadRefusal.TheVariants.{Memory}
 use Rattle.pid_file.specs.declared.sink.CutEnd.TheVariants.{Refused, Fault}
 use Rattle.pid_file.specs.declared.whole_input.InputEnd.{InputEnd}

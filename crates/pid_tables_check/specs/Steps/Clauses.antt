@@ -11,15 +11,15 @@ use Rattle.pid_tables_check.specs.declared.shape.Table.{Table}
 use Rattle.pid_tables_check.specs.Steps.Reading as reading
 
 module _ {S : Type 0} (store : Ghosts S) where
-  abbrev pub Judges : {X : Type 0} → Held S → Held S → Result X TableFault → (Database → Type 0)
+  abbrev pub JudgesRows : {X : Type 0} → Held S → Held S → Result X TableFault → (Database → Type 0)
       → (Database → X → Type 0) → (Database → TableFault → Type 0) → Type 0
-  Judges old new result Has Says Fails = reading.Judges (state store old)
+  JudgesRows old new result Has Says Fails = reading.JudgesRows (state store old)
       (state store new) result Has Says Fails
 
-  abbrev pub Answers : Held S → Held S → Result (Vec Row Global) TableFault → List ℕ → Type 0
-  Answers old new result text = reading.Answers (state store old) (state store new) result text
+  abbrev pub AnswersTable : Held S → Held S → Result (Vec Row Global) TableFault → List ℕ → Type 0
+  AnswersTable old new result text = reading.AnswersTable (state store old) (state store new) result text
 
-  abbrev pub Keeps : {X : Type 0} → Held S → Held S → Result X TableFault → Table
+  abbrev pub KeepsTable : {X : Type 0} → Held S → Held S → Result X TableFault → Table
       → (List Row → X → Type 0) → Type 0
-  Keeps old new result table Says = reading.Keeps (state store old)
+  KeepsTable old new result table Says = reading.KeepsTable (state store old)
       (state store new) result table Says

@@ -24,27 +24,27 @@ use Rattle.pid_tables_check.specs.Conditions.{AreRemarks, AreReceipts, AreSinces
 -- ---- one table
 
 -- it is true exactly where the rows keep a condition
-abbrev pub IsJudged : (List Row → Type 0) → List Row → Bool → Type 0
-IsJudged Are rows good = IsTrue good ↔ Are rows
+abbrev pub IsPartJudged : (List Row → Type 0) → List Row → Bool → Type 0
+IsPartJudged Are rows good = IsTrue good ↔ Are rows
 
 pub record KeepsAccounts (rows : List Row) (it : Accounts) : Type 0 where
   pub names : AreNamesOf it.names rows
-  pub good : IsJudged AreAccounts rows it.good
+  pub good : IsPartJudged AreAccounts rows it.good
 
 pub record KeepsItems (rows : List Row) (it : Items) : Type 0 where
   pub count : it.count ≡ length rows
   pub paths : ArePathsOf it.paths rows
-  pub good : IsJudged AreItems rows it.good
+  pub good : IsPartJudged AreItems rows it.good
 
 -- the numbers of changes go with any items that have these paths
 abbrev pub GoWith : BTreeSet Path → ℕ → List Row → Bool → Type 0
 GoWith paths revision rows good = (items : List Row) → ArePathsOf paths items
-    → IsJudged (AreSinces revision items) rows good
+    → IsPartJudged (AreSinces revision items) rows good
 
 -- the submissions go with any good accounts that have these names
 abbrev pub AreOfAccounts : BTreeSet (String Global) → List Row → Bool → Type 0
 AreOfAccounts names rows good = (accounts : List Row) → AreNamesOf names accounts
-    → AreAccounts accounts → IsJudged (AreSubmissions accounts) rows good
+    → AreAccounts accounts → IsPartJudged (AreSubmissions accounts) rows good
 
 pub record KeepsSubmissions (names : BTreeSet (String Global)) (rows : List Row)
     (it : Submissions) : Type 0 where
@@ -55,7 +55,7 @@ pub record KeepsSubmissions (names : BTreeSet (String Global)) (rows : List Row)
 -- the receipts go with any submissions that have these authors
 abbrev pub AreOfAuthors : BTreeSet (ℕ × String Global) → List Row → Bool → Type 0
 AreOfAuthors authors rows good = (submissions : List Row) → AreAuthorsOf authors submissions
-    → IsJudged (AreReceipts submissions) rows good
+    → IsPartJudged (AreReceipts submissions) rows good
 
 -- ---- several tables
 

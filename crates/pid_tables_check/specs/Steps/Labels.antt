@@ -18,11 +18,11 @@ IsLabelled Two items submissions revision r = IsCount 2 items submissions r
     ⊎ (r ≡ label_row (codes "revision", revision))
 
 -- some row is that of the label
-abbrev pub HasLabel : List ℕ × ℕ → List Row → Type 0
-HasLabel e rows = Any (λ r. r ≡ label_row e) rows
+abbrev pub HasLabelRow : List ℕ × ℕ → List Row → Type 0
+HasLabelRow e rows = Any (λ r. r ≡ label_row e) rows
 
 -- the labels whose numbers the schema gives are there
 abbrev pub HasMore : Version → ℕ → List Row → Type 0
-HasMore One revision rows = HasLabel (codes "schema", 1) rows
-HasMore Two revision rows = HasLabel (codes "schema", 2) rows
-    × HasLabel (codes "revision", revision) rows
+HasMore One revision rows = HasLabelRow (codes "schema", 1) rows
+HasMore Two revision rows = HasLabelRow (codes "schema", 2) rows
+    × HasLabelRow (codes "revision", revision) rows

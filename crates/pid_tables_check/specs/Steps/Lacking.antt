@@ -5,7 +5,7 @@ use Rattle.pid_tables_rows.specs.declared.fault.TableFault.{TableFault}
 use Rattle.pid_tables_rows.specs.declared.fault.TableFault.TheVariants.{Memory, Store, NewerSchema, Damaged}
 use Rattle.pid_tables_check.specs.declared.shape.Table.TheVariants.{Meta}
 use Rattle.pid_tables_check.specs.Queries.{query_of}
-use Rattle.pid_tables_check.specs.Shapes.{IsAsked, ShowsLater}
+use Rattle.pid_tables_check.specs.Shapes.{CanBeAsked, ShowsLater}
 
 -- A later schema is judged before all else: it is Damaged where the labels can't be asked for, or
 -- show none.
@@ -13,4 +13,4 @@ abbrev pub ExplainsLater : Database → TableFault → Type 0
 ExplainsLater db Memory = Unit {0}
 ExplainsLater db Store = Unit {0}
 ExplainsLater db (NewerSchema n) = ShowsLater db (Some n)
-ExplainsLater db Damaged = IsAsked db.schema (query_of Meta) → ShowsLater db None
+ExplainsLater db Damaged = CanBeAsked db.schema (query_of Meta) → ShowsLater db None

@@ -26,8 +26,8 @@ IsDecidedAmong names author (Rejected decider reason) = (decider ≢ author) × 
 IsDecidedAmong names author Withdrawn = Unit {0}
 
 -- the row stands as a submission of the author may
-abbrev pub Stands : BTreeSet (String Global) → Row → List ℕ → Type 0
-Stands names r author = (s : State) × (column r 6 ≡ number (state_number s))
+abbrev pub StandsInRows : BTreeSet (String Global) → Row → List ℕ → Type 0
+StandsInRows names r author = (s : State) × (column r 6 ≡ number (state_number s))
     × (column r 7 ≡ Text (decider_of author s)) × (column r 8 ≡ Text (reason_of s))
     × IsDecidedAmong names author s
 

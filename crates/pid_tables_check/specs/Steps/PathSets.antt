@@ -6,11 +6,11 @@ use Rattle.sqlite.specs.Order.{Row}
 use Rattle.pid_file.specs.declared.path.Path.{Path}
 use Rattle.pid_ident.specs.PathTexts.{IsPath, path_text, path_cmp, parent_of}
 use Rattle.pid_ident.specs.Words.{is_name}
-use Rattle.pid_tables_check.specs.Conditions.{HasItem}
+use Rattle.pid_tables_check.specs.Conditions.{HasItemRow}
 
 -- the text is that of a path in the first column of a row
 abbrev pub HasPathText : List Row → List ℕ → Type 0
-HasPathText rows text = (path : Path) × IsPath path × (path_text path ≡ text) × HasItem rows path
+HasPathText rows text = (path : Path) × IsPath path × (path_text path ≡ text) × HasItemRow rows path
 
 -- the set has exactly the paths of the rows
 abbrev pub ArePathsOf : BTreeSet Path → List Row → Type 0

@@ -21,14 +21,14 @@ ArePlacesOf places rows = (num place : ℕ)
     → (contains pair_cmp places (num, place) ≡ true) ↔ HasRemark rows num place
 
 -- the place is the first, or the one before it is in the set
-abbrev pub Follows : BTreeSet (ℕ × ℕ) → ℕ → ℕ → Type 0
-Follows places num place = (1 ≤ place) × (place ≤ most_remarks)
+abbrev pub FollowsPlace : BTreeSet (ℕ × ℕ) → ℕ → ℕ → Type 0
+FollowsPlace places num place = (1 ≤ place) × (place ≤ most_remarks)
     × ((earlier : ℕ) → 1 ≤ earlier → place ≡ suc earlier
     → contains pair_cmp places (num, earlier) ≡ true)
 
 abbrev pub HasPlace : BTreeSet (ℕ × ℕ) → Row → Type 0
 HasPlace places r = (num : ℕ) × (place : ℕ) × (column r 0 ≡ number num)
-    × (column r 1 ≡ number place) × Follows places num place
+    × (column r 1 ≡ number place) × FollowsPlace places num place
 
 pub record IsRemarkAmong (places : BTreeSet (ℕ × ℕ)) (r : Row) : Type 0 where
   pub num : ℕ
@@ -36,6 +36,6 @@ pub record IsRemarkAmong (places : BTreeSet (ℕ × ℕ)) (r : Row) : Type 0 whe
   pub author : List ℕ
   pub body : List ℕ
   pub is : r ≡ number num ∷ number place ∷ Text author ∷ Text body ∷ []
-  pub follows : Follows places num place
+  pub follows : FollowsPlace places num place
   pub text : is_text body ≡ true
   pub filled : is_empty body ≡ false

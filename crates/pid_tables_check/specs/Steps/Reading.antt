@@ -10,25 +10,25 @@ use Rattle.pid_tables_rows.specs.declared.fault.TableFault.TheVariants.{Memory, 
 use Rattle.pid_tables_rows.specs.Faults.{IsMemoryOrStore}
 use Rattle.pid_tables_check.specs.declared.shape.Table.{Table}
 use Rattle.pid_tables_check.specs.Queries.{query_of}
-use Rattle.pid_tables_check.specs.Shapes.{IsAsked, ShowsRows, ShowsLater}
+use Rattle.pid_tables_check.specs.Shapes.{CanBeAsked, ShowsRows, ShowsLater}
 use Rattle.pid_tables_check.specs.Checking.{ShowsRegistry, ShowsDamage}
 
 -- Where the transaction sees a database of which `Has` holds: a value says `Says` of it, and the
 -- transaction still sees it; a fault says `Fails`.
-abbrev pub Judges : {X : Type 0} → State → State → Result X TableFault → (Database → Type 0)
+abbrev pub JudgesRows : {X : Type 0} → State → State → Result X TableFault → (Database → Type 0)
     → (Database → X → Type 0) → (Database → TableFault → Type 0) → Type 0
-Judges old new result Has Says Fails = HasCleanDisk new → (d : Database) → old.now ≡ d → Has d
+JudgesRows old new result Has Says Fails = HasCleanDisk new → (d : Database) → old.now ≡ d → Has d
     → MatchResult result (λ x. Says d x × (new.now ≡ d)) (Fails d)
 
 -- the rows that a query answers, where it can be asked
-abbrev pub Answers : State → State → Result (Vec Row Global) TableFault → List ℕ → Type 0
-Answers old new result text = Judges old new result (λ d. IsAsked d.schema text)
+abbrev pub AnswersTable : State → State → Result (Vec Row Global) TableFault → List ℕ → Type 0
+AnswersTable old new result text = JudgesRows old new result (λ d. CanBeAsked d.schema text)
     (λ d rows. ShowsRows d text rows.items) (λ d. IsMemoryOrStore)
 
 -- the same, with what is kept of the rows of a table
-abbrev pub Keeps : {X : Type 0} → State → State → Result X TableFault → Table
+abbrev pub KeepsTable : {X : Type 0} → State → State → Result X TableFault → Table
     → (List Row → X → Type 0) → Type 0
-Keeps old new result table Says = Judges old new result (λ d. IsAsked d.schema (query_of table))
+KeepsTable old new result table Says = JudgesRows old new result (λ d. CanBeAsked d.schema (query_of table))
     (λ d x. (rows : List Row) × ShowsRows d (query_of table) rows × Says rows x)
     (λ d. IsMemoryOrStore)
 

@@ -1,5 +1,5 @@
 -- What a query of changes answers.
-use Rattle.std.specs.Prelude.{◌≡◌, ℕ, min, List, [], ◌∷◌, Some}
+use Rattle.std.specs.Prelude.{◌≡◌, ℕ, min, List, [], ◌∷◌, Some, map}
 use Rattle.std.specs.List.{AllByRecursion}
 use Rattle.sqlite.specs.declared.types.Value.TheVariants.{Text}
 use Rattle.sqlite.specs.Order.{Row}
@@ -15,6 +15,19 @@ since_shown item = Text item.path ∷ number item.since ∷ []
 -- each of them has its name in the views
 abbrev pub AreNamed : Views → List Changed → Type 0
 AreNamed v all = AllByRecursion (λ (item : Changed). name_at item.path v.items ≡ Some item.name) all
+
+-- they have their names in the views, and these are their rows
+abbrev pub AreChangesIn : Views → List Changed → List Row → Type 0
+AreChangesIn v all rows = AreNamed v all × (rows ≡ map since_shown all)
+
+-- the same of one
+abbrev pub IsChangeIn : Views → Changed → Row → Type 0
+IsChangeIn v item row = (name_at item.path v.items ≡ Some item.name) × (row ≡ since_shown item)
+
+-- its name stands in the views, and these are its path and its number
+abbrev pub IsChangeAt : Views → Changed → List ℕ → ℕ → Type 0
+IsChangeAt v item path since = (name_at item.path v.items ≡ Some item.name) × (path ≡ item.path)
+    × (since ≡ item.since)
 
 -- a number as a query asks for it: in place of greater ones the greatest that SQLite holds
 abbrev pub held : ℕ → ℕ

@@ -1,11 +1,12 @@
 -- What a query of pending submissions answers.
-use Rattle.std.specs.Prelude.{◌≡◌, ℕ, ◌<◌, ◌^◌, List, [], ◌∷◌, ◌++◌, Some}
+use Rattle.std.specs.Prelude.{◌≡◌, ℕ, ◌<◌, ◌^◌, List, [], ◌∷◌, ◌++◌, Some, map}
 use Rattle.std.specs.List.{AllByRecursion}
 use Rattle.sqlite.specs.Order.{Row}
 use Rattle.pid_moderation.specs.Views.{Views}
 use Rattle.pid_tables_rows.specs.Answers.{standing_row}
 use Rattle.pid_tables_rows.specs.Causes.{IsReadableSubmission, IsReadableState}
 use Rattle.pid_moderation.specs.Submissions.{standing_in, Standing}
+use Rattle.pid_tables_rows.specs.Shows.{AreViews}
 use Rattle.pid_tables_rows.specs.TableRows.{number}
 
 -- a submission as it stands, and its number behind it
@@ -18,5 +19,13 @@ IsReadablePending s = (s.0 < 2 ^ 32) × IsReadableSubmission s.1.submitted
     × IsReadableState s.1.state
 
 -- each of them stands so in the views
-abbrev pub AreIn : Views → List (ℕ × Standing) → Type 0
-AreIn v all = AllByRecursion (λ (s : ℕ × Standing). standing_in v s.0 ≡ Some s.1) all
+abbrev pub AreStandingIn : Views → List (ℕ × Standing) → Type 0
+AreStandingIn v all = AllByRecursion (λ (s : ℕ × Standing). standing_in v s.0 ≡ Some s.1) all
+
+-- they stand so in views, and these are their rows
+abbrev pub ArePendingIn : Views → List (ℕ × Standing) → List Row → Type 0
+ArePendingIn v all rows = AreViews v × AreStandingIn v all × (rows ≡ map pending_row all)
+
+-- the same of one
+abbrev pub IsPendingIn : Views → ℕ × Standing → Row → Type 0
+IsPendingIn v s row = AreViews v × AreStandingIn v (s ∷ []) × (row ≡ pending_row s)

@@ -1,13 +1,15 @@
 -- Steps beside Answers.
-use Rattle.std.specs.Prelude.{ℕ, List, [], ◌∷◌}
+use Rattle.std.specs.Prelude.{◌≡◌, ◌⊎◌, ℕ, true, false, List, [], ◌∷◌}
 use Rattle.sqlite.specs.declared.types.Value.TheVariants.{Text}
 use Rattle.sqlite.specs.Order.{Row}
 use Rattle.pid_moderation.specs.declared.command.Reply.{Reply}
 use Rattle.pid_moderation.specs.declared.rank.Rank.{Rank}
 use Rattle.pid_moderation.specs.Ranks.{rank_number}
+use Rattle.pid_moderation.specs.Items.{Items}
 use Rattle.pid_moderation.specs.Views.{Remark}
-use Rattle.pid_tables_rows.specs.TableRows.{number, kind_of}
-use Rattle.pid_tables_rows.specs.TableRows.{first_of, second_of, third_of}
+use Rattle.pid_tables_rows.specs.Steps.Ranges.{holds_between}
+use Rattle.pid_tables_rows.specs.TableRows.{number, reply_kind}
+use Rattle.pid_tables_rows.specs.TableRows.{first_number, second_number, third_number}
 
 -- one number
 abbrev pub value_row : ℕ → Row
@@ -23,8 +25,8 @@ name_row name = Text name ∷ []
 
 -- a kept reply
 abbrev pub reply_row : Reply → Row
-reply_row reply = number (kind_of reply) ∷ number (first_of reply) ∷ number (second_of reply)
-    ∷ number (third_of reply) ∷ []
+reply_row reply = number (reply_kind reply) ∷ number (first_number reply) ∷ number (second_number reply)
+    ∷ number (third_number reply) ∷ []
 
 -- an item
 abbrev pub item_shown : List ℕ × List ℕ → Row
@@ -33,3 +35,8 @@ item_shown e = Text e.0 ∷ Text e.1 ∷ []
 -- a remark
 abbrev pub remark_shown : Remark → Row
 remark_shown r = Text r.author ∷ Text r.text ∷ []
+
+-- one row where some item's path is between these, and else none
+abbrev pub IsFirstWithin : List ℕ → List ℕ → Items → List Row → Type 0
+IsFirstWithin low high items rows = ((rows ≡ []) × (holds_between low high items ≡ false))
+    ⊎ ((row : Row) × (rows ≡ row ∷ []) × (holds_between low high items ≡ true))

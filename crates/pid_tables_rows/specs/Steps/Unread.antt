@@ -10,8 +10,8 @@ use Rattle.pid_moderation.specs.declared.command.Reply.{Reply}
 use Rattle.pid_moderation.specs.declared.facts.State.{State}
 use Rattle.pid_moderation.specs.WellMade.{ProposesName}
 use Rattle.pid_tables_rows.specs.Causes.{IsReadableState, IsReadableReply}
-use Rattle.pid_tables_rows.specs.TableRows.{number, form_of, name_of, state_number, kind_of}
-use Rattle.pid_tables_rows.specs.TableRows.{first_of, second_of, third_of}
+use Rattle.pid_tables_rows.specs.TableRows.{number, form_of, name_of, state_number, reply_kind}
+use Rattle.pid_tables_rows.specs.TableRows.{first_number, second_number, third_number}
 use Rattle.pid_moderation.specs.Submissions.{decider_of, reason_of}
 
 -- a text that keeps a rule
@@ -36,6 +36,6 @@ IsState author told decider reason = (state : State) × IsReadableState state
 -- the row of a reply
 abbrev pub IsReplyRow : Row → Type 0
 IsReplyRow row =
-    (reply : Reply) × IsReadableReply reply × (column row 0 ≡ number (kind_of reply))
-    × (column row 1 ≡ number (first_of reply))
-    × (column row 2 ≡ number (second_of reply)) × (column row 3 ≡ number (third_of reply))
+    (reply : Reply) × IsReadableReply reply × (column row 0 ≡ number (reply_kind reply))
+    × (column row 1 ≡ number (first_number reply))
+    × (column row 2 ≡ number (second_number reply)) × (column row 3 ≡ number (third_number reply))

@@ -9,8 +9,8 @@ use Rattle.pid_moderation.specs.Views.{Views}
 use Rattle.pid_tables_rows.specs.Shows.{Numbers}
 
 -- a path has this name; the numbers are told elsewhere
-abbrev pub with_item : List ℕ → List ℕ → Views → Views
-with_item path name v = record v { items = put text_cmp path name v.items }
+abbrev pub with_item_named : List ℕ → List ℕ → Views → Views
+with_item_named path name v = record v { items = put text_cmp path name v.items }
 
 -- a path has this number
 abbrev pub with_number : List ℕ → ℕ → Numbers → Numbers

@@ -16,18 +16,14 @@ returns-clause-stands g c w shows =
     stands g.S.Store (state g.S.Store start) end w (clean_if_open (g.S.Store.view end.store) (g.met.S.Store.shut_if_dirty end.store)) (g.met.S.Store.settled end.store) c.commit.ensures.ended
     (λ clean. (c.in_ok-commit.ensures.ok clean).1) (λ opened. (shows (clean_if_open (g.S.Store.view start.store) (g.met.S.Store.shut_if_dirty start.store) opened)).1)
 
-pub returns-in_err-commit-clause-given_back : goal.returns-in_err-commit-clause-given_back
-returns-in_err-commit-clause-given_back g c v w written =
+pub returns-in_err-commit-clause-fails : goal.returns-in_err-commit-clause-fails
+returns-in_err-commit-clause-fails g c =
     let end = c.commit.new.self.0 in
     let old = state g.S.Store c.args.batch.conn.now in
-    on_err c.from_residual.result (failed_back old (state g.S.Store end) (counts_of w) v w _ (clean_if_open (g.S.Store.view end.store) (g.met.S.Store.shut_if_dirty end.store)) (earlier old (state g.S.Store end) c.commit.ensures.survives) c.in_err-commit.ensures.err written)
-
-pub returns-in_err-commit-clause-caused : goal.returns-in_err-commit-clause-caused
-returns-in_err-commit-clause-caused g c clean inside =
-    let old = state g.S.Store c.args.batch.conn.now in
-    let new = state g.S.Store c.commit.new.self.0 in
-    passed_from c.from_residual.result _ (IsCaused old new) c.from_residual.ensures.1 (commit_caused old new c.in_err-commit.field-0.0 inside (c.in_err-commit.ensures.err clean))
-
-pub returns-in_err-commit-clause-undone : goal.returns-in_err-commit-clause-undone
-returns-in_err-commit-clause-undone g c clean inside =
-    on_err c.from_residual.result (undone (state g.S.Store c.args.batch.conn.now) (state g.S.Store c.commit.new.self.0) c.in_err-commit.field-0.0 inside (c.in_err-commit.ensures.err clean))
+    let new = state g.S.Store end in
+    record {
+      caused = λ clean inside. passed_from c.from_residual.result _ (IsCaused old new) c.from_residual.ensures.1 (commit_caused old new c.in_err-commit.field-0.0 inside (c.in_err-commit.ensures.err clean));
+      given_back = λ v w written.
+          on_err c.from_residual.result (failed_back old new (counts_of w) v w _ (clean_if_open (g.S.Store.view end.store) (g.met.S.Store.shut_if_dirty end.store)) (earlier old new c.commit.ensures.survives) c.in_err-commit.ensures.err written);
+      undone = λ clean inside. on_err c.from_residual.result (undone old new c.in_err-commit.field-0.0 inside (c.in_err-commit.ensures.err clean));
+    }

@@ -15,7 +15,7 @@ use Rattle.pid_tables.proofs.MetLemmas.{reads_if_never, met_at_rest}
 use Rattle.pid_tables.proofs.MoveLemmas.{all_never, all_untold, not_on_ok}
 use Rattle.pid_tables.proofs.AtOnceLemmas.{reads_at_once, commit_at_once, commit_bare, still_bare}
 use Rattle.pid_tables.specs.AtOnce.{WritesAtOnce}
-use Rattle.pid_tables.specs.Creation.{IsMet, MakesNew, MakesNothing}
+use Rattle.pid_tables.specs.Creation.{IsNameTaken, MakesNew, MakesNothing}
 use Rattle.pid_tables.proofs.creation.create.Goals as goal
 
 -- ---- a call fails, and all is given up
@@ -89,8 +89,8 @@ returns-clause-at_once g c =
     let goes = rw c.transaction-batch.ensures.begun at c.in_ok-fill.ensures.goes in
     subst (λ h. WritesAtOnce (state g.S.Store c.args.conn.now) (state g.S.Store h) c.commit.result) same
     (commit_at_once g.S.Store c.args.conn.now first end (Ok c.in_ok-fill.field-0) goes c.commit.ensures.survives (clean_if_open (g.S.Store.view end.store) (g.met.S.Store.shut_if_dirty end.store)) c.commit.result c.commit.ensures.ended
-    (λ clean. c.commit.ensures.undone clean (goes.going (earlier (state g.S.Store first) (state g.S.Store end) c.commit.ensures.survives clean) refl).1)
-    (λ clean. all_untold (state g.S.Store first) (state g.S.Store end) c.commit.result (c.commit.ensures.caused clean (goes.going (earlier (state g.S.Store first) (state g.S.Store end) c.commit.ensures.survives clean) refl).1)))
+    (λ clean. c.commit.ensures.fails.undone clean (goes.going (earlier (state g.S.Store first) (state g.S.Store end) c.commit.ensures.survives clean) refl).1)
+    (λ clean. all_untold (state g.S.Store first) (state g.S.Store end) c.commit.result (c.commit.ensures.fails.caused clean (goes.going (earlier (state g.S.Store first) (state g.S.Store end) c.commit.ensures.survives clean) refl).1)))
 
 pub returns-clause-makes : goal.returns-clause-makes
 returns-clause-makes g c =
@@ -103,10 +103,10 @@ returns-clause-makes g c =
     subst (λ h. MakesNew old (state g.S.Store h) c.commit.result) same (record {
       made = λ rest. c.commit.ensures.stands (views_of new_history) (λ clean. ((goes.going clean refl).0, shows clean refl rest.empty));
       untold = λ clean rest.
-          all_untold (state g.S.Store first) (state g.S.Store end) c.commit.result (c.commit.ensures.caused clean (goes.going (earlier (state g.S.Store first) (state g.S.Store end) c.commit.ensures.survives clean) refl).1);
+          all_untold (state g.S.Store first) (state g.S.Store end) c.commit.result (c.commit.ensures.fails.caused clean (goes.going (earlier (state g.S.Store first) (state g.S.Store end) c.commit.ensures.survives clean) refl).1);
       bare = λ rest.
           commit_bare g.S.Store c.args.conn.now first end (Ok c.in_ok-fill.field-0) goes c.commit.ensures.survives (clean_if_open (g.S.Store.view end.store) (g.met.S.Store.shut_if_dirty end.store)) c.commit.result
-          c.commit.ensures.ended (λ clean. c.commit.ensures.undone clean (goes.going (earlier (state g.S.Store first) (state g.S.Store end) c.commit.ensures.survives clean) refl).1) (λ clean. shows clean refl rest.empty) rest;
+          c.commit.ensures.ended (λ clean. c.commit.ensures.fails.undone clean (goes.going (earlier (state g.S.Store first) (state g.S.Store end) c.commit.ensures.survives clean) refl).1) (λ clean. shows clean refl rest.empty) rest;
     })
 
 -- no name was taken, since all were made
@@ -120,7 +120,7 @@ returns-clause-spares g c =
     let goes = rw c.transaction-batch.ensures.begun at c.in_ok-fill.ensures.goes in
     let refused = rw c.transaction-batch.ensures.begun at c.in_ok-fill.ensures.refused in
     let begun = state g.S.Store (record c.args.conn.now { in_transaction = true }) in
-    let reads : IsMet old → OnlyReads old (state g.S.Store end) = λ met.
+    let reads : (IsTrue old.is_open → IsNameTaken old) → OnlyReads old (state g.S.Store end) = λ met.
     reads_if_never old (state g.S.Store end) (λ db. db ≡ mid.now.trees)
     (survives_begin g.S.Store c.args.conn.now (state g.S.Store end) (λ db. db ≡ mid.now.trees)
     (survives_then begun mid (state g.S.Store end) (λ _. ⊥) (λ db. db ≡ mid.now.trees) (λ db. db ≡ mid.now.trees) (λ clean db none. absurd none) (λ clean db is. is) goes.survives c.commit.ensures.survives))
@@ -144,4 +144,4 @@ returns-clause-never g c clean =
     let late : HasCleanDisk (state g.S.Store end) = search rules in
     let goes = rw c.transaction-batch.ensures.begun at c.in_ok-fill.ensures.goes in
     all_never c.commit.result (all_untold (state g.S.Store first) (state g.S.Store end) c.commit.result
-    (c.commit.ensures.caused late (goes.going (earlier (state g.S.Store first) (state g.S.Store end) c.commit.ensures.survives late) refl).1))
+    (c.commit.ensures.fails.caused late (goes.going (earlier (state g.S.Store first) (state g.S.Store end) c.commit.ensures.survives late) refl).1))

@@ -3,7 +3,7 @@ use Rattle.sqlite.specs.Held.{state}
 use Rattle.pid_tables_rows.specs.Faults.{IsNotNewerSchema}
 use Rattle.pid_tables_rows.proofs.CauseLemmas.{passed_on, passed_from}
 use Rattle.pid_tables_rows.proofs.GoingLemmas.{earlier}
-use Rattle.pid_tables.specs.Creation.{IsMetFault}
+use Rattle.pid_tables.specs.Creation.{IsFaultOfTaken}
 use Rattle.pid_tables.proofs.CreateLemmas.{all_made, shows_nothing, nothing_yet}
 use Rattle.pid_tables.proofs.MetLemmas.{none_met}
 use Rattle.pid_tables.proofs.creation.fill.Goals as goal
@@ -45,7 +45,7 @@ returns-clause-refused g c clean inside met =
 
 pub returns-in_err-make_tables-clause-met : goal.returns-in_err-make_tables-clause-met
 returns-in_err-make_tables-clause-met g c clean inside has =
-    passed_on c.from_residual.result _ _ (IsMetFault (state g.S.Store c.args.tx.now.conn.now) (state g.S.Store c.make_tables.new.tx.conn.now)) c.from_residual.ensures.1 (c.in_err-make_tables.ensures.met clean inside has)
+    passed_on c.from_residual.result _ _ (IsFaultOfTaken (state g.S.Store c.args.tx.now.conn.now) (state g.S.Store c.make_tables.new.tx.conn.now)) c.from_residual.ensures.1 (c.in_err-make_tables.ensures.met clean inside has)
 
 pub returns-in_err-add_labels-clause-met : goal.returns-in_err-add_labels-clause-met
 returns-in_err-add_labels-clause-met g c clean inside has =

@@ -4,7 +4,7 @@ use Rattle.pid_tables_rows.specs.Faults.{IsMemoryOrStore, IsNotNewerSchema}
 use Rattle.pid_tables_rows.specs.Schema.{meta, account, item}
 use Rattle.pid_tables_rows.proofs.CauseLemmas.{passed_on}
 use Rattle.pid_tables_rows.proofs.GoingLemmas.{earlier}
-use Rattle.pid_tables.specs.Creation.{IsMetFault}
+use Rattle.pid_tables.specs.Creation.{IsFaultOfTaken}
 use Rattle.pid_tables.proofs.CreateTexts.{meta_creates, account_creates, item_creates}
 use Rattle.pid_tables.proofs.MakerTexts.{meta_maker, account_maker, item_maker, meta_met}
 use Rattle.pid_tables.proofs.MetLemmas.{took_then, took_both}
@@ -57,7 +57,7 @@ returns-clause-takes g c clean inside =
 pub returns-in_err-make_table-clause-met : goal.returns-in_err-make_table-clause-met
 returns-in_err-make_table-clause-met g c clean inside has =
     let old = state g.S.Store c.args.tx.now.conn.now in
-    passed_on c.from_residual.result _ _ (IsMetFault old (state g.S.Store c.make_table.new.tx.conn.now)) c.from_residual.ensures.1 (c.in_err-make_table.ensures.met meta_met clean inside has)
+    passed_on c.from_residual.result _ _ (IsFaultOfTaken old (state g.S.Store c.make_table.new.tx.conn.now)) c.from_residual.ensures.1 (c.in_err-make_table.ensures.met meta_met clean inside has)
 
 pub returns-in_err-make_table-2-clause-met : goal.returns-in_err-make_table-2-clause-met
 returns-in_err-make_table-2-clause-met g c clean inside has =

@@ -5,12 +5,12 @@ use Rattle.pid_tables.proofs.creation.make_table.Goals as goal
 
 pub returns-clause-made : goal.returns-clause-made
 returns-clause-made g c before table it tables =
-    made_one before c.args.sql.now table c.write_one.result (state g.S.Store c.args.tx.now.conn.now) (state g.S.Store c.write_one.new.tx.conn.now) it tables c.write_one.ensures.goes c.write_one.ensures.ran c.write_one.ensures.untold
+    made_one before c.args.sql.now table c.write_one.result (state g.S.Store c.args.tx.now.conn.now) (state g.S.Store c.write_one.new.tx.conn.now) it tables c.write_one.ensures.goes c.write_one.ensures.runs.ran c.write_one.ensures.runs.untold
 
 pub returns-clause-takes : goal.returns-clause-takes
 returns-clause-takes g c name it clean inside =
-    taken c.args.sql.now name (state g.S.Store c.args.tx.now.conn.now) (state g.S.Store c.write_one.new.tx.conn.now) it c.write_one.result (c.write_one.ensures.ran clean inside) (c.write_one.ensures.refused clean inside)
+    taken c.args.sql.now name (state g.S.Store c.args.tx.now.conn.now) (state g.S.Store c.write_one.new.tx.conn.now) it c.write_one.result (c.write_one.ensures.runs.ran clean inside) (c.write_one.ensures.runs.refused clean inside)
 
 pub returns-clause-met : goal.returns-clause-met
 returns-clause-met g c bad clean inside has =
-    met_fault c.args.sql.now (state g.S.Store c.args.tx.now.conn.now) (state g.S.Store c.write_one.new.tx.conn.now) bad has c.write_one.result clean inside c.write_one.ensures.goes (c.write_one.ensures.ran clean inside) (c.write_one.ensures.refused clean inside)
+    met_fault c.args.sql.now (state g.S.Store c.args.tx.now.conn.now) (state g.S.Store c.write_one.new.tx.conn.now) bad has c.write_one.result clean inside c.write_one.ensures.goes (c.write_one.ensures.runs.ran clean inside) (c.write_one.ensures.runs.refused clean inside)

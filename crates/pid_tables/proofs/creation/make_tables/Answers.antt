@@ -4,7 +4,7 @@ use Rattle.pid_tables_rows.specs.Faults.{IsMemoryOrStore, IsNotNewerSchema}
 use Rattle.pid_tables_rows.specs.Schema.{meta, account, item, submission, remark, receipt, item_since}
 use Rattle.pid_tables_rows.proofs.CauseLemmas.{passed_on}
 use Rattle.pid_tables_rows.proofs.GoingLemmas.{earlier}
-use Rattle.pid_tables.specs.Creation.{IsMetFault}
+use Rattle.pid_tables.specs.Creation.{IsFaultOfTaken}
 use Rattle.pid_tables.proofs.CreateTexts.{item_since_creates}
 use Rattle.pid_tables.proofs.MakerTexts.{item_since_maker}
 use Rattle.pid_tables.proofs.MetLemmas.{took_then, took_both}
@@ -55,7 +55,7 @@ returns-clause-takes g c clean inside =
 
 pub returns-in_err-make_first-clause-met : goal.returns-in_err-make_first-clause-met
 returns-in_err-make_first-clause-met g c clean inside has =
-    passed_on c.from_residual.result _ _ (IsMetFault (state g.S.Store c.args.tx.now.conn.now) (state g.S.Store c.make_first.new.tx.conn.now)) c.from_residual.ensures.1 (c.in_err-make_first.ensures.met clean inside has)
+    passed_on c.from_residual.result _ _ (IsFaultOfTaken (state g.S.Store c.args.tx.now.conn.now) (state g.S.Store c.make_first.new.tx.conn.now)) c.from_residual.ensures.1 (c.in_err-make_first.ensures.met clean inside has)
 
 pub returns-in_err-make_rest-clause-met : goal.returns-in_err-make_rest-clause-met
 returns-in_err-make_rest-clause-met g c clean inside has =

@@ -4,7 +4,7 @@ use Rattle.sqlite.specs.Held.{state}
 use Rattle.pid_moderation.specs.Views.{views_of}
 use Rattle.pid_tables_rows.specs.declared.version.Version.TheVariants.{One, Two}
 use Rattle.pid_tables_rows.specs.Faults.{IsMemoryOrStore}
-use Rattle.pid_tables_rows.specs.Shows.{counts_of, numbers_of}
+use Rattle.pid_tables_rows.specs.Shows.{counts_of, numbers_in}
 use Rattle.pid_tables_rows.proofs.CauseLemmas.{passed_on}
 use Rattle.pid_tables_rows.proofs.OnlyReading.{reads_then, rests_in_still}
 use Rattle.pid_tables_check.specs.Checking.{Explains}
@@ -45,7 +45,7 @@ returns-then-branch-clause-shown g c = record {
   shut = λ clean closed. absurd (let both = sym (c.in_ok-is_current.ensures.was_open clean) ∙ closed in cc);
   bare = λ clean none. absurd (let both = sym c.if-branch.true ∙ c.in_ok-is_current.ensures.bare clean none in cc);
   earlier = λ clean h sound rest.
-      absurd (let both = sym c.if-branch.true ∙ c.in_ok-is_current.ensures.shown clean One (counts_of (views_of h)) (numbers_of (views_of h)) (views_of h) rest.shows in cc);
+      absurd (let both = sym c.if-branch.true ∙ c.in_ok-is_current.ensures.shown clean One (counts_of (views_of h)) (numbers_in (views_of h)) (views_of h) rest.shows in cc);
   latest = λ clean v rest. refl;
 }
 
@@ -61,7 +61,7 @@ returns-clause-shown g c =
       earlier = λ clean h sound rest.
           good_found One mid (views_of h) c.check.result (rests_in_still old mid (views_of h) c.is_current.ensures.rests rest) (λ shows. c.sound_histories_are_registries.ensures h sound (none_within _ shows.sinces.0) One mid.now shows) (c.check.ensures.shut clean) (c.check.ensures.stored clean);
       latest = λ clean v rest.
-          absurd (let both = sym c.if-branch.false ∙ c.in_ok-is_current.ensures.shown (c.check.ensures.rests.clean clean) Two (counts_of v) (numbers_of v) v rest.shows in cc);
+          absurd (let both = sym c.if-branch.false ∙ c.in_ok-is_current.ensures.shown (c.check.ensures.rests.clean clean) Two (counts_of v) (numbers_in v) v rest.shows in cc);
     }
 
 -- ---- any tables

@@ -13,26 +13,26 @@ use Rattle.pid_tables.proofs.PutInto.{puts, gives_up, shown, put_name, put_clean
 use Rattle.pid_tables.proofs.BringIn.{left_read, left_stops, stop_live, body_end, end_body, applied_stops, applied_read, err_is, end_is}
 use Rattle.pid_tables.proofs.put_file.bring_in.Goals as goal
 
-pub returns-in-Err-clause-settled : goal.returns-in-Err-clause-settled
-returns-in-Err-clause-settled g c =
-    let n = c.next_revision-revision.result in
-    let start = c.begin-batch.result in
-    let end = c.put_file.new.batch in
-    let read = c.put_file.ensures.puts in
-    let name : end.conn.ghost_name ≡ start.conn.ghost_name = put_name g.S.Store n c.put_file.result _ read.0 start end read.2 in
-    let same : c.roll_back.new.batch.0 ≡ c.conn-1.given.0 = search rules in
-    subst (λ h. h.in_transaction ≡ false) same c.roll_back.ensures.ended
-
-pub returns-in-Err-clause-clean : goal.returns-in-Err-clause-clean
-returns-in-Err-clause-clean g c clean =
-    let n = c.next_revision-revision.result in
-    let start = c.begin-batch.result in
-    let end = c.put_file.new.batch in
-    let read = c.put_file.ensures.puts in
-    let name : end.conn.ghost_name ≡ start.conn.ghost_name = put_name g.S.Store n c.put_file.result _ read.0 start end read.2 in
-    let began : HasCleanDisk (shown g.S.Store end) → HasCleanDisk (state g.S.Store c.args.conn.now) = λ clean. subst (λ h. HasCleanDisk (state g.S.Store h)) c.begin-batch.ensures.unchanged (put_clean g.S.Store n c.put_file.result _ read.0 start end read.2 clean) in
-    let same : c.roll_back.new.batch.0 ≡ c.conn-1.given.0 = search rules in
-    began (earlier (shown g.S.Store end) (state g.S.Store c.roll_back.new.batch.0) c.roll_back.ensures.survives (subst (λ h. HasCleanDisk (state g.S.Store h)) (sym same) clean))
+pub returns-in-Err-clause-ends : goal.returns-in-Err-clause-ends
+returns-in-Err-clause-ends g c = record {
+  settled =
+      let n = c.next_revision-revision.result in
+      let start = c.begin-batch.result in
+      let end = c.put_file.new.batch in
+      let read = c.put_file.ensures.puts in
+      let name : end.conn.ghost_name ≡ start.conn.ghost_name = put_name g.S.Store n c.put_file.result _ read.0 start end read.2 in
+      let same : c.roll_back.new.batch.0 ≡ c.conn-1.given.0 = search rules in
+      subst (λ h. h.in_transaction ≡ false) same c.roll_back.ensures.ended;
+  clean = λ clean.
+      let n = c.next_revision-revision.result in
+      let start = c.begin-batch.result in
+      let end = c.put_file.new.batch in
+      let read = c.put_file.ensures.puts in
+      let name : end.conn.ghost_name ≡ start.conn.ghost_name = put_name g.S.Store n c.put_file.result _ read.0 start end read.2 in
+      let began : HasCleanDisk (shown g.S.Store end) → HasCleanDisk (state g.S.Store c.args.conn.now) = λ clean. subst (λ h. HasCleanDisk (state g.S.Store h)) c.begin-batch.ensures.unchanged (put_clean g.S.Store n c.put_file.result _ read.0 start end read.2 clean) in
+      let same : c.roll_back.new.batch.0 ≡ c.conn-1.given.0 = search rules in
+      began (earlier (shown g.S.Store end) (state g.S.Store c.roll_back.new.batch.0) c.roll_back.ensures.survives (subst (λ h. HasCleanDisk (state g.S.Store h)) (sym same) clean));
+}
 
 pub returns-in-Err-clause-stops : goal.returns-in-Err-clause-stops
 returns-in-Err-clause-stops g c =
@@ -52,38 +52,38 @@ returns-in-Err-clause-stops g c =
           left_stops (puts g.S.Store n) (gives_up g.S.Store) _ read.0 start end c.in-Err.end c.stop_of.result _ h c.args.command.now c.args.facts.now c.stop_of.ensures put import open_ (subst (λ x. AtRest (state g.S.Store x) v) same back),
     )
 
-pub returns-in-Err-clause-fault : goal.returns-in-Err-clause-fault
-returns-in-Err-clause-fault g c is = c.put_file.ensures.fault (c.in-Err.is ∙ ap (λ e. Err e) (body_end c.in-Err.end c.stop_of.result c.stop_of.ensures (err_is _ _ is)))
+pub returns-in-Err-clause-read_fault : goal.returns-in-Err-clause-read_fault
+returns-in-Err-clause-read_fault g c = record {
+  told = λ is. c.put_file.ensures.fault (c.in-Err.is ∙ ap (λ e. Err e) (body_end c.in-Err.end c.stop_of.result c.stop_of.ensures (err_is _ _ is)));
+  first = λ fault.
+      let failed = sym c.in-Err.is ∙ c.put_file.ensures.fault_first fault in
+      ap (λ e. Err e) (end_body c.in-Err.end c.stop_of.result c.stop_of.ensures (end_is _ _ failed));
+}
 
-pub returns-in-Err-clause-fault_first : goal.returns-in-Err-clause-fault_first
-returns-in-Err-clause-fault_first g c fault =
-    let failed = sym c.in-Err.is ∙ c.put_file.ensures.fault_first fault in
-    ap (λ e. Err e) (end_body c.in-Err.end c.stop_of.result c.stop_of.ensures (end_is _ _ failed))
-
-pub returns-in-Err-apply_file-clause-settled : goal.returns-in-Err-apply_file-clause-settled
-returns-in-Err-apply_file-clause-settled g c =
-    let n = c.next_revision-revision.result in
-    let start = c.begin-batch.result in
-    let end = c.put_file.new.batch in
-    let read = c.put_file.ensures.puts in
-    let name : end.conn.ghost_name ≡ start.conn.ghost_name = put_name g.S.Store n c.put_file.result _ read.0 start end read.2 in
-    let after = c.apply_file.new.batch in
-    let named : after.conn.ghost_name ≡ end.conn.ghost_name = c.apply_file.ensures.same_reference in
-    let same : c.roll_back-in-Err-apply_file.new.batch.0 ≡ c.conn-in-Err-apply_file-1.given.0 = search rules in
-    subst (λ h. h.in_transaction ≡ false) same c.roll_back-in-Err-apply_file.ensures.ended
-
-pub returns-in-Err-apply_file-clause-clean : goal.returns-in-Err-apply_file-clause-clean
-returns-in-Err-apply_file-clause-clean g c clean =
-    let n = c.next_revision-revision.result in
-    let start = c.begin-batch.result in
-    let end = c.put_file.new.batch in
-    let read = c.put_file.ensures.puts in
-    let name : end.conn.ghost_name ≡ start.conn.ghost_name = put_name g.S.Store n c.put_file.result _ read.0 start end read.2 in
-    let began : HasCleanDisk (shown g.S.Store end) → HasCleanDisk (state g.S.Store c.args.conn.now) = λ clean. subst (λ h. HasCleanDisk (state g.S.Store h)) c.begin-batch.ensures.unchanged (put_clean g.S.Store n c.put_file.result _ read.0 start end read.2 clean) in
-    let after = c.apply_file.new.batch in
-    let named : after.conn.ghost_name ≡ end.conn.ghost_name = c.apply_file.ensures.same_reference in
-    let same : c.roll_back-in-Err-apply_file.new.batch.0 ≡ c.conn-in-Err-apply_file-1.given.0 = search rules in
-    began (c.apply_file.ensures.clean (earlier (shown g.S.Store after) (state g.S.Store c.roll_back-in-Err-apply_file.new.batch.0) c.roll_back-in-Err-apply_file.ensures.survives (subst (λ h. HasCleanDisk (state g.S.Store h)) (sym same) clean)))
+pub returns-in-Err-apply_file-clause-ends : goal.returns-in-Err-apply_file-clause-ends
+returns-in-Err-apply_file-clause-ends g c = record {
+  settled =
+      let n = c.next_revision-revision.result in
+      let start = c.begin-batch.result in
+      let end = c.put_file.new.batch in
+      let read = c.put_file.ensures.puts in
+      let name : end.conn.ghost_name ≡ start.conn.ghost_name = put_name g.S.Store n c.put_file.result _ read.0 start end read.2 in
+      let after = c.apply_file.new.batch in
+      let named : after.conn.ghost_name ≡ end.conn.ghost_name = c.apply_file.ensures.same_reference in
+      let same : c.roll_back-in-Err-apply_file.new.batch.0 ≡ c.conn-in-Err-apply_file-1.given.0 = search rules in
+      subst (λ h. h.in_transaction ≡ false) same c.roll_back-in-Err-apply_file.ensures.ended;
+  clean = λ clean.
+      let n = c.next_revision-revision.result in
+      let start = c.begin-batch.result in
+      let end = c.put_file.new.batch in
+      let read = c.put_file.ensures.puts in
+      let name : end.conn.ghost_name ≡ start.conn.ghost_name = put_name g.S.Store n c.put_file.result _ read.0 start end read.2 in
+      let began : HasCleanDisk (shown g.S.Store end) → HasCleanDisk (state g.S.Store c.args.conn.now) = λ clean. subst (λ h. HasCleanDisk (state g.S.Store h)) c.begin-batch.ensures.unchanged (put_clean g.S.Store n c.put_file.result _ read.0 start end read.2 clean) in
+      let after = c.apply_file.new.batch in
+      let named : after.conn.ghost_name ≡ end.conn.ghost_name = c.apply_file.ensures.same_reference in
+      let same : c.roll_back-in-Err-apply_file.new.batch.0 ≡ c.conn-in-Err-apply_file-1.given.0 = search rules in
+      began (c.apply_file.ensures.clean (earlier (shown g.S.Store after) (state g.S.Store c.roll_back-in-Err-apply_file.new.batch.0) c.roll_back-in-Err-apply_file.ensures.survives (subst (λ h. HasCleanDisk (state g.S.Store h)) (sym same) clean)));
+}
 
 pub returns-in-Err-apply_file-clause-stops : goal.returns-in-Err-apply_file-clause-stops
 returns-in-Err-apply_file-clause-stops g c =
@@ -110,33 +110,36 @@ returns-in-Err-apply_file-clause-stops g c =
           applied_stops c.in-Err-apply_file.stop _ (shown g.S.Store after) h _ applied (subst (λ x. AtRest (state g.S.Store x) v) same back),
     )
 
-pub returns-in-Err-apply_file-clause-fault : goal.returns-in-Err-apply_file-clause-fault
-returns-in-Err-apply_file-clause-fault g c is = absurd (c.in-Err-apply_file.ensures.reads (err_is _ _ is))
+pub returns-in-Err-apply_file-clause-read_fault : goal.returns-in-Err-apply_file-clause-read_fault
+returns-in-Err-apply_file-clause-read_fault g c = record {
+  told = λ is. absurd (c.in-Err-apply_file.ensures.reads (err_is _ _ is));
+  first = λ fault. search rules;
+}
 
-pub returns-in-Ok-commit-clause-settled : goal.returns-in-Ok-commit-clause-settled
-returns-in-Ok-commit-clause-settled g c =
-    let n = c.next_revision-revision.result in
-    let start = c.begin-batch.result in
-    let end = c.put_file.new.batch in
-    let read = c.put_file.ensures.puts in
-    let name : end.conn.ghost_name ≡ start.conn.ghost_name = put_name g.S.Store n c.put_file.result _ read.0 start end read.2 in
-    let after = c.apply_file.new.batch in
-    let named : after.conn.ghost_name ≡ end.conn.ghost_name = c.apply_file.ensures.same_reference in
-    let same : c.commit.new.batch.0 ≡ c.conn-in-Ok-apply_file-1.given.0 = search rules in
-    subst (λ h. h.in_transaction ≡ false) same c.commit.ensures.ended
-
-pub returns-in-Ok-commit-clause-clean : goal.returns-in-Ok-commit-clause-clean
-returns-in-Ok-commit-clause-clean g c clean =
-    let n = c.next_revision-revision.result in
-    let start = c.begin-batch.result in
-    let end = c.put_file.new.batch in
-    let read = c.put_file.ensures.puts in
-    let name : end.conn.ghost_name ≡ start.conn.ghost_name = put_name g.S.Store n c.put_file.result _ read.0 start end read.2 in
-    let began : HasCleanDisk (shown g.S.Store end) → HasCleanDisk (state g.S.Store c.args.conn.now) = λ clean. subst (λ h. HasCleanDisk (state g.S.Store h)) c.begin-batch.ensures.unchanged (put_clean g.S.Store n c.put_file.result _ read.0 start end read.2 clean) in
-    let after = c.apply_file.new.batch in
-    let named : after.conn.ghost_name ≡ end.conn.ghost_name = c.apply_file.ensures.same_reference in
-    let same : c.commit.new.batch.0 ≡ c.conn-in-Ok-apply_file-1.given.0 = search rules in
-    began (c.apply_file.ensures.clean (earlier (shown g.S.Store after) (state g.S.Store c.commit.new.batch.0) c.commit.ensures.survives (subst (λ h. HasCleanDisk (state g.S.Store h)) (sym same) clean)))
+pub returns-in-Ok-commit-clause-ends : goal.returns-in-Ok-commit-clause-ends
+returns-in-Ok-commit-clause-ends g c = record {
+  settled =
+      let n = c.next_revision-revision.result in
+      let start = c.begin-batch.result in
+      let end = c.put_file.new.batch in
+      let read = c.put_file.ensures.puts in
+      let name : end.conn.ghost_name ≡ start.conn.ghost_name = put_name g.S.Store n c.put_file.result _ read.0 start end read.2 in
+      let after = c.apply_file.new.batch in
+      let named : after.conn.ghost_name ≡ end.conn.ghost_name = c.apply_file.ensures.same_reference in
+      let same : c.commit.new.batch.0 ≡ c.conn-in-Ok-apply_file-1.given.0 = search rules in
+      subst (λ h. h.in_transaction ≡ false) same c.commit.ensures.ended;
+  clean = λ clean.
+      let n = c.next_revision-revision.result in
+      let start = c.begin-batch.result in
+      let end = c.put_file.new.batch in
+      let read = c.put_file.ensures.puts in
+      let name : end.conn.ghost_name ≡ start.conn.ghost_name = put_name g.S.Store n c.put_file.result _ read.0 start end read.2 in
+      let began : HasCleanDisk (shown g.S.Store end) → HasCleanDisk (state g.S.Store c.args.conn.now) = λ clean. subst (λ h. HasCleanDisk (state g.S.Store h)) c.begin-batch.ensures.unchanged (put_clean g.S.Store n c.put_file.result _ read.0 start end read.2 clean) in
+      let after = c.apply_file.new.batch in
+      let named : after.conn.ghost_name ≡ end.conn.ghost_name = c.apply_file.ensures.same_reference in
+      let same : c.commit.new.batch.0 ≡ c.conn-in-Ok-apply_file-1.given.0 = search rules in
+      began (c.apply_file.ensures.clean (earlier (shown g.S.Store after) (state g.S.Store c.commit.new.batch.0) c.commit.ensures.survives (subst (λ h. HasCleanDisk (state g.S.Store h)) (sym same) clean)));
+}
 
 pub returns-in-Ok-commit-clause-stops : goal.returns-in-Ok-commit-clause-stops
 returns-in-Ok-commit-clause-stops g c =
@@ -162,30 +165,30 @@ returns-in-Ok-commit-clause-stops g c =
           (applied.0, subst (λ x. AtRest (state g.S.Store x) w) same (c.in-Ok-commit.ensures.stands w (λ clean. (applied.1.opened clean, applied.1.within.shows (applied.1.opened clean))))),
     )
 
-pub returns-in-Err-commit-clause-settled : goal.returns-in-Err-commit-clause-settled
-returns-in-Err-commit-clause-settled g c =
-    let n = c.next_revision-revision.result in
-    let start = c.begin-batch.result in
-    let end = c.put_file.new.batch in
-    let read = c.put_file.ensures.puts in
-    let name : end.conn.ghost_name ≡ start.conn.ghost_name = put_name g.S.Store n c.put_file.result _ read.0 start end read.2 in
-    let after = c.apply_file.new.batch in
-    let named : after.conn.ghost_name ≡ end.conn.ghost_name = c.apply_file.ensures.same_reference in
-    let same : c.commit.new.batch.0 ≡ c.conn-in-Ok-apply_file-1.given.0 = search rules in
-    subst (λ h. h.in_transaction ≡ false) same c.commit.ensures.ended
-
-pub returns-in-Err-commit-clause-clean : goal.returns-in-Err-commit-clause-clean
-returns-in-Err-commit-clause-clean g c clean =
-    let n = c.next_revision-revision.result in
-    let start = c.begin-batch.result in
-    let end = c.put_file.new.batch in
-    let read = c.put_file.ensures.puts in
-    let name : end.conn.ghost_name ≡ start.conn.ghost_name = put_name g.S.Store n c.put_file.result _ read.0 start end read.2 in
-    let began : HasCleanDisk (shown g.S.Store end) → HasCleanDisk (state g.S.Store c.args.conn.now) = λ clean. subst (λ h. HasCleanDisk (state g.S.Store h)) c.begin-batch.ensures.unchanged (put_clean g.S.Store n c.put_file.result _ read.0 start end read.2 clean) in
-    let after = c.apply_file.new.batch in
-    let named : after.conn.ghost_name ≡ end.conn.ghost_name = c.apply_file.ensures.same_reference in
-    let same : c.commit.new.batch.0 ≡ c.conn-in-Ok-apply_file-1.given.0 = search rules in
-    began (c.apply_file.ensures.clean (earlier (shown g.S.Store after) (state g.S.Store c.commit.new.batch.0) c.commit.ensures.survives (subst (λ h. HasCleanDisk (state g.S.Store h)) (sym same) clean)))
+pub returns-in-Err-commit-clause-ends : goal.returns-in-Err-commit-clause-ends
+returns-in-Err-commit-clause-ends g c = record {
+  settled =
+      let n = c.next_revision-revision.result in
+      let start = c.begin-batch.result in
+      let end = c.put_file.new.batch in
+      let read = c.put_file.ensures.puts in
+      let name : end.conn.ghost_name ≡ start.conn.ghost_name = put_name g.S.Store n c.put_file.result _ read.0 start end read.2 in
+      let after = c.apply_file.new.batch in
+      let named : after.conn.ghost_name ≡ end.conn.ghost_name = c.apply_file.ensures.same_reference in
+      let same : c.commit.new.batch.0 ≡ c.conn-in-Ok-apply_file-1.given.0 = search rules in
+      subst (λ h. h.in_transaction ≡ false) same c.commit.ensures.ended;
+  clean = λ clean.
+      let n = c.next_revision-revision.result in
+      let start = c.begin-batch.result in
+      let end = c.put_file.new.batch in
+      let read = c.put_file.ensures.puts in
+      let name : end.conn.ghost_name ≡ start.conn.ghost_name = put_name g.S.Store n c.put_file.result _ read.0 start end read.2 in
+      let began : HasCleanDisk (shown g.S.Store end) → HasCleanDisk (state g.S.Store c.args.conn.now) = λ clean. subst (λ h. HasCleanDisk (state g.S.Store h)) c.begin-batch.ensures.unchanged (put_clean g.S.Store n c.put_file.result _ read.0 start end read.2 clean) in
+      let after = c.apply_file.new.batch in
+      let named : after.conn.ghost_name ≡ end.conn.ghost_name = c.apply_file.ensures.same_reference in
+      let same : c.commit.new.batch.0 ≡ c.conn-in-Ok-apply_file-1.given.0 = search rules in
+      began (c.apply_file.ensures.clean (earlier (shown g.S.Store after) (state g.S.Store c.commit.new.batch.0) c.commit.ensures.survives (subst (λ h. HasCleanDisk (state g.S.Store h)) (sym same) clean)));
+}
 
 pub returns-in-Err-commit-clause-stops : goal.returns-in-Err-commit-clause-stops
 returns-in-Err-commit-clause-stops g c =

@@ -9,7 +9,7 @@ use Rattle.pid_tables.proofs.putting.names_inside.Goals as goal
 
 pub returns-clause-shows : goal.returns-clause-shows
 returns-clause-shows g c clean inside counts v shows _ =
-    both_sides _ _ c.read_inside.result (c.read_inside.ensures.untold clean pid_schema shows.schema (select_item_is Two).plain)
+    both_sides _ _ c.read_inside.result (c.read_inside.ensures.faults.untold clean pid_schema shows.schema (select_item_is Two).plain)
     (on_read select_item _ (state g.S.Store c.args.batch.now.conn.now) (state g.S.Store c.read_inside.new.tx.conn.now) c.read_inside.result (λ rows. rows.items) counts v (select_item_is Two).plain shows (c.read_inside.ensures.shown clean))
 
 pub returns-clause-found : goal.returns-clause-found

@@ -40,13 +40,13 @@ returns-in_err-check_lacking-clause-rests g c =
     let b = state g.S.Store c.has_each_table.new.conn in
     let d = state g.S.Store c.has_some_table.new.conn in
     let end = state g.S.Store c.check_lacking.new.conn in
-    reads_then a d end (reads_then a b d c.in_ok-has_each_table.ensures.rests c.in_ok-has_some_table.ensures.rests) c.in_err-check_lacking.ensures.rests
+    reads_then a d end (reads_then a b d c.in_ok-has_each_table.ensures.rests c.in_ok-has_some_table.ensures.reads.rests) c.in_err-check_lacking.ensures.rests
 
 pub returns-in_err-check_lacking-clause-told : goal.returns-in_err-check_lacking-clause-told
 returns-in_err-check_lacking-clause-told g c clean =
     let a = (state g.S.Store c.args.conn.now).now in
     let late = c.in_err-check_lacking.ensures.rests.clean clean in
-    let mid = c.in_ok-has_some_table.ensures.rests.clean late in
+    let mid = c.in_ok-has_some_table.ensures.reads.rests.clean late in
     let one = c.in_ok-has_each_table.ensures.same mid in
     let two = c.in_ok-has_some_table.ensures.same late in
     let some = subst (λ (x : Database). HasSomeTable x.schema) one ((c.in_ok-has_some_table.ensures.asked late).0 c.if-branch-2.true) in

@@ -7,7 +7,7 @@ use Rattle.pid_tables_rows.proofs.CauseLemmas.{passed_from}
 use Rattle.pid_tables_check.proofs.AskedTexts.{is_query}
 use Rattle.pid_tables_check.specs.declared.shape.Table.{Table}
 use Rattle.pid_tables_check.specs.Queries.{query_of}
-use Rattle.pid_tables_check.specs.Shapes.{IsAsked}
+use Rattle.pid_tables_check.specs.Shapes.{CanBeAsked}
 use Rattle.pid_tables_check.proofs.Asking.{same_then, none_yet, still_open, caused_then}
 use Rattle.pid_tables_check.proofs.shape.has_any.Goals as goal
 
@@ -40,5 +40,5 @@ returns-in_err-can_ask-clause-caused g c clean v rest =
 pub returns-clause-asked : goal.returns-clause-asked
 returns-clause-asked g c clean = (
   λ off. absurd cc,
-  λ any. absurd (c.loop-table.invariant.1 clean any.0 any.1 (omega (arith, any.2, c.loop-table-test.false)) (subst (λ (t : Table). IsAsked c.args.conn.now.schema (query_of t)) (sym any.3) any.4)),
+  λ any. absurd (c.loop-table.invariant.1 clean any.0 any.1 (omega (arith, any.2, c.loop-table-test.false)) (subst (λ (t : Table). CanBeAsked c.args.conn.now.schema (query_of t)) (sym any.3) any.4)),
 )

@@ -21,7 +21,10 @@ told : (old new : State) (v : Views) (r : Result Bool TableFault) → AtRest old
 told old new v (Ok some) rest opened judged caused = judged.1 (each_some old.now.schema (complete Two old.now.schema (rest.shows opened).schema))
 told old new v (Err e) rest opened judged caused = λ readable. caused
 
-pub returns-clause-found : goal.returns-clause-found
-returns-clause-found g c clean v rest =
-    told (state g.S.Store c.args.conn.now) (state g.S.Store c.has_any.new.conn) v c.has_any.result rest (c.has_any.ensures.was_open clean (omega arith)) (if_ok c.has_any.result (λ asked judged. some_table c.args.conn.now.schema asked judged) (c.has_any.ensures.asked clean))
-    (c.has_any.ensures.caused clean v rest)
+pub returns-clause-reads : goal.returns-clause-reads
+returns-clause-reads g c = record {
+  rests = c.has_any.ensures.rests;
+  told = λ clean v rest.
+      told (state g.S.Store c.args.conn.now) (state g.S.Store c.has_any.new.conn) v c.has_any.result rest (c.has_any.ensures.was_open clean (omega arith)) (if_ok c.has_any.result (λ asked judged. some_table c.args.conn.now.schema asked judged) (c.has_any.ensures.asked clean))
+      (c.has_any.ensures.caused clean v rest);
+}

@@ -15,14 +15,16 @@ loop-row-preserved g c =
     let one = c.in_ok-add_changed.ensures in
     let before = c.loop-row.invariant in (
       reads_then _ _ _ before.0 one.rests,
-      λ clean v all rest named is.
+      λ clean v all rest change.
+          let named = change.0 in
+          let is = change.1 in
           let next = next_of since_shown all c.args.rows.now c.loop-row.row-index c.row-item.result is c.loop-row-test.true in
           let stands = all_has (λ (item : Changed). name_at item.path v.items ≡ Some item.name) all next.it named next.there in
-          one.told clean v next.it (before.0.kept v rest) stands (c.row-item.is ∙ next.is) ∙ ap (λ l. l ++ next.it ∷ []) (before.1 (one.rests.clean clean) v all rest named is) ∙ sym next.more,
+          one.told clean v next.it (before.0.kept v rest) (stands, c.row-item.is ∙ next.is) ∙ ap (λ l. l ++ next.it ∷ []) (before.1 (one.rests.clean clean) v all rest change) ∙ sym next.more,
     )
 
 pub returns-in_err-add_changed-clause-told : goal.returns-in_err-add_changed-clause-told
-returns-in_err-add_changed-clause-told g c clean v all rest named is =
+returns-in_err-add_changed-clause-told g c clean v all rest (named, is) =
     let one = c.in_err-add_changed.ensures in
     let before = c.loop-row.invariant in
     let old = state g.S.Store c.args.conn.now in
@@ -32,4 +34,4 @@ returns-in_err-add_changed-clause-told g c clean v all rest named is =
     let stands = all_has (λ (item : Changed). name_at item.path v.items ≡ Some item.name) all next.it named next.there in
     passed_on c.from_residual.result _ _ (λ fault. IsReadable v → IsCaused old new fault) c.from_residual.ensures.1
     (λ readable. caused_later old mid new (λ _. ⊥) c.in_err-add_changed.field-0.0 before.0.survives one.rests.survives.counts (one.rests.clean clean)
-    (one.told clean v next.it (before.0.kept v rest) stands (c.row-item.is ∙ next.is) readable))
+    (one.told clean v next.it (before.0.kept v rest) (stands, c.row-item.is ∙ next.is) readable))

@@ -2,11 +2,11 @@ use Rattle.std.proofs.Common.{◌≡◌, List, map, take}
 use Rattle.pid_moderation.specs.Views.{Views}
 use Rattle.pid_tables_rows.specs.Clauses.{AtRest, HasCleanDisk, OnlyReads}
 use Rattle.pid_moderation.specs.ChangePages.{Changed, changed_of}
-use Rattle.pid_tables_lists.specs.Steps.ChangeRows.{since_shown, AreNamed}
+use Rattle.pid_tables_lists.specs.Steps.ChangeRows.{AreChangesIn}
 use Rattle.pid_tables_lists.proofs.changes.changed_items.Given as goal
 
 abbrev pub invariant-loop-row : goal.invariant-loop-row
 invariant-loop-row g l =
     OnlyReads g.S.Store l.initial.conn l.conn
-    × (HasCleanDisk g.S.Store l.conn → (v : Views) (all : List Changed) → AtRest g.S.Store l.initial.conn v → AreNamed v all → l.rows ≡ map since_shown all
+    × (HasCleanDisk g.S.Store l.conn → (v : Views) (all : List Changed) → AtRest g.S.Store l.initial.conn v → AreChangesIn v all l.rows
     → map changed_of l.items.items ≡ take l.row-index all)

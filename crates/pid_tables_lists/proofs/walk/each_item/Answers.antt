@@ -6,7 +6,7 @@ use Rattle.sqlite.proofs.StateLemmas.{clean_if_open}
 use Rattle.pid_tables_rows.specs.Leaves.{OnlyReads}
 use Rattle.pid_tables_lists.specs.EachItem.{IsCausedEnd, placed_from}
 use Rattle.pid_tables_lists.proofs.ItemLists.{select_all}
-use Rattle.pid_tables_lists.proofs.WalkLemmas.{refused, refused_caused, step_caused, unread_caused, end_caused, tables_caused, never_so_many, begun, walked_rests, walk_rests, faulted, taken, not_taken, all_taken, took_more, some_stopped, some_left}
+use Rattle.pid_tables_lists.proofs.WalkLemmas.{refused, refused_caused, step_caused, unread_caused, end_caused, tables_caused, never_so_many, begun, walked_rests, walk_rests, faulted, taken, not_taken, all_taken, took_more, some_stopped, some_left, some_all}
 use Rattle.pid_tables_rows.proofs.OnlyReading.{keeps_same, keeps_either}
 use Rattle.pid_tables_lists.proofs.walk.each_item.Goals as goal
 
@@ -99,7 +99,7 @@ returns-clause-rests g c =
 pub returns-clause-told : goal.returns-clause-told
 returns-clause-told g c clean v rest =
     let late : HasCleanDisk (state g.S.Store c.rows.rows.conn.now) = search rules in
-    (take c.rows.at (placed_from 1 v.items), drop c.rows.at (placed_from 1 v.items), sym (take-append-drop c.rows.at (placed_from 1 v.items)), c.rows.invariant.0.took late v rest)
+    record { front = take c.rows.at (placed_from 1 v.items); rest = drop c.rows.at (placed_from 1 v.items); parts = sym (take-append-drop c.rows.at (placed_from 1 v.items)); took = c.rows.invariant.0.took late v rest }
 
 -- ---- causes
 
@@ -154,3 +154,9 @@ pub returns-in_err-hand_on-clause-some : goal.returns-in_err-hand_on-clause-some
 returns-in_err-hand_on-clause-some g c =
     let p = err_from_is_err_and c.from_residual-in_err-hand_on.result c.from_residual-in_err-hand_on.ensures.1 in
     some_stopped g.K.Sink.takes g.K.Sink.faults c.args.sink.now c.rows.sink c.hand_on.new.sink c.hand_on.result c.in_err-hand_on.field-0.0 c.from_residual-in_err-hand_on.result c.in_err-hand_on.was (p.1 ∙ ap Err p.2) c.rows.invariant.2 c.hand_on.ensures.some
+
+pub returns-in_default-clause-some : goal.returns-in_default-clause-some
+returns-in_default-clause-some g c = some_all g.K.Sink.takes g.K.Sink.faults c.args.sink.now c.rows.sink c.rows.sink _ _ refl c.rows.invariant.2
+
+pub returns-clause-some : goal.returns-clause-some
+returns-clause-some g c = some_left g.K.Sink.takes g.K.Sink.faults c.args.sink.now c.rows.sink c.rows.sink _ _ refl c.rows.invariant.2

@@ -15,7 +15,7 @@ returns-in-Vendor g c = record {
   told = λ clean v rest all parents.
       let second = c.in_ok-generic-in-Vendor.ensures in
       let first = c.in_ok-below.ensures in
-      let one = rw (c.as_bytes.ensures.value, c.in_ok-text.ensures) at (first.told (second.rests.clean clean) v rest) in
+      let one = rw (c.as_str.ensures.value, c.in_ok-text.ensures) at (first.told (second.rests.clean clean) v rest) in
       let two = (second.told clean v (first.rests.kept v rest)).1 in
       let vendor : c.args.path ≡ Vendor c.in-Vendor.vendor = c.in-Vendor.is in
       c.either.ensures ∙ ap (λ b. b || c.in_ok-generic-in-Vendor.generic) one.1 ∙ ap (λ b. holds_between (path_text c.args.path ++ 47 ∷ []) (path_text c.args.path ++ 48 ∷ []) v.items || b) two
@@ -27,6 +27,6 @@ pub returns : goal.returns
 returns g c = record {
   rests = c.in_ok-below.ensures.rests;
   told = λ clean v rest all parents.
-      let one = rw (c.as_bytes.ensures.value, c.in_ok-text.ensures) at (c.in_ok-below.ensures.told clean v rest) in
+      let one = rw (c.as_str.ensures.value, c.in_ok-text.ensures) at (c.in_ok-below.ensures.told clean v rest) in
       one.1 ∙ other_children v.items one.0.sorted all parents c.args.path (is_no_vendor c.args.path (λ a is. c.in_default.not-Vendor a is));
 }

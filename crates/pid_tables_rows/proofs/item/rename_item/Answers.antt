@@ -1,8 +1,8 @@
 use Rattle.std.proofs.Common.{ap, not}
 use Rattle.sqlite.specs.Held.{state}
 use Rattle.pid_tables_rows.specs.Faults.{IsMemoryOrStore}
-use Rattle.pid_tables_rows.specs.Shows.{numbers_of}
-use Rattle.pid_tables_rows.specs.Steps.Writes.{with_item}
+use Rattle.pid_tables_rows.specs.Shows.{numbers_in}
+use Rattle.pid_tables_rows.specs.Steps.Writes.{with_item_named}
 use Rattle.pid_tables_rows.proofs.CauseLemmas.{passed_on}
 use Rattle.pid_tables_rows.proofs.GoingLemmas.{earlier}
 use Rattle.pid_tables_rows.proofs.WriteRows.{named_shows, then_shows, since_there}
@@ -16,10 +16,10 @@ returns-clause-shows g c clean inside counts v shows fits =
     let first = c.in_ok-update_item.ensures in
     let path = c.args.path.now in
     let name = c.args.name.now in
-    let written = first.shows before inside counts (numbers_of v) v shows fits.0 in
+    let written = first.shows before inside counts (numbers_in v) v shows fits.0 in
     then_shows c.update_since.result (named_shows counts c.args.since path name v new.now (ap not fits.1))
-    (c.update_since.ensures.shows clean (first.goes.going before inside).1 counts (numbers_of v) (with_item path name v) written (since_there v c.args.path.now fits.0))
+    (c.update_since.ensures.shows clean (first.goes.going before inside).1 counts (numbers_in v) (with_item_named path name v) written (since_there v c.args.path.now fits.0))
 
 pub returns-in_err-update_item-clause-shows : goal.returns-in_err-update_item-clause-shows
 returns-in_err-update_item-clause-shows g c clean inside counts v shows fits =
-    passed_on c.from_residual.result _ _ IsMemoryOrStore c.from_residual.ensures.1 (c.in_err-update_item.ensures.shows clean inside counts (numbers_of v) v shows fits.0)
+    passed_on c.from_residual.result _ _ IsMemoryOrStore c.from_residual.ensures.1 (c.in_err-update_item.ensures.shows clean inside counts (numbers_in v) v shows fits.0)

@@ -12,7 +12,7 @@ returns-clause-shows g c clean inside counts numbers v shows fits =
     let old = state g.S.Store c.args.tx.now.conn.now in
     let new = state g.S.Store c.write_one.new.tx.conn.now in
     led c.write_one.result (since_changed old new counts v shows c.args.path.now c.args.since fits)
-    (rw (c.to_sql-path.ensures, c.in_ok-since.ensures) at (c.write_one.ensures.ran clean inside)) (c.write_one.ensures.untold clean pid_schema (λ opened. shows.schema) (update_writes update_since_is))
+    (rw (c.to_sql-path.ensures, c.in_ok-since.ensures) at (c.write_one.ensures.runs.ran clean inside)) (c.write_one.ensures.runs.untold clean pid_schema (λ opened. shows.schema) (update_writes update_since_is))
 
 pub returns-in_err-since-clause-shows : goal.returns-in_err-since-clause-shows
 returns-in_err-since-clause-shows g c clean inside counts numbers v shows fits = passed_on c.from_residual.result _ _ IsMemoryOrStore c.from_residual.ensures.1 c.in_err-since.ensures

@@ -17,15 +17,15 @@ returns-clause-added g c clean inside counts v shows =
     let new = state g.S.Store c.write_one-2.new.tx.conn.now in
     let before = earlier mid new c.write_one-2.ensures.goes.survives clean in
     let first = c.in_ok-write_one.ensures in
-    let made = first.ran before inside in
+    let made = first.runs.ran before inside in
     let there = shows (first.goes.was_open before (first.goes.going before inside).0) in
-    led c.write_one-2.result (table_added old mid new counts v there made) (c.write_one-2.ensures.ran clean (first.goes.going before inside).1)
-    (c.write_one-2.ensures.untold clean (schema_of Two) (λ opened. (table_made old mid there.schema made).schema) fill_writes)
+    led c.write_one-2.result (table_added old mid new counts v there made) (c.write_one-2.ensures.runs.ran clean (first.goes.going before inside).1)
+    (c.write_one-2.ensures.runs.untold clean (schema_of Two) (λ opened. (table_made old mid there.schema made).schema) fill_writes)
 
 pub returns-in_err-write_one-clause-added : goal.returns-in_err-write_one-clause-added
 returns-in_err-write_one-clause-added g c clean inside counts v shows =
     passed_on c.from_residual.result _ _ IsMemoryOrStore c.from_residual.ensures.1
-    (c.in_err-write_one.ensures.untold clean (schema_of One) (λ opened. (shows opened).schema) (create_writes (schema_of One) create_since _ create_is create_plain create_whole create_defined))
+    (c.in_err-write_one.ensures.runs.untold clean (schema_of One) (λ opened. (shows opened).schema) (create_writes (schema_of One) create_since _ create_is create_plain create_whole create_defined))
 
 pub returns-in_err-write_one-clause-never : goal.returns-in_err-write_one-clause-never
 returns-in_err-write_one-clause-never g c = passed_on c.from_residual.result _ _ IsNotNewerSchema c.from_residual.ensures.1 c.in_err-write_one.ensures.never

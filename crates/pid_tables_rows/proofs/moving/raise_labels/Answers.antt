@@ -16,14 +16,14 @@ returns-clause-raised g c clean inside counts v shows =
     let new = state g.S.Store c.write_one-2.new.tx.conn.now in
     let before = earlier mid new c.write_one-2.ensures.goes.survives clean in
     let first = c.in_ok-write_one.ensures in
-    let added = rw (c.to_sql-revision.ensures, c.to_sql-none.ensures) at (first.ran before inside) in
+    let added = rw (c.to_sql-revision.ensures, c.to_sql-none.ensures) at (first.runs.ran before inside) in
     led c.write_one-2.result (labels_raised old mid new counts v shows added)
-    (rw (c.to_sql-schema.ensures, c.to_sql-two.ensures) at (c.write_one-2.ensures.ran clean (first.goes.going before inside).1))
-    (c.write_one-2.ensures.untold clean (schema_of Two) (λ opened. between_schema old mid new counts v shows added) (update_writes (update_meta_is Two)))
+    (rw (c.to_sql-schema.ensures, c.to_sql-two.ensures) at (c.write_one-2.ensures.runs.ran clean (first.goes.going before inside).1))
+    (c.write_one-2.ensures.runs.untold clean (schema_of Two) (λ opened. between_schema old mid new counts v shows added) (update_writes (update_meta_is Two)))
 
 pub returns-in_err-write_one-clause-raised : goal.returns-in_err-write_one-clause-raised
 returns-in_err-write_one-clause-raised g c clean inside counts v shows =
-    passed_on c.from_residual.result _ _ IsMemoryOrStore c.from_residual.ensures.1 (c.in_err-write_one.ensures.untold clean (schema_of Two) (λ opened. shows.schema) (insert_writes (insert_meta_is Two)))
+    passed_on c.from_residual.result _ _ IsMemoryOrStore c.from_residual.ensures.1 (c.in_err-write_one.ensures.runs.untold clean (schema_of Two) (λ opened. shows.schema) (insert_writes (insert_meta_is Two)))
 
 pub returns-in_err-write_one-clause-never : goal.returns-in_err-write_one-clause-never
 returns-in_err-write_one-clause-never g c = passed_on c.from_residual.result _ _ IsNotNewerSchema c.from_residual.ensures.1 c.in_err-write_one.ensures.never

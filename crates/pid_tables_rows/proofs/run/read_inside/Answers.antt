@@ -30,17 +30,15 @@ returns-clause-goes g c =
       going = λ clean inside. let passes = shown_passes c.args.sql.now (bound c.args.params.now) _ _ rows (shown clean) in (passes.is_open, passes.mode ∙ inside);
     }
 
-pub returns-in_err-query_all-clause-untold : goal.returns-in_err-query_all-clause-untold
-returns-in_err-query_all-clause-untold g c clean schema has plain =
-    let p = err_from_is_err_and c.from_residual.result c.from_residual.ensures.1 in
-    subst (λ r. IfErr r IsMemoryOrStore) (sym p.1) (subst IsMemoryOrStore (sym p.2) (untold c.args.sql.now (bound c.args.params.now) _ _ has plain _ (c.in_err-query_all.ensures.err clean)))
-
-pub returns-in_err-query_all-clause-caused : goal.returns-in_err-query_all-clause-caused
-returns-in_err-query_all-clause-caused g c clean schema has query =
+pub returns-in_err-query_all-clause-faults : goal.returns-in_err-query_all-clause-faults
+returns-in_err-query_all-clause-faults g c =
     let p = err_from_is_err_and c.from_residual.result c.from_residual.ensures.1 in
     let old = state g.S.Store c.args.tx.now.conn.now in
     let new = state g.S.Store c.query_all.new.self.conn.now in
-    subst (λ r. IfErr r (IsCaused old new)) (sym p.1) (subst (IsCaused old new) (sym p.2) (caused c.args.sql.now (bound c.args.params.now) old new has query _ (c.in_err-query_all.ensures.err clean)))
+    record {
+      untold = λ clean schema has plain. subst (λ r. IfErr r IsMemoryOrStore) (sym p.1) (subst IsMemoryOrStore (sym p.2) (untold c.args.sql.now (bound c.args.params.now) _ _ has plain _ (c.in_err-query_all.ensures.err clean)));
+      caused = λ clean schema has query. subst (λ r. IfErr r (IsCaused old new)) (sym p.1) (subst (IsCaused old new) (sym p.2) (caused c.args.sql.now (bound c.args.params.now) old new has query _ (c.in_err-query_all.ensures.err clean)));
+    }
 
 pub returns-in_err-query_all-clause-never : goal.returns-in_err-query_all-clause-never
 returns-in_err-query_all-clause-never g c =

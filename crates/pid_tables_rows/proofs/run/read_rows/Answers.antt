@@ -55,7 +55,7 @@ returns-clause-caused g c clean v rest query =
     let late : HasCleanDisk (state g.S.Store end) = search rules in
     let mid : HasCleanDisk (state g.S.Store c.read_inside.new.tx.conn.now) = omega (arith, c.drop-tx.ensures.survives.clean) in
     let begun = state g.S.Store (record c.args.conn.now { in_transaction = true }) in
-    let told : IfErr c.read_inside.result (IsCaused begun (state g.S.Store c.read_inside.new.tx.conn.now)) = rw c.transaction-tx.ensures.begun at (c.read_inside.ensures.caused mid) pid_schema (λ opened. (rest.shows opened).schema) query in
+    let told : IfErr c.read_inside.result (IsCaused begun (state g.S.Store c.read_inside.new.tx.conn.now)) = rw c.transaction-tx.ensures.begun at (c.read_inside.ensures.faults.caused mid) pid_schema (λ opened. (rest.shows opened).schema) query in
     subst (λ h. IfErr c.read_inside.result (IsCaused (state g.S.Store c.args.conn.now) (state g.S.Store h))) same
     (later g.S.Store c.args.conn.now (state g.S.Store c.read_inside.new.tx.conn.now) (state g.S.Store end) c.read_inside.result c.drop-tx.ensures.survives.counts told)
 
@@ -65,5 +65,5 @@ returns-clause-untold g c clean schema has plain =
     let same : end ≡ c.conn-1.given.0 = search rules in
     let late : HasCleanDisk (state g.S.Store end) = search rules in
     let mid : HasCleanDisk (state g.S.Store c.read_inside.new.tx.conn.now) = omega (arith, c.drop-tx.ensures.survives.clean) in
-    let told : IfErr c.read_inside.result IsMemoryOrStore = rw c.transaction-tx.ensures.begun at (c.read_inside.ensures.untold mid) schema has plain in
+    let told : IfErr c.read_inside.result IsMemoryOrStore = rw c.transaction-tx.ensures.begun at (c.read_inside.ensures.faults.untold mid) schema has plain in
     told

@@ -11,7 +11,7 @@ use Rattle.pid_tables_check.proofs.Later.{untold_never}
 use Rattle.pid_tables_check.proofs.Complete.{complete, complete_first, each_some}
 use Rattle.pid_tables_check.specs.Shapes.{IsMadeFirst}
 use Rattle.pid_tables.proofs.MoveLemmas.{not_ok}
-use Rattle.pid_tables.proofs.SchemaNumbers.{both_told, caused_all, number_told, untold_damage}
+use Rattle.pid_tables.proofs.SchemaNumbers.{bad_of, caused_all, good_of, number_told, untold_damage}
 use Rattle.pid_tables.proofs.StandLemmas.{exactly_first, meta_first}
 use Rattle.pid_tables.proofs.tables.Tables.version.Goals as goal
 
@@ -20,7 +20,7 @@ returns-then-branch-clause-told g c clean v rest =
     let found = c.in_ok-has_some_table.ensures in
     let reads = c.schema_number.ensures.reads in
     caused_all (state g.S.Store c.args.self.now.conn) (state g.S.Store c.has_some_table.new.conn) (state g.S.Store c.schema_number.new.conn) (IsReadable v) (λ n. n ≡ 2) c.schema_number.result
-    (found.rests, found.same) reads.rests clean (reads.told clean v (found.rests.kept v rest))
+    (found.reads.rests, found.same) reads.rests clean (reads.told clean v (found.reads.rests.kept v rest))
 
 -- ---- what the label shows
 
@@ -47,17 +47,18 @@ returns-then-branch-clause-shown g c =
       earlier = λ clean v rest.
           let early = read.reads.rests.clean clean in
           let shows = subst (λ (d : Database). ShowsIn One d v) (sym (found.same early)) (rest.shows (found.was_open early)) in
-          number_told db v shows c.schema_number.result (read.labelled clean (exactly_first One db.schema shows.schema)) (read.lacking clean (exactly_first One db.schema shows.schema));
+          let stored = read.stored clean (exactly_first One db.schema shows.schema) in
+          number_told db v shows c.schema_number.result (good_of _ _ c.schema_number.result stored) (bad_of _ _ c.schema_number.result stored);
       none = λ clean none. absurd (none ((found.asked (read.reads.rests.clean clean)).0 c.if-branch.true));
       shown = λ clean some.
           subst (λ (d : Database). MatchResult c.schema_number.result (ShowsNumber d (codes "schema")) (IsDamageOf (ShowsNoNumber d (codes "schema")))) (found.same (read.reads.rests.clean clean))
-          (both_told _ _ c.schema_number.result (read.shown clean) (read.refused clean));
+          (read.shown clean);
       labelled = λ clean version first.
           let same = found.same (read.reads.rests.clean clean) in
-          subst (λ (d : Database). IfOk c.schema_number.result (HasLabel d.trees (codes "schema"))) same (read.labelled clean (meta_first version db.schema (subst (λ (d : Database). IsMadeFirst version d.schema) (sym same) first)));
+          subst (λ (d : Database). IfOk c.schema_number.result (HasLabel d.trees (codes "schema"))) same (good_of _ _ c.schema_number.result (read.stored clean (meta_first version db.schema (subst (λ (d : Database). IsMadeFirst version d.schema) (sym same) first))));
       refused = λ clean version first.
           let same = found.same (read.reads.rests.clean clean) in
-          subst (λ (d : Database). IfErr c.schema_number.result (ExplainsNumber d.trees (codes "schema"))) same (read.lacking clean (meta_first version db.schema (subst (λ (d : Database). IsMadeFirst version d.schema) (sym same) first)));
+          subst (λ (d : Database). IfErr c.schema_number.result (ExplainsNumber d.trees (codes "schema"))) same (bad_of _ _ c.schema_number.result (read.stored clean (meta_first version db.schema (subst (λ (d : Database). IsMadeFirst version d.schema) (sym same) first))));
     }
 
 -- none is there

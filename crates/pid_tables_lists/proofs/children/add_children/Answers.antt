@@ -1,0 +1,27 @@
+use Rattle.std.proofs.Common.{◌∷◌, ◌++◌, [], Some, ap, sym, ◌∙◌, filter, map, take, append_assoc}
+use Rattle.std.proofs.lemmas.List.Elements.{filter-append}
+use Rattle.pid_ident.specs.PathTexts.{path_text}
+use Rattle.pid_tables_rows.specs.Steps.Answers.{item_shown}
+use Rattle.pid_moderation.specs.ItemPairs.{pair_of}
+use Rattle.pid_tables_rows.specs.Unread.{IsUnreadable}
+use Rattle.pid_tables_rows.proofs.CauseLemmas.{passed_on}
+use Rattle.pid_tables_rows.proofs.ReadBack.{among}
+use Rattle.pid_tables_rows.proofs.UnreadLemmas.{unread_more}
+use Rattle.pid_moderation.specs.WellMade.{AllItems}
+use Rattle.pid_moderation.specs.Children.{stands_below}
+use Rattle.pid_tables_lists.proofs.RowLists.{next_of}
+use Rattle.pid_tables_lists.proofs.children.add_children.Goals as goal
+
+pub loop-row-preserved : goal.loop-row-preserved
+loop-row-preserved c items is =
+    let next = next_of item_shown items c.args.rows.now c.loop-row.row-index c.row-item.result is c.loop-row-test.true in
+    c.in_ok-add_child.ensures next.it (c.row-item.is ∙ next.is) ∙ ap (λ l. l ++ filter (λ e. stands_below (Some (path_text c.args.path)) e.0) (next.it ∷ [])) (c.loop-row.invariant items is)
+    ∙ append_assoc (map pair_of c.args.kept.now.items) (filter (λ e. stands_below (Some (path_text c.args.path)) e.0) (take c.loop-row.row-index items)) (filter (λ e. stands_below (Some (path_text c.args.path)) e.0) (next.it ∷ []))
+    ∙ ap (λ l. map pair_of c.args.kept.now.items ++ l) (sym (filter-append (λ e. stands_below (Some (path_text c.args.path)) e.0) (take c.loop-row.row-index items) (next.it ∷ []))
+    ∙ ap (filter (λ e. stands_below (Some (path_text c.args.path)) e.0)) (sym next.more))
+
+pub returns-in_err-add_child : goal.returns-in_err-add_child
+returns-in_err-add_child c items is =
+    let next = next_of item_shown items c.args.rows.now c.loop-row.row-index c.row-item.result is c.loop-row-test.true in
+    passed_on c.from_residual.result _ _ (IsUnreadable (AllItems items)) c.from_residual.ensures.1
+    (unread_more c.in_err-add_child.field-0.0 (λ all. among items next.it all next.there) (c.in_err-add_child.ensures next.it (c.row-item.is ∙ next.is)))

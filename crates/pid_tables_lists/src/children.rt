@@ -1,0 +1,270 @@
+//! The items directly below a path.
+ghost use Rattle.std.specs.Prelude.{
+  ◌≡◌,
+  ◌∷◌,
+  [],
+  None,
+  Some,
+  false,
+  map,
+  option_map,
+  MatchResult,
+};
+ghost use Rattle.pid_ident.specs.PathTexts.{path_text};
+ghost use Rattle.pid_ident.specs.PathReading.{parent_text};
+ghost use Rattle.pid_moderation.specs.Items.{Items, is_parent};
+ghost use Rattle.pid_moderation.specs.WellMade.{IsItem, AllItems};
+ghost use Rattle.pid_reader.specs.LookingBack.{Item as Pair};
+ghost use Rattle.pid_tables_rows.specs.Steps.Answers.{item_shown};
+ghost use Rattle.pid_moderation.specs.ItemPairs.{pair_of};
+ghost use Rattle.pid_tables_rows.specs.Steps.Ranges.{generics_from};
+ghost use Rattle.pid_tables_rows.specs.Unread.{IsUnreadable};
+ghost use Rattle.pid_tables_rows.specs.declared.fault.TableFault.{TableFault as FaultValue};
+ghost use Rattle.pid_tables_rows.specs.declared.fault.TableFault.TheVariants.{Memory};
+ghost use Rattle.pid_tables_lists.specs.declared.walk.EachEnd.TheVariants as ends;
+ghost use Rattle.pid_tables_rows.specs.Shows.{AreViews};
+ghost use Rattle.pid_moderation.specs.Children.{children_of};
+ghost use Rattle.pid_tables_lists.specs.Steps.Adding.{Adds};
+ghost use Rattle.pid_tables_lists.specs.Steps.Children.{between, children_among, under};
+ghost use Rattle.pid_tables_lists.specs.Children.{AreChildren};
+ghost use Rattle.pid_tables_rows.specs.Clauses.{Reads};
+
+use crate::walk::{EachEnd, each_item};
+use pid_ident::{Id16, Name, Path, PathText};
+use pid_moderation::Item;
+use pid_reader::{Entry, Sink};
+use pid_tables_rows::TableFault;
+use pid_tables_rows::item::{item_of, range_below, range_of_generics};
+use pid_tables_rows::run::read_rows;
+use sqlite::types::ValueRef;
+use sqlite::{Alter, Connection, Row};
+use std::alloc::Global;
+
+fn range_rows<S: Alter>(
+    conn: &mut Connection<S>,
+    low: &[u8],
+    high: &[u8],
+) -> Result<Vec<Row>, TableFault>
+    requires { conn.old.in_transaction ≡ false }
+    ensures { Reads S.Store conn.old conn.new result (λ v rows. AreViews v
+        × (rows.items ≡ map item_shown (between low.now high.now v.items))) }
+{
+    let low = ValueRef::Text(low);
+    let high = ValueRef::Text(high);
+    read_rows(
+        conn,
+        "SELECT path, name FROM item WHERE path > ?1 AND path < ?2 ORDER BY path",
+        &[low, high],
+    )
+}
+
+fn is_child(item: Path, path: Path) -> bool
+    ensures { result ≡ is_parent (path_text path) (parent_text (path_text item)) }
+{
+    match item.parent() {
+        Some(parent) => path == parent,
+        None => false,
+    }
+}
+
+fn add_item(kept: &mut Vec<Item>, item: Item) -> Result<(), TableFault>
+    ensures { MatchResult result
+        (λ _. Adds pair_of kept.old.items kept.new.items (pair_of item ∷ []))
+        (λ fault. fault ≡ Memory) }
+{
+    match kept.push(item) {
+        Ok(()) => Ok(()),
+        Err(_) => Err(TableFault::Memory),
+    }
+}
+
+// One more row, whose item is kept if it is a child.
+fn add_child(kept: &mut Vec<Item>, row: &Row, alloc: Global, path: Path) -> Result<(), TableFault>
+    ensures { (e : Pair) → row.now ≡ item_shown e → MatchResult result
+        (λ _. Adds pair_of kept.old.items kept.new.items (children_among path (e ∷ [])))
+        (IsUnreadable (IsItem e.0 e.1)) }
+{
+    let item = item_of(row, alloc)?;
+    if is_child(item.path, path) {
+        add_item(kept, item)
+    } else {
+        Ok(())
+    }
+}
+
+fn add_children(
+    kept: &mut Vec<Item>,
+    rows: &[Row],
+    alloc: Global,
+    path: Path,
+) -> Result<(), TableFault>
+    ensures { (items : Items) → rows.now ≡ map item_shown items → MatchResult result
+        (λ _. Adds pair_of kept.old.items kept.new.items (children_among path items))
+        (IsUnreadable (AllItems items)) }
+{
+    for row in rows {
+        add_child(kept, row, alloc, path)?;
+    }
+    Ok(())
+}
+
+// The items whose paths go on after the text and a slash.
+fn rows_below<S: Alter>(
+    conn: &mut Connection<S>,
+    alloc: Global,
+    text: &str,
+) -> Result<Vec<Row>, TableFault>
+    requires { conn.old.in_transaction ≡ false }
+    ensures { Reads S.Store conn.old conn.new result
+        (λ v rows. AreViews v × (rows.items ≡ map item_shown (under text.now v.items))) }
+{
+    let range = range_below(alloc, b"", text.as_bytes())?;
+    range_rows(conn, range.low.as_slice(), range.high.as_slice())
+}
+
+// The generic subsystems of a vendor.
+fn generic_rows<S: Alter>(
+    conn: &mut Connection<S>,
+    alloc: Global,
+    vendor: Id16,
+) -> Result<Vec<Row>, TableFault>
+    requires { conn.old.in_transaction ≡ false }
+    ensures { Reads S.Store conn.old conn.new result (λ v rows. AreViews v
+        × (rows.items ≡ map item_shown (under (generics_from vendor) v.items))) }
+{
+    let range = range_of_generics(alloc, vendor)?;
+    range_rows(conn, range.low.as_slice(), range.high.as_slice())
+}
+
+fn add_generics<S: Alter>(
+    kept: &mut Vec<Item>,
+    conn: &mut Connection<S>,
+    alloc: Global,
+    vendor: Id16,
+    path: Path,
+) -> Result<(), TableFault>
+    requires { conn.old.in_transaction ≡ false }
+    ensures { Reads S.Store conn.old conn.new result
+        (λ v _. Adds pair_of kept.old.items kept.new.items
+        (children_among path (under (generics_from vendor) v.items))) }
+{
+    let rows = generic_rows(conn, alloc, vendor)?;
+    add_children(kept, rows.as_slice(), alloc, path)
+}
+
+fn add_below<S: Alter>(
+    kept: &mut Vec<Item>,
+    conn: &mut Connection<S>,
+    alloc: Global,
+    text: &str,
+    path: Path,
+) -> Result<(), TableFault>
+    requires { conn.old.in_transaction ≡ false }
+    ensures { Reads S.Store conn.old conn.new result (λ v _. AreViews v
+        × Adds pair_of kept.old.items kept.new.items
+        (children_among path (under text.now v.items))) }
+{
+    let rows = rows_below(conn, alloc, text)?;
+    add_children(kept, rows.as_slice(), alloc, path)
+}
+
+fn below<S: Alter>(
+    conn: &mut Connection<S>,
+    alloc: Global,
+    path: Path,
+) -> Result<Vec<Item>, TableFault>
+    requires { conn.old.in_transaction ≡ false }
+    ensures { Reads S.Store conn.old conn.new result
+        (λ v items. AreChildren (Some (path_text path)) v items.items) }
+{
+    let text = path.path_text(alloc)?;
+    let mut kept = Vec::new(alloc);
+    add_below(&mut kept, conn, alloc, text.as_str(), path)?;
+    match path {
+        Path::Vendor { vendor } => {
+            add_generics(&mut kept, conn, alloc, vendor, path)?;
+            Ok(kept)
+        }
+        _ => Ok(kept),
+    }
+}
+
+// Keeps the items at the top.
+#[derive(Drop)]
+struct Tops {
+    kept: Vec<Item>,
+    alloc: Global,
+}
+
+impl Sink for Tops {
+    ghost use Rattle.std.specs.Prelude.{◌≡◌, ◌∷◌, ◌++◌, [], None, filter, map};
+    ghost use Rattle.pid_reader.specs.Numbered.{item_in};
+    ghost use Rattle.pid_moderation.specs.ItemPairs.{pair_of};
+    ghost use Rattle.pid_tables_rows.specs.declared.fault.TableFault.TheVariants.{Memory};
+    ghost use Rattle.pid_moderation.specs.Children.{stands_below};
+
+    type Fault = TableFault;
+
+    ghost takes = { λ s e t. map pair_of t.kept.items
+        ≡ map pair_of s.kept.items ++ filter (λ e. stands_below None e.0) (item_in e ∷ []) };
+
+    ghost faults = { λ s e f t. f ≡ Memory };
+
+    fn entry(&mut self, entry: &Entry<'_>) -> Result<(), TableFault> {
+        match entry.path.parent() {
+            Some(_) => Ok(()),
+            None => {
+                let name = Name::of(self.alloc, entry.name)?;
+                let path = entry.path;
+                add_item(&mut self.kept, Item { path, name })
+            }
+        }
+    }
+}
+
+// The fault of the tables, or of the sink.
+fn fault_of(end: EachEnd<TableFault>) -> TableFault
+    ensures tables { (fault : FaultValue) → end ≡ ends.Tables fault → result ≡ fault }
+    ensures sink { (fault : FaultValue) → end ≡ ends.Fault fault → result ≡ fault }
+{
+    match end {
+        EachEnd::Tables(fault) => fault,
+        EachEnd::Fault(fault) => fault,
+    }
+}
+
+fn at_the_top<S: Alter>(conn: &mut Connection<S>, alloc: Global) -> Result<Vec<Item>, TableFault>
+    requires { conn.old.in_transaction ≡ false }
+    ensures { Reads S.Store conn.old conn.new result
+        (λ v items. map pair_of items.items ≡ children_of None v.items) }
+{
+    let mut tops = Tops {
+        kept: Vec::new(alloc),
+        alloc,
+    };
+    match each_item(conn, &mut tops) {
+        Ok(()) => {
+            let Tops { kept, alloc: _ } = tops;
+            Ok(kept)
+        }
+        Err(end) => Err(fault_of(end)),
+    }
+}
+
+/// The items directly below a path, in the canonical order, which puts the generic subsystems of a
+/// vendor after its devices. Without a path, the vendors and the classes: they have no range of
+/// their own, so all items are walked over.
+pub fn children_below<S: Alter>(
+    conn: &mut Connection<S>,
+    alloc: Global,
+    above: Option<Path>,
+) -> Result<Vec<Item>, TableFault>
+    requires { conn.old.in_transaction ≡ false }
+    ensures { Reads S.Store conn.old conn.new result
+        (λ v items. AreChildren (option_map path_text above) v items.items) }
+{
+    match above {
+        Some(path) => below(conn, alloc, path),
+        None => at_the_top(conn, alloc),
+    }
+}

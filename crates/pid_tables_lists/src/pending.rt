@@ -1,0 +1,92 @@
+//! Pages of pending submissions.
+ghost use Rattle.std.specs.Prelude.{◌≡◌, ◌∷◌, [], ℕ, List, false, length, map, MatchResult};
+ghost use Rattle.std.specs.List.{AllByRecursion};
+ghost use Rattle.sqlite.specs.Held.{state};
+ghost use Rattle.pid_moderation.specs.Views.{Views};
+ghost use Rattle.pid_tables_rows.specs.Unread.{IsUnreadable};
+ghost use Rattle.pid_moderation.specs.Submissions.{Standing};
+ghost use Rattle.pid_moderation.specs.PendingPages.{pending_in, told_of, waiting_above};
+ghost use Rattle.pid_tables_lists.specs.Pages.{most_listed};
+ghost use Rattle.pid_tables_lists.specs.Steps.Adding.{Adds};
+ghost use Rattle.pid_tables_lists.specs.Steps.PendingRows.{
+  ArePendingIn,
+  IsPendingIn,
+  IsReadablePending,
+};
+ghost use Rattle.pid_tables_rows.specs.Clauses.{Reads};
+
+use pid_ident::texts_have_one_path;
+use pid_moderation::{PAGE, Pending, Submission};
+use pid_tables_rows::TableFault;
+use pid_tables_rows::run::read_rows;
+use pid_tables_rows::submission::submission_of;
+use pid_tables_rows::value::number_at;
+use sqlite::types::ToSql;
+use sqlite::{Alter, Connection, Row};
+use std::alloc::Global;
+
+fn pending_rows<S: Alter>(conn: &mut Connection<S>, after: u32) -> Result<Vec<Row>, TableFault>
+    requires { conn.old.in_transaction ≡ false }
+    ensures { Reads S.Store conn.old conn.new result
+        (λ v rows. ArePendingIn v (pending_in PAGE after v) rows.items) }
+{
+    let after = after.to_sql();
+    read_rows(
+        conn,
+        "SELECT author, path, form, name, note, state, decider, reason, num FROM submission \
+            WHERE state = 0 AND num > ?1 ORDER BY num LIMIT 100",
+        &[after],
+    )
+}
+
+fn pending_of(row: &Row, alloc: Global) -> Result<Pending, TableFault>
+    ensures { (v : Views) (s : ℕ × Standing) → IsPendingIn v s row.now → MatchResult result
+        (λ pending. told_of pending ≡ s) (IsUnreadable (IsReadablePending s)) }
+{
+    texts_have_one_path(); // proof only
+    let submission = submission_of(row, alloc)?;
+    let number = number_at(row, 8)?;
+    Ok(Pending { number, submission })
+}
+
+fn add_pending(page: &mut Vec<Pending>, row: &Row, alloc: Global) -> Result<(), TableFault>
+    ensures { (v : Views) (s : ℕ × Standing) → IsPendingIn v s row.now → MatchResult result
+        (λ _. Adds told_of page.old.items page.new.items (s ∷ []))
+        (IsUnreadable (IsReadablePending s)) }
+{
+    let pending = pending_of(row, alloc)?;
+    match page.push(pending) {
+        Ok(()) => Ok(()),
+        Err(_) => Err(TableFault::Memory),
+    }
+}
+
+fn page_of(rows: &[Row], alloc: Global) -> Result<Vec<Pending>, TableFault>
+    ensures { (v : Views) (all : List (ℕ × Standing)) → ArePendingIn v all rows.now
+        → MatchResult result (λ page. map told_of page.items ≡ all)
+        (IsUnreadable (AllByRecursion IsReadablePending all)) }
+{
+    let mut page = Vec::new(alloc);
+    for row in rows {
+        add_pending(&mut page, row, alloc)?;
+    }
+    Ok(page)
+}
+
+/// The first pending submissions whose numbers are above a number, at most a page of them. Decided
+/// ones are passed over, row by row.
+pub fn pending_page<S: Alter>(
+    conn: &mut Connection<S>,
+    alloc: Global,
+    after: u32,
+) -> Result<Vec<Pending>, TableFault>
+    requires { conn.old.in_transaction ≡ false }
+    ensures page { Reads S.Store conn.old conn.new result
+        (λ v page. map told_of page.items ≡ pending_in PAGE after v) }
+    // As many as there are, while a page holds them: one that is not full is the last.
+    ensures most_listed { Reads S.Store conn.old conn.new result
+        (λ v page. length page.items ≡ most_listed (length (waiting_above after v))) }
+{
+    let rows = pending_rows(conn, after)?;
+    page_of(rows.as_slice(), alloc)
+}

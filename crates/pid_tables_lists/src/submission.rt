@@ -1,0 +1,92 @@
+//! A submission with the remarks on it.
+ghost use Rattle.std.specs.Prelude.{◌≡◌, ◌∷◌, [], List, false, map, option_map, MatchResult};
+ghost use Rattle.std.specs.List.{AllByRecursion};
+ghost use Rattle.pid_moderation.specs.Views.{Remark};
+ghost use Rattle.pid_tables_rows.specs.Steps.Answers.{remark_shown};
+ghost use Rattle.pid_tables_rows.specs.Causes.{IsReadableRemark};
+ghost use Rattle.pid_moderation.specs.Submissions.{remark_of, discussion_in, discussion_of};
+ghost use Rattle.pid_tables_rows.specs.Unread.{IsUnreadable};
+ghost use Rattle.pid_tables_rows.specs.Clauses.{Reads};
+ghost use Rattle.pid_tables_lists.specs.Steps.Adding.{Adds};
+
+use pid_moderation::{Comment, Discussion, Submission};
+use pid_tables_rows::TableFault;
+use pid_tables_rows::remark::comment_of;
+use pid_tables_rows::run::read_rows;
+use pid_tables_rows::submission::standing;
+use sqlite::types::ToSql;
+use sqlite::{Alter, Connection, Row};
+use std::alloc::Global;
+
+fn remark_rows<S: Alter>(conn: &mut Connection<S>, number: u32) -> Result<Vec<Row>, TableFault>
+    requires { conn.old.in_transaction ≡ false }
+    ensures { Reads S.Store conn.old conn.new result
+        (λ v rows. rows.items ≡ map remark_shown (v.remarks number)) }
+{
+    let number = number.to_sql();
+    read_rows(
+        conn,
+        "SELECT author, body FROM remark WHERE num = ?1 ORDER BY seq",
+        &[number],
+    )
+}
+
+fn add_comment(comments: &mut Vec<Comment>, row: &Row, alloc: Global) -> Result<(), TableFault>
+    ensures { (remark : Remark) → row.now ≡ remark_shown remark
+        → MatchResult result (λ _. Adds remark_of comments.old.items comments.new.items
+        (remark ∷ [])) (IsUnreadable (IsReadableRemark remark)) }
+{
+    let comment = comment_of(row, alloc)?;
+    match comments.push(comment) {
+        Ok(()) => Ok(()),
+        Err(_) => Err(TableFault::Memory),
+    }
+}
+
+fn comments_of(rows: &[Row], alloc: Global) -> Result<Vec<Comment>, TableFault>
+    ensures { (remarks : List Remark) → rows.now ≡ map remark_shown remarks
+        → MatchResult result (λ comments. map remark_of comments.items ≡ remarks)
+        (IsUnreadable (AllByRecursion IsReadableRemark remarks)) }
+{
+    let mut comments = Vec::new(alloc);
+    for row in rows {
+        add_comment(&mut comments, row, alloc)?;
+    }
+    Ok(comments)
+}
+
+fn comments<S: Alter>(
+    conn: &mut Connection<S>,
+    alloc: Global,
+    number: u32,
+) -> Result<Vec<Comment>, TableFault>
+    requires { conn.old.in_transaction ≡ false }
+    ensures { Reads S.Store conn.old conn.new result
+        (λ v comments. map remark_of comments.items ≡ v.remarks number) }
+{
+    let rows = remark_rows(conn, number)?;
+    comments_of(rows.as_slice(), alloc)
+}
+
+/// The submission with the number, as it stands, and the remarks on it in their order. None where
+/// there is none.
+pub fn submission_with_remarks<S: Alter>(
+    conn: &mut Connection<S>,
+    alloc: Global,
+    number: u32,
+) -> Result<Option<Discussion>, TableFault>
+    requires { conn.old.in_transaction ≡ false }
+    ensures { Reads S.Store conn.old conn.new result
+        (λ v d. option_map discussion_of d ≡ discussion_in v number) }
+{
+    match standing(conn, alloc, number)? {
+        None => Ok(None),
+        Some(submission) => {
+            let remarks = comments(conn, alloc, number)?;
+            Ok(Some(Discussion {
+                submission,
+                remarks,
+            }))
+        }
+    }
+}
