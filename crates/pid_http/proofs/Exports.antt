@@ -25,21 +25,22 @@ use Rattle.pid_service.specs.declared.exporting.ExportFault.TheVariants.{Refused
 use Rattle.pid_service.specs.declared.registry.Registry.{Registry}
 use Rattle.pid_tree.specs.Printing.{header, print}
 use Rattle.pid_http_stream.specs.Serving.{WritesFront}
-use Rattle.pid_http_stream.specs.declared.reply.Content.TheVariants.{Text}
+use Rattle.pid_http_stream.specs.declared.reply_head.ReplyHead.{ReplyHead}
+use Rattle.pid_http_stream.specs.declared.reply_head.Content.TheVariants.{Text}
 use Rattle.pid_http_stream.specs.Leading.{Leads}
 use Rattle.pid_http.specs.Errands.{Export}
-use Rattle.pid_http.specs.Steps.Handling.{Writes, WritesOver}
-use Rattle.pid_http.specs.Known.{Known, Live, Between, Down, IsKnown, LivesOn, Told, IsTold}
+use Rattle.pid_http.specs.Steps.Handling.{WritesText, WritesOver}
+use Rattle.pid_http.specs.Known.{Known, Live, Between, Down, IsKnownOf, LivesOn, Told, IsToldOf}
 use Rattle.pid_http.specs.Steps.Going.{Goes, calls_join}
 use Rattle.pid_http.specs.Serving.{IsPromised}
 
 -- the length of the text was told
-pub length_told : {S : Type 0} (store : Ghosts S) (old new : Registry S store) (n : ℕ) (lives : LivesOn store old new) → Answers store old new (Ok n) (λ h n. n ≡ length (print (tree_of h)))
-    → AreNothing lives.calls → Goes store old new (λ k calls now. IsPromised k Export (record { status = 200; content = Text }) n calls now)
-length_told store old new n lives a nothing = record { lives = lives; served = record { good = a.rests.clean; leads = leads } }
+pub length_told : {S : Type 0} (store : Ghosts S) (old new : Registry S store) (n : ℕ) (head : ReplyHead) (lives : LivesOn store old new) → head.status ≡ 200 → head.content ≡ Text
+    → Answers store old new (Ok n) (λ h n. n ≡ length (print (tree_of h))) → AreNothing lives.calls → Goes store old new (λ k calls now. IsPromised k Export head n calls now)
+length_told store old new n head lives status content a nothing = record { lives = lives; served = record { good = a.rests.clean; leads = leads } }
   where
-    leads : HasCleanDisk store new → (k : Known) → IsKnown store old k → (now : Known) × IsKnown store new now × IsPromised k Export (record { status = 200; content = Text }) n lives.calls now
-    leads good (Live h) shows = let t = a.told good h shows in (Live h, t.1, (refl, record { status = refl; content = refl; length_is = t.0 }, nothing, refl))
+    leads : HasCleanDisk store new → (k : Known) → IsKnownOf store old k → (now : Known) × IsKnownOf store new now × IsPromised k Export head n lives.calls now
+    leads good (Live h) shows = let t = a.told good h shows in (Live h, t.1, (refl, record { status = status; content = content; length_is = t.0 }, nothing, refl))
     leads good (Between before behind) fails = let e = (a.failed fails.has_failed).0 in absurd cc
     leads good Down off = let e = (a.failed off).0 in absurd cc
 
@@ -79,15 +80,15 @@ not_all P x is = absurd cc
 -- the text was written, so far
 pub written : {S : Type 0} (store : Ghosts S) (old new : Registry S store) (Took : List ℕ → Type 0) (lives : LivesOn store old new) → AreNothing lives.calls → (HasCleanDisk store new → HasCleanDisk store old)
     → ((h : History) → Shows store old h → Shows store new h) → (HasCleanDisk store new → (h : History) → Shows store old h → Took (print (tree_of h))) → (is_live old ≡ false → Took [])
-    → Leads (HasCleanDisk store) (IsTold store) old new (λ t u. (body : List ℕ) × Writes store t body u × Took body)
+    → Leads (HasCleanDisk store) (IsToldOf store) old new (λ t u. (body : List ℕ) × WritesText store t body u × Took body)
 written store old new Took lives nothing clean shown body off_body = record { good = clean; leads = leads }
   where
-    over : HasCleanDisk store new → (k : Known) → IsKnown store old k → (now : Known) × IsKnown store new now × ((b : List ℕ) × WritesOver k b now × Took b)
+    over : HasCleanDisk store new → (k : Known) → IsKnownOf store old k → (now : Known) × IsKnownOf store new now × ((b : List ℕ) × WritesOver k b now × Took b)
     over good (Live h) shows = (Live h, shown h shows, (print (tree_of h), (refl, refl), body good h shows))
     over good (Between before behind) fails = (Between before behind, subst (λ x. FailsBetween store x before behind) (sym (lives.rests fails.has_failed)) fails, ([], refl, off_body fails.has_failed))
     over good Down off = (Down, subst (λ x. is_live x ≡ false) (sym (lives.rests off)) off, ([], refl, off_body off))
 
-    leads : HasCleanDisk store new → (t : Told store) → IsTold store old t → (u : Told store) × IsTold store new u × ((b : List ℕ) × Writes store t b u × Took b)
+    leads : HasCleanDisk store new → (t : Told store) → IsToldOf store old t → (u : Told store) × IsToldOf store new u × ((b : List ℕ) × WritesText store t b u × Took b)
     leads good t is =
         let x = over good t.known is.is_known in (
           record { start = t.start; calls = t.calls ++ lives.calls; known = x.0 },

@@ -5,20 +5,20 @@ use Rattle.std.specs.Io.KnownBytes.{IsAtEnd}
 use Rattle.sqlite_trees.specs.declared.store.Store.{Ghosts}
 use Rattle.pid_service_laws.specs.Calls.{AreNothing, Call}
 use Rattle.pid_http_stream.specs.Conducts.{StandsStill}
-use Rattle.pid_http_stream.specs.Handling.{IsAsked, IsBodyFor, MayReply}
+use Rattle.pid_http_stream.specs.Handling.{IsHandled, IsBodyFor, MayReply}
 use Rattle.pid_http_stream.specs.Replies.{Answer}
 use Rattle.pid_http_stream.specs.Requests.{Request, fields_of}
 use Rattle.pid_http_stream.specs.declared.handler.Reply.{Reply}
 use Rattle.pid_http_stream.specs.declared.handler.ReplyBody.{ReplyBody}
 use Rattle.pid_http_stream.specs.declared.handler.ReplyBody.TheVariants.{Bytes, Written}
-use Rattle.pid_http_stream.specs.declared.reply.ReplyHead.{ReplyHead}
+use Rattle.pid_http_stream.specs.declared.reply_head.ReplyHead.{ReplyHead}
 use Rattle.pid_http_requests.specs.Questions.{Asking, question}
 use Rattle.pid_http_requests.specs.Senders.{Sending, sender}
 use Rattle.pid_http_requests.specs.declared.sender.Sender.{Sender}
 use Rattle.pid_http.specs.Errands.{Errand, errand_asked, errand_of}
 use Rattle.pid_http.specs.Known.{Told, ByCalls}
 use Rattle.pid_http.specs.Steps.Replying.{IsBodyMet, IsMetBehind, sending_in}
-use Rattle.pid_http.specs.Serving.{IsMet, serving}
+use Rattle.pid_http.specs.Serving.{IsErrandMet, serving}
 
 pub sender_is : (o : Option Sender) (x : Option Sending) → MatchOption o (x ≡ None) (λ s. x ≡ Some (record { account = s.account.now; key = option_copied s.key })) → sending_in o ≡ x
 sender_is None x e = sym e
@@ -45,15 +45,15 @@ module _ {S : Type 0} (store : Ghosts S) where
       body_for t u request reply.head reply.body (by_calls t u _ _ (λ calls h. subst (λ c. IsBodyMet t.known c reply.head reply.body calls u.known) same h) m)
 
   -- and where memory lacked for it
-  pub asked_err : (t u : Told store) (request : Request) (errand : Errand) → errand ≡ errand_of request → ByCalls store t u (λ calls. (given : Answer) × IsMet t.known errand given calls u.known)
+  pub asked_err : (t u : Told store) (request : Request) (errand : Errand) → errand ≡ errand_of request → ByCalls store t u (λ calls. (given : Answer) × IsErrandMet t.known errand given calls u.known)
       → StandsStill (serving store) t u ⊎ (IsAtEnd (Some []) × (serving store).leaves t request u)
-  asked_err t u request errand same m = inr (refl, by_calls t u _ _ (λ calls h. (h.0, subst (λ c. IsMet t.known c h.0 calls u.known) same h.1)) m)
+  asked_err t u request errand same m = inr (refl, by_calls t u _ _ (λ calls h. (h.0, subst (λ c. IsErrandMet t.known c h.0 calls u.known) same h.1)) m)
 
   pub asked_behind : {E : Type 0} (t u : Told store) (request : Request) (errand : Errand) (result : Result Reply E) (left : Option (List ℕ)) → errand ≡ errand_of request
-      → ByCalls store t u (λ calls. IsMetBehind t.known errand result left calls u.known) → IsAsked (serving store) t request result left u
+      → ByCalls store t u (λ calls. IsMetBehind t.known errand result left calls u.known) → IsHandled (serving store) t request result left u
   asked_behind {E} t u request errand (Ok reply) left same m = asked_ok t u request errand reply same m
   asked_behind {E} t u request errand (Err e) left same m = by_case m.holds
     where
-      by_case : (AreNothing m.more × (t.known ≡ u.known)) ⊎ (IsAtEnd left × ((given : Answer) × IsMet t.known errand given m.more u.known)) → IsAsked {E = E} (serving store) t request (Err e) left u
+      by_case : (AreNothing m.more × (t.known ≡ u.known)) ⊎ (IsAtEnd left × ((given : Answer) × IsErrandMet t.known errand given m.more u.known)) → IsHandled {E = E} (serving store) t request (Err e) left u
       by_case (inl still) = inl (inr (record { same_life = m.same_life; more = m.more; joined = m.joined; holds = still }))
-      by_case (inr (end, (given, met))) = inr (end, record { same_life = m.same_life; more = m.more; joined = m.joined; holds = (given, subst (λ c. IsMet t.known c given m.more u.known) same met) })
+      by_case (inr (end, (given, met))) = inr (end, record { same_life = m.same_life; more = m.more; joined = m.joined; holds = (given, subst (λ c. IsErrandMet t.known c given m.more u.known) same met) })

@@ -29,10 +29,10 @@ use Rattle.pid_service_laws.specs.Calls.{AreNothing, Call, obeyed}
 use Rattle.pid_service_laws.specs.Registries.{Does}
 use Rattle.pid_service.specs.Lives.{import_sent, showing}
 use Rattle.pid_http.specs.Errands.{Errand, Obeys}
-use Rattle.pid_http.specs.Known.{Known, Live, Between, Down, IsKnown, LivesOn}
+use Rattle.pid_http.specs.Known.{Known, Live, Between, Down, IsKnownOf, LivesOn}
 use Rattle.pid_http.specs.Steps.Going.{Goes}
-use Rattle.pid_http.specs.Steps.Replying.{IsObeyed, IsMetBehind}
-use Rattle.pid_http.specs.Serving.{IsMet}
+use Rattle.pid_http.specs.Steps.Replying.{IsCommandMet, IsMetBehind}
+use Rattle.pid_http.specs.Serving.{IsErrandMet}
 use Rattle.pid_http.proofs.Meeting.{body_met, no_call, obeyed_met, obeys_so, one_call, turned}
 
 -- what was read of a known body to its end is all of it
@@ -51,12 +51,12 @@ refused_whole file text left fits consumed (inr (why, long)) = let most = no_lon
 
 -- the reply to an import of this text is one to an import of the file
 behind : {E : Type 0} (account : List ℕ) (key : Option (List ℕ)) (format : Format) (file text : List ℕ) (outcome : Result Outcome Refusal) (r : Result Reply E) (left : Option (List ℕ)) (k : Known) (calls : List Call) (now : Known)
-    → text ≡ file → IsAtEnd left → IfOk r (λ reply. IsReplyOf reply (outcome_answer format outcome)) → IsObeyed (import_of account key (file_reading text)) k outcome calls now
+    → text ≡ file → IsAtEnd left → IfOk r (λ reply. IsReplyOf reply (outcome_answer format outcome)) → IsCommandMet (import_of account key (file_reading text)) k outcome calls now
     → IsMetBehind k (Obeys (import_of account key (file_reading file)) format) r left calls now
 behind {E} account key format file text outcome r left k calls now same end is obeys =
-    by_reply r is (subst (λ (x : List ℕ). IsMet k (Obeys (import_of account key (file_reading x)) format) (outcome_answer format outcome) calls now) same (obeyed_met (import_of account key (file_reading text)) format k now outcome calls obeys))
+    by_reply r is (subst (λ (x : List ℕ). IsErrandMet k (Obeys (import_of account key (file_reading x)) format) (outcome_answer format outcome) calls now) same (obeyed_met (import_of account key (file_reading text)) format k now outcome calls obeys))
   where
-    by_reply : (r : Result Reply E) → IfOk r (λ reply. IsReplyOf reply (outcome_answer format outcome)) → IsMet k (Obeys (import_of account key (file_reading file)) format) (outcome_answer format outcome) calls now
+    by_reply : (r : Result Reply E) → IfOk r (λ reply. IsReplyOf reply (outcome_answer format outcome)) → IsErrandMet k (Obeys (import_of account key (file_reading file)) format) (outcome_answer format outcome) calls now
         → IsMetBehind k (Obeys (import_of account key (file_reading file)) format) r left calls now
     by_reply (Ok reply) is met = body_met k now (Obeys (import_of account key (file_reading file)) format) reply.head reply.body (outcome_answer format outcome) calls is met
     by_reply (Err e) is met = inr (end, (outcome_answer format outcome, met))
@@ -133,7 +133,7 @@ module _ {S : Type 0} (store : Ghosts S) where
 
   -- it was not asked for, and the body was read to its end, or given up
   pub denied_behind : {E : Type 0} (r : Registry S store) (errand : List ℕ → Errand) (given : Answer) (result : Result Reply E) (to_come left : Option (List ℕ)) → IfOk result (λ _. IsAtEnd left) → IfOk result (λ reply. IsReplyOf reply given)
-      → ((file : List ℕ) (k : Known) → IsMet k (errand file) given [] k) → Goes store r r (λ k calls now. (file : List ℕ) → to_come ≡ Some file → length file ≤ longest_body → IsMetBehind k (errand file) result left calls now)
+      → ((file : List ℕ) (k : Known) → IsErrandMet k (errand file) given [] k) → Goes store r r (λ k calls now. (file : List ℕ) → to_come ≡ Some file → length file ≤ longest_body → IsMetBehind k (errand file) result left calls now)
   denied_behind {E} r errand given result to_come left end is met = no_call store r _ (λ k file known fits. by_reply result is k file)
     where
       by_reply : (result : Result Reply E) → IfOk result (λ reply. IsReplyOf reply given) → (k : Known) (file : List ℕ) → IsMetBehind k (errand file) result left [] k
@@ -150,7 +150,7 @@ module _ {S : Type 0} (store : Ghosts S) where
   -- the input failed
   pub gave_up : (old new : Registry S store) (end : ImportEnd) (account : List ℕ) (key : Option (List ℕ)) (to_come left : Option (List ℕ)) (errand : List ℕ → Errand)
       → end ≡ Body → CallsImport → (HasCleanDisk store new → HasCleanDisk store old) → (is_live old ≡ false → (IsEnd end (Refused refusals.Failed) ⊎ IsEnd end Body) × (new ≡ old)) → HasRead (Err end) to_come left (Holds old new (Err end) account key)
-      → Goes store old new (λ k calls now. (file : List ℕ) → to_come ≡ Some file → length file ≤ longest_body → (AreNothing calls × (k ≡ now)) ⊎ (IsAtEnd left × ((given : Answer) × IsMet k (errand file) given calls now)))
+      → Goes store old new (λ k calls now. (file : List ℕ) → to_come ≡ Some file → length file ≤ longest_body → (AreNothing calls × (k ≡ now)) ⊎ (IsAtEnd left × ((given : Answer) × IsErrandMet k (errand file) given calls now)))
   gave_up old new end account key to_come left errand is law clean failed read = record {
     lives = imports_on law old new (Err end) account key to_come left clean failed read;
     served = record {
@@ -159,7 +159,7 @@ module _ {S : Type 0} (store : Ghosts S) where
     };
   }
     where
-      still : HasRead (Err Body) to_come left (Holds old new (Err Body) account key) → HasCleanDisk store new → (k : Known) → IsKnown store old k → IsKnown store new k
+      still : HasRead (Err Body) to_come left (Holds old new (Err Body) account key) → HasCleanDisk store new → (k : Known) → IsKnownOf store old k → IsKnownOf store new k
       still was good (Live h) shows = was.holds good h shows
       still was good (Between before after) fails = subst (λ r. FailsBetween store r before after) (sym (failed fails.has_failed).1) fails
       still was good Down off = subst (λ r. is_live r ≡ false) (sym (failed off).1) off

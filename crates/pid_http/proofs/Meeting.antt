@@ -22,75 +22,75 @@ use Rattle.pid_http_stream.specs.declared.handler.Reply.{Reply}
 use Rattle.pid_http_stream.specs.declared.head.Head.{Head}
 use Rattle.pid_http_stream.specs.declared.handler.ReplyBody.{ReplyBody}
 use Rattle.pid_http_stream.specs.declared.handler.ReplyBody.TheVariants.{Bytes, Written}
-use Rattle.pid_http_stream.specs.declared.reply.ReplyHead.{ReplyHead}
+use Rattle.pid_http_stream.specs.declared.reply_head.ReplyHead.{ReplyHead}
 use Rattle.pid_http_requests.specs.Senders.{Sending}
 use Rattle.pid_http_requests.specs.declared.format.Format.{Format}
 use Rattle.pid_http_replies.specs.Outcomes.{outcome_answer}
 use Rattle.pid_http_replies.specs.Replying.{IsReplyOf, IsBodyOf}
-use Rattle.pid_http.specs.Answering.{answer_over, history_behind, IsRefused, LacksForm, Refused, AsEver, Short}
-use Rattle.pid_http.specs.Errands.{Errand, Answered, Denied, Obeys, command_in, commanded, imported}
-use Rattle.pid_http.specs.Known.{Known, Live, Between, Down, IsKnown, LivesOn, IsTold, ByCalls}
+use Rattle.pid_http.specs.Answering.{answer_over, history_behind, IsErrandRefused, LacksForm, Refused, AsEver, Short}
+use Rattle.pid_http.specs.Errands.{Errand, Answered, Denied, Obeys, command_sent, command_errand, import_errand}
+use Rattle.pid_http.specs.Known.{Known, Live, Between, Down, IsKnownOf, LivesOn, IsToldOf, ByCalls}
 use Rattle.pid_http.specs.Steps.Going.{Goes, calls_join}
-use Rattle.pid_http.specs.Steps.Replying.{IsObeyed, IsBodyMet, IsMetBy, Replies, RepliesTo, answer_or}
-use Rattle.pid_http.specs.Serving.{IsMet, IsMetOver, AnsweredOver, NotAsked, NotDone, InDoubt, AreCallsOver, AreUndone}
+use Rattle.pid_http.specs.Steps.Replying.{IsCommandMet, IsBodyMet, IsMetBy, Replies, RepliesTo, answer_or}
+use Rattle.pid_http.specs.Serving.{IsErrandMet, IsMetOver, AnsweredOver, NotAsked, NotDone, InDoubt, AreCallsOver, AreUndone}
 
 -- what only asks: its answer by what is found
 pub record IsQuestion {X : Type 0} (format : Format) (found : X → Answer) (Says : History → X → Type 0) (errand : Errand) : Type 0 where
   pub over : (h : History) (x : X) → Says h x → found x ≡ answer_over h errand
-  pub refused : (e : Refusal) → IsRefused errand e (outcome_answer format (Err e))
-  pub no_command : command_in errand ≡ None
+  pub refused : (e : Refusal) → IsErrandRefused errand e (outcome_answer format (Err e))
+  pub no_command : command_sent errand ≡ None
 
 -- without a command the history stays
-same_history : (h : History) (errand : Errand) → command_in errand ≡ None → Live h ≡ Live (history_behind h (command_in errand))
+same_history : (h : History) (errand : Errand) → command_sent errand ≡ None → Live h ≡ Live (history_behind h (command_sent errand))
 same_history h errand none = ap (λ (c : Option Asked). Live (history_behind h c)) (sym none)
 
-calls_over : (h : History) (errand : Errand) (calls : List Call) → command_in errand ≡ None → AreNothing calls → AreCallsOver h (command_in errand) calls
+calls_over : (h : History) (errand : Errand) (calls : List Call) → command_sent errand ≡ None → AreNothing calls → AreCallsOver h (command_sent errand) calls
 calls_over h errand calls none nothing = subst (λ (c : Option Asked). AreCallsOver h c calls) (sym none) nothing
 
-undone : (errand : Errand) (refusal : Refusal) (calls : List Call) → command_in errand ≡ None → AreNothing calls → AreUndone (command_in errand) refusal calls
+undone : (errand : Errand) (refusal : Refusal) (calls : List Call) → command_sent errand ≡ None → AreNothing calls → AreUndone (command_sent errand) refusal calls
 undone errand refusal calls none nothing = subst (λ (c : Option Asked). AreUndone c refusal calls) (sym none) nothing
 
 -- the reply is the answer
-pub body_met : (k now : Known) (errand : Errand) (head : ReplyHead) (body : ReplyBody) (given : Answer) (calls : List Call) → IsBodyOf head body given → IsMet k errand given calls now → IsBodyMet k errand head body calls now
-body_met k now errand head (Bytes body) given calls e m = subst (λ g. IsMet k errand g calls now) (sym e) m
+pub body_met : (k now : Known) (errand : Errand) (head : ReplyHead) (body : ReplyBody) (given : Answer) (calls : List Call) → IsBodyOf head body given → IsErrandMet k errand given calls now → IsBodyMet k errand head body calls now
+body_met k now errand head (Bytes body) given calls e m = subst (λ g. IsErrandMet k errand g calls now) (sym e) m
 body_met k now errand head (Written told) given calls e m = absurd e
 
-is_met_by : {E : Type 0} (k now : Known) (errand : Errand) (result : Result Reply E) (given : Answer) (calls : List Call) → IfOk result (λ reply. IsReplyOf reply given) → IsMet k errand given calls now → IsMetBy k errand result calls now
+is_met_by : {E : Type 0} (k now : Known) (errand : Errand) (result : Result Reply E) (given : Answer) (calls : List Call) → IfOk result (λ reply. IsReplyOf reply given) → IsErrandMet k errand given calls now → IsMetBy k errand result calls now
 is_met_by k now errand (Ok reply) given calls is m = body_met k now errand reply.head reply.body given calls is m
 is_met_by k now errand (Err e) given calls is m = (given, m)
 
 -- an answer for which the registry is not asked
-pub answered : (given : Answer) (k : Known) → IsMet k (Answered given) given [] k
+pub answered : (given : Answer) (k : Known) → IsErrandMet k (Answered given) given [] k
 unfolding answer_over
 answered given (Live h) = AnsweredOver refl tt refl
 answered given (Between before behind) = (AsEver refl, tt, refl)
 answered given Down = (AsEver refl, tt, refl)
 
 -- the sender or the form is refused
-pub denied : (refusal : Refusal) (format : Format) (k : Known) → IsMet k (Denied refusal format) (outcome_answer format (Err refusal)) [] k
+pub denied : (refusal : Refusal) (format : Format) (k : Known) → IsErrandMet k (Denied refusal format) (outcome_answer format (Err refusal)) [] k
 unfolding answer_over
 denied refusal format (Live h) = AnsweredOver refl tt refl
 denied refusal format (Between before behind) = (AsEver refl, tt, refl)
 denied refusal format Down = (AsEver refl, tt, refl)
 
 -- memory is short before the registry is asked
-lacks : (errand : Errand) (given : Answer) (k : Known) → LacksForm errand given → IsMet k errand given [] k
+lacks : (errand : Errand) (given : Answer) (k : Known) → LacksForm errand given → IsErrandMet k errand given [] k
 lacks errand given (Live h) short = NotAsked short tt refl
 lacks errand given (Between before behind) short = (Short short, tt, refl)
 lacks errand given Down short = (Short short, tt, refl)
 
 -- for the form of a command, or for its sender
-pub short : (made : Result Command Refusal) (format : Format) (k : Known) → IsMet k (commanded format made) (outcome_answer format (Err refusals.Memory)) [] k
-short (Ok command) format k = lacks (commanded format (Ok command)) (outcome_answer format (Err refusals.Memory)) k refl
-short (Err e) format k = lacks (commanded format (Err e)) (outcome_answer format (Err refusals.Memory)) k refl
+pub short : (made : Result Command Refusal) (format : Format) (k : Known) → IsErrandMet k (command_errand format made) (outcome_answer format (Err refusals.Memory)) [] k
+short (Ok command) format k = lacks (command_errand format (Ok command)) (outcome_answer format (Err refusals.Memory)) k refl
+short (Err e) format k = lacks (command_errand format (Err e)) (outcome_answer format (Err refusals.Memory)) k refl
 
 -- for an import, whoever sends it
-pub short_sender : (format : Format) (s : Option Sending) (file : List ℕ) (k : Known) → IsMet k (imported format s file) (outcome_answer format (Err refusals.Memory)) [] k
-short_sender format None file k = lacks (imported format None file) (outcome_answer format (Err refusals.Memory)) k refl
-short_sender format (Some s) file k = lacks (imported format (Some s) file) (outcome_answer format (Err refusals.Memory)) k refl
+pub short_sender : (format : Format) (s : Option Sending) (file : List ℕ) (k : Known) → IsErrandMet k (import_errand format s file) (outcome_answer format (Err refusals.Memory)) [] k
+short_sender format None file k = lacks (import_errand format None file) (outcome_answer format (Err refusals.Memory)) k refl
+short_sender format (Some s) file k = lacks (import_errand format (Some s) file) (outcome_answer format (Err refusals.Memory)) k refl
 
 -- a command that was obeyed
-pub obeyed_met : (c : Asked) (format : Format) (k now : Known) (result : Result Outcome Refusal) (calls : List Call) → IsObeyed c k result calls now → IsMet k (Obeys c format) (outcome_answer format result) calls now
+pub obeyed_met : (c : Asked) (format : Format) (k now : Known) (result : Result Outcome Refusal) (calls : List Call) → IsCommandMet c k result calls now → IsErrandMet k (Obeys c format) (outcome_answer format result) calls now
 unfolding answer_over
 obeyed_met c format (Live h) now result calls (inl (e, by, same)) = AnsweredOver (ap (outcome_answer format) e) (by ∙ ap (λ (r : Result Outcome Refusal). sends c r true ∷ []) e) same
 obeyed_met c format (Live h) now (Ok reply) calls (inr (fault, where_now)) = absurd fault
@@ -104,12 +104,12 @@ memory_or refusals.Memory made f = inl refl
 memory_or refusal made f = inr (f (λ e. cc))
 
 -- the form of a command is refused, or memory is short for it
-pub form_refused : (refusal : Refusal) (made : Result Command Refusal) (format : Format) → ((refusal ≡ refusals.Memory → ⊥) → made ≡ Err refusal) → (k : Known) → IsMet k (commanded format made) (outcome_answer format (Err refusal)) [] k
+pub form_refused : (refusal : Refusal) (made : Result Command Refusal) (format : Format) → ((refusal ≡ refusals.Memory → ⊥) → made ≡ Err refusal) → (k : Known) → IsErrandMet k (command_errand format made) (outcome_answer format (Err refusal)) [] k
 form_refused refusal made format f k = by_cause (memory_or refusal made f)
   where
-    by_cause : (refusal ≡ refusals.Memory) ⊎ (made ≡ Err refusal) → IsMet k (commanded format made) (outcome_answer format (Err refusal)) [] k
-    by_cause (inl e) = subst (λ (r : Refusal). IsMet k (commanded format made) (outcome_answer format (Err r)) [] k) (sym e) (short made format k)
-    by_cause (inr e) = subst (λ (m : Result Command Refusal). IsMet k (commanded format m) (outcome_answer format (Err refusal)) [] k) (sym e) (denied refusal format k)
+    by_cause : (refusal ≡ refusals.Memory) ⊎ (made ≡ Err refusal) → IsErrandMet k (command_errand format made) (outcome_answer format (Err refusal)) [] k
+    by_cause (inl e) = subst (λ (r : Refusal). IsErrandMet k (command_errand format made) (outcome_answer format (Err r)) [] k) (sym e) (short made format k)
+    by_cause (inr e) = subst (λ (m : Result Command Refusal). IsErrandMet k (command_errand format m) (outcome_answer format (Err refusal)) [] k) (sym e) (denied refusal format k)
 
 module _ {S : Type 0} (store : Ghosts S) where
   -- one call, which did what lives ask of it
@@ -137,13 +137,13 @@ module _ {S : Type 0} (store : Ghosts S) where
   asked_on look old new result Says a = looked look old new a.rests.clean (λ off. (a.failed off).1) (λ good h shows. (a.told good h shows).1)
 
   over_command : (new : Registry S store) (result : Result Outcome Refusal) (h : History) (c : Asked) (calls : List Call) → calls ≡ sends c result (is_live new) ∷ [] → service_obeys.Obeys store result new h c
-      → (now : Known) × IsKnown store new now × IsObeyed c (Live h) result calls now
+      → (now : Known) × IsKnownOf store new now × IsCommandMet c (Live h) result calls now
   over_command new result h c calls by obeys = by_case obeys
     where
       at : (live : Bool) → is_live new ≡ live → calls ≡ sends c result live ∷ []
       at live is = by ∙ ap (λ (b : Bool). sends c result b ∷ []) is
 
-      by_case : service_obeys.Obeys store result new h c → (now : Known) × IsKnown store new now × IsObeyed c (Live h) result calls now
+      by_case : service_obeys.Obeys store result new h c → (now : Known) × IsKnownOf store new now × IsCommandMet c (Live h) result calls now
       by_case (inl (e, shows)) = (Live (after h c), shows, inl (e, at true shows.lives, refl))
       by_case (inr (fault, inl shows)) = (Live h, shows, inr (fault, inl (at true shows.lives, refl)))
       by_case (inr (fault, inr fails)) = (Between h (after h c), fails, inr (fault, inr (at false fails.has_failed, refl)))
@@ -155,10 +155,10 @@ module _ {S : Type 0} (store : Ghosts S) where
   -- a command, by what is told of `obey`
   pub obeys_so : (old new : Registry S store) (result : Result Outcome Refusal) (c : Asked) (lives : LivesOn store old new) → lives.calls ≡ sends c result (is_live new) ∷ []
       → (HasCleanDisk store new → HasCleanDisk store old) → (is_live old ≡ false → (result ≡ Err refusals.Failed) × (new ≡ old))
-      → (HasCleanDisk store new → (h : History) → Shows store old h → service_obeys.Obeys store result new h c) → Goes store old new (λ k calls now. IsObeyed c k result calls now)
+      → (HasCleanDisk store new → (h : History) → Shows store old h → service_obeys.Obeys store result new h c) → Goes store old new (λ k calls now. IsCommandMet c k result calls now)
   obeys_so old new result c lives by clean failed obeys = record { lives = lives; served = record { good = clean; leads = leads } }
     where
-      leads : HasCleanDisk store new → (k : Known) → IsKnown store old k → (now : Known) × IsKnown store new now × IsObeyed c k result lives.calls now
+      leads : HasCleanDisk store new → (k : Known) → IsKnownOf store old k → (now : Known) × IsKnownOf store new now × IsCommandMet c k result lives.calls now
       leads good (Live h) shows = over_command new result h c lives.calls by (obeys good h shows)
       leads good (Between before behind) fails =
           let f = failed fails.has_failed in
@@ -167,14 +167,14 @@ module _ {S : Type 0} (store : Ghosts S) where
 
   pub obeyed : CallsObey → (old new : Registry S store) (result : Result Outcome Refusal) (c : Asked)
       → (HasCleanDisk store new → HasCleanDisk store old) → (is_live old ≡ false → (result ≡ Err refusals.Failed) × (new ≡ old))
-      → (HasCleanDisk store new → (h : History) → Shows store old h → service_obeys.Obeys store result new h c) → Goes store old new (λ k calls now. IsObeyed c k result calls now)
+      → (HasCleanDisk store new → (h : History) → Shows store old h → service_obeys.Obeys store result new h c) → Goes store old new (λ k calls now. IsCommandMet c k result calls now)
   obeyed law old new result c clean failed obeys =
       obeys_so old new result c (one_call old new (sends c result (is_live new)) (law old new c result clean failed obeys) (λ off. (failed off).1)) refl clean failed obeys
 
   -- one that has failed answers that it has, and stays
-  down : {X : Type 0} (old new : Registry S store) (result : Result X Refusal) (Says : History → X → Type 0) → Answers store old new result Says → (k : Known) → is_live old ≡ false → IsKnown store old k
-      → (result ≡ Err refusals.Failed) × IsKnown store new k
-  down old new result Says a k off known = let f = a.failed off in (f.0, subst (λ r. IsKnown store r k) (sym f.1) known)
+  down : {X : Type 0} (old new : Registry S store) (result : Result X Refusal) (Says : History → X → Type 0) → Answers store old new result Says → (k : Known) → is_live old ≡ false → IsKnownOf store old k
+      → (result ≡ Err refusals.Failed) × IsKnownOf store new k
+  down old new result Says a k off known = let f = a.failed off in (f.0, subst (λ r. IsKnownOf store r k) (sym f.1) known)
 
   over_history : {X : Type 0} (result : Result X Refusal) (Says : History → X → Type 0) (format : Format) (found : X → Answer) (errand : Errand) (calls : List Call) → AreNothing calls → IsQuestion format found Says errand
       → (h : History) → MatchResult result (Says h) IsFault → IsMetOver h errand (answer_or format found result) calls (Live h)
@@ -182,13 +182,13 @@ module _ {S : Type 0} (store : Ghosts S) where
   over_history (Err e) Says format found errand calls nothing q h fault = NotDone e fault (q.refused e) (undone errand e calls q.no_command nothing) refl
 
   -- the answer of one that has failed
-  failed_so : {X : Type 0} (result : Result X Refusal) (format : Format) (found : X → Answer) (errand : Errand) → ((e : Refusal) → IsRefused errand e (outcome_answer format (Err e)))
-      → result ≡ Err refusals.Failed → IsRefused errand refusals.Failed (answer_or format found result)
+  failed_so : {X : Type 0} (result : Result X Refusal) (format : Format) (found : X → Answer) (errand : Errand) → ((e : Refusal) → IsErrandRefused errand e (outcome_answer format (Err e)))
+      → result ≡ Err refusals.Failed → IsErrandRefused errand refusals.Failed (answer_or format found result)
   failed_so result format found errand refused e = let r = refused refusals.Failed in (r.0, ap (answer_or format found) e ∙ r.1)
 
   met : {X : Type 0} (old new : Registry S store) (result : Result X Refusal) (Says : History → X → Type 0) (format : Format) (found : X → Answer) (errand : Errand) (calls : List Call) → AreNothing calls
-      → IsQuestion format found Says errand → Answers store old new result Says → HasCleanDisk store new → (k : Known) → IsKnown store old k
-      → (now : Known) × IsKnown store new now × IsMet k errand (answer_or format found result) calls now
+      → IsQuestion format found Says errand → Answers store old new result Says → HasCleanDisk store new → (k : Known) → IsKnownOf store old k
+      → (now : Known) × IsKnownOf store new now × IsErrandMet k errand (answer_or format found result) calls now
   met old new result Says format found errand calls nothing q a good (Live h) shows =
       let t = a.told good h shows in (Live h, t.1, over_history result Says format found errand calls nothing q h t.0)
   met old new result Says format found errand calls nothing q a good (Between before behind) fails =
@@ -199,7 +199,7 @@ module _ {S : Type 0} (store : Ghosts S) where
       (Down, d.1, (Refused (failed_so result format found errand q.refused d.0), nothing, refl))
 
   pub question_met : CallsLook → {X : Type 0} (old new : Registry S store) (result : Result X Refusal) (Says : History → X → Type 0) (format : Format) (found : X → Answer) (errand : Errand)
-      → IsQuestion format found Says errand → Answers store old new result Says → Goes store old new (λ k calls now. IsMet k errand (answer_or format found result) calls now)
+      → IsQuestion format found Says errand → Answers store old new result Says → Goes store old new (λ k calls now. IsErrandMet k errand (answer_or format found result) calls now)
   question_met look old new result Says format found errand q a = record {
     lives = asked_on look old new result Says a;
     served = record { good = a.rests.clean; leads = λ good k known. met old new result Says format found errand (nothing_sent ∷ []) (refl, tt) q a good k known };
@@ -207,11 +207,11 @@ module _ {S : Type 0} (store : Ghosts S) where
 
   -- a call of its own kind, which sends nothing: what it comes to over a history, and where the registry had failed
   pub from_call : (old new : Registry S store) (errand : Errand) (given : Answer) (lives : LivesOn store old new) → AreNothing lives.calls → (HasCleanDisk store new → HasCleanDisk store old)
-      → (HasCleanDisk store new → (h : History) → Shows store old h → (now : Known) × IsKnown store new now × IsMetOver h errand given lives.calls now)
-      → (is_live old ≡ false → IsRefused errand refusals.Failed given) → Goes store old new (λ k calls now. IsMet k errand given calls now)
+      → (HasCleanDisk store new → (h : History) → Shows store old h → (now : Known) × IsKnownOf store new now × IsMetOver h errand given lives.calls now)
+      → (is_live old ≡ false → IsErrandRefused errand refusals.Failed given) → Goes store old new (λ k calls now. IsErrandMet k errand given calls now)
   from_call old new errand given lives nothing clean over failed = record { lives = lives; served = record { good = clean; leads = leads } }
     where
-      leads : HasCleanDisk store new → (k : Known) → IsKnown store old k → (now : Known) × IsKnown store new now × IsMet k errand given lives.calls now
+      leads : HasCleanDisk store new → (k : Known) → IsKnownOf store old k → (now : Known) × IsKnownOf store new now × IsErrandMet k errand given lives.calls now
       leads good (Live h) shows = over good h shows
       leads good (Between before behind) fails =
           (Between before behind, subst (λ r. FailsBetween store r before behind) (sym (lives.rests fails.has_failed)) fails, (Refused (failed fails.has_failed), nothing, refl))
@@ -227,7 +227,7 @@ module _ {S : Type 0} (store : Ghosts S) where
   pub no_call : (r : Registry S store) (P : Known → List Call → Known → Type 0) → ((k : Known) → P k [] k) → Goes store r r P
   no_call r P p = record { lives = record { rests = λ off. refl; calls = []; lead = refl }; served = record { good = λ c. c; leads = λ good k known. (k, known, p k) } }
 
-  pub replied : {E : Type 0} (old new : Registry S store) (errand : Errand) (result : Result Reply E) (given : Answer) → IfOk result (λ reply. IsReplyOf reply given) → Goes store old new (λ k calls now. IsMet k errand given calls now)
+  pub replied : {E : Type 0} (old new : Registry S store) (errand : Errand) (result : Result Reply E) (given : Answer) → IfOk result (λ reply. IsReplyOf reply given) → Goes store old new (λ k calls now. IsErrandMet k errand given calls now)
       → Goes store old new (λ k calls now. IsMetBy k errand result calls now)
   replied old new errand result given is goes = turned old new (λ k calls now m. is_met_by k now errand result given calls is m) goes
 
@@ -237,15 +237,15 @@ module _ {S : Type 0} (store : Ghosts S) where
 
   -- a question of its own kind that is refused
   pub refused_call : CallsLook → {X : Type 0} (old new : Registry S store) (e : Refusal) (Says : History → X → Type 0) (format : Format) (errand : Errand)
-      → ((x : Refusal) → IsRefused errand x (outcome_answer format (Err x))) → command_in errand ≡ None → Answers store old new (Err e) Says
-      → Goes store old new (λ k calls now. IsMet k errand (outcome_answer format (Err e)) calls now)
+      → ((x : Refusal) → IsErrandRefused errand x (outcome_answer format (Err x))) → command_sent errand ≡ None → Answers store old new (Err e) Says
+      → Goes store old new (λ k calls now. IsErrandMet k errand (outcome_answer format (Err e)) calls now)
   refused_call look {X} old new e Says format errand refused none a =
       from_call old new errand (outcome_answer format (Err e)) (asked_on look old new (Err e) Says a) (refl, tt) a.rests.clean
       (λ good h shows. let t = a.told good h shows in (Live h, t.1, NotDone e t.0 (refused e) (undone errand e (nothing_sent ∷ []) none (refl, tt)) refl))
       (λ off. failed_so (Err e) format (λ (x : X). outcome_answer format (Err e)) errand refused (a.failed off).0)
 
   -- what is told of the registry within its life
-  pub told_of : (old new : Registry S store) (P : Known → List Call → Known → Type 0) → Goes store old new P → Leads (HasCleanDisk store) (IsTold store) old new (λ t u. ByCalls store t u (λ calls. P t.known calls u.known))
+  pub told_of : (old new : Registry S store) (P : Known → List Call → Known → Type 0) → Goes store old new P → Leads (HasCleanDisk store) (IsToldOf store) old new (λ t u. ByCalls store t u (λ calls. P t.known calls u.known))
   told_of old new P g = record {
     good = g.served.good;
     leads = λ good t is.

@@ -15,11 +15,11 @@ use Rattle.pid_http_stream.specs.Conducts.{AreReplies}
 use Rattle.pid_http_stream.specs.Replies.{Answer}
 use Rattle.pid_http_stream.specs.Requests.{Request}
 use Rattle.pid_http.specs.Answering.{history_behind}
-use Rattle.pid_http.specs.Errands.{Errand, command_in, errand_of}
+use Rattle.pid_http.specs.Errands.{Errand, command_sent, errand_of}
 use Rattle.pid_http.specs.Steps.Handling.{nothing_then}
 use Rattle.pid_http.specs.Known.{Known, Live, Between, Told, ByCalls}
-use Rattle.pid_http.specs.Sending.{AreSomeOf, SendsSome, commands_of, if_any}
-use Rattle.pid_http.specs.Serving.{AreCallsOver, AreUndone, IsMet, IsMetOver, AnsweredOver, NotAsked, NotDone, InDoubt, serving}
+use Rattle.pid_http.specs.Sending.{AreSomeOf, SendsSome, commands_asked, if_any}
+use Rattle.pid_http.specs.Serving.{AreCallsOver, AreUndone, IsErrandMet, IsMetOver, AnsweredOver, NotAsked, NotDone, InDoubt, serving}
 
 -- ---- calls one behind the other
 
@@ -110,10 +110,10 @@ in_doubt : (h : History) (c : Asked) (refusal : Refusal) (calls : List Call) (k 
 in_doubt h c refusal calls k fault by is =
     stopped_so h (c ∷ []) [] c calls k (ap (λ (l : List Call). commands_in (sent_in l)) by ∙ fault_sends c refusal false fault) (subst (StopsAt c) (sym by) (fault_stops c refusal fault)) (inr ([], refl, refl)) is
 
-met_sends : AreOutcomes → (h : History) (errand : Errand) (given : Answer) (calls : List Call) (k : Known) → IsMetOver h errand given calls k → SendsSome h (if_any (command_in errand)) calls k
-met_sends outcomes h errand given calls k (AnsweredOver e by is) = over outcomes h (command_in errand) calls k by is
-met_sends outcomes h errand given calls k (NotAsked short nothing is) = quiet h (if_any (command_in errand)) calls k nothing is
-met_sends outcomes h errand given calls k (NotDone refusal fault refused undone is) = not_done h (command_in errand) refusal calls k fault undone is
+met_sends : AreOutcomes → (h : History) (errand : Errand) (given : Answer) (calls : List Call) (k : Known) → IsMetOver h errand given calls k → SendsSome h (if_any (command_sent errand)) calls k
+met_sends outcomes h errand given calls k (AnsweredOver e by is) = over outcomes h (command_sent errand) calls k by is
+met_sends outcomes h errand given calls k (NotAsked short nothing is) = quiet h (if_any (command_sent errand)) calls k nothing is
+met_sends outcomes h errand given calls k (NotDone refusal fault refused undone is) = not_done h (command_sent errand) refusal calls k fault undone is
 met_sends outcomes h errand given calls k (InDoubt refusal c fault refused command by is) =
     subst (λ (o : Option Asked). SendsSome h (if_any o) calls k) (sym command) (in_doubt h c refusal calls k fault by is)
 
@@ -166,22 +166,22 @@ module _ {S : Type 0} (store : Ghosts S) where
           (λ calls. SendsSome h (cs ++ ds) calls u.known)
           (λ xs ys p q. stop_on h cs ds xs ys c u.known p.0 p.1 q.0 (q.1 ∙ ap (λ (a : History). Between a (after a c)) p.2)) (at _ (stops, some, refl)) (failed x (after x c) is)
 
-  pub met_by : AreOutcomes → (t u : Told store) (h : History) (errand : Errand) (given : Answer) → t.known ≡ Live h → ByCalls store t u (λ calls. IsMet t.known errand given calls u.known)
-      → ByCalls store t u (λ calls. SendsSome h (if_any (command_in errand)) calls u.known)
+  pub met_by : AreOutcomes → (t u : Told store) (h : History) (errand : Errand) (given : Answer) → t.known ≡ Live h → ByCalls store t u (λ calls. IsErrandMet t.known errand given calls u.known)
+      → ByCalls store t u (λ calls. SendsSome h (if_any (command_sent errand)) calls u.known)
   met_by outcomes t u h errand given live b = record {
     same_life = b.same_life;
     more = b.more;
     joined = b.joined;
-    holds = met_sends outcomes h errand given b.more u.known (subst (λ k. IsMet k errand given b.more u.known) live b.holds);
+    holds = met_sends outcomes h errand given b.more u.known (subst (λ k. IsErrandMet k errand given b.more u.known) live b.holds);
   }
 
-  pub failed_by : (t u : Told store) (x y : History) (errand : Errand) (given : Answer) → t.known ≡ Between x y → ByCalls store t u (λ calls. IsMet t.known errand given calls u.known)
+  pub failed_by : (t u : Told store) (x y : History) (errand : Errand) (given : Answer) → t.known ≡ Between x y → ByCalls store t u (λ calls. IsErrandMet t.known errand given calls u.known)
       → ByCalls store t u (λ calls. AreNothing calls × (u.known ≡ Between x y))
   failed_by t u x y errand given is b = record {
     same_life = b.same_life;
     more = b.more;
     joined = b.joined;
-    holds = let m : IsMet (Between x y) errand given b.more u.known = subst (λ k. IsMet k errand given b.more u.known) is b.holds in (m.1, m.2);
+    holds = let m : IsErrandMet (Between x y) errand given b.more u.known = subst (λ k. IsErrandMet k errand given b.more u.known) is b.holds in (m.1, m.2);
   }
 
   -- one that has failed is sent nothing more
@@ -194,8 +194,8 @@ module _ {S : Type 0} (store : Ghosts S) where
 
   -- requests that were answered
   pub replies_send : AreOutcomes → (t u : Told store) (h : History) (requests : List Request) (bytes : List ℕ) → t.known ≡ Live h → AreReplies (serving store) t requests bytes u
-      → ByCalls store t u (λ calls. SendsSome h (commands_of requests) calls u.known)
+      → ByCalls store t u (λ calls. SendsSome h (commands_asked requests) calls u.known)
   replies_send outcomes t u h [] bytes live (e, same) = by_none t u (λ v calls. SendsSome h [] calls v.known) same (inl (refl, live))
   replies_send outcomes t u h (request ∷ requests) bytes live (mid, given, later, step, e, rest) =
-      then_send t mid u h (if_any (command_in (errand_of request))) (commands_of requests) (met_by outcomes t mid h (errand_of request) given live step)
+      then_send t mid u h (if_any (command_sent (errand_of request))) (commands_asked requests) (met_by outcomes t mid h (errand_of request) given live step)
       (λ next is. replies_send outcomes mid u next requests later is rest) (λ x y is. failed_replies mid u x y requests later is rest)

@@ -14,7 +14,7 @@ use Rattle.pid_file.specs.declared.io.ReadFault.{ReadFault}
 use Rattle.pid_file.specs.declared.io.WriteFault.{WriteFault}
 use Rattle.pid_http_stream.specs.Causes.{EndsFor}
 use Rattle.pid_http.specs.Serving.{serving}
-use Rattle.pid_http.specs.Known.{Told, IsTold}
+use Rattle.pid_http.specs.Known.{Told, IsToldOf}
 
 -- no read was made
 pub memory_ends : (reads turns : ℕ) (read_fault : Option ReadFault) (write_fault : Option WriteFault)
@@ -37,10 +37,10 @@ module _ {S : Type 0} (store : Ghosts S) where
 
   -- there was no memory to begin
   pub none_served : (r : Registry S store) (taken to_come left : Option (List ℕ))
-      → Leads (HasCleanDisk store) (IsTold store) r r (λ t u. IfSome to_come (λ stream. IsServed (serving store) (record { handler = t; handler_after = u; taken = taken; taken_after = taken }) stream left Memory 0))
+      → Leads (HasCleanDisk store) (IsToldOf store) r r (λ t u. IfSome to_come (λ stream. IsServed (serving store) (record { handler = t; handler_after = u; taken = taken; taken_after = taken }) stream left Memory 0))
   none_served r taken to_come left = record { good = λ g. g; leads = λ good t is. (t, is, none t taken to_come left) }
 
   -- nor was anything read
   pub none_read : (r : Registry S store) (taken to_come : Option (List ℕ)) (moments : Option (List Moment))
-      → Leads (HasCleanDisk store) (IsTold store) r r (λ t _. IfSome to_come (λ stream. AllSince (IsCaughtUp (serving store) t taken stream) moments moments))
+      → Leads (HasCleanDisk store) (IsToldOf store) r r (λ t _. IfSome to_come (λ stream. AllSince (IsCaughtUp (serving store) t taken stream) moments moments))
   none_read r taken to_come moments = record { good = λ g. g; leads = λ good t is. (t, is, unread t taken to_come moments) }

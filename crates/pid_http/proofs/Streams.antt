@@ -10,16 +10,16 @@ use Rattle.pid_http_stream.specs.Conducts.{StandsStill}
 use Rattle.pid_http_stream.specs.Laws.{RequestsStay}
 use Rattle.pid_http_stream.specs.Replies.{Answer, answer_behind}
 use Rattle.pid_http_stream.specs.Requests.{Request, IsRequest}
-use Rattle.pid_http_stream.specs.Serving.{AnswersAll, AnswersFront, BreaksOff, IsServed, IsWrittenNext, LacksMemory, Outside, RestsBehind, StopsReading}
+use Rattle.pid_http_stream.specs.Serving.{AnswersAll, AnswersFront, BreaksOffInReply, IsServed, IsWrittenNext, LacksMemory, Outside, RestsBehind, StopsReading}
 use Rattle.pid_http_stream.specs.Streams.{Ending, clean, closed, faulty, Fronts, Splits}
 use Rattle.pid_http_stream.specs.declared.judging.StreamFault.TheVariants.{BadHead, Encoding, BodyTooLong, BodyShort}
-use Rattle.pid_http_stream.specs.declared.reply.ReplyHead.{ReplyHead}
+use Rattle.pid_http_stream.specs.declared.reply_head.ReplyHead.{ReplyHead}
 use Rattle.pid_http_stream.specs.declared.stream.StreamEnd.{StreamEnd}
 use Rattle.pid_http_stream.specs.declared.stream.StreamEnd.TheVariants.{Clean, Closed, HeadFault, BodyFault, ReadFault, WriteFault, StoreFault, Memory, TurnsSpent}
-use Rattle.pid_http.specs.Errands.{Errand, command_in, errand_of}
+use Rattle.pid_http.specs.Errands.{Errand, command_sent, errand_of}
 use Rattle.pid_http.specs.Known.{Known, Live, Between, Down, Told, ByCalls}
-use Rattle.pid_http.specs.Sending.{SendsOf, SendsSome, StandInFront, commands_of, if_any}
-use Rattle.pid_http.specs.Serving.{IsMet, IsPromised, serving}
+use Rattle.pid_http.specs.Sending.{SendsOf, SendsSome, StandInFront, commands_asked, if_any}
+use Rattle.pid_http.specs.Serving.{IsErrandMet, IsPromised, serving}
 use Rattle.pid_http.proofs.Sendings.{AreOutcomes, by_join, by_none, failed_by, first_sent, live_so, met_by, replies_send, stopped_so, stops_then, then_send}
 
 -- ---- requests at the front
@@ -45,10 +45,10 @@ read_in_front : RequestsStay → (stream read : List ℕ) (left : Option (List �
 read_in_front stay stream read None rs consumed s = absurd consumed
 read_in_front stay stream read (Some more) rs consumed s = subst (λ (l : List ℕ). StandInFront l rs) (sym consumed) (still_in_front stay read more rs s)
 
-commands_snoc : (rs : List Request) (r : Request) → commands_of rs ++ if_any (command_in (errand_of r)) ≡ commands_of (rs ++ r ∷ [])
-commands_snoc [] r = sym (append-nil (if_any (command_in (errand_of r))))
+commands_snoc : (rs : List Request) (r : Request) → commands_asked rs ++ if_any (command_sent (errand_of r)) ≡ commands_asked (rs ++ r ∷ [])
+commands_snoc [] r = sym (append-nil (if_any (command_sent (errand_of r))))
 commands_snoc (q ∷ rs) r =
-    append_assoc (if_any (command_in (errand_of q))) (commands_of rs) (if_any (command_in (errand_of r))) ∙ ap (λ (l : List Asked). if_any (command_in (errand_of q)) ++ l) (commands_snoc rs r)
+    append_assoc (if_any (command_sent (errand_of q))) (commands_asked rs) (if_any (command_sent (errand_of r))) ∙ ap (λ (l : List Asked). if_any (command_sent (errand_of q)) ++ l) (commands_snoc rs r)
 
 -- ---- what comes behind the requests that were answered
 
@@ -79,11 +79,11 @@ module _ {S : Type 0} (store : Ghosts S) where
   then_quiet t mid u h cs first next =
       by_join store t mid u (λ xs. SendsSome h cs xs mid.known) (λ ys. AreNothing ys × (mid.known ≡ u.known)) (λ calls. SendsSome h cs calls u.known) (λ xs ys p q. quiet_on h cs xs ys mid.known u.known p q.0 q.1) first next
 
-  then_request : AreOutcomes → (t mid u : Told store) (h : History) (rs : List Request) (r : Request) (given : Answer) → ByCalls store t mid (λ calls. SendsSome h (commands_of rs) calls mid.known)
-      → ByCalls store mid u (λ calls. IsMet mid.known (errand_of r) given calls u.known) → ByCalls store t u (λ calls. SendsSome h (commands_of (rs ++ r ∷ [])) calls u.known)
+  then_request : AreOutcomes → (t mid u : Told store) (h : History) (rs : List Request) (r : Request) (given : Answer) → ByCalls store t mid (λ calls. SendsSome h (commands_asked rs) calls mid.known)
+      → ByCalls store mid u (λ calls. IsErrandMet mid.known (errand_of r) given calls u.known) → ByCalls store t u (λ calls. SendsSome h (commands_asked (rs ++ r ∷ [])) calls u.known)
   then_request outcomes t mid u h rs r given first step =
       subst (λ (l : List Asked). ByCalls store t u (λ calls. SendsSome h l calls u.known)) (commands_snoc rs r)
-      (then_send store t mid u h (commands_of rs) (if_any (command_in (errand_of r))) first (λ next is. met_by store outcomes mid u next (errand_of r) given is step) (λ x y is. failed_by store mid u x y (errand_of r) given is step))
+      (then_send store t mid u h (commands_asked rs) (if_any (command_sent (errand_of r))) first (λ next is. met_by store outcomes mid u next (errand_of r) given is step) (λ x y is. failed_by store mid u x y (errand_of r) given is step))
 
   -- the whole stream was answered
   all_send : AreOutcomes → (h : History) (o : Outside (Told store)) (stream : List ℕ) (ending : Ending) (tail : List ℕ) (count : ℕ) → o.handler.known ≡ Live h → AnswersAll (serving store) o stream ending tail count
@@ -91,7 +91,7 @@ module _ {S : Type 0} (store : Ghosts S) where
   all_send outcomes h o stream ending tail count live a = record {
     requests = a.requests;
     stand = split_in_front stream a.requests ending a.splits;
-    sends = then_quiet o.handler a.last o.handler_after h (commands_of a.requests) (replies_send store outcomes o.handler a.last h a.requests a.replies live a.answered)
+    sends = then_quiet o.handler a.last o.handler_after h (commands_asked a.requests) (replies_send store outcomes o.handler a.last h a.requests a.replies live a.answered)
         (still a.last o.handler_after (rests_still ending a.last o.handler_after a.rests));
   }
 
@@ -102,13 +102,13 @@ module _ {S : Type 0} (store : Ghosts S) where
   front_quiet outcomes h t mid u stream rest taken taken_after count live f next = record {
     requests = f.requests;
     stand = in_front stream f.requests rest f.fronts;
-    sends = then_quiet t mid u h (commands_of f.requests) (replies_send store outcomes t mid h f.requests f.replies live f.answered) next;
+    sends = then_quiet t mid u h (commands_asked f.requests) (replies_send store outcomes t mid h f.requests f.replies live f.answered) next;
   }
 
   -- and then one request more
   front_then : AreOutcomes → (h : History) (t mid u : Told store) (stream rest : List ℕ) (taken taken_after : Option (List ℕ)) (count : ℕ) (r : Request) (behind : List ℕ) (given : Answer) → t.known ≡ Live h
       → AnswersFront (serving store) (record { handler = t; handler_after = mid; taken = taken; taken_after = taken_after }) stream rest count → IsRequest rest r behind
-      → ByCalls store mid u (λ calls. IsMet mid.known (errand_of r) given calls u.known) → SendsOf store h t u stream
+      → ByCalls store mid u (λ calls. IsErrandMet mid.known (errand_of r) given calls u.known) → SendsOf store h t u stream
   front_then outcomes h t mid u stream rest taken taken_after count r behind given live f is step = record {
     requests = f.requests ++ r ∷ [];
     stand = next_in_front stream f.requests rest r behind f.fronts is;
@@ -131,7 +131,7 @@ module _ {S : Type 0} (store : Ghosts S) where
           front_then outcomes h o.handler s.mid o.handler_after stream s.rest o.taken o.taken_after count request behind b.holds.0 live s.before is
           (record { same_life = b.same_life; more = b.more; joined = b.joined; holds = b.holds.1 })
 
-  broken_sends : AreOutcomes → (h : History) (o : Outside (Told store)) (stream : List ℕ) (count : ℕ) → o.handler.known ≡ Live h → BreaksOff (serving store) o stream count → SendsOf store h o.handler o.handler_after stream
+  broken_sends : AreOutcomes → (h : History) (o : Outside (Told store)) (stream : List ℕ) (count : ℕ) → o.handler.known ≡ Live h → BreaksOffInReply (serving store) o stream count → SendsOf store h o.handler o.handler_after stream
   broken_sends outcomes h o stream count live s = by_case s.next_is
     where
       by_case : IsWrittenNext (serving store) s.mid s.rest s.bytes o.handler_after → SendsOf store h o.handler o.handler_after stream

@@ -21,7 +21,7 @@ use Rattle.pid_moderation.specs.PendingPages.{pending_in}
 use Rattle.pid_moderation.specs.declared.lists.TheConstants.{PAGE}
 use Rattle.pid_tree.specs.Printing.{print}
 use Rattle.pid_http_stream.specs.Replies.{Answer, answer_with}
-use Rattle.pid_http_stream.specs.declared.reply.Content.TheVariants.{Text}
+use Rattle.pid_http_stream.specs.declared.reply_head.Content.TheVariants.{Text}
 use Rattle.pid_http_requests.specs.declared.format.Format.{Format}
 use Rattle.pid_http_requests.specs.declared.lookup.LookupQuery.{LookupQuery}
 use Rattle.pid_http_replies.specs.ChangeAnswers.{changes_answer}
@@ -91,8 +91,8 @@ history_behind h None = h
 history_behind h (Some command) = after h command
 
 -- the registry was asked, and refused it for this reason
-abbrev pub IsRefused : Errand → Refusal → Answer → Type 0
-IsRefused errand refusal given = (known_answer errand ≡ None)
+abbrev pub IsErrandRefused : Errand → Refusal → Answer → Type 0
+IsErrandRefused errand refusal given = (known_answer errand ≡ None)
     × (given ≡ outcome_answer (format_of errand) (Err refusal))
 
 -- Memory was short for a command's sender or form, before the registry was asked.
@@ -104,7 +104,7 @@ LacksForm errand given = ⊥
 -- the answer of a registry that has failed
 pub data IsFailedAnswer (errand : Errand) (given : Answer) : Type 0 where
   -- what it is asked it refuses for that
-  Refused : IsRefused errand Failed given → IsFailedAnswer errand given
+  Refused : IsErrandRefused errand Failed given → IsFailedAnswer errand given
   -- what it is not asked is answered as ever
   AsEver : known_answer errand ≡ Some given → IsFailedAnswer errand given
   -- out of memory before it was asked

@@ -51,9 +51,9 @@ pub data Errand : Type 0 where
   Changes : ℕ → Option Path → Format → Errand
 
 -- the command that the registry is to obey, if it is one
-abbrev pub command_in : Errand → Option Asked
-command_in (Obeys command format) = Some command
-command_in errand = None
+abbrev pub command_sent : Errand → Option Asked
+command_sent (Obeys command format) = Some command
+command_sent errand = None
 
 -- the format in which it is refused: what has no format of its own is refused in JSON
 abbrev pub format_of : Errand → Format
@@ -73,19 +73,19 @@ known_answer (Denied refusal format) = Some (outcome_answer format (Err refusal)
 known_answer errand = None
 
 -- a command, or the first check that it fails
-abbrev pub commanded : Format → Result Command Refusal → Errand
-commanded format (Ok command) = Obeys (asks command) format
-commanded format (Err refusal) = Denied refusal format
+abbrev pub command_errand : Format → Result Command Refusal → Errand
+command_errand format (Ok command) = Obeys (asks command) format
+command_errand format (Err refusal) = Denied refusal format
 
 -- an import of a sender with this file
-abbrev pub imported : Format → Option Sending → List ℕ → Errand
-imported format None file = Denied BadText format
-imported format (Some s) file = Obeys (import_of s.account s.key (file_reading file)) format
+abbrev pub import_errand : Format → Option Sending → List ℕ → Errand
+import_errand format None file = Denied BadText format
+import_errand format (Some s) file = Obeys (import_of s.account s.key (file_reading file)) format
 
 -- the sender is judged before the body
 abbrev pub sent : Format → (Sending → Result Command Refusal) → Option Sending → Errand
 sent format command None = Denied BadText format
-sent format command (Some s) = commanded format (command s)
+sent format command (Some s) = command_errand format (command s)
 
 -- the item at a path; what is no path's text is refused
 abbrev pub read_for : Format → Option Path → Errand
@@ -131,7 +131,7 @@ errand_for (questions.Command verb format) s body = sent format
 -- what a head and the body after it come to
 abbrev pub errand_asked : Asking → Option Sending → List ℕ → Errand
 errand_asked (Buffered asked) s body = errand_for asked s body
-errand_asked (Streamed format) s body = imported format s body
+errand_asked (Streamed format) s body = import_errand format s body
 
 -- what a request comes to
 unfoldable pub errand_of : Request → Errand

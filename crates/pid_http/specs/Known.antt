@@ -20,10 +20,10 @@ pub data Known : Type 0 where
 
 module _ {S : Type 0} (store : Ghosts S) where
   -- this is known of the registry
-  abbrev pub IsKnown : Registry S store → Known → Type 0
-  IsKnown r (Live h) = Shows store r h
-  IsKnown r (Between before behind) = FailsBetween store r before behind
-  IsKnown r Down = is_live r ≡ false
+  abbrev pub IsKnownOf : Registry S store → Known → Type 0
+  IsKnownOf r (Live h) = Shows store r h
+  IsKnownOf r (Between before behind) = FailsBetween store r before behind
+  IsKnownOf r Down = is_live r ≡ false
 
   -- Calls on the registry led from the one to the other, and each did what lives ask of a call: so
   -- they are a part of its life. One that has failed stays as it is.
@@ -40,8 +40,8 @@ module _ {S : Type 0} (store : Ghosts S) where
     pub known : Known
 
   -- this is told of the registry, and it is so
-  pub record IsTold (r : Registry S store) (t : Told) : Type 0 where
-    pub is_known : IsKnown r t.known
+  pub record IsToldOf (r : Registry S store) (t : Told) : Type 0 where
+    pub is_known : IsKnownOf r t.known
     pub lead : CallsLead (showing store) t.start t.calls r
 
   -- more calls of the same life led from the one to the other, of which this holds

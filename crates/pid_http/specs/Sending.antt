@@ -6,7 +6,7 @@ use Rattle.pid_service_laws.specs.Lives.{after_sent, commands_in}
 use Rattle.pid_moderation.specs.History.{Asked, History}
 use Rattle.pid_moderation.specs.Judgement.{after}
 use Rattle.pid_http_stream.specs.Requests.{Request, IsRequest}
-use Rattle.pid_http.specs.Errands.{command_in, errand_of}
+use Rattle.pid_http.specs.Errands.{command_sent, errand_of}
 use Rattle.pid_http_stream.specs.Serving.{IsServed, Outside}
 use Rattle.pid_http_stream.specs.declared.stream.StreamEnd.{StreamEnd}
 use Rattle.pid_http.specs.Known.{Known, Live, Between, Told, ByCalls}
@@ -18,9 +18,10 @@ if_any None = []
 if_any (Some command) = command ∷ []
 
 -- the commands that requests ask for, in their order
-abbrev pub commands_of : List Request → List Asked
-commands_of [] = []
-commands_of (request ∷ requests) = if_any (command_in (errand_of request)) ++ commands_of requests
+abbrev pub commands_asked : List Request → List Asked
+commands_asked [] = []
+commands_asked (request ∷ requests) = if_any (command_sent (errand_of request))
+    ++ commands_asked requests
 
 -- these are some of all of them, in their order
 abbrev pub AreSomeOf : List Asked → List Asked → Type 0
@@ -48,7 +49,7 @@ pub record SendsOf {S : Type 0} (store : Ghosts S) (h : History) (t u : Told sto
     (stream : List ℕ) : Type 0 where
   pub requests : List Request
   pub stand : StandInFront stream requests
-  pub sends : ByCalls store t u (λ calls. SendsSome h (commands_of requests) calls u.known)
+  pub sends : ByCalls store t u (λ calls. SendsSome h (commands_asked requests) calls u.known)
 
 -- A stream that was served of a registry that showed a history sent it, whichever way it ended,
 -- commands of requests at its front.

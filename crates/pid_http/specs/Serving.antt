@@ -13,11 +13,11 @@ use Rattle.pid_service.specs.Histories.{IsFault}
 use Rattle.pid_tree.specs.Printing.{print}
 use Rattle.pid_http_stream.specs.Conducts.{Conduct}
 use Rattle.pid_http_stream.specs.Replies.{Answer}
-use Rattle.pid_http_stream.specs.declared.reply.Content.TheVariants.{Text}
-use Rattle.pid_http_stream.specs.declared.reply.ReplyHead.{ReplyHead}
-use Rattle.pid_http.specs.Answering.{answer_over, history_behind, IsRefused, LacksForm}
+use Rattle.pid_http_stream.specs.declared.reply_head.Content.TheVariants.{Text}
+use Rattle.pid_http_stream.specs.declared.reply_head.ReplyHead.{ReplyHead}
+use Rattle.pid_http.specs.Answering.{answer_over, history_behind, IsErrandRefused, LacksForm}
 use Rattle.pid_http.specs.Answering.{IsFailedAnswer}
-use Rattle.pid_http.specs.Errands.{Errand, Export, command_in, errand_of}
+use Rattle.pid_http.specs.Errands.{Errand, Export, command_sent, errand_of}
 use Rattle.pid_http.specs.Known.{Known, Live, Between, Down, Told, ByCalls}
 
 -- The calls for a request that was answered over the history: a command is sent once, and has the
@@ -38,27 +38,27 @@ AreUndone (Some command) fault calls = calls ≡ obeyed command (Err fault) true
 pub data IsMetOver (h : History) (errand : Errand) (given : Answer) (calls : List Call) (k : Known)
     : Type 0 where
   -- it is answered over the history, and the registry shows the one after it
-  AnsweredOver : given ≡ answer_over h errand → AreCallsOver h (command_in errand) calls
-      → k ≡ Live (history_behind h (command_in errand)) → IsMetOver h errand given calls k
+  AnsweredOver : given ≡ answer_over h errand → AreCallsOver h (command_sent errand) calls
+      → k ≡ Live (history_behind h (command_sent errand)) → IsMetOver h errand given calls k
   -- out of memory before the registry was asked
   NotAsked : LacksForm errand given → AreNothing calls → k ≡ Live h
       → IsMetOver h errand given calls k
   -- memory or the store failed, and nothing was done
-  NotDone : (fault : Refusal) → IsFault fault → IsRefused errand fault given
-      → AreUndone (command_in errand) fault calls → k ≡ Live h → IsMetOver h errand given calls k
+  NotDone : (fault : Refusal) → IsFault fault → IsErrandRefused errand fault given
+      → AreUndone (command_sent errand) fault calls → k ≡ Live h → IsMetOver h errand given calls k
   -- They failed while a command was written, at which the calls then stopped: the registry has
   -- failed between the history and the one after the command.
-  InDoubt : (fault : Refusal) (command : Asked) → IsFault fault → IsRefused errand fault given
-      → command_in errand ≡ Some command → calls ≡ obeyed command (Err fault) false ∷ []
+  InDoubt : (fault : Refusal) (command : Asked) → IsFault fault → IsErrandRefused errand fault given
+      → command_sent errand ≡ Some command → calls ≡ obeyed command (Err fault) false ∷ []
       → k ≡ Between h (after h command) → IsMetOver h errand given calls k
 
 -- How it is answered, by what was known of the registry before it and what is known then, and by
 -- which calls. One that has failed is sent nothing that has an outcome.
-abbrev pub IsMet : Known → Errand → Answer → List Call → Known → Type 0
-IsMet (Live h) errand given calls k = IsMetOver h errand given calls k
-IsMet (Between before behind) errand given calls k = IsFailedAnswer errand given × AreNothing calls
-    × (k ≡ Between before behind)
-IsMet Down errand given calls k = IsFailedAnswer errand given × AreNothing calls × (k ≡ Down)
+abbrev pub IsErrandMet : Known → Errand → Answer → List Call → Known → Type 0
+IsErrandMet (Live h) errand given calls k = IsMetOver h errand given calls k
+IsErrandMet (Between before behind) errand given calls k = IsFailedAnswer errand given
+    × AreNothing calls × (k ≡ Between before behind)
+IsErrandMet Down errand given calls k = IsFailedAnswer errand given × AreNothing calls × (k ≡ Down)
 
 -- what is said of a text before it is written: its head, and how many bytes it has
 pub record IsTextHead (h : History) (head : ReplyHead) (told : ℕ) : Type 0 where
@@ -78,9 +78,9 @@ IsPromised Down errand head told calls k = ⊥
 abbrev pub serving : {S : Type 0} (store : Ghosts S) → Conduct (Told store)
 serving store = record {
   answers = λ t request given u. ByCalls store t u
-      (λ calls. IsMet t.known (errand_of request) given calls u.known);
+      (λ calls. IsErrandMet t.known (errand_of request) given calls u.known);
   leaves = λ t request u. ByCalls store t u
-      (λ calls. (given : Answer) × IsMet t.known (errand_of request) given calls u.known);
+      (λ calls. (given : Answer) × IsErrandMet t.known (errand_of request) given calls u.known);
   gives_up = λ t u. ByCalls store t u (λ calls. AreNothing calls × (t.known ≡ u.known));
   promises = λ t request head told u. ByCalls store t u
       (λ calls. IsPromised t.known (errand_of request) head told calls u.known);

@@ -3,7 +3,7 @@ ghost use Rattle.std.specs.Prelude.{◌≡◌, Err};
 ghost use Rattle.pid_tables.specs.Files.{asks};
 ghost use Rattle.pid_http_requests.specs.Commands.{command_made};
 ghost use Rattle.pid_http.specs.Errands as errands;
-ghost use Rattle.pid_http.specs.Errands.{commanded, sent};
+ghost use Rattle.pid_http.specs.Errands.{command_errand, sent};
 ghost use Rattle.pid_http.specs.Steps.Replying.{Replies, sending_in, sending_of};
 
 use pid_http_replies::{outcome_reply, refusal_reply};
@@ -24,7 +24,7 @@ fn obey<S: Alter + Drop>(
     ensures { Replies S.Store registry.old registry.new
         (errands.Obeys (asks command) format) result }
 {
-    clauses_meet_lives::<S>();
+    clauses_meet_lives::<S>(); // proof only
     let outcome = registry.obey(command);
     outcome_reply(alloc, format, outcome)
 }
@@ -39,7 +39,7 @@ fn command_of<S: Alter + Drop>(
     body: &[u8],
 ) -> Result<Reply, AllocError>
     ensures { Replies S.Store registry.old registry.new
-        (commanded format (command_made verb (sending_of sender.entry) body.now)) result }
+        (command_errand format (command_made verb (sending_of sender.entry) body.now)) result }
 {
     match command_in(alloc, verb, sender, body) {
         Err(refusal) => refusal_reply(alloc, format, refusal),

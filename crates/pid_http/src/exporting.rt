@@ -18,7 +18,7 @@ pub(crate) fn export<S: Alter + Drop>(
 ) -> Result<Reply, AllocError>
     ensures { Replies S.Store registry.old registry.new errands.Export result }
 {
-    clauses_meet_lives::<S>();
+    clauses_meet_lives::<S>(); // proof only
     match registry.export_length() {
         Ok(length) => Ok(Reply {
             head: ReplyHead {

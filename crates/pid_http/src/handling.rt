@@ -7,13 +7,13 @@ use crate::service::Service;
 use pid_http_requests::{Format, Question, question_of, sender_of};
 use pid_http_stream::{BodyStop, Handler, Head, NoReply, Reply, Wanted};
 use pid_ident::{Input, Output};
-use pid_service::{ExportFault, clauses_meet_lives, items_print_as_their_tree};
+use pid_service::{ExportFault, clauses_meet_lives, laws};
 use sqlite::Alter;
 
 impl<S: Alter + Drop> Handler for Service<'_, '_, S> {
     ghost use Rattle.std.specs.Prelude.{◌≡◌, refl};
-    ghost use Rattle.pid_http.specs.Steps.Handling.{Writes, exports_text, same_on};
-    ghost use Rattle.pid_http.specs.Known.{IsTold, LivesOn, Told};
+    ghost use Rattle.pid_http.specs.Steps.Handling.{WritesText, exports_text, same_on};
+    ghost use Rattle.pid_http.specs.Known.{IsToldOf, LivesOn, Told};
     ghost use Rattle.pid_http.specs.Steps.Going.{lives_further, lives_still};
     ghost use Rattle.pid_http.specs.Serving.{serving};
     ghost use Rattle.pid_http_requests.specs.Questions.{question};
@@ -26,7 +26,7 @@ impl<S: Alter + Drop> Handler for Service<'_, '_, S> {
 
     ghost View = { Told S.Store };
 
-    ghost stands = { λ a t. IsTold S.Store a.registry.now t };
+    ghost stands = { λ a t. IsToldOf S.Store a.registry.now t };
 
     ghost is_good = { λ a. HasCleanDisk S.Store a.registry.now };
 
@@ -35,7 +35,7 @@ impl<S: Alter + Drop> Handler for Service<'_, '_, S> {
 
     ghost conduct = { serving S.Store };
 
-    ghost writes = { Writes S.Store };
+    ghost writes = { WritesText S.Store };
 
     ghost kept = { exports_text };
 
@@ -77,8 +77,8 @@ impl<S: Alter + Drop> Handler for Service<'_, '_, S> {
     }
 
     fn write_body<W: Output>(&mut self, out: &mut W) -> Result<(), BodyStop> {
-        clauses_meet_lives::<S>();
-        items_print_as_their_tree();
+        clauses_meet_lives::<S>(); // proof only
+        laws::items_print_as_their_tree(); // proof only
         match self.registry.export(out) {
             Ok(()) => Ok(()),
             Err(ExportFault::Write(_)) => Err(BodyStop::Writer),

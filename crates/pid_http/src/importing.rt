@@ -14,7 +14,7 @@ ghost use Rattle.pid_moderation.specs.BeforeFile.{import_of};
 ghost use Rattle.pid_http_replies.specs.Outcomes.{outcome_answer};
 ghost use Rattle.pid_http_replies.specs.Replying.{MakesReply};
 ghost use Rattle.pid_http.specs.Errands as errands;
-ghost use Rattle.pid_http.specs.Errands.{imported};
+ghost use Rattle.pid_http.specs.Errands.{import_errand};
 ghost use Rattle.pid_http.specs.Steps.Replying.{RepliesToFile, sending_in, sending_of};
 
 use pid_http_replies::outcome_reply;
@@ -91,7 +91,7 @@ fn take_in<S: Alter + Drop, B: Input>(
         (B.to_come body.old) (B.to_come body.new)
         (λ file. errands.Obeys (import_of account key (file_reading file)) format) result }
 {
-    clauses_meet_lives::<S>();
+    clauses_meet_lives::<S>(); // proof only
     match registry.import_from(account, key, body) {
         Ok(reply) => reply_with(alloc, format, Ok(reply)),
         Err(ImportEnd::Refused(refusal)) => refuse(alloc, format, refusal, body),
@@ -138,7 +138,7 @@ fn import_of_sender<S: Alter + Drop, B: Input>(
     ensures whole { IfOk result (λ _. IsAtEnd (B.to_come body.new)) }
     ensures replied { RepliesToFile S.Store registry.old registry.new
         (B.to_come body.old) (B.to_come body.new)
-        (imported format (Some (sending_of sender.entry))) result }
+        (import_errand format (Some (sending_of sender.entry))) result }
 {
     match owner_of(alloc, sender) {
         None => deny(alloc, format, Refusal::Memory, body),
@@ -159,7 +159,7 @@ pub(crate) fn import<S: Alter + Drop, B: Input>(
     ensures whole { IfOk result (λ _. IsAtEnd (B.to_come body.new)) }
     ensures replied { RepliesToFile S.Store registry.old registry.new
         (B.to_come body.old) (B.to_come body.new)
-        (imported format (sending_in sender.entry)) result }
+        (import_errand format (sending_in sender.entry)) result }
 {
     match sender {
         None => deny(alloc, format, Refusal::BadText, body),

@@ -2,7 +2,7 @@
 //! its own.
 ghost use Rattle.pid_http.specs.Sending.{StreamsSend};
 
-use pid_http_stream::requests_stay;
+use pid_http_stream::laws;
 use pid_service_laws::judgements_are_outcomes;
 use sqlite::Alter;
 
@@ -15,5 +15,5 @@ pub fn streams_send_their_commands<S: Alter + Drop>()
     ensures { StreamsSend S.Store }
 {
     judgements_are_outcomes(); // proof only
-    requests_stay(); // proof only
+    laws::requests_stay(); // proof only
 }

@@ -17,7 +17,7 @@ ghost use Rattle.pid_http.specs.Answering.{
   item_or_missing,
 };
 ghost use Rattle.pid_http.specs.Errands as errands;
-ghost use Rattle.pid_http.specs.Steps.Replying.{Replies, answer_or, pairs_in};
+ghost use Rattle.pid_http.specs.Steps.Replying.{Replies, answer_or, pairs_found};
 
 use pid_http_replies::{
     changes_reply, children_reply, item_reply, lookup_reply, missing_reply, pending_reply,
@@ -55,7 +55,7 @@ pub(crate) fn read<S: Alter + Drop>(
 ) -> Result<Reply, AllocError>
     ensures { Replies S.Store registry.old registry.new (errands.Read path.now format) result }
 {
-    clauses_meet_lives::<S>();
+    clauses_meet_lives::<S>(); // proof only
     let found = registry.read(path);
     read_outcome(alloc, path, format, found)
 }
@@ -66,7 +66,7 @@ fn children_under<S: Alter + Drop>(
     path: Path,
 ) -> Result<Option<Vec<Item>>, Refusal>
     ensures { Answers S.Store registry.old registry.new result
-        (λ h found. pairs_in found ≡ children_shown (Some path) (items_of h)) }
+        (λ h found. pairs_found found ≡ children_shown (Some path) (items_of h)) }
 {
     match registry.read(&path) {
         Ok(Some(_)) => match registry.children(Some(path)) {
@@ -84,7 +84,7 @@ fn children_below<S: Alter + Drop>(
     above: Option<Path>,
 ) -> Result<Option<Vec<Item>>, Refusal>
     ensures { Answers S.Store registry.old registry.new result
-        (λ h found. pairs_in found ≡ children_shown above (items_of h)) }
+        (λ h found. pairs_found found ≡ children_shown above (items_of h)) }
 {
     match above {
         Some(path) => children_under(registry, path),
@@ -101,7 +101,7 @@ fn children_outcome(
     found: Result<Option<Vec<Item>>, Refusal>,
 ) -> Result<Reply, AllocError>
     ensures { MakesReply result
-        (answer_or format (λ items. children_or_missing format (pairs_in items)) found) }
+        (answer_or format (λ items. children_or_missing format (pairs_found items)) found) }
 {
     match found {
         Ok(Some(items)) => children_reply(alloc, format, &items),
@@ -119,7 +119,7 @@ pub(crate) fn children<S: Alter + Drop>(
 ) -> Result<Reply, AllocError>
     ensures { Replies S.Store registry.old registry.new (errands.Children above format) result }
 {
-    clauses_meet_lives::<S>();
+    clauses_meet_lives::<S>(); // proof only
     let found = children_below(registry, above);
     children_outcome(alloc, format, found)
 }
@@ -132,7 +132,7 @@ pub(crate) fn lookup<S: Alter + Drop>(
 ) -> Result<Reply, AllocError>
     ensures { Replies S.Store registry.old registry.new (errands.Lookup query) result }
 {
-    clauses_meet_lives::<S>();
+    clauses_meet_lives::<S>(); // proof only
     let found = registry.lookup(query.flags, &query.args, query.size);
     lookup_reply(alloc, found)
 }
@@ -161,7 +161,7 @@ pub(crate) fn submission<S: Alter + Drop>(
 ) -> Result<Reply, AllocError>
     ensures { Replies S.Store registry.old registry.new (errands.Submission number format) result }
 {
-    clauses_meet_lives::<S>();
+    clauses_meet_lives::<S>(); // proof only
     let found = registry.submission(number);
     submission_outcome(alloc, number, format, found)
 }
@@ -189,7 +189,7 @@ pub(crate) fn pending<S: Alter + Drop>(
 ) -> Result<Reply, AllocError>
     ensures { Replies S.Store registry.old registry.new (errands.Pending after format) result }
 {
-    clauses_meet_lives::<S>();
+    clauses_meet_lives::<S>(); // proof only
     let found = registry.pending(after);
     pending_outcome(alloc, format, found)
 }
@@ -219,7 +219,7 @@ pub(crate) fn changes<S: Alter + Drop>(
     ensures { Replies S.Store registry.old registry.new
         (errands.Changes since (option_copied after.entry) format) result }
 {
-    clauses_meet_lives::<S>();
+    clauses_meet_lives::<S>(); // proof only
     let found = registry.changes(since, after);
     changes_outcome(alloc, format, found)
 }

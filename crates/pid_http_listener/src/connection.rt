@@ -1,5 +1,5 @@
 //! One connection.
-ghost use Rattle.pid_http_listener.specs.Streams.{IsGiven};
+ghost use Rattle.pid_http_listener.specs.Streams.{IsGivenMore};
 
 use crate::closing::close;
 use crate::server::StreamServer;
@@ -38,7 +38,7 @@ fn serve_buffered<S: StreamServer, R: Read + Drop, W: Write + Drop>(
     server: &mut S,
 ) -> io::Result<()>
     ensures goes { S.goes server.old server.new }
-    ensures counted { IsGiven 1 (S.given server.old) (S.given server.new) }
+    ensures counted { IsGivenMore 1 (S.given server.old) (S.given server.new) }
 {
     let writer = RefCell::new(writer);
     let mut input = Plain::new(Requests {
@@ -57,7 +57,7 @@ fn serve_bare<S: StreamServer, R: Read + Drop, W: Write + Drop>(
     server: &mut S,
 )
     ensures goes { S.goes server.old server.new }
-    ensures counted { IsGiven 1 (S.given server.old) (S.given server.new) }
+    ensures counted { IsGivenMore 1 (S.given server.old) (S.given server.new) }
 {
     let mut input = Plain::new(reader);
     let mut output = Plain::new(writer);
@@ -69,7 +69,7 @@ fn serve_bare<S: StreamServer, R: Read + Drop, W: Write + Drop>(
 /// without them.
 pub(crate) fn serve_connection<S: StreamServer>(alloc: Global, stream: &TcpStream, server: &mut S)
     ensures goes { S.goes server.old server.new }
-    ensures counted { IsGiven 1 (S.given server.old) (S.given server.new) }
+    ensures counted { IsGivenMore 1 (S.given server.old) (S.given server.new) }
 {
     let _ = stream.set_nodelay(true);
     match buffered(alloc, stream, stream) {

@@ -1,6 +1,6 @@
 //! What serves the streams of connections.
 ghost use Rattle.std.specs.Prelude.{◌≡◌, ◌+◌, ◌≤◌};
-ghost use Rattle.pid_http_listener.specs.Streams.{IsGiven};
+ghost use Rattle.pid_http_listener.specs.Streams.{IsGivenMore};
 
 use pid_http_stream::Served;
 use pid_ident::{Input, Output};
@@ -24,7 +24,7 @@ pub trait StreamServer {
     /// Serves the stream of one connection, in at most so many reads.
     fn serve<I: Input, O: Output>(&mut self, input: &mut I, output: &mut O, turns: u64) -> Served
         ensures goes { goes self.old self.new }
-        ensures counted { IsGiven 1 (given self.old) (given self.new) }
+        ensures counted { IsGivenMore 1 (given self.old) (given self.new) }
         ensures reads { I.reads input.new ≤ I.reads input.old + turns };
 
     /// No stream leaves it as it is.

@@ -1,6 +1,6 @@
 //! One connection after the other.
-ghost use Rattle.pid_http_listener.specs.Servings.{IsCounted, IsLiveAt};
-ghost use Rattle.pid_http_listener.specs.Streams.{IsGiven};
+ghost use Rattle.pid_http_listener.specs.Servings.{CountsStreams, IsLiveAt};
+ghost use Rattle.pid_http_listener.specs.Streams.{IsGivenMore};
 
 use crate::connection::serve_connection;
 use crate::server::StreamServer;
@@ -53,8 +53,8 @@ pub fn serve_on<S: StreamServer>(
     connections: u32,
 ) -> Serving
     ensures goes { S.goes server.old server.new }
-    ensures counted { IsGiven result.streams (S.given server.old) (S.given server.new) }
-    ensures streams { IsCounted result.end connections result.streams }
+    ensures counted { IsGivenMore result.streams (S.given server.old) (S.given server.new) }
+    ensures streams { CountsStreams result.end connections result.streams }
     ensures live { IsLiveAt result.end result.streams (S.live server.new) }
 {
     for begun in 0..connections {

@@ -15,7 +15,7 @@ use Rattle.pid_moderation.specs.declared.refusal.Refusal.TheVariants.{RankTooLow
 use Rattle.pid_moderation.specs.Submissions.{Standing}
 use Rattle.pid_moderation.specs.ChangePages.{ChangePage}
 use Rattle.pid_http_replies.specs.ChangeAnswers.{changes_data, changes_text}
-use Rattle.pid_http_replies.specs.ItemAnswers.{item_data, item_line, items_data}
+use Rattle.pid_http_replies.specs.ItemAnswers.{item_data, child_line, items_data}
 use Rattle.pid_http_replies.specs.Outcomes.{outcome_data, unanswered_data}
 use Rattle.pid_http_replies.specs.PendingAnswers.{pending_line, pendings_data}
 use Rattle.pid_http_replies.specs.SubmissionAnswers.{standing_text, submission_data}
@@ -53,7 +53,7 @@ tab_row : compact_text (items_data ((codes "PC/8086", codes "a\tb") ∷ [])) ≡
 unfolding serde_json_on_literals digits
 tab_row = refl
 
-line_row : item_line (codes "PC/8086", codes "Intel Corporation") ≡ codes "PC/8086 Intel Corporation\n"
+line_row : child_line (codes "PC/8086", codes "Intel Corporation") ≡ codes "PC/8086 Intel Corporation\n"
 line_row = refl
 
 -- a submission that was approved

@@ -22,9 +22,9 @@ abbrev pub items_data : List (List ℕ × List ℕ) → Data
 items_data items = array (items_of (map item_data items))
 
 -- PC/8086 Intel
-abbrev pub item_line : List ℕ × List ℕ → List ℕ
-item_line (path, name) = word_line path name
+abbrev pub child_line : List ℕ × List ℕ → List ℕ
+child_line (path, name) = word_line path name
 
 -- items; a line of text for each
 abbrev pub children_answer : Format → List (List ℕ × List ℕ) → Answer
-children_answer format items = answer_in format 200 (items_data items) (flat_map item_line items)
+children_answer format items = answer_in format 200 (items_data items) (flat_map child_line items)

@@ -9,7 +9,7 @@ use Rattle.pid_lookup.specs.declared.unanswered.Unanswered.TheVariants as whys
 use Rattle.pid_moderation.specs.declared.refusal.Refusal.{Refusal}
 use Rattle.pid_moderation.specs.declared.refusal.Refusal.TheVariants as refusals
 use Rattle.pid_http_stream.specs.Replies.{Answer, answer_with}
-use Rattle.pid_http_stream.specs.declared.reply.Content.TheVariants.{Bytes}
+use Rattle.pid_http_stream.specs.declared.reply_head.Content.TheVariants.{Bytes}
 use Rattle.pid_http_replies.specs.Outcomes.{unanswered_answer, outcome_answer}
 use Rattle.pid_http_requests.specs.declared.format.Format.TheVariants as formats
 

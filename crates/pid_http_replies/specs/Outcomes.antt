@@ -16,7 +16,8 @@ use Rattle.pid_moderation.specs.declared.refusal.FileFault.TheVariants.{Line, To
 use Rattle.pid_moderation.specs.declared.refusal.Refusal.{Refusal}
 use Rattle.pid_moderation.specs.declared.refusal.Refusal.TheVariants as refusals
 use Rattle.pid_http_stream.specs.Replies.{Answer, answer_with}
-use Rattle.pid_http_stream.specs.declared.reply.Content.TheVariants.{Json}
+use Rattle.pid_http_stream.specs.RequestRefusals.{refusal_data}
+use Rattle.pid_http_stream.specs.declared.reply_head.Content.TheVariants.{Json}
 use Rattle.pid_http_replies.specs.Replying.{answer_in}
 use Rattle.pid_http_requests.specs.declared.format.Format.{Format}
 
@@ -62,12 +63,6 @@ counts_data added renamed same =
     (member (codes "renamed") (number (unsigned renamed))
     (member (codes "same") (number (unsigned same)) no_members))))
 
--- {"ok":false,"refused":5,"word":"RankTooLow"}
-abbrev pub refusal_data : ℕ → List ℕ → Data
-refusal_data n word = object (member (codes "ok") (boolean false)
-    (member (codes "refused") (number (unsigned n))
-    (member (codes "word") (string word) no_members)))
-
 -- {"kind":7,"line":3,"ok":false,"refused":14,"word":"FileFault"}
 abbrev pub fault_data : ℕ → ℕ → Data
 fault_data line kind =
@@ -93,11 +88,6 @@ outcome_data (Err refusal) = refused_data refusal
 abbrev pub outcome_answer : Format → Result Reply Refusal → Answer
 outcome_answer format outcome = answer_in format (status_of_outcome outcome) (outcome_data outcome)
     (outcome_line outcome)
-
--- a refusal that is no refusal of a command, by its number and its word: as JSON, whatever format
--- is asked for
-abbrev pub json_refusal : ℕ → ℕ → List ℕ → Answer
-json_refusal status n word = answer_with status Json (compact_text (refusal_data n word))
 
 -- {"ok":false,"refused":25,"word":"NoItem"}
 abbrev pub unanswered_data : Unanswered → Data

@@ -4,11 +4,11 @@ ghost use Rattle.pid_http_stream.specs.Replies.{answer_with};
 ghost use Rattle.pid_http_replies.specs.EarlyAnswers.{early_answer};
 ghost use Rattle.pid_http_replies.specs.Replying.{IsReplyOf, MakesReply};
 
-use crate::outcome::{refusal_reply, refused_reply};
+use crate::outcome::{refusal_reply, request_reply};
 use crate::reply::reply_with;
 use http::StatusCode;
 use pid_http_requests::Format;
-use pid_http_stream::{Content, Reply};
+use pid_http_stream::{Content, Reply, RequestRefusal};
 use pid_moderation::Refusal;
 use std::alloc::{AllocError, Global};
 
@@ -45,8 +45,8 @@ pub fn early_reply(alloc: Global, early: Early) -> Result<Reply, AllocError>
         Early::AnotherMethod => Ok(allow_reply(alloc, Content::AllowBoth)),
         Early::WantsGet => Ok(allow_reply(alloc, Content::AllowGet)),
         Early::WantsPost => Ok(allow_reply(alloc, Content::AllowPost)),
-        Early::BadTarget => refused_reply(alloc, StatusCode::BAD_REQUEST, 28, "BadTarget"),
-        Early::NoRoute => refused_reply(alloc, StatusCode::NOT_FOUND, 24, "NoRoute"),
+        Early::BadTarget => request_reply(alloc, RequestRefusal::BadTarget),
+        Early::NoRoute => request_reply(alloc, RequestRefusal::NoRoute),
         Early::BadQuery => refusal_reply(alloc, Format::Json, Refusal::BadText),
     }
 }

@@ -8,7 +8,7 @@ ghost use Rattle.serde_json.specs.Written.{comma_if, compact_text};
 ghost use Rattle.pid_http_replies.specs.ItemAnswers.{
   item_answer,
   item_data,
-  item_line,
+  child_line,
   children_answer,
   items_data,
 };
@@ -84,14 +84,15 @@ fn items_json(alloc: Global, items: &[Item]) -> Result<String, AllocError>
 
 fn push_item(alloc: Global, text: &mut String, item: &Item) -> Result<(), AllocError>
     ensures { OnOk result (string_bytes text.new
-        ≡ string_bytes text.old ++ item_line (pair_of item.now)) }
+        ≡ string_bytes text.old ++ child_line (pair_of item.now)) }
 {
     let path = item.path.path_text(alloc)?;
     push_line(text, path.as_str(), item.name.as_str())
 }
 
 fn items_text(alloc: Global, items: &[Item]) -> Result<String, AllocError>
-    ensures { IfOk result (λ text. string_bytes text ≡ flat_map item_line (map pair_of items.now)) }
+    ensures { IfOk result (λ text. string_bytes text
+        ≡ flat_map child_line (map pair_of items.now)) }
 {
     let mut text = String::new(alloc);
     for item in items {

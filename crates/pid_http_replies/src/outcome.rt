@@ -1,33 +1,39 @@
 //! Replies to commands.
-ghost use Rattle.std.specs.Prelude.{◌≡◌, IfOk};
+ghost use Rattle.std.specs.Prelude.{◌≡◌, IfOk, IsTrue};
 ghost use Rattle.serde_json.specs.View.{view};
 ghost use Rattle.pid_http_replies.specs.Outcomes.{
   counts_data,
   done_data,
   fault_data,
-  json_refusal,
   missing_answer,
   numbered_data,
   outcome_answer,
   outcome_data,
-  refusal_data,
   status_of_outcome,
   unanswered_answer,
   unanswered_data,
 };
 ghost use Rattle.pid_http_replies.specs.Replying.{MakesReply};
+ghost use Rattle.pid_http_stream.specs.Replies.{request_answer};
+ghost use Rattle.pid_http_stream.specs.RequestRefusals.{
+  refusal_data,
+  request_refusal_number,
+  request_refusal_word,
+};
+ghost use Rattle.pid_http_stream.specs.Statuses.{allows_body};
 
 use crate::reply::{json_reply, text_reply};
 use http::StatusCode;
 use pid_http_requests::Format;
-use pid_http_stream::Reply as HttpReply;
+use pid_http_stream::{Reply as HttpReply, RequestRefusal};
 use pid_lookup::Unanswered;
 use pid_moderation::{FileFault, Refusal, Reply, reply_line};
 use serde_json::{Value, json};
 use std::alloc::{AllocError, Global};
 
 fn status_of(outcome: Result<Reply, Refusal>) -> StatusCode
-    ensures { result ≡ status_of_outcome outcome }
+    ensures value { result ≡ status_of_outcome outcome }
+    ensures bodied { IsTrue (allows_body result) }
 {
     match outcome {
         Ok(_) => StatusCode::OK,
@@ -133,17 +139,19 @@ pub fn refusal_reply(
     outcome_reply(alloc, format, Err(refusal))
 }
 
-/// The reply with a refusal that is no refusal of a command, as JSON.
-pub(crate) fn refused_reply(
-    alloc: Global,
-    status: StatusCode,
-    number: u8,
-    word: &str,
-) -> Result<HttpReply, AllocError>
-    ensures { MakesReply result (json_refusal status number word.now) }
+fn request_value(alloc: Global, refusal: RequestRefusal) -> Result<Value, AllocError>
+    ensures { IfOk result (λ value. view value
+        ≡ refusal_data (request_refusal_number refusal) (request_refusal_word refusal)) }
 {
-    let value = refusal_value(alloc, number, word)?;
-    json_reply(alloc, status, value)
+    refusal_value(alloc, refusal.number(), refusal.word())
+}
+
+/// The reply to a request that is refused before anything is asked for it, as JSON.
+pub(crate) fn request_reply(alloc: Global, refusal: RequestRefusal) -> Result<HttpReply, AllocError>
+    ensures { MakesReply result (request_answer refusal) }
+{
+    let value = request_value(alloc, refusal)?;
+    json_reply(alloc, refusal.status(), value)
 }
 
 fn unanswered_value(alloc: Global, why: Unanswered) -> Result<Value, AllocError>
@@ -158,6 +166,7 @@ pub(crate) fn unanswered_reply(
     status: StatusCode,
     why: Unanswered,
 ) -> Result<HttpReply, AllocError>
+    requires { IsTrue (allows_body status) }
     ensures { MakesReply result (unanswered_answer status why) }
 {
     let value = unanswered_value(alloc, why)?;

@@ -38,7 +38,12 @@ fn pending_value(alloc: Global, pending: &Pending) -> Result<Value, AllocError>
 {
     let name = proposed_value(alloc, &pending.submission.proposal)?;
     let path = pending.submission.path.path_text(alloc)?;
-    json!(in alloc; {"author": pending.submission.author.as_str(), "name": name, "num": pending.number, "path": path.as_str()})
+    json!(in alloc; {
+        "author": pending.submission.author.as_str(),
+        "name": name,
+        "num": pending.number,
+        "path": path.as_str()
+    })
 }
 
 // The values of submissions, in their order.

@@ -1,9 +1,10 @@
 //! Replies whose body is there.
-ghost use Rattle.std.specs.Prelude.{◌≡◌, false, map, string_bytes};
+ghost use Rattle.std.specs.Prelude.{◌≡◌, false, map, string_bytes, IsTrue};
 ghost use Rattle.serde_json.specs.Data.{Data, array};
 ghost use Rattle.serde_json.specs.View.{items_of, view};
 ghost use Rattle.serde_json.specs.Written.{compact_text, has_float};
 ghost use Rattle.pid_http_stream.specs.Replies.{answer_with};
+ghost use Rattle.pid_http_stream.specs.Statuses.{allows_body};
 ghost use Rattle.pid_http_replies.specs.Replying.{IsReplyOf, MakesReply};
 
 use http::StatusCode;
@@ -13,6 +14,7 @@ use std::alloc::{AllocError, Global};
 
 /// The reply with this body.
 pub(crate) fn reply_with(status: StatusCode, content: Content, body: Vec<u8>) -> Reply
+    requires { IsTrue (allows_body status) }
     ensures { IsReplyOf result (answer_with status content body.items) }
 {
     Reply {
@@ -23,6 +25,7 @@ pub(crate) fn reply_with(status: StatusCode, content: Content, body: Vec<u8>) ->
 
 /// The reply with a line or more of text.
 pub(crate) fn text_reply(status: StatusCode, text: String) -> Reply
+    requires { IsTrue (allows_body status) }
     ensures { IsReplyOf result (answer_with status Content.Text (string_bytes text)) }
 {
     reply_with(status, Content::Text, text.into_bytes())
@@ -30,6 +33,7 @@ pub(crate) fn text_reply(status: StatusCode, text: String) -> Reply
 
 /// The reply with a text that is JSON.
 pub(crate) fn json_text_reply(status: StatusCode, text: String) -> Reply
+    requires { IsTrue (allows_body status) }
     ensures { IsReplyOf result (answer_with status Content.Json (string_bytes text)) }
 {
     reply_with(status, Content::Json, text.into_bytes())
@@ -41,6 +45,7 @@ pub(crate) fn json_reply(
     status: StatusCode,
     value: Value,
 ) -> Result<Reply, AllocError>
+    requires { IsTrue (allows_body status) }
     ensures { (json : Data) → view value ≡ json → has_float json ≡ false
         → MakesReply result (answer_with status Content.Json (compact_text json)) }
 {

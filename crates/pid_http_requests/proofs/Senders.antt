@@ -7,7 +7,7 @@ use Rattle.std.specs.Str.{is_utf8}
 use Rattle.std.proofs.lemmas.Str.{IsUtf8-from_ascii, is_utf8-from_IsUtf8}
 use Rattle.std.proofs.lemmas.Grind.{common_steps}
 use Rattle.pid_ident.specs.Words.{is_account, is_account_byte, is_key, is_key_byte}
-use Rattle.pid_http_stream.specs.FieldValues.{first_of}
+use Rattle.pid_http_stream.specs.FieldValues.{first_value}
 use Rattle.pid_http_requests.specs.Senders.{Sending, sending}
 
 and_right : (x y : Bool) → (x && y) ≡ true → y ≡ true
@@ -57,31 +57,31 @@ many_keys (a ∷ []) [] h = absurd (omega arith)
 many_keys (a ∷ []) (k ∷ []) h = absurd (omega arith)
 many_keys (a ∷ []) (k ∷ l ∷ more) h = refl
 
-pub nobody : (xs ks : List (List ℕ)) → first_of xs ≡ None → sending xs ks ≡ None
+pub nobody : (xs ks : List (List ℕ)) → first_value xs ≡ None → sending xs ks ≡ None
 nobody [] ks e = refl
 nobody (a ∷ xs) ks e = cc
 
-pub bad_account : (xs ks : List (List ℕ)) (a : List ℕ) → first_of xs ≡ Some a → is_account a ≡ false → sending xs ks ≡ None
+pub bad_account : (xs ks : List (List ℕ)) (a : List ℕ) → first_value xs ≡ Some a → is_account a ≡ false → sending xs ks ≡ None
 bad_account [] ks a e bad = refl
 bad_account (b ∷ c ∷ more) ks a e bad = refl
 bad_account (b ∷ []) [] a e bad = let same : b ≡ a = cc in rw (same, bad) refl
 bad_account (b ∷ []) (k ∷ []) a e bad = let same : b ≡ a = cc in rw (same, bad) refl
 bad_account (b ∷ []) (k ∷ l ∷ more) a e bad = refl
 
-pub no_key_sent : (xs ks : List (List ℕ)) (a : List ℕ) → length xs ≤ 1 → first_of xs ≡ Some a → is_account a ≡ true → first_of ks ≡ None → sending xs ks ≡ Some (record { account = a; key = None })
+pub no_key_sent : (xs ks : List (List ℕ)) (a : List ℕ) → length xs ≤ 1 → first_value xs ≡ Some a → is_account a ≡ true → first_value ks ≡ None → sending xs ks ≡ Some (record { account = a; key = None })
 no_key_sent [] ks a h e good n = cc
 no_key_sent (b ∷ c ∷ more) ks a h e good n = absurd (omega arith)
 no_key_sent (b ∷ []) (k ∷ ks) a h e good n = cc
 no_key_sent (b ∷ []) [] a h e good n = let same : b ≡ a = cc in rw (same, good) refl
 
-pub key_sent : (xs ks : List (List ℕ)) (a k : List ℕ) → length xs ≤ 1 → length ks ≤ 1 → first_of xs ≡ Some a → is_account a ≡ true → first_of ks ≡ Some k → is_key k ≡ true → sending xs ks ≡ Some (record { account = a; key = Some k })
+pub key_sent : (xs ks : List (List ℕ)) (a k : List ℕ) → length xs ≤ 1 → length ks ≤ 1 → first_value xs ≡ Some a → is_account a ≡ true → first_value ks ≡ Some k → is_key k ≡ true → sending xs ks ≡ Some (record { account = a; key = Some k })
 key_sent [] ks a k h g e good f fit = cc
 key_sent (b ∷ c ∷ more) ks a k h g e good f fit = absurd (omega arith)
 key_sent (b ∷ []) [] a k h g e good f fit = cc
 key_sent (b ∷ []) (l ∷ m ∷ more) a k h g e good f fit = absurd (omega arith)
 key_sent (b ∷ []) (l ∷ []) a k h g e good f fit = let same : b ≡ a = cc in let key : l ≡ k = cc in rw (same, key, good, fit) refl
 
-pub bad_key : (xs ks : List (List ℕ)) (k : List ℕ) → first_of ks ≡ Some k → is_key k ≡ false → sending xs ks ≡ None
+pub bad_key : (xs ks : List (List ℕ)) (k : List ℕ) → first_value ks ≡ Some k → is_key k ≡ false → sending xs ks ≡ None
 bad_key [] ks k e bad = refl
 bad_key (b ∷ c ∷ more) ks k e bad = refl
 bad_key (b ∷ []) [] k e bad = cc

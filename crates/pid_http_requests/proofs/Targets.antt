@@ -10,7 +10,7 @@ use Rattle.std.proofs.lemmas.Str.Pattern.{starts_text}
 use Rattle.matchit.specs.Rows.{RowsOf}
 use Rattle.matchit.specs.Router.{RouteOf, map_key}
 use Rattle.matchit.specs.Seek.{first}
-use Rattle.pid_http_requests.specs.Questions.{behind}
+use Rattle.pid_http_requests.specs.Questions.{rest_after}
 use Rattle.pid_http_requests.specs.Routes.{table, route_at}
 use Rattle.pid_http_requests.specs.declared.route.Route.{Route}
 
@@ -25,7 +25,7 @@ route_found path routes same result told = go (first routes path) told ∙ ap (�
 
 -- what stands behind a front
 pub rest_found : (front path : List ℕ) (rest : Option (Bor (List ℕ))) (other : Bor (List ℕ)) → other.now ≡ [] → MatchOption rest (FindsTextPrefix front path None) (λ x. StripsPrefix (FindsTextPrefix front) path x.now)
-    → (unwrap_or rest other).now ≡ behind front path
+    → (unwrap_or rest other).now ≡ rest_after front path
 rest_found front path None other e none = e ∙ ap (λ b. if b then drop (length front) path else []) (starts_text false front path none)
 rest_found front path (Some x) other e (n, found, is, more) =
     is ∙ ap (λ k. drop k path) found.0 ∙ ap (λ b. if b then drop (length front) path else []) (starts_text true front path (n, found, subst (IsCharBoundary path) (sym found.0) found.2))

@@ -62,13 +62,13 @@ after_said None = Some 0
 after_said (Some text) = if bytes_eq text (codes "0") then Some 0 else number_in text
 
 -- below a path, where a text is one
-abbrev pub below : Option Path → Above
-below None = BadPath
-below (Some path) = Below path
+abbrev pub above_path : Option Path → Above
+above_path None = BadPath
+above_path (Some path) = Below path
 
 -- the top where the text is empty, else the path that it is
 abbrev pub above_said : List ℕ → Above
-above_said text = if is_empty text then Top else below (path_of text)
+above_said text = if is_empty text then Top else above_path (path_of text)
 
 -- the number of a change: 1 to the greatest revision, which has 19 digits
 abbrev pub revision_in : List ℕ → Option ℕ
@@ -80,10 +80,10 @@ since_said None = Some 0
 since_said (Some text) = if bytes_eq text (codes "0") then Some 0 else revision_in text
 
 -- behind a path, where a text is one
-abbrev pub behind : Option Path → Start
-behind None = starts.BadPath
-behind (Some path) = starts.Behind path
+abbrev pub start_path : Option Path → Start
+start_path None = starts.BadPath
+start_path (Some path) = starts.Behind path
 
 -- the first item where the text is empty, else what stands behind the path that it is
 abbrev pub start_said : List ℕ → Start
-start_said text = if is_empty text then starts.First else behind (path_of text)
+start_said text = if is_empty text then starts.First else start_path (path_of text)

@@ -3,7 +3,7 @@ use Rattle.std.specs.Prelude.{ℕ, Bool, false, ◌&&◌, ◌==◌, if◌then◌
 use Rattle.std.specs.Prelude.{drop, Option, Some, None, unwrap_or, option_and_then, codes}
 use Rattle.std.specs.List.{starts_with}
 use Rattle.std.specs.Option.{option_map}
-use Rattle.std.specs.Str.{is_utf8}
+use Rattle.std.specs.Str.{bytes_eq, is_utf8}
 use Rattle.form_urlencoded.specs.Form.{split_once}
 use Rattle.pid_ident.specs.PathReading.{path_of}
 use Rattle.pid_form.specs.FormFields.{fields_in}
@@ -17,8 +17,6 @@ use Rattle.pid_http_requests.specs.Queries.{format_in, format_beside, format_bes
 use Rattle.pid_http_requests.specs.Queries.{after_said, above_said, since_said, start_said}
 use Rattle.pid_http_requests.specs.Routes.{route_at, method_at}
 use Rattle.pid_http_requests.specs.declared.format.Format.{Format}
-use Rattle.pid_http_requests.specs.declared.method.Method.{Method}
-use Rattle.pid_http_requests.specs.declared.method.Method.TheVariants.{Get, Post}
 use Rattle.pid_http_requests.specs.declared.route.Route.{Route}
 use Rattle.pid_http_requests.specs.declared.route.Route.TheVariants as routes
 use Rattle.pid_http_requests.specs.declared.question.Question.{Question}
@@ -34,8 +32,8 @@ use Rattle.pid_http_stream.specs.declared.handler.Wanted.{Wanted}
 use Rattle.pid_http_stream.specs.declared.handler.Wanted.TheVariants.{Buffered, Streamed}
 
 -- what stands behind the front of a path, where it has that front
-abbrev pub behind : List ℕ → List ℕ → List ℕ
-behind front path = if starts_with ◌==◌ path front then drop (length front) path else []
+abbrev pub rest_after : List ℕ → List ℕ → List ℕ
+rest_after front path = if starts_with ◌==◌ path front then drop (length front) path else []
 
 -- the whole text has no query
 abbrev pub export_asked : Fields → Option Question
@@ -44,7 +42,8 @@ export_asked (field ∷ fields) = None
 
 -- the item at the path that stands behind `/read/`
 abbrev pub read_asked : List ℕ → Fields → Option Question
-read_asked path fields = option_map (λ format. Read (path_of (behind (codes "/read/") path)) format)
+read_asked path fields = option_map
+    (λ format. Read (path_of (rest_after (codes "/read/") path)) format)
     (format_in fields)
 
 -- the items below `of`
@@ -55,7 +54,7 @@ children_asked fields = option_map (λ format. Children
 -- the submission with the number that stands behind `/submission/`
 abbrev pub submission_asked : List ℕ → Fields → Option Question
 submission_asked path fields = option_map
-    (λ format. Submission (number_in (behind (codes "/submission/") path)) format)
+    (λ format. Submission (number_in (rest_after (codes "/submission/") path)) format)
     (format_in fields)
 
 -- the pending submissions above `after`
@@ -74,8 +73,8 @@ changes_asked fields =
     (format_beside_two (codes "since") (codes "after") fields)
 
 -- a command, whose own fields stand in the body
-abbrev pub command_asked : Verb → Fields → Option Question
-command_asked verb fields = option_map (λ format. Command verb format) (format_in fields)
+abbrev pub verb_asked : Verb → Fields → Option Question
+verb_asked verb fields = option_map (λ format. Command verb format) (format_in fields)
 
 -- a question, or an import with the format of its reply
 abbrev pub Asking : Type 0
@@ -94,23 +93,22 @@ question_at routes.Lookup path fields = buffered (option_map Lookup (lookup_aske
 question_at routes.Submission path fields = buffered (submission_asked path fields)
 question_at routes.Pending path fields = buffered (pending_asked fields)
 question_at routes.Changes path fields = buffered (changes_asked fields)
-question_at routes.Account path fields = buffered (command_asked verbs.Account fields)
-question_at routes.Submit path fields = buffered (command_asked verbs.Submit fields)
-question_at routes.Comment path fields = buffered (command_asked verbs.Comment fields)
-question_at routes.Withdraw path fields = buffered (command_asked verbs.Withdraw fields)
-question_at routes.Approve path fields = buffered (command_asked verbs.Approve fields)
-question_at routes.Reject path fields = buffered (command_asked verbs.Reject fields)
+question_at routes.Account path fields = buffered (verb_asked verbs.Account fields)
+question_at routes.Submit path fields = buffered (verb_asked verbs.Submit fields)
+question_at routes.Comment path fields = buffered (verb_asked verbs.Comment fields)
+question_at routes.Withdraw path fields = buffered (verb_asked verbs.Withdraw fields)
+question_at routes.Approve path fields = buffered (verb_asked verbs.Approve fields)
+question_at routes.Reject path fields = buffered (verb_asked verbs.Reject fields)
 question_at routes.Import path fields = option_map Streamed (format_in fields)
 
 -- the refusal of a request whose route takes the other method
-abbrev pub in_other : Method → Method → Option Question
-in_other Get Get = None
-in_other Get Post = Some WantsPost
-in_other Post Get = Some WantsGet
-in_other Post Post = None
+abbrev pub in_other : List ℕ → List ℕ → Option Question
+in_other method wanted =
+    if bytes_eq method wanted then None else
+    (if bytes_eq wanted (codes "GET") then Some WantsGet else Some WantsPost)
 
 -- at a route: its method, then the query
-abbrev pub with_route : Method → Option Route → List ℕ → List ℕ → Asking
+abbrev pub with_route : List ℕ → Option Route → List ℕ → List ℕ → Asking
 with_route method None path query = Buffered NoRoute
 with_route method (Some route) path query =
     unwrap_or (buffered (in_other method (method_at route)))
@@ -127,12 +125,12 @@ is_target target = is_utf8 target && begins_slash target
 
 -- at a target: the route of its path, which is what stands before the first `?`; the query is what
 -- stands behind that
-unfoldable pub with_target : Method → List ℕ → Asking
+unfoldable pub with_target : List ℕ → List ℕ → Asking
 with_target method target = with_route method (route_at (split_once 63 target).0)
     (split_once 63 target).0 (split_once 63 target).1
 
 -- by a method: the target
-abbrev pub with_method : Option Method → List ℕ → Asking
+abbrev pub with_method : Option (List ℕ) → List ℕ → Asking
 with_method None target = Buffered AnotherMethod
 with_method (Some method) target = if is_target target then with_target method target else Buffered
     BadTarget

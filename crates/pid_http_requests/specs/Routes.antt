@@ -3,8 +3,6 @@ use Rattle.std.specs.Prelude.{ℕ, List, [], ◌∷◌, ◌++◌, Option, codes}
 use Rattle.matchit.specs.Rows.{RowsOf, param_token, catch_all_token}
 use Rattle.matchit.specs.Router.{RouteOf, map_key}
 use Rattle.matchit.specs.Seek.{first}
-use Rattle.pid_http_requests.specs.declared.method.Method.{Method}
-use Rattle.pid_http_requests.specs.declared.method.Method.TheVariants.{Get, Post}
 use Rattle.pid_http_requests.specs.declared.route.Route.{Route}
 use Rattle.pid_http_requests.specs.declared.route.Route.TheVariants.{Export, Read, Children}
 use Rattle.pid_http_requests.specs.declared.route.Route.TheVariants.{Lookup, Submission, Pending}
@@ -18,8 +16,8 @@ literal text route = (text, record { pattern = text; text = text; names = []; va
 
 -- one or more bytes behind `/read/`; the word `path` of the text begins at place 8 and ends before
 -- 12
-abbrev pub read_row : List ℕ × RouteOf Route
-read_row = (
+abbrev pub read_route : List ℕ × RouteOf Route
+read_route = (
   codes "/read/" ++ catch_all_token
       ∷ [],
   record {
@@ -33,8 +31,8 @@ read_row = (
 
 -- one or more bytes behind `/submission/`, none of them a slash; the word `num` of the text begins
 -- at place 13 and ends before 16
-abbrev pub submission_row : List ℕ × RouteOf Route
-submission_row = (
+abbrev pub submission_route : List ℕ × RouteOf Route
+submission_route = (
   codes "/submission/" ++ param_token
       ∷ [],
   record {
@@ -58,9 +56,9 @@ table =
     ∷ literal (codes "/lookup") Lookup
     ∷ literal (codes "/pci.ids") Export
     ∷ literal (codes "/pending") Pending
-    ∷ read_row
+    ∷ read_route
     ∷ literal (codes "/reject") Reject
-    ∷ submission_row
+    ∷ submission_route
     ∷ literal (codes "/submit") Submit
     ∷ literal (codes "/withdraw") Withdraw
     ∷ []
@@ -70,18 +68,18 @@ unfoldable pub route_at : List ℕ → Option Route
 route_at path = map_key (λ found. found.value) (first table path)
 
 -- questions are got, commands are posted
-abbrev pub method_at : Route → Method
-method_at Export = Get
-method_at Read = Get
-method_at Children = Get
-method_at Lookup = Get
-method_at Submission = Get
-method_at Pending = Get
-method_at Changes = Get
-method_at Account = Post
-method_at Submit = Post
-method_at Comment = Post
-method_at Withdraw = Post
-method_at Approve = Post
-method_at Reject = Post
-method_at Import = Post
+abbrev pub method_at : Route → List ℕ
+method_at Export = codes "GET"
+method_at Read = codes "GET"
+method_at Children = codes "GET"
+method_at Lookup = codes "GET"
+method_at Submission = codes "GET"
+method_at Pending = codes "GET"
+method_at Changes = codes "GET"
+method_at Account = codes "POST"
+method_at Submit = codes "POST"
+method_at Comment = codes "POST"
+method_at Withdraw = codes "POST"
+method_at Approve = codes "POST"
+method_at Reject = codes "POST"
+method_at Import = codes "POST"

@@ -18,11 +18,13 @@ pub fn command_in(
     body: &[u8],
 ) -> Result<Command, Refusal>
     ensures ok { IfOk result (λ command. command_made verb
-        (record { account = sender.entry.account.now; key = option_copied sender.entry.key }) body.now
+        (record { account = sender.entry.account.now; key = option_copied sender.entry.key })
+        body.now
         ≡ Ok command) }
     ensures err { IfErr result (λ refusal. refusal ≢ Refusal.Memory
         → command_made verb
-        (record { account = sender.entry.account.now; key = option_copied sender.entry.key }) body.now
+        (record { account = sender.entry.account.now; key = option_copied sender.entry.key })
+        body.now
         ≡ Err refusal) }
 {
     let Some(form) = text_of(body) else {

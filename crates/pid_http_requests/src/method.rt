@@ -2,21 +2,17 @@
 ghost use Rattle.std.specs.Prelude.{◌≡◌};
 ghost use Rattle.pid_http_requests.specs.Methods.{method_in};
 
-/// What is done at a route.
-#[derive(Clone, Copy, Debug, PartialEq, Eq)]
-pub enum Method {
-    Get,
-    Post,
-}
+use http::Method;
 
-// The method with this name, in capitals.
+// The method with this name, in its own case, where a route may take it. No method is made of what
+// a client sent: the name of a constant is compared.
 pub(crate) fn method_named(name: &[u8]) -> Option<Method>
     ensures { result ≡ method_in name.now }
 {
-    if name == b"GET".as_slice() {
-        Some(Method::Get)
-    } else if name == b"POST".as_slice() {
-        Some(Method::Post)
+    if name == Method::GET.as_str().as_bytes() {
+        Some(Method::GET)
+    } else if name == Method::POST.as_str().as_bytes() {
+        Some(Method::POST)
     } else {
         None
     }

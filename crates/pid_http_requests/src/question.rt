@@ -13,7 +13,7 @@ ghost use Rattle.pid_http_requests.specs.Questions.{
   in_other,
   is_target,
   begins_slash,
-  behind,
+  rest_after,
 };
 ghost use Rattle.pid_http_requests.specs.Questions.{
   export_asked,
@@ -22,12 +22,12 @@ ghost use Rattle.pid_http_requests.specs.Questions.{
   submission_asked,
   pending_asked,
   changes_asked,
-  command_asked,
+  verb_asked,
 };
 
 use crate::format::Format;
 use crate::lookup::{LookupQuery, query_of};
-use crate::method::{Method, method_named};
+use crate::method::method_named;
 use crate::query::{
     Above, Start, above_named, after_named, format_beside, format_beside_two, format_of,
     since_named, start_named,
@@ -35,6 +35,7 @@ use crate::query::{
 use crate::route::{Route, method_for};
 use crate::routes::Routes;
 use crate::text::text_of;
+use http::Method;
 use pid_form::{fields_of, text_at, value};
 use pid_http_stream::Wanted;
 use pid_ident::{Path, PathText};
@@ -126,19 +127,22 @@ fn text_of_target(target: &[u8]) -> Option<&str>
 
 // What stands behind the front of a path.
 fn rest_behind<'a>(path: &'a str, front: &str) -> &'a str
-    ensures { result.now ≡ behind front.now path.now }
+    ensures { result.now ≡ rest_after front.now path.now }
 {
     path.strip_prefix(front).unwrap_or("")
 }
 
 // The refusal, where the route takes the other method.
-fn other_method(method: Method, route: Route) -> Option<Question>
-    ensures { result ≡ in_other method (method_at route) }
+fn other_method(method: &Method, route: Route) -> Option<Question>
+    ensures { result ≡ in_other method.now (method_at route) }
 {
-    match (method, method_for(route)) {
-        (Method::Get, Method::Post) => Some(Question::WantsPost),
-        (Method::Post, Method::Get) => Some(Question::WantsGet),
-        (Method::Get, Method::Get) | (Method::Post, Method::Post) => None,
+    let wanted = method_for(route);
+    if *method == wanted {
+        None
+    } else if wanted == Method::GET {
+        Some(Question::WantsGet)
+    } else {
+        Some(Question::WantsPost)
     }
 }
 
@@ -203,7 +207,7 @@ fn changes_of(fields: &[(String, String)]) -> Option<Question>
 }
 
 fn command_of(verb: Verb, fields: &[(String, String)]) -> Option<Question>
-    ensures { result ≡ command_asked verb (texts_of fields.now) }
+    ensures { result ≡ verb_asked verb (texts_of fields.now) }
 {
     let format = format_of(fields)?;
     Some(Question::Command { verb, format })
@@ -257,10 +261,10 @@ fn ask_route(
 fn ask(
     alloc: Global,
     routes: &Routes,
-    method: Method,
+    method: &Method,
     target: &str,
 ) -> Result<Wanted<Question, Format>, AllocError>
-    ensures { IfOk result (λ wanted. wanted ≡ with_target method target.now) }
+    ensures { IfOk result (λ wanted. wanted ≡ with_target method.now target.now) }
 {
     let (path, query) = split_target(target);
     let Some(route) = routes.route_of(path) else {
@@ -273,8 +277,8 @@ fn ask(
     Ok(ask_route(route, path, &fields).unwrap_or(Wanted::Buffered(Question::BadQuery)))
 }
 
-/// What a method and a target ask for. The file of an import is read as it comes; the format is that
-/// of its reply.
+/// What a method and a target ask for. The file of an import is read as it comes; the format is
+/// that of its reply.
 ///
 /// The path of the target is what stands before its first `?`, the query what stands behind that.
 /// Neither is decoded but for the names and values of the query's fields.
@@ -297,5 +301,5 @@ pub fn question_of(
     let Some(target) = text_of_target(target) else {
         return Ok(Wanted::Buffered(Question::BadTarget));
     };
-    ask(alloc, routes, method, target)
+    ask(alloc, routes, &method, target)
 }

@@ -1,9 +1,9 @@
 //! What the paths of targets are the way to.
 ghost use Rattle.std.specs.Prelude.{◌≡◌};
 ghost use Rattle.pid_http_requests.specs.Routes.{method_at};
-ghost use Rattle.pid_http_requests.specs.Steps.Routes.{path_at};
+ghost use Rattle.pid_http_requests.specs.Steps.Routes.{route_path};
 
-use crate::method::Method;
+use http::Method;
 
 /// What a path is the way to.
 #[derive(Clone, Copy, Debug, PartialEq, Eq)]
@@ -40,7 +40,7 @@ pub enum Route {
 
 // The path of a route, as a router reads it.
 pub(crate) fn path_of(route: Route) -> &'static str
-    ensures { result.now ≡ path_at route }
+    ensures { result.now ≡ route_path route }
 {
     match route {
         Route::Export => "/pci.ids",
@@ -71,13 +71,13 @@ pub(crate) fn method_for(route: Route) -> Method
         | Route::Lookup
         | Route::Submission
         | Route::Pending
-        | Route::Changes => Method::Get,
+        | Route::Changes => Method::GET,
         Route::Account
         | Route::Submit
         | Route::Comment
         | Route::Withdraw
         | Route::Approve
         | Route::Reject
-        | Route::Import => Method::Post,
+        | Route::Import => Method::POST,
     }
 }

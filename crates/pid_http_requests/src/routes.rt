@@ -1,5 +1,5 @@
 //! The routes, found by their paths.
-ghost use Rattle.std.specs.Prelude.{◌≡◌, IfOk, None, Some, MatchOption};
+ghost use Rattle.std.specs.Prelude.{◌≡◌, IfErr, None, Some, MatchOption, MatchResult};
 ghost use Rattle.matchit.specs.Seek.{first};
 ghost use Rattle.pid_http_requests.specs.Routes.{table, route_at};
 
@@ -19,8 +19,10 @@ impl Routes {
     ///
     /// # Errors
     ///
-    /// Out of memory.
-    pub fn new(alloc: Global) -> Result<Routes, InsertError> {
+    /// `OutOfMemory`, and no other.
+    pub fn new(alloc: Global) -> Result<Routes, InsertError>
+        ensures { IfErr result (λ e. e ≡ InsertError.OutOfMemory) }
+    {
         let router = build_router(alloc)?;
         Ok(Routes { router })
     }
@@ -34,7 +36,7 @@ impl Routes {
 }
 
 fn build_router(alloc: Global) -> Result<Router<Route>, InsertError>
-    ensures { IfOk result (λ routes. routes ≡ table) }
+    ensures { MatchResult result (λ routes. routes ≡ table) (λ e. e ≡ InsertError.OutOfMemory) }
 {
     let all = [
         Route::Export,
@@ -54,7 +56,10 @@ fn build_router(alloc: Global) -> Result<Router<Route>, InsertError>
     ];
     let mut routes = Router::new(alloc);
     for route in all {
-        routes.insert(path_of(route), route)?;
+        match routes.insert(path_of(route), route) {
+            Ok(()) => {}
+            Err(error) => return Err(error),
+        }
     }
     Ok(routes)
 }

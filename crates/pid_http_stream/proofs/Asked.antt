@@ -11,12 +11,12 @@ use Rattle.pid_http_stream.specs.Bodies.{padded, BodyState, HasBrokenOff, IsWith
 use Rattle.pid_http_stream.specs.BodyLengths.{longest_body}
 use Rattle.pid_http_stream.specs.Conducts.{Conduct, StandsStill}
 use Rattle.pid_http_stream.specs.Endings.{IsShort}
-use Rattle.pid_http_stream.specs.Handling.{MayReply, IsAsked}
-use Rattle.pid_http_stream.specs.Steps.Intakes.{IsWaiting, StandsAt}
+use Rattle.pid_http_stream.specs.Handling.{MayReply, IsHandled}
+use Rattle.pid_http_stream.specs.Steps.Intakes.{WaitsForRequest, StandsAt}
 use Rattle.pid_http_stream.specs.MomentLaws.{since_so}
 use Rattle.pid_http_stream.specs.Moments.{AllSince}
 use Rattle.pid_http_stream.specs.Requests.{Request, IsRequest}
-use Rattle.pid_http_stream.specs.Steps.Loop.{FrontHead, IsAskedOver, Asks, whole_so, broken_so, asked_so}
+use Rattle.pid_http_stream.specs.Steps.Loop.{FrontHead, IsAskedOver, AsksHandler, whole_so, broken_so, asked_so}
 use Rattle.pid_http_stream.specs.declared.asking.Asked.TheVariants as asked
 use Rattle.pid_http_stream.specs.declared.body_input.BodyFault.{BodyFault}
 use Rattle.pid_http_stream.specs.declared.body_input.BodyFault.TheVariants as faults
@@ -110,10 +110,10 @@ told_at P held headers spans w A B r s e told =
 
 pub reply_made : {H : Type 0} (conduct : Conduct H) (a b : H) (held : List ℕ) (headers : List HeaderSpan) (spans : RequestSpans) (w : ℕ) (A B : BodyState) → Reading held headers spans w A B → (reply : Reply)
     → B.wanted ≡ 0 → Told (λ request. MayReply conduct a request reply b) held headers spans A
-    → IfSome A.to_come (λ _. Asks conduct (record { a = a; b = b; input = A.to_come; input_after = B.to_come }) (record { held = held; headers = headers; spans = spans; content_length = w }) (asked.Reply reply))
+    → IfSome A.to_come (λ _. AsksHandler conduct (record { a = a; b = b; input = A.to_come; input_after = B.to_come }) (record { held = held; headers = headers; spans = spans; content_length = w }) (asked.Reply reply))
 reply_made conduct a b held headers spans w A B r reply none told = by_known A.to_come refl
   where
-    by_known : (o : Option (List ℕ)) → A.to_come ≡ o → IfSome o (λ _. Asks conduct (record { a = a; b = b; input = A.to_come; input_after = B.to_come }) (record { held = held; headers = headers; spans = spans; content_length = w }) (asked.Reply reply))
+    by_known : (o : Option (List ℕ)) → A.to_come ≡ o → IfSome o (λ _. AsksHandler conduct (record { a = a; b = b; input = A.to_come; input_after = B.to_come }) (record { held = held; headers = headers; spans = spans; content_length = w }) (asked.Reply reply))
     by_known None e = tt
     by_known (Some s) e =
         let k = known s B.to_come r.read.came (subst (λ (x : Option (List ℕ)). Consumes x B.to_come r.read.came) e r.read.consumed) in
@@ -131,7 +131,7 @@ Lacks conduct a b B request = StandsStill conduct a b ⊎ (IsAtEnd (option_map (
 
 pub no_memory : {H : Type 0} (conduct : Conduct H) (a b : H) (held : List ℕ) (headers : List HeaderSpan) (spans : RequestSpans) (w : ℕ) (A B : BodyState) → Reading held headers spans w A B
     → B.wanted ≡ 0 → Told (Lacks conduct a b B) held headers spans A
-    → IfSome A.to_come (λ _. Asks conduct (record { a = a; b = b; input = A.to_come; input_after = B.to_come }) (record { held = held; headers = headers; spans = spans; content_length = w }) asked.NoMemory)
+    → IfSome A.to_come (λ _. AsksHandler conduct (record { a = a; b = b; input = A.to_come; input_after = B.to_come }) (record { held = held; headers = headers; spans = spans; content_length = w }) asked.NoMemory)
 no_memory conduct a b held headers spans w A B r none told = by_known A.to_come refl
   where
     lacks : (s more : List ℕ) → s ≡ r.read.came ++ more → Lacks conduct a b B (record { head = r.stands.found.0; body = body_of A s })
@@ -139,7 +139,7 @@ no_memory conduct a b held headers spans w A B r none told = by_known A.to_come 
     lacks s more e (inl stands) = inl stands
     lacks s more e (inr (end, left)) = inr (record { head = r.stands.found.0; body = body_of A s }, whole_request held headers spans w A B r s more none e, left)
 
-    by_known : (o : Option (List ℕ)) → A.to_come ≡ o → IfSome o (λ _. Asks conduct (record { a = a; b = b; input = A.to_come; input_after = B.to_come }) (record { held = held; headers = headers; spans = spans; content_length = w }) asked.NoMemory)
+    by_known : (o : Option (List ℕ)) → A.to_come ≡ o → IfSome o (λ _. AsksHandler conduct (record { a = a; b = b; input = A.to_come; input_after = B.to_come }) (record { held = held; headers = headers; spans = spans; content_length = w }) asked.NoMemory)
     by_known None e = tt
     by_known (Some s) e =
         let k = known s B.to_come r.read.came (subst (λ (y : Option (List ℕ)). Consumes y B.to_come r.read.came) e r.read.consumed) in
@@ -151,7 +151,7 @@ not_ended B more e some end =
     let none = none_wanted B.wanted (B.held ++ more) (subst (λ (o : Option (List ℕ)). IsAtEnd (option_map (λ y. padded B.wanted (B.held ++ y)) o)) e end) in
     omega arith
 
-stands_of : {H E : Type 0} (conduct : Conduct H) (a b : H) (request : Request) (result : Result Reply E) (left : Option (List ℕ)) → IsAsked conduct a request result left b → IfOk result (λ _. IsAtEnd left) → ¬ (IsAtEnd left) → StandsStill conduct a b
+stands_of : {H E : Type 0} (conduct : Conduct H) (a b : H) (request : Request) (result : Result Reply E) (left : Option (List ℕ)) → IsHandled conduct a request result left b → IfOk result (λ _. IsAtEnd left) → ¬ (IsAtEnd left) → StandsStill conduct a b
 stands_of conduct a b request (Ok reply) left is whole on = absurd (on whole)
 stands_of conduct a b request (Err x) left (inl stands) whole on = stands
 stands_of conduct a b request (Err x) left (inr (end, leaves)) whole on = absurd (on end)
@@ -163,7 +163,7 @@ pub record IsLeft {H : Type 0} (conduct : Conduct H) (a b : H) (held came more :
   pub stands : StandsStill conduct a b
 
 is_left : {H E : Type 0} (conduct : Conduct H) (a b : H) (held : List ℕ) (headers : List HeaderSpan) (spans : RequestSpans) (w : ℕ) (A B : BodyState) (r : Reading held headers spans w A B) (result : Result Reply E) (s : List ℕ)
-    → A.to_come ≡ Some s → 0 < B.wanted → Told (λ request. IsAsked conduct a request result (option_map (λ y. padded B.wanted (B.held ++ y)) B.to_come) b) held headers spans A → IfOk result (λ _. IsAtEnd (option_map (λ y. padded B.wanted (B.held ++ y)) B.to_come))
+    → A.to_come ≡ Some s → 0 < B.wanted → Told (λ request. IsHandled conduct a request result (option_map (λ y. padded B.wanted (B.held ++ y)) B.to_come) b) held headers spans A → IfOk result (λ _. IsAtEnd (option_map (λ y. padded B.wanted (B.held ++ y)) B.to_come))
     → (more : List ℕ) × IsLeft conduct a b held r.read.came more A.to_come B.to_come
 is_left conduct a b held headers spans w A B r result s e some told whole =
     let k = known s B.to_come r.read.came (subst (λ (y : Option (List ℕ)). Consumes y B.to_come r.read.came) e r.read.consumed) in (
@@ -171,16 +171,16 @@ is_left conduct a b held headers spans w A B r result s e some told whole =
       record {
         before = e ∙ ap Some k.2;
         after = k.1;
-        stands = stands_of conduct a b (record { head = r.stands.found.0; body = body_of A s }) result (option_map (λ y. padded B.wanted (B.held ++ y)) B.to_come) (told_at (λ request. IsAsked conduct a request result (option_map (λ y. padded B.wanted (B.held ++ y)) B.to_come) b) held headers spans w A B r s e told) whole (not_ended B k.0 k.1 some);
+        stands = stands_of conduct a b (record { head = r.stands.found.0; body = body_of A s }) result (option_map (λ y. padded B.wanted (B.held ++ y)) B.to_come) (told_at (λ request. IsHandled conduct a request result (option_map (λ y. padded B.wanted (B.held ++ y)) B.to_come) b) held headers spans w A B r s e told) whole (not_ended B k.0 k.1 some);
       },
     )
 
 pub left_unread : {H E : Type 0} (conduct : Conduct H) (a b : H) (held : List ℕ) (headers : List HeaderSpan) (spans : RequestSpans) (w : ℕ) (A B : BodyState) (r : Reading held headers spans w A B) (result : Result Reply E)
-    → 0 < B.wanted → Told (λ request. IsAsked conduct a request result (option_map (λ y. padded B.wanted (B.held ++ y)) B.to_come) b) held headers spans A → IfOk result (λ _. IsAtEnd (option_map (λ y. padded B.wanted (B.held ++ y)) B.to_come))
-    → IfSome A.to_come (λ _. Asks conduct (record { a = a; b = b; input = A.to_come; input_after = B.to_come }) (record { held = held; headers = headers; spans = spans; content_length = w }) asked.NoMemory)
+    → 0 < B.wanted → Told (λ request. IsHandled conduct a request result (option_map (λ y. padded B.wanted (B.held ++ y)) B.to_come) b) held headers spans A → IfOk result (λ _. IsAtEnd (option_map (λ y. padded B.wanted (B.held ++ y)) B.to_come))
+    → IfSome A.to_come (λ _. AsksHandler conduct (record { a = a; b = b; input = A.to_come; input_after = B.to_come }) (record { held = held; headers = headers; spans = spans; content_length = w }) asked.NoMemory)
 left_unread {H} conduct a b held headers spans w A B r result some told whole = by_known A.to_come refl
   where
-    by_known : (o : Option (List ℕ)) → A.to_come ≡ o → IfSome o (λ _. Asks conduct (record { a = a; b = b; input = A.to_come; input_after = B.to_come }) (record { held = held; headers = headers; spans = spans; content_length = w }) asked.NoMemory)
+    by_known : (o : Option (List ℕ)) → A.to_come ≡ o → IfSome o (λ _. AsksHandler conduct (record { a = a; b = b; input = A.to_come; input_after = B.to_come }) (record { held = held; headers = headers; spans = spans; content_length = w }) asked.NoMemory)
     by_known None e = tt
     by_known (Some s) e =
         let l = is_left conduct a b held headers spans w A B r result s e some told whole in
@@ -207,11 +207,11 @@ broken_as conduct a b front came B faults.TurnsSpent input off stands short = (s
 
 -- the body broke off
 pub broken : {H E : Type 0} (conduct : Conduct H) (a b : H) (held : List ℕ) (headers : List HeaderSpan) (spans : RequestSpans) (w : ℕ) (A B : BodyState) (r : Reading held headers spans w A B) (result : Result Reply E) (fault : BodyFault)
-    → B.fault ≡ Some fault → Told (λ request. IsAsked conduct a request result (option_map (λ y. padded B.wanted (B.held ++ y)) B.to_come) b) held headers spans A → IfOk result (λ _. IsAtEnd (option_map (λ y. padded B.wanted (B.held ++ y)) B.to_come))
-    → IfSome A.to_come (λ _. Asks conduct (record { a = a; b = b; input = A.to_come; input_after = B.to_come }) (record { held = held; headers = headers; spans = spans; content_length = w }) (asked.Broken fault))
+    → B.fault ≡ Some fault → Told (λ request. IsHandled conduct a request result (option_map (λ y. padded B.wanted (B.held ++ y)) B.to_come) b) held headers spans A → IfOk result (λ _. IsAtEnd (option_map (λ y. padded B.wanted (B.held ++ y)) B.to_come))
+    → IfSome A.to_come (λ _. AsksHandler conduct (record { a = a; b = b; input = A.to_come; input_after = B.to_come }) (record { held = held; headers = headers; spans = spans; content_length = w }) (asked.Broken fault))
 broken {H} conduct a b held headers spans w A B r result fault f told whole = by_known A.to_come refl
   where
-    by_known : (o : Option (List ℕ)) → A.to_come ≡ o → IfSome o (λ _. Asks conduct (record { a = a; b = b; input = A.to_come; input_after = B.to_come }) (record { held = held; headers = headers; spans = spans; content_length = w }) (asked.Broken fault))
+    by_known : (o : Option (List ℕ)) → A.to_come ≡ o → IfSome o (λ _. AsksHandler conduct (record { a = a; b = b; input = A.to_come; input_after = B.to_come }) (record { held = held; headers = headers; spans = spans; content_length = w }) (asked.Broken fault))
     by_known None e = tt
     by_known (Some s) e =
         let off = broken_told held headers spans w A B r fault f in
@@ -221,14 +221,14 @@ broken {H} conduct a b held headers spans w A B r result fault f told whole = by
 -- ---- all of it, by what the code tells
 
 asked_whole : {H E : Type 0} (conduct : Conduct H) (a b : H) (held : List ℕ) (headers : List HeaderSpan) (spans : RequestSpans) (w : ℕ) (A B : BodyState) (r : Reading held headers spans w A B) (result : Result Reply E)
-    → B.wanted ≡ 0 → Told (λ request. IsAsked conduct a request result (option_map (λ y. padded B.wanted (B.held ++ y)) B.to_come) b) held headers spans A
-    → IfSome A.to_come (λ _. Asks conduct (record { a = a; b = b; input = A.to_come; input_after = B.to_come }) (record { held = held; headers = headers; spans = spans; content_length = w }) (whole_so result))
+    → B.wanted ≡ 0 → Told (λ request. IsHandled conduct a request result (option_map (λ y. padded B.wanted (B.held ++ y)) B.to_come) b) held headers spans A
+    → IfSome A.to_come (λ _. AsksHandler conduct (record { a = a; b = b; input = A.to_come; input_after = B.to_come }) (record { held = held; headers = headers; spans = spans; content_length = w }) (whole_so result))
 asked_whole conduct a b held headers spans w A B r (Ok reply) none told = reply_made conduct a b held headers spans w A B r reply none told
 asked_whole conduct a b held headers spans w A B r (Err x) none told = no_memory conduct a b held headers spans w A B r none told
 
 asked_broken : {H E : Type 0} (conduct : Conduct H) (a b : H) (held : List ℕ) (headers : List HeaderSpan) (spans : RequestSpans) (w : ℕ) (A B : BodyState) (r : Reading held headers spans w A B) (result : Result Reply E) (fault : Option BodyFault)
-    → B.fault ≡ fault → 0 < B.wanted → Told (λ request. IsAsked conduct a request result (option_map (λ y. padded B.wanted (B.held ++ y)) B.to_come) b) held headers spans A → IfOk result (λ _. IsAtEnd (option_map (λ y. padded B.wanted (B.held ++ y)) B.to_come))
-    → IfSome A.to_come (λ _. Asks conduct (record { a = a; b = b; input = A.to_come; input_after = B.to_come }) (record { held = held; headers = headers; spans = spans; content_length = w }) (broken_so fault))
+    → B.fault ≡ fault → 0 < B.wanted → Told (λ request. IsHandled conduct a request result (option_map (λ y. padded B.wanted (B.held ++ y)) B.to_come) b) held headers spans A → IfOk result (λ _. IsAtEnd (option_map (λ y. padded B.wanted (B.held ++ y)) B.to_come))
+    → IfSome A.to_come (λ _. AsksHandler conduct (record { a = a; b = b; input = A.to_come; input_after = B.to_come }) (record { held = held; headers = headers; spans = spans; content_length = w }) (broken_so fault))
 asked_broken conduct a b held headers spans w A B r result None e some told whole = left_unread conduct a b held headers spans w A B r result some told whole
 asked_broken conduct a b held headers spans w A B r result (Some fault) e some told whole = broken conduct a b held headers spans w A B r result fault e told whole
 
@@ -237,11 +237,11 @@ some_left zero e = cc
 some_left (suc n) e = omega arith
 
 pub asked_is : {H E : Type 0} (conduct : Conduct H) (a b : H) (held : List ℕ) (headers : List HeaderSpan) (spans : RequestSpans) (w : ℕ) (A B : BodyState) (r : Reading held headers spans w A B) (result : Result Reply E)
-    → Told (λ request. IsAsked conduct a request result (option_map (λ y. padded B.wanted (B.held ++ y)) B.to_come) b) held headers spans A → IfOk result (λ _. IsAtEnd (option_map (λ y. padded B.wanted (B.held ++ y)) B.to_come))
-    → IfSome A.to_come (λ _. Asks conduct (record { a = a; b = b; input = A.to_come; input_after = B.to_come }) (record { held = held; headers = headers; spans = spans; content_length = w }) (asked_so result B.wanted B.fault))
+    → Told (λ request. IsHandled conduct a request result (option_map (λ y. padded B.wanted (B.held ++ y)) B.to_come) b) held headers spans A → IfOk result (λ _. IsAtEnd (option_map (λ y. padded B.wanted (B.held ++ y)) B.to_come))
+    → IfSome A.to_come (λ _. AsksHandler conduct (record { a = a; b = b; input = A.to_come; input_after = B.to_come }) (record { held = held; headers = headers; spans = spans; content_length = w }) (asked_so result B.wanted B.fault))
 asked_is {H} {E} conduct a b held headers spans w A B r result told whole = by_test (B.wanted == 0) refl
   where
-    by_test : (t : Bool) → (B.wanted == 0) ≡ t → IfSome A.to_come (λ _. Asks conduct (record { a = a; b = b; input = A.to_come; input_after = B.to_come }) (record { held = held; headers = headers; spans = spans; content_length = w }) (if t then whole_so result else broken_so B.fault))
+    by_test : (t : Bool) → (B.wanted == 0) ≡ t → IfSome A.to_come (λ _. AsksHandler conduct (record { a = a; b = b; input = A.to_come; input_after = B.to_come }) (record { held = held; headers = headers; spans = spans; content_length = w }) (if t then whole_so result else broken_so B.fault))
     by_test true e = asked_whole conduct a b held headers spans w A B r result (eqb-true B.wanted 0 e) told
     by_test false e = asked_broken conduct a b held headers spans w A B r result B.fault refl (some_left B.wanted e) told whole
 
@@ -266,8 +266,8 @@ still_short held headers spans w A B r came wants =
     omega (arith, wants, held_is, first, n_is, wanted, both)
 
 -- while its body was read the request was not whole
-pub body_waits : (held : List ℕ) (headers : List HeaderSpan) (spans : RequestSpans) (w : ℕ) (A B : BodyState) → Reading held headers spans w A B → AllSince (IsWaiting held A.to_come A.taken) A.moments B.moments
-body_waits held headers spans w A B r = since_so (IsWithinBody A) (IsWaiting held A.to_come A.taken) A.moments B.moments (λ m x. record {
+pub body_waits : (held : List ℕ) (headers : List HeaderSpan) (spans : RequestSpans) (w : ℕ) (A B : BodyState) → Reading held headers spans w A B → AllSince (WaitsForRequest held A.to_come A.taken) A.moments B.moments
+body_waits held headers spans w A B r = since_so (IsWithinBody A) (WaitsForRequest held A.to_come A.taken) A.moments B.moments (λ m x. record {
   rest = held ++ x.came;
   comes = record { piece = x.came; consumed = x.consumed; kept = refl };
   waits = inr (stands_short held headers spans w r.stands x.came (still_short held headers spans w A B r x.came x.wants));

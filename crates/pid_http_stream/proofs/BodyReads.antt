@@ -6,7 +6,7 @@ use Rattle.std.proofs.KnownBytes.{Consumes-nil, Consumes-trans}
 use Rattle.std.proofs.lemmas.List.{take-append-le, take_all, append-nil}
 use Rattle.pid_ident.specs.InputCalls.{StaysKept}
 use Rattle.pid_file.specs.declared.io.ReadFault.{ReadFault}
-use Rattle.pid_http_stream.specs.Bodies.{padded, Turns, SpendsTurns, BodyState, IsCauseOf, HasBrokenOff, IsTold, IsWithinBody, HasReadBody}
+use Rattle.pid_http_stream.specs.Bodies.{padded, Turns, SpendsTurns, BodyState, IsCauseOf, HasBrokenOff, IsFaultCaused, IsWithinBody, HasReadBody}
 use Rattle.pid_http_stream.specs.BodyLaws.{no_turns, stays_kept}
 use Rattle.pid_http_stream.specs.MomentLaws.{since_none, since_so}
 use Rattle.pid_http_stream.specs.Moments.{Moment, AllSince, IsMoment}
@@ -74,7 +74,7 @@ more_read a b c x y z p q e = subst (Consumes a c) (sym e) (Consumes-trans a b c
 -- ---- what a read leaves, as the states tell it
 
 -- nothing was told before, and nothing is now
-untold : (f : Option BodyFault) (s : BodyState) → f ≡ None → s.fault ≡ f → IsTold s
+untold : (f : Option BodyFault) (s : BodyState) → f ≡ None → s.fault ≡ f → IsFaultCaused s
 untold f s e same = subst (λ (x : Option BodyFault). IfSome x (HasBrokenOff s)) (sym (same ∙ e)) tt
 
 -- some of what was held was given

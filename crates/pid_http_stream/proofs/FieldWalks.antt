@@ -15,7 +15,7 @@ use Rattle.std.proofs.lemmas.Str.{digit_value_digit}
 use Rattle.std.specs.Int.{IsInRange}
 use Rattle.httparse.specs.declared.spans.HeaderSpan.{HeaderSpan}
 use Rattle.pid_http_stream.specs.BodyLengths.{is_number, length_said, length_of_values, length_unless_encoded, body_length}
-use Rattle.pid_http_stream.specs.FieldValues.{NamedValue, is_named, values_of, first_of}
+use Rattle.pid_http_stream.specs.FieldValues.{NamedValue, is_named, values_of, first_value}
 use Rattle.pid_http_stream.specs.declared.body_length.BodyLength.TheVariants.{Encoded, Bad, TooLong, Bytes}
 
 -- the next field is another
@@ -29,7 +29,7 @@ pub found : (name : List ℕ) (f : HeaderSpan → NamedValue) (xs : List HeaderS
 found name f xs i d h e = rw (drop-cons xs i d h, e, add-one) refl
 
 -- what no, one and more values say
-pub none_said : (codings values : List (List ℕ)) → length codings ≡ 0 → first_of values ≡ None → length_unless_encoded codings values ≡ Bytes 0
+pub none_said : (codings values : List (List ℕ)) → length codings ≡ 0 → first_value values ≡ None → length_unless_encoded codings values ≡ Bytes 0
 none_said [] [] z e = refl
 none_said [] (v ∷ vs) z e = cc
 none_said (x ∷ xs) values z e = absurd (omega arith)
@@ -44,7 +44,7 @@ two_said [] (v ∷ []) z h = absurd (omega arith)
 two_said [] (v ∷ w ∷ vs) z h = refl
 two_said (x ∷ xs) values z h = absurd (omega arith)
 
-pub one_said : (codings values : List (List ℕ)) (value : List ℕ) → length codings ≡ 0 → length values ≤ 1 → first_of values ≡ Some value → length_unless_encoded codings values ≡ length_said value
+pub one_said : (codings values : List (List ℕ)) (value : List ℕ) → length codings ≡ 0 → length values ≤ 1 → first_value values ≡ Some value → length_unless_encoded codings values ≡ length_said value
 one_said [] [] value z h e = cc
 one_said [] (v ∷ []) value z h e = let same : v ≡ value = cc in ap length_said same
 one_said [] (v ∷ w ∷ vs) value z h e = absurd (omega arith)

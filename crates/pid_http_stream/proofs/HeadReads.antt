@@ -9,7 +9,7 @@ use Rattle.std.proofs.lemmas.List.Elements.{All-nil, All-append}
 use Rattle.httparse.specs.Ascii.{line_feed}
 use Rattle.httparse.specs.Grammar.{HasNoRequest as HasNoRequestHead, MayBecomeRequest as MayBecomeHead}
 use Rattle.pid_http_stream.specs.Endings.{HasFault, IsNoHead}
-use Rattle.pid_http_stream.specs.Steps.Intakes.{ComesIn, IsWaiting}
+use Rattle.pid_http_stream.specs.Steps.Intakes.{ComesIn, WaitsForRequest}
 use Rattle.pid_http_stream.specs.Leftovers.{AreLineEnds}
 use Rattle.pid_http_stream.specs.MomentLaws.{since_then, since_so}
 use Rattle.pid_http_stream.specs.Moments.{Moment, AllSince, IsMoment}
@@ -63,10 +63,10 @@ not_line_ends b held both no_end x = iff_false both no_end x
 
 -- the reader was read once more, while what had come was a request that was not whole
 pub waits_on : (held now : List ℕ) (x y taken : Option (List ℕ)) (a b c : Option (List Moment)) → ComesIn held now x y → IsUnfinished now
-    → AllSince (IsWaiting held x taken) a b → AllSince (IsMoment y taken) b c → AllSince (IsWaiting held x taken) a c
+    → AllSince (WaitsForRequest held x taken) a b → AllSince (IsMoment y taken) b c → AllSince (WaitsForRequest held x taken) a c
 waits_on held now x y taken a b c came waits first next =
-    since_then (IsWaiting held x taken) a b c first
-    (since_so (IsMoment y taken) (IsWaiting held x taken) b c (λ m is. record {
+    since_then (WaitsForRequest held x taken) a b c first
+    (since_so (IsMoment y taken) (WaitsForRequest held x taken) b c (λ m is. record {
       rest = now;
       comes = subst (λ (k : Moment). ComesIn held now x k.to_come) (sym is) came;
       waits = waits;

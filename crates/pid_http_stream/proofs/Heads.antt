@@ -15,7 +15,7 @@ use Rattle.pid_http_stream.specs.BodyLengths.{body_length}
 use Rattle.pid_http_stream.specs.Heads.{HasHead}
 use Rattle.pid_http_stream.specs.Leftovers.{AreLineEnds, IsLeftover}
 use Rattle.pid_http_stream.specs.Requests.{Request, IsRequest, HasNoRequest, fields_of}
-use Rattle.pid_http_stream.specs.Endings.{Says, IsShort, IsNoHead}
+use Rattle.pid_http_stream.specs.Endings.{SaysOfBody, IsShort, IsNoHead}
 use Rattle.pid_http_stream.specs.Steps.Intakes.{StandsAt}
 use Rattle.pid_http_stream.specs.Unfinished.{HasNoLineEnd, IsUnfinished}
 use Rattle.pid_http_stream.specs.Steps.LineScans.{blank_after}
@@ -79,7 +79,7 @@ pub same_length : (held : List ℕ) (headers : List HeaderSpan) (spans : Request
 same_length held headers spans h at = ap body_length at.fields
 
 pub says : (held : List ℕ) (headers : List HeaderSpan) (spans : RequestSpans) (said : BodyLength) → IsRequestOf held headers spans
-    → spans.len ≤ 16384 → spans.headers ≤ 32 → said ≡ body_length (map (header_bytes held) (take spans.headers headers)) → (more : List ℕ) → Says (held ++ more) said
+    → spans.len ≤ 16384 → spans.headers ≤ 32 → said ≡ body_length (map (header_bytes held) (take spans.headers headers)) → (more : List ℕ) → SaysOfBody (held ++ more) said
 says held headers spans said found short few e more = record {
   head = found.0;
   rest = drop spans.len held ++ more;

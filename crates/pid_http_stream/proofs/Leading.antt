@@ -2,7 +2,7 @@
 use Rattle.std.proofs.Common.{ℕ, List, [], Option, Some, Result, Ok, Err, inl, inr}
 use Rattle.std.specs.Io.KnownBytes.{IsAtEnd}
 use Rattle.pid_http_stream.specs.Conducts.{Conduct}
-use Rattle.pid_http_stream.specs.Handling.{IsAsked}
+use Rattle.pid_http_stream.specs.Handling.{IsHandled}
 use Rattle.pid_http_stream.specs.Leading.{Leads}
 use Rattle.pid_http_stream.specs.Requests.{Request}
 use Rattle.pid_http_stream.specs.declared.handler.Reply.{Reply}
@@ -24,7 +24,7 @@ pub beside : {H V : Type 0} {is_good : H → Type 0} {stands : H → V → Type 
 beside a b P Q R f p q = record { good = p.good; leads = λ h u is. let x = p.leads h u is in let y = q.leads h u is in (x.0, x.1, f u x.0 y.0 x.2 y.2) }
 
 -- the body was read to its end before
-pub asked_left : {H E : Type 0} (conduct : Conduct H) (a b : H) (request : Request) (result : Result Reply E) (left : Option (List ℕ)) → IsAtEnd left → IsAsked conduct a request result (Some []) b → IsAsked conduct a request result left b
+pub asked_left : {H E : Type 0} (conduct : Conduct H) (a b : H) (request : Request) (result : Result Reply E) (left : Option (List ℕ)) → IsAtEnd left → IsHandled conduct a request result (Some []) b → IsHandled conduct a request result left b
 asked_left conduct a b request (Ok reply) left end is = is
 asked_left conduct a b request (Err e) left end (inl stands) = inl stands
 asked_left conduct a b request (Err e) left end (inr (at, leaves)) = inr (end, leaves)

@@ -4,6 +4,7 @@ pub mod EndsOfLines
 pub mod Heads
 pub mod HeadReads
 pub mod Lines
+pub mod RefusalTexts
 pub mod Closing
 pub mod BodyReads
 pub mod Asked

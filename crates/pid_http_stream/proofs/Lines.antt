@@ -8,11 +8,11 @@ use Rattle.std.proofs.KnownBytes.{Appends-trans}
 use Rattle.std.proofs.Math.Seq.{take-append-add}
 use Rattle.http.specs.StatusCode.{code_digits}
 use Rattle.pid_http_stream.specs.Conducts.{Conduct}
-use Rattle.pid_http_stream.specs.Replies.{Answer, answer_behind, phrase_of, type_line, allow_line, close_line, reply_head, reply_text}
+use Rattle.pid_http_stream.specs.Replies.{Answer, answer_behind, phrase_of, type_line, allow_line, close_line, reply_head, reply_bytes}
 use Rattle.pid_http_stream.specs.Requests.{Request}
 use Rattle.pid_http_stream.specs.Serving.{WritesFront, IsCutInBody}
 use Rattle.pid_http_stream.specs.Streams.{closes}
-use Rattle.pid_http_stream.specs.declared.reply.ReplyHead.{ReplyHead}
+use Rattle.pid_http_stream.specs.declared.reply_head.ReplyHead.{ReplyHead}
 
 in_one_list : (s p a b c d e f g h i j k : List ℕ) → s ++ (a ++ (p ++ (b ++ (c ++ (d ++ (e ++ (f ++ (g ++ (h ++ (i ++ (j ++ (k ++ []))))))))))))
     ≡ s ++ a ++ p ++ b ++ c ++ d ++ e ++ f ++ g ++ h ++ i ++ j ++ k
@@ -25,29 +25,29 @@ in_one r old new s p a b c d e f g h i j k x = subst (Sends r old new) (in_one_l
 pub reply_is : {X E : Type 0} (r : Result X E) (old new : Option (List ℕ)) (answer : Answer) (closes : Bool) (digits phrase content len allow close : List ℕ) → digits ≡ code_digits answer.status → phrase ≡ phrase_of answer.status
     → content ≡ type_line answer.content → len ≡ decimal answer.told → allow ≡ allow_line answer.content → close ≡ close_line closes
     → Sends r old new (codes "HTTP/1.1 " ++ digits ++ codes " " ++ phrase ++ codes "\r\n" ++ content ++ codes "Content-Length: " ++ len ++ codes "\r\n" ++ allow ++ close ++ codes "\r\n" ++ answer.body)
-    → Sends r old new (reply_text answer closes)
-unfolding reply_text
+    → Sends r old new (reply_bytes answer closes)
+unfolding reply_bytes
 reply_is r old new answer closes digits phrase content len allow close p x q l a k s = subst (Sends r old new)
     (λ i. codes "HTTP/1.1 " ++ p i ++ codes " " ++ x i ++ codes "\r\n" ++ q i ++ codes "Content-Length: " ++ l i ++ codes "\r\n" ++ a i ++ k i ++ codes "\r\n" ++ answer.body) s
 
 -- ---- a reply whose body is written by itself
 
 -- the reply with no body is its head
-pub head_only : (head : ReplyHead) (told : ℕ) (closes : Bool) → reply_text (record { status = head.status; content = head.content; told = told; body = [] }) closes ≡ reply_head head.status head.content told closes
-unfolding reply_text
+pub head_only : (head : ReplyHead) (told : ℕ) (closes : Bool) → reply_bytes (record { status = head.status; content = head.content; told = told; body = [] }) closes ≡ reply_head head.status head.content told closes
+unfolding reply_bytes
 head_only head told closes = append-nil (reply_head head.status head.content told closes)
 
 pub front_of_it : (old new : Option (List ℕ)) (bytes : List ℕ) → SendsFront old new bytes → WritesFront old new bytes
 front_of_it old new bytes (n, less, appended) = (n, omega arith, appended)
 
 pub head_then_body : (head : ReplyHead) (told : ℕ) (closes : Bool) (t u v : Option (List ℕ)) (body : List ℕ) → Appends t u (reply_head head.status head.content told closes) → Appends u v body
-    → Appends t v (reply_text (record { status = head.status; content = head.content; told = told; body = body }) closes)
-unfolding reply_text
+    → Appends t v (reply_bytes (record { status = head.status; content = head.content; told = told; body = body }) closes)
+unfolding reply_bytes
 head_then_body head told closes t u v body p q = Appends-trans t u v (reply_head head.status head.content told closes) body p q
 
 pub head_then_front : (head : ReplyHead) (told : ℕ) (closes : Bool) (t u v : Option (List ℕ)) (body : List ℕ) → Appends t u (reply_head head.status head.content told closes) → WritesFront u v body
-    → WritesFront t v (reply_text (record { status = head.status; content = head.content; told = told; body = body }) closes)
-unfolding reply_text
+    → WritesFront t v (reply_bytes (record { status = head.status; content = head.content; told = told; body = body }) closes)
+unfolding reply_bytes
 head_then_front head told closes t u v body p (n, less, q) =
     let front = reply_head head.status head.content told closes in (
       length front + n,

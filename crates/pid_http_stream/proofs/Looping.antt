@@ -4,12 +4,12 @@ use Rattle.std.specs.Prelude.{IfSome}
 use Rattle.std.specs.Io.KnownBytes.{Consumes, IsAtEnd}
 use Rattle.pid_http_stream.specs.Conducts.{Conduct}
 use Rattle.pid_http_stream.specs.Endings.{HasFault}
-use Rattle.pid_http_stream.specs.Steps.Intakes.{ComesIn, IsWaiting}
+use Rattle.pid_http_stream.specs.Steps.Intakes.{ComesIn, WaitsForRequest}
 use Rattle.pid_http_stream.specs.Leftovers.{IsLeftover}
 use Rattle.pid_http_stream.specs.MomentLaws.{since_then, since_so}
 use Rattle.pid_http_stream.specs.Moments.{Moment, AllSince}
-use Rattle.pid_http_stream.specs.Serving.{counted, AnswersFront, IsCaughtUp, IsServed}
-use Rattle.pid_http_stream.specs.Steps.Loop.{count_with, IsRefused, Steps, stop_end}
+use Rattle.pid_http_stream.specs.Serving.{saturated, AnswersFront, IsCaughtUp, IsServed}
+use Rattle.pid_http_stream.specs.Steps.Loop.{count_with, WritesRefusal, Steps, stop_end}
 use Rattle.pid_http_stream.specs.Unfinished.{IsUnfinished}
 use Rattle.pid_http_stream.specs.declared.intake.Stop.{Stop}
 use Rattle.pid_http_stream.specs.declared.judging.StreamFault.{StreamFault}
@@ -32,7 +32,7 @@ loop_nothing conduct a b t u input mid left held after count serving c (end, res
 
 pub loop_faulty : {H : Type 0} (conduct : Conduct H) (a b : H) (t u v input mid left : Option (List ℕ)) (held after : List ℕ) (count : ℕ) (fault : StreamFault) (end : StreamEnd)
     → IfSome input (λ s. IsServing conduct (record { handler = a; handler_after = b; taken = t; taken_after = u }) s mid held count) → ComesIn held after mid left
-    → IfSome left (λ more. HasFault (after ++ more) fault) → IsRefused fault u v end
+    → IfSome left (λ more. HasFault (after ++ more) fault) → WritesRefusal fault u v end
     → IfSome input (λ s. IsServed conduct (record { handler = a; handler_after = b; taken = t; taken_after = v }) s left end (count_with end count))
 loop_faulty conduct a b t u v input mid left held after count fault end serving c has r =
     if_some input _ _ (λ s x. ends_refused conduct a b t u v s left after count fault end (comes conduct _ s mid left held after count x c) has r) serving
@@ -45,7 +45,7 @@ loop_stopped conduct a b t u input mid left held after count stop serving c wait
 
 pub loop_open : {H : Type 0} (conduct : Conduct H) (a b c : H) (t u v input mid read left : Option (List ℕ)) (held after lent kept : List ℕ) (n count count_after : ℕ)
     → IfSome input (λ s. IsServing conduct (record { handler = a; handler_after = b; taken = t; taken_after = u }) s mid held count) → ComesIn held after mid read → lent ≡ after
-    → IfSome read (λ _. Steps conduct (record { handler = b; handler_after = c; taken = u; taken_after = v }) (record { input = read; input_after = left; held = lent; held_after = drop n lent }) answered.Open) → count_after ≡ counted (count + 1) → kept ≡ drop n after
+    → IfSome read (λ _. Steps conduct (record { handler = b; handler_after = c; taken = u; taken_after = v }) (record { input = read; input_after = left; held = lent; held_after = drop n lent }) answered.Open) → count_after ≡ saturated (count + 1) → kept ≡ drop n after
     → IfSome input (λ s. IsServing conduct (record { handler = a; handler_after = c; taken = t; taken_after = v }) s left kept count_after)
 loop_open conduct a b c t u v input mid read left held after lent kept n count count_after serving came same step counts rest =
     if_some input _ _ (λ s x.
@@ -54,7 +54,7 @@ loop_open conduct a b c t u v input mid read left held after lent kept n count c
 
 pub loop_closed : {H : Type 0} (conduct : Conduct H) (a b c : H) (t u v input mid read left : Option (List ℕ)) (held after lent behind : List ℕ) (count count_after : ℕ)
     → IfSome input (λ s. IsServing conduct (record { handler = a; handler_after = b; taken = t; taken_after = u }) s mid held count) → ComesIn held after mid read → lent ≡ after
-    → IfSome read (λ _. Steps conduct (record { handler = b; handler_after = c; taken = u; taken_after = v }) (record { input = read; input_after = left; held = lent; held_after = behind }) answered.Closed) → count_after ≡ counted (count + 1)
+    → IfSome read (λ _. Steps conduct (record { handler = b; handler_after = c; taken = u; taken_after = v }) (record { input = read; input_after = left; held = lent; held_after = behind }) answered.Closed) → count_after ≡ saturated (count + 1)
     → IfSome input (λ s. IsServed conduct (record { handler = a; handler_after = c; taken = t; taken_after = v }) s left Closed count_after)
 loop_closed conduct a b c t u v input mid read left held after lent behind count count_after serving came same step counts =
     if_some input _ _ (λ s x.
@@ -73,7 +73,7 @@ loop_ended conduct a b c t u v input mid read left held after lent behind count 
 -- ---- the moments at which more was read
 
 caught_up : {H : Type 0} (conduct : Conduct H) (a b : H) (t u mid : Option (List ℕ)) (s held : List ℕ) (count : ℕ) → IsServing conduct (record { handler = a; handler_after = b; taken = t; taken_after = u }) s mid held count
-    → (m : Moment) → IsWaiting held mid u m → IsCaughtUp conduct a t s m
+    → (m : Moment) → WaitsForRequest held mid u m → IsCaughtUp conduct a t s m
 caught_up conduct a b t u mid s held count serving m x =
     let y = comes conduct (record { handler = a; handler_after = b; taken = t; taken_after = u }) s mid m.to_come held x.rest count serving x.comes in
     record {
@@ -90,19 +90,19 @@ caught_up conduct a b t u mid s held count serving m x =
 -- for a head
 pub loop_waits : {H : Type 0} (conduct : Conduct H) (a b : H) (t u input mid : Option (List ℕ)) (held : List ℕ) (count : ℕ) (xs ys zs : Option (List Moment))
     → IfSome input (λ s. IsServing conduct (record { handler = a; handler_after = b; taken = t; taken_after = u }) s mid held count)
-    → IfSome input (λ s. AllSince (IsCaughtUp conduct a t s) xs ys) → AllSince (IsWaiting held mid u) ys zs
+    → IfSome input (λ s. AllSince (IsCaughtUp conduct a t s) xs ys) → AllSince (WaitsForRequest held mid u) ys zs
     → IfSome input (λ s. AllSince (IsCaughtUp conduct a t s) xs zs)
 loop_waits conduct a b t u None mid held count xs ys zs serving past now = tt
 loop_waits conduct a b t u (Some s) mid held count xs ys zs serving past now =
-    since_then (IsCaughtUp conduct a t s) xs ys zs past (since_so (IsWaiting held mid u) (IsCaughtUp conduct a t s) ys zs (caught_up conduct a b t u mid s held count serving) now)
+    since_then (IsCaughtUp conduct a t s) xs ys zs past (since_so (WaitsForRequest held mid u) (IsCaughtUp conduct a t s) ys zs (caught_up conduct a b t u mid s held count serving) now)
 
 -- for a head, and then for the body behind it
 pub loop_waits_within : {H : Type 0} (conduct : Conduct H) (a b : H) (t u input mid read : Option (List ℕ)) (held after lent : List ℕ) (count : ℕ) (xs ys zs ws : Option (List Moment))
     → IfSome input (λ s. IsServing conduct (record { handler = a; handler_after = b; taken = t; taken_after = u }) s mid held count)
-    → IfSome input (λ s. AllSince (IsCaughtUp conduct a t s) xs ys) → AllSince (IsWaiting held mid u) ys zs → ComesIn held after mid read → lent ≡ after → AllSince (IsWaiting lent read u) zs ws
+    → IfSome input (λ s. AllSince (IsCaughtUp conduct a t s) xs ys) → AllSince (WaitsForRequest held mid u) ys zs → ComesIn held after mid read → lent ≡ after → AllSince (WaitsForRequest lent read u) zs ws
     → IfSome input (λ s. AllSince (IsCaughtUp conduct a t s) xs ws)
 loop_waits_within conduct a b t u input mid read held after lent count xs ys zs ws serving past now came same then =
     loop_waits conduct a b t u input read after count xs zs ws
     (if_some input _ _ (λ s x. comes conduct (record { handler = a; handler_after = b; taken = t; taken_after = u }) s mid read held after count x came) serving)
     (loop_waits conduct a b t u input mid held count xs ys zs serving past now)
-    (subst (λ (l : List ℕ). AllSince (IsWaiting l read u) zs ws) same then)
+    (subst (λ (l : List ℕ). AllSince (WaitsForRequest l read u) zs ws) same then)

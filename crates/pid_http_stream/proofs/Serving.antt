@@ -8,11 +8,11 @@ use Rattle.pid_http_stream.specs.Conducts.{Conduct, StandsStill, AreReplies}
 use Rattle.pid_http_stream.specs.Endings.{HasFault}
 use Rattle.pid_http_stream.specs.Steps.Intakes.{ComesIn}
 use Rattle.pid_http_stream.specs.Leftovers.{IsLeftover}
-use Rattle.pid_http_stream.specs.Replies.{Answer, reply_text}
+use Rattle.pid_http_stream.specs.Replies.{Answer, reply_bytes}
 use Rattle.pid_http_stream.specs.Requests.{Request, IsRequest}
-use Rattle.pid_http_stream.specs.Serving.{counted, Outside, WritesFront, RestsBehind, AnswersAll, AnswersFront, BreaksOff, StopsReading, LacksMemory, IsWrittenNext, IsServed}
-use Rattle.pid_http_stream.specs.Steps.Loop.{count_with, IsReplied, IsRefused, EndsWithin, Steps, stop_end}
-use Rattle.pid_http_stream.specs.Streams.{closes, Ending, clean, closed, faulty, Ends, Fronts, Splits}
+use Rattle.pid_http_stream.specs.Serving.{saturated, Outside, WritesFront, RestsBehind, AnswersAll, AnswersFront, BreaksOffInReply, StopsReading, LacksMemory, IsWrittenNext, IsServed}
+use Rattle.pid_http_stream.specs.Steps.Loop.{count_with, IsReplied, WritesRefusal, EndsWithin, Steps, stop_end}
+use Rattle.pid_http_stream.specs.Streams.{closes, Ending, clean, closed, faulty, EndsStream, Fronts, Splits}
 use Rattle.pid_http_stream.specs.Unfinished.{IsUnfinished}
 use Rattle.pid_http_stream.specs.declared.intake.Stop.{Stop}
 use Rattle.pid_http_stream.specs.declared.intake.Stop.TheVariants as stops
@@ -33,8 +33,8 @@ Fronts-snoc : (s : List ℕ) (rs : List Request) (rest : List ℕ) (r : Request)
 Fronts-snoc s [] rest r behind e is stays = (behind, subst (λ (l : List ℕ). IsRequest l r behind) (sym e) is, stays, refl)
 Fronts-snoc s (q ∷ rs) rest r behind (middle, was, before, later) is stays = (middle, was, before, Fronts-snoc middle rs rest r behind later is stays)
 
-Splits-end : (s : List ℕ) (rs : List Request) (rest : List ℕ) (e : Ending) → Fronts s rs rest → Ends rest e → Splits s rs e
-Splits-end s [] rest e same ends = subst (λ (l : List ℕ). Ends l e) (sym same) ends
+Splits-end : (s : List ℕ) (rs : List Request) (rest : List ℕ) (e : Ending) → Fronts s rs rest → EndsStream rest e → Splits s rs e
+Splits-end s [] rest e same ends = subst (λ (l : List ℕ). EndsStream l e) (sym same) ends
 Splits-end s (r ∷ rs) rest e (behind, is, stays, later) ends = (behind, is, inr (stays, Splits-end behind rs rest e later ends))
 
 Splits-closed : (s : List ℕ) (rs : List Request) (rest : List ℕ) (r : Request) (behind : List ℕ) → Fronts s rs rest → IsRequest rest r behind → closes r ≡ true → Splits s (rs ++ r ∷ []) closed
@@ -42,11 +42,11 @@ Splits-closed s [] rest r behind e is shut = (behind, subst (λ (l : List ℕ). 
 Splits-closed s (q ∷ rs) rest r behind (middle, was, before, later) is shut = (middle, was, inr (before, Splits-closed middle rs rest r behind later is shut))
 
 replies_snoc : {H : Type 0} (conduct : Conduct H) (a b c : H) (rs : List Request) (r : Request) (bytes : List ℕ) (answer : Answer) → AreReplies conduct a rs bytes b → conduct.answers b r answer c
-    → AreReplies conduct a (rs ++ r ∷ []) (bytes ++ reply_text answer (closes r)) c
+    → AreReplies conduct a (rs ++ r ∷ []) (bytes ++ reply_bytes answer (closes r)) c
 replies_snoc conduct a b c [] r bytes answer (e, same) is =
-    (c, answer, [], subst (λ x. conduct.answers x r answer c) (sym same) is, ap (λ (l : List ℕ). l ++ reply_text answer (closes r)) e ∙ sym (append-nil (reply_text answer (closes r))), (refl, refl))
+    (c, answer, [], subst (λ x. conduct.answers x r answer c) (sym same) is, ap (λ (l : List ℕ). l ++ reply_bytes answer (closes r)) e ∙ sym (append-nil (reply_bytes answer (closes r))), (refl, refl))
 replies_snoc conduct a b c (q ∷ rs) r bytes answer (mid, first, later, was, e, rest) is =
-    (mid, first, later ++ reply_text answer (closes r), was, ap (λ (l : List ℕ). l ++ reply_text answer (closes r)) e ∙ append_assoc (reply_text first (closes q)) later (reply_text answer (closes r)), replies_snoc conduct mid b c rs r later answer rest is)
+    (mid, first, later ++ reply_bytes answer (closes r), was, ap (λ (l : List ℕ). l ++ reply_bytes answer (closes r)) e ∙ append_assoc (reply_bytes first (closes q)) later (reply_bytes answer (closes r)), replies_snoc conduct mid b c rs r later answer rest is)
 
 -- ---- what the loop keeps
 
@@ -100,26 +100,26 @@ whole : (s : List ℕ) (left : Option (List ℕ)) (read : List ℕ) → Consumes
 whole s None read c = absurd c
 whole s (Some more) read c = (more, refl, c)
 
-counted_more : (n count after : ℕ) → count ≡ counted n → after ≡ counted (count + 1) → after ≡ counted (n + 1)
+counted_more : (n count after : ℕ) → count ≡ saturated n → after ≡ saturated (count + 1) → after ≡ saturated (n + 1)
 counted_more n count after e f = omega arith
 
-count_snoc : (rs : List Request) (r : Request) (count after : ℕ) → count ≡ counted (length rs) → after ≡ counted (count + 1) → after ≡ counted (length (rs ++ r ∷ []))
-count_snoc rs r count after e f = counted_more (length rs) count after e f ∙ ap counted (sym (length-append rs (r ∷ [])))
+count_snoc : (rs : List Request) (r : Request) (count after : ℕ) → count ≡ saturated (length rs) → after ≡ saturated (count + 1) → after ≡ saturated (length (rs ++ r ∷ []))
+count_snoc rs r count after e f = counted_more (length rs) count after e f ∙ ap saturated (sym (length-append rs (r ∷ [])))
 
 -- a request was answered, and the stream goes on
 answered_open : {H : Type 0} (conduct : Conduct H) (a b c : H) (t u v : Option (List ℕ)) (stream : List ℕ) (left : Option (List ℕ)) (held behind all : List ℕ) (count count_after : ℕ)
     → IsServing conduct (record { handler = a; handler_after = b; taken = t; taken_after = u }) stream left held count
-    → IsReplied conduct (record { handler = b; handler_after = c; taken = u; taken_after = v }) (record { came = held; behind = behind; all = all }) false → count_after ≡ counted (count + 1)
+    → IsReplied conduct (record { handler = b; handler_after = c; taken = u; taken_after = v }) (record { came = held; behind = behind; all = all }) false → count_after ≡ saturated (count + 1)
     → IsServing conduct (record { handler = a; handler_after = c; taken = t; taken_after = v }) stream left behind count_after
 answered_open conduct a b c t u v stream left held behind all count count_after s r counts = record {
   read = s.read;
   consumed = s.consumed;
   before = record {
     requests = s.before.requests ++ r.request ∷ [];
-    replies = s.before.replies ++ reply_text r.answer (closes r.request);
+    replies = s.before.replies ++ reply_bytes r.answer (closes r.request);
     fronts = Fronts-snoc s.read s.before.requests held r.request behind s.before.fronts r.is r.closes_so;
     answered = replies_snoc conduct a b c s.before.requests r.request s.before.replies r.answer s.before.answered r.answered;
-    written = Appends-trans t u v s.before.replies (reply_text r.answer (closes r.request)) s.before.written r.written;
+    written = Appends-trans t u v s.before.replies (reply_bytes r.answer (closes r.request)) s.before.written r.written;
     counts = count_snoc s.before.requests r.request count count_after s.before.counts counts;
   };
 }
@@ -127,7 +127,7 @@ answered_open conduct a b c t u v stream left held behind all count count_after 
 -- one step of the loop
 pub steps_open : {H : Type 0} (conduct : Conduct H) (a b c : H) (t u v : Option (List ℕ)) (stream : List ℕ) (mid after : Option (List ℕ)) (held behind left : List ℕ) (count count_after : ℕ)
     → IsServing conduct (record { handler = a; handler_after = b; taken = t; taken_after = u }) stream mid held count
-    → Steps conduct (record { handler = b; handler_after = c; taken = u; taken_after = v }) (record { input = mid; input_after = after; held = held; held_after = behind }) answered.Open → count_after ≡ counted (count + 1) → left ≡ behind
+    → Steps conduct (record { handler = b; handler_after = c; taken = u; taken_after = v }) (record { input = mid; input_after = after; held = held; held_after = behind }) answered.Open → count_after ≡ saturated (count + 1) → left ≡ behind
     → IsServing conduct (record { handler = a; handler_after = c; taken = t; taken_after = v }) stream after left count_after
 steps_open conduct a b c t u v stream mid after held behind left count count_after s step counts same =
     subst (λ (l : List ℕ). IsServing conduct (record { handler = a; handler_after = c; taken = t; taken_after = v }) stream after l count_after) (sym same)
@@ -142,7 +142,7 @@ front_of conduct o stream left held more count s e =
     subst (λ (l : List ℕ). AnswersFront conduct o l (held ++ more) count) (sym (subst (λ (k : Option (List ℕ)). Consumes (Some stream) k s.read) e s.consumed)) (front_append conduct o s.read held more count s.before)
 
 all_answered : {H : Type 0} (conduct : Conduct H) (a b c : H) (t u v : Option (List ℕ)) (stream rest : List ℕ) (ending : Ending) (tail : List ℕ) (count : ℕ)
-    → AnswersFront conduct (record { handler = a; handler_after = b; taken = t; taken_after = u }) stream rest count → Ends rest ending → RestsBehind conduct ending b c → Appends u v tail
+    → AnswersFront conduct (record { handler = a; handler_after = b; taken = t; taken_after = u }) stream rest count → EndsStream rest ending → RestsBehind conduct ending b c → Appends u v tail
     → AnswersAll conduct (record { handler = a; handler_after = c; taken = t; taken_after = v }) stream ending tail count
 all_answered conduct a b c t u v stream rest ending tail count f ends rests written = record {
   requests = f.requests;
@@ -167,19 +167,19 @@ ends_clean conduct a b t u stream left held count s end rest =
 
 pub steps_closed : {H : Type 0} (conduct : Conduct H) (a b c : H) (t u v : Option (List ℕ)) (stream : List ℕ) (mid after : Option (List ℕ)) (held behind : List ℕ) (count count_after : ℕ)
     → IsServing conduct (record { handler = a; handler_after = b; taken = t; taken_after = u }) stream mid held count
-    → Steps conduct (record { handler = b; handler_after = c; taken = u; taken_after = v }) (record { input = mid; input_after = after; held = held; held_after = behind }) answered.Closed → count_after ≡ counted (count + 1)
+    → Steps conduct (record { handler = b; handler_after = c; taken = u; taken_after = v }) (record { input = mid; input_after = after; held = held; held_after = behind }) answered.Closed → count_after ≡ saturated (count + 1)
     → AnswersAll conduct (record { handler = a; handler_after = c; taken = t; taken_after = v }) stream closed [] count_after
 steps_closed conduct a b c t u v stream mid after held behind count count_after s step counts =
     let f = front_of conduct _ stream after (held ++ step.came) step.more count (brought conduct _ stream mid after held step.came step.more count s step.before step.after) step.after in
     let r = step.is in
     record {
       requests = f.requests ++ r.request ∷ [];
-      replies = f.replies ++ reply_text r.answer (closes r.request);
+      replies = f.replies ++ reply_bytes r.answer (closes r.request);
       last = c;
       splits = Splits-closed stream f.requests ((held ++ step.came) ++ step.more) r.request (behind ++ step.more) f.fronts (IsRequest-append (held ++ step.came) r.request behind step.more r.is) r.closes_so;
       answered = replies_snoc conduct a b c f.requests r.request f.replies r.answer f.answered r.answered;
       rests = refl;
-      written = subst (Appends t v) (sym (append-nil (f.replies ++ reply_text r.answer (closes r.request)))) (Appends-trans t u v f.replies (reply_text r.answer (closes r.request)) f.written r.written);
+      written = subst (Appends t v) (sym (append-nil (f.replies ++ reply_bytes r.answer (closes r.request)))) (Appends-trans t u v f.replies (reply_bytes r.answer (closes r.request)) f.written r.written);
       counts = count_snoc f.requests r.request count count_after f.counts counts;
     }
 
@@ -191,12 +191,12 @@ rests_same conduct BodyShort a = inl refl
 
 breaks_off : {H : Type 0} (conduct : Conduct H) (a b c : H) (t u v : Option (List ℕ)) (stream rest bytes : List ℕ) (count : ℕ)
     → AnswersFront conduct (record { handler = a; handler_after = b; taken = t; taken_after = u }) stream rest count → IsWrittenNext conduct b rest bytes c → WritesFront u v bytes
-    → BreaksOff conduct (record { handler = a; handler_after = c; taken = t; taken_after = v }) stream count
+    → BreaksOffInReply conduct (record { handler = a; handler_after = c; taken = t; taken_after = v }) stream count
 breaks_off conduct a b c t u v stream rest bytes count f is written = record { rest = rest; mid = b; taken = u; before = f; bytes = bytes; next_is = is; written = written }
 
 -- what stands at the front is refused
 refused : {H : Type 0} (conduct : Conduct H) (a b : H) (t u v : Option (List ℕ)) (stream rest : List ℕ) (left : Option (List ℕ)) (count : ℕ) (fault : StreamFault) (end : StreamEnd)
-    → AnswersFront conduct (record { handler = a; handler_after = b; taken = t; taken_after = u }) stream rest count → HasFault rest fault → IsRefused fault u v end
+    → AnswersFront conduct (record { handler = a; handler_after = b; taken = t; taken_after = u }) stream rest count → HasFault rest fault → WritesRefusal fault u v end
     → IsServed conduct (record { handler = a; handler_after = b; taken = t; taken_after = v }) stream left end (count_with end count)
 refused conduct a b t u v stream rest left count fault HeadFault f has (kind, written) = (fault, kind, count, all_answered conduct a b b t u v stream rest (faulty fault) _ count f has (rests_same conduct fault b) written, refl)
 refused conduct a b t u v stream rest left count fault BodyFault f has (kind, written) = (fault, kind, count, all_answered conduct a b b t u v stream rest (faulty fault) _ count f has (rests_same conduct fault b) written, refl)
@@ -211,7 +211,7 @@ refused conduct a b t u v stream rest left count fault TurnsSpent f has r = absu
 
 pub ends_refused : {H : Type 0} (conduct : Conduct H) (a b : H) (t u v : Option (List ℕ)) (stream : List ℕ) (left : Option (List ℕ)) (held : List ℕ) (count : ℕ) (fault : StreamFault) (end : StreamEnd)
     → IsServing conduct (record { handler = a; handler_after = b; taken = t; taken_after = u }) stream left held count
-    → IfSome left (λ more. HasFault (held ++ more) fault) → IsRefused fault u v end
+    → IfSome left (λ more. HasFault (held ++ more) fault) → WritesRefusal fault u v end
     → IsServed conduct (record { handler = a; handler_after = b; taken = t; taken_after = v }) stream left end (count_with end count)
 ends_refused conduct a b t u v stream left held count fault end s has r =
     let w = whole stream left s.read s.consumed in

@@ -9,15 +9,15 @@ use Rattle.httparse.specs.declared.spans.HeaderSpan.{HeaderSpan}
 use Rattle.httparse.specs.declared.spans.RequestSpans.{RequestSpans}
 use Rattle.pid_file.specs.declared.io.ReadFault.{ReadFault}
 use Rattle.pid_file.specs.declared.io.WriteFault.{WriteFault}
-use Rattle.pid_http_stream.specs.Causes.{LastState, HasCause, EndsFor}
+use Rattle.pid_http_stream.specs.Causes.{LastState, HasEndCause, EndsFor}
 use Rattle.pid_http_stream.specs.Conducts.{Conduct, StandsStill}
 use Rattle.pid_http_stream.specs.Connections.{asks_to_close}
 use Rattle.pid_http_stream.specs.Endings.{IsShort}
 use Rattle.pid_http_stream.specs.Handling.{MayReply}
-use Rattle.pid_http_stream.specs.Replies.{reply_head, reply_text, fault_answer}
+use Rattle.pid_http_stream.specs.Replies.{reply_head, reply_bytes, fault_answer}
 use Rattle.pid_http_stream.specs.Requests.{Request, IsRequest, fields_of}
 use Rattle.pid_http_stream.specs.Steps.Intakes.{StopsFor}
-use Rattle.pid_http_stream.specs.Steps.Loop.{Asks, IsSent, IsRefused, IsStep, EndsSo, EndsWithin, Steps, EndsBroken, answered_so, stop_end}
+use Rattle.pid_http_stream.specs.Steps.Loop.{AsksHandler, IsSent, WritesRefusal, IsStep, EndsSo, EndsWithin, Steps, EndsBroken, answered_so, stop_end}
 use Rattle.pid_http_stream.specs.Streams.{closes}
 use Rattle.pid_http_stream.specs.Bodies.{Turns, SpendsTurns}
 use Rattle.pid_http_stream.specs.declared.asking.Asked.TheVariants as asked
@@ -39,11 +39,11 @@ use Rattle.pid_http_stream.proofs.Heads.{IsRequest-append}
 sent_step : {H : Type 0} (conduct : Conduct H) (a c : H) (request : Request) (came more rest : List ℕ) (u v : Option (List ℕ)) (closing : Bool) (s : Sent) → IsRequest came request rest → closes request ≡ closing
     → IsSent conduct (record { handler = a; handler_after = c; taken = u; taken_after = v }) (record { request = request; closing = closing }) s → IsStep conduct (record { handler = a; handler_after = c; taken = u; taken_after = v }) (record { came = came; behind = rest; all = came ++ more }) (answered_so s closing)
 sent_step conduct a c request came more rest u v true sent.Whole is e (answer, answered, written) =
-    record { request = request; is = is; answer = answer; answered = answered; written = subst (λ (x : Bool). Appends u v (reply_text answer x)) (sym e) written; closes_so = e }
+    record { request = request; is = is; answer = answer; answered = answered; written = subst (λ (x : Bool). Appends u v (reply_bytes answer x)) (sym e) written; closes_so = e }
 sent_step conduct a c request came more rest u v false sent.Whole is e (answer, answered, written) =
-    record { request = request; is = is; answer = answer; answered = answered; written = subst (λ (x : Bool). Appends u v (reply_text answer x)) (sym e) written; closes_so = e }
+    record { request = request; is = is; answer = answer; answered = answered; written = subst (λ (x : Bool). Appends u v (reply_bytes answer x)) (sym e) written; closes_so = e }
 sent_step conduct a c request came more rest u v closing sent.WriteFault is e (inl (answer, answered, written)) =
-    (reply_text answer closing, inl (request, rest ++ more, answer, IsRequest-append came request rest more is, answered, ap (reply_text answer) (sym e)), written)
+    (reply_bytes answer closing, inl (request, rest ++ more, answer, IsRequest-append came request rest more is, answered, ap (reply_bytes answer) (sym e)), written)
 sent_step conduct a c request came more rest u v closing sent.WriteFault is e (inr (head, told, promised, written)) =
     (reply_head head.status head.content told closing, inr (inl (request, rest ++ more, head, told, IsRequest-append came request rest more is, promised, ap (reply_head head.status head.content told) (sym e))), written)
 sent_step conduct a c request came more rest u v closing sent.StoreFault is e cut = (request, rest ++ more, IsRequest-append came request rest more is, cut e)
@@ -53,7 +53,7 @@ if_known None P Q f p = tt
 if_known (Some x) P Q f p = f p
 
 pub replied_step : {H : Type 0} (conduct : Conduct H) (a b c : H) (input left u v : Option (List ℕ)) (held : List ℕ) (headers : List HeaderSpan) (spans : RequestSpans) (told : ℕ) (reply : Reply) (s : Sent) (closing : Bool)
-    → IfSome input (λ _. Asks conduct (record { a = a; b = b; input = input; input_after = left }) (record { held = held; headers = headers; spans = spans; content_length = told }) (asked.Reply reply))
+    → IfSome input (λ _. AsksHandler conduct (record { a = a; b = b; input = input; input_after = left }) (record { held = held; headers = headers; spans = spans; content_length = told }) (asked.Reply reply))
     → ((x : H) (request : Request) → MayReply conduct x request reply b → IsSent conduct (record { handler = x; handler_after = c; taken = u; taken_after = v }) (record { request = request; closing = closing }) s)
     → ((head : RequestHead) → IsRequestAt held headers spans head → closing ≡ asks_to_close head.minor (fields_of head))
     → IfSome input (λ _. Steps conduct (record { handler = a; handler_after = c; taken = u; taken_after = v }) (record { input = input; input_after = left; held = held; held_after = drop (spans.len + told) held }) (answered_so s closing))
@@ -68,7 +68,7 @@ replied_step conduct a b c input left u v held headers spans told reply s closin
 
 -- memory was refused
 pub memory_step : {H : Type 0} (conduct : Conduct H) (a b : H) (input left u : Option (List ℕ)) (held : List ℕ) (headers : List HeaderSpan) (spans : RequestSpans) (told : ℕ)
-    → IfSome input (λ _. Asks conduct (record { a = a; b = b; input = input; input_after = left }) (record { held = held; headers = headers; spans = spans; content_length = told }) asked.NoMemory)
+    → IfSome input (λ _. AsksHandler conduct (record { a = a; b = b; input = input; input_after = left }) (record { held = held; headers = headers; spans = spans; content_length = told }) asked.NoMemory)
     → IfSome input (λ _. Steps conduct (record { handler = a; handler_after = b; taken = u; taken_after = u }) (record { input = input; input_after = left; held = held; held_after = drop (spans.len + told) held }) (answered.Ended ends.Memory))
 memory_step conduct a b input left u held headers spans told asks = if_known input _ _ (λ x.
     record { came = x.came; more = x.more; before = x.before; after = x.after; is = (lacks (held ++ x.came) x.more x.is, refl) }) asks
@@ -81,9 +81,9 @@ memory_step conduct a b input left u held headers spans told asks = if_known inp
 no_more : (left : Option (List ℕ)) (came more : List ℕ) → left ≡ Some more → IsAtEnd left → came ++ more ≡ came
 no_more left came more e end = let none : more ≡ [] = subst IsAtEnd e end in ap (λ (l : List ℕ). came ++ l) none ∙ append-nil came
 
-short_ends : {H : Type 0} (conduct : Conduct H) (a b : H) (came behind all : List ℕ) (u v : Option (List ℕ)) (end : StreamEnd) → StandsStill conduct a b → IsShort all → IsRefused BodyShort u v end → EndsWithin conduct (record { handler = a; handler_after = b; taken = u; taken_after = v }) (record { came = came; behind = behind; all = all }) end
+short_ends : {H : Type 0} (conduct : Conduct H) (a b : H) (came behind all : List ℕ) (u v : Option (List ℕ)) (end : StreamEnd) → StandsStill conduct a b → IsShort all → WritesRefusal BodyShort u v end → EndsWithin conduct (record { handler = a; handler_after = b; taken = u; taken_after = v }) (record { came = came; behind = behind; all = all }) end
 short_ends conduct a b came behind all u v ends.BodyFault stands short (kind, written) = (short, stands, written)
-short_ends conduct a b came behind all u v ends.WriteFault stands short written = (reply_text (fault_answer BodyShort) true, inr (inr (BodyShort, short, refl, stands)), written)
+short_ends conduct a b came behind all u v ends.WriteFault stands short written = (reply_bytes (fault_answer BodyShort) true, inr (inr (BodyShort, short, refl, stands)), written)
 short_ends conduct a b came behind all u v ends.HeadFault stands short (kind, written) = absurd (cc kind)
 short_ends conduct a b came behind all u v ends.Clean stands short r = absurd r
 short_ends conduct a b came behind all u v ends.Closed stands short r = absurd r
@@ -94,7 +94,7 @@ short_ends conduct a b came behind all u v ends.TurnsSpent stands short r = absu
 
 -- the body broke off
 pub broken_step : {H : Type 0} (conduct : Conduct H) (a b : H) (input left u v : Option (List ℕ)) (held : List ℕ) (headers : List HeaderSpan) (spans : RequestSpans) (told : ℕ) (fault : BodyFault) (end : StreamEnd)
-    → IfSome input (λ _. Asks conduct (record { a = a; b = b; input = input; input_after = left }) (record { held = held; headers = headers; spans = spans; content_length = told }) (asked.Broken fault)) → EndsBroken fault u v end
+    → IfSome input (λ _. AsksHandler conduct (record { a = a; b = b; input = input; input_after = left }) (record { held = held; headers = headers; spans = spans; content_length = told }) (asked.Broken fault)) → EndsBroken fault u v end
     → IfSome input (λ _. Steps conduct (record { handler = a; handler_after = b; taken = u; taken_after = v }) (record { input = input; input_after = left; held = held; held_after = drop (spans.len + told) held }) (answered.Ended end))
 broken_step conduct a b input left u v held headers spans told faults.Short end asks r = if_known input _ _ (λ x.
     record {
@@ -132,7 +132,7 @@ sent_ends x sent.WriteFault closing few failed good stuck = record { within = fe
 sent_ends x sent.StoreFault closing few failed good stuck = record { within = few; cause = (good refl, stuck refl) }
 
 -- where a refusal was written
-pub refused_ends : (x : LastState) (fault : StreamFault) (u v : Option (List ℕ)) (end : StreamEnd) → x.reads_after ≤ x.reads + x.turns → IsRefused fault u v end → (end ≡ ends.WriteFault → IsSome x.write_fault) → EndsFor end x
+pub refused_ends : (x : LastState) (fault : StreamFault) (u v : Option (List ℕ)) (end : StreamEnd) → x.reads_after ≤ x.reads + x.turns → WritesRefusal fault u v end → (end ≡ ends.WriteFault → IsSome x.write_fault) → EndsFor end x
 refused_ends x fault u v ends.HeadFault few r failed = record { within = few; cause = tt }
 refused_ends x fault u v ends.BodyFault few r failed = record { within = few; cause = tt }
 refused_ends x fault u v ends.WriteFault few r failed = record { within = few; cause = failed refl }
@@ -145,13 +145,13 @@ refused_ends x fault u v ends.TurnsSpent few r failed = absurd r
 
 -- where a body broke off
 pub broken_ends : (x : LastState) (fault : BodyFault) (u v : Option (List ℕ)) (end : StreamEnd) → x.reads_after ≤ x.reads + x.turns → EndsBroken fault u v end
-    → (asked.Broken fault ≡ asked.Broken faults.ReadFault → IsSome x.read_fault) → (asked.Broken fault ≡ asked.Broken faults.TurnsSpent → HasCause ends.TurnsSpent x) → (end ≡ ends.WriteFault → IsSome x.write_fault) → EndsFor end x
+    → (asked.Broken fault ≡ asked.Broken faults.ReadFault → IsSome x.read_fault) → (asked.Broken fault ≡ asked.Broken faults.TurnsSpent → HasEndCause ends.TurnsSpent x) → (end ≡ ends.WriteFault → IsSome x.write_fault) → EndsFor end x
 broken_ends x faults.Short u v end few r read spent failed = refused_ends x BodyShort u v end few r failed
 broken_ends x faults.ReadFault u v end few (e, same) read spent failed = subst (λ k. EndsFor k x) (sym e) (record { within = few; cause = read refl })
 broken_ends x faults.TurnsSpent u v end few (e, same) read spent failed = subst (λ k. EndsFor k x) (sym e) (record { within = few; cause = spent refl })
 
 -- where reading stopped
-pub stopped_ends : (x : LastState) (stop : Stop) (left : ℕ) → x.reads_after ≤ x.reads + x.turns → StopsFor stop x.read_fault left → (left ≡ 0 → HasCause ends.TurnsSpent x) → EndsFor (stop_end stop) x
+pub stopped_ends : (x : LastState) (stop : Stop) (left : ℕ) → x.reads_after ≤ x.reads + x.turns → StopsFor stop x.read_fault left → (left ≡ 0 → HasEndCause ends.TurnsSpent x) → EndsFor (stop_end stop) x
 stopped_ends x stops.ReadFault left few why spent = record { within = few; cause = why }
 stopped_ends x stops.TurnsSpent left few why spent = record { within = few; cause = spent why }
 stopped_ends x stops.Memory left few why spent = record { within = few; cause = tt }
@@ -161,8 +161,8 @@ turns_within a b s = let e = s.spent in omega (arith, e)
 
 -- some turns were spent before
 cause_later : (rf : Option ReadFault) (wf : Option WriteFault) (stuck : Type 0) (a b : Turns) (n : ℕ) → SpendsTurns a b → (end : StreamEnd)
-    → HasCause end (record { read_fault = rf; write_fault = wf; stuck = stuck; turns = b.left; reads = b.reads; reads_after = n })
-    → HasCause end (record { read_fault = rf; write_fault = wf; stuck = stuck; turns = a.left; reads = a.reads; reads_after = n })
+    → HasEndCause end (record { read_fault = rf; write_fault = wf; stuck = stuck; turns = b.left; reads = b.reads; reads_after = n })
+    → HasEndCause end (record { read_fault = rf; write_fault = wf; stuck = stuck; turns = a.left; reads = a.reads; reads_after = n })
 cause_later rf wf stuck a b n s ends.Clean why = tt
 cause_later rf wf stuck a b n s ends.Closed why = tt
 cause_later rf wf stuck a b n s ends.HeadFault why = tt

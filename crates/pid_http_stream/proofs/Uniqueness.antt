@@ -4,20 +4,20 @@ use Rattle.std.specs.Prelude.{◌⊎◌}
 use Rattle.httparse.specs.Grammar.{RequestHead}
 use Rattle.pid_http_stream.specs.BodyLengths.{body_length}
 use Rattle.pid_http_stream.specs.Requests.{Request, IsRequest, fields_of}
-use Rattle.pid_http_stream.specs.Endings.{HasFault, Says, IsNoHead}
+use Rattle.pid_http_stream.specs.Endings.{HasFault, SaysOfBody, IsNoHead}
 use Rattle.pid_http_stream.specs.Leftovers.{IsLeftover}
-use Rattle.pid_http_stream.specs.Streams.{closes, Ending, clean, closed, faulty, Ends, Splits}
+use Rattle.pid_http_stream.specs.Streams.{closes, Ending, clean, closed, faulty, EndsStream, Splits}
 use Rattle.pid_http_stream.specs.declared.body_length.BodyLength.{BodyLength}
 use Rattle.pid_http_stream.specs.declared.body_length.BodyLength.TheVariants.{Encoded, Bad, TooLong, Bytes}
 use Rattle.pid_http_stream.specs.declared.judging.StreamFault.{StreamFault}
 use Rattle.pid_http_stream.specs.declared.judging.StreamFault.TheVariants.{BadHead, Encoding, BodyTooLong, BodyShort}
 use Rattle.pid_http_stream.proofs.Heads.{HasHead-unique, IsRequest-unique, leftover_has_no_head}
 
-same_said : (s : List ℕ) (said : BodyLength) (r : Request) (behind : List ℕ) → Says s said → IsRequest s r behind → said ≡ Bytes (length r.body)
+same_said : (s : List ℕ) (said : BodyLength) (r : Request) (behind : List ℕ) → SaysOfBody s said → IsRequest s r behind → said ≡ Bytes (length r.body)
 same_said s said r behind says is = sym says.says ∙ ap (λ (h : RequestHead). body_length (fields_of h)) (HasHead-unique s says.head r.head says.rest (r.body ++ behind) says.has is.head).0 ∙ is.sized
 
 -- where a stream ends there is no request
-ends_without : (s : List ℕ) (e : Ending) (r : Request) (behind : List ℕ) → Ends s e → IsRequest s r behind → ⊥
+ends_without : (s : List ℕ) (e : Ending) (r : Request) (behind : List ℕ) → EndsStream s e → IsRequest s r behind → ⊥
 ends_without s clean r behind left is = leftover_has_no_head s left r.head (r.body ++ behind) is.head
 ends_without s closed r behind ends is = ends
 ends_without s (faulty BadHead) r behind (inl none) is = none.none r.head (r.body ++ behind) is.head
@@ -64,7 +64,7 @@ fault_for (Bytes n) = BodyShort
 -- the fault is for what the head says
 record IsFor (s : List ℕ) (fault : StreamFault) : Type 0 where
   said : BodyLength
-  says : Says s said
+  says : SaysOfBody s said
   is : fault ≡ fault_for said
 
 fault_says : (s : List ℕ) (fault : StreamFault) → HasFault s fault → (IsNoHead s × (fault ≡ BadHead)) ⊎ IsFor s fault
@@ -74,7 +74,7 @@ fault_says s Encoding says = inr (record { said = Encoded; says = says; is = ref
 fault_says s BodyTooLong says = inr (record { said = TooLong; says = says; is = refl })
 fault_says s BodyShort short = inr (record { said = Bytes short.wanted; says = record { head = short.head; rest = short.rest; has = short.has; says = short.says }; is = refl })
 
-one_said : (s : List ℕ) (x y : BodyLength) → Says s x → Says s y → x ≡ y
+one_said : (s : List ℕ) (x y : BodyLength) → SaysOfBody s x → SaysOfBody s y → x ≡ y
 one_said s x y a b = sym a.says ∙ ap (λ (h : RequestHead). body_length (fields_of h)) (HasHead-unique s a.head b.head a.rest b.rest a.has b.has).0 ∙ b.says
 
 by_what : (s : List ℕ) (x y : StreamFault) → (IsNoHead s × (x ≡ BadHead)) ⊎ IsFor s x → (IsNoHead s × (y ≡ BadHead)) ⊎ IsFor s y → x ≡ y
@@ -88,7 +88,7 @@ refused_or_left : (s : List ℕ) (fault : StreamFault) → (IsNoHead s × (fault
 refused_or_left s fault (inl (none, e)) left = none.some left
 refused_or_left s fault (inr for) left = leftover_has_no_head s left for.says.head for.says.rest for.says.has
 
-one_end : (s : List ℕ) (e f : Ending) → Ends s e → Ends s f → e ≡ f
+one_end : (s : List ℕ) (e f : Ending) → EndsStream s e → EndsStream s f → e ≡ f
 one_end s clean clean x y = refl
 one_end s clean closed x y = absurd y
 one_end s clean (faulty fault) x y = absurd (refused_or_left s fault (fault_says s fault y) x)

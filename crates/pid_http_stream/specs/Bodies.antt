@@ -60,8 +60,8 @@ pub record HasBrokenOff (s : BodyState) (fault : BodyFault) : Type 0 where
   pub cause : IsCauseOf fault s
 
 -- a fault has its cause
-abbrev pub IsTold : BodyState → Type 0
-IsTold s = IfSome s.fault (HasBrokenOff s)
+abbrev pub IsFaultCaused : BodyState → Type 0
+IsFaultCaused s = IfSome s.fault (HasBrokenOff s)
 
 -- when the reader under it was read, bytes were still wanted, and nothing more was written
 pub record IsWithinBody (s : BodyState) (m : Moment) : Type 0 where
@@ -79,6 +79,6 @@ pub record HasReadBody (a b : BodyState) : Type 0 where
   pub counted : length used + b.wanted ≡ a.wanted
   pub turns : SpendsTurns a.turns b.turns
   pub fault : StaysKept a.fault b.fault
-  pub told : IsTold a → IsTold b
+  pub told : IsFaultCaused a → IsFaultCaused b
   pub taken : b.taken ≡ a.taken
   pub moments : AllSince (IsWithinBody a) a.moments b.moments

@@ -21,20 +21,20 @@ pub record LastState : Type 1 where
   pub reads_after : ℕ
 
 -- the cause of an end that has one
-abbrev pub HasCause : StreamEnd → LastState → Type 0
-HasCause ends.Clean s = ⊤
-HasCause ends.Closed s = ⊤
-HasCause ends.HeadFault s = ⊤
-HasCause ends.BodyFault s = ⊤
-HasCause ends.ReadFault s = IsSome s.read_fault
-HasCause ends.WriteFault s = IsSome s.write_fault
-HasCause ends.StoreFault s = (s.write_fault ≡ None) × s.stuck
-HasCause ends.Memory s = ⊤
-HasCause ends.TurnsSpent s = s.reads + s.turns ≤ 2 ^ 64 - 1 → s.reads_after ≡ s.reads + s.turns
+abbrev pub HasEndCause : StreamEnd → LastState → Type 0
+HasEndCause ends.Clean s = ⊤
+HasEndCause ends.Closed s = ⊤
+HasEndCause ends.HeadFault s = ⊤
+HasEndCause ends.BodyFault s = ⊤
+HasEndCause ends.ReadFault s = IsSome s.read_fault
+HasEndCause ends.WriteFault s = IsSome s.write_fault
+HasEndCause ends.StoreFault s = (s.write_fault ≡ None) × s.stuck
+HasEndCause ends.Memory s = ⊤
+HasEndCause ends.TurnsSpent s = s.reads + s.turns ≤ 2 ^ 64 - 1 → s.reads_after ≡ s.reads + s.turns
 
 -- The stream ended so.
 pub record EndsFor (end : StreamEnd) (s : LastState) : Type 0 where
   -- no more reads were made than might be
   pub within : s.reads_after ≤ s.reads + s.turns
   -- a fault is kept by who has it; and where the turns are spent, as many reads were made
-  pub cause : HasCause end s
+  pub cause : HasEndCause end s

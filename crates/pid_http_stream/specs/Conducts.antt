@@ -1,10 +1,10 @@
 -- What a handler of requests may do, over its own states: the relations that each handler tells of
 -- itself.
 use Rattle.std.specs.Prelude.{◌≡◌, ℕ, ◌⊎◌, List, [], ◌∷◌, ◌++◌}
-use Rattle.pid_http_stream.specs.Replies.{Answer, reply_text}
+use Rattle.pid_http_stream.specs.Replies.{Answer, reply_bytes}
 use Rattle.pid_http_stream.specs.Requests.{Request}
 use Rattle.pid_http_stream.specs.Streams.{closes}
-use Rattle.pid_http_stream.specs.declared.reply.ReplyHead.{ReplyHead}
+use Rattle.pid_http_stream.specs.declared.reply_head.ReplyHead.{ReplyHead}
 
 -- what may be known of a handler before a request and behind it
 pub record Conduct (H : Type 0) : Type 1 where
@@ -27,5 +27,5 @@ abbrev pub AreReplies : {H : Type 0} → Conduct H → H → List Request → Li
 AreReplies conduct a [] bytes b = (bytes ≡ []) × (a ≡ b)
 AreReplies {H} conduct a (request ∷ requests) bytes b =
     (mid : H) × (answer : Answer) × (later : List ℕ) × conduct.answers a request answer mid
-    × (bytes ≡ reply_text answer (closes request) ++ later)
+    × (bytes ≡ reply_bytes answer (closes request) ++ later)
     × AreReplies conduct mid requests later b

@@ -14,7 +14,7 @@ use Rattle.pid_http_stream.specs.declared.judging.StreamFault.TheVariants.{BadHe
 use Rattle.pid_http_stream.specs.declared.judging.StreamFault.TheVariants.{BodyTooLong, BodyShort}
 
 -- a head stands at the front, and says this of its body
-pub record Says (stream : List ℕ) (said : BodyLength) : Type 0 where
+pub record SaysOfBody (stream : List ℕ) (said : BodyLength) : Type 0 where
   pub head : RequestHead
   pub rest : List ℕ
   pub has : HasHead stream head rest
@@ -36,7 +36,7 @@ pub record IsNoHead (stream : List ℕ) : Type 0 where
 
 -- the stream has this fault at its front
 abbrev pub HasFault : List ℕ → StreamFault → Type 0
-HasFault stream BadHead = IsNoHead stream ⊎ Says stream Bad
-HasFault stream Encoding = Says stream Encoded
-HasFault stream BodyTooLong = Says stream TooLong
+HasFault stream BadHead = IsNoHead stream ⊎ SaysOfBody stream Bad
+HasFault stream Encoding = SaysOfBody stream Encoded
+HasFault stream BodyTooLong = SaysOfBody stream TooLong
 HasFault stream BodyShort = IsShort stream

@@ -16,6 +16,6 @@ abbrev pub values_of : List ℕ → List NamedValue → List (List ℕ)
 values_of name fields = map (λ (field : NamedValue). field.1) (filter (is_named name) fields)
 
 -- the first of some values
-abbrev pub first_of : List (List ℕ) → Option (List ℕ)
-first_of [] = None
-first_of (value ∷ values) = Some value
+abbrev pub first_value : List (List ℕ) → Option (List ℕ)
+first_value [] = None
+first_value (value ∷ values) = Some value

@@ -5,7 +5,7 @@ use Rattle.pid_http_stream.specs.Conducts.{Conduct, StandsStill}
 use Rattle.pid_http_stream.specs.Replies.{answer_with}
 use Rattle.pid_http_stream.specs.Requests.{Request}
 use Rattle.pid_http_stream.specs.Serving.{WritesFront}
-use Rattle.pid_http_stream.specs.declared.reply.ReplyHead.{ReplyHead}
+use Rattle.pid_http_stream.specs.declared.reply_head.ReplyHead.{ReplyHead}
 use Rattle.pid_http_stream.specs.declared.handler.Reply.{Reply}
 use Rattle.pid_http_stream.specs.declared.handler.ReplyBody.{ReplyBody}
 use Rattle.pid_http_stream.specs.declared.handler.ReplyBody.TheVariants.{Bytes, Written}
@@ -22,9 +22,9 @@ MayReply conduct a request reply b = IsBodyFor conduct a request reply.head repl
 
 -- a reply was made; or the request was given up, or its body came whole and memory lacked. left:
 -- what is left of its body
-abbrev pub IsAsked : {H E : Type 0} → Conduct H → H → Request → Result Reply E → Option (List ℕ) → H
-    → Type 0
-IsAsked conduct a request result left b =
+abbrev pub IsHandled : {H E : Type 0} → Conduct H → H → Request → Result Reply E
+    → Option (List ℕ) → H → Type 0
+IsHandled conduct a request result left b =
     MatchResult result (λ reply. MayReply conduct a request reply b)
     (λ _. StandsStill conduct a b ⊎ (IsAtEnd left × conduct.leaves a request b))
 

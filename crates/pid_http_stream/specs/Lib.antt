@@ -8,6 +8,8 @@ pub mod Endings
 pub mod Unfinished
 pub mod Connections
 pub mod Streams
+pub mod Statuses
+pub mod RequestRefusals
 pub mod Replies
 pub mod Leading
 pub mod Moments

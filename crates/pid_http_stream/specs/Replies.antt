@@ -3,13 +3,15 @@
 use Rattle.std.specs.Prelude.{ℕ, Bool, true, false, List, [], ◌++◌, length, codes, decimal}
 use Rattle.std.specs.Prelude.{unwrap_or}
 use Rattle.http.specs.StatusCode.{code_digits, reason_phrase}
+use Rattle.pid_http_stream.specs.RequestRefusals.{request_refusal_status, request_refusal_text}
+use Rattle.pid_http_stream.specs.RequestRefusals.{refusal_of_fault}
 use Rattle.pid_http_stream.specs.declared.judging.StreamFault.{StreamFault}
-use Rattle.pid_http_stream.specs.declared.judging.StreamFault.TheVariants.{BadHead, Encoding}
-use Rattle.pid_http_stream.specs.declared.judging.StreamFault.TheVariants.{BodyTooLong, BodyShort}
-use Rattle.pid_http_stream.specs.declared.reply.ReplyHead.{ReplyHead}
-use Rattle.pid_http_stream.specs.declared.reply.Content.{Content}
-use Rattle.pid_http_stream.specs.declared.reply.Content.TheVariants.{Json, Text, Bytes}
-use Rattle.pid_http_stream.specs.declared.reply.Content.TheVariants.{AllowGet, AllowPost, AllowBoth}
+use Rattle.pid_http_stream.specs.declared.refusal.RequestRefusal.{RequestRefusal}
+use Rattle.pid_http_stream.specs.declared.reply_head.ReplyHead.{ReplyHead}
+use Rattle.pid_http_stream.specs.declared.reply_head.Content.{Content}
+use Rattle.pid_http_stream.specs.declared.reply_head.Content.TheVariants.{Json, Text, Bytes}
+use Rattle.pid_http_stream.specs.declared.reply_head.Content.TheVariants.{AllowGet, AllowPost}
+use Rattle.pid_http_stream.specs.declared.reply_head.Content.TheVariants.{AllowBoth}
 
 -- what is answered to a request. The head tells the length before the body is written: `length
 -- body`, but where a handler writes the body itself and does not keep to the length that it told
@@ -69,16 +71,15 @@ reply_head status content told closes =
     ++ allow_line content ++ close_line closes ++ codes "\r\n"
 
 -- the bytes of the reply
-unfoldable pub reply_text : Answer → Bool → List ℕ
-reply_text answer closes = reply_head answer.status answer.content answer.told closes ++ answer.body
+unfoldable pub reply_bytes : Answer → Bool → List ℕ
+reply_bytes answer closes = reply_head answer.status answer.content answer.told closes
+    ++ answer.body
 
--- the answer to a stream with a fault: JSON (RFC 8259) with its number and its word
+-- the answer to a request that is refused before anything is asked for it, as JSON
+abbrev pub request_answer : RequestRefusal → Answer
+request_answer refusal = answer_with (request_refusal_status refusal) Json
+    (request_refusal_text refusal)
+
+-- the answer to a stream with a fault
 abbrev pub fault_answer : StreamFault → Answer
-fault_answer BadHead = answer_with 400 Json
-    (codes "{\"ok\":false,\"refused\":20,\"word\":\"BadHead\"}")
-fault_answer Encoding = answer_with 501 Json
-    (codes "{\"ok\":false,\"refused\":22,\"word\":\"Encoding\"}")
-fault_answer BodyTooLong = answer_with 413 Json
-    (codes "{\"ok\":false,\"refused\":21,\"word\":\"BodyTooLong\"}")
-fault_answer BodyShort = answer_with 400 Json
-    (codes "{\"ok\":false,\"refused\":23,\"word\":\"BodyShort\"}")
+fault_answer fault = request_answer (refusal_of_fault fault)

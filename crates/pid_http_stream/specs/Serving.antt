@@ -6,7 +6,7 @@ use Rattle.std.specs.Io.KnownBytes.{Appends, Consumes}
 use Rattle.pid_http_stream.specs.Conducts.{Conduct, StandsStill, AreReplies}
 use Rattle.pid_http_stream.specs.Endings.{HasFault}
 use Rattle.pid_http_stream.specs.Moments.{Moment}
-use Rattle.pid_http_stream.specs.Replies.{Answer, answer_behind, reply_head, reply_text}
+use Rattle.pid_http_stream.specs.Replies.{Answer, answer_behind, reply_head, reply_bytes}
 use Rattle.pid_http_stream.specs.Replies.{fault_answer}
 use Rattle.pid_http_stream.specs.Requests.{Request, IsRequest, HasNoRequest}
 use Rattle.pid_http_stream.specs.Streams.{closes, Ending, clean, closed, faulty, Fronts, Splits}
@@ -14,7 +14,7 @@ use Rattle.pid_http_stream.specs.Unfinished.{IsUnfinished}
 use Rattle.pid_http_stream.specs.declared.judging.StreamFault.{StreamFault}
 use Rattle.pid_http_stream.specs.declared.judging.StreamFault.TheVariants.{BadHead, Encoding}
 use Rattle.pid_http_stream.specs.declared.judging.StreamFault.TheVariants.{BodyTooLong, BodyShort}
-use Rattle.pid_http_stream.specs.declared.reply.ReplyHead.{ReplyHead}
+use Rattle.pid_http_stream.specs.declared.reply_head.ReplyHead.{ReplyHead}
 use Rattle.pid_http_stream.specs.declared.stream.StreamEnd.{StreamEnd}
 use Rattle.pid_http_stream.specs.declared.stream.StreamEnd.TheVariants.{Clean, Closed, HeadFault}
 use Rattle.pid_http_stream.specs.declared.stream.StreamEnd.TheVariants.{BodyFault, ReadFault}
@@ -22,8 +22,8 @@ use Rattle.pid_http_stream.specs.declared.stream.StreamEnd.TheVariants.{WriteFau
 use Rattle.pid_http_stream.specs.declared.stream.StreamEnd.TheVariants.{Memory, TurnsSpent}
 
 -- a count that stops at its greatest value
-abbrev pub counted : ℕ → ℕ
-counted n = min n (2 ^ 64 - 1)
+abbrev pub saturated : ℕ → ℕ
+saturated n = min n (2 ^ 64 - 1)
 
 -- before and after: the handler, and what the writer had taken
 pub record Outside (H : Type 0) : Type 0 where
@@ -59,7 +59,7 @@ pub record AnswersAll {H : Type 0} (conduct : Conduct H) (o : Outside H) (stream
   pub answered : AreReplies conduct o.handler requests replies last
   pub rests : RestsBehind conduct ending last o.handler_after
   pub written : Appends o.taken o.taken_after (replies ++ tail)
-  pub counts : count ≡ counted (length requests)
+  pub counts : count ≡ saturated (length requests)
 
 -- the requests at the front of the stream were answered, up to this rest
 pub record AnswersFront {H : Type 0} (conduct : Conduct H) (o : Outside H) (stream rest : List ℕ)
@@ -69,13 +69,13 @@ pub record AnswersFront {H : Type 0} (conduct : Conduct H) (o : Outside H) (stre
   pub fronts : Fronts stream requests rest
   pub answered : AreReplies conduct o.handler requests replies o.handler_after
   pub written : Appends o.taken o.taken_after replies
-  pub counts : count ≡ counted (length requests)
+  pub counts : count ≡ saturated (length requests)
 
 -- these bytes are the reply to the request at the front of what is left
 abbrev pub IsReplyNext : {H : Type 0} → Conduct H → H → List ℕ → List ℕ → H → Type 0
 IsReplyNext conduct a rest bytes b =
     (request : Request) × (behind : List ℕ) × (answer : Answer) × IsRequest rest request behind
-    × conduct.answers a request answer b × (bytes ≡ reply_text answer (closes request))
+    × conduct.answers a request answer b × (bytes ≡ reply_bytes answer (closes request))
 
 -- these bytes are the head of a reply to it, whose body the handler promised to write and was not
 -- asked for
@@ -88,7 +88,7 @@ IsHeadNext conduct a rest bytes b =
 -- these bytes are the refusal of what is left
 abbrev pub IsRefusalNext : {H : Type 0} → Conduct H → H → List ℕ → List ℕ → H → Type 0
 IsRefusalNext conduct a rest bytes b =
-    (fault : StreamFault) × HasFault rest fault × (bytes ≡ reply_text (fault_answer fault) true)
+    (fault : StreamFault) × HasFault rest fault × (bytes ≡ reply_bytes (fault_answer fault) true)
     × RestsBehind conduct (faulty fault) a b
 
 -- these bytes are what is written next
@@ -98,7 +98,7 @@ IsWrittenNext conduct a rest bytes b = IsReplyNext conduct a rest bytes b
 
 -- the requests at the front of the stream were answered, and a front of what is written next stands
 -- behind their replies
-pub record BreaksOff {H : Type 0} (conduct : Conduct H) (o : Outside H) (stream : List ℕ)
+pub record BreaksOffInReply {H : Type 0} (conduct : Conduct H) (o : Outside H) (stream : List ℕ)
     (count : ℕ) : Type 0 where
   pub rest : List ℕ
   pub mid : H
@@ -191,8 +191,8 @@ is_head_fault BodyShort = false
 abbrev pub RefusesLast : {H : Type 0} → Bool → Conduct H → Outside H → List ℕ → ℕ → Type 0
 RefusesLast of_head conduct o stream count =
     (fault : StreamFault) × (is_head_fault fault ≡ of_head) × (answered : ℕ)
-    × AnswersAll conduct o stream (faulty fault) (reply_text (fault_answer fault) true) answered
-    × (count ≡ counted (answered + 1))
+    × AnswersAll conduct o stream (faulty fault) (reply_bytes (fault_answer fault) true) answered
+    × (count ≡ saturated (answered + 1))
 
 -- the stream was served, and so many replies were written whole: what is known at each end
 abbrev pub IsServed : {H : Type 0} → Conduct H → Outside H → List ℕ → Option (List ℕ) → StreamEnd
@@ -204,5 +204,5 @@ IsServed conduct o stream left BodyFault count = RefusesLast false conduct o str
 IsServed conduct o stream left ReadFault count = StopsReading conduct o stream left count
 IsServed conduct o stream left TurnsSpent count = StopsReading conduct o stream left count
 IsServed conduct o stream left Memory count = LacksMemory conduct o stream count
-IsServed conduct o stream left WriteFault count = BreaksOff conduct o stream count
+IsServed conduct o stream left WriteFault count = BreaksOffInReply conduct o stream count
 IsServed conduct o stream left StoreFault count = BreaksOffInBody conduct o stream count

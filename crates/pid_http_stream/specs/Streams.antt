@@ -21,10 +21,10 @@ pub data Ending : Type 0 where
   faulty : StreamFault → Ending
 
 -- what is left behind the last request ends the stream so
-abbrev pub Ends : List ℕ → Ending → Type 0
-Ends rest clean = IsLeftover rest
-Ends rest closed = ⊥
-Ends rest (faulty fault) = HasFault rest fault
+abbrev pub EndsStream : List ℕ → Ending → Type 0
+EndsStream rest clean = IsLeftover rest
+EndsStream rest closed = ⊥
+EndsStream rest (faulty fault) = HasFault rest fault
 
 -- these requests stand at the front of the stream, none of which closes it, and this rest behind
 -- them
@@ -36,7 +36,7 @@ Fronts stream (request ∷ requests) rest =
 
 -- the whole stream is these requests, and ends so
 abbrev pub Splits : List ℕ → List Request → Ending → Type 0
-Splits stream [] ending = Ends stream ending
+Splits stream [] ending = EndsStream stream ending
 Splits stream (request ∷ requests) ending =
     (behind : List ℕ) × IsRequest stream request behind
     × (((closes request ≡ true) × (requests ≡ []) × (ending ≡ closed))

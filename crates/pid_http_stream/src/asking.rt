@@ -18,13 +18,13 @@ ghost use Rattle.std.specs.Io.KnownBytes.{Consumes, IsAtEnd};
 ghost use Rattle.httparse.specs.Grammar.{RequestHead};
 ghost use Rattle.pid_http_stream.specs.Bodies.{SpendsTurns, turns_at};
 ghost use Rattle.pid_http_stream.specs.BodyLengths.{longest_body};
-ghost use Rattle.pid_http_stream.specs.Handling.{IsAsked};
-ghost use Rattle.pid_http_stream.specs.Steps.Intakes.{IsWaiting, StandsAt};
+ghost use Rattle.pid_http_stream.specs.Handling.{IsHandled};
+ghost use Rattle.pid_http_stream.specs.Steps.Intakes.{WaitsForRequest, StandsAt};
 ghost use Rattle.pid_http_stream.specs.HeadParts.{IsHeadOf};
 ghost use Rattle.pid_http_stream.specs.Leading.{Leads};
 ghost use Rattle.pid_http_stream.specs.Moments.{AllSince};
 ghost use Rattle.pid_http_stream.specs.Requests.{Request};
-ghost use Rattle.pid_http_stream.specs.Steps.Loop.{Asks, asked_so};
+ghost use Rattle.pid_http_stream.specs.Steps.Loop.{AsksHandler, asked_so};
 
 use crate::body_input::{BodyFault, BodyInput};
 use crate::handler::{Handler, NoReply, Reply, Wanted};
@@ -85,7 +85,7 @@ fn ask_buffered<H: Handler, B: Input>(
     ensures answered { Leads H.is_good H.stands handler.old handler.new
         (λ v w. (request : Request) → IsHeadOf head.now request.head
         → B.to_come body.old ≡ Some request.body → length request.body ≤ longest_body
-        → IsAsked H.conduct v request result (B.to_come body.new) w) }
+        → IsHandled H.conduct v request result (B.to_come body.new) w) }
 {
     match read_whole(alloc, told, body) {
         Err(end) => Err(end),
@@ -107,7 +107,7 @@ fn ask<H: Handler, B: Input>(
     ensures answered { Leads H.is_good H.stands handler.old handler.new
         (λ v w. (request : Request) → IsHeadOf head.now request.head
         → B.to_come body.old ≡ Some request.body → length request.body ≤ longest_body
-        → IsAsked H.conduct v request result (B.to_come body.new) w) }
+        → IsHandled H.conduct v request result (B.to_come body.new) w) }
 {
     match handler.question(head) {
         Err(end) => Err(end),
@@ -159,7 +159,7 @@ pub(crate) fn ask_over<H: Handler, I: Incoming<W>, W: Output>(
     requires { StandsAt head.now.bytes.now head.now.fields.now head.now.spans told }
     ensures becomes { H.becomes handler.old handler.new }
     ensures asked { Leads H.is_good H.stands handler.old handler.new
-        (λ v w. IfSome (I.to_come input.old) (λ _. Asks H.conduct
+        (λ v w. IfSome (I.to_come input.old) (λ _. AsksHandler H.conduct
         (record { a = v; b = w; input = I.to_come input.old; input_after = I.to_come input.new })
         (record {
           held = head.now.bytes.now;
@@ -169,7 +169,7 @@ pub(crate) fn ask_over<H: Handler, I: Incoming<W>, W: Output>(
         }) result)) }
     ensures turns { SpendsTurns (turns_at (I.reads input.old) left.old)
         (turns_at (I.reads input.new) left.new) }
-    ensures waits { AllSince (IsWaiting head.now.bytes.now (I.to_come input.old)
+    ensures waits { AllSince (WaitsForRequest head.now.bytes.now (I.to_come input.old)
         (W.taken output.now)) (I.moments input.old) (I.moments input.new) }
     ensures fault { result ≡ Asked.Broken BodyFault.ReadFault → IsSome (I.read_fault input.new) }
     ensures spent { result ≡ Asked.Broken BodyFault.TurnsSpent → left.new ≡ 0 }

@@ -1,7 +1,7 @@
 //! The fields of a head, by their names.
 ghost use Rattle.std.specs.Prelude.{◌≡◌, ℕ, ◌≤◌, ◌<◌, List, length, map, All, option_copied};
 ghost use Rattle.httparse.specs.Spans.{header_bytes, IsHeaderWithin};
-ghost use Rattle.pid_http_stream.specs.FieldValues.{is_named, values_of, first_of};
+ghost use Rattle.pid_http_stream.specs.FieldValues.{is_named, values_of, first_value};
 
 use httparse::spans::HeaderSpan;
 
@@ -30,7 +30,7 @@ pub fn count_named(buf: &[u8], fields: &[HeaderSpan], name: &[u8]) -> usize
 /// The value of the first field with this name, in any case.
 pub fn first_named<'b>(buf: &'b [u8], fields: &[HeaderSpan], name: &[u8]) -> Option<&'b [u8]>
     requires { All (IsHeaderWithin (length buf.now)) fields.now }
-    ensures { option_copied result ≡ first_of
+    ensures { option_copied result ≡ first_value
         (values_of name.now (map (header_bytes buf.now) fields.now)) }
 {
     for field in fields {

@@ -3,14 +3,14 @@ ghost use Rattle.std.specs.Prelude.{◌≡◌, ◌≤◌, ℕ, List, [], length,
 ghost use Rattle.std.specs.Io.KnownBytes.{IsAtEnd};
 ghost use Rattle.httparse.specs.Grammar.{RequestHead};
 ghost use Rattle.pid_http_stream.specs.BodyLengths.{longest_body};
-ghost use Rattle.pid_http_stream.specs.Handling.{MayReply, IsAsked, WritesBody};
+ghost use Rattle.pid_http_stream.specs.Handling.{MayReply, IsHandled, WritesBody};
 ghost use Rattle.pid_http_stream.specs.HeadParts.{IsHeadOf};
 ghost use Rattle.pid_http_stream.specs.Leading.{Leads};
 ghost use Rattle.pid_http_stream.specs.Replies.{Answer};
 ghost use Rattle.pid_http_stream.specs.Requests.{Request};
 
 use crate::head::Head;
-use crate::reply::ReplyHead;
+use crate::reply_head::ReplyHead;
 use pid_ident::{Input, Output};
 use thiserror::Error;
 
@@ -65,7 +65,7 @@ pub trait Handler {
     ghost use Rattle.pid_http_stream.specs.Replies.{Answer, answer_behind};
     ghost use Rattle.pid_http_stream.specs.Requests.{Request};
     ghost use Rattle.pid_http_stream.specs.declared.handler.Wanted.{Wanted};
-    ghost use Rattle.pid_http_stream.specs.declared.reply.ReplyHead.{ReplyHead};
+    ghost use Rattle.pid_http_stream.specs.declared.reply_head.ReplyHead.{ReplyHead};
 
     /// What a head asks for that is answered once its body is in memory.
     type Question: Drop;
@@ -114,7 +114,7 @@ pub trait Handler {
         ensures answered { Leads is_good stands self.old self.new
             (λ v w. (request : Request) → IsHeadOf head.now request.head
             → means (Wanted.Buffered question) request.head → request.body ≡ body.now
-            → IsAsked conduct v request result (Some []) w) };
+            → IsHandled conduct v request result (Some []) w) };
 
     /// Answers a request whose body is still to be read, of at most `LONGEST_BODY` bytes. It is to
     /// read the body to its end before it replies; where the body fails it gives the request up.
@@ -131,7 +131,7 @@ pub trait Handler {
             (λ v w. (request : Request) → IsHeadOf head.now request.head
             → means (Wanted.Streamed upload) request.head
             → B.to_come body.old ≡ Some request.body → length request.body ≤ longest_body
-            → IsAsked conduct v request result (B.to_come body.new) w) };
+            → IsHandled conduct v request result (B.to_come body.new) w) };
 
     /// Writes the body that the last reply promised, or at a fault a front of it.
     fn write_body<W: Output>(&mut self, out: &mut W) -> Result<(), BodyStop>

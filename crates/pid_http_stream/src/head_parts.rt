@@ -3,7 +3,7 @@ ghost use Rattle.std.specs.Prelude.{◌≡◌, length, take, All, option_copied}
 ghost use Rattle.httparse.specs.Grammar.{RequestHead};
 ghost use Rattle.httparse.specs.Spans.{IsHeaderWithin};
 ghost use Rattle.pid_http_stream.specs.Connections.{asks_to_close as asks};
-ghost use Rattle.pid_http_stream.specs.FieldValues.{values_of, first_of};
+ghost use Rattle.pid_http_stream.specs.FieldValues.{values_of, first_value};
 ghost use Rattle.pid_http_stream.specs.HeadParts.{IsHeadOf};
 ghost use Rattle.pid_http_stream.specs.Requests.{fields_of};
 
@@ -48,7 +48,7 @@ impl<'b> Head<'b> {
     /// The value of the first field with this name, in any case, without the blanks around it.
     pub fn first_named(&self, name: &[u8]) -> Option<&'b [u8]>
         ensures { (head : RequestHead) → IsHeadOf self.now head
-            → option_copied result ≡ first_of (values_of name.now (fields_of head)) }
+            → option_copied result ≡ first_value (values_of name.now (fields_of head)) }
     {
         first_named(self.bytes, self.present(), name)
     }

@@ -24,8 +24,8 @@ ghost use Rattle.pid_http_stream.specs.Steps.Intakes.{
   FillStops,
   HeadStops,
   IsHeadRead,
-  IsJudged,
-  IsWaiting,
+  IsHeadJudged,
+  WaitsForRequest,
   StaysBut,
 };
 ghost use Rattle.pid_http_stream.specs.Moments.{AllSince, IsMoment};
@@ -149,7 +149,7 @@ fn judge_more(held: &[u8], before: usize, fields: &mut [HeaderSpan]) -> Judged
     requires wants { IsHeadUnfinished (take before held.now) }
     requires before { before ≤ length held.now }
     requires room { length fields.old ≡ MOST_FIELDS }
-    ensures { IsJudged held.now fields.new result }
+    ensures { IsHeadJudged held.now fields.new result }
 {
     let (_, piece) = held.split_at(before);
     if ends_line(piece) {
@@ -175,7 +175,8 @@ pub(crate) fn read_head<I: Incoming<W>, W: Output>(
         (turns_at (I.reads input.new) left.new) }
     ensures pace { left.new * READ_SIZE + length held.new.items
         ≤ left.old * READ_SIZE + length held.old.items }
-    ensures waits { AllSince (IsWaiting held.old.items (I.to_come input.old) (W.taken output.now))
+    ensures waits { AllSince
+        (WaitsForRequest held.old.items (I.to_come input.old) (W.taken output.now))
         (I.moments input.old) (I.moments input.new) }
     ensures stopped { HeadStops result (I.read_fault input.new) left.new }
     ensures goes { I.goes input.old input.new }

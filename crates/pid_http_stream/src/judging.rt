@@ -17,14 +17,16 @@ ghost use Rattle.std.specs.Prelude.{
 ghost use Rattle.httparse.specs.Grammar.{HasNoRequest as HasNoHeadYet};
 ghost use Rattle.httparse.specs.Spans.{header_bytes, IsRequestWithin, IsRequestOf};
 ghost use Rattle.httparse.specs.declared.spans.HeaderSpan.{HeaderSpan as FieldSpan};
-ghost use Rattle.pid_http_stream.specs.Steps.Intakes.{IsJudged};
+ghost use Rattle.pid_http_stream.specs.Steps.Intakes.{IsHeadJudged};
 ghost use Rattle.pid_http_stream.specs.Leftovers.{AreLineEnds};
 ghost use Rattle.pid_http_stream.specs.Steps.LineScans.{blank_after};
 ghost use Rattle.pid_http_stream.specs.Unfinished.{CanBeHead};
 
 use crate::body_length::{BodyLength, length_of};
+use crate::refusal::RequestRefusal;
 use httparse::Status;
 use httparse::spans::{HeaderSpan, RequestSpans, parse_request};
+use thiserror::Error;
 
 /// The most fields of a head.
 pub const MOST_FIELDS: usize = 32;
@@ -33,17 +35,34 @@ pub const MOST_FIELDS: usize = 32;
 pub const LONGEST_HEAD: usize = 16_384;
 
 /// Why a stream is refused.
-#[derive(Clone, Copy, Debug, PartialEq, Eq)]
+#[derive(Clone, Copy, Debug, PartialEq, Eq, Error)]
 pub enum StreamFault {
     /// What stands there is no head, has too many fields or is too long, or its Content-Length is
     /// no length.
+    #[error("no head of a request, or one that is too long or says no length")]
     BadHead,
-    /// The body is sent in a transfer encoding.
+    #[error("the body is sent in a transfer encoding")]
     Encoding,
-    /// The body is longer than a body may be.
+    #[error("the body is longer than a body may be")]
     BodyTooLong,
-    /// The stream ends within the body.
+    #[error("the stream ends within the body")]
     BodyShort,
+}
+
+impl StreamFault {
+    ghost use Rattle.pid_http_stream.specs.RequestRefusals.{refusal_of_fault};
+
+    /// The refusal that is replied.
+    pub fn refusal(self) -> RequestRefusal
+        ensures { result ≡ refusal_of_fault self }
+    {
+        match self {
+            StreamFault::BadHead => RequestRefusal::BadHead,
+            StreamFault::Encoding => RequestRefusal::Encoding,
+            StreamFault::BodyTooLong => RequestRefusal::BodyTooLong,
+            StreamFault::BodyShort => RequestRefusal::BodyShort,
+        }
+    }
 }
 
 /// What stands at the front of the bytes that came.
@@ -87,7 +106,7 @@ fn judge_length(held: &[u8], fields: &[HeaderSpan], spans: RequestSpans) -> Judg
     requires found { IsRequestOf held.now fields.now spans }
     requires short { spans.len ≤ LONGEST_HEAD }
     requires few { spans.headers ≤ MOST_FIELDS }
-    ensures { IsJudged held.now fields.now result }
+    ensures { IsHeadJudged held.now fields.now result }
 {
     match length_of(held, &fields[..spans.headers]) {
         BodyLength::Encoded => Judged::Faulty(StreamFault::Encoding),
@@ -101,7 +120,7 @@ fn judge_length(held: &[u8], fields: &[HeaderSpan], spans: RequestSpans) -> Judg
 pub(crate) fn judge_unended(held: &[u8]) -> Judged
     requires none { HasNoHeadYet held.now }
     requires begins { CanBeHead held.now }
-    ensures { (fields : List FieldSpan) → IsJudged held.now fields result }
+    ensures { (fields : List FieldSpan) → IsHeadJudged held.now fields result }
 {
     if held.len() > LONGEST_HEAD {
         return Judged::Faulty(StreamFault::BadHead);
@@ -112,7 +131,7 @@ pub(crate) fn judge_unended(held: &[u8]) -> Judged
 /// Judges the bytes that came so far; the spans of a head's fields go into `fields`.
 pub(crate) fn judge(held: &[u8], fields: &mut [HeaderSpan]) -> Judged
     requires { length fields.old ≡ MOST_FIELDS }
-    ensures { IsJudged held.now fields.new result }
+    ensures { IsHeadJudged held.now fields.new result }
 {
     match parse_request(held, fields) {
         Ok(Status::Complete(spans)) => {

@@ -2,39 +2,21 @@
 ghost use Rattle.std.specs.Prelude.{◌≡◌, ◌++◌, codes, ℕ, IfErr, Some, true};
 ghost use Rattle.pid_ident.specs.Sending.{Sends};
 ghost use Rattle.pid_http_stream.specs.Replies.{
-  Answer,
   phrase_of as phrase_for,
   type_line as line_of_type,
   allow_line as line_of_allow,
   close_line as line_of_close,
-  reply_text,
+  reply_bytes,
   answer_behind,
   fault_answer,
-  answer_with,
 };
+ghost use Rattle.pid_http_stream.specs.RequestRefusals.{refusal_of_fault, request_refusal_text};
 
 use crate::judging::StreamFault;
+use crate::reply_head::{Content, ReplyHead};
 use http::StatusCode;
 use itoa::Buffer;
 use pid_ident::{Output, WriteFault, write_parts};
-
-/// What a reply's body is. Only a reply that names the methods allowed has none.
-#[derive(Clone, Copy, Debug, PartialEq, Eq)]
-pub enum Content {
-    Json,
-    Text,
-    Bytes,
-    AllowGet,
-    AllowPost,
-    AllowBoth,
-}
-
-/// A reply without its body.
-#[derive(Clone, Copy, Debug, PartialEq, Eq)]
-pub struct ReplyHead {
-    pub status: StatusCode,
-    pub content: Content,
-}
 
 // The phrase of a status; none where it has none.
 fn phrase_of(status: StatusCode) -> &'static [u8]
@@ -123,7 +105,7 @@ pub(crate) fn write_reply<W: Output>(
     out: &mut W,
 ) -> Result<(), WriteFault>
     ensures sent { Sends result (W.taken out.old) (W.taken out.new)
-        (reply_text (answer_behind head told body.now) closes) }
+        (reply_bytes (answer_behind head told body.now) closes) }
     ensures fault { IfErr result (λ f. W.write_fault out.new ≡ Some f) }
 {
     let mut digits = Buffer::new();
@@ -136,48 +118,29 @@ pub(crate) fn write_reply<W: Output>(
     write_lines(out, status, phrase, content, length, allow, close, body)
 }
 
-// Writes a refusal, which ends its stream.
-fn write_refusal<W: Output>(status: StatusCode, body: &[u8], out: &mut W) -> Result<(), WriteFault>
-    ensures sent { Sends result (W.taken out.old) (W.taken out.new)
-        (reply_text (answer_with status Content.Json body.now) true) }
-    ensures fault { IfErr result (λ f. W.write_fault out.new ≡ Some f) }
-{
-    let content = Content::Json;
-    write_reply(
-        ReplyHead { status, content },
-        body.len() as u64,
-        body,
-        true,
-        out,
-    )
-}
-
-/// Writes the reply to a stream that ends with a fault.
-pub(crate) fn write_fault<W: Output>(fault: StreamFault, out: &mut W) -> Result<(), WriteFault>
-    ensures sent { Sends result (W.taken out.old) (W.taken out.new)
-        (reply_text (fault_answer fault) true) }
-    ensures fault { IfErr result (λ f. W.write_fault out.new ≡ Some f) }
+// The body of the reply to a fault: the compact JSON of its refusal, as `serde_json` writes it. It
+// takes no memory, so that each fault is replied to.
+fn fault_text(fault: StreamFault) -> &'static [u8]
+    ensures { result.now ≡ request_refusal_text (refusal_of_fault fault) }
 {
     match fault {
-        StreamFault::BadHead => write_refusal(
-            StatusCode::BAD_REQUEST,
-            br#"{"ok":false,"refused":20,"word":"BadHead"}"#,
-            out,
-        ),
-        StreamFault::Encoding => write_refusal(
-            StatusCode::NOT_IMPLEMENTED,
-            br#"{"ok":false,"refused":22,"word":"Encoding"}"#,
-            out,
-        ),
-        StreamFault::BodyTooLong => write_refusal(
-            StatusCode::PAYLOAD_TOO_LARGE,
-            br#"{"ok":false,"refused":21,"word":"BodyTooLong"}"#,
-            out,
-        ),
-        StreamFault::BodyShort => write_refusal(
-            StatusCode::BAD_REQUEST,
-            br#"{"ok":false,"refused":23,"word":"BodyShort"}"#,
-            out,
-        ),
+        StreamFault::BadHead => br#"{"ok":false,"refused":20,"word":"BadHead"}"#,
+        StreamFault::Encoding => br#"{"ok":false,"refused":22,"word":"Encoding"}"#,
+        StreamFault::BodyTooLong => br#"{"ok":false,"refused":21,"word":"BodyTooLong"}"#,
+        StreamFault::BodyShort => br#"{"ok":false,"refused":23,"word":"BodyShort"}"#,
     }
+}
+
+/// Writes the reply to a stream that ends with a fault, which closes the connection.
+pub(crate) fn write_fault<W: Output>(fault: StreamFault, out: &mut W) -> Result<(), WriteFault>
+    ensures sent { Sends result (W.taken out.old) (W.taken out.new)
+        (reply_bytes (fault_answer fault) true) }
+    ensures fault { IfErr result (λ f. W.write_fault out.new ≡ Some f) }
+{
+    let head = ReplyHead {
+        status: fault.refusal().status(),
+        content: Content::Json,
+    };
+    let body = fault_text(fault);
+    write_reply(head, body.len() as u64, body, true, out)
 }

@@ -3,13 +3,14 @@ ghost use Rattle.std.specs.Prelude.{◌≡◌, true, false, None, [], IsSome};
 ghost use Rattle.std.specs.Io.KnownBytes.{Appends};
 ghost use Rattle.pid_http_stream.specs.Handling.{MayReply};
 ghost use Rattle.pid_http_stream.specs.Leading.{Leads};
-ghost use Rattle.pid_http_stream.specs.Replies.{answer_with, reply_head, reply_text};
+ghost use Rattle.pid_http_stream.specs.Replies.{answer_with, reply_head, reply_bytes};
 ghost use Rattle.pid_http_stream.specs.Requests.{Request};
 ghost use Rattle.pid_http_stream.specs.Serving.{outside};
 ghost use Rattle.pid_http_stream.specs.Steps.Loop.{IsSent, SendsText};
 
 use crate::handler::{BodyStop, Handler, Reply, ReplyBody};
-use crate::reply::{ReplyHead, write_reply};
+use crate::reply::write_reply;
+use crate::reply_head::ReplyHead;
 use pid_ident::Output;
 
 /// How far a reply was written.
@@ -24,7 +25,7 @@ pub(crate) enum Sent {
 // Writes a reply whose body is there.
 fn send_bytes<W: Output>(head: ReplyHead, body: &[u8], closes: bool, out: &mut W) -> Sent
     ensures sent { SendsText result (W.taken out.old) (W.taken out.new)
-        (reply_text (answer_with head.status head.content body.now) closes) }
+        (reply_bytes (answer_with head.status head.content body.now) closes) }
     ensures fault { result ≡ Sent.WriteFault → IsSome (W.write_fault out.new) }
 {
     match write_reply(head, body.len() as u64, body, closes, out) {

@@ -17,14 +17,14 @@ ghost use Rattle.std.specs.Prelude.{
 };
 ghost use Rattle.pid_http_stream.specs.Bodies.{SpendsTurns, turns_at};
 ghost use Rattle.pid_http_stream.specs.Causes.{EndsFor, LastState};
-ghost use Rattle.pid_http_stream.specs.Steps.Intakes.{IsWaiting, StandsAt};
+ghost use Rattle.pid_http_stream.specs.Steps.Intakes.{WaitsForRequest, StandsAt};
 ghost use Rattle.pid_http_stream.specs.Leading.{Leads};
 ghost use Rattle.pid_http_stream.specs.Moments.{AllSince};
 ghost use Rattle.pid_http_stream.specs.Serving.{IsCaughtUp, IsServed, outside};
 ghost use Rattle.pid_http_stream.specs.Steps.Loop.{
   EndsBroken,
   EndsSo,
-  IsRefused,
+  WritesRefusal,
   Steps,
   answered_so,
   count_with,
@@ -97,7 +97,7 @@ fn drop_front(held: &mut Vec<u8>, count: usize)
 
 // Writes a refusal.
 fn refuse<W: Output>(fault: StreamFault, out: &mut W) -> StreamEnd
-    ensures refused { IsRefused fault (W.taken out.old) (W.taken out.new) result }
+    ensures refused { WritesRefusal fault (W.taken out.old) (W.taken out.new) result }
     ensures fault { result ≡ StreamEnd.WriteFault → IsSome (W.write_fault out.new) }
 {
     match write_fault(fault, out) {
@@ -162,7 +162,8 @@ fn serve_request<H: Handler, I: Incoming<W>, W: Output>(
         }) result)) }
     ensures turns { SpendsTurns (turns_at (I.reads input.old) left.old)
         (turns_at (I.reads input.new) left.new) }
-    ensures waits { AllSince (IsWaiting head.now.bytes.now (I.to_come input.old) (W.taken out.old))
+    ensures waits { AllSince
+        (WaitsForRequest head.now.bytes.now (I.to_come input.old) (W.taken out.old))
         (I.moments input.old) (I.moments input.new) }
     ensures ended { EndsSo result (record {
       read_fault = I.read_fault input.new;

@@ -1,6 +1,7 @@
 //! A handler with few paths.
-ghost use Rattle.std.specs.Prelude.{◌≡◌, Err, IsSome};
+ghost use Rattle.std.specs.Prelude.{◌≡◌, Err, IsSome, IsTrue};
 ghost use Rattle.pid_http_stream.specs.Handling.{WritesBody};
+ghost use Rattle.pid_http_stream.specs.Statuses.{allows_body};
 
 use http::StatusCode;
 use pid_http_stream::{
@@ -19,12 +20,9 @@ pub struct Desk {
     pub store_fails: bool,
 }
 
-fn reply(
-    alloc: Global,
-    status: StatusCode,
-    content: Content,
-    body: &[u8],
-) -> Result<Reply, NoReply> {
+fn reply(alloc: Global, status: StatusCode, content: Content, body: &[u8]) -> Result<Reply, NoReply>
+    requires { IsTrue (allows_body status) }
+{
     match Vec::from_slice(alloc, body) {
         Err(_) => Err(NoReply),
         Ok(body) => Ok(Reply {

@@ -8,7 +8,7 @@ use Rattle.pid_service.specs.declared.registry.Registry.{Registry}
 use Rattle.pid_service.specs.Lives.{showing}
 use Rattle.pid_service.specs.Registries.{HasCleanDisk, is_live}
 use Rattle.pid_http_stream.specs.Leading.{Leads}
-use Rattle.pid_http.specs.Known.{Known, IsKnown, LivesOn}
+use Rattle.pid_http.specs.Known.{Known, IsKnownOf, LivesOn}
 
 module _ {S : Type 0} (store : Ghosts S) where
   -- Calls of its life led from the one to the other, and while the disk returns what was written,
@@ -16,7 +16,8 @@ module _ {S : Type 0} (store : Ghosts S) where
   pub record Goes (old new : Registry S store)
       (Next : Known → List Call → Known → Type 0) : Type 0 where
     pub lives : LivesOn store old new
-    pub served : Leads (HasCleanDisk store) (IsKnown store) old new (λ k now. Next k lives.calls now)
+    pub served : Leads (HasCleanDisk store) (IsKnownOf store) old new
+        (λ k now. Next k lives.calls now)
 
 -- From here on proofs: calls after calls, and the laws that what answers streams gives for `stays`
 -- and `joins`.

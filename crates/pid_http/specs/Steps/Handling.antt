@@ -8,11 +8,11 @@ use Rattle.pid_moderation.specs.Writes.{tree_of}
 use Rattle.pid_tree.specs.Printing.{print}
 use Rattle.pid_http_stream.specs.Replies.{answer_behind}
 use Rattle.pid_http_stream.specs.Requests.{Request}
-use Rattle.pid_http_stream.specs.declared.reply.ReplyHead.{ReplyHead}
+use Rattle.pid_http_stream.specs.declared.reply_head.ReplyHead.{ReplyHead}
 use Rattle.pid_http.specs.Answering.{answer_over, text_answer}
 use Rattle.pid_http.specs.Errands.{Errand, errand_of}
 use Rattle.pid_http.specs.Known.{Known, Live, Between, Down, Told, ByCalls}
-use Rattle.pid_http.specs.Serving.{IsMet, AnsweredOver, IsPromised, IsTextHead, serving}
+use Rattle.pid_http.specs.Serving.{IsErrandMet, AnsweredOver, IsPromised, IsTextHead, serving}
 
 -- the text of the history that is shown
 abbrev pub WritesOver : Known → List ℕ → Known → Type 0
@@ -21,8 +21,8 @@ WritesOver (Between before behind) body k = k ≡ Between before behind
 WritesOver Down body k = k ≡ Down
 
 -- and nothing is sent for it
-abbrev pub Writes : {S : Type 0} (store : Ghosts S) → Told store → List ℕ → Told store → Type 0
-Writes store t body u = ByCalls store t u
+abbrev pub WritesText : {S : Type 0} (store : Ghosts S) → Told store → List ℕ → Told store → Type 0
+WritesText store t body u = ByCalls store t u
     (λ calls. AreNothing calls × WritesOver t.known body u.known)
 
 same_answer : (h : History) (head : ReplyHead) (told : ℕ) (body : List ℕ) → IsTextHead h head told
@@ -43,11 +43,11 @@ nothing_then (call ∷ calls) more (is, p) q = (is, nothing_then calls more p q)
 text_met : (a : Known) (errand : Errand) (head : ReplyHead) (told : ℕ) (calls : List Call)
     (b : Known) (body : List ℕ) (more : List Call) (c : Known)
     → IsPromised a errand head told calls b → AreNothing more → WritesOver b body c
-    → IsMet a errand (answer_behind head told body) (calls ++ more) c
+    → IsErrandMet a errand (answer_behind head told body) (calls ++ more) c
 unfolding answer_over
 text_met (Live h) errand head told calls b body more c (asked, is, none, same) none_more writes =
     let w : WritesOver (Live h) body c = subst (λ k. WritesOver k body c) same writes in
-    subst (λ x. IsMet (Live h) x (answer_behind head told body) (calls ++ more) c) (sym asked)
+    subst (λ x. IsErrandMet (Live h) x (answer_behind head told body) (calls ++ more) c) (sym asked)
     (AnsweredOver (same_answer h head told body is w.0)
     (nothing_then calls more none none_more) w.1)
 text_met (Between before behind) errand head told calls b body more c promised none_more writes =
@@ -57,7 +57,7 @@ text_met Down errand head told calls b body more c promised none_more writes = a
 -- what was promised and then written is the answer
 pub exports_text : {S : Type 0} {store : Ghosts S} (a : Told store) (request : Request)
     (head : ReplyHead) (told : ℕ) (b : Told store) (body : List ℕ) (c : Told store)
-    → (serving store).promises a request head told b → Writes store b body c
+    → (serving store).promises a request head told b → WritesText store b body c
     → (serving store).answers a request (answer_behind head told body) c
 exports_text a request head told b body c p w = record {
   same_life = w.same_life ∙ p.same_life;

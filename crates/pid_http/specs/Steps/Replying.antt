@@ -25,7 +25,7 @@ use Rattle.pid_http_stream.specs.declared.handler.Reply.{Reply}
 use Rattle.pid_http_stream.specs.declared.handler.ReplyBody.{ReplyBody}
 use Rattle.pid_http_stream.specs.declared.handler.ReplyBody.TheVariants.{Bytes, Written}
 use Rattle.pid_http_stream.specs.declared.head.Head.{Head}
-use Rattle.pid_http_stream.specs.declared.reply.ReplyHead.{ReplyHead}
+use Rattle.pid_http_stream.specs.declared.reply_head.ReplyHead.{ReplyHead}
 use Rattle.pid_http_requests.specs.Senders.{Sending, sender}
 use Rattle.pid_http_requests.specs.declared.format.Format.{Format}
 use Rattle.pid_http_requests.specs.declared.sender.Sender.{Sender}
@@ -33,7 +33,7 @@ use Rattle.pid_http_replies.specs.Outcomes.{outcome_answer}
 use Rattle.pid_http.specs.Errands.{Errand}
 use Rattle.pid_http.specs.Known.{Known, Live, Between, Down}
 use Rattle.pid_http.specs.Steps.Going.{Goes}
-use Rattle.pid_http.specs.Serving.{IsMet, IsPromised}
+use Rattle.pid_http.specs.Serving.{IsErrandMet, IsPromised}
 
 -- a sender by its bytes
 abbrev pub sending_of : Sender → Sending
@@ -49,23 +49,23 @@ answer_or format found (Ok x) = found x
 answer_or format found (Err refusal) = outcome_answer format (Err refusal)
 
 -- the items that were found, by their texts
-abbrev pub pairs_in : Option (Vec Item Global) → Option (List (List ℕ × List ℕ))
-pairs_in found = option_map (λ items. map pair_of items.items) found
+abbrev pub pairs_found : Option (Vec Item Global) → Option (List (List ℕ × List ℕ))
+pairs_found found = option_map (λ items. map pair_of items.items) found
 
 -- what a command is answered, by which call, and what is known of the registry then
-abbrev pub IsObeyed : Asked → Known → Result Outcome Refusal → List Call → Known → Type 0
-IsObeyed c (Live h) result calls k =
+abbrev pub IsCommandMet : Asked → Known → Result Outcome Refusal → List Call → Known → Type 0
+IsCommandMet c (Live h) result calls k =
     ((result ≡ answer (judge (views_of h) c)) × (calls ≡ obeyed c result true ∷ [])
     × (k ≡ Live (after h c)))
     ⊎ (IsErrAnd result IsFault × (((calls ≡ obeyed c result true ∷ []) × (k ≡ Live h))
     ⊎ ((calls ≡ obeyed c result false ∷ []) × (k ≡ Between h (after h c)))))
-IsObeyed c (Between before behind) result calls k = (result ≡ Err refusals.Failed)
+IsCommandMet c (Between before behind) result calls k = (result ≡ Err refusals.Failed)
     × AreNothing calls × (k ≡ Between before behind)
-IsObeyed c Down result calls k = (result ≡ Err refusals.Failed) × AreNothing calls × (k ≡ Down)
+IsCommandMet c Down result calls k = (result ≡ Err refusals.Failed) × AreNothing calls × (k ≡ Down)
 
 -- the body is that of an answer, or is promised
 abbrev pub IsBodyMet : Known → Errand → ReplyHead → ReplyBody → List Call → Known → Type 0
-IsBodyMet k errand head (Bytes body) calls now = IsMet k errand
+IsBodyMet k errand head (Bytes body) calls now = IsErrandMet k errand
     (answer_with head.status head.content body.items) calls now
 IsBodyMet k errand head (Written told) calls now = IsPromised k errand head told calls now
 
@@ -73,7 +73,7 @@ IsBodyMet k errand head (Written told) calls now = IsPromised k errand head told
 abbrev pub IsMetBy : {E : Type 0} → Known → Errand → Result Reply E → List Call → Known → Type 0
 IsMetBy k errand result calls now = MatchResult result
     (λ reply. IsBodyMet k errand reply.head reply.body calls now)
-    (λ _. (given : Answer) × IsMet k errand given calls now)
+    (λ _. (given : Answer) × IsErrandMet k errand given calls now)
 
 -- The same where the body is read as it comes: it may have been given up, and memory lacked only
 -- with the body at its end.
@@ -83,7 +83,7 @@ IsMetBehind k errand result left calls now =
     MatchResult result
     (λ reply. IsBodyMet k errand reply.head reply.body calls now)
     (λ _. (AreNothing calls × (k ≡ now))
-    ⊎ (IsAtEnd left × ((given : Answer) × IsMet k errand given calls now)))
+    ⊎ (IsAtEnd left × ((given : Answer) × IsErrandMet k errand given calls now)))
 
 -- what comes of it
 abbrev pub Replies : {S E : Type 0} → (store : Ghosts S) → Registry S store → Registry S store

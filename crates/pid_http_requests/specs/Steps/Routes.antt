@@ -8,18 +8,18 @@ use Rattle.pid_http_requests.specs.declared.route.Route.TheVariants.{Comment, Wi
 use Rattle.pid_http_requests.specs.declared.route.Route.TheVariants.{Reject, Import}
 
 -- the path of a route, with what a router reads at its end
-abbrev pub path_at : Route → List ℕ
-path_at Export = codes "/pci.ids"
-path_at Read = codes "/read/{*path}"
-path_at Children = codes "/children"
-path_at Lookup = codes "/lookup"
-path_at Submission = codes "/submission/{num}"
-path_at Pending = codes "/pending"
-path_at Changes = codes "/changes"
-path_at Account = codes "/account"
-path_at Submit = codes "/submit"
-path_at Comment = codes "/comment"
-path_at Withdraw = codes "/withdraw"
-path_at Approve = codes "/approve"
-path_at Reject = codes "/reject"
-path_at Import = codes "/import"
+abbrev pub route_path : Route → List ℕ
+route_path Export = codes "/pci.ids"
+route_path Read = codes "/read/{*path}"
+route_path Children = codes "/children"
+route_path Lookup = codes "/lookup"
+route_path Submission = codes "/submission/{num}"
+route_path Pending = codes "/pending"
+route_path Changes = codes "/changes"
+route_path Account = codes "/account"
+route_path Submit = codes "/submit"
+route_path Comment = codes "/comment"
+route_path Withdraw = codes "/withdraw"
+route_path Approve = codes "/approve"
+route_path Reject = codes "/reject"
+route_path Import = codes "/import"

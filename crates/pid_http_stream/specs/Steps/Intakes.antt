@@ -29,7 +29,8 @@ pub record ComesIn (held held_after : List ℕ) (input input_after : Option (Lis
 
 -- when the reader was read, what was held and what had come behind it was a request that had not
 -- come whole, and the writer had taken this
-pub record IsWaiting (held : List ℕ) (input taken : Option (List ℕ)) (m : Moment) : Type 0 where
+pub record WaitsForRequest (held : List ℕ) (input taken : Option (List ℕ)) (m : Moment)
+    : Type 0 where
   pub rest : List ℕ
   pub comes : ComesIn held rest input m.to_come
   pub waits : IsUnfinished rest
@@ -72,10 +73,10 @@ pub record StandsAt (held : List ℕ) (headers : List HeaderSpan) (spans : Reque
   pub says : body_length (map (header_bytes held) (take spans.headers headers)) ≡ Bytes body
 
 -- at a fault the stream has it, whatever comes behind
-abbrev pub IsJudged : List ℕ → List HeaderSpan → Judged → Type 0
-IsJudged held headers judged.More = IsHeadUnfinished held
-IsJudged held headers (judged.Head spans body) = StandsAt held headers spans body
-IsJudged held headers (judged.Faulty fault) = (more : List ℕ) → HasFault (held ++ more) fault
+abbrev pub IsHeadJudged : List ℕ → List HeaderSpan → Judged → Type 0
+IsHeadJudged held headers judged.More = IsHeadUnfinished held
+IsHeadJudged held headers (judged.Head spans body) = StandsAt held headers spans body
+IsHeadJudged held headers (judged.Faulty fault) = (more : List ℕ) → HasFault (held ++ more) fault
 
 -- left: what is left of the reader
 abbrev pub IsHeadRead : List ℕ → List HeaderSpan → Option (List ℕ) → HeadRead → Type 0

@@ -9,10 +9,10 @@ use Rattle.pid_http_stream.specs.Causes.{LastState, EndsFor}
 use Rattle.pid_http_stream.specs.Conducts.{Conduct, StandsStill}
 use Rattle.pid_http_stream.specs.Endings.{HasFault, IsShort}
 use Rattle.pid_http_stream.specs.Handling.{MayReply}
-use Rattle.pid_http_stream.specs.Replies.{Answer, reply_head, reply_text, fault_answer}
+use Rattle.pid_http_stream.specs.Replies.{Answer, reply_head, reply_bytes, fault_answer}
 use Rattle.pid_http_stream.specs.Requests.{Request, IsRequest}
-use Rattle.pid_http_stream.specs.Serving.{counted, Outside, WritesFront, IsWrittenNext, IsCutInBody}
-use Rattle.pid_http_stream.specs.Serving.{is_head_fault}
+use Rattle.pid_http_stream.specs.Serving.{saturated, Outside, WritesFront, IsWrittenNext}
+use Rattle.pid_http_stream.specs.Serving.{IsCutInBody, is_head_fault}
 use Rattle.pid_http_stream.specs.Streams.{closes}
 use Rattle.pid_http_stream.specs.Unfinished.{IsUnfinished}
 use Rattle.pid_http_stream.specs.declared.judging.StreamFault.{StreamFault}
@@ -20,7 +20,7 @@ use Rattle.pid_http_stream.specs.declared.judging.StreamFault.TheVariants.{BodyS
 use Rattle.pid_http_stream.specs.declared.body_input.BodyFault.{BodyFault}
 use Rattle.pid_http_stream.specs.declared.body_input.BodyFault.TheVariants as faults
 use Rattle.pid_http_stream.specs.declared.handler.Reply.{Reply}
-use Rattle.pid_http_stream.specs.declared.reply.ReplyHead.{ReplyHead}
+use Rattle.pid_http_stream.specs.declared.reply_head.ReplyHead.{ReplyHead}
 use Rattle.pid_http_stream.specs.declared.asking.Asked.{Asked}
 use Rattle.pid_http_stream.specs.declared.asking.Asked.TheVariants as asked
 use Rattle.pid_http_stream.specs.declared.intake.Stop.{Stop}
@@ -75,7 +75,7 @@ IsAskedOver conduct o c (asked.Broken faults.TurnsSpent) = StandsStill conduct o
     × IsUnfinished (c.front.held ++ c.came)
 
 -- the handler was asked, and this came for the body
-pub record Asks {H : Type 0} (conduct : Conduct H) (o : Around H) (front : FrontHead)
+pub record AsksHandler {H : Type 0} (conduct : Conduct H) (o : Around H) (front : FrontHead)
     (result : Asked) : Type 0 where
   pub came : List ℕ
   pub more : List ℕ
@@ -99,10 +99,10 @@ pub record Replied : Type 0 where
 abbrev pub IsSent : {H : Type 0} → Conduct H → Outside H → Replied → Sent → Type 0
 IsSent conduct o r sent.Whole = (answer : Answer)
     × conduct.answers o.handler r.request answer o.handler_after
-    × Appends o.taken o.taken_after (reply_text answer r.closing)
+    × Appends o.taken o.taken_after (reply_bytes answer r.closing)
 IsSent conduct o r sent.WriteFault =
     ((answer : Answer) × conduct.answers o.handler r.request answer o.handler_after
-    × WritesFront o.taken o.taken_after (reply_text answer r.closing))
+    × WritesFront o.taken o.taken_after (reply_bytes answer r.closing))
     ⊎ ((head : ReplyHead) × (told : ℕ)
     × conduct.promises o.handler r.request head told o.handler_after
     × WritesFront o.taken o.taken_after (reply_head head.status head.content told r.closing))
@@ -110,22 +110,23 @@ IsSent conduct o r sent.StoreFault = closes r.request ≡ r.closing
     → IsCutInBody conduct o.handler r.request o.handler_after o.taken o.taken_after
 
 -- a refusal was written, whole or a front of it
-abbrev pub IsRefused : StreamFault → Option (List ℕ) → Option (List ℕ) → StreamEnd → Type 0
-IsRefused fault old new ends.HeadFault = (is_head_fault fault ≡ true)
-    × Appends old new (reply_text (fault_answer fault) true)
-IsRefused fault old new ends.BodyFault = (is_head_fault fault ≡ false)
-    × Appends old new (reply_text (fault_answer fault) true)
-IsRefused fault old new ends.WriteFault = WritesFront old new (reply_text (fault_answer fault) true)
-IsRefused fault old new ends.Clean = ⊥
-IsRefused fault old new ends.Closed = ⊥
-IsRefused fault old new ends.ReadFault = ⊥
-IsRefused fault old new ends.StoreFault = ⊥
-IsRefused fault old new ends.Memory = ⊥
-IsRefused fault old new ends.TurnsSpent = ⊥
+abbrev pub WritesRefusal : StreamFault → Option (List ℕ) → Option (List ℕ) → StreamEnd → Type 0
+WritesRefusal fault old new ends.HeadFault = (is_head_fault fault ≡ true)
+    × Appends old new (reply_bytes (fault_answer fault) true)
+WritesRefusal fault old new ends.BodyFault = (is_head_fault fault ≡ false)
+    × Appends old new (reply_bytes (fault_answer fault) true)
+WritesRefusal fault old new ends.WriteFault = WritesFront old new
+    (reply_bytes (fault_answer fault) true)
+WritesRefusal fault old new ends.Clean = ⊥
+WritesRefusal fault old new ends.Closed = ⊥
+WritesRefusal fault old new ends.ReadFault = ⊥
+WritesRefusal fault old new ends.StoreFault = ⊥
+WritesRefusal fault old new ends.Memory = ⊥
+WritesRefusal fault old new ends.TurnsSpent = ⊥
 
 -- how the stream ends where a body broke off
 abbrev pub EndsBroken : BodyFault → Option (List ℕ) → Option (List ℕ) → StreamEnd → Type 0
-EndsBroken faults.Short old new end = IsRefused BodyShort old new end
+EndsBroken faults.Short old new end = WritesRefusal BodyShort old new end
 EndsBroken faults.ReadFault old new end = (end ≡ ends.ReadFault) × (new ≡ old)
 EndsBroken faults.TurnsSpent old new end = (end ≡ ends.TurnsSpent) × (new ≡ old)
 
@@ -143,7 +144,7 @@ pub record IsReplied {H : Type 0} (conduct : Conduct H) (o : Outside H) (p : Por
   pub is : IsRequest p.came request p.behind
   pub answer : Answer
   pub answered : conduct.answers o.handler request answer o.handler_after
-  pub written : Appends o.taken o.taken_after (reply_text answer (closes request))
+  pub written : Appends o.taken o.taken_after (reply_bytes answer (closes request))
   pub closes_so : closes request ≡ closing
 
 -- no request was answered, and nothing written, while one had not come whole
@@ -161,7 +162,7 @@ EndsWithin conduct o p ends.WriteFault = (bytes : List ℕ)
     × WritesFront o.taken o.taken_after bytes
 EndsWithin conduct o p ends.BodyFault = HasFault p.all BodyShort
     × StandsStill conduct o.handler o.handler_after
-    × Appends o.taken o.taken_after (reply_text (fault_answer BodyShort) true)
+    × Appends o.taken o.taken_after (reply_bytes (fault_answer BodyShort) true)
 EndsWithin conduct o p ends.ReadFault = WaitsWithin conduct o p
 EndsWithin conduct o p ends.TurnsSpent = WaitsWithin conduct o p
 EndsWithin conduct o p ends.Memory =
@@ -234,8 +235,8 @@ asked_so result wanted fault = if wanted == 0 then whole_so result else broken_s
 
 -- how many replies were written, with the refusal that ends the stream
 abbrev pub count_with : StreamEnd → ℕ → ℕ
-count_with ends.HeadFault count = counted (count + 1)
-count_with ends.BodyFault count = counted (count + 1)
+count_with ends.HeadFault count = saturated (count + 1)
+count_with ends.BodyFault count = saturated (count + 1)
 count_with ends.Clean count = count
 count_with ends.Closed count = count
 count_with ends.ReadFault count = count

@@ -13,7 +13,7 @@ use Rattle.pid_moderation.specs.declared.refusal.Refusal.TheVariants.{Memory, Fa
 use Rattle.pid_service.specs.Asking.{MayGive}
 use Rattle.pid_http_requests.specs.declared.lookup.LookupQuery.{LookupQuery}
 use Rattle.pid_http_replies.specs.LookupAnswers.{lookup_answer}
-use Rattle.pid_http.specs.Answering.{answer_over, lookup_in, IsRefused}
+use Rattle.pid_http.specs.Answering.{answer_over, lookup_in, IsErrandRefused}
 use Rattle.pid_http.specs.Errands.{Lookup}
 use Rattle.pid_http.specs.Serving.{IsMetOver, AnsweredOver, NotDone}
 use Rattle.pid_http.specs.Known.{Live}
@@ -36,7 +36,7 @@ over l h (Err look_ups.BadFlags) is bad fault = AnsweredOver (ap lookup_answer (
 over l h (Err (look_ups.Names f)) is bad fault = NotDone f ((fault f refl).alive refl) (refl, refl) (refl, tt) refl
 over l h (Err look_ups.Memory) is bad fault = NotDone Memory (inl refl) (refl, refl) (refl, tt) refl
 
-failed : (l : LookupQuery) (result : Result Found (LookupRefusal Refusal)) → result ≡ Err (look_ups.Names HasFailed) → IsRefused (Lookup l) HasFailed (lookup_answer result)
+failed : (l : LookupQuery) (result : Result Found (LookupRefusal Refusal)) → result ≡ Err (look_ups.Names HasFailed) → IsErrandRefused (Lookup l) HasFailed (lookup_answer result)
 failed l result e = (refl, ap lookup_answer e)
 
 pub returns : goal.returns

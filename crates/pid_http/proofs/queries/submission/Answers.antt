@@ -11,7 +11,7 @@ use Rattle.pid_moderation.specs.declared.lists.Discussion.{Discussion}
 use Rattle.pid_http_requests.specs.declared.format.Format.{Format}
 use Rattle.pid_http_replies.specs.Outcomes.{outcome_answer}
 use Rattle.pid_http_replies.specs.SubmissionAnswers.{submission_answer}
-use Rattle.pid_http.specs.Answering.{answer_over, submission_or_missing, IsRefused}
+use Rattle.pid_http.specs.Answering.{answer_over, submission_or_missing, IsErrandRefused}
 use Rattle.pid_http.specs.Errands.{Submission}
 use Rattle.pid_http.specs.Steps.Replying.{answer_or}
 use Rattle.pid_http.specs.Serving.{IsMetOver, AnsweredOver, NotDone}
@@ -26,7 +26,7 @@ over number format h (Ok d) told = AnsweredOver (sym (ap (submission_or_missing 
 over number format h (Err e) (inl (missing, none)) = AnsweredOver (ap (λ (x : Refusal). outcome_answer format (Err x)) missing ∙ sym (ap (submission_or_missing number format) none)) (refl, tt) refl
 over number format h (Err e) (inr fault) = NotDone e fault (refl, refl) (refl, tt) refl
 
-failed : (number : ℕ) (format : Format) (found : Result Discussion Refusal) → found ≡ Err HasFailed → IsRefused (Submission number format) HasFailed (answer_or format (λ d. submission_answer format number (discussion_of d)) found)
+failed : (number : ℕ) (format : Format) (found : Result Discussion Refusal) → found ≡ Err HasFailed → IsErrandRefused (Submission number format) HasFailed (answer_or format (λ d. submission_answer format number (discussion_of d)) found)
 failed number format found e = (refl, ap (answer_or format (λ d. submission_answer format number (discussion_of d))) e)
 
 pub returns : goal.returns

@@ -4,7 +4,7 @@ use Rattle.pid_http_stream.specs.Leading.{Leads}
 use Rattle.pid_http_stream.specs.Moments.{AllSince}
 use Rattle.pid_http_stream.specs.Serving.{IsCaughtUp, IsServed, outside}
 use Rattle.pid_service.specs.Registries.{HasCleanDisk}
-use Rattle.pid_http.specs.Known.{IsTold, LivesOn}
+use Rattle.pid_http.specs.Known.{IsToldOf, LivesOn}
 use Rattle.pid_http.specs.Serving.{serving}
 use Rattle.pid_http.proofs.stream.serve_with.Goals as goal
 
@@ -13,12 +13,12 @@ returns-clause-served g c =
     let l = c.serve_stream.ensures.served in
     let end = c.serve_stream.new.handler in
     let name = c.serve_stream.ensures.becomes.0 in
-    let told : Leads (HasCleanDisk g.S.Store) (IsTold g.S.Store) c.args.registry.now end.registry.now (λ t u. IfSome (g.I.Incoming.to_come c.args.reader.now) (λ stream. IsServed (serving g.S.Store)
+    let told : Leads (HasCleanDisk g.S.Store) (IsToldOf g.S.Store) c.args.registry.now end.registry.now (λ t u. IfSome (g.I.Incoming.to_come c.args.reader.now) (λ stream. IsServed (serving g.S.Store)
     (outside t u (g.W.Output.taken c.args.writer.now) (g.W.Output.taken c.serve_stream.new.output))
     stream (g.I.Incoming.to_come c.serve_stream.new.input) c.serve_stream.result.end c.serve_stream.result.answered)) =
     record { good = l.good; leads = λ good t is. l.leads good t is } in
     let same : c.serve_stream.new.handler.registry.now ≡ c.registry-1.given.0 = search rules in
-    subst (λ registry. Leads (HasCleanDisk g.S.Store) (IsTold g.S.Store) c.args.registry.now registry (λ t u. IfSome (g.I.Incoming.to_come c.args.reader.now) (λ stream. IsServed (serving g.S.Store)
+    subst (λ registry. Leads (HasCleanDisk g.S.Store) (IsToldOf g.S.Store) c.args.registry.now registry (λ t u. IfSome (g.I.Incoming.to_come c.args.reader.now) (λ stream. IsServed (serving g.S.Store)
     (outside t u (g.W.Output.taken c.args.writer.now) (g.W.Output.taken c.serve_stream.new.output))
     stream (g.I.Incoming.to_come c.serve_stream.new.input) c.serve_stream.result.end c.serve_stream.result.answered))) same told
 
@@ -27,11 +27,11 @@ returns-clause-caught_up g c =
     let l = c.serve_stream.ensures.caught_up in
     let end = c.serve_stream.new.handler in
     let name = c.serve_stream.ensures.becomes.0 in
-    let told : Leads (HasCleanDisk g.S.Store) (IsTold g.S.Store) c.args.registry.now end.registry.now (λ t _. IfSome (g.I.Incoming.to_come c.args.reader.now) (λ stream.
+    let told : Leads (HasCleanDisk g.S.Store) (IsToldOf g.S.Store) c.args.registry.now end.registry.now (λ t _. IfSome (g.I.Incoming.to_come c.args.reader.now) (λ stream.
     AllSince (IsCaughtUp (serving g.S.Store) t (g.W.Output.taken c.args.writer.now) stream) (g.I.Incoming.moments c.args.reader.now) (g.I.Incoming.moments c.serve_stream.new.input))) =
     record { good = l.good; leads = λ good t is. l.leads good t is } in
     let same : c.serve_stream.new.handler.registry.now ≡ c.registry-1.given.0 = search rules in
-    subst (λ registry. Leads (HasCleanDisk g.S.Store) (IsTold g.S.Store) c.args.registry.now registry (λ t _. IfSome (g.I.Incoming.to_come c.args.reader.now) (λ stream.
+    subst (λ registry. Leads (HasCleanDisk g.S.Store) (IsToldOf g.S.Store) c.args.registry.now registry (λ t _. IfSome (g.I.Incoming.to_come c.args.reader.now) (λ stream.
     AllSince (IsCaughtUp (serving g.S.Store) t (g.W.Output.taken c.args.writer.now) stream) (g.I.Incoming.moments c.args.reader.now) (g.I.Incoming.moments c.serve_stream.new.input)))) same told
 
 pub returns-clause-lives : goal.returns-clause-lives

@@ -1,9 +1,9 @@
 use Rattle.std.proofs.Common.{rules, ◌≡◌, refl, None, subst}
 use Rattle.std.specs.Prelude.{IfSome, IsSome}
 use Rattle.pid_http_stream.specs.Bodies.{BodyState}
-use Rattle.pid_http_stream.specs.Steps.Intakes.{IsWaiting}
+use Rattle.pid_http_stream.specs.Steps.Intakes.{WaitsForRequest}
 use Rattle.pid_http_stream.specs.Moments.{AllSince}
-use Rattle.pid_http_stream.specs.Steps.Loop.{Asks, asked_so}
+use Rattle.pid_http_stream.specs.Steps.Loop.{AsksHandler, asked_so}
 use Rattle.pid_http_stream.proofs.Asked.{Reading, asked_is, body_waits, broken_cause}
 use Rattle.pid_http_stream.proofs.Leading.{turned}
 use Rattle.pid_http_stream.proofs.asking.ask_over.Goals as goal
@@ -16,7 +16,7 @@ returns-clause-asked g c =
     let reading : Reading c.args.head.now.bytes.now c.args.head.now.fields.now c.args.head.now.spans c.args.told old new =
     record { stands = c.requires; n = _; n_is = refl; held_is = c.came_with.ensures.front; wanted_is = refl; no_fault = refl; read = c.ask-reply.ensures.goes.2; fits = body.fits } in
     let same : c.ask-reply.new.body.input.now ≡ c.input-1.given.0 = search rules in
-    turned _ _ _ _ (λ v w told. rw c.asked_of.ensures (subst (λ i. IfSome (g.I.Incoming.to_come c.args.input.now) (λ _. Asks g.H.Handler.conduct (record { a = v; b = w; input = g.I.Incoming.to_come c.args.input.now; input_after = g.I.Incoming.to_come i }) (record { held = c.args.head.now.bytes.now; headers = c.args.head.now.fields.now; spans = c.args.head.now.spans; content_length = c.args.told }) (asked_so c.ask-reply.result c.ask-reply.new.body.wanted c.ask-reply.new.body.fault))) same
+    turned _ _ _ _ (λ v w told. rw c.asked_of.ensures (subst (λ i. IfSome (g.I.Incoming.to_come c.args.input.now) (λ _. AsksHandler g.H.Handler.conduct (record { a = v; b = w; input = g.I.Incoming.to_come c.args.input.now; input_after = g.I.Incoming.to_come i }) (record { held = c.args.head.now.bytes.now; headers = c.args.head.now.fields.now; spans = c.args.head.now.spans; content_length = c.args.told }) (asked_so c.ask-reply.result c.ask-reply.new.body.wanted c.ask-reply.new.body.fault))) same
     (asked_is g.H.Handler.conduct v w c.args.head.now.bytes.now c.args.head.now.fields.now c.args.head.now.spans c.args.told old new reading c.ask-reply.result told c.ask-reply.ensures.whole))) c.ask-reply.ensures.answered
 
 pub returns-clause-fault : goal.returns-clause-fault
@@ -46,5 +46,5 @@ returns-clause-waits g c =
     let reading : Reading c.args.head.now.bytes.now c.args.head.now.fields.now c.args.head.now.spans c.args.told old new =
     record { stands = c.requires; n = _; n_is = refl; held_is = c.came_with.ensures.front; wanted_is = refl; no_fault = refl; read = c.ask-reply.ensures.goes.2; fits = body.fits } in
     let same : c.ask-reply.new.body.input.now ≡ c.input-1.given.0 = search rules in
-    subst (λ i. AllSince (IsWaiting c.args.head.now.bytes.now (g.I.Incoming.to_come c.args.input.now) (g.W.Output.taken c.args.output.now)) (g.I.Incoming.moments c.args.input.now) (g.I.Incoming.moments i)) same
+    subst (λ i. AllSince (WaitsForRequest c.args.head.now.bytes.now (g.I.Incoming.to_come c.args.input.now) (g.W.Output.taken c.args.output.now)) (g.I.Incoming.moments c.args.input.now) (g.I.Incoming.moments i)) same
     (body_waits c.args.head.now.bytes.now c.args.head.now.fields.now c.args.head.now.spans c.args.told old new reading)

@@ -1,6 +1,6 @@
 use Rattle.std.proofs.Common.{◌≡◌, ◌+◌, ◌*◌, ◌≤◌, length}
 use Rattle.pid_http_stream.specs.Bodies.{SpendsTurns}
-use Rattle.pid_http_stream.specs.Steps.Intakes.{ComesIn, IsJudged, IsWaiting}
+use Rattle.pid_http_stream.specs.Steps.Intakes.{ComesIn, IsHeadJudged, WaitsForRequest}
 use Rattle.pid_http_stream.specs.Moments.{AllSince}
 use Rattle.pid_http_stream.specs.declared.intake.TheConstants.{READ_SIZE}
 use Rattle.pid_http_stream.specs.declared.judging.TheConstants.{MOST_FIELDS}
@@ -9,11 +9,11 @@ use Rattle.pid_http_stream.proofs.intake.read_head.Given as goal
 abbrev pub invariant-reading : goal.invariant-reading
 invariant-reading g l = record {
   comes : ComesIn l.fn.held.items l.held.items (g.I.Incoming.to_come l.fn.input) (g.I.Incoming.to_come l.input);
-  judged : IsJudged l.held.items l.fields l.judged;
+  judged : IsHeadJudged l.held.items l.fields l.judged;
   turns : SpendsTurns (record { reads = g.I.Incoming.reads l.fn.input; left = l.fn.left }) (record { reads = g.I.Incoming.reads l.input; left = l.left });
   pace : l.left * READ_SIZE + length l.held.items ≤ l.fn.left * READ_SIZE + length l.fn.held.items;
   room : length l.fields ≡ MOST_FIELDS;
-  waits : AllSince (IsWaiting l.fn.held.items (g.I.Incoming.to_come l.fn.input) (g.W.Output.taken l.output)) (g.I.Incoming.moments l.fn.input) (g.I.Incoming.moments l.input);
+  waits : AllSince (WaitsForRequest l.fn.held.items (g.I.Incoming.to_come l.fn.input) (g.W.Output.taken l.output)) (g.I.Incoming.moments l.fn.input) (g.I.Incoming.moments l.input);
   goes : g.I.Incoming.goes l.fn.input l.input;
 }
 

@@ -1,5 +1,5 @@
-use Rattle.std.proofs.Common.{inl}
-use Rattle.pid_http_stream.proofs.Leading.{turned}
+use Rattle.std.proofs.Common.{inl, inr}
+use Rattle.pid_http_stream.proofs.Leading.{stays, turned}
 use Rattle.pid_http_stream.proofs.Lines.{head_then_body, head_then_front, front_then_nothing, cut_in_body}
 use Rattle.pid_http_stream.proofs.sending.send_written.Goals as goal
 
@@ -34,3 +34,6 @@ returns-else-has_failed-clause-sent g c = turned _ _ _ _
 
 pub returns-in-WriteFault-clause-becomes : goal.returns-in-WriteFault-clause-becomes
 returns-in-WriteFault-clause-becomes g c = g.met.H.Handler.stays _
+
+pub returns-in-WriteFault-clause-sent : goal.returns-in-WriteFault-clause-sent
+returns-in-WriteFault-clause-sent g c = stays _ _ (λ v a request promised. inr (c.args.head, c.args.told, promised, c.in-WriteFault.ensures.sent))

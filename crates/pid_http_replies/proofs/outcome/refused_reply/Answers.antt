@@ -1,5 +1,0 @@
-use Rattle.std.proofs.Common.{refl}
-use Rattle.pid_http_replies.proofs.outcome.refused_reply.Goals as goal
-
-pub returns : goal.returns
-returns c = c.json_reply.ensures _ c.in_ok-value.ensures refl
