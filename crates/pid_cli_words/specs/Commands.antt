@@ -14,8 +14,8 @@ abbrev pub required : Rule → Rule
 required rule = record rule { required = true }
 
 -- its value is a number from 1 to `most`
-abbrev pub counted : ℕ → Rule → Rule
-counted most rule = record rule { parser = Some (Signed (pos 1) (pos most)) }
+abbrev pub from_one_to : ℕ → Rule → Rule
+from_one_to most rule = record rule { parser = Some (Signed (pos 1) (pos most)) }
 
 -- an argument that is no option, as IDS
 abbrev pub operand : Text → Rule
@@ -78,8 +78,8 @@ million rule = record rule { defaults = codes "1000000" ∷ [] }
 -- serve --db FILE --port N [--connections N]
 abbrev pub serve : App
 serve = command (codes "serve") (required (option (codes "db"))
-    ∷ required (counted 65535 (option (codes "port")))
-    ∷ million (counted 1000000 (option (codes "connections"))) ∷ [])
+    ∷ required (from_one_to 65535 (option (codes "port")))
+    ∷ million (from_one_to 1000000 (option (codes "connections"))) ∷ [])
 
 -- the command also answers `--version` and `-V`
 abbrev pub with_version : App → App

@@ -29,22 +29,23 @@ pub data Task : Type 0 where
   Migrates : (db : Text) → Task
 
 -- the text of a reference that may be missing
-abbrev pub text_of : Option (Bor Text) → Option Text
-text_of = option_map (λ text. text.now)
+abbrev pub text_given : Option (Bor Text) → Option Text
+text_given = option_map (λ text. text.now)
 
 -- the task of a lookup with its texts
 abbrev pub look_up_task : LookUpWords → Task
-look_up_task asked = LooksUp asked.ids.now asked.flags.now (text_of asked.size)
-    (text_of asked.vendor) (text_of asked.device)
-    (text_of asked.subvendor) (text_of asked.subdevice) (text_of asked.class) (text_of asked.progif)
+look_up_task asked = LooksUp asked.ids.now asked.flags.now (text_given asked.size)
+    (text_given asked.vendor) (text_given asked.device)
+    (text_given asked.subvendor) (text_given asked.subdevice) (text_given asked.class)
+    (text_given asked.progif)
 
 -- the task that a job is
 abbrev pub task_of : Job → Task
 task_of jobs.Tidy = Tidies
 task_of jobs.Check = Checks
 task_of (jobs.Lookup asked) = look_up_task asked
-task_of (jobs.Script db) = Runs (text_of db)
-task_of (jobs.Import db account key ids) = Imports db.now account.now (text_of key) ids.now
+task_of (jobs.Script db) = Runs (text_given db)
+task_of (jobs.Import db account key ids) = Imports db.now account.now (text_given key) ids.now
 task_of (jobs.Export db) = Exports db.now
 task_of (jobs.Serve db port connections) = Serves db.now port connections
 task_of (jobs.Migrate db) = Migrates db.now
@@ -63,8 +64,8 @@ number_written bits text =
     then digits_value 10 digits else 0
 
 -- the number of an option that is required or has a default
-abbrev pub number_of : ℕ → Text → List Row → ℕ
-number_of bits name rows = option_map_or (number_written bits) (one_of name rows) 0
+abbrev pub number_given : ℕ → Text → List Row → ℕ
+number_given bits name rows = option_map_or (number_written bits) (one_of name rows) 0
 
 -- the lookup whose options have these values
 abbrev pub look_up_named : List Row → Task
@@ -88,8 +89,8 @@ tasks = (codes "check", λ rows. Checks)
     ∷ (codes "export", λ rows. Exports (needed (codes "db") rows))
     ∷ (
       codes "serve",
-      λ rows. Serves (needed (codes "db") rows) (number_of 16 (codes "port") rows)
-          (number_of 32 (codes "connections") rows),
+      λ rows. Serves (needed (codes "db") rows) (number_given 16 (codes "port") rows)
+          (number_given 32 (codes "connections") rows),
     )
     ∷ (codes "migrate", λ rows. Migrates (needed (codes "db") rows))
     ∷ (codes "tidy", λ rows. Tidies)

@@ -7,7 +7,7 @@ ghost use Rattle.pid_cli_words.specs.Commands.{
   class_rules,
   command as command_named,
   commands as the_commands,
-  counted,
+  from_one_to,
   device_rules,
   export,
   export_commands,
@@ -189,7 +189,7 @@ fn ids_operand<'a>(alloc: Global) -> Arg<'a>
 }
 
 fn port<'a>(alloc: Global) -> Arg<'a>
-    ensures rule { rule_of result ≡ required (counted 65535 (option_named (codes "port"))) }
+    ensures rule { rule_of result ≡ required (from_one_to 65535 (option_named (codes "port"))) }
     ensures local { result.global ≡ false }
 {
     needed_option(alloc, "port", "N", "TCP port on 127.0.0.1, 1 to 65535").value_parser(
@@ -198,7 +198,8 @@ fn port<'a>(alloc: Global) -> Arg<'a>
 }
 
 fn connections<'a>(alloc: Global) -> Arg<'a>
-    ensures rule { rule_of result ≡ million (counted 1000000 (option_named (codes "connections"))) }
+    ensures rule { rule_of result
+        ≡ million (from_one_to 1000000 (option_named (codes "connections"))) }
     ensures local { result.global ≡ false }
 {
     option(

@@ -2,10 +2,11 @@
 ghost use Rattle.std.specs.Prelude.{◌≡◌, ◌≢◌, ◌⊎◌};
 ghost use Rattle.clap.specs.Words.{kind_of};
 ghost use Rattle.clap.specs.declared.error.kind.ErrorKind.TheVariants.{OutOfMemory};
+ghost use Rattle.pid_cli_words.specs.WordsFaults.{words_fault_number};
 
-use clap::Error;
 use clap::error::ErrorKind;
 use std::alloc::AllocError;
+use thiserror::Error;
 
 /// What the program is asked to do. Texts are as they were given.
 #[derive(Clone, Copy, Debug)]
@@ -52,22 +53,36 @@ pub struct LookUpWords<'a> {
 }
 
 /// Why the arguments name no job.
-#[derive(Debug, Drop)]
+#[derive(Debug, Drop, Error)]
 pub enum WordsFault {
     /// Out of memory.
+    #[error("no memory")]
     Memory,
     /// The arguments are invalid, or ask for help or the version.
-    Words(Error),
+    #[error("{0}")]
+    Words(clap::Error),
 }
 
-impl From<Error> for WordsFault {
+impl WordsFault {
+    /// The number of the fault: 1 for `Memory`, 2 for `Words`.
+    pub fn number(&self) -> u8
+        ensures { result ≡ words_fault_number self.now }
+    {
+        match self {
+            WordsFault::Memory => 1,
+            WordsFault::Words(_) => 2,
+        }
+    }
+}
+
+impl From<clap::Error> for WordsFault {
     ghost use Rattle.pid_cli_words.specs.declared.job.WordsFault.{WordsFault};
 
     ghost from_gives = { λ error fault. ((kind_of error ≡ OutOfMemory)
         × (fault ≡ WordsFault.Memory)) ⊎ ((kind_of error ≢ OutOfMemory)
         × (fault ≡ WordsFault.Words error)) };
 
-    fn from(error: Error) -> WordsFault {
+    fn from(error: clap::Error) -> WordsFault {
         match error.kind() {
             ErrorKind::OutOfMemory => WordsFault::Memory,
             _ => WordsFault::Words(error),

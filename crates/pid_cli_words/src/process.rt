@@ -1,4 +1,9 @@
 //! The arguments of the process, and what it prints if they name no job.
+ghost use Rattle.std.specs.Prelude.{◌≡◌, ◌≢◌};
+ghost use Rattle.clap.specs.Words.{kind_of};
+ghost use Rattle.clap.specs.declared.error.kind.ErrorKind.TheVariants.{DisplayHelp, DisplayVersion};
+ghost use Rattle.pid_cli_words.specs.WordsFaults.{IsNoJobStatus};
+
 use crate::job::WordsFault;
 use clap::Error;
 use pid_file::{TextEnd, tell_end, tell_failed};
@@ -36,7 +41,9 @@ pub fn tell_no_job<O: Write + Drop, F: Write + Drop>(
     words: &[String],
     output: O,
     faults: F,
-) -> u8 {
+) -> u8
+    ensures { IsNoJobStatus fault.now result }
+{
     match fault {
         WordsFault::Memory => tell_end(TextEnd::Memory, &mut Plain::new(faults)),
         WordsFault::Words(error) => answer(error, words, output, faults),
@@ -48,7 +55,9 @@ fn answer<O: Write + Drop, F: Write + Drop>(
     words: &[String],
     output: O,
     faults: F,
-) -> u8 {
+) -> u8
+    ensures { kind_of error.now ≢ DisplayHelp → kind_of error.now ≢ DisplayVersion → result ≡ 2 }
+{
     let mut output = output;
     let mut faults = faults;
     if error.use_stderr() {

@@ -8,11 +8,11 @@ ghost use Rattle.pid_cli_words.specs.Jobs.{
   look_up_named,
   look_up_task,
   needed,
-  number_of,
+  number_given,
   task_meant,
   task_named,
   task_of,
-  text_of,
+  text_given,
   IsFaultOfWords,
 };
 
@@ -29,7 +29,7 @@ fn needed_text<'a>(given: &ArgMatches<'a>, name: &str) -> &'a str
 }
 
 fn text<'a>(given: &ArgMatches<'a>, name: &str) -> Option<&'a str>
-    ensures { text_of result ≡ first_of name.now (rows_of (found_of given.now)) }
+    ensures { text_given result ≡ first_of name.now (rows_of (found_of given.now)) }
 {
     given.get_str(name)
 }
@@ -52,13 +52,13 @@ fn look_up_words<'a>(given: &ArgMatches<'a>) -> LookUpWords<'a>
 
 // The number that a required option, or one with a default, has as its value.
 fn port_given(given: &ArgMatches<'_>) -> u16
-    ensures { result ≡ number_of 16 (codes "port") (rows_of (found_of given.now)) }
+    ensures { result ≡ number_given 16 (codes "port") (rows_of (found_of given.now)) }
 {
     given.get_one("port").unwrap_or(0)
 }
 
 fn connections_given(given: &ArgMatches<'_>) -> u32
-    ensures { result ≡ number_of 32 (codes "connections") (rows_of (found_of given.now)) }
+    ensures { result ≡ number_given 32 (codes "connections") (rows_of (found_of given.now)) }
 {
     given.get_one("connections").unwrap_or(0)
 }

@@ -11,13 +11,13 @@ use Rattle.pid_script.specs.declared.line_end.LineEnd.{LineEnd}
 use Rattle.pid_script.specs.declared.line_end.LineEnd.TheVariants.{Stopped, WriteFault, TooLong}
 use Rattle.pid_script.specs.declared.moderated.Moderated.{Ghosts}
 use Rattle.pid_script.specs.Calling.{CallsSend, CallsSendEither}
-use Rattle.pid_script.specs.Replies.{reply_to, command_of, commands_of_lines, history_after, replies}
-use Rattle.pid_script.specs.Steps.Saying.{Out, out, Says, LineEnds}
+use Rattle.pid_script.specs.Replies.{line_reply, command_of, commands_of_lines, history_after, replies}
+use Rattle.pid_script.specs.Steps.Saying.{Out, out, HasSaid, AnswersLine}
 use Rattle.pid_script.specs.ScriptLines.{Ask, ask_of}
-use Rattle.pid_script.specs.Standing.{Stands, Becomes, BecomesEither, StopsBehind}
+use Rattle.pid_script.specs.Standing.{ShowsOrHasFailed, Becomes, BecomesEither, StopsBehind}
 use Rattle.pid_script.specs.StopLines.{IsBegun, StoppedBy, IsStopText}
 use Rattle.pid_script.specs.Steps.Progress.{Answered, Ended}
-use Rattle.pid_script.specs.Scripts.{NoneTooLong, NoneCalls, AllButLast, Fits, CallsNot, passage, Answers, IsToldFor, BreaksOff}
+use Rattle.pid_script.specs.Scripts.{NoneTooLong, NoneCalls, AllButLast, IsNotTooLong, CallsNot, passage, AnswersLines, IsTextFor, Replied, StoppedLast, FailsToWrite}
 use Rattle.pid_script.proofs.SayLemmas.{Appends-nil, Appends-then, front-then}
 use Rattle.pid_script.proofs.Calling.{send_then, send_either}
 use Rattle.pid_script.proofs.LineReplies.{commands_more, commands_one, commands_then, history_on, history_more, replies_on, replies_one, fits_more, calls_more, quiet_lines, quiet_before, all_but_last, but_one, history_waits, reply_more}
@@ -31,7 +31,7 @@ either_then m a b c h k l n p q = record { shows = λ s. q.shows (p.shows s); fa
 stops_then : {R : Type 0} (m : Ghosts R) (a b c : R) (h k : History) (commands : List Asked) → Becomes m a h b k → StopsBehind m b k c k commands → StopsBehind m a h c k commands
 stops_then m a b c h k commands p q = record { shows = λ s. q.shows (p.shows s); failed = λ f. q.failed (subst m.has_failed (sym (p.failed f)) f) ∙ p.failed f }
 
-pub stands_then : {R : Type 0} (m : Ghosts R) (a b : R) (h k : History) → Becomes m a h b k → Stands m a h → Stands m b k
+pub stands_then : {R : Type 0} (m : Ghosts R) (a b : R) (h k : History) → Becomes m a h b k → ShowsOrHasFailed m a h → ShowsOrHasFailed m b k
 stands_then m a b h k p (inl s) = inl (p.shows s)
 stands_then m a b h k p (inr f) = inr (subst m.has_failed (sym (p.failed f)) f)
 
@@ -46,7 +46,7 @@ gone_on : (x y z w : List ℕ) → x ++ y ≡ z → x ++ (y ++ w) ≡ z ++ w
 gone_on x y z w is = sym (append_assoc x y w) ∙ ap (λ (l : List ℕ). l ++ w) is
 
 -- what was answered and is held no more
-pub answers_out : {R : Type 0} (m : Ghosts R) (h : History) (start : Option (List ℕ)) (first r : R) (now : Out) (lines : List (List ℕ)) → Answered m h start first r now lines → now.held ≡ [] → Answers m h (passage first r start now.taken) lines
+pub answers_out : {R : Type 0} (m : Ghosts R) (h : History) (start : Option (List ℕ)) (first r : R) (now : Out) (lines : List (List ℕ)) → Answered m h start first r now lines → now.held ≡ [] → AnswersLines m h (passage first r start now.taken) lines
 answers_out m h start first r now lines a none = record {
   fits = a.fits;
   told = subst (Appends start now.taken) (sym (ap (replies h) a.parts ∙ replies_on a.before a.waiting h ∙ ap (λ (l : List ℕ). replies h a.before ++ l) (sym a.rest ∙ ap (λ (l : List ℕ). a.sent ++ l) none ∙ append-nil a.sent)))
@@ -57,7 +57,7 @@ answers_out m h start first r now lines a none = record {
 }
 
 -- nothing is held, so nothing waits
-pub answered_out : {R : Type 0} (m : Ghosts R) (h : History) (start : Option (List ℕ)) (first r : R) (taken : Option (List ℕ)) (held : List ℕ) (lines : List (List ℕ)) → Answers m h (passage first r start taken) lines → held ≡ [] → Answered m h start first r (out taken held) lines
+pub answered_out : {R : Type 0} (m : Ghosts R) (h : History) (start : Option (List ℕ)) (first r : R) (taken : Option (List ℕ)) (held : List ℕ) (lines : List (List ℕ)) → AnswersLines m h (passage first r start taken) lines → held ≡ [] → Answered m h start first r (out taken held) lines
 answered_out m h start first r taken held lines a none = record {
   before = lines;
   waiting = [];
@@ -75,7 +75,7 @@ answered_out m h start first r taken held lines a none = record {
 }
 
 -- all that is held goes out
-pub flushed : {R : Type 0} (m : Ghosts R) (h : History) (start : Option (List ℕ)) (first r : R) (old : Out) (new : Option (List ℕ)) (lines : List (List ℕ)) → Answered m h start first r old lines → Appends old.taken new old.held → Answers m h (passage first r start new) lines
+pub flushed : {R : Type 0} (m : Ghosts R) (h : History) (start : Option (List ℕ)) (first r : R) (old : Out) (new : Option (List ℕ)) (lines : List (List ℕ)) → Answered m h start first r old lines → Appends old.taken new old.held → AnswersLines m h (passage first r start new) lines
 flushed m h start first r old new lines a went = answers_out m h start first r (out new []) lines (record {
   before = a.before;
   waiting = a.waiting;
@@ -93,27 +93,31 @@ flushed m h start first r old new lines a went = answers_out m h start first r (
 }) refl
 
 -- or the writer fails
-pub broken : {R : Type 0} (m : Ghosts R) (h : History) (start : Option (List ℕ)) (first r : R) (old : Out) (new : Option (List ℕ)) (all lines behind : List (List ℕ)) → all ≡ lines ++ behind → Answered m h start first r old lines → SendsFront old.taken new old.held → BreaksOff m h (passage first r start new) all
+pub broken : {R : Type 0} (m : Ghosts R) (h : History) (start : Option (List ℕ)) (first r : R) (old : Out) (new : Option (List ℕ)) (all lines behind : List (List ℕ)) → all ≡ lines ++ behind → Answered m h start first r old lines → SendsFront old.taken new old.held → FailsToWrite m h (passage first r start new) all
 broken m h start first r old new all lines behind parts a front = record {
-  before = a.before;
-  waiting = a.waiting;
-  behind = behind;
-  parts = parts ∙ ap (λ (l : List (List ℕ)). l ++ behind) a.parts ∙ append_assoc a.before a.waiting behind;
-  quiet = quiet_lines a.waiting a.asked;
-  fits = subst (AllButLast Fits) a.parts (all_but_last Fits lines a.fits);
+  cut = record {
+    before = a.before;
+    waiting = a.waiting;
+    behind = behind;
+    parts = parts ∙ ap (λ (l : List (List ℕ)). l ++ behind) a.parts ∙ append_assoc a.before a.waiting behind;
+    quiet = quiet_lines a.waiting a.asked;
+  };
+  sent = record {
+    between = a.between;
+    told = a.told;
+    text = replies (history_after h a.before) a.waiting;
+    is = Replied refl;
+    front = subst (SendsFront a.between new) a.rest (front-then a.between old.taken new a.sent old.held a.went front);
+  };
+  fits = subst (AllButLast IsNotTooLong) a.parts (all_but_last IsNotTooLong lines a.fits);
   lives = λ f. subst (AllButLast CallsNot) a.parts (all_but_last CallsNot lines (a.lives f));
-  between = a.between;
-  told = a.told;
-  text = replies (history_after h a.before) a.waiting;
-  is = inl refl;
-  front = subst (SendsFront a.between new) a.rest (front-then a.between old.taken new a.sent old.held a.went front);
   leaves = record { shows = λ s. inr (inl (subst (λ l. m.showing.shows r (history_after h l)) a.parts (a.leaves.shows s))); failed = a.leaves.failed };
   calls = inr (subst (λ l. CallsSend m.showing first (commands_of_lines l) r) a.parts a.calls);
 }
 
 -- one more line was answered, and is held
 more_held : {R : Type 0} (m : Ghosts R) (h : History) (start : Option (List ℕ)) (first r new : R) (old left : Out) (lines : List (List ℕ)) (line : List ℕ)
-    → Answered m h start first r old lines → Says old left (reply_to (ask_of line) (history_after h lines)) → command_of (ask_of line) ≡ []
+    → Answered m h start first r old lines → HasSaid old left (line_reply (ask_of line) (history_after h lines)) → command_of (ask_of line) ≡ []
     → NoneTooLong (lines ++ line ∷ []) → Becomes m first h new (history_after h (lines ++ line ∷ [])) → (m.has_failed first → NoneCalls (lines ++ line ∷ []))
     → CallsSend m.showing first (commands_of_lines (lines ++ line ∷ [])) new
     → Answered m h start first new left (lines ++ line ∷ [])
@@ -126,8 +130,8 @@ more_held m h start first r new old left lines line a said none fits leaves live
   told = a.told;
   sent = a.sent ++ said.sent;
   went = Appends-then a.between old.taken left.taken a.sent said.sent a.went said.told;
-  rest = append_assoc a.sent said.sent left.held ∙ ap (λ (l : List ℕ). a.sent ++ l) (sym said.rest) ∙ gone_on a.sent old.held (replies (history_after h a.before) a.waiting) (reply_to (ask_of line) (history_after h lines)) a.rest
-      ∙ ap (λ (l : List ℕ). replies (history_after h a.before) a.waiting ++ l) (ap (reply_to (ask_of line)) (ap (history_after h) a.parts ∙ history_on h a.before a.waiting) ∙ sym (replies_one line (history_after (history_after h a.before) a.waiting)))
+  rest = append_assoc a.sent said.sent left.held ∙ ap (λ (l : List ℕ). a.sent ++ l) (sym said.rest) ∙ gone_on a.sent old.held (replies (history_after h a.before) a.waiting) (line_reply (ask_of line) (history_after h lines)) a.rest
+      ∙ ap (λ (l : List ℕ). replies (history_after h a.before) a.waiting ++ l) (ap (line_reply (ask_of line)) (ap (history_after h) a.parts ∙ history_on h a.before a.waiting) ∙ sym (replies_one line (history_after (history_after h a.before) a.waiting)))
       ∙ sym (replies_on a.waiting (line ∷ []) (history_after h a.before));
   fits = fits;
   leaves = leaves;
@@ -142,12 +146,12 @@ all_told m h start first r old new lines text a went =
     (ap (λ (l : List ℕ). replies h a.before ++ l) (gone_on a.sent old.held (replies (history_after h a.before) a.waiting) text a.rest) ∙ sym (append_assoc (replies h a.before) (replies (history_after h a.before) a.waiting) text) ∙ ap (λ (l : List ℕ). l ++ text) (sym (replies_on a.before a.waiting h) ∙ ap (replies h) (sym a.parts)))
     (Appends-then start a.between new (replies h a.before) (a.sent ++ (old.held ++ text)) a.told (Appends-then a.between old.taken new a.sent (old.held ++ text) a.went went))
 
-said_all : (a b : Out) (x : List ℕ) → Says a b x → b.held ≡ [] → Appends a.taken b.taken (a.held ++ x)
+said_all : (a b : Out) (x : List ℕ) → HasSaid a b x → b.held ≡ [] → Appends a.taken b.taken (a.held ++ x)
 said_all a b x p none = subst (Appends a.taken b.taken) (sym (p.rest ∙ ap (λ (l : List ℕ). p.sent ++ l) none ∙ append-nil p.sent)) p.told
 
 -- one more line was answered
 pub more_answered : {R : Type 0} (m : Ghosts R) (x : Unit {0}) (h : History) (start : Option (List ℕ)) (first r new : R) (old left : Out) (lines : List (List ℕ)) (line : List ℕ)
-    → Answered m h start first r old lines → LineEnds m (Ok x) (ask_of line) (history_after h lines) r old new left → Answered m h start first new left (lines ++ line ∷ [])
+    → Answered m h start first r old lines → AnswersLine m (Ok x) (ask_of line) (history_after h lines) r old new left → Answered m h start first new left (lines ++ line ∷ [])
 more_answered m x h start first r new old left lines line a e = by e.leaves.flushed
   where
     fits : NoneTooLong (lines ++ line ∷ [])
@@ -166,7 +170,7 @@ more_answered m x h start first r new old left lines line a e = by e.leaves.flus
     by (inl none) = more_held m h start first r new old left lines line a e.tells none fits leaves lives calls
     by (inr none) = answered_out m h start first new left.taken left.held (lines ++ line ∷ []) (record {
       fits = fits;
-      told = subst (Appends start left.taken) (sym (reply_more h lines line)) (all_told m h start first r old left.taken lines (reply_to (ask_of line) (history_after h lines)) a (said_all old left (reply_to (ask_of line) (history_after h lines)) e.tells none));
+      told = subst (Appends start left.taken) (sym (reply_more h lines line)) (all_told m h start first r old left.taken lines (line_reply (ask_of line) (history_after h lines)) a (said_all old left (line_reply (ask_of line) (history_after h lines)) e.tells none));
       leaves = leaves;
       lives = lives;
       calls = calls;
@@ -174,12 +178,12 @@ more_answered m x h start first r new old left lines line a e = by e.leaves.flus
 
 -- the text of the lines that wait, and of one more
 told_for : {R : Type 0} (m : Ghosts R) (first r : R) (h at k : History) (waiting : List (List ℕ)) (line text : List ℕ) → k ≡ history_after at waiting → Becomes m first h r k
-    → (text ≡ reply_to (ask_of line) k) ⊎ IsStopText (StoppedBy m r k (ask_of line)) (IsBegun (ask_of line) k) text
-    → IsToldFor m first h at (waiting ++ line ∷ []) (replies at waiting ++ text)
+    → (text ≡ line_reply (ask_of line) k) ⊎ IsStopText (StoppedBy m r k (ask_of line)) (IsBegun (ask_of line) k) text
+    → IsTextFor m first h at (waiting ++ line ∷ []) (replies at waiting ++ text)
 told_for m first r h at k waiting line text same becomes (inl is) =
-    inl (ap (λ (l : List ℕ). replies at waiting ++ l) (is ∙ ap (reply_to (ask_of line)) same ∙ sym (replies_one line (history_after at waiting))) ∙ sym (replies_on waiting (line ∷ []) at))
+    Replied (ap (λ (l : List ℕ). replies at waiting ++ l) (is ∙ ap (line_reply (ask_of line)) same ∙ sym (replies_one line (history_after at waiting))) ∙ sym (replies_on waiting (line ∷ []) at))
 told_for m first r h at k waiting line text same becomes (inr stop) =
-    inr (waiting, line, text, refl, subst (λ g. IsStopText (StoppedBy m first h (ask_of line)) (IsBegun (ask_of line) g) text) same (stop_then m first r h k (ask_of line) (IsBegun (ask_of line) k) text becomes stop), refl)
+    StoppedLast waiting line text refl (subst (λ g. IsStopText (StoppedBy m first h (ask_of line)) (IsBegun (ask_of line) g) text) same (stop_then m first r h k (ask_of line) (IsBegun (ask_of line) k) text becomes stop)) refl
 
 -- what calls sent for the lines before one, and none for that one
 none_sent : {R : Type 0} (m : Ghosts R) (first r new : R) (lines : List (List ℕ)) → CallsSend m.showing first (commands_of_lines lines) r → CallsSend m.showing r [] new → CallsSend m.showing first (commands_of_lines lines) new
@@ -194,7 +198,7 @@ either_sent m first r new lines line p q =
 
 -- a line ended it
 pub ends_at : {R : Type 0} (m : Ghosts R) (end : LineEnd) (h : History) (start : Option (List ℕ)) (first r new : R) (old left : Out) (all lines : List (List ℕ)) (line : List ℕ) (behind : List (List ℕ))
-    → all ≡ lines ++ line ∷ behind → Answered m h start first r old lines → LineEnds m (Err end) (ask_of line) (history_after h lines) r old new left
+    → all ≡ lines ++ line ∷ behind → Answered m h start first r old lines → AnswersLine m (Err end) (ask_of line) (history_after h lines) r old new left
     → Ended m end h start first new left all
 ends_at m Stopped h start first r new old left all lines line behind parts a e = record {
   before = lines;
@@ -217,7 +221,7 @@ ends_at m TooLong h start first r new old left all lines line behind parts a e =
   long = e.leaves.long;
   fits = a.fits;
   lives = a.lives;
-  told = subst (Appends start left.taken) (sym (reply_more h lines line)) (all_told m h start first r old left.taken lines (reply_to (ask_of line) (history_after h lines)) a e.tells);
+  told = subst (Appends start left.taken) (sym (reply_more h lines line)) (all_told m h start first r old left.taken lines (line_reply (ask_of line) (history_after h lines)) a e.tells);
   leaves = becomes_then m first r new h (history_after h lines) (history_after h lines) a.leaves e.leaves.becomes;
   calls = none_sent m first r new lines a.calls e.sends;
 }
@@ -228,18 +232,22 @@ ends_at m WriteFault h start first r new old left all lines line behind parts a 
     let whole : lines ++ line ∷ [] ≡ a.before ++ (a.waiting ++ line ∷ []) = ap (λ (l : List (List ℕ)). l ++ line ∷ []) a.parts ∙ append_assoc a.before a.waiting (line ∷ []) in
     let next : after_all (history_after h lines) (command_of (ask_of line)) ≡ history_after h (a.before ++ (a.waiting ++ line ∷ [])) = sym (history_more h lines line) ∙ ap (history_after h) whole in
     record {
-      before = a.before;
-      waiting = a.waiting ++ line ∷ [];
-      behind = behind;
-      parts = parts ∙ ap (λ (l : List (List ℕ)). l ++ line ∷ behind) a.parts ∙ append_assoc a.before a.waiting (line ∷ behind) ∙ ap (λ (l : List (List ℕ)). a.before ++ l) (sym (append_assoc a.waiting (line ∷ []) behind));
-      quiet = quiet_before a.waiting line a.asked;
-      fits = subst (AllButLast Fits) whole (but_one Fits lines line a.fits);
+      cut = record {
+        before = a.before;
+        waiting = a.waiting ++ line ∷ [];
+        behind = behind;
+        parts = parts ∙ ap (λ (l : List (List ℕ)). l ++ line ∷ behind) a.parts ∙ append_assoc a.before a.waiting (line ∷ behind) ∙ ap (λ (l : List (List ℕ)). a.before ++ l) (sym (append_assoc a.waiting (line ∷ []) behind));
+        quiet = quiet_before a.waiting line a.asked;
+      };
+      sent = record {
+        between = a.between;
+        told = a.told;
+        text = replies at a.waiting ++ e.tells.text;
+        is = told_for m first r h at (history_after h lines) a.waiting line e.tells.text same a.leaves e.tells.is;
+        front = subst (SendsFront a.between left.taken) (gone_on a.sent old.held (replies at a.waiting) e.tells.text a.rest) (front-then a.between old.taken left.taken a.sent (old.held ++ e.tells.text) a.went e.tells.front);
+      };
+      fits = subst (AllButLast IsNotTooLong) whole (but_one IsNotTooLong lines line a.fits);
       lives = λ f. subst (AllButLast CallsNot) whole (but_one CallsNot lines line (a.lives f));
-      between = a.between;
-      told = a.told;
-      text = replies at a.waiting ++ e.tells.text;
-      is = told_for m first r h at (history_after h lines) a.waiting line e.tells.text same a.leaves e.tells.is;
-      front = subst (SendsFront a.between left.taken) (gone_on a.sent old.held (replies at a.waiting) e.tells.text a.rest) (front-then a.between old.taken left.taken a.sent (old.held ++ e.tells.text) a.went e.tells.front);
       leaves = subst (λ g. BecomesEither m first h new at g) next (subst (λ g. BecomesEither m first h new g (after_all (history_after h lines) (command_of (ask_of line)))) stays (either_then m first r new h (history_after h lines) (history_after h lines) (after_all (history_after h lines) (command_of (ask_of line))) a.leaves e.leaves));
       calls = subst (λ cs. CallsSendEither m.showing first cs (commands_of_lines (a.before ++ (a.waiting ++ line ∷ []))) new)
           (ap commands_of_lines a.parts ∙ commands_more a.before a.waiting ∙ ap (λ (l : List Asked). commands_of_lines a.before ++ l) a.asked ∙ append-nil (commands_of_lines a.before))

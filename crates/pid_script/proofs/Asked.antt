@@ -28,11 +28,11 @@ use Rattle.pid_script.specs.Asking.{path_asked, look_up_asked}
 use Rattle.pid_lookup.specs.Fields.{as_look_up as look_up_told}
 use Rattle.pid_script.specs.LookingUp.{LooksUp}
 use Rattle.pid_script.specs.Calling.{CallsSend}
-use Rattle.pid_script.specs.Replies.{reply_to, command_of, item_line, name_line, is_call, looked_up, answer_line, BAD_FLAGS}
-use Rattle.pid_script.specs.Steps.Saying.{Out, IsGiven, IsNothing, Tells, IsAnswer, refusal_in, refusal_of_names, GoesOn, Leaves, Sends, LineEnds}
+use Rattle.pid_script.specs.Replies.{line_reply, command_of, name_reply, name_line, is_call, looked_up, answer_line, BAD_FLAGS}
+use Rattle.pid_script.specs.Steps.Saying.{Out, IsGivenRefusal, IsGivenStop, IsNothing, TellsLine, IsReplyOrStop, refusal_given, refusal_of_names, GoesOnAfter, LeavesAfter, SendsFor, AnswersLine}
 use Rattle.pid_script.specs.ScriptLines as lines
 use Rattle.pid_script.specs.ScriptLines.{Ask}
-use Rattle.pid_script.specs.Standing.{Stands, Becomes}
+use Rattle.pid_script.specs.Standing.{ShowsOrHasFailed, Becomes}
 use Rattle.pid_script.specs.StopLines.{is_stop, IsBegun, StoppedBy}
 use Rattle.pid_script.proofs.Calling.{send_still, send_none}
 use Rattle.pid_script.proofs.Causes.{recast, none_begun, faults_stop, no_memory, failed_goes, no_cause, own_cause, is_memory, form_cause, fault_cause, names_cause}
@@ -43,7 +43,7 @@ same m r h = record { shows = λ s. s; failed = λ f. refl }
 
 question_leaves : {R : Type 0} (m : Ghosts R) (result : Result (Unit {0}) LineEnd) (ask : Ask) (h : History) (r new : R) (left : Out) (given : Option Refusal)
     → command_of ask ≡ [] → (ask ≡ lines.TooLong → ⊥) → Becomes m r h new h → OnOk result (m.has_failed r → (is_call ask ≡ false) ⊎ (given ≡ Some Failed))
-    → GoesOn result given → (result ≡ Err TooLong → ⊥) → Leaves m result r h new ask left
+    → GoesOnAfter result given → (result ≡ Err TooLong → ⊥) → LeavesAfter m result r h new ask left
 question_leaves m (Ok x) ask h r new left given none short becomes called goes fits = record {
   becomes = subst (λ cs. Becomes m r h new (after_all h cs)) (sym none) becomes;
   lives = λ f. by (called f);
@@ -58,7 +58,7 @@ question_leaves m (Err Stopped) ask h r new left given none short becomes called
 question_leaves m (Err WriteFault) ask h r new left given none short becomes called goes fits = record { shows = λ s. inl (becomes.shows s); failed = becomes.failed }
 question_leaves m (Err TooLong) ask h r new left given none short becomes called goes fits = absurd (fits refl)
 
-question_sends : {R : Type 0} (m : Ghosts R) (result : Result (Unit {0}) LineEnd) (ask : Ask) (r new : R) → command_of ask ≡ [] → CallsSend m.showing r [] new → Sends m result r new ask
+question_sends : {R : Type 0} (m : Ghosts R) (result : Result (Unit {0}) LineEnd) (ask : Ask) (r new : R) → command_of ask ≡ [] → CallsSend m.showing r [] new → SendsFor m result r new ask
 question_sends m (Ok x) ask r new none sends = subst (λ cs. CallsSend m.showing r cs new) (sym none) sends
 question_sends m (Err Stopped) ask r new none sends = sends
 question_sends m (Err WriteFault) ask r new none sends = inl sends
@@ -66,11 +66,11 @@ question_sends m (Err TooLong) ask r new none sends = sends
 
 -- a line was answered that holds no command
 pub asked : {R : Type 0} (m : Ghosts R) (result : Result (Unit {0}) LineEnd) (ask : Ask) (h : History) (r new : R) (old left : Out) (given : Option Refusal)
-    → command_of ask ≡ [] → (ask ≡ lines.TooLong → ⊥) → Becomes m r h new h → ((e : Refusal) → IsGiven given e → StoppedBy m r h ask e) → OnOk result (m.has_failed r → (is_call ask ≡ false) ⊎ (given ≡ Some Failed))
-    → GoesOn result given → (result ≡ Err TooLong → ⊥) → CallsSend m.showing r [] new → Tells (IsGiven given) IsNothing result (reply_to ask h) old left
-    → LineEnds m result ask h r old new left
+    → command_of ask ≡ [] → (ask ≡ lines.TooLong → ⊥) → Becomes m r h new h → ((e : Refusal) → IsGivenRefusal given e → StoppedBy m r h ask e) → OnOk result (m.has_failed r → (is_call ask ≡ false) ⊎ (given ≡ Some Failed))
+    → GoesOnAfter result given → (result ≡ Err TooLong → ⊥) → CallsSend m.showing r [] new → TellsLine result (line_reply ask h) (IsGivenStop given) old left
+    → AnswersLine m result ask h r old new left
 asked m result ask h r new old left given none short becomes cause called goes fits sends told = record {
-  tells = recast (IsGiven given) (StoppedBy m r h ask) IsNothing (IsBegun ask h) result (reply_to ask h) old left cause (none_begun ask h) told;
+  tells = recast (IsGivenRefusal given) (StoppedBy m r h ask) IsNothing (IsBegun ask h) result (line_reply ask h) old left cause (none_begun ask h) told;
   leaves = question_leaves m result ask h r new left given none short becomes called goes fits;
   sends = question_sends m result ask r new none sends;
 }
@@ -78,20 +78,20 @@ asked m result ask h r new old left given none short becomes cause called goes f
 -- the line of a form was refused, or memory was short for it
 pub form_refused : {R X : Type 0} (m : Ghosts R) (result : Result (Unit {0}) LineEnd) (ask : Ask) (said : Result X Refusal) (h : History) (r : R) (old left : Out) (e : Refusal)
     → (e ≢ Memory → said ≡ Err e) → ((g : Refusal) → said ≡ Err g → is_stop g ≡ false)
-    → (said ≡ Err e → reply_to ask h ≡ refused_line e) → (said ≡ Err e → command_of ask ≡ []) → (said ≡ Err e → is_call ask ≡ false) → (ask ≡ lines.TooLong → ⊥)
-    → ((reply : List ℕ) → IsAnswer reply (Err e) → Tells (IsGiven (Some e)) IsNothing result reply old left) → GoesOn result (Some e) → (result ≡ Err TooLong → ⊥)
-    → LineEnds m result ask h r old r left
+    → (said ≡ Err e → line_reply ask h ≡ refused_line e) → (said ≡ Err e → command_of ask ≡ []) → (said ≡ Err e → is_call ask ≡ false) → (ask ≡ lines.TooLong → ⊥)
+    → ((reply : List ℕ) → IsReplyOrStop reply (Err e) → TellsLine result reply (IsGivenStop (Some e)) old left) → GoesOnAfter result (Some e) → (result ≡ Err TooLong → ⊥)
+    → AnswersLine m result ask h r old r left
 form_refused m result ask said h r old left e told none reply command call short sends goes fits = record {
-  tells = recast (IsGiven (Some e)) (StoppedBy m r h ask) IsNothing (IsBegun ask h) result (reply_to ask h) old left (form_cause m said r h ask e told none) (none_begun ask h) (sends (reply_to ask h) (by (is_memory e)));
+  tells = recast (IsGivenRefusal (Some e)) (StoppedBy m r h ask) IsNothing (IsBegun ask h) result (line_reply ask h) old left (form_cause m said r h ask e told none) (none_begun ask h) (sends (line_reply ask h) (by (is_memory e)));
   leaves = leaves result goes fits;
   sends = sent result goes;
 }
   where
-    by : (e ≡ Memory) ⊎ (e ≢ Memory) → IsAnswer (reply_to ask h) (Err e)
+    by : (e ≡ Memory) ⊎ (e ≢ Memory) → IsReplyOrStop (line_reply ask h) (Err e)
     by (inl memory) = inr (e, ap is_stop memory, refl)
     by (inr other) = inl (sym (reply (told other)))
 
-    leaves : (r' : Result (Unit {0}) LineEnd) → GoesOn r' (Some e) → (r' ≡ Err TooLong → ⊥) → Leaves m r' r h r ask left
+    leaves : (r' : Result (Unit {0}) LineEnd) → GoesOnAfter r' (Some e) → (r' ≡ Err TooLong → ⊥) → LeavesAfter m r' r h r ask left
     leaves (Ok x) g f =
         let is : said ≡ Err e = told (no_memory e g) in
         record { becomes = subst (λ cs. Becomes m r h r (after_all h cs)) (sym (command is)) (same m r h); lives = λ _. call is; flushed = inl (command is); fits = short }
@@ -99,7 +99,7 @@ form_refused m result ask said h r old left e told none reply command call short
     leaves (Err WriteFault) g f = record { shows = λ s. inl s; failed = λ _. refl }
     leaves (Err TooLong) g f = absurd (f refl)
 
-    sent : (r' : Result (Unit {0}) LineEnd) → GoesOn r' (Some e) → Sends m r' r r ask
+    sent : (r' : Result (Unit {0}) LineEnd) → GoesOnAfter r' (Some e) → SendsFor m r' r r ask
     sent (Ok x) g = subst (λ cs. CallsSend m.showing r cs r) (sym (command (told (no_memory e g)))) (send_still m.showing r)
     sent (Err Stopped) g = send_still m.showing r
     sent (Err WriteFault) g = inl (send_still m.showing r)
@@ -109,7 +109,7 @@ pub always : (r : Result (Unit {0}) LineEnd) (P : Type 0) → P → OnOk r P
 always (Ok x) P p = p
 always (Err e) P p = tt
 
-pub none_goes : (r : Result (Unit {0}) LineEnd) → GoesOn r None
+pub none_goes : (r : Result (Unit {0}) LineEnd) → GoesOnAfter r None
 none_goes (Ok x) = tt
 none_goes (Err e) = tt
 
@@ -131,7 +131,7 @@ err_stops (Ok x) all = tt
 err_stops (Err e) all = all e refl
 
 -- a look-up was answered
-look_up_facts : {R : Type 0} (m : Ghosts R) (found : Result Answer (LookupRefusal Refusal)) (h : History) (r : R) (flags size : ℕ) (args : Args) → (m.showing.shows r h → LooksUp found (tree_of h) flags args size) → (m.has_failed r → found ≡ Err (look_ups.Names Failed)) → Stands m r h
+look_up_facts : {R : Type 0} (m : Ghosts R) (found : Result Answer (LookupRefusal Refusal)) (h : History) (r : R) (flags size : ℕ) (args : Args) → (m.showing.shows r h → LooksUp found (tree_of h) flags args size) → (m.has_failed r → found ≡ Err (look_ups.Names Failed)) → ShowsOrHasFailed m r h
     → IfOk found (λ a. (is_bad flags ≡ false) × (a ≡ answer_of (tree_of h) flags args size)) × (IsErrOf found look_ups.BadFlags → is_bad flags ≡ true) × ((e : Refusal) → IsErrOf found (look_ups.Names e) → is_stop e ≡ true)
 look_up_facts m found h r flags size args told failed (inl s) = by found (told s)
   where
@@ -152,40 +152,40 @@ faults_named (Err look_ups.Memory) tree flags size args t e is = absurd cc
 pub looked_for : {R : Type 0} (m : Ghosts R) (result : Result (Unit {0}) LineEnd) (found : Result Answer (LookupRefusal Refusal)) (form : List ℕ) (l : ℕ × Args × ℕ) (h : History) (r new : R) (old left : Out)
     → look_up_asked form ≡ Some (look_up_told l) → (m.showing.shows r h → LooksUp found (tree_of h) l.0 l.1 l.2) → (m.showing.shows r h → m.showing.shows new h) → (m.has_failed r → (found ≡ Err (look_ups.Names Failed)) × (new ≡ r))
     → ((flags : ℕ) (good : Answer) → IfOk found (λ a. (is_bad flags ≡ false) × (a ≡ good)) → (IsErrOf found look_ups.BadFlags → is_bad flags ≡ true) → ((e : Refusal) → IsErrOf found (look_ups.Names e) → is_stop e ≡ true)
-    → Tells (IsGiven (refusal_of_names found)) IsNothing result (cond (is_bad flags) BAD_FLAGS (answer_line good)) old left)
-    → GoesOn result (refusal_of_names found) → (result ≡ Err TooLong → ⊥) → Does m.showing r nothing_sent new → Stands m r h → LineEnds m result (lines.LooksUp form) h r old new left
+    → TellsLine result (cond (is_bad flags) BAD_FLAGS (answer_line good)) (IsGivenStop (refusal_of_names found)) old left)
+    → GoesOnAfter result (refusal_of_names found) → (result ≡ Err TooLong → ⊥) → Does m.showing r nothing_sent new → ShowsOrHasFailed m r h → AnswersLine m result (lines.AsksLookUp form) h r old new left
 looked_for m result found form l h r new old left is told kept failed sends goes fits does stands =
     let facts = look_up_facts m found h r l.0 l.2 l.1 told (λ f. (failed f).0) stands in
-    asked m result (lines.LooksUp form) h r new old left (refusal_of_names found) refl (λ e. cc) (record { shows = kept; failed = λ f. (failed f).1 })
-    (names_cause m found r h (lines.LooksUp form) (ap is_some is) (λ s. faults_named found (tree_of h) l.0 l.2 l.1 (told s)) (λ f. (failed f).0))
-    (always result (m.has_failed r → (is_call (lines.LooksUp form) ≡ false) ⊎ (refusal_of_names found ≡ Some Failed)) (λ f. inr (ap refusal_of_names (failed f).0)))
+    asked m result (lines.AsksLookUp form) h r new old left (refusal_of_names found) refl (λ e. cc) (record { shows = kept; failed = λ f. (failed f).1 })
+    (names_cause m found r h (lines.AsksLookUp form) (ap is_some is) (λ s. faults_named found (tree_of h) l.0 l.2 l.1 (told s)) (λ f. (failed f).0))
+    (always result (m.has_failed r → (is_call (lines.AsksLookUp form) ≡ false) ⊎ (refusal_of_names found ≡ Some Failed)) (λ f. inr (ap refusal_of_names (failed f).0)))
     goes fits (send_none m.showing r new does)
-    (subst (λ o. Tells (IsGiven (refusal_of_names found)) IsNothing result (looked_up o h) old left) (sym is) (sends l.0 (answer_of (tree_of h) l.0 l.1 l.2) facts.0 facts.1 facts.2))
+    (subst (λ o. TellsLine result (looked_up o h) (IsGivenStop (refusal_of_names found)) old left) (sym is) (sends l.0 (answer_of (tree_of h) l.0 l.1 l.2) facts.0 facts.1 facts.2))
 
 -- a look-up whose fields are bad
-pub bad_look_up : {R : Type 0} (m : Ghosts R) (result : Result (Unit {0}) LineEnd) (form : List ℕ) (h : History) (r : R) (old left : Out) → look_up_asked form ≡ None → ((given : Option Refusal) → Tells (IsGiven given) IsNothing result (refused_line BadText) old left) → IfErr result (λ e. e ≡ WriteFault) → LineEnds m result (lines.LooksUp form) h r old r left
+pub bad_look_up : {R : Type 0} (m : Ghosts R) (result : Result (Unit {0}) LineEnd) (form : List ℕ) (h : History) (r : R) (old left : Out) → look_up_asked form ≡ None → ((given : Option Refusal) → TellsLine result (refused_line BadText) (IsGivenStop given) old left) → IfErr result (λ e. e ≡ WriteFault) → AnswersLine m result (lines.AsksLookUp form) h r old r left
 bad_look_up m result form h r old left is told end =
-    asked m result (lines.LooksUp form) h r r old left None refl (λ e. cc) (same m r h) (no_cause m r h (lines.LooksUp form)) (always result (m.has_failed r → (is_call (lines.LooksUp form) ≡ false) ⊎ (None ≡ Some Failed)) (λ _. inl (ap is_some is))) (none_goes result) (only_fault result end) (send_still m.showing r)
-    (subst (λ o. Tells (IsGiven None) IsNothing result (looked_up o h) old left) (sym is) (told None))
+    asked m result (lines.AsksLookUp form) h r r old left None refl (λ e. cc) (same m r h) (no_cause m r h (lines.AsksLookUp form)) (always result (m.has_failed r → (is_call (lines.AsksLookUp form) ≡ false) ⊎ (None ≡ Some Failed)) (λ _. inl (ap is_some is))) (none_goes result) (only_fault result end) (send_still m.showing r)
+    (subst (λ o. TellsLine result (looked_up o h) (IsGivenStop None) old left) (sym is) (told None))
 
 -- memory is short for a look-up
-pub no_look_up : {R : Type 0} (m : Ghosts R) (e : LineEnd) (form : List ℕ) (h : History) (r : R) (old left : Out) → ((reply : List ℕ) → Tells (IsGiven (Some Memory)) IsNothing (Err e) reply old left) → (e ≡ TooLong → ⊥) → LineEnds m (Err e) (lines.LooksUp form) h r old r left
+pub no_look_up : {R : Type 0} (m : Ghosts R) (e : LineEnd) (form : List ℕ) (h : History) (r : R) (old left : Out) → ((reply : List ℕ) → TellsLine (Err e) reply (IsGivenStop (Some Memory)) old left) → (e ≡ TooLong → ⊥) → AnswersLine m (Err e) (lines.AsksLookUp form) h r old r left
 no_look_up m e form h r old left told fits =
-    asked m (Err e) (lines.LooksUp form) h r r old left (Some Memory) refl (λ e. cc) (same m r h) (own_cause m r h (lines.LooksUp form)) tt tt (λ is. fits (cc is)) (send_still m.showing r) (told (reply_to (lines.LooksUp form) h))
+    asked m (Err e) (lines.AsksLookUp form) h r r old left (Some Memory) refl (λ e. cc) (same m r h) (own_cause m r h (lines.AsksLookUp form)) tt tt (λ is. fits (cc is)) (send_still m.showing r) (told (line_reply (lines.AsksLookUp form) h))
 
 -- the name of a path was asked
-name_facts : {R X : Type 0} (m : Ghosts R) (answer : Result X Refusal) (h : History) (r : R) (P : X → Type 0) → (m.showing.shows r h → MatchResult answer P IsFault) → (m.has_failed r → answer ≡ Err Failed) → Stands m r h → IfOk answer P × IfErr answer (λ e. is_stop e ≡ true)
+name_facts : {R X : Type 0} (m : Ghosts R) (answer : Result X Refusal) (h : History) (r : R) (P : X → Type 0) → (m.showing.shows r h → MatchResult answer P IsFault) → (m.has_failed r → answer ≡ Err Failed) → ShowsOrHasFailed m r h → IfOk answer P × IfErr answer (λ e. is_stop e ≡ true)
 name_facts m answer h r P told failed (inl s) = (if_ok answer P IsFault (told s), err_stops answer (λ e is. faults_stop e (if_err answer P IsFault (told s) e is)))
 name_facts m answer h r P told failed (inr f) = subst (λ a. IfOk a P × IfErr a (λ e. is_stop e ≡ true)) (sym (failed f)) (tt, refl)
 
 pub named : {R X : Type 0} (m : Ghosts R) (result : Result (Unit {0}) LineEnd) (answer : Result X Refusal) (form : List ℕ) (path : Path) (h : History) (r new : R) (old left : Out) (P : X → Type 0)
     → path_asked form ≡ Ok path → (m.showing.shows r h → MatchResult answer P IsFault) → (m.showing.shows r h → m.showing.shows new h) → (m.has_failed r → (answer ≡ Err Failed) × (new ≡ r))
-    → (IfOk answer P → IfErr answer (λ e. is_stop e ≡ true) → Tells (IsGiven (refusal_in answer)) IsNothing result (name_line (name_at (path_text path) (items_of h))) old left)
-    → GoesOn result (refusal_in answer) → (result ≡ Err TooLong → ⊥) → Does m.showing r nothing_sent new → Stands m r h → LineEnds m result (lines.Reads form) h r old new left
+    → (IfOk answer P → IfErr answer (λ e. is_stop e ≡ true) → TellsLine result (name_line (name_at (path_text path) (items_of h))) (IsGivenStop (refusal_given answer)) old left)
+    → GoesOnAfter result (refusal_given answer) → (result ≡ Err TooLong → ⊥) → Does m.showing r nothing_sent new → ShowsOrHasFailed m r h → AnswersLine m result (lines.AsksName form) h r old new left
 named m result answer form path h r new old left P is told kept failed sends goes fits does stands =
     let facts = name_facts m answer h r P told (λ f. (failed f).0) stands in
-    asked m result (lines.Reads form) h r new old left (refusal_in answer) refl (λ e. cc) (record { shows = kept; failed = λ f. (failed f).1 })
-    (fault_cause m answer r h (lines.Reads form) (ap is_ok is) (λ s. if_err answer P IsFault (told s)) (λ f. (failed f).0))
-    (always result (m.has_failed r → (is_call (lines.Reads form) ≡ false) ⊎ (refusal_in answer ≡ Some Failed)) (λ f. inr (ap refusal_in (failed f).0)))
+    asked m result (lines.AsksName form) h r new old left (refusal_given answer) refl (λ e. cc) (record { shows = kept; failed = λ f. (failed f).1 })
+    (fault_cause m answer r h (lines.AsksName form) (ap is_ok is) (λ s. if_err answer P IsFault (told s)) (λ f. (failed f).0))
+    (always result (m.has_failed r → (is_call (lines.AsksName form) ≡ false) ⊎ (refusal_given answer ≡ Some Failed)) (λ f. inr (ap refusal_given (failed f).0)))
     goes fits (send_none m.showing r new does)
-    (subst (λ a. Tells (IsGiven (refusal_in answer)) IsNothing result (item_line a h) old left) (sym is) (sends facts.0 facts.1))
+    (subst (λ a. TellsLine result (name_reply a h) (IsGivenStop (refusal_given answer)) old left) (sym is) (sends facts.0 facts.1))

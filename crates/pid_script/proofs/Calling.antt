@@ -25,13 +25,13 @@ commands_on (x ∷ xs) ys = ap (λ (l : List Asked). x.command ∷ l) (commands_
 -- CALLS
 
 pub go_still : {R : Type 0} (w : Showing R) (a : R) → CallsGo w a a
-go_still w a = record { calls = []; lead = refl }
+go_still w a = record { clean = λ clean. clean; calls = []; lead = refl }
 
 pub go_one : {R : Type 0} (w : Showing R) (a b : R) (call : Call) → Does w a call b → CallsGo w a b
-go_one w a b call does = record { calls = call ∷ []; lead = (b, does, refl) }
+go_one w a b call does = record { clean = does.clean; calls = call ∷ []; lead = (b, does, refl) }
 
 pub go_then : {R : Type 0} (w : Showing R) (a b c : R) → CallsGo w a b → CallsGo w b c → CallsGo w a c
-go_then w a b c p q = record { calls = p.calls ++ q.calls; lead = lead_on w a b c p.calls q.calls p.lead q.lead }
+go_then w a b c p q = record { clean = λ clean. p.clean (q.clean clean); calls = p.calls ++ q.calls; lead = lead_on w a b c p.calls q.calls p.lead q.lead }
 
 -- WITH THEIR COMMANDS
 

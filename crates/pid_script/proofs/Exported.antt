@@ -19,10 +19,10 @@ use Rattle.pid_service_laws.specs.Registries.{Does}
 use Rattle.pid_script.specs.declared.line_end.LineEnd.{LineEnd}
 use Rattle.pid_script.specs.declared.line_end.LineEnd.TheVariants.{Stopped, WriteFault, TooLong}
 use Rattle.pid_script.specs.declared.moderated.Moderated.{Ghosts}
-use Rattle.pid_script.specs.Exporting.{Exports, TakesWholeFront}
-use Rattle.pid_script.specs.Steps.Saying.{out, IsGiven, IsNothing, Tells, IsAnswer, GoesOn, LineEnds}
+use Rattle.pid_script.specs.Exporting.{ExportsText, TakesWholeFront}
+use Rattle.pid_script.specs.Steps.Saying.{out, IsGivenRefusal, IsGivenStop, IsNothing, TellsLine, IsReplyOrStop, GoesOnAfter, AnswersLine}
 use Rattle.pid_script.specs.ScriptLines as lines
-use Rattle.pid_script.specs.Standing.{Stands}
+use Rattle.pid_script.specs.Standing.{ShowsOrHasFailed}
 use Rattle.pid_script.specs.StopLines.{is_stop, StoppedBy, IsStopText}
 use Rattle.pid_script.specs.WholeFronts.{IsWholeFront}
 use Rattle.pid_script.proofs.Calling.{send_still, send_none}
@@ -30,45 +30,45 @@ use Rattle.pid_script.proofs.SayLemmas.{Appends-nil, Appends-then, front-then, f
 use Rattle.pid_script.proofs.Causes.{faults_stop}
 
 -- what was held did not go out before an export
-pub export_unheld : {R : Type 0} (m : Ghosts R) (e : LineEnd) (h : History) (r : R) (a b : Option (List ℕ)) (was left : List ℕ) → e ≡ WriteFault → SendsFront a b was → LineEnds m (Err e) lines.Exports h r (out a was) r (out b left)
-export_unheld m e h r a b was left is front = subst (λ x. LineEnds m (Err x) lines.Exports h r (out a was) r (out b left)) (sym is) (record {
+pub export_unheld : {R : Type 0} (m : Ghosts R) (e : LineEnd) (h : History) (r : R) (a b : Option (List ℕ)) (was left : List ℕ) → e ≡ WriteFault → SendsFront a b was → AnswersLine m (Err e) lines.AsksExport h r (out a was) r (out b left)
+export_unheld m e h r a b was left is front = subst (λ x. AnswersLine m (Err x) lines.AsksExport h r (out a was) r (out b left)) (sym is) (record {
   tells = record { text = print (tree_of h); is = inl refl; front = front-before a b was (print (tree_of h)) front };
   leaves = record { shows = λ s. inl s; failed = λ _. refl };
   sends = inl (send_still m.showing r);
 })
 
 -- the whole text went out
-pub export_whole : {R : Type 0} (m : Ghosts R) (x : Unit {0}) (h : History) (r new : R) (a b c : Option (List ℕ)) (was left : List ℕ) → Appends a b was → left ≡ [] → (m.showing.shows r h → Appends b c (print (tree_of h))) → (m.showing.shows r h → m.showing.shows new h) → (m.has_failed r → ⊥) → Does m.showing r nothing_sent new → Stands m r h
-    → LineEnds m (Ok x) lines.Exports h r (out a was) new (out c left)
+pub export_whole : {R : Type 0} (m : Ghosts R) (x : Unit {0}) (h : History) (r new : R) (a b c : Option (List ℕ)) (was left : List ℕ) → Appends a b was → left ≡ [] → (m.showing.shows r h → Appends b c (print (tree_of h))) → (m.showing.shows r h → m.showing.shows new h) → (m.has_failed r → ⊥) → Does m.showing r nothing_sent new → ShowsOrHasFailed m r h
+    → AnswersLine m (Ok x) lines.AsksExport h r (out a was) new (out c left)
 export_whole m x h r new a b c was left went none told kept failed does stands = record {
   tells = out_then a b c was left (print (tree_of h)) none went (by stands);
   leaves = record { becomes = record { shows = kept; failed = λ f. absurd (failed f) }; lives = λ f. absurd (failed f); flushed = inr none; fits = λ e. cc };
   sends = send_none m.showing r new does;
 }
   where
-    by : Stands m r h → Appends b c (print (tree_of h))
+    by : ShowsOrHasFailed m r h → Appends b c (print (tree_of h))
     by (inl s) = told s
     by (inr f) = absurd (failed f)
 
 -- the writer failed within the text
-pub export_broken : {R : Type 0} (m : Ghosts R) (h : History) (r new : R) (a b c : Option (List ℕ)) (was left : List ℕ) → Appends a b was → (m.showing.shows r h → SendsFront b c (print (tree_of h))) → (m.showing.shows r h → m.showing.shows new h) → (m.has_failed r → ⊥) → Does m.showing r nothing_sent new → Stands m r h
-    → LineEnds m (Err WriteFault) lines.Exports h r (out a was) new (out c left)
+pub export_broken : {R : Type 0} (m : Ghosts R) (h : History) (r new : R) (a b c : Option (List ℕ)) (was left : List ℕ) → Appends a b was → (m.showing.shows r h → SendsFront b c (print (tree_of h))) → (m.showing.shows r h → m.showing.shows new h) → (m.has_failed r → ⊥) → Does m.showing r nothing_sent new → ShowsOrHasFailed m r h
+    → AnswersLine m (Err WriteFault) lines.AsksExport h r (out a was) new (out c left)
 export_broken m h r new a b c was left went told kept failed does stands = record {
   tells = record { text = print (tree_of h); is = inl refl; front = front-then a b c was (print (tree_of h)) went (by stands) };
   leaves = record { shows = λ s. inl (kept s); failed = λ f. absurd (failed f) };
   sends = inl (send_none m.showing r new does);
 }
   where
-    by : Stands m r h → SendsFront b c (print (tree_of h))
+    by : ShowsOrHasFailed m r h → SendsFront b c (print (tree_of h))
     by (inl s) = told s
     by (inr f) = absurd (failed f)
 
 -- what an export told, by the fault
-pub write_told : (f : ExportFault) (w : OutputFault) (a b : Option (List ℕ)) (text : List ℕ) → f ≡ Write w → Exports {X = Unit {0}} (Err f) a b text → SendsFront a b text
-write_told f w a b text is told = subst (λ g. Exports {X = Unit {0}} (Err g) a b text) is told
+pub write_told : (f : ExportFault) (w : OutputFault) (a b : Option (List ℕ)) (text : List ℕ) → f ≡ Write w → ExportsText {X = Unit {0}} (Err f) a b text → SendsFront a b text
+write_told f w a b text is told = subst (λ g. ExportsText {X = Unit {0}} (Err g) a b text) is told
 
-pub refused_told : (f : ExportFault) (e : Refusal) (a b : Option (List ℕ)) (text : List ℕ) → f ≡ Refused e → Exports {X = Unit {0}} (Err f) a b text → IsFault e × TakesWholeFront a b text
-refused_told f e a b text is told = subst (λ g. Exports {X = Unit {0}} (Err g) a b text) is told
+pub refused_told : (f : ExportFault) (e : Refusal) (a b : Option (List ℕ)) (text : List ℕ) → f ≡ Refused e → ExportsText {X = Unit {0}} (Err f) a b text → IsFault e × TakesWholeFront a b text
+refused_told f e a b text is told = subst (λ g. ExportsText {X = Unit {0}} (Err g) a b text) is told
 
 fault_of : {X : Type 0} → Result X ExportFault → ExportFault → ExportFault
 fault_of (Ok x) other = other
@@ -91,9 +91,9 @@ record BegunExport (a b : Option (List ℕ)) (text : List ℕ) : Type 0 where
   pub told : Appends a b front
 
 behind_begun : {R : Type 0} (m : Ghosts R) (result : Result (Unit {0}) LineEnd) (e : Refusal) (h : History) (r new : R) (a b c d : Option (List ℕ)) (was now left : List ℕ)
-    → Appends a b was → now ≡ [] → BegunExport b c (print (tree_of h)) → ((f : Refusal) → IsGiven (Some e) f → StoppedBy m r h lines.Exports f) → is_stop e ≡ true → (m.showing.shows r h → m.showing.shows new h) → (m.has_failed r → new ≡ r)
-    → Tells (IsGiven (Some e)) IsNothing result (refused_line e) (out c now) (out d left) → GoesOn result (Some e) → (result ≡ Err TooLong → ⊥) → Does m.showing r nothing_sent new
-    → LineEnds m result lines.Exports h r (out a was) new (out d left)
+    → Appends a b was → now ≡ [] → BegunExport b c (print (tree_of h)) → ((f : Refusal) → IsGivenRefusal (Some e) f → StoppedBy m r h lines.AsksExport f) → is_stop e ≡ true → (m.showing.shows r h → m.showing.shows new h) → (m.has_failed r → new ≡ r)
+    → TellsLine result (refused_line e) (IsGivenStop (Some e)) (out c now) (out d left) → GoesOnAfter result (Some e) → (result ≡ Err TooLong → ⊥) → Does m.showing r nothing_sent new
+    → AnswersLine m result lines.AsksExport h r (out a was) new (out d left)
 behind_begun m (Ok x) e h r new a b c d was now left went none begun cause stop kept failed t goes fits does = absurd (true≢false (sym stop ∙ goes))
 behind_begun m (Err Stopped) e h r new a b c d was now left went none begun cause stop kept failed t goes fits does = record {
   tells = record {
@@ -120,7 +120,7 @@ behind_begun m (Err WriteFault) e h r new a b c d was now left went none begun c
   sends = inl (send_none m.showing r new does);
 }
   where
-    by : (t.text ≡ refused_line e) ⊎ IsStopText (IsGiven (Some e)) IsNothing t.text → IsStopText (StoppedBy m r h lines.Exports) (λ b. IsWholeFront (print (tree_of h)) b) (begun.front ++ t.text)
+    by : (t.text ≡ refused_line e) ⊎ IsStopText (IsGivenRefusal (Some e)) IsNothing t.text → IsStopText (StoppedBy m r h lines.AsksExport) (λ b. IsWholeFront (print (tree_of h)) b) (begun.front ++ t.text)
     by (inl is) = record { begun = begun.front; front = begun.whole; refusal = e; cause = cause e (refl, stop); is = ap (λ (l : List ℕ). begun.front ++ l) is }
     by (inr s) = record {
       begun = begun.front;
@@ -132,19 +132,19 @@ behind_begun m (Err WriteFault) e h r new a b c d was now left went none begun c
 behind_begun m (Err TooLong) e h r new a b c d was now left went none begun cause stop kept failed t goes fits does = absurd (fits refl)
 
 pub export_refused : {R : Type 0} (m : Ghosts R) (result : Result (Unit {0}) LineEnd) (e : Refusal) (h : History) (r new : R) (a b c d : Option (List ℕ)) (was now left : List ℕ)
-    → Appends a b was → now ≡ [] → (m.showing.shows r h → IsFault e × TakesWholeFront b c (print (tree_of h))) → (m.has_failed r → (e ≡ Failed) × (new ≡ r) × (c ≡ b)) → (m.showing.shows r h → m.showing.shows new h) → Stands m r h
-    → ((reply : List ℕ) → IsAnswer reply (Err e) → Tells (IsGiven (Some e)) IsNothing result reply (out c now) (out d left)) → GoesOn result (Some e) → (result ≡ Err TooLong → ⊥) → Does m.showing r nothing_sent new
-    → LineEnds m result lines.Exports h r (out a was) new (out d left)
+    → Appends a b was → now ≡ [] → (m.showing.shows r h → IsFault e × TakesWholeFront b c (print (tree_of h))) → (m.has_failed r → (e ≡ Failed) × (new ≡ r) × (c ≡ b)) → (m.showing.shows r h → m.showing.shows new h) → ShowsOrHasFailed m r h
+    → ((reply : List ℕ) → IsReplyOrStop reply (Err e) → TellsLine result reply (IsGivenStop (Some e)) (out c now) (out d left)) → GoesOnAfter result (Some e) → (result ≡ Err TooLong → ⊥) → Does m.showing r nothing_sent new
+    → AnswersLine m result lines.AsksExport h r (out a was) new (out d left)
 export_refused m result e h r new a b c d was now left went none told failed kept stands sends goes fits does =
     behind_begun m result e h r new a b c d was now left went none (by stands) cause (stops stands) kept (λ f. (failed f).1) (sends (refused_line e) (inl refl)) goes fits does
   where
-    by : Stands m r h → BegunExport b c (print (tree_of h))
+    by : ShowsOrHasFailed m r h → BegunExport b c (print (tree_of h))
     by (inl s) = record { front = (told s).1.front; whole = (told s).1.whole; told = (told s).1.told }
     by (inr f) = record { front = []; whole = record { behind = print (tree_of h); is = refl; whole = refl }; told = subst (λ x. Appends b x []) (sym (failed f).2) (Appends-nil b) }
 
-    stops : Stands m r h → is_stop e ≡ true
+    stops : ShowsOrHasFailed m r h → is_stop e ≡ true
     stops (inl s) = faults_stop e (told s).0
     stops (inr f) = ap is_stop (failed f).0
 
-    cause : (f : Refusal) → IsGiven (Some e) f → StoppedBy m r h lines.Exports f
+    cause : (f : Refusal) → IsGivenRefusal (Some e) f → StoppedBy m r h lines.AsksExport f
     cause f given = record { stops = given.1; live = λ s. (let same : e ≡ f = cc given.0 in subst IsFault same (told s).0); failed = λ g. inl (let same : e ≡ f = cc given.0 in sym same ∙ (failed g).0); unasked = λ off. absurd (true≢false off) }

@@ -4,7 +4,7 @@ use Rattle.std.proofs.lemmas.List.{append-nil}
 use Rattle.std.specs.List.{AllByRecursion}
 use Rattle.pid_moderation.specs.History.{History, Asked}
 use Rattle.pid_moderation.specs.Judgement.{after, after_all}
-use Rattle.pid_script.specs.Replies.{reply_to, command_of, is_call, commands_of_lines, history_after, replies}
+use Rattle.pid_script.specs.Replies.{line_reply, command_of, is_call, commands_of_lines, history_after, replies}
 use Rattle.pid_script.specs.ScriptLines.{ask_of}
 use Rattle.pid_script.specs.ScriptLines as asks
 use Rattle.pid_script.specs.Scripts.{NoneTooLong, NoneCalls, AllButLast, CommandsNot}
@@ -32,12 +32,12 @@ history_more h xs line = history_on h xs (line ∷ []) ∙ ap (after_all (histor
 pub replies_on : (xs ys : List (List ℕ)) (h : History) → replies h (xs ++ ys) ≡ replies h xs ++ replies (history_after h xs) ys
 replies_on [] ys h = refl
 replies_on (x ∷ xs) ys h =
-    ap (λ (l : List ℕ). reply_to (ask_of x) h ++ l) (replies_on xs ys (after_all h (command_of (ask_of x))))
-    ∙ ap (λ g. reply_to (ask_of x) h ++ (replies (after_all h (command_of (ask_of x))) xs ++ replies g ys)) (sym (after_more (command_of (ask_of x)) h (commands_of_lines xs)))
-    ∙ sym (append_assoc (reply_to (ask_of x) h) (replies (after_all h (command_of (ask_of x))) xs) (replies (history_after h (x ∷ xs)) ys))
+    ap (λ (l : List ℕ). line_reply (ask_of x) h ++ l) (replies_on xs ys (after_all h (command_of (ask_of x))))
+    ∙ ap (λ g. line_reply (ask_of x) h ++ (replies (after_all h (command_of (ask_of x))) xs ++ replies g ys)) (sym (after_more (command_of (ask_of x)) h (commands_of_lines xs)))
+    ∙ sym (append_assoc (line_reply (ask_of x) h) (replies (after_all h (command_of (ask_of x))) xs) (replies (history_after h (x ∷ xs)) ys))
 
-pub replies_one : (line : List ℕ) (h : History) → replies h (line ∷ []) ≡ reply_to (ask_of line) h
-replies_one line h = append-nil (reply_to (ask_of line) h)
+pub replies_one : (line : List ℕ) (h : History) → replies h (line ∷ []) ≡ line_reply (ask_of line) h
+replies_one line h = append-nil (line_reply (ask_of line) h)
 
 pub fits_more : (xs : List (List ℕ)) (line : List ℕ) → NoneTooLong xs → (ask_of line ≡ asks.TooLong → ⊥) → NoneTooLong (xs ++ line ∷ [])
 fits_more [] line f g = (g, tt)
@@ -82,5 +82,5 @@ quiet_before (x ∷ y ∷ lines) line none = (none_first (command_of (ask_of x))
 pub history_waits : (h : History) (before waiting : List (List ℕ)) → commands_of_lines waiting ≡ [] → history_after h (before ++ waiting) ≡ history_after h before
 history_waits h before waiting none = history_on h before waiting ∙ ap (after_all (history_after h before)) none
 
-pub reply_more : (h : History) (lines : List (List ℕ)) (line : List ℕ) → replies h (lines ++ line ∷ []) ≡ replies h lines ++ reply_to (ask_of line) (history_after h lines)
+pub reply_more : (h : History) (lines : List (List ℕ)) (line : List ℕ) → replies h (lines ++ line ∷ []) ≡ replies h lines ++ line_reply (ask_of line) (history_after h lines)
 reply_more h lines line = replies_on lines (line ∷ []) h ∙ ap (λ (l : List ℕ). replies h lines ++ l) (replies_one line (history_after h lines))

@@ -22,8 +22,8 @@ use Rattle.pid_moderation.specs.Views.{views_of, items_of}
 use Rattle.pid_moderation.specs.Writes.{tree_of}
 use Rattle.pid_tables.specs.Files.{asks}
 use Rattle.pid_tree.specs.Printing.{print}
-use Rattle.pid_script.specs.Asking.{command_asked, path_asked, look_up_asked}
-use Rattle.pid_script.specs.Replies.{reply_to, outcome_of, item_line, name_line, looked_up, answer_line, BAD_FLAGS}
+use Rattle.pid_script.specs.Asking.{command_in_form, path_asked, look_up_asked}
+use Rattle.pid_script.specs.Replies.{line_reply, outcome_of, name_reply, name_line, looked_up, answer_line, BAD_FLAGS}
 use Rattle.pid_script.specs.ScriptLines as lines
 use Rattle.pid_script.specs.ScriptLines.{Ask}
 use Rattle.pid_script.specs.StopLines.{is_stop, IsStopLine}
@@ -102,7 +102,7 @@ unfolding stop_bytes
 name_no_stop None = by_bytes (name_line None) refl
 name_no_stop (Some name) = by_bytes (name_line (Some name)) refl
 
-item_no_stop : (asked : Result Path Refusal) (h : History) → ((e : Refusal) → asked ≡ Err e → is_stop e ≡ false) → IsStopLine (item_line asked h) → ⊥
+item_no_stop : (asked : Result Path Refusal) (h : History) → ((e : Refusal) → asked ≡ Err e → is_stop e ≡ false) → IsStopLine (name_reply asked h) → ⊥
 item_no_stop (Err e) h none = refused_no_stop e (none e refl)
 item_no_stop (Ok path) h none = name_no_stop (name_at (path_text path) (items_of h))
 
@@ -121,12 +121,12 @@ looked_no_stop None h = refused_no_stop BadText refl
 looked_no_stop (Some l) h = flags_no_stop (is_bad l.flags) (answer_of (tree_of h) l.flags l.args l.size)
 
 -- no reply stops a script
-pub reply_no_stop : (ask : Ask) (h : History) → IsStopLine (reply_to ask h) → ⊥
+pub reply_no_stop : (ask : Ask) (h : History) → IsStopLine (line_reply ask h) → ⊥
 unfolding stop_bytes
-reply_no_stop lines.Nothing h = by_bytes [] refl
-reply_no_stop (lines.Commands verb account fields) h = outcome_no_stop (command_asked verb account fields) h (command_no_stop verb account fields)
-reply_no_stop lines.Exports h = by_bytes (print (tree_of h)) refl
-reply_no_stop (lines.Reads fields) h = item_no_stop (path_asked fields) h (path_no_stop fields)
-reply_no_stop (lines.LooksUp fields) h = looked_no_stop (look_up_asked fields) h
+reply_no_stop lines.AsksNothing h = by_bytes [] refl
+reply_no_stop (lines.AsksCommand verb account fields) h = outcome_no_stop (command_in_form verb account fields) h (command_no_stop verb account fields)
+reply_no_stop lines.AsksExport h = by_bytes (print (tree_of h)) refl
+reply_no_stop (lines.AsksName fields) h = item_no_stop (path_asked fields) h (path_no_stop fields)
+reply_no_stop (lines.AsksLookUp fields) h = looked_no_stop (look_up_asked fields) h
 reply_no_stop lines.Unclear h = refused_no_stop BadText refl
 reply_no_stop lines.TooLong h = refused_no_stop BadText refl

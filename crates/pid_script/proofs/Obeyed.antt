@@ -20,13 +20,13 @@ use Rattle.pid_service_laws.specs.Registries.{CommandLeaves, Does}
 use Rattle.pid_script.specs.declared.line_end.LineEnd.{LineEnd}
 use Rattle.pid_script.specs.declared.line_end.LineEnd.TheVariants.{Stopped, WriteFault, TooLong}
 use Rattle.pid_script.specs.declared.moderated.Moderated.{Ghosts}
-use Rattle.pid_script.specs.Asking.{command_asked}
+use Rattle.pid_script.specs.Asking.{command_in_form}
 use Rattle.pid_script.specs.Calling.{CallsSend, CallsSendEither}
 use Rattle.pid_script.specs.Replies.{those_sent, outcome_of, is_call}
-use Rattle.pid_script.specs.Steps.Saying.{Out, IsGiven, IsNothing, Tells, IsAnswer, refusal_in, GoesOn, Leaves, Sends, LineEnds}
+use Rattle.pid_script.specs.Steps.Saying.{Out, IsGivenRefusal, IsGivenStop, IsNothing, TellsLine, IsReplyOrStop, refusal_given, GoesOnAfter, LeavesAfter, SendsFor, AnswersLine}
 use Rattle.pid_script.specs.ScriptLines as lines
 use Rattle.pid_script.specs.ScriptLines.{Ask}
-use Rattle.pid_script.specs.Standing.{Stands, FailsAt}
+use Rattle.pid_script.specs.Standing.{ShowsOrHasFailed, FailsAt}
 use Rattle.pid_script.specs.StopLines.{is_stop, IsBegun, StoppedBy}
 use Rattle.pid_script.proofs.Calling.{send_obeyed, send_asked, send_refused}
 use Rattle.pid_script.proofs.NoStops.{judged_no_stop}
@@ -35,7 +35,7 @@ use Rattle.pid_script.proofs.Causes.{recast, faults_stop, fault_in, err_in, fail
 -- why an answer stops
 obey_cause : {R : Type 0} (m : Ghosts R) (answer : Result Reply Refusal) (c : Command) (ask : Ask) (h : History) (r new : R) → is_call ask ≡ true
     → (m.showing.shows r h → CommandLeaves m.showing answer new h (asks c)) → (m.has_failed r → answer ≡ Err Failed)
-    → (e : Refusal) → IsGiven (refusal_in answer) e → StoppedBy m r h ask e
+    → (e : Refusal) → IsGivenRefusal (refusal_given answer) e → StoppedBy m r h ask e
 obey_cause m answer c ask h r new called obeys failed e given = record { stops = given.1; live = λ s. by (obeys s); failed = λ f. inl (let same : Err e ≡ Err Failed = sym (err_in answer e given.0) ∙ failed f in cc); unasked = λ off. absurd (true≢false (sym called ∙ off)) }
   where
     by : CommandLeaves m.showing answer new h (asks c) → IsFault e
@@ -44,16 +44,16 @@ obey_cause m answer c ask h r new called obeys failed e given = record { stops =
 
 obey_answer : {R : Type 0} (m : Ghosts R) (answer : Result Reply Refusal) (c : Command) (h : History) (r new : R)
     → (m.showing.shows r h → CommandLeaves m.showing answer new h (asks c)) → (m.has_failed r → answer ≡ Err Failed)
-    → Stands m r h → IsAnswer (outcome_line (judgement.answer (judge (views_of h) (asks c)))) answer
+    → ShowsOrHasFailed m r h → IsReplyOrStop (outcome_line (judgement.answer (judge (views_of h) (asks c)))) answer
 obey_answer m answer c h r new obeys failed (inr f) = inr (Failed, refl, failed f)
 obey_answer m answer c h r new obeys failed (inl s) = by answer (obeys s)
   where
-    by : (a : Result Reply Refusal) → CommandLeaves m.showing a new h (asks c) → IsAnswer (outcome_line (judgement.answer (judge (views_of h) (asks c)))) a
+    by : (a : Result Reply Refusal) → CommandLeaves m.showing a new h (asks c) → IsReplyOrStop (outcome_line (judgement.answer (judge (views_of h) (asks c)))) a
     by a (inl judged) = inl (ap outcome_line judged.0)
     by (Ok reply) (inr fault) = absurd fault.0
     by (Err e) (inr fault) = inr (e, faults_stop e fault.0, refl)
 
-obey_shows : {R : Type 0} (m : Ghosts R) (x : Unit {0}) (answer : Result Reply Refusal) (c : Command) (h : History) (new : R) → GoesOn (Ok x) (refusal_in answer) → CommandLeaves m.showing answer new h (asks c) → m.showing.shows new (after h (asks c))
+obey_shows : {R : Type 0} (m : Ghosts R) (x : Unit {0}) (answer : Result Reply Refusal) (c : Command) (h : History) (new : R) → GoesOnAfter (Ok x) (refusal_given answer) → CommandLeaves m.showing answer new h (asks c) → m.showing.shows new (after h (asks c))
 obey_shows m x answer c h new goes (inl judged) = judged.1
 obey_shows m x (Ok reply) c h new goes (inr fault) = absurd fault.0
 obey_shows m x (Err e) c h new goes (inr fault) = absurd (true≢false (sym (faults_stop e fault.0) ∙ goes))
@@ -73,7 +73,7 @@ obey_undone m answer c h new e is stop (inr (f, inr between)) = inr between
 StopsBy : Result Reply Refusal → Type 0
 StopsBy answer = (e : Refusal) × (answer ≡ Err e) × (is_stop e ≡ true)
 
-stops_by : (result : Result (Unit {0}) LineEnd) (answer : Result Reply Refusal) (reply : List ℕ) (old left : Out) → Tells (IsGiven (refusal_in answer)) IsNothing result reply old left → result ≡ Err Stopped → StopsBy answer
+stops_by : (result : Result (Unit {0}) LineEnd) (answer : Result Reply Refusal) (reply : List ℕ) (old left : Out) → TellsLine result reply (IsGivenStop (refusal_given answer)) old left → result ≡ Err Stopped → StopsBy answer
 unfolding StopsBy
 stops_by (Ok x) answer reply old left t is = absurd cc
 stops_by (Err Stopped) answer reply old left t is = (t.stop.refusal, err_in answer t.stop.refusal t.stop.cause.0, t.stop.cause.1)
@@ -120,13 +120,13 @@ goes_judged Memory goes = absurd cc
 goes_judged Store goes = absurd cc
 goes_judged Failed goes = absurd cc
 
-goes_outcome : (x : Unit {0}) (answer : Result Reply Refusal) → GoesOn (Ok x) (refusal_in answer) → is_outcome answer ≡ true
+goes_outcome : (x : Unit {0}) (answer : Result Reply Refusal) → GoesOnAfter (Ok x) (refusal_given answer) → is_outcome answer ≡ true
 goes_outcome x (Ok reply) goes = refl
 goes_outcome x (Err e) goes = goes_judged e goes
 
 obey_sends : {R : Type 0} (m : Ghosts R) (result : Result (Unit {0}) LineEnd) (answer : Result Reply Refusal) (c : Command) (verb : Verb) (account form : List ℕ) (r new : R)
-    → command_asked verb account form ≡ Ok c → (live : Bool) × Does m.showing r (lives.obeyed (asks c) answer live) new
-    → GoesOn result (refusal_in answer) → (result ≡ Err Stopped → StopsBy answer) → (result ≡ Err TooLong → ⊥) → Sends m result r new (lines.Commands verb account form)
+    → command_in_form verb account form ≡ Ok c → (live : Bool) × Does m.showing r (lives.obeyed (asks c) answer live) new
+    → GoesOnAfter result (refusal_given answer) → (result ≡ Err Stopped → StopsBy answer) → (result ≡ Err TooLong → ⊥) → SendsFor m result r new (lines.AsksCommand verb account form)
 unfolding StopsBy
 obey_sends m (Ok x) answer c verb account form r new is call goes stop fits = subst (λ a. CallsSend m.showing r (those_sent a) new) (sym is) (send_obeyed m.showing r new (asks c) answer call.0 (goes_outcome x answer goes) call.1)
 obey_sends m (Err Stopped) answer c verb account form r new is call goes stop fits = let s = stop refl in send_refused m.showing r new (asks c) answer call.0 (ap is_outcome s.1 ∙ stop_unjudged s.0 s.2) call.1
@@ -134,14 +134,14 @@ obey_sends m (Err WriteFault) answer c verb account form r new is call goes stop
 obey_sends m (Err TooLong) answer c verb account form r new is call goes stop fits = absurd (fits refl)
 
 obey_leaves : {R : Type 0} (m : Ghosts R) (result : Result (Unit {0}) LineEnd) (answer : Result Reply Refusal) (c : Command) (asked : Result Command Refusal) (verb : Verb) (account form : List ℕ) (h : History) (r new : R) (left : Out)
-    → command_asked verb account form ≡ Ok c
+    → command_in_form verb account form ≡ Ok c
     → (m.showing.shows r h → CommandLeaves m.showing answer new h (asks c)) → (m.has_failed r → (answer ≡ Err Failed) × (new ≡ r))
-    → GoesOn result (refusal_in answer) → OnOk result (left.held ≡ []) → (result ≡ Err Stopped → StopsBy answer) → (result ≡ Err TooLong → ⊥)
-    → Leaves m result r h new (lines.Commands verb account form) left
+    → GoesOnAfter result (refusal_given answer) → OnOk result (left.held ≡ []) → (result ≡ Err Stopped → StopsBy answer) → (result ≡ Err TooLong → ⊥)
+    → LeavesAfter m result r h new (lines.AsksCommand verb account form) left
 unfolding StopsBy
 obey_leaves m (Ok x) answer c asked verb account form h r new left is obeys failed goes empty stop fits = record {
   becomes = record { shows = λ s. subst (λ a. m.showing.shows new (after_all h (those_sent a))) (sym is) (obey_shows m x answer c h new goes (obeys s)); failed = λ f. (failed f).1 };
-  lives = λ f. absurd (failed_goes x (refusal_in answer) (ap refusal_in (failed f).0) goes);
+  lives = λ f. absurd (failed_goes x (refusal_given answer) (ap refusal_given (failed f).0) goes);
   flushed = inr empty;
   fits = λ e. cc;
 }
@@ -157,21 +157,21 @@ obey_leaves m (Err TooLong) answer c asked verb account form h r new left is obe
 
 -- a command was obeyed
 pub obeyed : {R : Type 0} (m : Ghosts R) (result : Result (Unit {0}) LineEnd) (answer : Result Reply Refusal) (c : Command) (verb : Verb) (account form : List ℕ) (h : History) (r new : R) (old left : Out)
-    → command_asked verb account form ≡ Ok c
+    → command_in_form verb account form ≡ Ok c
     → (m.showing.shows r h → CommandLeaves m.showing answer new h (asks c)) → (m.has_failed r → (answer ≡ Err Failed) × (new ≡ r))
-    → ((reply : List ℕ) → IsAnswer reply answer → Tells (IsGiven (refusal_in answer)) IsNothing result reply old left)
-    → GoesOn result (refusal_in answer) → OnOk result (left.held ≡ []) → (result ≡ Err TooLong → ⊥)
+    → ((reply : List ℕ) → IsReplyOrStop reply answer → TellsLine result reply (IsGivenStop (refusal_given answer)) old left)
+    → GoesOnAfter result (refusal_given answer) → OnOk result (left.held ≡ []) → (result ≡ Err TooLong → ⊥)
     → (live : Bool) × Does m.showing r (lives.obeyed (asks c) answer live) new
-    → Stands m r h → LineEnds m result (lines.Commands verb account form) h r old new left
+    → ShowsOrHasFailed m r h → AnswersLine m result (lines.AsksCommand verb account form) h r old new left
 obeyed m result answer c verb account form h r new old left is obeys failed told goes empty fits call stands = record {
-  tells = recast (IsGiven (refusal_in answer)) (StoppedBy m r h (lines.Commands verb account form)) IsNothing (IsBegun (lines.Commands verb account form) h) result (outcome_of (command_asked verb account form) h) old left
-      (obey_cause m answer c (lines.Commands verb account form) h r new (ap is_ok is) obeys (λ f. (failed f).0)) (λ b none. none)
-      (subst (λ a. Tells (IsGiven (refusal_in answer)) IsNothing result (outcome_of a h) old left) (sym is) tells);
-  leaves = obey_leaves m result answer c (command_asked verb account form) verb account form h r new left is obeys failed goes empty stop fits;
+  tells = recast (IsGivenRefusal (refusal_given answer)) (StoppedBy m r h (lines.AsksCommand verb account form)) IsNothing (IsBegun (lines.AsksCommand verb account form) h) result (outcome_of (command_in_form verb account form) h) old left
+      (obey_cause m answer c (lines.AsksCommand verb account form) h r new (ap is_ok is) obeys (λ f. (failed f).0)) (λ b none. none)
+      (subst (λ a. TellsLine result (outcome_of a h) (IsGivenStop (refusal_given answer)) old left) (sym is) tells);
+  leaves = obey_leaves m result answer c (command_in_form verb account form) verb account form h r new left is obeys failed goes empty stop fits;
   sends = obey_sends m result answer c verb account form r new is call goes stop fits;
 }
   where
-    tells : Tells (IsGiven (refusal_in answer)) IsNothing result (outcome_line (judgement.answer (judge (views_of h) (asks c)))) old left
+    tells : TellsLine result (outcome_line (judgement.answer (judge (views_of h) (asks c)))) (IsGivenStop (refusal_given answer)) old left
     tells = told _ (obey_answer m answer c h r new obeys (λ f. (failed f).0) stands)
 
     stop : result ≡ Err Stopped → StopsBy answer

@@ -11,10 +11,10 @@ use Rattle.pid_file.proofs.Cuts.{whole_line, open_behind, whole_same, open_longe
 use Rattle.pid_script.specs.declared.line_end.LineEnd.{LineEnd}
 use Rattle.pid_script.specs.declared.line_end.LineEnd.TheVariants.{WriteFault}
 use Rattle.pid_script.specs.declared.moderated.Moderated.{Ghosts}
-use Rattle.pid_script.specs.Steps.Saying.{Out, out, Unfit, LineEnds}
+use Rattle.pid_script.specs.Steps.Saying.{Out, out, Unfit, AnswersLine}
 use Rattle.pid_script.specs.ScriptLines.{ask_of}
-use Rattle.pid_script.specs.Standing.{Stands}
-use Rattle.pid_script.specs.Steps.Progress.{Answered, HasAnswered, Ended, Ends}
+use Rattle.pid_script.specs.Standing.{ShowsOrHasFailed}
+use Rattle.pid_script.specs.Steps.Progress.{Answered, HasAnswered, Ended, EndsText}
 use Rattle.pid_script.specs.Replies.{history_after}
 use Rattle.pid_script.specs.Calling.{CallsGo}
 use Rattle.pid_script.proofs.Calling.{go_still, go_then}
@@ -28,7 +28,7 @@ pub record IsHalfway {R : Type 0} (m : Ghosts R) (piece rest : List ℕ) (old no
   pub parts : piece ≡ gone ++ rest
   pub was_honest : m.showing.is_clean now → m.showing.is_clean old
   pub calls : CallsGo m.showing old now
-  pub answered : m.showing.is_clean now → (h : History) (start : Option (List ℕ)) (first : R) (text : List ℕ) → Stands m first h → HasAnswered m h start first old was kept text
+  pub answered : m.showing.is_clean now → (h : History) (start : Option (List ℕ)) (first : R) (text : List ℕ) → ShowsOrHasFailed m first h → HasAnswered m h start first old was kept text
       → HasAnswered m h start first now left kept_now (text ++ gone)
 
 pub half_start : {R : Type 0} (m : Ghosts R) (piece : List ℕ) (old : R) (was : Out) (kept : List ℕ) → IsHalfway m piece piece old old was was kept kept
@@ -42,7 +42,7 @@ half_start m piece old was kept = record {
 
 line_answered : {R : Type 0} (m : Ghosts R) (x : Unit {0}) (h : History) (start : Option (List ℕ)) (first r new : R) (old left : Out) (text front kept kept_next : List ℕ)
     → HasAnswered m h start first r old kept text → ended_pieces front ≡ [] → kept_next ≡ []
-    → LineEnds m (Ok x) (ask_of (drop_cr (kept ++ front))) (history_after h (whole_lines text)) r old new left
+    → AnswersLine m (Ok x) (ask_of (drop_cr (kept ++ front))) (history_after h (whole_lines text)) r old new left
     → HasAnswered m h start first new left kept_next (text ++ (front ++ 10 ∷ []))
 line_answered m x h start first r new old left text front kept kept_next a no_lf none ends = record {
   open_line = none ∙ sym (open_behind text front no_lf);
@@ -51,12 +51,12 @@ line_answered m x h start first r new old left text front kept kept_next a no_lf
 }
 
 -- a registry that stood at the start stands behind what was answered
-stands_now : {R : Type 0} (m : Ghosts R) (h : History) (start : Option (List ℕ)) (first r : R) (now : Out) (kept text : List ℕ) → Stands m first h → HasAnswered m h start first r now kept text → Stands m r (history_after h (whole_lines text))
+stands_now : {R : Type 0} (m : Ghosts R) (h : History) (start : Option (List ℕ)) (first r : R) (now : Out) (kept text : List ℕ) → ShowsOrHasFailed m first h → HasAnswered m h start first r now kept text → ShowsOrHasFailed m r (history_after h (whole_lines text))
 stands_now m h start first r now kept text stands a = stands_then m first r h (history_after h (whole_lines text)) a.answered.leaves stands
 
 pub half_more : {R : Type 0} (m : Ghosts R) (x : Unit {0}) (piece rest front behind : List ℕ) (old now next : R) (was left left_next : Out) (kept kept_now kept_next : List ℕ)
     → IsHalfway m piece rest old now was left kept kept_now → rest ≡ front ++ 10 ∷ behind → ended_pieces front ≡ [] → (m.showing.is_clean next → m.showing.is_clean now) → CallsGo m.showing now next → kept_next ≡ []
-    → (m.showing.is_clean next → (h : History) → Stands m now h → LineEnds m (Ok x) (ask_of (drop_cr (kept_now ++ front))) h now left next left_next)
+    → (m.showing.is_clean next → (h : History) → ShowsOrHasFailed m now h → AnswersLine m (Ok x) (ask_of (drop_cr (kept_now ++ front))) h now left next left_next)
     → IsHalfway m piece behind old next was left_next kept kept_next
 half_more m x piece rest front behind old now next was left left_next kept kept_now kept_next half parts no_lf honest calls none ends = record {
   gone = half.gone ++ (front ++ 10 ∷ []);
@@ -72,8 +72,8 @@ half_more m x piece rest front behind old now next was left left_next kept kept_
 
 pub half_stop : {R : Type 0} (m : Ghosts R) (e : LineEnd) (piece rest front behind : List ℕ) (old now next : R) (was left left_next : Out) (kept kept_now : List ℕ)
     → IsHalfway m piece rest old now was left kept kept_now → rest ≡ front ++ 10 ∷ behind → ended_pieces front ≡ [] → (m.showing.is_clean next → m.showing.is_clean now)
-    → (m.showing.is_clean next → (h : History) → Stands m now h → LineEnds m (Err e) (ask_of (drop_cr (kept_now ++ front))) h now left next left_next)
-    → m.showing.is_clean next → (h : History) (start : Option (List ℕ)) (first : R) (text more : List ℕ) → Stands m first h → HasAnswered m h start first old was kept text
+    → (m.showing.is_clean next → (h : History) → ShowsOrHasFailed m now h → AnswersLine m (Err e) (ask_of (drop_cr (kept_now ++ front))) h now left next left_next)
+    → m.showing.is_clean next → (h : History) (start : Option (List ℕ)) (first : R) (text more : List ℕ) → ShowsOrHasFailed m first h → HasAnswered m h start first old was kept text
     → Ended m e h start first next left_next (lines_of ((text ++ piece) ++ more))
 half_stop m e piece rest front behind old now next was left left_next kept kept_now half parts no_lf honest ends t h start first text more stands a =
     let b = half.answered (honest t) h start first text stands a in
@@ -85,7 +85,7 @@ half_stop m e piece rest front behind old now next was left left_next kept kept_
 -- what is left of the piece has no LF, and is kept
 half_kept : {R : Type 0} (m : Ghosts R) (piece rest : List ℕ) (old now : R) (was left : Out) (kept kept_now kept_next : List ℕ)
     → IsHalfway m piece rest old now was left kept kept_now → ended_pieces rest ≡ [] → kept_next ≡ kept_now ++ rest
-    → m.showing.is_clean now → (h : History) (start : Option (List ℕ)) (first : R) (text : List ℕ) → Stands m first h → HasAnswered m h start first old was kept text
+    → m.showing.is_clean now → (h : History) (start : Option (List ℕ)) (first : R) (text : List ℕ) → ShowsOrHasFailed m first h → HasAnswered m h start first old was kept text
     → HasAnswered m h start first now left kept_next (text ++ piece)
 half_kept m piece rest old now was left kept kept_now kept_next half no_lf is t h start first text stands a =
     let b = half.answered t h start first text stands a in
@@ -98,7 +98,7 @@ half_kept m piece rest old now was left kept kept_now kept_next half no_lf is t 
 -- what is left of the piece is not kept
 half_unfit : {R : Type 0} (m : Ghosts R) (e : LineEnd) (piece rest : List ℕ) (old now : R) (was left left_next : Out) (kept kept_now : List ℕ)
     → IsHalfway m piece rest old now was left kept kept_now → ended_pieces rest ≡ [] → (rest ≡ [] → ⊥) → Unfit e (kept_now ++ rest) left left_next
-    → m.showing.is_clean now → (h : History) (start : Option (List ℕ)) (first : R) (text more : List ℕ) → Stands m first h → HasAnswered m h start first old was kept text
+    → m.showing.is_clean now → (h : History) (start : Option (List ℕ)) (first : R) (text more : List ℕ) → ShowsOrHasFailed m first h → HasAnswered m h start first old was kept text
     → Ended m e h start first now left_next (lines_of ((text ++ piece) ++ more))
 half_unfit m e piece rest old now was left left_next kept kept_now half no_lf some unfit t h start first text more stands a =
     let b = half.answered t h start first text stands a in
@@ -111,13 +111,13 @@ half_unfit m e piece rest old now was left left_next kept kept_now half no_lf so
 -- nothing is left of the piece
 pub half_whole : {R : Type 0} (m : Ghosts R) (piece rest : List ℕ) (old now : R) (was left : Out) (kept kept_now : List ℕ)
     → IsHalfway m piece rest old now was left kept kept_now → rest ≡ []
-    → m.showing.is_clean now → (h : History) (start : Option (List ℕ)) (first : R) (text : List ℕ) → Stands m first h → HasAnswered m h start first old was kept text
+    → m.showing.is_clean now → (h : History) (start : Option (List ℕ)) (first : R) (text : List ℕ) → ShowsOrHasFailed m first h → HasAnswered m h start first old was kept text
     → HasAnswered m h start first now left kept_now (text ++ piece)
 half_whole m piece rest old now was left kept kept_now half none = half_kept m piece rest old now was left kept kept_now kept_now half (ap ended_pieces none) (sym (ap (λ (l : List ℕ). kept_now ++ l) none ∙ append-nil kept_now))
 
 pub half_kept_on : {R O : Type 0} (m : Ghosts R) (took : O → Option (List ℕ)) (r : Result (Unit {0}) LineEnd) (piece rest : List ℕ) (old now : R) (was : Out) (out_now out_next : O) (held held_next kept kept_now kept_next : List ℕ)
     → IsHalfway m piece rest old now was (out (took out_now) held) kept kept_now → ended_pieces rest ≡ [] → OnOk r (kept_next ≡ kept_now ++ rest) → OnOk r (out_next ≡ out_now) → OnOk r (held_next ≡ held)
-    → m.showing.is_clean now → (h : History) (start : Option (List ℕ)) (first : R) (text : List ℕ) → Stands m first h → HasAnswered m h start first old was kept text
+    → m.showing.is_clean now → (h : History) (start : Option (List ℕ)) (first : R) (text : List ℕ) → ShowsOrHasFailed m first h → HasAnswered m h start first old was kept text
     → OnOk r (HasAnswered m h start first now (out (took out_next) held_next) kept_next (text ++ piece))
 half_kept_on m took (Ok x) piece rest old now was out_now out_next held held_next kept kept_now kept_next half no_lf is silent still t h start first text stands a =
     subst (λ o. HasAnswered m h start first now (out (took o) held_next) kept_next (text ++ piece)) (sym silent) (subst (λ l. HasAnswered m h start first now (out (took out_now) l) kept_next (text ++ piece)) (sym still)
@@ -126,7 +126,7 @@ half_kept_on m took (Err e) piece rest old now was out_now out_next held held_ne
 
 pub half_unfit_on : {R : Type 0} (m : Ghosts R) (r : Result (Unit {0}) LineEnd) (piece rest : List ℕ) (old now : R) (was left left_next : Out) (kept kept_now : List ℕ)
     → IsHalfway m piece rest old now was left kept kept_now → ended_pieces rest ≡ [] → (rest ≡ [] → ⊥) → IfErr r (λ e. Unfit e (kept_now ++ rest) left left_next)
-    → m.showing.is_clean now → (h : History) (start : Option (List ℕ)) (first : R) (text more : List ℕ) → Stands m first h → HasAnswered m h start first old was kept text
+    → m.showing.is_clean now → (h : History) (start : Option (List ℕ)) (first : R) (text more : List ℕ) → ShowsOrHasFailed m first h → HasAnswered m h start first old was kept text
     → IfErr r (λ e. Ended m e h start first now left_next (lines_of ((text ++ piece) ++ more)))
 half_unfit_on m (Ok x) piece rest old now was left left_next kept kept_now half no_lf some unfit t h start first text more stands a = tt
 half_unfit_on m (Err e) piece rest old now was left left_next kept kept_now half no_lf some unfit t h start first text more stands a =
@@ -143,15 +143,15 @@ piece_broken m h start first r old left kept text more a front = broken m h star
 pub at_end : {R : Type 0} (m : Ghosts R) (h : History) (start : Option (List ℕ)) (first r : R) (now : Out) (kept text : List ℕ) → HasAnswered m h start first r now kept text → kept ≡ [] → Answered m h start first r now (lines_of text)
 at_end m h start first r now kept text a none = subst (Answered m h start first r now) (sym (all_lines text kept a.open_line none)) a.answered
 
-pub at_last : {R : Type 0} (m : Ghosts R) (r : Result (Unit {0}) LineEnd) (h : History) (start : Option (List ℕ)) (first was new : R) (old left : Out) (kept text : List ℕ) → HasAnswered m h start first was old kept text → (kept ≡ [] → ⊥) → Stands m first h
-    → ((g : History) → Stands m was g → LineEnds m r (ask_of (drop_cr kept)) g was old new left) → OnOk r (Answered m h start first new left (lines_of text))
+pub at_last : {R : Type 0} (m : Ghosts R) (r : Result (Unit {0}) LineEnd) (h : History) (start : Option (List ℕ)) (first was new : R) (old left : Out) (kept text : List ℕ) → HasAnswered m h start first was old kept text → (kept ≡ [] → ⊥) → ShowsOrHasFailed m first h
+    → ((g : History) → ShowsOrHasFailed m was g → AnswersLine m r (ask_of (drop_cr kept)) g was old new left) → OnOk r (Answered m h start first new left (lines_of text))
 at_last m (Ok x) h start first was new old left kept text a some stands ends =
     subst (Answered m h start first new left) (sym (and_last text kept a.open_line some))
     (more_answered m x h start first was new old left (whole_lines text) (drop_cr kept) a.answered (ends (history_after h (whole_lines text)) (stands_now m h start first was old kept text stands a)))
 at_last m (Err e) h start first was new old left kept text a some stands ends = tt
 
-pub stop_last : {R : Type 0} (m : Ghosts R) (r : Result (Unit {0}) LineEnd) (h : History) (start : Option (List ℕ)) (first was new : R) (old left : Out) (kept text : List ℕ) → HasAnswered m h start first was old kept text → (kept ≡ [] → ⊥) → Stands m first h
-    → ((g : History) → Stands m was g → LineEnds m r (ask_of (drop_cr kept)) g was old new left) → IfErr r (λ e. Ended m e h start first new left (lines_of text))
+pub stop_last : {R : Type 0} (m : Ghosts R) (r : Result (Unit {0}) LineEnd) (h : History) (start : Option (List ℕ)) (first was new : R) (old left : Out) (kept text : List ℕ) → HasAnswered m h start first was old kept text → (kept ≡ [] → ⊥) → ShowsOrHasFailed m first h
+    → ((g : History) → ShowsOrHasFailed m was g → AnswersLine m r (ask_of (drop_cr kept)) g was old new left) → IfErr r (λ e. Ended m e h start first new left (lines_of text))
 stop_last m (Ok x) h start first was new old left kept text a some stands ends = tt
 stop_last m (Err e) h start first was new old left kept text a some stands ends =
     ends_at m e h start first was new old left (lines_of text) (whole_lines text) (drop_cr kept) [] (and_last text kept a.open_line some) a.answered (ends (history_after h (whole_lines text)) (stands_now m h start first was old kept text stands a))
@@ -165,6 +165,6 @@ piece_broken_on m (Ok x) h start first now old left kept text more a end front =
 piece_broken_on m (Err e) h start first now old left kept text more a end front = subst (λ x. Ended m x h start first now left (lines_of (text ++ more))) (sym end) (piece_broken m h start first now old left kept text more a front)
 
 -- all lines were answered, and what is held goes out, or not
-pub end_on : {R : Type 0} (m : Ghosts R) (r : Result (Unit {0}) LineEnd) (h : History) (start : Option (List ℕ)) (first now : R) (old left : Out) (text : List ℕ) → Answered m h start first now old (lines_of text) → IfErr r (λ e. e ≡ WriteFault) → OnOk r (Appends old.taken left.taken old.held) → OnErr r (SendsFront old.taken left.taken old.held) → Ends m r h start first now left text
+pub end_on : {R : Type 0} (m : Ghosts R) (r : Result (Unit {0}) LineEnd) (h : History) (start : Option (List ℕ)) (first now : R) (old left : Out) (text : List ℕ) → Answered m h start first now old (lines_of text) → IfErr r (λ e. e ≡ WriteFault) → OnOk r (Appends old.taken left.taken old.held) → OnErr r (SendsFront old.taken left.taken old.held) → EndsText m r h start first now left text
 end_on m (Ok x) h start first now old left text a end sent front = flushed m h start first now old left.taken (lines_of text) a sent
 end_on m (Err e) h start first now old left text a end sent front = subst (λ x. Ended m x h start first now left (lines_of text)) (sym end) (broken m h start first now old left.taken (lines_of text) (lines_of text) [] (sym (append-nil (lines_of text))) a front)

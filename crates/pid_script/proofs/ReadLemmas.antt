@@ -9,10 +9,10 @@ use Rattle.pid_script.specs.declared.line_end.LineEnd.{LineEnd}
 use Rattle.pid_script.specs.declared.line_end.LineEnd.TheVariants as line_ends
 use Rattle.pid_script.specs.declared.moderated.Moderated.{Ghosts}
 use Rattle.pid_script.specs.declared.script_end.ScriptEnd.TheVariants.{TurnsSpent}
-use Rattle.pid_script.specs.Steps.Progress.{HasAnswered, Ended, Ends, script_end}
+use Rattle.pid_script.specs.Steps.Progress.{HasAnswered, Ended, EndsText, script_end}
 use Rattle.pid_script.specs.Steps.Saying.{Out, out}
 use Rattle.pid_script.specs.Scripts.{passage, IsCutOff, IsScript, BUFFER_ROOM, TakesAtMost}
-use Rattle.pid_script.specs.Standing.{Stands}
+use Rattle.pid_script.specs.Standing.{ShowsOrHasFailed}
 use Rattle.pid_script.proofs.Answered.{answers_out}
 use Rattle.pid_script.proofs.Calling.{send_still, go_still, go_then}
 use Rattle.pid_script.specs.Calling.{CallsGo}
@@ -41,7 +41,7 @@ pub record HasRead {R : Type 0} (m : Ghosts R) (old now : R) (taken : Option (Li
   pub front : List ℕ
   pub consumed : Consumes come come_now front
   pub bounded : length front ≤ turn * BUFFER_ROOM
-  pub answered : m.showing.is_clean now → (h : History) → Stands m old h → HasAnswered m h taken old now left kept front
+  pub answered : m.showing.is_clean now → (h : History) → ShowsOrHasFailed m old h → HasAnswered m h taken old now left kept front
   pub empty : left.held ≡ []
   pub counted : reads < 2 ^ 64 → reads_now ≡ min (reads + turn) (2 ^ 64 - 1)
 
@@ -59,7 +59,7 @@ Keeps-same (Some x) = refl
 pub turns_over : {R : Type 0} (m : Ghosts R) (h : History) (taken : Option (List ℕ)) (old new : R) (left : Out) (kept front : List ℕ) (come now : Option (List ℕ)) → Consumes come now front → left.held ≡ [] → HasAnswered m h taken old new left kept front → IfSome come (λ text. IsCutOff m h (passage old new taken left.taken) text now)
 turns_over m h taken old new left kept front come now p none a = cut_off m h taken old new left kept front come now now p (Keeps-same now) none a
 
-is_script : {R : Type 0} (m : Ghosts R) (r : Result (Unit {0}) LineEnd) (h : History) (taken : Option (List ℕ)) (old new : R) (left : Out) (text : List ℕ) (rest : Option (List ℕ)) → Ends m r h taken old new left text → IsScript m (script_end r) h (passage old new taken left.taken) text rest
+is_script : {R : Type 0} (m : Ghosts R) (r : Result (Unit {0}) LineEnd) (h : History) (taken : Option (List ℕ)) (old new : R) (left : Out) (text : List ℕ) (rest : Option (List ℕ)) → EndsText m r h taken old new left text → IsScript m (script_end r) h (passage old new taken left.taken) text rest
 is_script m (Ok x) h taken old new left text rest e = e
 is_script m (Err line_ends.Stopped) h taken old new left text rest e = e
 is_script m (Err line_ends.WriteFault) h taken old new left text rest e = e
@@ -118,7 +118,7 @@ took_none front turn come now next p less kept = record { front = front; taken =
 -- one more piece was read and answered
 pub read_more : {R : Type 0} (m : Ghosts R) (old now next : R) (taken : Option (List ℕ)) (left left_next : Out) (come come_now come_next : Option (List ℕ)) (kept kept_next piece : List ℕ) (reads reads_now reads_next turn : ℕ)
     → HasRead m old now taken left come come_now kept reads reads_now turn → Consumes come_now come_next piece → length piece ≤ BUFFER_ROOM → reads_next ≡ min (reads_now + 1) (2 ^ 64 - 1) → (m.showing.is_clean next → m.showing.is_clean now) → CallsGo m.showing now next → left_next.held ≡ []
-    → (m.showing.is_clean next → (h : History) (start : Option (List ℕ)) (first : R) (text : List ℕ) → Stands m first h → HasAnswered m h start first now left kept text → HasAnswered m h start first next left_next kept_next (text ++ piece))
+    → (m.showing.is_clean next → (h : History) (start : Option (List ℕ)) (first : R) (text : List ℕ) → ShowsOrHasFailed m first h → HasAnswered m h start first now left kept text → HasAnswered m h start first next left_next kept_next (text ++ piece))
     → HasRead m old next taken left_next come come_next kept_next reads reads_next (turn + 1)
 read_more m old now next taken left left_next come come_now come_next kept kept_next piece reads reads_now reads_next turn r consumed fits counted was calls none answered = record {
   was_honest = λ t. r.was_honest (was t);
@@ -132,12 +132,12 @@ read_more m old now next taken left left_next come come_now come_next kept kept_
 }
 
 -- the end of the input
-pub all_read : {R : Type 0} (m : Ghosts R) (r : Result (Unit {0}) LineEnd) (h : History) (taken : Option (List ℕ)) (old new : R) (left : Out) (front : List ℕ) (come now next : Option (List ℕ)) → Consumes come now front → Consumes now next [] → IsAtEnd next → Ends m r h taken old new left front → IfSome come (λ text. IsScript m (script_end r) h (passage old new taken left.taken) text next)
+pub all_read : {R : Type 0} (m : Ghosts R) (r : Result (Unit {0}) LineEnd) (h : History) (taken : Option (List ℕ)) (old new : R) (left : Out) (front : List ℕ) (come now next : Option (List ℕ)) → Consumes come now front → Consumes now next [] → IsAtEnd next → EndsText m r h taken old new left front → IfSome come (λ text. IsScript m (script_end r) h (passage old new taken left.taken) text next)
 all_read m r h taken old new left front None now next p q end e = tt
 all_read m r h taken old new left front (Some text) now None p q end e = absurd (Consumes-then (Some text) now None front [] p q)
 all_read m r h taken old new left front (Some text) now (Some rest) p q end e =
     let whole : text ≡ front = Consumes-then (Some text) now (Some rest) front [] p q ∙ ap (λ (l : List ℕ). (front ++ []) ++ l) end ∙ append-nil (front ++ []) ∙ append-nil front in
-    is_script m r h taken old new left text (Some rest) (subst (Ends m r h taken old new left) (sym whole) e)
+    is_script m r h taken old new left text (Some rest) (subst (EndsText m r h taken old new left) (sym whole) e)
 
 -- a line ended it
 pub ended : {R : Type 0} (m : Ghosts R) (e : LineEnd) (h : History) (taken : Option (List ℕ)) (old new : R) (left : Out) (front piece : List ℕ) (come now next : Option (List ℕ)) → Consumes come now front → Consumes now next piece → ((more : List ℕ) → Ended m e h taken old new left (lines_of ((front ++ piece) ++ more))) → IfSome come (λ text. IsScript m (script_end (Err e)) h (passage old new taken left.taken) text next)

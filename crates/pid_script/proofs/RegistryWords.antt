@@ -22,7 +22,7 @@ use Rattle.pid_service.specs.declared.exporting.ExportFault.{ExportFault}
 use Rattle.pid_service.specs.declared.exporting.ExportFault.TheVariants.{Refused, Write}
 use Rattle.pid_service.specs.Exporting.{ExportsTree}
 use Rattle.pid_tree.specs.Printing.{ended, header, lines_behind, print}
-use Rattle.pid_script.specs.Exporting.{Exports}
+use Rattle.pid_script.specs.Exporting.{ExportsText}
 use Rattle.pid_script.specs.LookingUp.{LooksUp}
 use Rattle.pid_script.specs.WholeFronts.{IsWholeFront}
 
@@ -41,7 +41,7 @@ whole_items front behind =
     }
 
 -- an export of a registry
-pub exported : {X : Type 0} (result : Result X ExportFault) (old new : Option (List ℕ)) (h : History) → text_of_items (items_of h) ≡ print (tree_of h) → ExportsTree result old new h → Exports result old new (print (tree_of h))
+pub exported : {X : Type 0} (result : Result X ExportFault) (old new : Option (List ℕ)) (h : History) → text_of_items (items_of h) ≡ print (tree_of h) → ExportsTree result old new h → ExportsText result old new (print (tree_of h))
 exported (Ok x) old new h same told = told
 exported (Err (Write fault)) old new h same told = told
 exported (Err (Refused e)) old new h same (fault, (front, behind, is, told)) = (

@@ -30,15 +30,15 @@ refused_or None None = Err BadText
 refused_or None (Some x) = Ok x
 
 -- the same for the fields of a form
-abbrev pub command_in : Verb → List ℕ → Fields → Result Command Refusal
-command_in verb account fields =
+abbrev pub command_of_fields : Verb → List ℕ → Fields → Result Command Refusal
+command_of_fields verb account fields =
     refused_or (first_failing (form_checks verb account (value (codes "key") fields)
     (other_fields fields)))
     (command_said verb account (value (codes "key") fields) (other_fields fields))
 
 -- the command of an account that a form says, or the first form check that fails
-unfoldable pub command_asked : Verb → List ℕ → List ℕ → Result Command Refusal
-command_asked verb account form = command_in verb account (fields_in form)
+unfoldable pub command_in_form : Verb → List ℕ → List ℕ → Result Command Refusal
+command_in_form verb account form = command_of_fields verb account (fields_in form)
 
 -- the fields are a path alone, once; and it is a path
 abbrev pub path_checks : Fields → Checks

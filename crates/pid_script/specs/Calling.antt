@@ -1,6 +1,7 @@
 -- The calls that a script makes of a registry, as lives tell them: choices of this project.
 use Rattle.std.specs.Prelude.{◌≡◌, ◌⊎◌, List}
 use Rattle.pid_moderation.specs.History.{Asked}
+use Rattle.pid_service_laws.specs.CallLaws.{StaysClean}
 use Rattle.pid_service_laws.specs.Calls.{Call, sent_in}
 use Rattle.pid_service_laws.specs.Lives.{commands_in}
 use Rattle.pid_service_laws.specs.Registries.{Showing, CallsLead}
@@ -9,6 +10,7 @@ use Rattle.pid_service_laws.specs.Registries.{Showing, CallsLead}
 module _ {R : Type 0} (seen : Showing R) where
   -- calls in turn lead from the one registry to the other, so that these are part of one life
   pub record CallsGo (old new : R) : Type 0 where
+    pub clean : StaysClean seen old new
     pub calls : List Call
     pub lead : CallsLead seen old calls new
 

@@ -7,10 +7,10 @@ use Rattle.pid_script.specs.declared.script_end.ScriptEnd.TheVariants.{TurnsSpen
 
 -- 0 where all lines were answered, whatever was refused on the way; 1 where a line is too long; 3
 -- for the others
-abbrev pub status_of : ScriptEnd → ℕ
-status_of Done = 0
-status_of TooLong = 1
-status_of Stopped = 3
-status_of ReadFault = 3
-status_of WriteFault = 3
-status_of TurnsSpent = 3
+abbrev pub script_status : ScriptEnd → ℕ
+script_status Done = 0
+script_status TooLong = 1
+script_status Stopped = 3
+script_status ReadFault = 3
+script_status WriteFault = 3
+script_status TurnsSpent = 3

@@ -13,10 +13,10 @@ pub record TakesWholeFront (old new : Option (List ℕ)) (text : List ℕ) : Typ
   pub whole : IsWholeFront text front
   pub told : Appends old new front
 
--- The whole text; a front of it, and not all, where the writer failed; or whole lines of it, where
+-- The whole text; a prefix of it, and not all, where the writer failed; or whole lines of it, where
 -- memory was short or the store failed.
-abbrev pub Exports : {X : Type 0} → Result X ExportFault → Option (List ℕ) → Option (List ℕ)
+abbrev pub ExportsText : {X : Type 0} → Result X ExportFault → Option (List ℕ) → Option (List ℕ)
     → List ℕ → Type 0
-Exports (Ok x) old new text = Appends old new text
-Exports (Err (Write fault)) old new text = SendsFront old new text
-Exports (Err (Refused refusal)) old new text = IsFault refusal × TakesWholeFront old new text
+ExportsText (Ok x) old new text = Appends old new text
+ExportsText (Err (Write fault)) old new text = SendsFront old new text
+ExportsText (Err (Refused refusal)) old new text = IsFault refusal × TakesWholeFront old new text

@@ -1,4 +1,4 @@
--- The replies to the lines of a script, and the history behind them: choices of this project.
+-- The replies to the lines of a script, and the history after them: choices of this project.
 use Rattle.std.specs.Prelude.{ℕ, Bool, true, false, if◌then◌else◌, List, [], ◌∷◌, ◌++◌, Option}
 use Rattle.std.specs.Prelude.{Some, None, is_some, codes, Result, Ok, Err, is_ok}
 use Rattle.pid_file.specs.declared.path.Path.{Path}
@@ -21,14 +21,15 @@ use Rattle.pid_moderation.specs.ReplyLines.{refused_line, outcome_line}
 use Rattle.pid_moderation.specs.Views.{views_of, items_of}
 use Rattle.pid_moderation.specs.Writes.{tree_of}
 use Rattle.pid_lookup.specs.Fields.{LookUp}
-use Rattle.pid_script.specs.Asking.{command_asked, path_asked, look_up_asked}
-use Rattle.pid_script.specs.ScriptLines.{Ask, Nothing, Commands, Exports, Reads, LooksUp, Unclear, TooLong, ask_of}
+use Rattle.pid_script.specs.Asking.{command_in_form, path_asked, look_up_asked}
+use Rattle.pid_script.specs.ScriptLines.{Ask, AsksNothing, AsksCommand, AsksExport, AsksName}
+use Rattle.pid_script.specs.ScriptLines.{AsksLookUp, Unclear, TooLong, ask_of}
 
--- what is told of a path without a name
+-- the reply for a path without a name
 abbrev pub NO_ITEM : List ℕ
 NO_ITEM = unanswered_line unanswered.NoItem
 
--- what is told of bad flags
+-- the reply to bad flags
 abbrev pub BAD_FLAGS : List ℕ
 BAD_FLAGS = unanswered_line unanswered.BadFlags
 
@@ -48,9 +49,9 @@ outcome_of (Err refusal) h = refused_line refusal
 outcome_of (Ok command) h = outcome_line (answer (judge (views_of h) (asks command)))
 
 -- what a path that is asked for is called
-abbrev pub item_line : Result Path Refusal → History → List ℕ
-item_line (Err refusal) h = refused_line refusal
-item_line (Ok path) h = name_line (name_at (path_text path) (items_of h))
+abbrev pub name_reply : Result Path Refusal → History → List ℕ
+name_reply (Err refusal) h = refused_line refusal
+name_reply (Ok path) h = name_line (name_at (path_text path) (items_of h))
 
 -- what a look-up is answered
 abbrev pub looked_up : Option LookUp → History → List ℕ
@@ -59,14 +60,14 @@ looked_up (Some l) h = if is_bad l.flags then BAD_FLAGS else answer_line
     (answer_of (tree_of h) l.flags l.args l.size)
 
 -- the reply to what a line asks, over the history so far
-abbrev pub reply_to : Ask → History → List ℕ
-reply_to Nothing h = []
-reply_to (Commands verb account fields) h = outcome_of (command_asked verb account fields) h
-reply_to Exports h = print (tree_of h)
-reply_to (Reads fields) h = item_line (path_asked fields) h
-reply_to (LooksUp fields) h = looked_up (look_up_asked fields) h
-reply_to Unclear h = refused_line BadText
-reply_to TooLong h = refused_line BadText
+abbrev pub line_reply : Ask → History → List ℕ
+line_reply AsksNothing h = []
+line_reply (AsksCommand verb account fields) h = outcome_of (command_in_form verb account fields) h
+line_reply AsksExport h = print (tree_of h)
+line_reply (AsksName fields) h = name_reply (path_asked fields) h
+line_reply (AsksLookUp fields) h = looked_up (look_up_asked fields) h
+line_reply Unclear h = refused_line BadText
+line_reply TooLong h = refused_line BadText
 
 -- the command that a form says, as the history keeps it; a form that says none sends none
 abbrev pub those_sent : Result Command Refusal → List Asked
@@ -75,21 +76,21 @@ those_sent (Ok command) = asks command ∷ []
 
 -- whether the registry is asked for the reply: a line that keeps its form
 abbrev pub is_call : Ask → Bool
-is_call (Commands verb account fields) = is_ok (command_asked verb account fields)
-is_call Exports = true
-is_call (Reads fields) = is_ok (path_asked fields)
-is_call (LooksUp fields) = is_some (look_up_asked fields)
-is_call Nothing = false
+is_call (AsksCommand verb account fields) = is_ok (command_in_form verb account fields)
+is_call AsksExport = true
+is_call (AsksName fields) = is_ok (path_asked fields)
+is_call (AsksLookUp fields) = is_some (look_up_asked fields)
+is_call AsksNothing = false
 is_call Unclear = false
 is_call TooLong = false
 
 -- the command of a line that keeps the form
 abbrev pub command_of : Ask → List Asked
-command_of (Commands verb account fields) = those_sent (command_asked verb account fields)
-command_of Nothing = []
-command_of Exports = []
-command_of (Reads fields) = []
-command_of (LooksUp fields) = []
+command_of (AsksCommand verb account fields) = those_sent (command_in_form verb account fields)
+command_of AsksNothing = []
+command_of AsksExport = []
+command_of (AsksName fields) = []
+command_of (AsksLookUp fields) = []
 command_of Unclear = []
 command_of TooLong = []
 
@@ -98,12 +99,12 @@ abbrev pub commands_of_lines : List (List ℕ) → List Asked
 commands_of_lines [] = []
 commands_of_lines (line ∷ lines) = command_of (ask_of line) ++ commands_of_lines lines
 
--- the history behind lines
+-- the history after lines
 abbrev pub history_after : History → List (List ℕ) → History
 history_after h lines = after_all h (commands_of_lines lines)
 
 -- the replies to lines, each over the history that the lines before it lead to
 abbrev pub replies : History → List (List ℕ) → List ℕ
 replies h [] = []
-replies h (line ∷ lines) = reply_to (ask_of line) h ++ replies
+replies h (line ∷ lines) = line_reply (ask_of line) h ++ replies
     (after_all h (command_of (ask_of line))) lines

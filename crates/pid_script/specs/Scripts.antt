@@ -20,7 +20,7 @@ use Rattle.pid_script.specs.ScriptLines.{ask_of}
 use Rattle.pid_script.specs.Calling.{CallsSend, CallsSendEither}
 use Rattle.pid_script.specs.Replies.{replies, command_of, commands_of_lines, history_after, is_call}
 use Rattle.pid_script.specs.Standing.{Becomes, BecomesEither, StopsBehind}
-use Rattle.pid_script.specs.StopLines.{IsBegun, StoppedBy, IsStopText}
+use Rattle.pid_script.specs.StopLines.{IsStopInPlace}
 
 -- the room of one read, in bytes
 abbrev pub BUFFER_ROOM : ℕ
@@ -47,8 +47,8 @@ abbrev pub KeepsFaults : ScriptEnd → Option InputFault → Option OutputFault 
 KeepsFaults end read write = (end ≡ ReadFault → IsSome read) × (end ≡ WriteFault → IsSome write)
 
 -- a line is not too long
-abbrev pub Fits : List ℕ → Type 0
-Fits line = ask_of line ≡ asks.TooLong → ⊥
+abbrev pub IsNotTooLong : List ℕ → Type 0
+IsNotTooLong line = ask_of line ≡ asks.TooLong → ⊥
 
 -- a line asks nothing of the registry
 abbrev pub CallsNot : List ℕ → Type 0
@@ -60,7 +60,7 @@ CommandsNot line = command_of (ask_of line) ≡ []
 
 -- none of the lines is too long
 abbrev pub NoneTooLong : List (List ℕ) → Type 0
-NoneTooLong lines = AllByRecursion Fits lines
+NoneTooLong lines = AllByRecursion IsNotTooLong lines
 
 -- none of the lines asks something of the registry
 abbrev pub NoneCalls : List (List ℕ) → Type 0
@@ -72,7 +72,20 @@ AllButLast P [] = Unit {0}
 AllButLast P (line ∷ []) = Unit {0}
 AllButLast P (line ∷ next ∷ lines) = P line × AllButLast P (next ∷ lines)
 
--- the registry before the script and behind it, and what the writer had taken before and has taken
+-- Lines in three parts, where a writer failed: those whose replies were out; those that wait, of
+-- which only the last may be a command; and those that were not read.
+pub record WriterCut (lines : List (List ℕ)) : Type 0 where
+  pub before : List (List ℕ)
+  pub waiting : List (List ℕ)
+  pub behind : List (List ℕ)
+  pub parts : lines ≡ before ++ (waiting ++ behind)
+  pub quiet : AllButLast CommandsNot waiting
+
+-- the lines of such a cut that were read
+abbrev pub lines_read : {lines : List (List ℕ)} → WriterCut lines → List (List ℕ)
+lines_read cut = cut.before ++ cut.waiting
+
+-- the registry before the script and after it, and what the writer had taken before and has taken
 -- now
 pub record Passage (R : Type 0) : Type 0 where
   pub old : R
@@ -82,24 +95,24 @@ pub record Passage (R : Type 0) : Type 0 where
 
 -- a passage of the script between two moments
 abbrev pub passage : {R : Type 0} → R → R → Option (List ℕ) → Option (List ℕ) → Passage R
-passage old new taken taken_now = record { old = old; new = new; taken = taken; taken_now = taken_now }
+passage old new taken taken_now = record {
+  old = old;
+  new = new;
+  taken = taken;
+  taken_now = taken_now;
+}
 
 module _ {R : Type 0} (registry : Ghosts R) where
-  -- Each of the lines got its reply, and the registry shows the history behind them; one that had
+  -- Each of the lines got its reply, and the registry shows the history after them; one that had
   -- failed was asked nothing. The commands of the lines are those that calls sent.
-  pub record Answers (h : History) (p : Passage R) (lines : List (List ℕ)) : Type 0 where
+  pub record AnswersLines (h : History) (p : Passage R) (lines : List (List ℕ)) : Type 0 where
     pub fits : NoneTooLong lines
     pub told : Appends p.taken p.taken_now (replies h lines)
     pub leaves : Becomes registry p.old h p.new (history_after h lines)
     pub lives : registry.has_failed p.old → NoneCalls lines
     pub calls : CallsSend registry.showing p.old (commands_of_lines lines) p.new
 
-  -- what stops a script at a line, whose history is the one behind the lines before
-  abbrev pub IsStop : R → History → History → List ℕ → List ℕ → Type 0
-  IsStop r h at line text = IsStopText (StoppedBy registry r h (ask_of line))
-      (IsBegun (ask_of line) at) text
-
-  -- The lines before one got their replies. In place of its reply, or behind what was begun of it,
+  -- The lines before one got their replies. In place of its reply, or after what was begun of it,
   -- the line of a refusal stands last; and the registry shows the history before the line, or has
   -- failed at its command, which may stand. The commands that calls sent are those of the lines
   -- before.
@@ -111,7 +124,7 @@ module _ {R : Type 0} (registry : Ghosts R) where
     pub fits : NoneTooLong before
     pub lives : registry.has_failed p.old → NoneCalls before
     pub text : List ℕ
-    pub stop : IsStop p.old h (history_after h before) line text
+    pub stop : IsStopInPlace registry p.old h (history_after h before) (ask_of line) text
     pub told : Appends p.taken p.taken_now (replies h before ++ text)
     pub leaves : StopsBehind registry p.old h p.new (history_after h before)
         (command_of (ask_of line))
@@ -130,49 +143,51 @@ module _ {R : Type 0} (registry : Ghosts R) where
     pub leaves : Becomes registry p.old h p.new (history_after h before)
     pub calls : CallsSend registry.showing p.old (commands_of_lines before) p.new
 
-  -- the text for lines: their replies, of which the last may be a stop
-  abbrev pub IsToldFor : R → History → History → List (List ℕ) → List ℕ → Type 0
-  IsToldFor r h at lines text =
-      (text ≡ replies at lines)
-      ⊎ ((before : List (List ℕ)) × (line stop : List ℕ) × (lines ≡ before ++ line ∷ [])
-      × IsStop r h (history_after at before) line stop × (text ≡ replies at before ++ stop))
+  -- the text for lines: the reply to each, or the text of a stop in place of the last one
+  pub data IsTextFor (r : R) (first at : History) (lines : List (List ℕ))
+      (text : List ℕ) : Type 0 where
+    Replied : text ≡ replies at lines → IsTextFor r first at lines text
+    StoppedLast : (before : List (List ℕ)) (line stop : List ℕ) → lines ≡ before ++ line ∷ []
+        → IsStopInPlace registry r first (history_after at before) (ask_of line) stop
+        → text ≡ replies at before ++ stop
+        → IsTextFor r first at lines text
 
-  -- The replies to the lines before went out whole, and of those to the lines that wait a front and
-  -- not all. Of these only the last may be a command, whose reply so did not go out whole; the
-  -- registry shows the history before it or behind it.
-  pub record BreaksOff (h : History) (p : Passage R) (lines : List (List ℕ)) : Type 0 where
-    pub before : List (List ℕ)
-    pub waiting : List (List ℕ)
-    pub behind : List (List ℕ)
-    pub parts : lines ≡ before ++ (waiting ++ behind)
-    pub quiet : AllButLast CommandsNot waiting
-    -- so all lines but the last were answered: none of them is too long, and one that had failed
-    -- was asked nothing by them
-    pub fits : AllButLast Fits (before ++ waiting)
-    pub lives : registry.has_failed p.old → AllButLast CallsNot (before ++ waiting)
+  -- the replies to the lines before went out whole, and of the text for those that wait a prefix,
+  -- and not all
+  pub record SendsUpTo (h : History) (p : Passage R) (before waiting : List (List ℕ)) : Type 0 where
     -- what the writer had taken with the replies to the lines before
     pub between : Option (List ℕ)
     pub told : Appends p.taken between (replies h before)
     pub text : List ℕ
-    pub is : IsToldFor p.old h (history_after h before) waiting text
+    pub is : IsTextFor p.old h (history_after h before) waiting text
     pub front : SendsFront between p.taken_now text
-    pub leaves : BecomesEither registry p.old h p.new (history_after h before)
-        (history_after h (before ++ waiting))
-    pub calls : CallsSendEither registry.showing p.old (commands_of_lines before)
-        (commands_of_lines (before ++ waiting)) p.new
+
+  -- The writer failed before the replies to the lines that wait were out. The registry shows the
+  -- history before these lines, or after them.
+  pub record FailsToWrite (h : History) (p : Passage R) (lines : List (List ℕ)) : Type 0 where
+    pub cut : WriterCut lines
+    pub sent : SendsUpTo h p cut.before cut.waiting
+    -- all lines but the last were answered: none of them is too long, and a registry that had
+    -- failed was asked nothing by them
+    pub fits : AllButLast IsNotTooLong (lines_read cut)
+    pub lives : registry.has_failed p.old → AllButLast CallsNot (lines_read cut)
+    pub leaves : BecomesEither registry p.old h p.new (history_after h cut.before)
+        (history_after h (lines_read cut))
+    pub calls : CallsSendEither registry.showing p.old (commands_of_lines cut.before)
+        (commands_of_lines (lines_read cut)) p.new
 
   -- part of the text was read, and its whole lines got their replies
   pub record IsCutOff (h : History) (p : Passage R) (text : List ℕ)
       (rest : Option (List ℕ)) : Type 0 where
     pub front : List ℕ
     pub read : Consumes (Some text) rest front
-    pub answers : Answers h p (whole_lines front)
+    pub answers : AnswersLines h p (whole_lines front)
 
   -- a script with this text, of which this rest was not read
   abbrev pub IsScript : ScriptEnd → History → Passage R → List ℕ → Option (List ℕ) → Type 0
-  IsScript Done h p text rest = Answers h p (lines_of text)
+  IsScript Done h p text rest = AnswersLines h p (lines_of text)
   IsScript TooLong h p text rest = EndsTooLong h p (lines_of text)
   IsScript Stopped h p text rest = StopsAtLine h p (lines_of text)
-  IsScript WriteFault h p text rest = BreaksOff h p (lines_of text)
+  IsScript WriteFault h p text rest = FailsToWrite h p (lines_of text)
   IsScript ReadFault h p text rest = IsCutOff h p text rest
   IsScript TurnsSpent h p text rest = IsCutOff h p text rest

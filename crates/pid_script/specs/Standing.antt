@@ -6,17 +6,13 @@ use Rattle.pid_script.specs.declared.moderated.Moderated.{Ghosts}
 
 module _ {R : Type 0} (registry : Ghosts R) where
   -- it is live and shows the history, or it has failed earlier
-  abbrev pub Stands : R → History → Type 0
-  Stands r h = registry.showing.shows r h ⊎ registry.has_failed r
-
-  -- a disk that has returned what was written up to the second has done so up to the first
-  abbrev pub StaysClean : R → R → Type 0
-  StaysClean old new = registry.showing.is_clean new → registry.showing.is_clean old
+  abbrev pub ShowsOrHasFailed : R → History → Type 0
+  ShowsOrHasFailed r h = registry.showing.shows r h ⊎ registry.has_failed r
 
   -- while the disk returns what was written, this holds of the history that the registry stood on
   abbrev pub OverStanding : R → R → (History → Type 0) → Type 0
   OverStanding old new Holds = registry.showing.is_clean new
-      → (h : History) → Stands old h → Holds h
+      → (h : History) → ShowsOrHasFailed old h → Holds h
 
   -- if it showed the one history, it shows the other now; if it had failed, it is as before
   pub record Becomes (old : R) (h : History) (new : R) (next : History) : Type 0 where
@@ -35,7 +31,7 @@ module _ {R : Type 0} (registry : Ghosts R) where
     pub failed : registry.has_failed old → new ≡ old
 
   -- it has failed at the command of a line, which has one at most: a crash leaves the history
-  -- before it or the one behind it
+  -- before it or the one after it
   abbrev pub FailsAt : R → History → List Asked → Type 0
   FailsAt r h [] = ⊥
   FailsAt r h (c ∷ cs) = registry.showing.fails_between r h (after h c)

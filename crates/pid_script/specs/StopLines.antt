@@ -9,7 +9,8 @@ use Rattle.pid_moderation.specs.Writes.{tree_of}
 use Rattle.pid_script.specs.declared.moderated.Moderated.{Ghosts}
 use Rattle.pid_moderation.specs.Faults.{IsFault}
 use Rattle.pid_script.specs.Replies.{is_call}
-use Rattle.pid_script.specs.ScriptLines.{Ask, Nothing, Commands, Exports, Reads, LooksUp, Unclear, TooLong}
+use Rattle.pid_script.specs.ScriptLines.{Ask, AsksNothing, AsksCommand, AsksExport, AsksName}
+use Rattle.pid_script.specs.ScriptLines.{AsksLookUp, Unclear, TooLong}
 use Rattle.pid_script.specs.WholeFronts.{IsWholeFront}
 
 -- a refusal of memory, of the store, or of a registry that has failed: it judges nothing, and stops
@@ -26,25 +27,15 @@ IsStopLine text = (refusal : Refusal) × (is_stop refusal ≡ true) × (text ≡
 
 -- what stands before the line: of an export whole lines of its text, else nothing
 abbrev pub IsBegun : Ask → History → List ℕ → Type 0
-IsBegun Exports h = λ begun. IsWholeFront (print (tree_of h)) begun
-IsBegun Nothing h = λ begun. begun ≡ []
-IsBegun (Commands verb account fields) h = λ begun. begun ≡ []
-IsBegun (Reads fields) h = λ begun. begun ≡ []
-IsBegun (LooksUp fields) h = λ begun. begun ≡ []
+IsBegun AsksExport h = λ begun. IsWholeFront (print (tree_of h)) begun
+IsBegun AsksNothing h = λ begun. begun ≡ []
+IsBegun (AsksCommand verb account fields) h = λ begun. begun ≡ []
+IsBegun (AsksName fields) h = λ begun. begun ≡ []
+IsBegun (AsksLookUp fields) h = λ begun. begun ≡ []
 IsBegun Unclear h = λ begun. begun ≡ []
 IsBegun TooLong h = λ begun. begun ≡ []
 
-module _ {R : Type 0} (registry : Ghosts R) where
-  -- Which answer stops a script: a live registry refuses for want of memory or because its store
-  -- failed, one that has failed refuses all; and memory may be short for the script itself, which
-  -- is all that stops it where the registry is not asked.
-  pub record StoppedBy (r : R) (h : History) (ask : Ask) (refusal : Refusal) : Type 0 where
-    pub stops : is_stop refusal ≡ true
-    pub live : registry.showing.shows r h → IsFault refusal
-    pub failed : registry.has_failed r → (refusal ≡ Failed) ⊎ (refusal ≡ Memory)
-    pub unasked : is_call ask ≡ false → refusal ≡ Memory
-
--- the text of a stop in place of a reply: the line of such a refusal, behind what was begun
+-- the text of a stop in place of a reply: the line of such a refusal, after what was begun
 pub record IsStopText (Cause : Refusal → Type 0) (Begun : List ℕ → Type 0)
     (text : List ℕ) : Type 0 where
   pub begun : List ℕ
@@ -52,3 +43,18 @@ pub record IsStopText (Cause : Refusal → Type 0) (Begun : List ℕ → Type 0)
   pub refusal : Refusal
   pub cause : Cause refusal
   pub is : text ≡ begun ++ refused_line refusal
+
+module _ {R : Type 0} (registry : Ghosts R) where
+  -- Which answer stops a script: a live registry refuses because memory ran out or its store
+  -- failed, one that has failed refuses all; and memory may run out for the script itself, which is
+  -- all that stops it where the registry is not asked.
+  pub record StoppedBy (r : R) (h : History) (ask : Ask) (refusal : Refusal) : Type 0 where
+    pub stops : is_stop refusal ≡ true
+    pub live : registry.showing.shows r h → IsFault refusal
+    pub failed : registry.has_failed r → (refusal ≡ Failed) ⊎ (refusal ≡ Memory)
+    pub unasked : is_call ask ≡ false → refusal ≡ Memory
+
+  -- What may stand in place of the reply to what a line asks: the registry showed the first history
+  -- at the start, and the second before the line.
+  abbrev pub IsStopInPlace : R → (first at : History) → Ask → List ℕ → Type 0
+  IsStopInPlace r first at ask = IsStopText (StoppedBy r first ask) (IsBegun ask at)

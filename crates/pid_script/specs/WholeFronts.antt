@@ -2,7 +2,7 @@
 use Rattle.std.specs.Prelude.{◌≡◌, ℕ, List, [], ◌++◌}
 use Rattle.pid_reader.specs.WholeLines.{open_part}
 
--- a front of the text that holds whole lines, or nothing: no line of it is open
+-- a prefix of the text that holds whole lines, or nothing: no line of it is open
 pub record IsWholeFront (text front : List ℕ) : Type 0 where
   pub behind : List ℕ
   pub is : text ≡ front ++ behind

@@ -4,8 +4,9 @@ ghost use Rattle.pid_moderation.specs.History.{History};
 ghost use Rattle.pid_script.specs.ScriptLines as asks;
 ghost use Rattle.pid_script.specs.ScriptLines.{ask_of};
 ghost use Rattle.pid_script.specs.Calling.{CallsGo};
-ghost use Rattle.pid_script.specs.Steps.Saying.{out, LineEnds};
-ghost use Rattle.pid_script.specs.Standing.{OverStanding, StaysClean};
+ghost use Rattle.pid_script.specs.Steps.Saying.{out, AnswersLine};
+ghost use Rattle.pid_service_laws.specs.CallLaws.{StaysClean};
+ghost use Rattle.pid_script.specs.Standing.{OverStanding};
 
 use crate::fields::{read_command, read_path};
 use crate::line::{LineAsk, line_asks};
@@ -31,10 +32,10 @@ fn obey<R: Moderated, O: Output>(
     account: &str,
     form: &str,
 ) -> Result<(), LineEnd>
-    ensures honest { StaysClean R.Moderated registry.old registry.new }
+    ensures honest { StaysClean R.showing registry.old registry.new }
     ensures calls { CallsGo R.showing registry.old registry.new }
     ensures ends { OverStanding R.Moderated registry.old registry.new (λ h.
-        LineEnds R.Moderated result (asks.Commands verb account.now form.now) h registry.old
+        AnswersLine R.Moderated result (asks.AsksCommand verb account.now form.now) h registry.old
         (out (O.taken output.old) held.old.items) registry.new
         (out (O.taken output.new) held.new.items)) }
     ensures fault { result ≡ Err LineEnd.WriteFault → IsSome (O.write_fault output.new) }
@@ -48,7 +49,7 @@ fn obey<R: Moderated, O: Output>(
     }
 }
 
-// Tells the name of the path that a form says.
+// Says the name of the path that a form says.
 fn read<R: Moderated, O: Output>(
     alloc: Global,
     registry: &mut R,
@@ -56,10 +57,10 @@ fn read<R: Moderated, O: Output>(
     held: &mut Vec<u8>,
     form: &str,
 ) -> Result<(), LineEnd>
-    ensures honest { StaysClean R.Moderated registry.old registry.new }
+    ensures honest { StaysClean R.showing registry.old registry.new }
     ensures calls { CallsGo R.showing registry.old registry.new }
     ensures ends { OverStanding R.Moderated registry.old registry.new (λ h.
-        LineEnds R.Moderated result (asks.Reads form.now) h registry.old
+        AnswersLine R.Moderated result (asks.AsksName form.now) h registry.old
         (out (O.taken output.old) held.old.items) registry.new
         (out (O.taken output.new) held.new.items)) }
     ensures fault { result ≡ Err LineEnd.WriteFault → IsSome (O.write_fault output.new) }
@@ -81,10 +82,10 @@ fn look_up<R: Moderated, O: Output>(
     held: &mut Vec<u8>,
     form: &str,
 ) -> Result<(), LineEnd>
-    ensures honest { StaysClean R.Moderated registry.old registry.new }
+    ensures honest { StaysClean R.showing registry.old registry.new }
     ensures calls { CallsGo R.showing registry.old registry.new }
     ensures ends { OverStanding R.Moderated registry.old registry.new (λ h.
-        LineEnds R.Moderated result (asks.LooksUp form.now) h registry.old
+        AnswersLine R.Moderated result (asks.AsksLookUp form.now) h registry.old
         (out (O.taken output.old) held.old.items) registry.new
         (out (O.taken output.new) held.new.items)) }
     ensures fault { result ≡ Err LineEnd.WriteFault → IsSome (O.write_fault output.new) }
@@ -99,16 +100,16 @@ fn look_up<R: Moderated, O: Output>(
     }
 }
 
-// Writes the canonical text, behind what is held.
+// Writes the canonical text, after what is held.
 fn export<R: Moderated, O: Output>(
     registry: &mut R,
     output: &mut O,
     held: &mut Vec<u8>,
 ) -> Result<(), LineEnd>
-    ensures honest { StaysClean R.Moderated registry.old registry.new }
+    ensures honest { StaysClean R.showing registry.old registry.new }
     ensures calls { CallsGo R.showing registry.old registry.new }
     ensures ends { OverStanding R.Moderated registry.old registry.new (λ h.
-        LineEnds R.Moderated result asks.Exports h registry.old
+        AnswersLine R.Moderated result asks.AsksExport h registry.old
         (out (O.taken output.old) held.old.items) registry.new
         (out (O.taken output.new) held.new.items)) }
     ensures fault { result ≡ Err LineEnd.WriteFault → IsSome (O.write_fault output.new) }
@@ -131,10 +132,10 @@ pub fn answer_line<R: Moderated, O: Output>(
     held: &mut Vec<u8>,
     line: &[u8],
 ) -> Result<(), LineEnd>
-    ensures honest { StaysClean R.Moderated registry.old registry.new }
+    ensures honest { StaysClean R.showing registry.old registry.new }
     ensures calls { CallsGo R.showing registry.old registry.new }
     ensures ends { OverStanding R.Moderated registry.old registry.new (λ h.
-        LineEnds R.Moderated result (ask_of line.now) h registry.old
+        AnswersLine R.Moderated result (ask_of line.now) h registry.old
         (out (O.taken output.old) held.old.items) registry.new
         (out (O.taken output.new) held.new.items)) }
     ensures fault { result ≡ Err LineEnd.WriteFault → IsSome (O.write_fault output.new) }

@@ -35,8 +35,8 @@ ghost use Rattle.pid_moderation.specs.Fields.{
 };
 ghost use Rattle.pid_ident.specs.PathReading.{path_of};
 ghost use Rattle.pid_script.specs.Asking.{
-  command_in,
-  command_asked,
+  command_of_fields,
+  command_in_form,
   other_fields,
   path_in as path_said,
   path_asked,
@@ -73,10 +73,10 @@ fn command_with(
 ) -> Result<Command, Refusal>
     ensures ok { (all : Fields) → option_map string_bytes key.now ≡ value_in (codes "key") all
         → texts_of fields.now ≡ other_fields all
-        → IfOk result (λ c. command_in verb account.now all ≡ Ok c) }
+        → IfOk result (λ c. command_of_fields verb account.now all ≡ Ok c) }
     ensures err { (all : Fields) → option_map string_bytes key.now ≡ value_in (codes "key") all
         → texts_of fields.now ≡ other_fields all
-        → IfErr result (λ e. e ≢ Refusal.Memory → command_in verb account.now all ≡ Err e) }
+        → IfErr result (λ e. e ≢ Refusal.Memory → command_of_fields verb account.now all ≡ Err e) }
 {
     match key {
         Some(key) => command_of(alloc, verb, account, Some(key.as_str()), fields),
@@ -84,16 +84,16 @@ fn command_with(
     }
 }
 
-/// The command that a form says, or the first form check that fails; or memory is short.
+/// The command that a form says, or the first form check that fails; or out of memory.
 pub fn read_command(
     alloc: Global,
     verb: Verb,
     account: &str,
     form: &str,
 ) -> Result<Command, Refusal>
-    ensures ok { IfOk result (λ c. command_asked verb account.now form.now ≡ Ok c) }
+    ensures ok { IfOk result (λ c. command_in_form verb account.now form.now ≡ Ok c) }
     ensures err { IfErr result (λ e. e ≢ Refusal.Memory
-        → command_asked verb account.now form.now ≡ Err e) }
+        → command_in_form verb account.now form.now ≡ Err e) }
 {
     let mut fields = fields_of(alloc, form)?;
     let key = take_key(&mut fields);
@@ -125,7 +125,7 @@ fn path_in(fields: &[(String, String)]) -> Result<Path, Refusal>
     }
 }
 
-/// The path that a form says; or memory is short.
+/// The path that a form says; or out of memory.
 pub fn read_path(alloc: Global, form: &str) -> Result<Path, Refusal>
     ensures ok { IfOk result (λ p. path_asked form.now ≡ Ok p) }
     ensures err { IfErr result (λ e. e ≢ Refusal.Memory → path_asked form.now ≡ Err e) }

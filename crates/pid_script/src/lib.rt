@@ -3,7 +3,7 @@
 
 mod answering;
 mod fields;
-mod laws;
+pub mod laws;
 mod line;
 mod line_end;
 mod look_up;
@@ -14,7 +14,6 @@ mod saying;
 mod script;
 mod script_end;
 
-pub use laws::replies_are_no_stop_lines;
 pub use moderated::Moderated;
 pub use script::run_script;
 pub use script_end::ScriptEnd;

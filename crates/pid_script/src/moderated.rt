@@ -12,7 +12,7 @@ ghost use Rattle.pid_moderation.specs.Faults.{IsFault};
 ghost use Rattle.pid_service_laws.specs.Calls.{nothing_sent, obeyed};
 ghost use Rattle.pid_service_laws.specs.Registries.{CommandLeaves, Does, Showing};
 ghost use Rattle.pid_tables.specs.Files.{asks};
-ghost use Rattle.pid_script.specs.Exporting.{Exports};
+ghost use Rattle.pid_script.specs.Exporting.{ExportsText};
 ghost use Rattle.pid_script.specs.LookingUp.{LooksUp};
 
 use pid_ident::{Name, Output, Path};
@@ -22,7 +22,7 @@ use pid_service::ExportFault;
 
 /// A registry under moderation, as scripts ask it.
 ///
-/// What it tells and shows holds where its store gave back what was written to it, as the call
+/// What it answers and shows holds where its store gave back what was written to it, as the call
 /// ends. A registry that has failed answers `Failed` to all and stays as it is.
 pub trait Moderated {
     ghost use Rattle.pid_service_laws.specs.Registries.{Showing};
@@ -38,7 +38,7 @@ pub trait Moderated {
     fn obey(&mut self, command: Command) -> Result<Reply, Refusal>
         ensures honest { showing.is_clean self.new → showing.is_clean self.old }
         // To lives it is the call that obeys the command, with this answer. `live` says whether the
-        // registry is live behind it: with true it shows one history, and only with false may it
+        // registry is live after it: with true it shows one history, and only with false may it
         // have failed between two.
         ensures calls { (live : Bool) × Does showing self.old
             (obeyed (asks command) result live) self.new }
@@ -46,7 +46,7 @@ pub trait Moderated {
             → CommandLeaves showing result self.new h (asks command) }
         ensures failed { has_failed self.old → (result ≡ Err Failed) × (self.new ≡ self.old) };
 
-    /// The name of a path; or memory is short, or the store or the registry has failed.
+    /// The name of a path; or out of memory, or the store or the registry has failed.
     fn read(&mut self, path: &Path) -> Result<Option<Name>, Refusal>
         ensures honest { showing.is_clean self.new → showing.is_clean self.old }
         ensures calls { Does showing self.old nothing_sent self.new }
@@ -76,12 +76,11 @@ pub trait Moderated {
     /// Writes the canonical text, line by line. Where it is refused, what was written is whole
     /// lines of the text, or nothing. Where the writer failed it may end within a line.
     fn export<O: Output>(&mut self, out: &mut O) -> Result<(), ExportFault>
-        ensures honest { showing.is_clean self.new → showing.is_clean self.old }
         ensures calls { Does showing self.old nothing_sent self.new }
         ensures kept { showing.is_clean self.new → (h : History) → showing.shows self.old h
             → showing.shows self.new h }
         ensures told { showing.is_clean self.new → (h : History) → showing.shows self.old h
-            → Exports result (O.taken out.old) (O.taken out.new) (print (tree_of h)) }
+            → ExportsText result (O.taken out.old) (O.taken out.new) (print (tree_of h)) }
         ensures fault { (f : _) → IsErrOf result (ExportFault.Write f)
             → IsSome (O.write_fault out.new) }
         ensures failed { has_failed self.old

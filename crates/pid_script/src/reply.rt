@@ -14,35 +14,35 @@ ghost use Rattle.std.specs.Prelude.{
   Err,
   IfOk,
   IfErr,
+  OnErr,
   OnOk,
   IsSome,
   IsErrOf,
-  MatchResult,
 };
 ghost use Rattle.pid_lookup.specs.declared.answering.LookupRefusal.TheVariants as look_ups;
-ghost use Rattle.pid_moderation.specs.ReplyLines.{accepted_line, refused_line, details, outcome_line};
+ghost use Rattle.pid_moderation.specs.ReplyLines.{refused_line, outcome_line};
+ghost use Rattle.std.specs.Io.KnownBytes.{Appends};
+ghost use Rattle.pid_ident.specs.Sending.{SendsFront};
 ghost use Rattle.pid_moderation.specs.declared.refusal.Refusal.TheVariants as refusals;
 ghost use Rattle.pid_lookup.specs.Flags.{is_bad};
 ghost use Rattle.pid_script.specs.StopLines.{is_stop as is_stopping};
 ghost use Rattle.pid_script.specs.Steps.Saying.{
   out,
-  Tells,
+  TellsLine,
   SaysText,
-  IsGiven,
-  IsNothing,
-  IsAnswer,
-  GoesOn,
-  refusal_in,
+  IsGivenStop,
+  IsReplyOrStop,
+  GoesOnAfter,
+  refusal_given,
   refusal_of_names,
 };
 ghost use Rattle.pid_script.specs.Replies.{name_line, answer_line, BAD_FLAGS};
 
 use crate::line_end::LineEnd;
-use crate::saying::{flush, say, say_all, say_parts};
-use itoa::Buffer;
+use crate::saying::{flush, say, say_all};
 use pid_ident::{Name, Output};
 use pid_lookup::{Answer, LookupRefusal, Unanswered};
-use pid_moderation::{FileFault, Refusal, Reply};
+use pid_moderation::{Refusal, Reply, write_reply_line};
 
 // Whether a refusal stops a script.
 fn is_stop(refusal: Refusal) -> bool
@@ -51,11 +51,11 @@ fn is_stop(refusal: Refusal) -> bool
     matches!(refusal, Refusal::Memory | Refusal::Store | Refusal::Failed)
 }
 
-/// Says that memory is short, which takes none.
+/// Says that memory ran out, which takes none.
 pub fn stop_for_memory<O: Output>(output: &mut O, held: &mut Vec<u8>) -> LineEnd
-    ensures told { (reply : List ℕ) → Tells (IsGiven (Some Refusal.Memory)) IsNothing
-        (Err result) reply (out (O.taken output.old) held.old.items)
-        (out (O.taken output.new) held.new.items) }
+    ensures told { (reply : List ℕ)
+        → TellsLine (Err result) reply (IsGivenStop (Some Refusal.Memory))
+        (out (O.taken output.old) held.old.items) (out (O.taken output.new) held.new.items) }
     ensures fault { result ≡ LineEnd.WriteFault → IsSome (O.write_fault output.new) }
     ensures fits { result ≡ LineEnd.TooLong → ⊥ }
 {
@@ -68,7 +68,7 @@ pub fn stop_for_memory<O: Output>(output: &mut O, held: &mut Vec<u8>) -> LineEnd
 /// Says that a line is too long.
 pub fn refuse_long<O: Output>(output: &mut O, held: &mut Vec<u8>) -> LineEnd
     ensures told { (given : Option Refusal)
-        → Tells (IsGiven given) IsNothing (Err result) (refused_line refusals.BadText)
+        → TellsLine (Err result) (refused_line refusals.BadText) (IsGivenStop given)
         (out (O.taken output.old) held.old.items) (out (O.taken output.new) held.new.items) }
     ensures fault { result ≡ LineEnd.WriteFault → IsSome (O.write_fault output.new) }
     ensures goes { result ≡ LineEnd.Stopped → ⊥ }
@@ -119,7 +119,7 @@ fn say_line<O: Output>(
     text: &[u8],
 ) -> Result<(), LineEnd>
     ensures tells { (given : Option Refusal)
-        → Tells (IsGiven given) IsNothing result (word.now ++ text.now ++ 10 ∷ [])
+        → TellsLine result (word.now ++ text.now ++ 10 ∷ []) (IsGivenStop given)
         (out (O.taken output.old) held.old.items) (out (O.taken output.new) held.new.items) }
     ensures end { IfErr result (λ e. e ≡ LineEnd.WriteFault) }
     ensures fault { result ≡ Err LineEnd.WriteFault → IsSome (O.write_fault output.new) }
@@ -130,127 +130,38 @@ fn say_line<O: Output>(
     say_ended(output, held, text)
 }
 
-// Says how much an import found.
-fn say_counts<O: Output>(
-    output: &mut O,
-    held: &mut Vec<u8>,
-    added: u32,
-    renamed: u32,
-    same: u32,
-) -> Result<(), LineEnd>
-    ensures told { SaysText result (out (O.taken output.old) held.old.items)
-        (out (O.taken output.new) held.new.items)
-        (accepted_line (Reply.Counts added renamed same)) }
+fn send_line<O: Output>(output: &mut O, answer: Result<Reply, Refusal>) -> Result<(), LineEnd>
+    ensures sent { OnOk result (Appends (O.taken output.old)
+        (O.taken output.new) (outcome_line answer)) }
+    ensures front { OnErr result (SendsFront (O.taken output.old)
+        (O.taken output.new) (outcome_line answer)) }
     ensures end { IfErr result (λ e. e ≡ LineEnd.WriteFault) }
     ensures fault { result ≡ Err LineEnd.WriteFault → IsSome (O.write_fault output.new) }
 {
-    let mut first = Buffer::new();
-    let mut second = Buffer::new();
-    let mut third = Buffer::new();
-    let added = first.format(added).as_bytes();
-    let renamed = second.format(renamed).as_bytes();
-    let same = third.format(same).as_bytes();
-    say_parts(
-        output,
-        held,
-        &[
-            b"ok added=",
-            added,
-            b" renamed=",
-            renamed,
-            b" same=",
-            same,
-            b"\n",
-        ],
-    )
-}
-
-// Says the line of a command that was done.
-fn say_accepted<O: Output>(output: &mut O, held: &mut Vec<u8>, reply: Reply) -> Result<(), LineEnd>
-    ensures told { SaysText result (out (O.taken output.old) held.old.items)
-        (out (O.taken output.new) held.new.items) (accepted_line reply) }
-    ensures end { IfErr result (λ e. e ≡ LineEnd.WriteFault) }
-    ensures fault { result ≡ Err LineEnd.WriteFault → IsSome (O.write_fault output.new) }
-{
-    let mut digits = Buffer::new();
-    match reply {
-        Reply::Done => say(output, held, b"ok\n"),
-        Reply::Numbered(number) => {
-            let number = digits.format(number).as_bytes();
-            say_parts(output, held, &[b"ok ", number, b"\n"])
-        }
-        Reply::Counts {
-            added,
-            renamed,
-            same,
-        } => say_counts(output, held, added, renamed, same),
+    match write_reply_line(output, answer) {
+        Ok(()) => Ok(()),
+        Err(_) => Err(LineEnd::WriteFault),
     }
 }
 
-// Says what a refusal tells of a file, and an LF.
-fn say_details<O: Output>(
-    output: &mut O,
-    held: &mut Vec<u8>,
-    refusal: Refusal,
-) -> Result<(), LineEnd>
-    ensures told { SaysText result (out (O.taken output.old) held.old.items)
-        (out (O.taken output.new) held.new.items) (details refusal ++ 10 ∷ []) }
-    ensures end { IfErr result (λ e. e ≡ LineEnd.WriteFault) }
-    ensures fault { result ≡ Err LineEnd.WriteFault → IsSome (O.write_fault output.new) }
-{
-    let mut place = Buffer::new();
-    let mut number = Buffer::new();
-    match refusal {
-        Refusal::FileFault(FileFault::Line { line, kind }) => {
-            let line = place.format(line).as_bytes();
-            let number = number.format(kind.number()).as_bytes();
-            let word = kind.word().as_bytes();
-            say_parts(
-                output,
-                held,
-                &[b" line=", line, b" kind=", number, b" ", word, b"\n"],
-            )
-        }
-        Refusal::FileFault(FileFault::TooMany) => say(output, held, b" too many entries\n"),
-        _ => say_lf(output, held),
-    }
-}
-
-// Says the line of a refusal.
-fn say_refused<O: Output>(
-    output: &mut O,
-    held: &mut Vec<u8>,
-    refusal: Refusal,
-) -> Result<(), LineEnd>
-    ensures told { SaysText result (out (O.taken output.old) held.old.items)
-        (out (O.taken output.new) held.new.items) (refused_line refusal) }
-    ensures end { IfErr result (λ e. e ≡ LineEnd.WriteFault) }
-    ensures fault { result ≡ Err LineEnd.WriteFault → IsSome (O.write_fault output.new) }
-{
-    let mut digits = Buffer::new();
-    let number = digits.format(refusal.number()).as_bytes();
-    let word = refusal.word().as_bytes();
-    if let Err(end) = say_parts(output, held, &[b"refused ", number, b" ", word]) {
-        return Err(end);
-    }
-    say_details(output, held, refusal)
-}
-
-// Says the line of an answer. It takes no memory, so that no answer is lost for want of it.
+// Writes all that is held, and the line of an answer after it.
 fn say_answer<O: Output>(
     output: &mut O,
     held: &mut Vec<u8>,
     answer: Result<Reply, Refusal>,
 ) -> Result<(), LineEnd>
-    ensures told { SaysText result (out (O.taken output.old) held.old.items)
-        (out (O.taken output.new) held.new.items) (outcome_line answer) }
+    ensures sent { OnOk result (Appends (O.taken output.old) (O.taken output.new)
+        (held.old.items ++ outcome_line answer)) }
+    ensures empty { OnOk result (held.new.items ≡ []) }
+    ensures front { OnErr result (SendsFront (O.taken output.old) (O.taken output.new)
+        (held.old.items ++ outcome_line answer)) }
     ensures end { IfErr result (λ e. e ≡ LineEnd.WriteFault) }
     ensures fault { result ≡ Err LineEnd.WriteFault → IsSome (O.write_fault output.new) }
 {
-    match answer {
-        Ok(reply) => say_accepted(output, held, reply),
-        Err(refusal) => say_refused(output, held, refusal),
+    if let Err(end) = flush(output, held) {
+        return Err(end);
     }
+    send_line(output, answer)
 }
 
 /// Says the line of an answer, with all that is held. What was answered is told, however short
@@ -260,18 +171,15 @@ pub fn send_answer<O: Output>(
     held: &mut Vec<u8>,
     answer: Result<Reply, Refusal>,
 ) -> Result<(), LineEnd>
-    ensures told { (reply : List ℕ) → IsAnswer reply answer
-        → Tells (IsGiven (refusal_in answer)) IsNothing result reply
+    ensures told { (reply : List ℕ) → IsReplyOrStop reply answer
+        → TellsLine result reply (IsGivenStop (refusal_given answer))
         (out (O.taken output.old) held.old.items) (out (O.taken output.new) held.new.items) }
-    ensures goes_on { GoesOn result (refusal_in answer) }
+    ensures goes_on { GoesOnAfter result (refusal_given answer) }
     ensures empty { OnOk result (held.new.items ≡ []) }
     ensures fault { result ≡ Err LineEnd.WriteFault → IsSome (O.write_fault output.new) }
     ensures fits { result ≡ Err LineEnd.TooLong → ⊥ }
 {
     if let Err(end) = say_answer(output, held, answer) {
-        return Err(end);
-    }
-    if let Err(end) = flush(output, held) {
         return Err(end);
     }
     if stops(answer) {
@@ -283,7 +191,7 @@ pub fn send_answer<O: Output>(
 /// Says that a line is not understood.
 pub fn send_bad_text<O: Output>(output: &mut O, held: &mut Vec<u8>) -> Result<(), LineEnd>
     ensures told { (given : Option Refusal)
-        → Tells (IsGiven given) IsNothing result (refused_line refusals.BadText)
+        → TellsLine result (refused_line refusals.BadText) (IsGivenStop given)
         (out (O.taken output.old) held.old.items) (out (O.taken output.new) held.new.items) }
     ensures end { IfErr result (λ e. e ≡ LineEnd.WriteFault) }
     ensures fault { result ≡ Err LineEnd.WriteFault → IsSome (O.write_fault output.new) }
@@ -299,9 +207,9 @@ pub fn send_name<O: Output>(
 ) -> Result<(), LineEnd>
     ensures told { (good : Option (List ℕ)) → IfOk name (λ name. name ≡ good)
         → IfErr name (λ e. is_stopping e ≡ true) →
-        Tells (IsGiven (refusal_in name)) IsNothing result (name_line good)
+        TellsLine result (name_line good) (IsGivenStop (refusal_given name))
         (out (O.taken output.old) held.old.items) (out (O.taken output.new) held.new.items) }
-    ensures goes_on { GoesOn result (refusal_in name) }
+    ensures goes_on { GoesOnAfter result (refusal_given name) }
     ensures fault { result ≡ Err LineEnd.WriteFault → IsSome (O.write_fault output.new) }
     ensures fits { result ≡ Err LineEnd.TooLong → ⊥ }
 {
@@ -322,10 +230,10 @@ pub fn send_found<O: Output>(
         → IfOk found (λ answer. (is_bad flags ≡ false) × (answer ≡ good))
         → (IsErrOf found look_ups.BadFlags → is_bad flags ≡ true) →
         ((e : _) → IsErrOf found (look_ups.Names e) → is_stopping e ≡ true) →
-        Tells (IsGiven (refusal_of_names found)) IsNothing result
-        (if is_bad flags then BAD_FLAGS else answer_line good)
+        TellsLine result (if is_bad flags then BAD_FLAGS else answer_line good)
+        (IsGivenStop (refusal_of_names found))
         (out (O.taken output.old) held.old.items) (out (O.taken output.new) held.new.items) }
-    ensures goes_on { GoesOn result (refusal_of_names found) }
+    ensures goes_on { GoesOnAfter result (refusal_of_names found) }
     ensures fault { result ≡ Err LineEnd.WriteFault → IsSome (O.write_fault output.new) }
     ensures fits { result ≡ Err LineEnd.TooLong → ⊥ }
 {

@@ -18,10 +18,9 @@ ghost use Rattle.std.specs.Prelude.{
   OnErr,
 };
 ghost use Rattle.std.specs.Io.KnownBytes.{Appends};
-ghost use Rattle.std.specs.List.{flat_map};
 ghost use Rattle.pid_ident.specs.Sending.{SendsFront};
 ghost use Rattle.pid_moderation.specs.declared.refusal.Refusal.{Refusal};
-ghost use Rattle.pid_script.specs.Steps.Saying.{out, SaysText, Tells, IsGiven, IsNothing};
+ghost use Rattle.pid_script.specs.Steps.Saying.{out, SaysText, TellsLine, IsGivenStop};
 
 use crate::line_end::LineEnd;
 use pid_ident::{Output, write_all};
@@ -72,12 +71,12 @@ pub fn flush<O: Output>(output: &mut O, held: &mut Vec<u8>) -> Result<(), LineEn
     Ok(())
 }
 
-/// Says a text: it is held behind what is held already, or goes out behind that.
+/// Says a text: it is held after what is held already, or goes out after that.
 pub fn say<O: Output>(output: &mut O, held: &mut Vec<u8>, text: &[u8]) -> Result<(), LineEnd>
     ensures told { SaysText result (out (O.taken output.old) held.old.items)
         (out (O.taken output.new) held.new.items) text.now }
     ensures tells { (given : Option Refusal)
-        → Tells (IsGiven given) IsNothing result text.now
+        → TellsLine result text.now (IsGivenStop given)
         (out (O.taken output.old) held.old.items) (out (O.taken output.new) held.new.items) }
     ensures end { IfErr result (λ e. e ≡ LineEnd.WriteFault) }
     ensures fault { result ≡ Err LineEnd.WriteFault → IsSome (O.write_fault output.new) }
@@ -105,23 +104,4 @@ pub fn say_all<O: Output>(output: &mut O, held: &mut Vec<u8>, text: &[u8]) -> Re
         return Err(end);
     }
     flush(output, held)
-}
-
-/// Says the parts of a text, one behind the other.
-pub fn say_parts<O: Output>(
-    output: &mut O,
-    held: &mut Vec<u8>,
-    parts: &[&[u8]],
-) -> Result<(), LineEnd>
-    ensures told { SaysText result (out (O.taken output.old) held.old.items)
-        (out (O.taken output.new) held.new.items) (flat_map (λ part. part.now) parts.now) }
-    ensures end { IfErr result (λ e. e ≡ LineEnd.WriteFault) }
-    ensures fault { result ≡ Err LineEnd.WriteFault → IsSome (O.write_fault output.new) }
-{
-    for part in parts {
-        if let Err(end) = say(output, held, part) {
-            return Err(end);
-        }
-    }
-    Ok(())
 }

@@ -24,11 +24,13 @@ ghost use Rattle.std.specs.Prelude.{
 ghost use Rattle.pid_reader.specs.Lines.{drop_cr, lines_of};
 ghost use Rattle.pid_moderation.specs.History.{History};
 ghost use Rattle.pid_script.specs.ScriptLines.{ask_of};
-ghost use Rattle.pid_script.specs.Steps.Progress.{Answered, HasAnswered, Ended, Ends, script_end};
+ghost use Rattle.pid_script.specs.Steps.Progress.{Answered, HasAnswered, Ended, EndsText};
+ghost use Rattle.pid_script.specs.Steps.Progress.{script_end};
 ghost use Rattle.pid_script.specs.Calling.{CallsGo};
-ghost use Rattle.pid_script.specs.Steps.Saying.{out, LineEnds, Unfit};
+ghost use Rattle.pid_script.specs.Steps.Saying.{out, AnswersLine, Unfit};
 ghost use Rattle.pid_script.specs.Scripts.{passage, IsScript, KeepsFaults, MakesReads};
-ghost use Rattle.pid_script.specs.Standing.{OverStanding, StaysClean, Stands};
+ghost use Rattle.pid_service_laws.specs.CallLaws.{StaysClean};
+ghost use Rattle.pid_script.specs.Standing.{OverStanding, ShowsOrHasFailed};
 
 use crate::answering::answer_line;
 use crate::line::LONGEST_LINE;
@@ -90,10 +92,10 @@ fn end_line<R: Moderated, O: Output>(
     ensures empty { OnOk result (kept.new.items ≡ []) }
     // The memory of a line that was kept is let go before the next one.
     ensures let_go { OnOk result (0 < length kept.old.items → vec_capacity kept.new ≡ 0) }
-    ensures honest { StaysClean R.Moderated registry.old registry.new }
+    ensures honest { StaysClean R.showing registry.old registry.new }
     ensures calls { CallsGo R.showing registry.old registry.new }
     ensures ends { OverStanding R.Moderated registry.old registry.new (λ h.
-        LineEnds R.Moderated result (ask_of
+        AnswersLine R.Moderated result (ask_of
         (drop_cr (kept.old.items ++ front.now))) h registry.old
         (out (O.taken output.old) held.old.items) registry.new
         (out (O.taken output.new) held.new.items)) }
@@ -110,7 +112,7 @@ fn end_line<R: Moderated, O: Output>(
     answered
 }
 
-// Answers the lines of the next piece of the text, and keeps what stands behind them.
+// Answers the lines of the next piece of the text, and keeps what comes after them.
 fn take_lines<R: Moderated, O: Output>(
     alloc: Global,
     registry: &mut R,
@@ -119,18 +121,18 @@ fn take_lines<R: Moderated, O: Output>(
     kept: &mut Vec<u8>,
     piece: &[u8],
 ) -> Result<(), LineEnd>
-    ensures honest { StaysClean R.Moderated registry.old registry.new }
+    ensures honest { StaysClean R.showing registry.old registry.new }
     ensures calls { CallsGo R.showing registry.old registry.new }
     ensures answered { R.showing.is_clean registry.new
         → (h : History) (start : Option (List ℕ)) (first : _) (text : List ℕ)
-        → Stands R.Moderated first h
+        → ShowsOrHasFailed R.Moderated first h
         → HasAnswered R.Moderated h start first registry.old
         (out (O.taken output.old) held.old.items) kept.old.items text
         → OnOk result (HasAnswered R.Moderated h start first registry.new
         (out (O.taken output.new) held.new.items) kept.new.items (text ++ piece.now)) }
     ensures ended { R.showing.is_clean registry.new
         → (h : History) (start : Option (List ℕ)) (first : _) (text more : List ℕ)
-        → Stands R.Moderated first h
+        → ShowsOrHasFailed R.Moderated first h
         → HasAnswered R.Moderated h start first registry.old
         (out (O.taken output.old) held.old.items) kept.old.items text
         → IfErr result (λ e. Ended R.Moderated e h start first registry.new
@@ -159,19 +161,19 @@ fn take_piece<R: Moderated, O: Output>(
     kept: &mut Vec<u8>,
     piece: &[u8],
 ) -> Result<(), LineEnd>
-    ensures honest { StaysClean R.Moderated registry.old registry.new }
+    ensures honest { StaysClean R.showing registry.old registry.new }
     ensures calls { CallsGo R.showing registry.old registry.new }
     ensures empty { OnOk result (held.new.items ≡ []) }
     ensures answered { R.showing.is_clean registry.new
         → (h : History) (start : Option (List ℕ)) (first : _) (text : List ℕ)
-        → Stands R.Moderated first h
+        → ShowsOrHasFailed R.Moderated first h
         → HasAnswered R.Moderated h start first registry.old
         (out (O.taken output.old) held.old.items) kept.old.items text
         → OnOk result (HasAnswered R.Moderated h start first registry.new
         (out (O.taken output.new) held.new.items) kept.new.items (text ++ piece.now)) }
     ensures ended { R.showing.is_clean registry.new
         → (h : History) (start : Option (List ℕ)) (first : _) (text more : List ℕ)
-        → Stands R.Moderated first h
+        → ShowsOrHasFailed R.Moderated first h
         → HasAnswered R.Moderated h start first registry.old
         (out (O.taken output.old) held.old.items) kept.old.items text
         → IfErr result (λ e. Ended R.Moderated e h start first registry.new
@@ -192,18 +194,18 @@ fn answer_last<R: Moderated, O: Output>(
     held: &mut Vec<u8>,
     kept: &[u8],
 ) -> Result<(), LineEnd>
-    ensures honest { StaysClean R.Moderated registry.old registry.new }
+    ensures honest { StaysClean R.showing registry.old registry.new }
     ensures calls { CallsGo R.showing registry.old registry.new }
     ensures answered { R.showing.is_clean registry.new
         → (h : History) (start : Option (List ℕ)) (first : _) (text : List ℕ)
-        → Stands R.Moderated first h
+        → ShowsOrHasFailed R.Moderated first h
         → HasAnswered R.Moderated h start first registry.old
         (out (O.taken output.old) held.old.items) kept.now text
         → OnOk result (Answered R.Moderated h start first registry.new
         (out (O.taken output.new) held.new.items) (lines_of text)) }
     ensures ended { R.showing.is_clean registry.new
         → (h : History) (start : Option (List ℕ)) (first : _) (text : List ℕ)
-        → Stands R.Moderated first h
+        → ShowsOrHasFailed R.Moderated first h
         → HasAnswered R.Moderated h start first registry.old
         (out (O.taken output.old) held.old.items) kept.now text
         → IfErr result (λ e. Ended R.Moderated e h start first registry.new
@@ -224,14 +226,14 @@ fn end_text<R: Moderated, O: Output>(
     held: &mut Vec<u8>,
     kept: &[u8],
 ) -> Result<(), LineEnd>
-    ensures honest { StaysClean R.Moderated registry.old registry.new }
+    ensures honest { StaysClean R.showing registry.old registry.new }
     ensures calls { CallsGo R.showing registry.old registry.new }
     ensures ends { R.showing.is_clean registry.new
         → (h : History) (start : Option (List ℕ)) (first : _) (text : List ℕ)
-        → Stands R.Moderated first h
+        → ShowsOrHasFailed R.Moderated first h
         → HasAnswered R.Moderated h start first registry.old
         (out (O.taken output.old) held.old.items) kept.now text
-        → Ends R.Moderated result h start first registry.new
+        → EndsText R.Moderated result h start first registry.new
         (out (O.taken output.new) held.new.items) text }
     ensures fault { result ≡ Err LineEnd.WriteFault → IsSome (O.write_fault output.new) }
 {
@@ -256,13 +258,13 @@ fn end_of(answered: Result<(), LineEnd>) -> ScriptEnd
 ///
 /// A line ends with an LF, before which one CR is dropped; a last line without LF counts. It is a
 /// command (`VERB ACCOUNT FIELDS`), `export`, `read FIELDS` or `lookup FIELDS`; an empty line and a
-/// comment (`#`) get no reply, and any other line is refused as 3. After a refusal as 16, 17 or 18
-/// nothing more is answered, nor after a line of more than 16,777,216 bytes. Want of memory for the
-/// script itself is refused as 16, which takes none.
+/// comment (`#`) get no reply, and any other line is refused as 3. Nothing more is answered after a
+/// refusal as 16, 17 or 18, nor after a line of more than 16,777,216 bytes. If the script itself is
+/// out of memory, the reply is the refusal 16, which takes none.
 ///
-/// At most so many reads are made, each of at most 65,536 bytes. Replies are written at the latest
+/// At most `turns` reads are made, each of at most 65,536 bytes. Replies are written at the latest
 /// when a command was answered and when a read is answered whole. A line costs memory only while it
-/// is open.
+/// is open. The reply to a command takes no memory.
 ///
 /// Over a `Registry` of `pid_service` the clauses read so, while the disk returns what was written.
 /// Let it show a history as the script begins. At `Done` it shows the history with the commands of
@@ -270,7 +272,7 @@ fn end_of(answered: Result<(), LineEnd>) -> ScriptEnd
 /// or with that of the next line too, whose reply did not go out; or it has failed, and a crash
 /// leaves the one or the other. So a later opening finds each command whose reply went out whole. A
 /// registry that has failed before refuses the first line that asks something of it as 18, or as 16
-/// where memory is short for the line, and stays as it is. The reply to a command takes no memory.
+/// if memory runs out for the line, and stays as it is.
 pub fn run_script<R: Moderated, I: Input, O: Output>(
     alloc: Global,
     registry: &mut R,
@@ -278,11 +280,10 @@ pub fn run_script<R: Moderated, I: Input, O: Output>(
     output: &mut O,
     turns: u64,
 ) -> ScriptEnd
-    ensures honest { StaysClean R.Moderated registry.old registry.new }
     // Whatever was read and written, calls lead from the one registry to the other, so that the
     // script is part of a life.
     ensures calls { CallsGo R.showing registry.old registry.new }
-    // The replies are those of the lines of the text, and the registry shows the history behind
+    // The replies are those of the lines of the text, and the registry shows the history after
     // them.
     ensures script { OverStanding R.Moderated registry.old registry.new (λ h.
         IfSome (I.to_come input.old) (λ text.

@@ -1,6 +1,6 @@
 //! How a script ends.
 ghost use Rattle.std.specs.Prelude.{◌≡◌};
-ghost use Rattle.pid_script.specs.EndStatus.{status_of};
+ghost use Rattle.pid_script.specs.EndStatus.{script_status};
 
 /// How a script ends.
 #[derive(Clone, Copy, Debug, PartialEq, Eq)]
@@ -23,7 +23,7 @@ impl ScriptEnd {
     /// The status of a process whose script ends so: 0 where all lines were answered, whatever was
     /// refused on the way, 1 where a line is too long, else 3.
     pub fn status(self) -> u8
-        ensures { result ≡ status_of self }
+        ensures { result ≡ script_status self }
     {
         match self {
             ScriptEnd::Done => 0,

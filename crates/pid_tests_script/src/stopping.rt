@@ -18,7 +18,11 @@ pub struct Refusing {
 }
 
 impl Moderated for Refusing {
-    ghost showing = { record { is_clean = λ registry. Unit {0}; shows = λ registry h. ⊥; fails_between = λ registry h after. ⊥ } };
+    ghost showing = { record {
+      is_clean = λ registry. Unit {0};
+      shows = λ registry h. ⊥;
+      fails_between = λ registry h after. ⊥;
+    } };
 
     ghost has_failed = { λ registry. ⊥ };
 

@@ -5,18 +5,19 @@ use Rattle.std.specs.Borrow.{Bor}
 use Rattle.pid_script.specs.ScriptLines as asks
 use Rattle.pid_script.specs.ScriptLines.{Ask}
 use Rattle.pid_script.specs.declared.line.LineAsk.{LineAsk}
-use Rattle.pid_script.specs.declared.line.LineAsk.TheVariants.{Nothing, Command, Export, Read, LookUp, Unclear, TooLong}
+use Rattle.pid_script.specs.declared.line.LineAsk.TheVariants.{Nothing, Command, Export, Read}
+use Rattle.pid_script.specs.declared.line.LineAsk.TheVariants.{LookUp, Unclear, TooLong}
 
 -- the same by the words of scripts
-abbrev pub told : LineAsk → Ask
-told Nothing = asks.Nothing
-told (Command verb account form) = asks.Commands verb account.now form.now
-told Export = asks.Exports
-told (Read form) = asks.Reads form.now
-told (LookUp form) = asks.LooksUp form.now
-told Unclear = asks.Unclear
-told TooLong = asks.TooLong
+abbrev pub ask_told : LineAsk → Ask
+ask_told Nothing = asks.AsksNothing
+ask_told (Command verb account form) = asks.AsksCommand verb account.now form.now
+ask_told Export = asks.AsksExport
+ask_told (Read form) = asks.AsksName form.now
+ask_told (LookUp form) = asks.AsksLookUp form.now
+ask_told Unclear = asks.Unclear
+ask_told TooLong = asks.TooLong
 
 -- two texts by their bytes
-abbrev pub pair_told : Option (Bor (List ℕ) × Bor (List ℕ)) → Option (List ℕ × List ℕ)
-pair_told pair = option_map (λ p. (p.0.now, p.1.now)) pair
+abbrev pub parts_told : Option (Bor (List ℕ) × Bor (List ℕ)) → Option (List ℕ × List ℕ)
+parts_told pair = option_map (λ p. (p.0.now, p.1.now)) pair

@@ -8,11 +8,13 @@ use Rattle.pid_script.specs.declared.line_end.LineEnd.{LineEnd}
 use Rattle.pid_script.specs.declared.line_end.LineEnd.TheVariants as line_ends
 use Rattle.pid_script.specs.declared.moderated.Moderated.{Ghosts}
 use Rattle.pid_script.specs.declared.script_end.ScriptEnd.{ScriptEnd}
-use Rattle.pid_script.specs.declared.script_end.ScriptEnd.TheVariants.{Done, WriteFault, TooLong, Stopped}
+use Rattle.pid_script.specs.declared.script_end.ScriptEnd.TheVariants.{Done, WriteFault, TooLong}
+use Rattle.pid_script.specs.declared.script_end.ScriptEnd.TheVariants.{Stopped}
 use Rattle.pid_script.specs.Calling.{CallsSend}
 use Rattle.pid_script.specs.Replies.{replies, commands_of_lines, history_after}
 use Rattle.pid_script.specs.Steps.Saying.{Out}
-use Rattle.pid_script.specs.Scripts.{NoneTooLong, NoneCalls, passage, Answers, StopsAtLine, EndsTooLong, BreaksOff}
+use Rattle.pid_script.specs.Scripts.{NoneTooLong, NoneCalls, passage, AnswersLines, StopsAtLine}
+use Rattle.pid_script.specs.Scripts.{EndsTooLong, FailsToWrite}
 use Rattle.pid_script.specs.Standing.{Becomes}
 
 module _ {R : Type 0} (registry : Ghosts R) where
@@ -34,7 +36,7 @@ module _ {R : Type 0} (registry : Ghosts R) where
     pub lives : registry.has_failed old → NoneCalls lines
     pub calls : CallsSend registry.showing old (commands_of_lines lines) new
 
-  -- the whole lines of a front of the text were answered, and what stands behind them is kept
+  -- the whole lines of a prefix of the text were answered, and what comes after them is kept
   pub record HasAnswered (h : History) (start : Option (List ℕ)) (old new : R) (now : Out)
       (kept front : List ℕ) : Type 0 where
     pub open_line : kept ≡ open_part front
@@ -44,17 +46,17 @@ module _ {R : Type 0} (registry : Ghosts R) where
   abbrev pub Ended : LineEnd → History → Option (List ℕ) → R → R → Out → List (List ℕ) → Type 0
   Ended line_ends.Stopped h start old new now lines = StopsAtLine registry h
       (passage old new start now.taken) lines
-  Ended line_ends.WriteFault h start old new now lines = BreaksOff registry h
+  Ended line_ends.WriteFault h start old new now lines = FailsToWrite registry h
       (passage old new start now.taken) lines
   Ended line_ends.TooLong h start old new now lines = EndsTooLong registry h
       (passage old new start now.taken) lines
 
   -- a text was answered, or why not
-  abbrev pub Ends : Result (Unit {0}) LineEnd → History → Option (List ℕ) → R → R → Out → List ℕ
+  abbrev pub EndsText : Result (Unit {0}) LineEnd → History → Option (List ℕ) → R → R → Out → List ℕ
       → Type 0
-  Ends (Ok x) h start old new now text = Answers registry h (passage old new start now.taken)
-      (lines_of text)
-  Ends (Err end) h start old new now text = Ended end h start old new now (lines_of text)
+  EndsText (Ok x) h start old new now text =
+      AnswersLines registry h (passage old new start now.taken) (lines_of text)
+  EndsText (Err end) h start old new now text = Ended end h start old new now (lines_of text)
 
 -- the end of a script that such an end makes
 abbrev pub script_end : Result (Unit {0}) LineEnd → ScriptEnd

@@ -19,9 +19,9 @@ use Rattle.pid_script.specs.declared.moderated.Moderated.{Ghosts}
 use Rattle.pid_script.specs.Calling.{CallsSend, CallsSendEither}
 use Rattle.pid_script.specs.ScriptLines as lines
 use Rattle.pid_script.specs.ScriptLines.{Ask}
-use Rattle.pid_script.specs.Replies.{reply_to, command_of, is_call}
+use Rattle.pid_script.specs.Replies.{line_reply, command_of, is_call}
 use Rattle.pid_script.specs.Standing.{Becomes, BecomesEither, StopsBehind}
-use Rattle.pid_script.specs.StopLines.{is_stop, IsBegun, StoppedBy, IsStopText}
+use Rattle.pid_script.specs.StopLines.{is_stop, IsStopInPlace, IsStopText}
 
 -- what a writer took, and what is held for it
 pub record Out : Type 0 where
@@ -33,54 +33,57 @@ abbrev pub out : Option (List ℕ) → List ℕ → Out
 out taken held = record { taken = taken; held = held }
 
 -- a text was said: some bytes went out, and the rest of what was held and said is held
-pub record Says (old new : Out) (text : List ℕ) : Type 0 where
+pub record HasSaid (old new : Out) (text : List ℕ) : Type 0 where
   pub sent : List ℕ
   pub told : Appends old.taken new.taken sent
   pub rest : old.held ++ text ≡ sent ++ new.held
 
--- the writer failed, and took a front of what was held and said, and not all of it
+-- the writer failed, and took a prefix of what was held and said, and not all of it
 abbrev pub SaysFront : Out → Out → List ℕ → Type 0
 SaysFront old new text = SendsFront old.taken new.taken (old.held ++ text)
 
 -- a text was said, or the writer failed within it
 abbrev pub SaysText : Result (Unit {0}) LineEnd → Out → Out → List ℕ → Type 0
-SaysText result old new text = MatchResult result (λ _. Says old new text)
+SaysText result old new text = MatchResult result (λ _. HasSaid old new text)
     (λ _. SaysFront old new text)
 
 -- a refusal is the one that was given, and stops
-abbrev pub IsGiven : Option Refusal → Refusal → Type 0
-IsGiven given refusal = (given ≡ Some refusal) × (is_stop refusal ≡ true)
+abbrev pub IsGivenRefusal : Option Refusal → Refusal → Type 0
+IsGivenRefusal given refusal = (given ≡ Some refusal) × (is_stop refusal ≡ true)
 
 -- nothing is begun of the reply
 abbrev pub IsNothing : List ℕ → Type 0
 IsNothing begun = begun ≡ []
 
--- all that was held went out, and behind it the text of a stop
-pub record SaysStop (Cause : Refusal → Type 0) (Begun : List ℕ → Type 0)
-    (old new : Out) : Type 0 where
+-- the text of a stop that nothing was begun before: the line of the refusal that was given
+abbrev pub IsGivenStop : Option Refusal → List ℕ → Type 0
+IsGivenStop given = IsStopText (IsGivenRefusal given) IsNothing
+
+-- all that was held went out, and after it the text of a stop
+pub record SaysStop (IsStop : List ℕ → Type 0) (old new : Out) : Type 0 where
   pub text : List ℕ
-  pub stop : IsStopText Cause Begun text
+  pub stop : IsStop text
   pub told : Appends old.taken new.taken (old.held ++ text)
 
 -- the writer failed within what was held and the reply, or the text of a stop
-pub record BreaksWithin (Cause : Refusal → Type 0) (Begun : List ℕ → Type 0) (reply : List ℕ)
-    (old new : Out) : Type 0 where
+pub record BreaksWithin (reply : List ℕ) (IsStop : List ℕ → Type 0) (old new : Out) : Type 0 where
   pub text : List ℕ
-  pub is : (text ≡ reply) ⊎ IsStopText Cause Begun text
+  pub is : (text ≡ reply) ⊎ IsStop text
   pub front : SaysFront old new text
 
--- what was said in reply
-abbrev pub Tells : (Refusal → Type 0) → (List ℕ → Type 0) → Result (Unit {0}) LineEnd → List ℕ → Out
-    → Out → Type 0
-Tells Cause Begun (Ok x) reply old new = Says old new reply
-Tells Cause Begun (Err Stopped) reply old new = SaysStop Cause Begun old new
-Tells Cause Begun (Err WriteFault) reply old new = BreaksWithin Cause Begun reply old new
-Tells Cause Begun (Err TooLong) reply old new = Appends old.taken new.taken (old.held ++ reply)
+-- What was said to a line whose reply is this: the reply, or a text that stops the script in its
+-- place.
+abbrev pub TellsLine : Result (Unit {0}) LineEnd → (reply : List ℕ) → (IsStop : List ℕ → Type 0)
+    → (old new : Out) → Type 0
+TellsLine (Ok x) reply IsStop old new = HasSaid old new reply
+TellsLine (Err Stopped) reply IsStop old new = SaysStop IsStop old new
+TellsLine (Err WriteFault) reply IsStop old new = BreaksWithin reply IsStop old new
+TellsLine (Err TooLong) reply IsStop old new = Appends old.taken new.taken (old.held ++ reply)
 
 -- the refusal in an answer
-abbrev pub refusal_in : {X : Type 0} → Result X Refusal → Option Refusal
-refusal_in (Ok x) = None
-refusal_in (Err refusal) = Some refusal
+abbrev pub refusal_given : {X : Type 0} → Result X Refusal → Option Refusal
+refusal_given (Ok x) = None
+refusal_given (Err refusal) = Some refusal
 
 -- the refusal of the holder of names in the answer of a look-up; memory may be short for the
 -- look-up itself
@@ -91,15 +94,15 @@ refusal_of_names (Err (look_ups.Names refusal)) = Some refusal
 refusal_of_names (Err look_ups.Memory) = Some Memory
 
 -- the line of an answer is a reply; or the answer is a stop
-abbrev pub IsAnswer : List ℕ → Result Reply Refusal → Type 0
-IsAnswer reply answer = (outcome_line answer ≡ reply)
+abbrev pub IsReplyOrStop : List ℕ → Result Reply Refusal → Type 0
+IsReplyOrStop reply answer = (outcome_line answer ≡ reply)
     ⊎ ((refusal : Refusal) × (is_stop refusal ≡ true) × (answer ≡ Err refusal))
 
 -- what was answered goes on where it is no stop
-abbrev pub GoesOn : Result (Unit {0}) LineEnd → Option Refusal → Type 0
-GoesOn (Ok x) (Some refusal) = is_stop refusal ≡ false
-GoesOn (Ok x) None = Unit {0}
-GoesOn (Err end) given = Unit {0}
+abbrev pub GoesOnAfter : Result (Unit {0}) LineEnd → Option Refusal → Type 0
+GoesOnAfter (Ok x) (Some refusal) = is_stop refusal ≡ false
+GoesOnAfter (Ok x) None = Unit {0}
+GoesOnAfter (Err end) given = Unit {0}
 
 -- a line that can be too long already, or for which there is no memory
 abbrev pub IsUnfit : List ℕ → List ℕ → Type 0
@@ -133,24 +136,24 @@ module _ {R : Type 0} (registry : Ghosts R) where
     pub long : ask ≡ lines.TooLong
 
   -- what is left of the registry
-  abbrev pub Leaves : Result (Unit {0}) LineEnd → R → History → R → Ask → Out → Type 0
-  Leaves (Ok x) r h new ask left = GoesBehind r h new ask left
-  Leaves (Err TooLong) r h new ask left = EndsBehind r h new ask
-  Leaves (Err Stopped) r h new ask left = StopsBehind registry r h new h (command_of ask)
-  Leaves (Err WriteFault) r h new ask left = BecomesEither registry r h new h
+  abbrev pub LeavesAfter : Result (Unit {0}) LineEnd → R → History → R → Ask → Out → Type 0
+  LeavesAfter (Ok x) r h new ask left = GoesBehind r h new ask left
+  LeavesAfter (Err TooLong) r h new ask left = EndsBehind r h new ask
+  LeavesAfter (Err Stopped) r h new ask left = StopsBehind registry r h new h (command_of ask)
+  LeavesAfter (Err WriteFault) r h new ask left = BecomesEither registry r h new h
       (after_all h (command_of ask))
 
   -- What calls sent for the line: its command where it was answered, none that has an outcome where
   -- it was stopped, and one or the other where the writer failed.
-  abbrev pub Sends : Result (Unit {0}) LineEnd → R → R → Ask → Type 0
-  Sends (Ok x) r new ask = CallsSend registry.showing r (command_of ask) new
-  Sends (Err TooLong) r new ask = CallsSend registry.showing r [] new
-  Sends (Err Stopped) r new ask = CallsSend registry.showing r [] new
-  Sends (Err WriteFault) r new ask = CallsSendEither registry.showing r [] (command_of ask) new
+  abbrev pub SendsFor : Result (Unit {0}) LineEnd → R → R → Ask → Type 0
+  SendsFor (Ok x) r new ask = CallsSend registry.showing r (command_of ask) new
+  SendsFor (Err TooLong) r new ask = CallsSend registry.showing r [] new
+  SendsFor (Err Stopped) r new ask = CallsSend registry.showing r [] new
+  SendsFor (Err WriteFault) r new ask = CallsSendEither registry.showing r [] (command_of ask) new
 
   -- the answer to a line
-  pub record LineEnds (result : Result (Unit {0}) LineEnd) (ask : Ask) (h : History) (r : R)
+  pub record AnswersLine (result : Result (Unit {0}) LineEnd) (ask : Ask) (h : History) (r : R)
       (old : Out) (new : R) (left : Out) : Type 0 where
-    pub tells : Tells (StoppedBy registry r h ask) (IsBegun ask h) result (reply_to ask h) old left
-    pub leaves : Leaves result r h new ask left
-    pub sends : Sends result r new ask
+    pub tells : TellsLine result (line_reply ask h) (IsStopInPlace registry r h h ask) old left
+    pub leaves : LeavesAfter result r h new ask left
+    pub sends : SendsFor result r new ask

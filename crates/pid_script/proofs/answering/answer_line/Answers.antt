@@ -1,18 +1,18 @@
 use Rattle.std.proofs.Common.{Ok, Err, subst}
-use Rattle.pid_script.specs.Steps.Saying.{out, LineEnds}
+use Rattle.pid_script.specs.Steps.Saying.{out, AnswersLine}
 use Rattle.pid_script.proofs.OtherLines.{unclear, long, idle}
 use Rattle.pid_script.proofs.Calling.{go_still}
 use Rattle.pid_script.proofs.answering.answer_line.Goals as goal
 
 pub returns-in-Export-clause-ends : goal.returns-in-Export-clause-ends
-returns-in-Export-clause-ends g c = λ honest h stands. subst (λ a. LineEnds g.R.Moderated c.export.result a h c.args.registry.now (out (g.O.Output.taken c.args.output.now) c.args.held.now.items) c.export.new.registry (out (g.O.Output.taken c.export.new.output) c.export.new.held.items)) c.in-Export.ensures (c.export.ensures.ends honest h stands)
+returns-in-Export-clause-ends g c = λ honest h stands. subst (λ a. AnswersLine g.R.Moderated c.export.result a h c.args.registry.now (out (g.O.Output.taken c.args.output.now) c.args.held.now.items) c.export.new.registry (out (g.O.Output.taken c.export.new.output) c.export.new.held.items)) c.in-Export.ensures (c.export.ensures.ends honest h stands)
 
 pub returns-in-Unclear-clause-ends : goal.returns-in-Unclear-clause-ends
-returns-in-Unclear-clause-ends g c = λ honest h stands. subst (λ a. LineEnds g.R.Moderated c.send_bad_text.result a h c.args.registry.now (out (g.O.Output.taken c.args.output.now) c.args.held.now.items) c.args.registry.now (out (g.O.Output.taken c.send_bad_text.new.output) c.send_bad_text.new.held.items)) c.in-Unclear.ensures
+returns-in-Unclear-clause-ends g c = λ honest h stands. subst (λ a. AnswersLine g.R.Moderated c.send_bad_text.result a h c.args.registry.now (out (g.O.Output.taken c.args.output.now) c.args.held.now.items) c.args.registry.now (out (g.O.Output.taken c.send_bad_text.new.output) c.send_bad_text.new.held.items)) c.in-Unclear.ensures
     (unclear g.R.Moderated c.send_bad_text.result h c.args.registry.now (out (g.O.Output.taken c.args.output.now) c.args.held.now.items) (out (g.O.Output.taken c.send_bad_text.new.output) c.send_bad_text.new.held.items) c.send_bad_text.ensures.told c.send_bad_text.ensures.end)
 
 pub returns-in-TooLong-clause-ends : goal.returns-in-TooLong-clause-ends
-returns-in-TooLong-clause-ends g c = λ honest h stands. subst (λ a. LineEnds g.R.Moderated (Err c.refuse_long.result) a h c.args.registry.now (out (g.O.Output.taken c.args.output.now) c.args.held.now.items) c.args.registry.now (out (g.O.Output.taken c.refuse_long.new.output) c.refuse_long.new.held.items)) c.in-TooLong.ensures
+returns-in-TooLong-clause-ends g c = λ honest h stands. subst (λ a. AnswersLine g.R.Moderated (Err c.refuse_long.result) a h c.args.registry.now (out (g.O.Output.taken c.args.output.now) c.args.held.now.items) c.args.registry.now (out (g.O.Output.taken c.refuse_long.new.output) c.refuse_long.new.held.items)) c.in-TooLong.ensures
     (long g.R.Moderated c.refuse_long.result h c.args.registry.now (out (g.O.Output.taken c.args.output.now) c.args.held.now.items) (out (g.O.Output.taken c.refuse_long.new.output) c.refuse_long.new.held.items) c.refuse_long.ensures.told c.refuse_long.ensures.goes)
 
 pub returns-in-Nothing-clause-calls : goal.returns-in-Nothing-clause-calls
@@ -25,13 +25,13 @@ pub returns-in-TooLong-clause-calls : goal.returns-in-TooLong-clause-calls
 returns-in-TooLong-clause-calls g c = go_still g.R.Moderated.showing c.args.registry.now
 
 pub returns-in-Nothing-clause-ends : goal.returns-in-Nothing-clause-ends
-returns-in-Nothing-clause-ends g c = λ honest h stands. subst (λ a. LineEnds g.R.Moderated (Ok tt) a h c.args.registry.now (out (g.O.Output.taken c.args.output.now) c.args.held.now.items) c.args.registry.now (out (g.O.Output.taken c.args.output.now) c.args.held.now.items)) c.in-Nothing.ensures (idle g.R.Moderated h c.args.registry.now (g.O.Output.taken c.args.output.now) c.args.held.now.items)
+returns-in-Nothing-clause-ends g c = λ honest h stands. subst (λ a. AnswersLine g.R.Moderated (Ok tt) a h c.args.registry.now (out (g.O.Output.taken c.args.output.now) c.args.held.now.items) c.args.registry.now (out (g.O.Output.taken c.args.output.now) c.args.held.now.items)) c.in-Nothing.ensures (idle g.R.Moderated h c.args.registry.now (g.O.Output.taken c.args.output.now) c.args.held.now.items)
 
 pub returns-in-Command-clause-ends : goal.returns-in-Command-clause-ends
-returns-in-Command-clause-ends g c = λ honest h stands. subst (λ a. LineEnds g.R.Moderated c.obey.result a h c.args.registry.now (out (g.O.Output.taken c.args.output.now) c.args.held.now.items) c.obey.new.registry (out (g.O.Output.taken c.obey.new.output) c.obey.new.held.items)) c.in-Command.ensures (c.obey.ensures.ends honest h stands)
+returns-in-Command-clause-ends g c = λ honest h stands. subst (λ a. AnswersLine g.R.Moderated c.obey.result a h c.args.registry.now (out (g.O.Output.taken c.args.output.now) c.args.held.now.items) c.obey.new.registry (out (g.O.Output.taken c.obey.new.output) c.obey.new.held.items)) c.in-Command.ensures (c.obey.ensures.ends honest h stands)
 
 pub returns-in-Read-clause-ends : goal.returns-in-Read-clause-ends
-returns-in-Read-clause-ends g c = λ honest h stands. subst (λ a. LineEnds g.R.Moderated c.read.result a h c.args.registry.now (out (g.O.Output.taken c.args.output.now) c.args.held.now.items) c.read.new.registry (out (g.O.Output.taken c.read.new.output) c.read.new.held.items)) c.in-Read.ensures (c.read.ensures.ends honest h stands)
+returns-in-Read-clause-ends g c = λ honest h stands. subst (λ a. AnswersLine g.R.Moderated c.read.result a h c.args.registry.now (out (g.O.Output.taken c.args.output.now) c.args.held.now.items) c.read.new.registry (out (g.O.Output.taken c.read.new.output) c.read.new.held.items)) c.in-Read.ensures (c.read.ensures.ends honest h stands)
 
 pub returns-in-LookUp-clause-ends : goal.returns-in-LookUp-clause-ends
-returns-in-LookUp-clause-ends g c = λ honest h stands. subst (λ a. LineEnds g.R.Moderated c.look_up.result a h c.args.registry.now (out (g.O.Output.taken c.args.output.now) c.args.held.now.items) c.look_up.new.registry (out (g.O.Output.taken c.look_up.new.output) c.look_up.new.held.items)) c.in-LookUp.ensures (c.look_up.ensures.ends honest h stands)
+returns-in-LookUp-clause-ends g c = λ honest h stands. subst (λ a. AnswersLine g.R.Moderated c.look_up.result a h c.args.registry.now (out (g.O.Output.taken c.args.output.now) c.args.held.now.items) c.look_up.new.registry (out (g.O.Output.taken c.look_up.new.output) c.look_up.new.held.items)) c.in-LookUp.ensures (c.look_up.ensures.ends honest h stands)

@@ -1,6 +1,6 @@
 use Rattle.std.proofs.Common.{ap}
 use Rattle.std.specs.Prelude.{is_ok}
-use Rattle.pid_script.specs.Asking.{command_asked}
+use Rattle.pid_script.specs.Asking.{command_in_form}
 use Rattle.pid_script.specs.Replies.{those_sent, outcome_of}
 use Rattle.pid_script.specs.Steps.Saying.{out}
 use Rattle.pid_script.specs.ScriptLines as lines
@@ -18,8 +18,8 @@ returns-in-Ok-clause-ends g c = λ honest h stands.
 
 pub returns-in-Err-clause-ends : goal.returns-in-Err-clause-ends
 returns-in-Err-clause-ends g c = λ honest h stands.
-    let asked = command_asked c.args.verb c.args.account.now c.args.form.now in
-    form_refused g.R.Moderated c.send_answer-in-Err.result (lines.Commands c.args.verb c.args.account.now c.args.form.now) asked h c.args.registry.now
+    let asked = command_in_form c.args.verb c.args.account.now c.args.form.now in
+    form_refused g.R.Moderated c.send_answer-in-Err.result (lines.AsksCommand c.args.verb c.args.account.now c.args.form.now) asked h c.args.registry.now
     (out (g.O.Output.taken c.args.output.now) c.args.held.now.items) (out (g.O.Output.taken c.send_answer-in-Err.new.output) c.send_answer-in-Err.new.held.items) c.in-Err.refusal
     c.in-Err.ensures.err (command_no_stop c.args.verb c.args.account.now c.args.form.now) (λ is. ap (λ a. outcome_of a h) is) (λ is. ap those_sent is) (λ is. ap is_ok is) (λ e. cc)
     c.send_answer-in-Err.ensures.told c.send_answer-in-Err.ensures.goes_on c.send_answer-in-Err.ensures.fits

@@ -1,5 +1,5 @@
 use Rattle.std.proofs.Common.{[], ◌∷◌, ◌++◌, Err, List, ℕ, sym, subst, append_assoc}
-use Rattle.pid_script.specs.Steps.Saying.{out, Tells, IsGiven, IsNothing}
+use Rattle.pid_script.specs.Steps.Saying.{out, TellsLine, IsGivenStop}
 use Rattle.pid_script.proofs.SayLemmas.{tells_said, said_more, front_within}
 use Rattle.pid_script.proofs.reply.say_line.Goals as goal
 
@@ -7,7 +7,7 @@ pub returns-in-Err-clause-tells : goal.returns-in-Err-clause-tells
 returns-in-Err-clause-tells g c = λ given.
     let old = out (g.O.Output.taken c.args.output.now) c.args.held.now.items in
     let new = out (g.O.Output.taken c.say.new.output) c.say.new.held.items in
-    subst (λ (l : List ℕ). Tells (IsGiven given) IsNothing (Err c.in-Err.end) l old new) (sym (append_assoc c.args.word.now c.args.text.now (10 ∷ [])))
+    subst (λ (l : List ℕ). TellsLine (Err c.in-Err.end) l (IsGivenStop given) old new) (sym (append_assoc c.args.word.now c.args.text.now (10 ∷ [])))
     (tells_said (Err c.in-Err.end) given (c.args.word.now ++ (c.args.text.now ++ 10 ∷ [])) old new (front_within old new c.args.word.now (c.args.text.now ++ 10 ∷ []) c.in-Err.ensures.told) c.in-Err.ensures.end)
 
 pub returns-clause-tells : goal.returns-clause-tells
@@ -15,5 +15,5 @@ returns-clause-tells g c = λ given.
     let old = out (g.O.Output.taken c.args.output.now) c.args.held.now.items in
     let mid = out (g.O.Output.taken c.say.new.output) c.say.new.held.items in
     let new = out (g.O.Output.taken c.say_ended.new.output) c.say_ended.new.held.items in
-    subst (λ (l : List ℕ). Tells (IsGiven given) IsNothing c.say_ended.result l old new) (sym (append_assoc c.args.word.now c.args.text.now (10 ∷ [])))
+    subst (λ (l : List ℕ). TellsLine c.say_ended.result l (IsGivenStop given) old new) (sym (append_assoc c.args.word.now c.args.text.now (10 ∷ [])))
     (tells_said c.say_ended.result given (c.args.word.now ++ (c.args.text.now ++ 10 ∷ [])) old new (said_more c.say_ended.result old mid new c.args.word.now (c.args.text.now ++ 10 ∷ []) c.in_default.ensures.told c.say_ended.ensures.told) c.say_ended.ensures.end)
