@@ -1,8 +1,6 @@
 //! What can be wrong with a line of `pci.ids`.
 ghost use Rattle.std.specs.Prelude.{◌≡◌};
 
-use std::fmt;
-
 /// What is wrong with a line, in the order in which faults of one line are told.
 #[derive(Clone, Copy, Debug, PartialEq, Eq)]
 pub enum LineKind {
@@ -59,17 +57,5 @@ impl LineKind {
             LineKind::Duplicate => "Duplicate",
             LineKind::VendorMissing => "VendorMissing",
         }
-    }
-}
-
-/// The word of the kind.
-impl fmt::Display for LineKind {
-    ghost use Rattle.std.specs.Prelude.{Some};
-    ghost use Rattle.pid_file.specs.LineKinds.{word_of};
-
-    ghost output = { λ kind. Some (word_of kind) };
-
-    fn fmt<W: fmt::Write>(&self, f: &mut fmt::Formatter<W>) -> fmt::Result {
-        f.write_str(self.word())
     }
 }

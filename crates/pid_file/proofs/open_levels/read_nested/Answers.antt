@@ -1,8 +1,14 @@
-use Rattle.std.proofs.Common.{◌≡◌, ◌∙◌, sym, Ok, Some}
+use Rattle.std.proofs.Common.{◌≡◌, ◌∙◌, sym, Ok, Err, Some}
 use Rattle.std.proofs.lemmas.Result.{err_from_is_err_and}
 use Rattle.pid_file.specs.Steps.OpenLevels.{below}
-use Rattle.pid_file.proofs.LineSays.{entry_read, fault_read, place_is, inside_nested}
+use Rattle.pid_file.proofs.LineSays.{below_fault, entry_read, fault_read, place_is, inside_nested}
 use Rattle.pid_file.proofs.open_levels.read_nested.Goals as goal
+
+pub returns-in_err-place-clause-fault : goal.returns-in_err-place-clause-fault
+returns-in_err-place-clause-fault c earlier shown =
+    let p = err_from_is_err_and c.from_residual.result c.from_residual.ensures.1 in
+    let found : below c.args.levels c.args.depth ≡ Err c.in_err-place.field-0.0 = cc (c.place_below.ensures, c.in_err-place.was) in
+    rw (p.1, p.2) (below_fault c.args.levels c.args.depth _ earlier c.args.line.now c.requires.text c.requires.active c.requires.nested c.requires.depth shown found)
 
 pub returns-in_err-named-clause-fault : goal.returns-in_err-named-clause-fault
 returns-in_err-named-clause-fault c earlier shown =
