@@ -12,7 +12,7 @@ use pid_ident::Input;
 use pid_reader::{CutEnd, InputEnd, Never, ReadRefusal, cut_input};
 use std::alloc::{AllocError, Global};
 
-// The end without the fault of the names, which is want of memory.
+// The end without the fault of the names, which is that there is no memory.
 fn end_of(end: InputEnd<AllocError>) -> InputEnd<Never>
     ensures end { result ≡ without_fault end }
     ensures fault { (result ≡ InputEnd.ReadFault) ↔ (end ≡ InputEnd.ReadFault) }
@@ -28,7 +28,7 @@ fn end_of(end: InputEnd<AllocError>) -> InputEnd<Never>
 }
 
 /// The names of the input's text that a look-up with these arguments can ask for, and no others.
-/// Faults are told as by `read_input`, and as much is read.
+/// Faults are those of `read_input`, and as much is read.
 pub fn names_in<I: Input>(
     alloc: Global,
     limit: usize,
