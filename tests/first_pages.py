@@ -36,14 +36,14 @@ def source(program):
     usage = usage[usage.index("Usage: "):usage.index("To read a file")]
     parts = [HEAD, constant("VERSION", printed(program, "--version"), "What `--version` prints.")]
     parts.append(constant("USAGE", usage, "What stands below a word that is no command."))
-    parts.append("\n/// The help of the program, as of `help`, or of one of its commands.\n")
+    parts.append(constant("HELP", printed(program, "help"), "What `--help` and `help` print."))
+    parts.append("\n/// The help of one of the commands, but for `help`.\n")
     parts.append("pub fn page_of(command: &str) -> Option<&'static str> {\n    match command {\n")
-    for command in ("help", *COMMANDS):
+    for command in COMMANDS:
         parts.append(f'        "{command}" => Some({command.upper()}),\n')
     parts.append("        _ => None,\n    }\n}\n")
-    for command in ("help", *COMMANDS):
-        words = [command] if command == "help" else [command, "--help"]
-        text = printed(program, *words)
+    for command in COMMANDS:
+        text = printed(program, command, "--help")
         parts.append(f"\nconst {command.upper()}: &str = {literal(text)};\n")
     return "".join(parts)
 

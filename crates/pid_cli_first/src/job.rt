@@ -1,5 +1,5 @@
 //! What the arguments ask for.
-use crate::pages::{VERSION, page_of};
+use crate::pages::{HELP, VERSION, page_of};
 
 /// What the program can do by itself, and what it leaves to the whole program.
 #[derive(Clone, Copy)]
@@ -20,28 +20,25 @@ pub enum Job<'a> {
 pub fn job_of(words: &[String]) -> Job<'_> {
     match words {
         [] | [_] => Job::Tidy,
-        [_, word] => job_of_word(word.as_str()),
+        [_, word] => match word.as_str() {
+            "tidy" => Job::Tidy,
+            "check" => Job::Check,
+            "--version" | "-V" => Job::Show(VERSION),
+            "--help" | "-h" | "help" => Job::Show(HELP),
+            word => job_of_more(word),
+        },
         [_, first, second] => job_of_two(first.as_str(), second.as_str()),
         [_, first, ..] => job_of_more(first.as_str()),
     }
 }
 
-fn job_of_word(word: &str) -> Job<'_> {
-    match word {
-        "tidy" => Job::Tidy,
-        "check" => Job::Check,
-        "--version" | "-V" => Job::Show(VERSION),
-        "--help" | "-h" => Job::Show(page_of("help").unwrap_or("")),
-        "help" => Job::Show(page_of("help").unwrap_or("")),
-        _ => job_of_more(word),
-    }
-}
-
 fn job_of_two<'a>(first: &'a str, second: &'a str) -> Job<'a> {
     match (first, second) {
-        ("help", command) => page_job(command),
-        (command, "--help" | "-h") => page_job(command),
-        ("tidy" | "check", word) if !is_option(word) => Job::NoArgument {
+        ("help", command) | (command, "--help" | "-h") => match page_of(command) {
+            Some(page) => Job::Show(page),
+            None => Job::Other,
+        },
+        ("tidy" | "check", word) if !matches!(word.as_bytes(), [b'-', ..]) => Job::NoArgument {
             command: first,
             word,
         },
@@ -49,21 +46,10 @@ fn job_of_two<'a>(first: &'a str, second: &'a str) -> Job<'a> {
     }
 }
 
-// The help of a command. That of `help` itself is left to the whole program.
-fn page_job(command: &str) -> Job<'_> {
-    match page_of(command) {
-        Some(page) if command != "help" => Job::Show(page),
-        _ => Job::Other,
-    }
-}
-
+// An option is left to the whole program, and so is a command.
 fn job_of_more(first: &str) -> Job<'_> {
-    if is_option(first) || page_of(first).is_some() {
+    if matches!(first.as_bytes(), [b'-', ..]) || first == "help" || page_of(first).is_some() {
         return Job::Other;
     }
     Job::NoCommand(first)
-}
-
-fn is_option(word: &str) -> bool {
-    matches!(word.as_bytes(), [b'-', ..])
 }

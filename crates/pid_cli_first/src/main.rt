@@ -9,10 +9,11 @@ mod pages;
 mod telling;
 
 use job::{Job, job_of};
+use pages::USAGE;
 use pid_file::{run_check, run_tidy};
 use std::process::ExitCode;
 use std::{env, io};
-use telling::{refuse_argument, refuse_command, show, tell_no_words};
+use telling::{refuse, show, tell_no_words};
 
 /// The exit status if only the whole program can do the job. Nothing was read or written.
 const OTHER_JOB: u8 = 4;
@@ -33,8 +34,29 @@ fn run(rt: &HostRuntime, job: Job<'_>) -> u8 {
         Job::Tidy => run_tidy(rt.alloc(), rt.stdin(), rt.stdout(), rt.stderr()),
         Job::Check => run_check(rt.alloc(), rt.stdin(), rt.stdout(), rt.stderr()),
         Job::Show(page) => show(page, rt.stdout(), rt.stderr()),
-        Job::NoCommand(word) => refuse_command(word, rt.stderr()),
-        Job::NoArgument { command, word } => refuse_argument(command, word, rt.stderr()),
+        Job::NoCommand(word) => refuse(
+            &[
+                b"error: unrecognized subcommand '",
+                word.as_bytes(),
+                b"'\n\n",
+                USAGE.as_bytes(),
+                b"To read a file, redirect standard input: pciids < FILE\n",
+            ],
+            rt.stderr(),
+        ),
+        Job::NoArgument { command, word } => refuse(
+            &[
+                b"error: unexpected argument '",
+                word.as_bytes(),
+                b"' found\n\nUsage: pciids ",
+                command.as_bytes(),
+                b" < FILE\n\nFor more information, try '--help'.\n",
+                b"To read a file, redirect standard input: pciids ",
+                command.as_bytes(),
+                b" < FILE\n",
+            ],
+            rt.stderr(),
+        ),
         Job::Other => OTHER_JOB,
     }
 }

@@ -15,23 +15,8 @@ Usage: pciids < FILE
 For more information, try '--help'.
 ";
 
-/// The help of the program, as of `help`, or of one of its commands.
-pub fn page_of(command: &str) -> Option<&'static str> {
-    match command {
-        "help" => Some(HELP),
-        "tidy" => Some(TIDY),
-        "check" => Some(CHECK),
-        "lookup" => Some(LOOKUP),
-        "script" => Some(SCRIPT),
-        "import" => Some(IMPORT),
-        "export" => Some(EXPORT),
-        "serve" => Some(SERVE),
-        "migrate" => Some(MIGRATE),
-        _ => None,
-    }
-}
-
-const HELP: &str = "\
+/// What `--help` and `help` print.
+pub const HELP: &str = "\
 Checks and prints pci.ids files, and keeps a moderated registry of PCI IDs
 
 Usage: pciids < FILE
@@ -62,6 +47,21 @@ Exit status:
 
 Run 'pciids help <COMMAND>' for details and an example.
 ";
+
+/// The help of one of the commands, but for `help`.
+pub fn page_of(command: &str) -> Option<&'static str> {
+    match command {
+        "tidy" => Some(TIDY),
+        "check" => Some(CHECK),
+        "lookup" => Some(LOOKUP),
+        "script" => Some(SCRIPT),
+        "import" => Some(IMPORT),
+        "export" => Some(EXPORT),
+        "serve" => Some(SERVE),
+        "migrate" => Some(MIGRATE),
+        _ => None,
+    }
+}
 
 const TIDY: &str = "\
 Prints the canonical form of a pci.ids file (the default)

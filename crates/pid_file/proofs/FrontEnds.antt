@@ -17,7 +17,7 @@ use Rattle.pid_file.specs.Sinks.{Took, TookSome, FaultedAt, Ends}
 use Rattle.pid_file.specs.WholeLines.{whole_lines, ended_pieces, open_part}
 use Rattle.pid_file.specs.declared.whole_input.SkipEnd.{SkipEnd}
 use Rattle.pid_file.specs.declared.whole_input.SkipEnd.TheVariants.{ReadFault, TooLong}
-use Rattle.pid_file.specs.WholeInputs.{TookOrFaulted, CutsInput, SkipsInput, as_input_end}
+use Rattle.pid_file.specs.WholeInputs.{TookOrFaulted, CutsInput, SkipsInput, FailsPiece, as_input_end}
 use Rattle.pid_file.proofs.Cuts.{ended_more, map_append, lines_more, lines_split}
 use Rattle.pid_file.proofs.Feeding.{read-good}
 
@@ -137,18 +137,14 @@ pub record EndsRead (old new : Option (List ℕ)) (limit : ℕ) (front : List �
   pub short : length (front ++ more) ≤ limit + 1
   pub skips : SkipsInput {X = Unit {0}} limit (Err end) new (front ++ more)
 
-pub ends_read : {T : Type 0} (old mid new : Option (List ℕ)) (limit room : ℕ) (front : List ℕ) (end : SkipEnd) (result : Result T SkipEnd) → result ≡ Err end → HasRead old mid limit room front
-    → (result ≡ Err TooLong → (last : List ℕ) × Consumes mid new last × (length last ≡ room + 1))
-    → (result ≡ Err ReadFault → Keeps mid new)
-    → EndsRead old new limit front end
-ends_read old mid new limit room front TooLong result is read long failed =
-    let last = long is in
+pub ends_read : (old mid new : Option (List ℕ)) (limit room : ℕ) (front : List ℕ) (end : SkipEnd) → HasRead old mid limit room front → FailsPiece room mid new end → EndsRead old new limit front end
+ends_read old mid new limit room front TooLong read last =
     let all : length (front ++ last.0) ≡ limit + 1 = simp length-append (omega (arith, read.counted, last.2)) in
     record { more = last.0; consumed = Consumes-then old mid new front last.0 read.consumed last.1; short = omega (arith, all); skips = all }
-ends_read old mid new limit room front ReadFault result is read long failed =
+ends_read old mid new limit room front ReadFault read kept =
     let same : front ++ [] ≡ front = append-nil front in
     let all : length (front ++ []) ≤ limit = rw same (omega (arith, read.counted)) in
-    record { more = []; consumed = rw same (Consumes-kept old mid new front read.consumed (failed is)); short = omega (arith, all); skips = all }
+    record { more = []; consumed = rw same (Consumes-kept old mid new front read.consumed kept); short = omega (arith, all); skips = all }
 
 pub cuts_by : {S F : Type 0} (takes : S → Numbered → S → Type 0) (faults : S → Numbered → F → S → Type 0) (limit : ℕ) (end : SkipEnd) (rest : Option (List ℕ)) (text : List ℕ) (start sink : S) → SkipsInput {X = Unit {0}} limit (Err end) rest text → TookOrFaulted takes faults start (lines_of text) sink → CutsInput {X = Unit {0}} takes faults limit (Err (as_input_end end)) rest text start sink
 cuts_by takes faults limit ReadFault rest text start sink skips took = (skips, took)

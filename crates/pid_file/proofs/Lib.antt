@@ -3,9 +3,6 @@ pub mod WordTests
 pub mod SendingLemmas
 pub mod Kin
 pub mod Maps
-pub mod Between
-pub mod Childless
-pub mod Removed
 pub mod Written
 mod WholeLemmas
 pub mod LineLemmas

@@ -6,7 +6,7 @@ use mathlib.Core.Logic.{◌⊎◌, inl, inr, ⊎_elim}
 use Rattle.std.specs.Prelude.{IsSomeAnd, IsSome, IfSome, IsTrue}
 use Rattle.std.specs.Ordering.{is_eq, eq_by_cmp}
 use Rattle.std.specs.Cmp.{on_total, eq_by_cmp_equiv}
-use Rattle.std.specs.Map.{update_all}
+use Rattle.std.specs.Map.{lookup, update_all}
 use Rattle.std.specs.FinMap.{get, get-from_entries, same_map}
 use Rattle.std.specs.FinMap.Entries.{find as value_at}
 use Rattle.std.proofs.lemmas.Cmp.{nat_list_cmp_total, tied_itself}
@@ -18,9 +18,14 @@ use Rattle.pid_file.specs.Trees.{IsTree, text_cmp}
 use Rattle.pid_file.specs.Items.{item_of, tree_of}
 use Rattle.pid_file.specs.declared.whole.Above.{Above}
 use Rattle.pid_file.specs.Steps.Whole.{HasItem, AreIn, IsSound, AreSound}
-use Rattle.pid_file.proofs.Between.{Items, value_in}
 use Rattle.pid_file.proofs.Kin.{same_path}
 use Rattle.pid_file.proofs.Maps.{same_texts, is_equal, get-tree, value-texts, if_some_weaker}
+
+abbrev Items : Type 0
+Items = List (Path × List ℕ)
+
+abbrev value_in : Items → Path → Option (List ℕ)
+value_in es q = lookup (λ k. is_eq (path_cmp q k)) es
 
 -- a path that is equal to one of the list
 pub same_item : (es : Items) (p q : Path) → is_eq (path_cmp p q) ≡ true → HasItem es q → HasItem es p

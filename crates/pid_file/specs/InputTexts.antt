@@ -4,6 +4,7 @@ use Rattle.std.specs.Prelude.{◌≡◌, ℕ, ◌<◌, ◌≤◌, List, length, 
 use Rattle.pid_file.specs.LookingBack.{entries_back}
 use Rattle.pid_file.specs.Reading.{history_of, refused}
 use Rattle.pid_file.specs.Refusals.{IsRefusal}
+use Rattle.pid_file.specs.declared.refusal.ReadRefusal.TheVariants.{Memory}
 use Rattle.pid_file.specs.declared.sink.CutEnd.TheVariants.{Refused, Fault}
 use Rattle.pid_file.specs.declared.whole_input.InputEnd.{InputEnd}
 use Rattle.pid_file.specs.declared.whole_input.InputEnd.TheVariants.{ReadFault, TooLong, Cut}
@@ -20,7 +21,14 @@ IsUnread limit (Cut (Refused r)) text = (length text ≤ limit) × IsRefusal r (
 IsUnread limit (Cut (Fault f)) text = ⊥
 
 -- the text was read whole, nothing in it is refused, and this is what was made of it; or why not
-abbrev pub IsRead : {D F : Type 0} → (List ℕ → D → Type 0) → ℕ → Result D (InputEnd F) → List ℕ
+abbrev pub ReadsInput : {D F : Type 0} → (List ℕ → D → Type 0) → ℕ → Result D (InputEnd F) → List ℕ
     → Type 0
-IsRead gives limit (Ok d) text = (length text ≤ limit) × (refused text ≡ None) × gives text d
-IsRead gives limit (Err end) text = IsUnread limit end text
+ReadsInput gives limit (Ok d) text = (length text ≤ limit) × (refused text ≡ None) × gives text d
+ReadsInput gives limit (Err end) text = IsUnread limit end text
+
+-- the same end without the fault of a sink, which is out of memory
+abbrev pub without_fault : {F G : Type 0} → InputEnd F → InputEnd G
+without_fault ReadFault = ReadFault
+without_fault TooLong = TooLong
+without_fault (Cut (Refused r)) = Cut (Refused r)
+without_fault (Cut (Fault f)) = Cut (Refused Memory)

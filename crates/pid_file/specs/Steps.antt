@@ -1,7 +1,5 @@
 -- What serves private functions alone; no promise rests on it.
-pub mod Between
 pub mod EntryLines
-pub mod InputTexts
 pub mod LineEnds
 pub mod PathPlaces
 pub mod Whole

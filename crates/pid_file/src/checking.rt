@@ -17,7 +17,7 @@ ghost use Rattle.std.specs.Prelude.{
 ghost use Rattle.std.specs.Io.KnownBytes.{Consumes};
 ghost use Rattle.pid_file.specs.Sending.{Sends};
 ghost use Rattle.pid_file.specs.Checked.{IsChecked, ok_line};
-ghost use Rattle.pid_file.specs.InputTexts.{HasEntries, IsRead};
+ghost use Rattle.pid_file.specs.InputTexts.{HasEntries, ReadsInput};
 
 use crate::counter::Never;
 use crate::input_text::count_input;
@@ -48,7 +48,7 @@ pub fn check<I: Input, O: Output>(alloc: Global, input: &mut I, output: &mut O) 
 
 // Writes the count, or why there is none.
 fn write_counted<O: Output>(counted: Result<u64, InputEnd<Never>>, output: &mut O) -> TextEnd
-    ensures checked { (text : List ℕ) → IsRead HasEntries LARGEST counted text
+    ensures checked { (text : List ℕ) → ReadsInput HasEntries LARGEST counted text
         → IsChecked result text (O.taken output.old) (O.taken output.new) }
     ensures read_fault { result ≡ TextEnd.ReadFault → counted ≡ Err InputEnd.ReadFault }
     ensures read_fault_first { counted ≡ Err InputEnd.ReadFault → result ≡ TextEnd.ReadFault }

@@ -5,7 +5,14 @@ ghost use Rattle.std.specs.Char.{to_ascii_lowercase, digit_char};
 ghost use Rattle.pid_file.specs.Identifiers.{hex4, hex2};
 ghost use Rattle.pid_file.specs.Words.{is_name as name_test};
 ghost use Rattle.pid_file.specs.Marks.{trim_blanks as trimmed};
-ghost use Rattle.pid_file.specs.Columns.{is_hex, begins_with_id, begins_with_ids, is_id, digits_in, name_in};
+ghost use Rattle.pid_file.specs.Columns.{
+  begins_with_id,
+  begins_with_ids,
+  digits_in,
+  is_hex,
+  is_id,
+  name_in,
+};
 ghost use Rattle.pid_file.specs.Steps.Columns.{are_digits};
 ghost use Rattle.pid_file.specs.Steps.EntryLines.{name_fault, columns_fault, widths_of, IsPathAt};
 

@@ -2,8 +2,7 @@
 ghost use Rattle.std.specs.Prelude.{◌≡◌, ◌↔◌, ◌+◌, ◌≤◌, ℕ, List, Err, IsSome, IfSome, length};
 ghost use Rattle.std.specs.Io.KnownBytes.{Consumes};
 ghost use Rattle.pid_file.specs.Reading.{Reads};
-ghost use Rattle.pid_file.specs.InputTexts.{HasEntries, IsRead};
-ghost use Rattle.pid_file.specs.Steps.InputTexts.{without_fault};
+ghost use Rattle.pid_file.specs.InputTexts.{HasEntries, ReadsInput, without_fault};
 
 use crate::counter::{Counter, Never};
 use crate::io::Input;
@@ -14,8 +13,9 @@ use crate::tree_sink::TreeSink;
 use crate::whole_input::{InputEnd, cut_input};
 use std::alloc::{AllocError, Global};
 
-// The end without the fault of a sink, which is want of memory.
-fn end_of(end: InputEnd<AllocError>) -> InputEnd<Never>
+/// The end of an input whose sink can only run out of memory: a fault of the sink is the refusal
+/// `Memory`.
+pub fn end_without_fault(end: InputEnd<AllocError>) -> InputEnd<Never>
     ensures end { result ≡ without_fault end }
     ensures fault { (result ≡ InputEnd.ReadFault) ↔ (end ≡ InputEnd.ReadFault) }
 {
@@ -37,7 +37,7 @@ pub fn read_input<I: Input>(
     limit: usize,
     input: &mut I,
 ) -> Result<Tree, InputEnd<Never>>
-    ensures end { IfSome (I.to_come input.old) (λ text. IsRead Reads limit result text) }
+    ensures end { IfSome (I.to_come input.old) (λ text. ReadsInput Reads limit result text) }
     ensures stops { (front : List ℕ) × Consumes (I.to_come input.old) (I.to_come input.new) front
         × (length front ≤ limit + 1) }
     ensures fault { result ≡ Err InputEnd.ReadFault → IsSome (I.read_fault input.new) }
@@ -50,7 +50,7 @@ pub fn read_input<I: Input>(
             Ok(tree) => Ok(tree),
             Err(_) => Err(InputEnd::Cut(CutEnd::Refused(ReadRefusal::Memory))),
         },
-        Err(end) => Err(end_of(end)),
+        Err(end) => Err(end_without_fault(end)),
     }
 }
 
@@ -61,7 +61,7 @@ pub fn count_input<I: Input>(
     limit: usize,
     input: &mut I,
 ) -> Result<u64, InputEnd<Never>>
-    ensures end { IfSome (I.to_come input.old) (λ text. IsRead HasEntries limit result text) }
+    ensures end { IfSome (I.to_come input.old) (λ text. ReadsInput HasEntries limit result text) }
     ensures stops { (front : List ℕ) × Consumes (I.to_come input.old) (I.to_come input.new) front
         × (length front ≤ limit + 1) }
     ensures fault { result ≡ Err InputEnd.ReadFault → IsSome (I.read_fault input.new) }

@@ -42,6 +42,20 @@ pub enum WriteFault {
     Zero,
 }
 
+impl WriteFault {
+    ghost use Rattle.pid_file.specs.Sending.{write_fault_number};
+
+    /// 1 `Device` or 2 `Zero`.
+    pub fn number(self) -> u8
+        ensures { result ≡ write_fault_number self }
+    {
+        match self {
+            WriteFault::Device => 1,
+            WriteFault::Zero => 2,
+        }
+    }
+}
+
 /// A reader.
 pub trait Input {
     ghost use Rattle.pid_file.specs.declared.io.ReadFault.{ReadFault};

@@ -51,7 +51,7 @@ pub enum Path {
 }
 
 /// What an item is.
-#[derive(Clone, Copy, Debug, PartialEq, Eq)]
+#[derive(Clone, Copy)]
 pub enum PathKind {
     Vendor,
     Device,

@@ -13,7 +13,7 @@ use itoa::Buffer;
 pub const LARGEST: usize = 4_194_304;
 
 /// How the reading of a text ends.
-#[derive(Clone, Copy, Debug, PartialEq, Eq)]
+#[derive(Clone, Copy)]
 pub enum TextEnd {
     /// The whole text was read, and the result was written.
     Done,

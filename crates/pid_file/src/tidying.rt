@@ -1,7 +1,7 @@
 //! Printing the canonical form of a text.
 ghost use Rattle.std.specs.Prelude.{◌≡◌, ◌⊎◌, ◌+◌, ◌≤◌, ℕ, List, IsSome, IfSome, Err, length};
 ghost use Rattle.std.specs.Io.KnownBytes.{Consumes};
-ghost use Rattle.pid_file.specs.InputTexts.{IsRead};
+ghost use Rattle.pid_file.specs.InputTexts.{ReadsInput};
 ghost use Rattle.pid_file.specs.Reading.{Reads};
 ghost use Rattle.pid_file.specs.Tidied.{IsTidied, PrintsNothing};
 
@@ -26,9 +26,12 @@ pub fn tidy<I: Input, O: Output, F: Output>(
     output: &mut O,
     faults: &mut F,
 ) -> TextEnd
-    ensures tidied { IfSome (I.to_come input.old) (λ text.
-        IsTidied result text
-        (record { output = O.taken output.old; output_after = O.taken output.new; faults = F.taken faults.old; faults_after = F.taken faults.new })) }
+    ensures tidied { IfSome (I.to_come input.old) (λ text. IsTidied result text (record {
+      output = O.taken output.old;
+      output_after = O.taken output.new;
+      faults = F.taken faults.old;
+      faults_after = F.taken faults.new;
+    })) }
     ensures read_fault { result ≡ TextEnd.ReadFault → IsSome (I.read_fault input.new) }
     ensures read_fault_first { IsSome (I.read_fault input.new) → result ≡ TextEnd.ReadFault }
     ensures write_fault { result ≡ TextEnd.WriteFault
@@ -48,9 +51,13 @@ fn print_read<O: Output, F: Output>(
     output: &mut O,
     faults: &mut F,
 ) -> TextEnd
-    ensures tidied { (text : List ℕ) → IsRead Reads LARGEST read text →
-        IsTidied result text
-        (record { output = O.taken output.old; output_after = O.taken output.new; faults = F.taken faults.old; faults_after = F.taken faults.new }) }
+    ensures tidied { (text : List ℕ) → ReadsInput Reads LARGEST read text
+        → IsTidied result text (record {
+          output = O.taken output.old;
+          output_after = O.taken output.new;
+          faults = F.taken faults.old;
+          faults_after = F.taken faults.new;
+        }) }
     ensures read_fault { result ≡ TextEnd.ReadFault → read ≡ Err InputEnd.ReadFault }
     ensures read_fault_first { read ≡ Err InputEnd.ReadFault → result ≡ TextEnd.ReadFault }
     ensures write_fault { result ≡ TextEnd.WriteFault

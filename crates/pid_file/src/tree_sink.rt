@@ -7,7 +7,7 @@ ghost use Rattle.pid_file.specs.TreeSinks.{tree_so_far};
 use crate::name::Name;
 use crate::path::Path;
 use crate::sink::{Entry, Sink};
-use crate::tree::{Tree, TreeRefusal};
+use crate::tree::Tree;
 use std::alloc::{AllocError, Global};
 
 /// Why entries give no tree.
@@ -44,11 +44,7 @@ impl TreeSink {
         ensures parent_missing { IsErrOf result TreeFault.ParentMissing → IsTree (tree_so_far self)
             → ⊥ }
     {
-        match Tree::of_items(self.alloc, self.items) {
-            Ok(tree) => Ok(tree),
-            Err(TreeRefusal::ParentMissing) => Err(TreeFault::ParentMissing),
-            Err(_) => Err(TreeFault::Memory),
-        }
+        Tree::of_items(self.alloc, self.items)
     }
 }
 

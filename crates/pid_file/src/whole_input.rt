@@ -1,9 +1,9 @@
 //! An input that is read to its end, up to a limit of bytes.
 ghost use Rattle.std.specs.Prelude.{
   ◌≡◌,
+  ◌↔◌,
   ◌++◌,
   ◌+◌,
-  ◌<◌,
   ◌≤◌,
   ℕ,
   List,
@@ -14,15 +14,16 @@ ghost use Rattle.std.specs.Prelude.{
   IsSome,
   IfSome,
   IfOk,
+  IfErr,
   OnOk,
   length,
 };
-ghost use Rattle.std.specs.Io.KnownBytes.{Consumes, IsAtEnd, Keeps};
+ghost use Rattle.std.specs.Io.KnownBytes.{Consumes};
 ghost use Rattle.pid_file.specs.Cutters.{Holds};
 ghost use Rattle.pid_file.specs.Lines.{lines_of};
 ghost use Rattle.pid_file.specs.Sinks.{Ends};
 ghost use Rattle.pid_file.specs.WholeLines.{whole_lines};
-ghost use Rattle.pid_file.specs.WholeInputs.{CutsInput};
+ghost use Rattle.pid_file.specs.WholeInputs.{CutsInput, FailsPiece, IsNoPiece, IsPiece};
 
 use crate::cutter::Cutter;
 use crate::io::Input;
@@ -71,24 +72,19 @@ impl<F: Drop> From<SkipEnd> for InputEnd<F> {
 }
 
 /// The next piece of an input that may have `room` bytes more; none at its end.
+///
+/// Fails with `TooLong` if more than `room` bytes are left, of which it has read one too many, and
+/// with `ReadFault` if the reader fails.
 pub fn next_piece<'b, I: Input>(
     input: &mut I,
     room: usize,
     buffer: &'b mut [u8; BUFFER],
 ) -> Result<Option<&'b [u8]>, SkipEnd>
     ensures piece { IfOk result (λ o. IfSome o
-        (λ piece. Consumes (I.to_come input.old) (I.to_come input.new) piece.now)) }
-    ensures some { IfOk result (λ o. IfSome o
-        (λ piece. (0 < length piece.now) × (length piece.now ≤ room))) }
-    ensures end { result ≡ Ok None → Consumes (I.to_come input.old) (I.to_come input.new) []
-        × IsAtEnd (I.to_come input.new) }
-    ensures long { result ≡ Err SkipEnd.TooLong
-        → (front : List ℕ) × Consumes (I.to_come input.old) (I.to_come input.new) front
-        × (length front ≡ room + 1) }
-    ensures failed { result ≡ Err SkipEnd.ReadFault
-        → Keeps (I.to_come input.old) (I.to_come input.new) }
-    ensures fault { result ≡ Err SkipEnd.ReadFault → IsSome (I.read_fault input.new) }
-    ensures fault_first { IsSome (I.read_fault input.new) → result ≡ Err SkipEnd.ReadFault }
+        (λ piece. IsPiece room (I.to_come input.old) (I.to_come input.new) piece.now)) }
+    ensures end { result ≡ Ok None → IsNoPiece (I.to_come input.old) (I.to_come input.new) }
+    ensures failed { IfErr result (FailsPiece room (I.to_come input.old) (I.to_come input.new)) }
+    ensures fault { (result ≡ Err SkipEnd.ReadFault) ↔ IsSome (I.read_fault input.new) }
     ensures goes { I.goes input.old input.new }
 {
     let piece = &mut buffer[..room.min(BUFFER - 1) + 1];

@@ -1,7 +1,7 @@
 //! A look-up in the text of an input.
 ghost use Rattle.std.specs.Prelude.{◌≡◌, ◌↔◌, true, IfSome, IfOk, IsErrOf};
 ghost use Rattle.pid_lookup.specs.Flags.{is_bad};
-ghost use Rattle.pid_file.specs.InputTexts.{IsRead};
+ghost use Rattle.pid_file.specs.InputTexts.{ReadsInput};
 ghost use Rattle.pid_lookup.specs.InText.{IsAnswerOfText, LeavesInput};
 
 use crate::answer::Answer;
@@ -24,7 +24,7 @@ pub fn look_up_in<I: Input>(
     size: u32,
 ) -> Result<Result<Answer, LookupRefusal<AllocError>>, InputEnd<Never>>
     ensures answer { IfSome (I.to_come input.old)
-        (λ text. IsRead (IsAnswerOfText flags args.now size) limit result text) }
+        (λ text. ReadsInput (IsAnswerOfText flags args.now size) limit result text) }
     ensures bad_flags { IfOk result (λ found. IsErrOf found LookupRefusal.BadFlags
         ↔ (is_bad flags ≡ true)) }
     ensures leaves { LeavesInput I.Input limit input.old input.new result }

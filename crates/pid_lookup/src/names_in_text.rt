@@ -1,31 +1,16 @@
 //! The names of an input's text.
-ghost use Rattle.std.specs.Prelude.{◌≡◌, ◌↔◌, IfSome, IfOk};
-ghost use Rattle.pid_file.specs.Steps.InputTexts.{without_fault};
-ghost use Rattle.pid_file.specs.InputTexts.{IsRead};
+ghost use Rattle.std.specs.Prelude.{IfSome, IfOk};
+ghost use Rattle.pid_file.specs.InputTexts.{ReadsInput};
 ghost use Rattle.pid_lookup.specs.AskedNames.{HasAsked, HasOnly, asked_paths};
 ghost use Rattle.pid_lookup.specs.InText.{LeavesInput};
 ghost use Rattle.pid_lookup.specs.Kept.{kept_map};
 
 use crate::args::Args;
 use crate::asked_names::AskedNames;
+use pid_file::end_without_fault;
 use pid_ident::Input;
-use pid_reader::{CutEnd, InputEnd, Never, ReadRefusal, cut_input};
+use pid_reader::{InputEnd, Never, cut_input};
 use std::alloc::{AllocError, Global};
-
-// The end without the fault of the names, which is that there is no memory.
-fn end_of(end: InputEnd<AllocError>) -> InputEnd<Never>
-    ensures end { result ≡ without_fault end }
-    ensures fault { (result ≡ InputEnd.ReadFault) ↔ (end ≡ InputEnd.ReadFault) }
-{
-    match end {
-        InputEnd::ReadFault => InputEnd::ReadFault,
-        InputEnd::TooLong => InputEnd::TooLong,
-        InputEnd::Cut(CutEnd::Refused(refusal)) => InputEnd::Cut(CutEnd::Refused(refusal)),
-        InputEnd::Cut(CutEnd::Fault(AllocError)) => {
-            InputEnd::Cut(CutEnd::Refused(ReadRefusal::Memory))
-        }
-    }
-}
 
 /// The names of the input's text that a look-up with these arguments can ask for, and no others.
 /// Faults are those of `read_input`, and as much is read.
@@ -36,13 +21,13 @@ pub fn names_in<I: Input>(
     input: &mut I,
 ) -> Result<AskedNames, InputEnd<Never>>
     ensures names { IfSome (I.to_come input.old)
-        (λ text. IsRead (HasAsked args.now) limit result text) }
+        (λ text. ReadsInput (HasAsked args.now) limit result text) }
     ensures no_others { IfOk result (λ names. HasOnly (asked_paths args.now) (kept_map names)) }
     ensures leaves { LeavesInput I.Input limit input.old input.new result }
 {
     let mut names = AskedNames::new(alloc, args);
     match cut_input(alloc, limit, input, &mut names) {
         Ok(()) => Ok(names),
-        Err(end) => Err(end_of(end)),
+        Err(end) => Err(end_without_fault(end)),
     }
 }

@@ -4,7 +4,7 @@ ghost use Rattle.pid_lookup.specs.TreeNames.{tree_shown};
 
 use crate::names::Names;
 use pid_ident::{Name, Path};
-use pid_tree::Tree;
+use pid_tree::{Tree, TreeItems};
 use std::alloc::AllocError;
 
 /// The names of a tree that is lent. Its fault is that there is no memory for a copy.

@@ -2,6 +2,7 @@
 
 use pid_ident::{LineKind, Path};
 use pid_reader::{Counter, CutEnd, Cutter, Feeder, LineFault, Lines, Never, ReadRefusal, read_ids};
+use pid_tree::TreeItems;
 use std::alloc::{AllocError, Global};
 use std::test::Fail;
 

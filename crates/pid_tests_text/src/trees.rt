@@ -1,6 +1,6 @@
 //! Worked trees, refusals, and writers that fail.
 use pid_ident::{FaultyOutput, Name, Path, PathText, WriteFault};
-use pid_tree::{Tree, TreeRefusal, write_canonical};
+use pid_tree::{Tree, TreeItems, TreeRefusal, write_canonical};
 use std::alloc::Global;
 use std::process::Abort;
 use std::test::Fail;

@@ -1,10 +1,14 @@
-//! A tree of names by their paths, and its canonical text.
+//! A tree of names by their paths: its items one by one, and its canonical text.
 #![tactic(auto)]
 
+mod children;
 pub mod laws;
+mod refusal;
+mod tree_items;
 
 pub use laws::labels_are_of_paths;
 pub use pid_file::{
-    Tree, TreeRefusal, opened_block, write_behind, write_block, write_canonical, write_header,
-    write_item,
+    Tree, opened_block, write_behind, write_block, write_canonical, write_header, write_item,
 };
+pub use refusal::TreeRefusal;
+pub use tree_items::TreeItems;
