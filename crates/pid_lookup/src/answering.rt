@@ -23,8 +23,8 @@ use crate::names::Names;
 use std::alloc::{AllocError, Global};
 use thiserror::Error;
 
-/// Why a look-up has no answer. A reply to a client says so by another number: `Unanswered` has that
-/// of bad flags, the holder's fault its own.
+/// Why a look-up has no answer. A reply to a client says so by another number: `Unanswered` has
+/// that of bad flags, the holder's fault its own.
 #[derive(Debug, Drop, Error)]
 pub enum LookupRefusal<F> {
     #[error("the flags ask for numbers alone and for no numbers, or have an unknown bit")]
