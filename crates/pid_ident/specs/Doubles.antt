@@ -1,4 +1,4 @@
--- What a reader or a writer for tests does that is made to fail behind some calls: how many calls
+-- What a reader or a writer for tests does that is made to fail after some calls: how many calls
 -- are still good, `None` where none fails.
 use Rattle.std.specs.Prelude.{◌≡◌, ℕ, zero, suc, min, Bool, true, false, Option, Some, None, Result}
 use Rattle.std.specs.Prelude.{Err, IfOk, IfErr, is_err}
@@ -13,7 +13,7 @@ fails None None = false
 fails None (Some zero) = true
 fails None (Some (suc calls)) = false
 
--- the calls that are still good behind one more
+-- the calls that are still good after one more
 abbrev pub one_less : Option ℕ → Option ℕ
 one_less None = None
 one_less (Some zero) = Some zero

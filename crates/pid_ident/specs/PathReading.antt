@@ -24,7 +24,7 @@ two_at i text = 16 * digit_at i text + digit_at (i + 1) text
 abbrev pub four_at : ℕ → List ℕ → ℕ
 four_at i text = 256 * two_at i text + two_at (i + 2) text
 
--- the only path that a text of this length and front may have: the second letter tells PC/8086/1237
+-- the only path that a text of this length and front may have: the second letter parts PC/8086/1237
 -- from PS/8086/1237
 abbrev pub candidate : List ℕ → Option Path
 candidate text =

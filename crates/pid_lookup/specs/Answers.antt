@@ -85,7 +85,7 @@ abbrev pub cut_answer : Option (List ℕ) → ℕ → Answer
 cut_answer None size = NoAnswer
 cut_answer (Some text) size = Text (cut text size)
 
--- a request that is none is told whole, whatever the buffer
+-- a request that is none is answered whole, whatever the buffer
 abbrev pub requested : (Path → Option (List ℕ)) → Switches → Option Request → Args → ℕ → Answer
 requested named s None a size = Text invalid_request
 requested named s (Some request) a size = cut_answer (request_text named s request a) size

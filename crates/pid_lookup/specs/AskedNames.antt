@@ -35,7 +35,7 @@ pub record TakesAsked (old : AskedNames) (entry : Numbered) (new : AskedNames) :
       (kept_map new)
   pub no_others : HasOnly old.asked (kept_map old) → HasOnly old.asked (kept_map new)
 
--- where memory was short for one more entry: no name that was kept is lost or changed, and none
+-- out of memory for one more entry: no name that was kept is lost or changed, and none
 -- came
 pub record KeepsAllNames (old new : AskedNames) : Type 0 where
   pub asked : new.asked ≡ old.asked

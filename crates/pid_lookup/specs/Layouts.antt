@@ -2,7 +2,7 @@
 use Rattle.std.specs.Prelude.{ℕ, if◌then◌else◌, List, ◌++◌, drop, Option, Some, None, codes}
 use Rattle.pid_lookup.specs.Flags.{Switches}
 
--- a number behind a name or a word
+-- a number after a name or a word
 abbrev pub bracketed : List ℕ → List ℕ
 bracketed number = codes " [" ++ number ++ codes "]"
 

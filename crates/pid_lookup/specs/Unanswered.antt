@@ -4,7 +4,7 @@ use Rattle.std.specs.Prelude.{ℕ, List, codes}
 use Rattle.pid_lookup.specs.declared.unanswered.Unanswered.{Unanswered}
 use Rattle.pid_lookup.specs.declared.unanswered.Unanswered.TheVariants.{NoItem, BadFlags, NoAnswer}
 
--- its number, behind those of commands
+-- its number, after those of commands
 abbrev pub unanswered_number : Unanswered → ℕ
 unanswered_number NoItem = 25
 unanswered_number BadFlags = 26

@@ -23,8 +23,8 @@ use crate::names::Names;
 use std::alloc::{AllocError, Global};
 use thiserror::Error;
 
-/// Why a look-up has no answer. Replies tell of these by other numbers: `Unanswered` has that of bad
-/// flags, the holder's fault its own.
+/// Why a look-up has no answer. A reply to a client says so by another number: `Unanswered` has
+/// that of bad flags, the holder's fault its own.
 #[derive(Debug, Drop, Error)]
 pub enum LookupRefusal<F> {
     #[error("the flags ask for numbers alone and for no numbers, or have an unknown bit")]
@@ -70,7 +70,7 @@ impl<F> From<AllocError> for LookupRefusal<F> {
 /// holder shows what it showed.
 ///
 /// Where the flags are good and a name must be asked for, an answer comes only of a holder that may
-/// tell; of another its fault is all that comes.
+/// answer; of another its fault is all that comes.
 pub fn lookup<N: Names>(
     alloc: Global,
     names: &mut N,
@@ -95,7 +95,7 @@ pub fn lookup<N: Names>(
     }
 }
 
-// A text that is told whole.
+// A text that is answered whole.
 fn told(alloc: Global, text: &[u8]) -> Result<Answer, AllocError>
     ensures { IfOk result (λ answer. answer ≡ Answer.Text text.now) }
 {

@@ -16,7 +16,7 @@ use std::alloc::{AllocError, Global};
 use std::collections::BTreeMap;
 
 /// The names of those paths that a look-up with some arguments can ask for, whatever its flags. Its
-/// fault is want of memory.
+/// fault is that there is no memory.
 #[derive(Drop)]
 pub struct AskedNames {
     asked: [Path; 8],

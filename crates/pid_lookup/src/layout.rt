@@ -10,7 +10,7 @@ use crate::find::Found;
 use crate::flags::Style;
 use pid_ident::Name;
 
-/// The parts of a text, one behind another. Parts that it does not need are empty.
+/// The parts of a text, one after another. Parts that it does not need are empty.
 #[derive(Clone, Copy)]
 pub struct Parts<'a> {
     pub slices: [&'a [u8]; 6],

@@ -50,7 +50,7 @@ impl Model for NameCache {
 }
 
 impl NameCache {
-    /// An empty cache. Its table has room for all entries, so that only the entries want memory
+    /// An empty cache. Its table has room for all entries, so that only the entries take memory
     /// later.
     pub fn new(alloc: Global) -> Result<NameCache, AllocError>
         ensures empty { IfOk result (λ cache. cache ≡ []) }

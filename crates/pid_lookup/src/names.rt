@@ -8,13 +8,12 @@ use pid_ident::{Name, Path};
 
 /// A holder of names: a tree, or a registry over a disk.
 ///
-/// Where the holder is honest as a question ends, the name that it told is that of the map that it
-/// shows. A holder that may not tell answers every question with a fault, and so tells of no path
-/// that it has a name or that it has none.
+/// Where the holder is honest as a question ends, the name that it answers is that of the map that
+/// it shows. A holder that may not answer gives every question a fault, and so says of no path that
+/// it has a name or that it has none.
 ///
-/// No question changes what is shown, which faults may come or whether it may tell, nor, honest or
-/// not, more of the holder than
-/// `only_asked` allows.
+/// No question changes what is shown, which faults may come or whether it may answer, nor, honest
+/// or not, more of the holder than `only_asked` allows.
 pub trait Names {
     /// Why a question has no answer.
     type Fault;
@@ -34,7 +33,7 @@ pub trait Names {
     /// Whether the holder may give this fault.
     ghost may_give: { Self → Self.Fault → Type 0 };
 
-    /// Whether the holder may tell that a path has a name, or that it has none: where not, each
+    /// Whether the holder may answer that a path has a name, or that it has none: where not, each
     /// question gets a fault.
     ghost may_tell: { Self → Type 0 } = { λ _. ⊤ };
 

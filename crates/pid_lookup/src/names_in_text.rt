@@ -10,10 +10,10 @@ use crate::asked_names::AskedNames;
 use pid_file::end_without_fault;
 use pid_ident::Input;
 use pid_reader::{InputEnd, Never, cut_input};
-use std::alloc::Global;
+use std::alloc::{AllocError, Global};
 
 /// The names of the input's text that a look-up with these arguments can ask for, and no others.
-/// Faults are told as by `read_input`, and as much is read.
+/// Faults are those of `read_input`, and as much is read.
 pub fn names_in<I: Input>(
     alloc: Global,
     limit: usize,

@@ -7,7 +7,7 @@ use pid_ident::{Name, Path};
 use pid_tree::{Tree, TreeItems};
 use std::alloc::AllocError;
 
-/// The names of a tree that is lent. Its fault is want of memory for a copy.
+/// The names of a tree that is lent. Its fault is that there is no memory for a copy.
 #[derive(Drop)]
 pub struct TreeNames<'a> {
     tree: &'a Tree,

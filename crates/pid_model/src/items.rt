@@ -49,7 +49,7 @@ fn write(
     match proposal {
         Proposal::Name(name) => set_name(items, path, name.copy()?),
         Proposal::Removal => {
-            // Tells the proof that the keys are in order.
+            // Shows the proof that the keys are in order.
             let _count = items.len();
             let _old = items.remove(&path);
             Ok(())

@@ -199,7 +199,7 @@ impl PlainRegistry {
         Ok(facts)
     }
 
-    /// What a command is judged by; or memory is short. The file is what an import's file reads to.
+    /// What a command is judged by; or out of memory. The file is what an import's file reads to.
     pub fn facts(&self, command: &Command, file: &FileReading) -> Result<Facts, AllocError>
         ensures { IfOk result (λ facts. facts
             ≡ facts_of (views self.now) (asked_plainly command.now file.now)) }
@@ -226,12 +226,12 @@ impl PlainRegistry {
 
     /// Obeys a command. Where it is an import, its file reads to this; with other commands that
     /// says nothing. What is accepted, and was not answered before, is added to the list. A
-    /// refusal, also one for want of memory, changes nothing.
+    /// refusal, also one as out of memory, changes nothing.
     pub fn obey(&mut self, command: Command, file: FileReading) -> Result<Reply, Refusal>
         // The reply is that of the judgement over the history.
         ensures reply { IfOk result (λ reply.
             answer (judge (views self.old) (asked_plainly command file)) ≡ Ok reply) }
-        // So is the refusal, unless memory is short.
+        // So is the refusal, unless it is out of memory.
         ensures refusal { IfErr result (λ e. e ≢ Refusal.Memory →
             answer (judge (views self.old) (asked_plainly command file)) ≡ Err e) }
         // Afterwards the history is the one after the command.

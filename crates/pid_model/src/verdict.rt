@@ -29,7 +29,7 @@ use pid_moderation::Verdict;
 use std::alloc::AllocError;
 use std::collections::BTreeMap;
 
-/// A count as a number of 32 bits. A larger one is answered as want of memory: no registry comes
+/// A count as a number of 32 bits. A larger one is answered as out of memory: no registry comes
 /// near it, since its limits are far below.
 pub fn number(count: usize) -> Result<u32, AllocError>
     ensures { IfOk result (λ number. number ≡ count) }

@@ -1,4 +1,4 @@
--- Pages of the items that were named anew.
+-- Pages of the items that were added or renamed.
 use Rattle.std.specs.Prelude.{ℕ, ◌<◌, ◌^◌, Bool, ◌&&◌, nat_lt, List, [], map, filter, take, Option}
 use Rattle.std.specs.Prelude.{Some, None}
 use Rattle.std.specs.Ordering.{is_lt}
@@ -15,12 +15,12 @@ pub record Changed : Type 0 where
   pub name : List ℕ
   pub since : ℕ
 
--- some items, and the revision that all of them are told of
+-- some items, and the revision at which they are so
 pub record ChangePage : Type 0 where
   pub revision : ℕ
   pub items : List Changed
 
--- the item comes behind this text, and the number of its last change is above this one
+-- the item comes after this text, and the number of its last change is above this one
 abbrev pub is_later : ℕ → List ℕ → Views → List ℕ × List ℕ → Bool
 is_later since after v item = is_lt (text_cmp after item.0) && nat_lt since (v.since item.0)
 
@@ -40,7 +40,7 @@ changes_in most since after v = record {
       (changed_behind since after v);
 }
 
--- the text behind which a page begins: that of a path, or the empty one, which is in front of every
+-- the text after which a page begins: that of a path, or the empty one, which is in front of every
 -- path
 abbrev pub start_text : Option Path → List ℕ
 start_text None = []
@@ -50,10 +50,10 @@ start_text (Some path) = path_text path
 abbrev pub AreHeld : Views → Type 0
 AreHeld v = (path : List ℕ) → v.since path < 2 ^ 63
 
--- an item as it is told
+-- the item of a value of the code
 abbrev pub changed_of : ChangedItem → Changed
 changed_of item = record { path = path_text item.path; name = item.name; since = item.since }
 
--- a page as it is told
+-- the page of a value of the code
 abbrev pub page_of : Changes → ChangePage
 page_of changes = record { revision = changes.revision; items = map changed_of changes.items.items }

@@ -33,7 +33,7 @@ abbrev pub renumbered : ℕ → (before now : Items) → (List ℕ → ℕ) → 
 renumbered n before now since path = if is_named_anew (name_at path before)
     (name_at path now) then n else since path
 
--- other items, with the number where they are named anew
+-- other items, with the number where they are added or renamed
 abbrev pub with_items : ℕ → Items → Views → Views
 with_items n items v = record v { items = items; since = renumbered n v.items items v.since }
 
@@ -86,7 +86,7 @@ FitsEdit (Add name) present = is_none present ≡ true
 FitsEdit (Rename name) present = (is_some present ≡ true) × (has_name name present ≡ false)
 FitsEdit Remove present = is_some present ≡ true
 
--- a write tells how many items there are afterwards
+-- a write says how many items there are afterwards
 abbrev pub FitsWrite : Option Write → Items → Type 0
 FitsWrite None items = Unit {0}
 FitsWrite (Some w) items = (w.items ≡ length (edited (path_text w.path) w.edit items))

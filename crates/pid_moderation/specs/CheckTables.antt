@@ -173,7 +173,7 @@ is_broken (acts.Reject n reason) = is_empty reason
 is_broken (acts.Import file) = nat_lt most_file_bytes (length file)
 is_broken act = false
 
--- the reading tells a file that is too long as such
+-- the reading of a file that is too long says so
 abbrev pub TellsLength : Act → Reading → Type 0
 TellsLength (acts.Import file) reading = nat_lt most_file_bytes (length file) ≡ true
     → reading ≡ TooLong

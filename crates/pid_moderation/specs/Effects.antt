@@ -99,13 +99,13 @@ change_by f c (Accepts reply) = change_of f c reply
 change_by f c (Refused refusal) = no_change f
 change_by f c (Repeated reply) = no_change f
 
--- the outcome by the facts, with its change; or memory is short
+-- the outcome by the facts, with its change; or out of memory
 abbrev pub Decides : Facts → Asked → Result (Change × Reply) Refusal → Type 0
 Decides f c result = MatchResult result (λ d. (answer (judged f c) ≡ Ok d.1)
     × (d.0 ≡ change_by f c (judged f c))) (λ e. e ≢ Memory → answer (judged f c) ≡ Err e)
 
 -- the result is what the judgement over these views answers: its reply, or its refusal unless
--- memory is short
+-- it is out of memory
 pub record AnswersByJudgement (v : Views) (c : Asked) (result : Result (Change × Reply) Refusal)
     : Type 0 where
   pub reply : IfOk result (λ d. answer (judge v c) ≡ Ok d.1)

@@ -3,6 +3,6 @@ use Rattle.std.specs.Prelude.{◌≡◌, ◌⊎◌}
 use Rattle.pid_moderation.specs.declared.refusal.Refusal.{Refusal}
 use Rattle.pid_moderation.specs.declared.refusal.Refusal.TheVariants.{Memory, Store}
 
--- memory was short, or the store failed
+-- out of memory, or the store failed
 abbrev pub IsFault : Refusal → Type 0
 IsFault refusal = (refusal ≡ Memory) ⊎ (refusal ≡ Store)

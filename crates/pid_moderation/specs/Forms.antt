@@ -134,7 +134,7 @@ abbrev pub command_said : Verb → List ℕ → Option (List ℕ) → Fields →
 command_said verb account key fields = option_map
     (λ act. record { account = account; key = key; act = act }) (act_said verb fields)
 
--- what is said, or the first check that fails; or memory is short
+-- what is said, or the first check that fails; or out of memory
 abbrev pub SaysByChecks : {X : Type 0} → Checks → Option X → Result X Refusal → Type 0
 SaysByChecks cs said result = MatchResult result (λ x. (first_failing cs ≡ None) × (said ≡ Some x))
     (λ e. e ≢ Memory → first_failing cs ≡ Some e)

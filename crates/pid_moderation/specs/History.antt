@@ -58,7 +58,7 @@ pub record Accepted : Type 0 where
   pub reply : Reply
 
 -- The accepted commands, the newest outermost. A history has a mark: its first commands, so many,
--- were accepted before the registry began to count changes, as those of a file that was taken over.
+-- were accepted before the registry began to count changes, as those of a file that was upgraded.
 pub data History : Type 0 where
   Begins : (mark : ℕ) → History
   More : (newest : Accepted) (before : History) → History

@@ -24,6 +24,6 @@ waiting_above after v = filter (waits_above after) (standings_from 1 v.submits v
 abbrev pub pending_in : ℕ → ℕ → Views → List (ℕ × Standing)
 pending_in most after v = take most (waiting_above after v)
 
--- a pending submission as it is told
+-- the pending submission of a value of the code
 abbrev pub told_of : Pending → ℕ × Standing
 told_of pending = (pending.number, standing_of pending.submission)

@@ -42,7 +42,7 @@ pub fn histories_are_sound()
     ensures { HistoriesAreSound }
 {}
 
-/// Of the commands of an account under a key at most one stands in a history, whatever the commands
+/// Of the commands of an account under a key at most one is in a history, whatever the commands
 /// are.
 pub fn keys_stand_once()
     ensures { KeysStandOnce }
@@ -90,7 +90,7 @@ pub fn marks_judge_nothing()
         → answers (with_mark mark h) commands ≡ answers h commands }
 {}
 
-/// A file that is taken over shows what it showed. Its revision begins at 0, and nothing in it has
+/// A file that is upgraded shows what it showed. Its revision begins at 0, and nothing in it has
 /// changed yet.
 pub fn taken_files_begin_anew()
     ensures views { (h : History) → without_numbers (views_of (taken_over h))
@@ -138,7 +138,7 @@ pub fn sinces_are_last_changes()
 
 /// An item that has not changed since an earlier revision had its name then: a mirror of that
 /// revision needs the others alone. An item that was removed is in no list of changes; so who keeps
-/// a copy of a file that was taken over begins with all of its items.
+/// a copy of a file that was upgraded begins with all of its items.
 pub fn mirrors_need_changes_alone()
     ensures { (h : History) (commands : List Asked) (path name : List ℕ) → IsMarked h
         → name_at path (items_of (after_all h commands)) ≡ Some name

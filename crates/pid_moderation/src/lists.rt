@@ -1,4 +1,4 @@
-//! What lists and single questions tell of a registry: plain values.
+//! What lists and single questions answer of a registry: plain values.
 use crate::command::Proposal;
 use crate::facts::State;
 use pid_ident::{Account, Name, Path, Text};

@@ -471,7 +471,7 @@ fn by_facts(facts: &Facts, command: &Command) -> Result<(Change, Reply), Refusal
 /// Judges a command by the facts of a history: the reply with what it changes, or the first check
 /// that fails.
 pub fn decide(facts: &Facts, command: &Command) -> Result<(Change, Reply), Refusal>
-    // The reply is that of the judgement, and so is the refusal, unless memory is short.
+    // The reply is that of the judgement, and so is the refusal, unless it is out of memory.
     ensures answers { (v : Views) (reading : Reading)
         → facts.now ≡ facts_of v (asked command.now reading)
         → AnswersByJudgement v (asked command.now reading) result }
@@ -486,7 +486,7 @@ pub fn decide(facts: &Facts, command: &Command) -> Result<(Change, Reply), Refus
         → IfOk result (λ d. FitsHistory h (asked command.now reading) d.0) }
     // And what the facts say is all of the change.
     ensures decides { (reading : Reading) → Decides facts.now (asked command.now reading) result }
-    // Only a registry that has failed is told as such.
+    // Only a registry that has failed is refused as failed.
     ensures alive { IfErr result (λ e. e ≢ Refusal.Failed) }
 {
     by_facts(facts, command)

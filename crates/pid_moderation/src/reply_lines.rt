@@ -68,7 +68,7 @@ fn write_accepted<W: Output>(out: &mut W, reply: Reply) -> Result<(), WriteFault
     }
 }
 
-// A refusal by a fault of the file, which is told.
+// A refusal by a fault of the file, with that fault.
 fn write_file_fault<W: Output>(out: &mut W, fault: FileFault) -> Result<(), WriteFault>
     ensures sent { Sends result (W.taken out.old) (W.taken out.new)
         (refused_line (Refusal.FileFault fault)) }

@@ -1,4 +1,4 @@
--- What is told line by line, up to the first line that has a fault of its own.
+-- What is read line by line, up to the first line that has a fault of its own.
 use Rattle.std.specs.Prelude.{◌≡◌, ℕ, ◌+◌, List, [], ◌∷◌, ◌++◌, length, map}
 use Rattle.std.specs.Prelude.{Option, Some, None, Result, Ok, Err}
 use Rattle.pid_file.specs.declared.line_kind.LineKind.{LineKind}
@@ -13,14 +13,14 @@ use Rattle.pid_file.specs.OpenLevels.{IsOpenAt}
 abbrev pub as_ok : Numbered → Result Numbered LineFault
 as_ok entry = Ok entry
 
--- a line with this fault or none is told: by its fault, or by its entry
+-- what a line with this fault or none says: its fault, or its entry
 abbrev pub told_at : List (List ℕ) → List ℕ → Option LineKind → List (Result Numbered LineFault)
     → List (Result Numbered LineFault)
 told_at earlier line (Some kind) behind = Err (record { line = length earlier + 1; kind = kind })
     ∷ []
 told_at earlier line None behind = map as_ok (numbered_at earlier line) ++ behind
 
--- what is told from some line on, with the lines before it, the nearest first
+-- what is said from some line on, with the lines before it, the nearest first
 abbrev pub told_from : List (List ℕ) → List (List ℕ) → List (Result Numbered LineFault)
 told_from earlier [] = []
 told_from earlier (line ∷ lines) = told_at earlier line (line_fault_of earlier line)
@@ -31,7 +31,7 @@ pub record StandsAfter (l : Lines) (earlier : List (List ℕ)) : Type 0 where
   pub levels : IsOpenAt l.levels earlier
   pub number : l.number ≡ length earlier
 
--- this is what the reader of lines will tell
+-- this is what the reader of lines will give
 pub record HasLeft (l : Lines) (items : List (Result Numbered LineFault)) : Type 0 where
   pub earlier : List (List ℕ)
   pub stands : StandsAfter l earlier

@@ -1,4 +1,4 @@
-//! A text as a tree, whole or in pieces.
+//! A text as a tree, whole or in chunks of any size.
 ghost use Rattle.std.specs.Prelude.{◌≡◌, ◌++◌, ℕ, [], List, None, Err, OnOk, IfOk, IfErr};
 ghost use Rattle.pid_file.specs.Reading.{Reads, refused, refusal_of};
 ghost use Rattle.pid_file.specs.WholeLines.{whole_lines};
@@ -11,7 +11,7 @@ ghost use Rattle.pid_file.specs.declared.sink.CutEnd.TheVariants.{Refused};
 use pid_file::{CutEnd, Cutter, ReadRefusal, Tree, TreeFault, TreeSink};
 use std::alloc::{AllocError, Global};
 
-/// Reads a text that comes in pieces as a tree.
+/// Reads a text that comes in chunks of any size as a tree.
 #[derive(Drop)]
 pub struct Feeder {
     cutter: Cutter,

@@ -1,4 +1,4 @@
-//! Readers of a text of PCI identifiers: entry by entry, whole, and in pieces.
+//! Readers of a text of PCI identifiers: entry by entry, whole, and in chunks.
 #![tactic(auto)]
 
 mod feeder;

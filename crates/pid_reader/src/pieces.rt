@@ -4,7 +4,7 @@ ghost use Rattle.pid_file.specs.Lines.{pieces_of};
 
 use pid_file::split_line;
 
-/// The first line of a text, with its CR if it has one, and what stands behind its LF; none of the
+/// The first line of a text, with its CR if it has one, and what comes after its LF; none of the
 /// empty text.
 pub fn first_line(text: &[u8]) -> Option<(&[u8], &[u8])>
     ensures parts { MatchOption result (text.now ≡ [])

@@ -6,7 +6,7 @@ ghost use Rattle.pid_file.specs.WholeInputs.{SkipsInput};
 use pid_file::{BUFFER, Input, SkipEnd, next_piece};
 
 /// Reads the input to its end, or until more than `limit` bytes came: then no more is read. A fault
-/// of the input is told before all else.
+/// of the input comes before all else.
 pub fn skip_input<I: Input>(limit: usize, input: &mut I) -> Result<(), SkipEnd>
     ensures read { (text : List ℕ) × Consumes (I.to_come input.old) (I.to_come input.new) text
         × SkipsInput limit result (I.to_come input.new) text }

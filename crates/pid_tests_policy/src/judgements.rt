@@ -53,7 +53,7 @@ fn state_at(alloc: Global, fields: &[(String, String)]) -> Result<State, Fail> {
     }
 }
 
-// The submission of a row that tells its author.
+// The submission of a row that says its author.
 fn named_at(alloc: Global, fields: &[(String, String)]) -> Result<Option<Named>, Fail> {
     let Some(author) = value(fields, "author") else {
         return Ok(None);
@@ -126,7 +126,7 @@ fn expect_answers(rt: &impl Abort, alloc: Global, rows: &str) -> Result<(), Fail
     Ok(())
 }
 
-// Behind each refusal the row where the next check fails too, where there can be one.
+// After each refusal the row where the next check fails too, where there can be one.
 const ACCOUNT_AND_SUBMIT_CHECKS: &str = "\
 account root who=bob&rank=1 | - | refused 4 NoAccount
 account root who=root&rank=1 | who=1 | refused 4 NoAccount
@@ -299,7 +299,7 @@ fn checks_imports(rt: HostRuntime) -> Result<(), Fail> {
 }
 
 // At the limit of the revision nothing more is accepted, whatever it is; a kept reply is answered,
-// and what another check refuses is told by that.
+// and what another check refuses has the refusal of that.
 const REVISION_CHECKS: &str = "\
 account root who=bob&rank=1 | rank=3&revision=9000000000000000000 | refused 15 Full
 submit alice path=PC/8086&name=a | rank=0&revision=9000000000000000000 | refused 15 Full
@@ -399,7 +399,7 @@ import k1/root file=a | rank=2&file=good&items=3 | ok added=1 renamed=2 same=3
 import root file=a | rank=2&file=faulty | refused 14 FileFault line=3 kind=7 Duplicate
 ";
 
-// Where one request for memory is refused, that is told, and the same call answers as ever when it
+// Where one request for memory is refused, that is answered, and the same call answers as ever when it
 // is made again. (Run with each request refused in turn; what a row is made of ends the test then.)
 #[test]
 fn tells_want_of_memory(rt: HostRuntime) -> Result<(), Fail> {

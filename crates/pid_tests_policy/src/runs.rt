@@ -33,7 +33,7 @@ fn file_of(alloc: Global, row: &str) -> Result<FileReading, Fail> {
     }
 }
 
-// The command of a row, and the reading of its file, which stands in place of the fields of an
+// The command of a row, and the reading of its file, which is in place of the fields of an
 // import.
 fn order_in(alloc: Global, row: &str) -> Result<(Command, FileReading), Fail> {
     let (verb, rest) = row.split_once(' ').ok_or("a verb")?;
@@ -67,7 +67,7 @@ fn told(alloc: Global, registry: &mut PlainRegistry, row: &str) -> Result<String
     Ok(reply_line(alloc, registry.obey(command, file))?)
 }
 
-// Asserts what the registry tells, row by row.
+// Asserts what the registry answers, row by row.
 fn expect_told(
     rt: &impl Abort,
     alloc: Global,
@@ -82,7 +82,7 @@ fn expect_told(
     Ok(())
 }
 
-// Asserts what a new registry tells.
+// Asserts what a new registry answers.
 fn expect_run(rt: &impl Abort, alloc: Global, rows: &str) -> Result<(), Fail> {
     let mut registry = PlainRegistry::new(alloc);
     expect_told(rt, alloc, &mut registry, rows)

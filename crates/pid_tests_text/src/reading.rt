@@ -130,7 +130,7 @@ fn refusal_in(end: CutEnd<Never>) -> ReadRefusal {
     }
 }
 
-// The count of a counter behind a cutter that is fed the text in two pieces.
+// The count of a counter after a cutter that is fed the text in two pieces.
 fn by_counting(alloc: Global, text: &[u8], at: usize) -> Result<u64, ReadRefusal> {
     let (front, behind) = text.split_at(at.min(text.len()));
     let mut cutter = Cutter::new(alloc);

@@ -8,7 +8,7 @@ const VENDORS: &[u8] = b"8086   Intel\n\t1237\t 440FX\n10EC\tRealtek\n";
 
 const VENDORS_TIDIED: &[u8] = b"# PCI ID registry\n10ec  Realtek\n8086  Intel\n\t1237  440FX\n";
 
-// Reads in pieces of at most so many bytes.
+// Reads in chunks of at most so many bytes.
 fn tidied(alloc: Global, text: &[u8], most: usize) -> (TextEnd, FaultyOutput, FaultyOutput) {
     let mut input = FaultyInput::new(text, most);
     let mut output = FaultyOutput::new(alloc, 7);

@@ -4,8 +4,8 @@ use Rattle.pid_tree.specs.declared.refusal.TreeRefusal.{TreeRefusal}
 use Rattle.pid_tree.specs.declared.refusal.TreeRefusal.TheVariants.{ParentMissing, Memory}
 use Rattle.pid_tree.specs.declared.refusal.TreeRefusal.TheVariants.{HasChildren, Absent}
 
-abbrev pub number_of : TreeRefusal → ℕ
-number_of ParentMissing = 1
-number_of Memory = 2
-number_of HasChildren = 3
-number_of Absent = 4
+abbrev pub tree_refusal_number : TreeRefusal → ℕ
+tree_refusal_number ParentMissing = 1
+tree_refusal_number Memory = 2
+tree_refusal_number HasChildren = 3
+tree_refusal_number Absent = 4

@@ -17,11 +17,11 @@ pub enum TreeRefusal {
 }
 
 impl TreeRefusal {
-    ghost use Rattle.pid_tree.specs.Refusals.{number_of};
+    ghost use Rattle.pid_tree.specs.Refusals.{tree_refusal_number};
 
     /// 1 to 4, in the order above.
     pub fn number(self) -> u8
-        ensures { result ≡ number_of self }
+        ensures { result ≡ tree_refusal_number self }
     {
         match self {
             TreeRefusal::ParentMissing => 1,

@@ -3,7 +3,9 @@ ghost use Rattle.std.specs.Prelude.{
   ◌≡◌,
   ◌≢◌,
   ◌↔◌,
+  ◌⊎◌,
   Err,
+  IfErr,
   IsTrue,
   IsNone,
   OnOk,
@@ -84,7 +86,7 @@ impl TreeItems for Tree {
         if lacks_parent(self, path) {
             return Err(TreeRefusal::ParentMissing);
         }
-        // Tells the proof that the name keeps the rule of names.
+        // Shows the proof that the name keeps the rule of names.
         let _checked = name.as_str();
         match self.items.insert(path, name) {
             Ok(_) => Ok(()),
@@ -97,8 +99,8 @@ impl TreeItems for Tree {
         ensures absent { IsErrOf result TreeRefusal.Absent
             ↔ IsNone (finite.get self.old (path_text path.now)) }
         ensures has_children { IsErrOf result TreeRefusal.HasChildren ↔ HasChild self.old path.now }
-        ensures no_parent_missing { result ≢ Err TreeRefusal.ParentMissing }
-        ensures no_memory { result ≢ Err TreeRefusal.Memory }
+        ensures no_other { IfErr result (λ refusal. (refusal ≡ TreeRefusal.Absent)
+            ⊎ (refusal ≡ TreeRefusal.HasChildren)) }
         ensures err { OnErr result (self.new ≡ self.old) }
     {
         if self.get(path).is_none() {
@@ -107,7 +109,7 @@ impl TreeItems for Tree {
         if has_child(self, *path) {
             return Err(TreeRefusal::HasChildren);
         }
-        // Tells the proof that the paths are in order.
+        // Shows the proof that the paths are in order.
         let _ordered = self.items.keys();
         let _name = self.items.remove(path);
         Ok(())

@@ -23,7 +23,7 @@ pub fn read_path(text: &[u8]) -> Option<Path>
     }
 }
 
-// What stands behind `PC`.
+// What comes after `PC`.
 fn device_path(parts: &[u8]) -> Option<Path>
     ensures found { IfSome result (λ p. IsPath p × (letter_of p ≡ 67)
         × (parts.now ≡ slashed (parts_of p))) }
@@ -51,7 +51,7 @@ fn device_path(parts: &[u8]) -> Option<Path>
     })
 }
 
-// What stands behind `PD`.
+// What comes after `PD`.
 fn class_path(parts: &[u8]) -> Option<Path>
     ensures found { IfSome result (λ p. IsPath p × (letter_of p ≡ 68)
         × (parts.now ≡ slashed (parts_of p))) }
@@ -77,7 +77,7 @@ fn class_path(parts: &[u8]) -> Option<Path>
     })
 }
 
-// What stands behind `PS`.
+// What comes after `PS`.
 fn generic_path(parts: &[u8]) -> Option<Path>
     ensures found { IfSome result (λ p. IsPath p × (letter_of p ≡ 83)
         × (parts.now ≡ slashed (parts_of p))) }

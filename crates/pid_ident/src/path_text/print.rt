@@ -17,7 +17,7 @@ pub fn front(path: Path) -> &'static str
     }
 }
 
-/// Writes each part behind a slash.
+/// Writes each part after a slash.
 pub fn push_parts(text: &mut String, path: Path) -> Result<(), AllocError>
     ensures { OnOk result (string_bytes text.new
         ≡ string_bytes text.old ++ slashed (parts_of path)) }

@@ -9,7 +9,7 @@ use Rattle.pid_moderation.specs.CheckTables.{Checks, first_failing, later_checks
 use Rattle.pid_moderation.specs.Effects.{effect_of}
 use Rattle.pid_moderation.specs.History.{Deed}
 
--- the first check that fails, else what follows; or memory is short
+-- the first check that fails, else what follows; or out of memory
 abbrev pub FollowsChecks : {X : Type 0} → Checks → X → Result X Refusal → Type 0
 FollowsChecks cs x result = MatchResult result (λ y. (first_failing cs ≡ None) × (y ≡ x))
     (λ e. e ≢ Memory → first_failing cs ≡ Some e)
