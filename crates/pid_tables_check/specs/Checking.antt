@@ -1,4 +1,4 @@
--- What the whole check tells.
+-- What the whole check answers.
 use Rattle.std.specs.Prelude.{Option, Some, None}
 use Rattle.sqlite.specs.Effect.{Database}
 use Rattle.pid_tables_rows.specs.declared.version.Version.{Version}
@@ -16,14 +16,14 @@ ShowsRegistry version db = (t : Rows) × ShowsTables version db t × AreOfRegist
 abbrev pub ShowsDamage : Version → Database → Type 0
 ShowsDamage version db = (t : Rows) × ShowsTables version db t × ¬ (AreOfRegistry version t)
 
--- A database of which nothing is there is told as none. One in a schema has its tables, which show
+-- A database of which nothing is there is none. One in a schema has its tables, which show
 -- a registry, and no later schema.
 abbrev pub FindsVersion : Database → Option Version → Type 0
 FindsVersion db None = HasNoTable db.schema
 FindsVersion db (Some found) = HasTables found db.schema × ShowsRegistry found db × ShowsLater db None
 
--- A later schema is judged before all else. Damaged is told where there is some table, and where
--- the tables of a schema are there, of rows that are not a registry's.
+-- A later schema is judged before all else. Damaged is answered where there is some table, and
+-- where the tables of a schema are there, of rows that are not a registry's.
 abbrev pub Explains : Database → TableFault → Type 0
 Explains db Memory = Unit {0}
 Explains db Store = Unit {0}

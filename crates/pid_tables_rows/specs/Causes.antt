@@ -14,7 +14,7 @@ use Rattle.pid_moderation.specs.WellMade.{AllItems, ProposesName}
 use Rattle.pid_tables_rows.specs.declared.fault.TableFault.{TableFault}
 use Rattle.pid_tables_rows.specs.declared.fault.TableFault.TheVariants.{Memory, Store, NewerSchema, Damaged}
 
--- Memory may be short at any time. The store is told of where the disk failed or refused in the
+-- Memory may be short at any time. The store is named where the disk failed or refused in the
 -- call, where a fault had shut the connection before, or where a limit of steps was set. Tables
 -- that show views are of this schema and undamaged.
 abbrev pub IsCaused : State → State → TableFault → Type 0

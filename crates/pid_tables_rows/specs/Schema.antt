@@ -113,7 +113,7 @@ abbrev pub version_number : Version → ℕ
 version_number One = 1
 version_number Two = 2
 
--- what a schema has behind the six tables and their indexes
+-- what a schema has after the six tables and their indexes
 abbrev pub more_tables : Version → List Table
 more_tables One = []
 more_tables Two = item_since ∷ []

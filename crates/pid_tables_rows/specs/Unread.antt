@@ -13,7 +13,7 @@ use Rattle.pid_tables_rows.specs.Causes.{IsReadableSubmission, IsReadableState, 
 use Rattle.pid_tables_rows.specs.TableRows.{number}
 use Rattle.pid_moderation.specs.Submissions.{Standing}
 
--- Memory was short, or the row is not written as one of these is.
+-- There was no memory, or the row is not written as one of these is.
 abbrev pub IsUnreadable : Type 0 → TableFault → Type 0
 IsUnreadable Written Memory = Unit {0}
 IsUnreadable Written Store = ⊥

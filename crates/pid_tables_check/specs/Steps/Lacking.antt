@@ -1,4 +1,4 @@
--- What is told of a database that lacks a table.
+-- What is answered of a database that lacks a table.
 use Rattle.std.specs.Prelude.{Some, None}
 use Rattle.sqlite.specs.Effect.{Database}
 use Rattle.pid_tables_rows.specs.declared.fault.TableFault.{TableFault}

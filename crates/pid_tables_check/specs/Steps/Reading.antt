@@ -1,4 +1,4 @@
--- What calls in a transaction tell of the rows that the transaction shows.
+-- What calls in a transaction say of the rows that the transaction shows.
 use Rattle.std.specs.Prelude.{◌≡◌, ℕ, List, Option, Some, None, Result, MatchResult, Vec}
 use Rattle.std.specs.declared.alloc.Global.{Global}
 use Rattle.sqlite.specs.Effect.{Database}
@@ -32,7 +32,7 @@ KeepsTable old new result table Says = JudgesRows old new result (λ d. CanBeAsk
     (λ d x. (rows : List Row) × ShowsRows d (query_of table) rows × Says rows x)
     (λ d. IsMemoryOrStore)
 
--- the tables of the schema are not a registry's, or nothing is told of them
+-- the tables of the schema are not a registry's, or nothing is said of them
 abbrev pub TellsDamage : Version → Database → TableFault → Type 0
 TellsDamage version d Memory = Unit {0}
 TellsDamage version d Store = Unit {0}

@@ -8,7 +8,7 @@ use Rattle.pid_moderation.specs.declared.facts.State.TheVariants.{Pending, Appro
 use Rattle.pid_moderation.specs.Views.{Views}
 use Rattle.pid_tables_rows.specs.Shows.{Numbers}
 
--- a path has this name; the numbers are told elsewhere
+-- a path has this name; the numbers are apart
 abbrev pub with_item_named : List ℕ → List ℕ → Views → Views
 with_item_named path name v = record v { items = put text_cmp path name v.items }
 
@@ -16,7 +16,7 @@ with_item_named path name v = record v { items = put text_cmp path name v.items 
 abbrev pub with_number : List ℕ → ℕ → Numbers → Numbers
 with_number path n numbers = record numbers { since = λ p. if bytes_eq p path then Some n else numbers.since p }
 
--- the decider is told by the state itself
+-- the state itself names the decider
 abbrev pub NamesDecider : State → Type 0
 NamesDecider Pending = Unit {0}
 NamesDecider (Approved decider) = Unit {0}
