@@ -12,7 +12,8 @@ use Rattle.sqlite_rules.specs.Lists.{Has}
 use Rattle.pid_moderation.specs.History.{new_history}
 use Rattle.pid_moderation.specs.Views.{Views, views_of}
 use Rattle.pid_tables_rows.specs.declared.fault.TableFault.{TableFault}
-use Rattle.pid_tables_rows.specs.declared.fault.TableFault.TheVariants.{Memory, Store, NewerSchema, Damaged}
+use Rattle.pid_tables_rows.specs.declared.fault.TableFault.TheVariants.{Memory, Store, NewerSchema}
+use Rattle.pid_tables_rows.specs.declared.fault.TableFault.TheVariants.{Damaged}
 use Rattle.pid_tables_rows.specs.Causes.{IsCaused}
 use Rattle.pid_tables_rows.specs.Faults.{IsMemoryOrStore, IsNotNewerSchema}
 use Rattle.pid_tables_rows.specs.Schema.{no_schema}

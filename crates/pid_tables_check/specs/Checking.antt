@@ -3,10 +3,12 @@ use Rattle.std.specs.Prelude.{Option, Some, None}
 use Rattle.sqlite.specs.Effect.{Database}
 use Rattle.pid_tables_rows.specs.declared.version.Version.{Version}
 use Rattle.pid_tables_rows.specs.declared.fault.TableFault.{TableFault}
-use Rattle.pid_tables_rows.specs.declared.fault.TableFault.TheVariants.{Memory, Store, NewerSchema, Damaged}
+use Rattle.pid_tables_rows.specs.declared.fault.TableFault.TheVariants.{Memory, Store, NewerSchema}
+use Rattle.pid_tables_rows.specs.declared.fault.TableFault.TheVariants.{Damaged}
 use Rattle.pid_tables_check.specs.Conditions.{Rows, rows_in, AreOfRegistry}
 use Rattle.pid_tables_check.specs.Queries.{query_of}
-use Rattle.pid_tables_check.specs.Shapes.{HasTables, HasSomeTable, HasNoTable, CanBeAsked, ShowsTables, ShowsLater}
+use Rattle.pid_tables_check.specs.Shapes.{HasTables, HasSomeTable, HasNoTable, CanBeAsked}
+use Rattle.pid_tables_check.specs.Shapes.{ShowsTables, ShowsLater}
 use Rattle.pid_tables_check.specs.declared.shape.Table.TheVariants.{Meta}
 
 -- the rows that the tables of a schema show are those of a registry, or are not
@@ -20,7 +22,8 @@ ShowsDamage version db = (t : Rows) × ShowsTables version db t × ¬ (AreOfRegi
 -- a registry, and no later schema.
 abbrev pub FindsVersion : Database → Option Version → Type 0
 FindsVersion db None = HasNoTable db.schema
-FindsVersion db (Some found) = HasTables found db.schema × ShowsRegistry found db × ShowsLater db None
+FindsVersion db (Some found) = HasTables found db.schema × ShowsRegistry found db
+    × ShowsLater db None
 
 -- A later schema is judged before all else. Damaged is answered where there is some table, and
 -- where the tables of a schema are there, of rows that are not a registry's.

@@ -5,7 +5,12 @@ ghost use Rattle.pid_tables_rows.specs.Faults.{IsMemoryOrStore};
 ghost use Rattle.pid_tables_rows.specs.declared.version.Version.{Version as Schema};
 ghost use Rattle.pid_tables_rows.specs.Clauses.{GoesOn, HasCleanDisk, OnlyReads, is_open, seen};
 ghost use Rattle.pid_tables_check.specs.declared.shape.Table.TheVariants.{Meta};
-ghost use Rattle.pid_tables_check.specs.Checking.{Explains, FindsVersion, IsRegistry, ShowsRegistry};
+ghost use Rattle.pid_tables_check.specs.Checking.{
+  Explains,
+  FindsVersion,
+  IsRegistry,
+  ShowsRegistry,
+};
 ghost use Rattle.pid_tables_check.specs.Steps.Clauses.{JudgesRows};
 ghost use Rattle.pid_tables_check.specs.Queries.{query_of};
 ghost use Rattle.pid_tables_check.specs.Steps.Reading.{ShowsFound, TellsDamage, TellsLater};

@@ -9,7 +9,8 @@ use Rattle.sqlite_resolve.specs.declared.error.CompileError.TheVariants as compi
 use Rattle.pid_file.specs.declared.word_fault.WordFault.{WordFault}
 use Rattle.pid_file.specs.declared.word_fault.WordFault.TheVariants as words
 use Rattle.pid_tables_rows.specs.declared.fault.TableFault.{TableFault}
-use Rattle.pid_tables_rows.specs.declared.fault.TableFault.TheVariants.{Memory, Store, NewerSchema, Damaged}
+use Rattle.pid_tables_rows.specs.declared.fault.TableFault.TheVariants.{Memory, Store, NewerSchema}
+use Rattle.pid_tables_rows.specs.declared.fault.TableFault.TheVariants.{Damaged}
 
 -- the number of a fault: a choice of this project
 abbrev pub table_fault_number : TableFault → ℕ

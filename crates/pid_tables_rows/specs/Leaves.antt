@@ -31,7 +31,8 @@ use Rattle.pid_tables_rows.specs.Causes.{IsCaused, IsReadable}
 use Rattle.pid_tables_rows.specs.declared.version.Version.{Version}
 use Rattle.pid_tables_rows.specs.declared.version.Version.TheVariants.{One}
 use Rattle.pid_tables_rows.specs.Schema.{schema_of, pid_schema}
-use Rattle.pid_tables_rows.specs.Shows.{Counts, ShowsKeeping, ShowsIn, ShowsCounting, Shows, numbers_in}
+use Rattle.pid_tables_rows.specs.Shows.{Counts, ShowsKeeping, ShowsIn, ShowsCounting, Shows}
+use Rattle.pid_tables_rows.specs.Shows.{numbers_in}
 
 -- trees as an open finds them, with the schema that they list
 abbrev pub found_in : Schema → Trees → Database

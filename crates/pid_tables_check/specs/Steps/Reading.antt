@@ -6,7 +6,8 @@ use Rattle.sqlite.specs.Order.{Row}
 use Rattle.sqlite.specs.State.{State, HasCleanDisk}
 use Rattle.pid_tables_rows.specs.declared.version.Version.{Version}
 use Rattle.pid_tables_rows.specs.declared.fault.TableFault.{TableFault}
-use Rattle.pid_tables_rows.specs.declared.fault.TableFault.TheVariants.{Memory, Store, NewerSchema, Damaged}
+use Rattle.pid_tables_rows.specs.declared.fault.TableFault.TheVariants.{Memory, Store, NewerSchema}
+use Rattle.pid_tables_rows.specs.declared.fault.TableFault.TheVariants.{Damaged}
 use Rattle.pid_tables_rows.specs.Faults.{IsMemoryOrStore}
 use Rattle.pid_tables_check.specs.declared.shape.Table.{Table}
 use Rattle.pid_tables_check.specs.Queries.{query_of}
@@ -28,7 +29,8 @@ AnswersTable old new result text = JudgesRows old new result (λ d. CanBeAsked d
 -- the same, with what is kept of the rows of a table
 abbrev pub KeepsTable : {X : Type 0} → State → State → Result X TableFault → Table
     → (List Row → X → Type 0) → Type 0
-KeepsTable old new result table Says = JudgesRows old new result (λ d. CanBeAsked d.schema (query_of table))
+KeepsTable old new result table Says = JudgesRows old new result
+    (λ d. CanBeAsked d.schema (query_of table))
     (λ d x. (rows : List Row) × ShowsRows d (query_of table) rows × Says rows x)
     (λ d. IsMemoryOrStore)
 
