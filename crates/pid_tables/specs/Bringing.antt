@@ -31,7 +31,7 @@ abbrev pub ShowsLatest : Database → Type 0
 ShowsLatest db = ShowsNumber db (codes "schema") 2
     ⊎ ((rows : List Row) × ShowsRows db labels_text rows × Has rows (label_row (codes "schema", 2)))
 
--- and where the tables of a schema were made first, whatever stands behind them, storage has that
+-- and where the tables of a schema were made first, whatever comes after them, storage has that
 -- label
 pub record NamesLatest (db : Database) : Type 0 where
   pub shown : ShowsLatest db
@@ -45,11 +45,11 @@ pub data Brings (old : State) (step : Step) (new : State) : Type 0 where
   -- those of schema 1 were moved, since they keep all conditions of a registry
   Raised : step ≡ Moved → FindsVersion old.now (Some One) → Brings old step new
 
--- Some table was there, and this fault is told.
+-- Some table was there, and this fault is answered.
 pub data Refuses (old : State) (fault : TableFault) (new : State) : Type 0 where
-  -- it tells which condition of a registry fails, and everything is as it was
+  -- it says which condition of a registry fails, and everything is as it was
   Fails : Explains old.now fault → OnlyReads old new → Refuses old fault new
-  -- none fails, and tables of schema 1 could not be moved, which tells of no later schema
+  -- none fails, and tables of schema 1 could not be moved, which says nothing of a later one
   Stays : FindsVersion old.now (Some One) → IsNotNewerSchema fault → Refuses old fault new
 
 -- What was brought has the labels of schema 2: tables that were left alone, whatever they are, show
@@ -73,7 +73,7 @@ pub record MigratesShown (old new : State) (result : Result Step TableFault) : T
   pub moved : HasCleanDisk new → (h : History) → IsSound h → RestsIn One old (views_of h)
       → MatchResult result (λ step. (step ≡ Moved) × AtRest new (views_of h))
       (λ fault. IsMemoryOrStore fault × RestsIn One new (views_of h))
-  -- Whatever views they show, of a history or not: a fault tells which condition fails, or nothing
+  -- Whatever views they show, of a history or not: a fault says which condition fails, or nothing
   -- of the rows.
   pub told : HasCleanDisk new → (v : Views) → RestsIn One old v → IfErr result (Explains old.now)
   -- Tables of schema 2 are only read, whatever a crash would leave in their place.
@@ -101,7 +101,7 @@ pub record MigratesJudged (old new : State) (result : Result Step TableFault) : 
 
 -- Where there is no table, whatever else there is.
 pub record MigratesNone (old new : State) (result : Result Step TableFault) : Type 0 where
-  -- It answers no other step than that they were made, and tells of no later schema.
+  -- It answers no other step than that they were made, and reports no later schema.
   pub bare : HasCleanDisk new → HasNoTable old.now.schema
       → MatchResult result (λ step. step ≡ Created) IsNotNewerSchema
   -- Something else under the name of a table is refused, and left as it is.

@@ -12,7 +12,8 @@ use Rattle.sqlite_rules.specs.Lists.{Has}
 use Rattle.pid_moderation.specs.History.{new_history}
 use Rattle.pid_moderation.specs.Views.{Views, views_of}
 use Rattle.pid_tables_rows.specs.declared.fault.TableFault.{TableFault}
-use Rattle.pid_tables_rows.specs.declared.fault.TableFault.TheVariants.{Memory, Store, NewerSchema, Damaged}
+use Rattle.pid_tables_rows.specs.declared.fault.TableFault.TheVariants.{Memory, Store, NewerSchema}
+use Rattle.pid_tables_rows.specs.declared.fault.TableFault.TheVariants.{Damaged}
 use Rattle.pid_tables_rows.specs.Causes.{IsCaused}
 use Rattle.pid_tables_rows.specs.Faults.{IsMemoryOrStore, IsNotNewerSchema}
 use Rattle.pid_tables_rows.specs.Schema.{no_schema}
@@ -76,14 +77,14 @@ table_names = codes "meta" ∷ codes "account" ∷ codes "item" ∷ codes "submi
 abbrev pub IsNameTaken : State → Type 0
 IsNameTaken s = (name : List ℕ) × Has table_names name × (is_used s.now.schema name ≡ true)
 
--- tables of a registry are there already, which is told as damage; else a fault has its cause
+-- tables of a registry are there already, which is answered as damage; else a fault has its cause
 abbrev pub IsFaultOfTaken : State → State → TableFault → Type 0
 IsFaultOfTaken old new Memory = Unit {0}
 IsFaultOfTaken old new Store = IsCaused old new Store
 IsFaultOfTaken old new (NewerSchema n) = ⊥
 IsFaultOfTaken old new Damaged = Unit {0}
 
--- Where there is no table, a new registry is made. After a fault there is still none, and it tells
+-- Where there is no table, a new registry is made. After a fault there is still none, and it says
 -- nothing of the rows.
 pub record MakesNew {X : Type 0} (old new : State) (result : Result X TableFault) : Type 0 where
   pub made : RestsBare old → OnOk result (AtRest new (views_of new_history))

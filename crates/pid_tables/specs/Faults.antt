@@ -1,11 +1,11 @@
--- What a fault of the tables is told as: choices of this project.
+-- What a fault of the tables is answered as: choices of this project.
 use Rattle.pid_moderation.specs.declared.refusal.Refusal.{Refusal}
 use Rattle.pid_moderation.specs.declared.refusal.Refusal.TheVariants.{Memory, Store}
 pub use Rattle.pid_moderation.specs.Faults.{IsFault}
 use Rattle.pid_tables_rows.specs.declared.fault.TableFault.{TableFault}
 use Rattle.pid_tables_rows.specs.declared.fault.TableFault.TheVariants as faults
 
--- want of memory is told as such, every other fault as one of the store
+-- no memory is answered as such, every other fault as one of the store
 abbrev pub refusal_for : TableFault → Refusal
 refusal_for faults.Memory = Memory
 refusal_for faults.Store = Store

@@ -16,7 +16,7 @@ use Rattle.pid_tables.specs.declared.put_file.Stop.{Stop}
 use Rattle.pid_tables.specs.declared.put_file.Stop.TheVariants as stops
 use Rattle.pid_tables.specs.Faults.{IsFault}
 
--- the judgement refuses, and nothing changes; or memory was short or the store failed
+-- the judgement refuses, and nothing changes; or there was no memory, or the store failed
 abbrev pub RefusesImport : History → Asked → Refusal → Type 0
 RefusesImport h c e = ((answer (judge (views_of h) c) ≡ Err e) × (after h c ≡ h)) ⊎ IsFault e
 
@@ -55,13 +55,13 @@ EndsImport result s h c = (ending_of result).leaves s h c
 abbrev pub ReadsFile : Result Reply Stop → Option (List ℕ) → List ℕ → Type 0
 ReadsFile result rest text = (ending_of result).read rest text
 
--- it tells of a fault of the input exactly where the input has one
+-- it reports a fault of the input exactly where the input has one
 pub record TellsReadFault {F : Type 0} (result : Result Reply Stop) (fault : Option F)
     : Type 0 where
   pub told : result ≡ Err stops.Body → IsSome fault
   pub first : IsSome fault → result ≡ Err stops.Body
 
--- it does not tell that the registry had failed before
+-- it does not say that the registry had failed before
 abbrev pub StopIsNotFailed : Stop → Type 0
 StopIsNotFailed stops.Body = Unit {0}
 StopIsNotFailed (stops.Refused e) = e ≢ refusals.Failed

@@ -25,8 +25,8 @@ abbrev pub WhereOpen : History → Command → Facts → ℕ → Type 0 → Type
 WhereOpen h command facts items Holds = IsMarked h → is_import command.act ≡ true
     → IsOpen h command facts → items ≡ length (items_of h) → Holds
 
--- that is the answer whatever the file reads to, if it is not too long; or memory was short or the
--- store failed
+-- that is the answer whatever the file reads to, if it is not too long; or there was no memory, or
+-- the store failed
 abbrev pub HasOneOutcome : History → Command → Result Reply Refusal → Type 0
 HasOneOutcome h command (Ok reply) = SettlesImport h command.account command.key (Ok reply)
 HasOneOutcome h command (Err e) = SettlesImport h command.account command.key (Err e) ⊎ IsFault e
@@ -36,7 +36,7 @@ abbrev pub IsJudgedEarly : History → Command → Early → Type 0
 IsJudgedEarly h command (Answered result) = HasOneOutcome h command result
 IsJudgedEarly h command (Open facts items) = IsOpen h command facts × (items ≡ length (items_of h))
 
--- it does not tell that the registry had failed before
+-- it does not say that the registry had failed before
 abbrev pub EarlyIsNotFailed : Early → Type 0
 EarlyIsNotFailed (Answered result) = IfErr result (λ e. e ≢ Failed)
 EarlyIsNotFailed (Open facts items) = Unit {0}

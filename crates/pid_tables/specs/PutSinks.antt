@@ -8,7 +8,7 @@ use Rattle.pid_tables.specs.declared.putting.Put.{Put}
 use Rattle.pid_tables.specs.declared.put_sink.PutSink.{PutSink}
 use Rattle.pid_tables.specs.Tallies.{tallied}
 
--- one entry is put behind the same borrow with the sink's number, and counted
+-- one entry is put into the same borrow with the sink's number, and counted
 abbrev pub TakesEntry : {K : Type 0} → (ℕ → K → Item → Put → K → Type 0) → PutSink K Global
     → Numbered → PutSink K Global → Type 0
 TakesEntry puts s entry t = (t.batch.ghost_name ≡ s.batch.ghost_name) × (t.revision ≡ s.revision)

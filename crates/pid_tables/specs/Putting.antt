@@ -12,8 +12,8 @@ use Rattle.pid_tables_rows.specs.Writes.{with_name}
 use Rattle.pid_tables.specs.declared.putting.Put.{Put}
 use Rattle.pid_tables.specs.Puts.{put_over}
 
--- one entry is put with this number: the transaction shows the views with it, and tells what it was
--- to these
+-- one entry is put with this number: the transaction shows the views with it, and it is said what
+-- it was to these
 pub record Puts (n : ℕ) (old new : State) (item : Item) (put : Put) : Type 0 where
   pub clean : HasCleanDisk new → HasCleanDisk old
   pub written : (c : Counts) (v w : Views) → Within c old v w

@@ -1,4 +1,4 @@
--- What is told as the number of the schema.
+-- What is answered as the number of the schema.
 use Rattle.std.specs.Prelude.{◌≡◌, ℕ, codes, Result, IfErr, IfOk, MatchResult}
 use Rattle.sqlite.specs.State.{State, HasCleanDisk}
 use Rattle.pid_moderation.specs.Views.{Views}

@@ -7,7 +7,7 @@ use Rattle.pid_tables_rows.specs.declared.version.Version.TheVariants.{One}
 use Rattle.pid_tables_rows.specs.Leaves.{AtRest, RestsIn}
 use Rattle.pid_tables.specs.Creation.{RestsBare}
 
--- The tables show the history, whatever its mark, which they do not tell; or those of schema 1 show
+-- The tables show the history, whatever its mark, which they do not keep; or those of schema 1 show
 -- it; or there is no table at all, which shows that of a new registry, as does one that a call was
 -- to make there and could not.
 abbrev pub ShowsOrBlank : State → History → Type 0

@@ -5,7 +5,7 @@ ghost use Rattle.pid_tables.specs.Faults.{IsFault, refusal_for};
 use pid_moderation::Refusal;
 use pid_tables_rows::TableFault;
 
-/// Want of memory is told as such, and every other fault as one of the store.
+/// No memory is answered as such, and every other fault as one of the store.
 pub fn refusal_of(fault: TableFault) -> Refusal
     ensures same { result ≡ refusal_for fault }
     ensures fault { IsFault result }

@@ -49,7 +49,7 @@ use pid_tables_rows::{TableFault, Version};
 use sqlite::{Alter, Connection};
 use std::alloc::Global;
 
-/// What stood in a database that was brought to schema 2.
+/// What was in a database that was brought to schema 2.
 #[derive(Clone, Copy, Debug, PartialEq, Eq)]
 pub enum Step {
     /// No table: those of a new registry were made.

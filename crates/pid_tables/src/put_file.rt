@@ -36,9 +36,8 @@ use thiserror::Error;
 ///
 /// - `Body`: the input failed. The tables are as before.
 /// - `Refused`: the import is refused for this reason. The tables are as before.
-/// - `Failed`: memory was short or the store failed within the transaction. Of the tables no more
-///   is known than that what a
-///   crash may leave shows the history before the import, or with it.
+/// - `Failed`: out of memory, or the store failed within the transaction. Of the tables no more is
+///   known than that what a crash may leave shows the history before the import, or with it.
 #[derive(Clone, Copy, Debug, PartialEq, Eq, Error)]
 pub enum Stop {
     #[error("the input failed")]
@@ -181,7 +180,7 @@ pub fn bring_in<S: Alter, I: Input>(
         (EndsImport S.Store conn.new result h (asked command.now (file_reading text)))) }
     ensures read_fault { TellsReadFault result (I.read_fault input.new) }
     ensures goes { I.goes input.old input.new }
-    // Only a registry that has failed is told as such.
+    // Only a registry that has failed is answered as such.
     ensures alive { IfErr result StopIsNotFailed }
 {
     let revision = next_revision(facts);

@@ -209,12 +209,12 @@ impl<S: Alter + Drop> Tables<S> {
         ensures rests { OnlyReads S.Store self.old.conn self.new.conn }
         ensures shut { HasCleanDisk S.Store self.new.conn → is_open S.Store self.old.conn ≡ false
             → MatchResult result (λ x. ⊥) IsMemoryOrStore }
-        // Whatever the schema: what it tells is so of the rows that the queries of the tables
+        // Whatever the schema: what it answers is so of the rows that the queries of the tables
         // answer.
         ensures told { HasCleanDisk S.Store self.new.conn
             → MatchResult result (FindsVersion (seen S.Store self.old.conn))
             (Explains (seen S.Store self.old.conn)) }
-        // Where the tables of a schema were made first, whatever else stands behind them: it finds
+        // Where the tables of a schema were made first, whatever else comes after them: it finds
         // the schema exactly where storage has a registry in it.
         ensures stored { HasCleanDisk S.Store self.new.conn → (schema : Version)
             → IsMadeFirst schema (seen S.Store self.old.conn).schema
@@ -235,8 +235,8 @@ impl<S: Alter + Drop> Tables<S> {
     /// The number of the schema, as the labels have it, and 0 where none of its tables is there,
     /// whatever others are.
     ///
-    /// What the labels have is what the query of the label answers first, whatever stands beside
-    /// its tables; where that is no number of 32 bits, the tables are `Damaged`.
+    /// What the labels have is what the query of the label answers first, whatever is beside its
+    /// tables; where that is no number of 32 bits, the tables are `Damaged`.
     pub fn version(&mut self) -> Result<u32, TableFault>
         requires { self.old.conn.in_transaction ≡ false }
         ensures rests { OnlyReads S.Store self.old.conn self.new.conn }

@@ -1,12 +1,14 @@
--- What the whole check tells.
+-- What the whole check answers.
 use Rattle.std.specs.Prelude.{Option, Some, None}
 use Rattle.sqlite.specs.Effect.{Database}
 use Rattle.pid_tables_rows.specs.declared.version.Version.{Version}
 use Rattle.pid_tables_rows.specs.declared.fault.TableFault.{TableFault}
-use Rattle.pid_tables_rows.specs.declared.fault.TableFault.TheVariants.{Memory, Store, NewerSchema, Damaged}
+use Rattle.pid_tables_rows.specs.declared.fault.TableFault.TheVariants.{Memory, Store, NewerSchema}
+use Rattle.pid_tables_rows.specs.declared.fault.TableFault.TheVariants.{Damaged}
 use Rattle.pid_tables_check.specs.Conditions.{Rows, rows_in, AreOfRegistry}
 use Rattle.pid_tables_check.specs.Queries.{query_of}
-use Rattle.pid_tables_check.specs.Shapes.{HasTables, HasSomeTable, HasNoTable, CanBeAsked, ShowsTables, ShowsLater}
+use Rattle.pid_tables_check.specs.Shapes.{HasTables, HasSomeTable, HasNoTable, CanBeAsked}
+use Rattle.pid_tables_check.specs.Shapes.{ShowsTables, ShowsLater}
 use Rattle.pid_tables_check.specs.declared.shape.Table.TheVariants.{Meta}
 
 -- the rows that the tables of a schema show are those of a registry, or are not
@@ -16,14 +18,15 @@ ShowsRegistry version db = (t : Rows) × ShowsTables version db t × AreOfRegist
 abbrev pub ShowsDamage : Version → Database → Type 0
 ShowsDamage version db = (t : Rows) × ShowsTables version db t × ¬ (AreOfRegistry version t)
 
--- A database of which nothing is there is told as none. One in a schema has its tables, which show
+-- A database of which nothing is there is none. One in a schema has its tables, which show
 -- a registry, and no later schema.
 abbrev pub FindsVersion : Database → Option Version → Type 0
 FindsVersion db None = HasNoTable db.schema
-FindsVersion db (Some found) = HasTables found db.schema × ShowsRegistry found db × ShowsLater db None
+FindsVersion db (Some found) = HasTables found db.schema × ShowsRegistry found db
+    × ShowsLater db None
 
--- A later schema is judged before all else. Damaged is told where there is some table, and where
--- the tables of a schema are there, of rows that are not a registry's.
+-- A later schema is judged before all else. Damaged is answered where there is some table, and
+-- where the tables of a schema are there, of rows that are not a registry's.
 abbrev pub Explains : Database → TableFault → Type 0
 Explains db Memory = Unit {0}
 Explains db Store = Unit {0}

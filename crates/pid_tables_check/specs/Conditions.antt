@@ -1,5 +1,6 @@
 -- When the rows of the tables are what some registry kept: choices of this project.
-use Rattle.std.specs.Prelude.{◌≡◌, ◌≢◌, ℕ, suc, ◌+◌, ◌≤◌, ◌<◌, true, false, List, [], ◌∷◌, length, map, Some, codes}
+use Rattle.std.specs.Prelude.{◌≡◌, ◌≢◌, ℕ, suc, ◌+◌, ◌≤◌, ◌<◌, true, false, List, [], ◌∷◌, length}
+use Rattle.std.specs.Prelude.{map, Some, codes}
 use Rattle.sqlite.specs.declared.types.Value.{Value}
 use Rattle.sqlite.specs.declared.types.Value.TheVariants.{Text}
 use Rattle.sqlite.specs.Order.{Row, column}
@@ -12,7 +13,8 @@ use Rattle.pid_ident.specs.Words.{is_account, is_key, is_name, is_text}
 use Rattle.pid_moderation.specs.declared.command.Reply.{Reply}
 use Rattle.pid_moderation.specs.declared.command.Reply.TheVariants.{Done, Numbered, Counts}
 use Rattle.pid_moderation.specs.declared.facts.State.{State}
-use Rattle.pid_moderation.specs.declared.facts.State.TheVariants.{Pending, Approved, Rejected, Withdrawn}
+use Rattle.pid_moderation.specs.declared.facts.State.TheVariants.{Pending, Approved, Rejected}
+use Rattle.pid_moderation.specs.declared.facts.State.TheVariants.{Withdrawn}
 use Rattle.pid_moderation.specs.CheckTables.{most_items, most_remarks}
 use Rattle.pid_moderation.specs.CheckTables.{most_revision}
 use Rattle.pid_moderation.specs.WellMade.{ProposesName}
@@ -20,7 +22,8 @@ use Rattle.pid_tables_rows.specs.declared.version.Version.{Version}
 use Rattle.pid_tables_rows.specs.declared.version.Version.TheVariants.{One, Two}
 use Rattle.pid_tables_rows.specs.Schema.{version_number}
 use Rattle.pid_tables_rows.specs.Schema as tables
-use Rattle.pid_tables_rows.specs.TableRows.{number, reply_kind, first_number, second_number, third_number}
+use Rattle.pid_tables_rows.specs.TableRows.{number, reply_kind, first_number, second_number}
+use Rattle.pid_tables_rows.specs.TableRows.{third_number}
 use Rattle.pid_moderation.specs.Submissions.{Standing}
 use Rattle.pid_tables_rows.specs.Answers.{standing_row}
 

@@ -46,9 +46,10 @@ HasSinceTable schema = CanBeAsked schema any_since
 -- has it with its columns
 abbrev pub HasTables : Version → Schema → Type 0
 HasTables One schema = HasEachTable schema × ¬ (HasSinceTable schema)
-HasTables Two schema = HasEachTable schema × HasSinceTable schema × CanBeAsked schema (query_of Since)
+HasTables Two schema = HasEachTable schema × HasSinceTable schema
+    × CanBeAsked schema (query_of Since)
 
--- the tables of a schema were made first, in their order; whatever else was made stands behind them
+-- the tables of a schema were made first, in their order; whatever else was made comes after them
 abbrev pub IsMadeFirst : Version → Schema → Type 0
 IsMadeFirst version schema = (others : List Stored)
     × (schema.tables ≡ (schema_of version).tables ++ others)

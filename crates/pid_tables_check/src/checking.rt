@@ -5,7 +5,12 @@ ghost use Rattle.pid_tables_rows.specs.Faults.{IsMemoryOrStore};
 ghost use Rattle.pid_tables_rows.specs.declared.version.Version.{Version as Schema};
 ghost use Rattle.pid_tables_rows.specs.Clauses.{GoesOn, HasCleanDisk, OnlyReads, is_open, seen};
 ghost use Rattle.pid_tables_check.specs.declared.shape.Table.TheVariants.{Meta};
-ghost use Rattle.pid_tables_check.specs.Checking.{Explains, FindsVersion, IsRegistry, ShowsRegistry};
+ghost use Rattle.pid_tables_check.specs.Checking.{
+  Explains,
+  FindsVersion,
+  IsRegistry,
+  ShowsRegistry,
+};
 ghost use Rattle.pid_tables_check.specs.Steps.Clauses.{JudgesRows};
 ghost use Rattle.pid_tables_check.specs.Queries.{query_of};
 ghost use Rattle.pid_tables_check.specs.Steps.Reading.{ShowsFound, TellsDamage, TellsLater};
@@ -88,11 +93,12 @@ fn check_whole<S: Alter>(
 /// Which tables are there, it finds out by preparing a query of each table's columns by their
 /// names. Where none can be prepared it answers `None`: there is nothing to be damaged. Where some
 /// can, and not each of a schema, it answers `Damaged`, and so it does where a table `item_since`
-/// of any columns stands beside the six of schema 1. It answers a schema only where all conditions
+/// of any columns is beside the six of schema 1. It answers a schema only where all conditions
 /// of that schema hold of the rows that the queries answer, and `Damaged` only where one of them
 /// fails. A later schema is judged before either, whatever the tables: `NewerSchema` only where the
 /// labels have that greater number, and a schema or `Damaged` only where they have none. It answers
-/// `Memory` and `Store` otherwise, and changes nothing. Other tables, indexes and views are borne.
+/// `Memory` and `Store` otherwise, and changes nothing. Other tables, indexes and views are
+/// allowed.
 pub fn check<S: Alter>(
     conn: &mut Connection<S>,
     alloc: Global,
@@ -101,11 +107,11 @@ pub fn check<S: Alter>(
     ensures rests { OnlyReads S.Store conn.old conn.new }
     ensures shut { HasCleanDisk S.Store conn.new → is_open S.Store conn.old ≡ false
         → MatchResult result (λ x. ⊥) IsMemoryOrStore }
-    // Whatever the schema: what it tells is so of the rows that the queries of the tables answer.
+    // Whatever the schema: what it answers is so of the rows that the queries of the tables answer.
     ensures told { HasCleanDisk S.Store conn.new
         → MatchResult result (FindsVersion (seen S.Store conn.old))
         (Explains (seen S.Store conn.old)) }
-    // Where the tables of a schema were made first, whatever else stands behind them: it finds the
+    // Where the tables of a schema were made first, whatever else comes after them: it finds the
     // schema exactly where storage has a registry in it.
     ensures stored { HasCleanDisk S.Store conn.new → (version : Schema)
         → IsMadeFirst version (seen S.Store conn.old).schema

@@ -103,7 +103,7 @@ fn revision_in(rows: &[Row]) -> Option<u64>
     None
 }
 
-/// The revision that the labels tell, or else 0.
+/// The revision that the labels have, or else 0.
 pub(crate) fn revision_told(rows: &[Row]) -> u64
     ensures limit { result ≤ most_revision }
     ensures told { (n : ℕ) → n ≤ most_revision → Has rows.now (label_row (codes "revision", n))

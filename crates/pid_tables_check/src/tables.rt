@@ -85,7 +85,7 @@ fn read_submitted<S: Alter>(tx: &mut Transaction<'_, S>, alloc: Global) -> Resul
     })
 }
 
-/// Reads and judges the tables of a schema other than `meta`, which tells this revision.
+/// Reads and judges the tables of a schema other than `meta`, which has this revision.
 pub(crate) fn read_tables<S: Alter>(
     tx: &mut Transaction<'_, S>,
     alloc: Global,

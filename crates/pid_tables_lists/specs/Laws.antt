@@ -17,7 +17,7 @@ pending_number s = s.0
 abbrev pub changed_path : Changed → List ℕ
 changed_path item = item.path
 
--- what waits behind the last number of a page is all that the page left out, so that the next page
+-- what waits after the last number of a page is all that the page left out, so that the next page
 -- begins with it
 abbrev pub PendingGoOn : Type 0
 PendingGoOn = (most after : ℕ) (v : Views)
@@ -37,7 +37,7 @@ PendingPagesAreAll = (most count after : ℕ) (v : Views)
     → pages_after pending_number (λ behind. pending_in most behind v) count after
     ≡ waiting_above after v
 
--- what was changed and comes behind the last path of a page is all that the page left out
+-- what was changed and comes after the last path of a page is all that the page left out
 abbrev pub ChangesGoOn : Type 0
 ChangesGoOn = (most since : ℕ) (after : List ℕ) (v : Views) → is_sorted text_cmp v.items ≡ true
     → changed_behind since (last_of changed_path after (changes_in most since after v).items) v
@@ -55,11 +55,11 @@ ChangePagesAreAll = (most since count : ℕ) (after : List ℕ) (v : Views)
     → pages_after changed_path (λ behind. (changes_in most since behind v).items) count after
     ≡ changed_behind since after v
 
--- no page tells more than it holds
+-- no page lists more than it holds
 abbrev pub HoldMostListed : Type 0
 HoldMostListed = (there : ℕ) → most_listed there ≤ PAGE
 
--- a page tells as many as there are, while it holds them: one that is not full is the last
+-- a page lists as many as there are, while it holds them: one that is not full is the last
 abbrev pub PendingMostListed : Type 0
 PendingMostListed = (after : ℕ) (v : Views)
     → length (pending_in PAGE after v) ≡ most_listed (length (waiting_above after v))

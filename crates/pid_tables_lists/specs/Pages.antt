@@ -1,18 +1,18 @@
--- Lists that are told page by page.
+-- Lists that are answered page by page.
 use Rattle.std.specs.Prelude.{ℕ, zero, suc, min, List, [], ◌∷◌, ◌++◌}
 use Rattle.pid_moderation.specs.declared.lists.TheConstants.{PAGE}
 
--- how many of so many a page tells: all of them, or as many as it holds
+-- how many of so many a page has: all of them, or as many as it holds
 abbrev pub most_listed : ℕ → ℕ
 most_listed there = min PAGE there
 
--- the key of the last entry of a page, behind which the next one is asked; of a page without
--- entries this one, behind which it was asked
+-- the key of the last entry of a page, after which the next one is asked; of a page without
+-- entries this one, after which it was asked
 abbrev pub last_of : {X K : Type 0} → (X → K) → K → List X → K
 last_of key asked [] = asked
 last_of key asked (entry ∷ page) = last_of key (key entry) page
 
--- so many pages, each asked behind the last entry of the one before
+-- so many pages, each asked after the last entry of the one before
 abbrev pub pages_after : {X K : Type 0} → (X → K) → (K → List X) → ℕ → K → List X
 pages_after key page zero asked = []
 pages_after key page (suc count) asked = page asked ++ pages_after key page count

@@ -1,4 +1,4 @@
-//! Pages of the items that were named anew.
+//! Pages of the items that were added or renamed.
 ghost use Rattle.std.specs.Prelude.{
   ◌≡◌,
   ◌∷◌,
@@ -161,7 +161,7 @@ fn start_of(alloc: Global, after: Option<&Path>) -> Result<String, AllocError>
 
 /// The first items whose last change has a number above this one and whose paths come after that
 /// path, at most a page of them, in the canonical order. Without a path the page begins with the
-/// first item. Items that were removed are not told. Items without such a change are passed over,
+/// first item. Items that were removed are not listed. Items without such a change are passed over,
 /// row by row.
 pub fn changes_page<S: Alter>(
     conn: &mut Connection<S>,

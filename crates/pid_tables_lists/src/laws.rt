@@ -9,7 +9,7 @@ ghost use Rattle.pid_tables_lists.specs.Laws.{
 };
 ghost use Rattle.pid_tables_lists.specs.Laws.{HoldMostListed, PendingMostListed, ChangesMostListed};
 
-/// The next page of pending submissions, asked behind the last number of a page, begins with what
+/// The next page of pending submissions, asked after the last number of a page, begins with what
 /// that page left out.
 pub fn pending_go_on()
     ensures next { PendingGoOn }
@@ -19,7 +19,7 @@ pub fn pending_go_on()
     ensures whole { PendingPagesAreAll }
 {}
 
-/// The next page of changes, asked behind the last path of a page, begins with what that page left
+/// The next page of changes, asked after the last path of a page, begins with what that page left
 /// out, while the items are in the order of their paths, as those of every history are.
 pub fn changes_go_on()
     ensures next { ChangesGoOn }

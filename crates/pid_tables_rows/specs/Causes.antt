@@ -8,13 +8,15 @@ use Rattle.pid_ident.specs.Words.{is_account, is_text}
 use Rattle.pid_moderation.specs.declared.command.Reply.{Reply}
 use Rattle.pid_moderation.specs.declared.command.Reply.TheVariants.{Done, Numbered, Counts}
 use Rattle.pid_moderation.specs.declared.facts.State.{State as Decision}
-use Rattle.pid_moderation.specs.declared.facts.State.TheVariants.{Pending, Approved, Rejected, Withdrawn}
+use Rattle.pid_moderation.specs.declared.facts.State.TheVariants.{Pending, Approved, Rejected}
+use Rattle.pid_moderation.specs.declared.facts.State.TheVariants.{Withdrawn}
 use Rattle.pid_moderation.specs.Views.{Views, Submitted, Remark}
 use Rattle.pid_moderation.specs.WellMade.{AllItems, ProposesName}
 use Rattle.pid_tables_rows.specs.declared.fault.TableFault.{TableFault}
-use Rattle.pid_tables_rows.specs.declared.fault.TableFault.TheVariants.{Memory, Store, NewerSchema, Damaged}
+use Rattle.pid_tables_rows.specs.declared.fault.TableFault.TheVariants.{Memory, Store, NewerSchema}
+use Rattle.pid_tables_rows.specs.declared.fault.TableFault.TheVariants.{Damaged}
 
--- Memory may be short at any time. The store is told of where the disk failed or refused in the
+-- Memory may be short at any time. The store is named where the disk failed or refused in the
 -- call, where a fault had shut the connection before, or where a limit of steps was set. Tables
 -- that show views are of this schema and undamaged.
 abbrev pub IsCaused : State → State → TableFault → Type 0

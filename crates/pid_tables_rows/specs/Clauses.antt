@@ -106,7 +106,7 @@ module _ {S : Type 0} (store : Ghosts S) where
       → Type 0
   Tells old new result Says = leaves.Tells (state store old) (state store new) result Says
 
-  -- a read: it only reads, and tells what it says of the views that were at rest
+  -- a read: it only reads, and this is so of its answer and the views that were at rest
   pub record Reads {X : Type 0} (old new : Held S) (result : Result X TableFault)
       (Says : Views → X → Type 0) : Type 0 where
     pub rests : OnlyReads old new

@@ -1,4 +1,4 @@
--- What a fault of the database is told as: a choice of this project.
+-- What a fault of the database is answered as: a choice of this project.
 use Rattle.std.specs.Prelude.{ℕ}
 use Rattle.sqlite.specs.declared.error.Error.{Error}
 use Rattle.sqlite.specs.declared.error.Error.TheVariants.{SqliteFailure, SqlInputError}
@@ -9,7 +9,8 @@ use Rattle.sqlite_resolve.specs.declared.error.CompileError.TheVariants as compi
 use Rattle.pid_file.specs.declared.word_fault.WordFault.{WordFault}
 use Rattle.pid_file.specs.declared.word_fault.WordFault.TheVariants as words
 use Rattle.pid_tables_rows.specs.declared.fault.TableFault.{TableFault}
-use Rattle.pid_tables_rows.specs.declared.fault.TableFault.TheVariants.{Memory, Store, NewerSchema, Damaged}
+use Rattle.pid_tables_rows.specs.declared.fault.TableFault.TheVariants.{Memory, Store, NewerSchema}
+use Rattle.pid_tables_rows.specs.declared.fault.TableFault.TheVariants.{Damaged}
 
 -- the number of a fault: a choice of this project
 abbrev pub table_fault_number : TableFault → ℕ
@@ -18,7 +19,7 @@ table_fault_number Store = 2
 table_fault_number (NewerSchema n) = 3
 table_fault_number Damaged = 4
 
--- Memory was short; or the tables or their values are not those of the schema; else the store
+-- There was no memory; or the tables or their values are not those of the schema; else the store
 -- failed or refused.
 abbrev pub fault_of_sql : Error → TableFault
 fault_of_sql (SqliteFailure OutOfMemory) = Memory
@@ -35,14 +36,14 @@ abbrev pub fault_of_word : WordFault → TableFault
 fault_of_word words.Bad = Damaged
 fault_of_word words.Memory = Memory
 
--- nothing is told of the rows: memory was short, or the store failed or refused
+-- nothing is said of the rows: there was no memory, or the store failed or refused
 abbrev pub IsMemoryOrStore : TableFault → Type 0
 IsMemoryOrStore Memory = Unit {0}
 IsMemoryOrStore Store = Unit {0}
 IsMemoryOrStore (NewerSchema n) = ⊥
 IsMemoryOrStore Damaged = ⊥
 
--- it tells of no later schema
+-- it reports no later schema
 abbrev pub IsNotNewerSchema : TableFault → Type 0
 IsNotNewerSchema Memory = Unit {0}
 IsNotNewerSchema Store = Unit {0}

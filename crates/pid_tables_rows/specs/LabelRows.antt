@@ -10,7 +10,8 @@ use Rattle.sqlite.specs.declared.types.Value.TheVariants.{Text}
 use Rattle.sqlite_resolve.specs.declared.compiled.Compiled.{Compiled}
 use Rattle.sqlite_rules.specs.Lists.{Has}
 use Rattle.pid_tables_rows.specs.declared.fault.TableFault.{TableFault}
-use Rattle.pid_tables_rows.specs.declared.fault.TableFault.TheVariants.{Memory, Store, NewerSchema, Damaged}
+use Rattle.pid_tables_rows.specs.declared.fault.TableFault.TheVariants.{Memory, Store, NewerSchema}
+use Rattle.pid_tables_rows.specs.declared.fault.TableFault.TheVariants.{Damaged}
 use Rattle.pid_tables_rows.specs.Schema.{meta}
 use Rattle.pid_tables_rows.specs.TableRows.{number}
 use Rattle.pid_tables_rows.specs.Unread.{IsNumber}
@@ -39,7 +40,7 @@ ShowsNoNumber db label =
     ⊎ ((rows : List Row) × ShowsValues db label rows
     × ((first : Row) → slice_get rows 0 ≡ Some first → ¬ (IsNumber (column first 0))))
 
--- the table meta was made first, with its columns; whatever else was made stands behind it
+-- the table meta was made first, with its columns; whatever else was made comes after it
 abbrev pub IsMetaFirst : Schema → Type 0
 IsMetaFirst schema = (others : List Table) × (schema.tables ≡ meta ∷ others)
 
@@ -53,13 +54,13 @@ abbrev pub LacksNumber : Trees → List ℕ → Type 0
 LacksNumber db label = ((r : Row) → Has (db meta.tree) r → ¬ (column r 1 ≡ Text label))
     ⊎ ((r : Row) × Has (db meta.tree) r × (column r 1 ≡ Text label) × ¬ (IsNumber (column r 2)))
 
--- memory was short, or the store failed or refused; else it is Damaged, and this is so
+-- there was no memory, or the store failed or refused; else it is Damaged, and this is so
 abbrev pub IsDamageOf : Type 0 → TableFault → Type 0
 IsDamageOf This Memory = Unit {0}
 IsDamageOf This Store = Unit {0}
 IsDamageOf This (NewerSchema n) = ⊥
 IsDamageOf This Damaged = This
 
--- why the number of a label is not told: it is Damaged where there is none, and nowhere else
+-- why the number of a label is not answered: it is Damaged where there is none, and nowhere else
 abbrev pub ExplainsNumber : Trees → List ℕ → TableFault → Type 0
 ExplainsNumber db label fault = IsDamageOf (LacksNumber db label) fault

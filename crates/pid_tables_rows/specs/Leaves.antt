@@ -31,7 +31,8 @@ use Rattle.pid_tables_rows.specs.Causes.{IsCaused, IsReadable}
 use Rattle.pid_tables_rows.specs.declared.version.Version.{Version}
 use Rattle.pid_tables_rows.specs.declared.version.Version.TheVariants.{One}
 use Rattle.pid_tables_rows.specs.Schema.{schema_of, pid_schema}
-use Rattle.pid_tables_rows.specs.Shows.{Counts, ShowsKeeping, ShowsIn, ShowsCounting, Shows, numbers_in}
+use Rattle.pid_tables_rows.specs.Shows.{Counts, ShowsKeeping, ShowsIn, ShowsCounting, Shows}
+use Rattle.pid_tables_rows.specs.Shows.{numbers_in}
 
 -- trees as an open finds them, with the schema that they list
 abbrev pub found_in : Schema → Trees → Database
@@ -114,8 +115,8 @@ abbrev pub recounting : (Counts → Counts) → Turn
 recounting recount = record { IsFor = λ c v. Unit {0}; recount = recount; next = λ v. v }
 
 -- Where the transaction shows what the turn is for, the call answers a value only with the
--- transaction showing what comes next, and a fault only where memory was short or the store failed
--- or refused.
+-- transaction showing what comes next, and a fault only where there is no memory or the store
+-- failed or refused.
 abbrev pub LeadsTo : {X : Type 0} → State → State → Result X TableFault → Turn → Type 0
 LeadsTo old new result turn =
     HasCleanDisk new → IsTrue old.in_transaction → (c : Counts) (v : Views)
@@ -123,8 +124,8 @@ LeadsTo old new result turn =
     → MatchResult result (λ _. ShowsCounting (turn.recount c) new.now (turn.next v)) IsMemoryOrStore
 
 -- Where the transaction, while it is open, shows views in schema 1, it answers a value only with it
--- showing the same in schema 2, and a fault only for want of memory, or where the store failed or
--- refused.
+-- showing the same in schema 2, and a fault only where there is no memory, or where the store
+-- failed or refused.
 abbrev pub Moves : {X : Type 0} → State → State → Result X TableFault → Type 0
 Moves old new result =
     HasCleanDisk new → IsTrue old.in_transaction → (c : Counts) (v : Views)
@@ -146,7 +147,7 @@ pub record OnlyReads (old new : State) : Type 0 where
   pub same : (d : Database) → RestsOn old d → RestsOn new d
   pub kept : (v : Views) → AtRest old v → AtRest new v
 
--- and tells of the views that were at rest; a fault has a cause where what they hold can be read
+-- and speaks of the views that were at rest; a fault has a cause where what they hold can be read
 abbrev pub Tells : {X : Type 0} → State → State → Result X TableFault → (Views → X → Type 0)
     → Type 0
 Tells old new result Says = HasCleanDisk new → (v : Views) → AtRest old v

@@ -17,7 +17,8 @@ use Rattle.sqlite_typing.specs.Types.{accepts_program}
 
 -- a query whose types accept the parameters, and whose sums never overflow
 abbrev pub IsSafeSelect : Schema → Row → Command → Type 0
-IsSafeSelect schema params (Select q names) = (accepts_program schema (lets_of q) q.body params ≡ true)
+IsSafeSelect schema params (Select q names) =
+    (accepts_program schema (lets_of q) q.body params ≡ true)
     × ((db : Trees) → ProgramOverflows db params [] (lets_of q) q.body → ⊥)
 IsSafeSelect schema params _ = ⊥
 
@@ -30,7 +31,8 @@ pub record IsOneStatement (sql : List ℕ) (params : Row) (c : Compiled) : Type 
   pub timeless : c.formats ≡ []
 
 abbrev pub IsQueryAs : Schema → List ℕ → Row → Result Compiled CompileError → Type 0
-IsQueryAs schema sql params (Ok c) = IsOneStatement sql params c × IsSafeSelect schema params c.command
+IsQueryAs schema sql params (Ok c) = IsOneStatement sql params c
+    × IsSafeSelect schema params c.command
 IsQueryAs schema sql params (Err e) = ⊥
 
 -- the text is one query on the tables, and nothing about it is refused

@@ -19,13 +19,20 @@ use Rattle.pid_tables_rows.specs.declared.version.Version.{Version}
 use Rattle.pid_tables_rows.specs.declared.version.Version.TheVariants.{One, Two}
 
 abbrev pub column_of : Kind → List ℕ → Column
-column_of kind name = record { name = name; kind = kind; is_strict = true; not_null = true; default = Null; collation = Binary }
+column_of kind name = record {
+  name = name;
+  kind = kind;
+  is_strict = true;
+  not_null = true;
+  default = Null;
+  collation = Binary;
+}
 
 abbrev pub words : List ℕ → Column
 words = column_of Text
 
-abbrev pub number_column : List ℕ → Column
-number_column = column_of Integer
+abbrev pub numbers : List ℕ → Column
+numbers = column_of Integer
 
 -- a table whose primary key is no rowid
 abbrev pub keyed : List ℕ → ℕ → List Column → List ℕ → List Term → List Reference → Table
@@ -61,10 +68,10 @@ refers at parent column = record {
 }
 
 abbrev pub meta : Table
-meta = keyed (codes "meta") 0 (words (codes "label") ∷ number_column (codes "value") ∷ []) (1 ∷ []) [] []
+meta = keyed (codes "meta") 0 (words (codes "label") ∷ numbers (codes "value") ∷ []) (1 ∷ []) [] []
 
 abbrev pub account : Table
-account = keyed (codes "account") 2 (words (codes "name") ∷ number_column (codes "rank") ∷ []) (1 ∷ [])
+account = keyed (codes "account") 2 (words (codes "name") ∷ numbers (codes "rank") ∷ []) (1 ∷ [])
     (up_to 2 3 ∷ []) []
 
 abbrev pub item : Table
@@ -74,8 +81,8 @@ abbrev pub submission : Table
 submission = record {
   name = codes "submission";
   tree = 6;
-  columns = number_column (codes "num") ∷ words (codes "author") ∷ words (codes "path")
-      ∷ number_column (codes "form") ∷ words (codes "name") ∷ words (codes "note") ∷ number_column (codes "state")
+  columns = numbers (codes "num") ∷ words (codes "author") ∷ words (codes "path")
+      ∷ numbers (codes "form") ∷ words (codes "name") ∷ words (codes "note") ∷ numbers (codes "state")
       ∷ words (codes "decider") ∷ words (codes "reason") ∷ [];
   key = Some 0;
   primary = 0 ∷ [];
@@ -89,14 +96,14 @@ submission = record {
 }
 
 abbrev pub remark : Table
-remark = keyed (codes "remark") 7 (number_column (codes "num") ∷ number_column (codes "seq")
+remark = keyed (codes "remark") 7 (numbers (codes "num") ∷ numbers (codes "seq")
     ∷ words (codes "author") ∷ words (codes "body") ∷ []) (1 ∷ 2 ∷ []) []
     (refers 1 (codes "submission") (codes "num") ∷ refers 3 (codes "account") (codes "name") ∷ [])
 
 abbrev pub receipt : Table
 receipt = keyed (codes "receipt") 9
-    (words (codes "account") ∷ words (codes "token") ∷ number_column (codes "kind") ∷ number_column (codes "a")
-    ∷ number_column (codes "b") ∷ number_column (codes "c") ∷ []) (1 ∷ 2 ∷ []) []
+    (words (codes "account") ∷ words (codes "token") ∷ numbers (codes "kind") ∷ numbers (codes "a")
+    ∷ numbers (codes "b") ∷ numbers (codes "c") ∷ []) (1 ∷ 2 ∷ []) []
     (refers 1 (codes "account") (codes "name") ∷ [])
 
 -- the row goes with the item that it refers to
@@ -105,7 +112,7 @@ to_item = record (refers 1 (codes "item") (codes "path")) { on_delete = Cascade 
 
 -- for each item the number of the last change of its name
 abbrev pub item_since : Table
-item_since = keyed (codes "item_since") 11 (words (codes "path") ∷ number_column (codes "since") ∷ [])
+item_since = keyed (codes "item_since") 11 (words (codes "path") ∷ numbers (codes "since") ∷ [])
     (1 ∷ []) [] (to_item ∷ [])
 
 -- the number of a schema, as meta has it
@@ -113,7 +120,7 @@ abbrev pub version_number : Version → ℕ
 version_number One = 1
 version_number Two = 2
 
--- what a schema has behind the six tables and their indexes
+-- what a schema has after the six tables and their indexes
 abbrev pub more_tables : Version → List Table
 more_tables One = []
 more_tables Two = item_since ∷ []

@@ -1,5 +1,5 @@
 -- When a database shows what a history shows: its rows are exactly the views of the history, and no
--- row tells a command.
+-- row keeps a command.
 use Rattle.std.specs.Prelude.{◌≡◌, ℕ, zero, suc, true, List, length, slice_get, Option, Some, None}
 use Rattle.std.specs.Prelude.{option_map, if◌then◌else◌, codes}
 use Rattle.std.specs.Str.{bytes_eq}

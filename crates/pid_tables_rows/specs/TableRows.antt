@@ -10,7 +10,8 @@ use Rattle.pid_moderation.specs.declared.command.Proposal.TheVariants.{Name, Rem
 use Rattle.pid_moderation.specs.declared.command.Reply.{Reply}
 use Rattle.pid_moderation.specs.declared.command.Reply.TheVariants.{Done, Numbered, Counts}
 use Rattle.pid_moderation.specs.declared.facts.State.{State}
-use Rattle.pid_moderation.specs.declared.facts.State.TheVariants.{Pending, Approved, Rejected, Withdrawn}
+use Rattle.pid_moderation.specs.declared.facts.State.TheVariants.{Pending, Approved, Rejected}
+use Rattle.pid_moderation.specs.declared.facts.State.TheVariants.{Withdrawn}
 use Rattle.pid_moderation.specs.declared.rank.Rank.{Rank}
 use Rattle.pid_moderation.specs.Ranks.{rank_number}
 use Rattle.pid_moderation.specs.Submissions.{Standing, decider_of, reason_of}

@@ -7,13 +7,14 @@ use Rattle.pid_moderation.specs.declared.facts.State.{State}
 use Rattle.pid_moderation.specs.Views.{Remark}
 use Rattle.pid_moderation.specs.WellMade.{IsItem}
 use Rattle.pid_tables_rows.specs.declared.fault.TableFault.{TableFault}
-use Rattle.pid_tables_rows.specs.declared.fault.TableFault.TheVariants.{Memory, Store, NewerSchema, Damaged}
+use Rattle.pid_tables_rows.specs.declared.fault.TableFault.TheVariants.{Memory, Store, NewerSchema}
+use Rattle.pid_tables_rows.specs.declared.fault.TableFault.TheVariants.{Damaged}
 use Rattle.pid_tables_rows.specs.Answers.{standing_row}
 use Rattle.pid_tables_rows.specs.Causes.{IsReadableSubmission, IsReadableState, IsReadableRemark}
 use Rattle.pid_tables_rows.specs.TableRows.{number}
 use Rattle.pid_moderation.specs.Submissions.{Standing}
 
--- Memory was short, or the row is not written as one of these is.
+-- There was no memory, or the row is not written as one of these is.
 abbrev pub IsUnreadable : Type 0 → TableFault → Type 0
 IsUnreadable Written Memory = Unit {0}
 IsUnreadable Written Store = ⊥

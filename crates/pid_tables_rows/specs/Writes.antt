@@ -29,7 +29,7 @@ without_item path v = record v {
       (λ k. not (eq_by_cmp text_cmp path k)) v.items;
 }
 
--- one more submission behind the others
+-- one more submission after the others
 abbrev pub with_submission : Submitted → Views → Views
 with_submission s v = record v { submits = v.submits ++ s ∷ [] }
 
@@ -37,7 +37,7 @@ with_submission s v = record v { submits = v.submits ++ s ∷ [] }
 abbrev pub with_state : ℕ → State → Views → Views
 with_state number state v = record v { state = λ n. if n == number then state else v.state n }
 
--- one more remark on a submission, behind the others
+-- one more remark on a submission, after the others
 abbrev pub with_remark : ℕ → Remark → Views → Views
 with_remark number remark v = record v {
   remarks = λ n. if n == number then v.remarks n ++ remark

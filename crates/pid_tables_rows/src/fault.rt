@@ -11,7 +11,7 @@ use thiserror::Error;
 
 /// Why a call on the tables gives no answer. Whatever it is, the tables keep what was committed.
 ///
-/// - `Memory`: memory was short. The same call may succeed later.
+/// - `Memory`: out of memory. The same call may succeed later.
 /// - `Store`: the disk failed or refused, an earlier fault has shut the connection, the
 ///   connection's limit of steps was met,
 /// or the database refused the statement: a key that is there twice, a row that another needs, or a

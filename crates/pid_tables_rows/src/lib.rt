@@ -1,5 +1,5 @@
 //! The rows of a registry's tables in a SQLite database: one statement at a time, each on one
-//! table. An item and the number of its last change stand in two tables, and one call writes both.
+//! table. An item and the number of its last change are in two tables, and one call writes both.
 //!
 //! The tables are of schema 2. `moving` makes tables of schema 1 such.
 //!

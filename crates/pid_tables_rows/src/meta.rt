@@ -192,7 +192,7 @@ pub fn schema_number<S: Alter>(conn: &mut Connection<S>) -> Result<u32, TableFau
     ensures shown { HasCleanDisk S.Store conn.new
         → MatchResult result (ShowsNumber (seen S.Store conn.old) (codes "schema"))
         (IsDamageOf (ShowsNoNumber (seen S.Store conn.old) (codes "schema"))) }
-    // The same by what storage has, where the table was made first, whatever stands behind it.
+    // The same by what storage has, where the table was made first, whatever comes after it.
     ensures stored { HasCleanDisk S.Store conn.new → IsMetaFirst (seen S.Store conn.old).schema
         → MatchResult result (HasLabel (seen S.Store conn.old).trees (codes "schema"))
         (ExplainsNumber (seen S.Store conn.old).trees (codes "schema")) }

@@ -16,7 +16,7 @@ use sqlite::types::ToSql;
 use sqlite::{Alter, Connection, Row, Transaction};
 use std::alloc::Global;
 
-/// Adds a remark behind the last one on its submission. `number` is the submission's, and `place`
+/// Adds a remark after the last one on its submission. `number` is the submission's, and `place`
 /// one more than its remarks are so far: they count from 1. A submission or an author that is not
 /// there is refused with `Store`.
 pub fn add_remark<S: Alter>(

@@ -86,7 +86,7 @@ fn insert_submission<'x, S: Alter>(
     )
 }
 
-/// Adds a pending submission behind the last one. `number` is one more than the submissions are so
+/// Adds a pending submission after the last one. `number` is one more than the submissions are so
 /// far: they count from 1. A number that is taken, or an author that is not there, is refused with
 /// `Store`.
 pub fn add_submission<S: Alter>(

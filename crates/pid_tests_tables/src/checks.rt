@@ -1,5 +1,5 @@
-//! Databases made by statements of these tests, and what the check answers of them. What it means is in its contract: the
-//! tests show that it answers so where there is memory.
+//! Databases made by statements of these tests, and what the check answers of them. What it means
+//! is in its contract: the tests show that it answers so where there is memory.
 use pid_model::rows::OLDER;
 use pid_tables::{Step, Tables, create, migrate};
 use pid_tables_check::check;
@@ -35,7 +35,8 @@ const DAMAGES: [&str; 15] = [
     "DELETE FROM meta WHERE label = 'schema'",
     "UPDATE meta SET value = 0 WHERE label = 'schema'",
     "INSERT INTO meta VALUES ('other', 0)",
-    "INSERT INTO account VALUES ('sue', 3); UPDATE submission SET decider = 'sue' WHERE num = 1; DELETE FROM account WHERE name = 'root'",
+    "INSERT INTO account VALUES ('sue', 3); UPDATE submission SET decider = 'sue' WHERE num = 1; \
+        DELETE FROM account WHERE name = 'root'",
     "UPDATE account SET rank = 2 WHERE name = 'root'",
     "UPDATE item SET name = '' WHERE path = 'PC/8086'",
     "UPDATE submission SET num = 3 WHERE num = 2; UPDATE receipt SET a = 3",
@@ -75,10 +76,12 @@ const SECOND_CHANGES: [&str; 4] = [
     "UPDATE meta SET value = 9000000000000000000 WHERE label = 'revision'",
     "UPDATE item_since SET since = 3",
     "DELETE FROM item WHERE path = 'PC/8086/1237'; UPDATE meta SET value = 1 WHERE label = 'items'",
-    "INSERT INTO item VALUES ('PC/10ec', 'Realtek'); INSERT INTO item_since VALUES ('PC/10ec', 2); UPDATE meta SET value = 3 WHERE label = 'items'",
+    "INSERT INTO item VALUES ('PC/10ec', 'Realtek'); INSERT INTO item_since VALUES ('PC/10ec', 2); \
+        UPDATE meta SET value = 3 WHERE label = 'items'",
 ];
 
-// What stands beside the tables, before them, between the schemas, and behind: a table, an index, a view.
+// What is beside the tables, before them, between the schemas, and after: a table, an index, a
+// view.
 const BESIDE: [(&str, &str, &str); 5] = [
     ("", "", "CREATE TABLE other (x INTEGER)"),
     ("", "", "CREATE INDEX by_name ON item (name)"),
@@ -103,7 +106,7 @@ fn made(alloc: Global, texts: &[&str]) -> Result<Connection<MemStore>, TableFaul
     Ok(conn)
 }
 
-// What a database is told as.
+// What a database is answered as.
 #[derive(Clone, Copy, Debug, PartialEq, Eq)]
 enum Told {
     NoTable,
@@ -111,7 +114,7 @@ enum Told {
     Refused(TableFault),
 }
 
-// What the check tells of a database; or a fault that tells nothing of it.
+// What the check says of a database; or a fault that says nothing of it.
 fn checked(conn: &mut Connection<MemStore>, alloc: Global) -> Result<Told, TableFault> {
     if !conn.is_autocommit() {
         return Err(TableFault::Store);
@@ -125,7 +128,7 @@ fn checked(conn: &mut Connection<MemStore>, alloc: Global) -> Result<Told, Table
     }
 }
 
-// What it tells of the database that the texts make; or a fault that came before.
+// What it says of the database that the texts make; or a fault that came before.
 fn judged(alloc: Global, texts: &[&str]) -> Result<Told, TableFault> {
     let mut conn = made(alloc, texts)?;
     checked(&mut conn, alloc)

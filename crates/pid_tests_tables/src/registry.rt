@@ -1,5 +1,5 @@
-//! A registry written and read back. What each call means is in its contract: the tests show that the calls succeed where
-//! there is memory, and that the texts of rows are those of SQLite.
+//! A registry written and read back. What each call means is in its contract: the tests show that
+//! the calls succeed where there is memory, and that the texts of rows are those of SQLite.
 use pid_ident::{Account, Key, Path, PathText};
 use pid_moderation::{
     Change, Command, Facts, Rank, Reply, Rows, Verb, command_of, decide, needs, reply_line,
@@ -221,7 +221,8 @@ fn commands_are_carried_out(rt: HostRuntime) -> Result<(), Fail> {
     Ok(())
 }
 
-// The items that were named anew since a revision, the number of the last of them, and the revision now.
+// The items that were added or renamed since a revision, the number of the last of them, and the
+// revision now.
 fn changed(
     tables: &mut Tables<MemStore>,
     alloc: Global,
@@ -281,7 +282,7 @@ comment bob num=8 text=one
 comment root num=8 text=two
 comment bob num=6 text=other";
 
-// Writes items down until it has taken so many; then it refuses, and tells where.
+// Writes items down until it has taken so many; then it refuses, and says where.
 #[derive(Drop)]
 struct Writer {
     told: String,
@@ -315,7 +316,7 @@ fn write_down(told: &mut String, alloc: Global, path: Path, name: &str) -> Resul
     Ok(())
 }
 
-// What a sink that takes so many items was told, and where it refused, 0 for nowhere.
+// What a sink that takes so many items was handed, and where it refused, 0 for nowhere.
 fn walk(
     tables: &mut Tables<MemStore>,
     alloc: Global,

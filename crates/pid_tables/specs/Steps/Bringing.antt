@@ -1,4 +1,4 @@
--- What stands in a database that is to be brought to schema 2, and which step that takes.
+-- What is in a database that is to be brought to schema 2, and which step that takes.
 use Rattle.std.specs.Prelude.{◌≡◌, Bool, true, false, Option, None, Some}
 use Rattle.std.specs.Prelude.{Result, IfOk, MatchResult}
 use Rattle.sqlite.specs.Effect.{Database}
@@ -34,7 +34,7 @@ step_for None = Created
 step_for (Some One) = Moved
 step_for (Some Two) = Already
 
--- What stands in the database.
+-- What is in the database.
 pub data IsStanding (db : Database) (found : Option Version) : Type 0 where
   -- labels that name schema 2 are believed
   Named : found ≡ Some Two → NamesLatest db → IsStanding db found

@@ -41,8 +41,8 @@ pub record Creates (so_far : List Table) (text : List ℕ) (table : Table) : Typ
   pub alone : lacks_sequence (created (making so_far) (record table { tree = 0 })) ≡ false
 
 -- A step of the making, inside a transaction: where the first of these are made it answers a value
--- only with the others made, and a fault only for want of memory, or where the store failed or
--- refused.
+-- only with the others made, and a fault only where there is no memory, or where the store failed
+-- or refused.
 abbrev pub Makes : {X : Type 0} → State → State → Result X TableFault → List Table → List Table
     → Type 0
 Makes old new result before after = HasCleanDisk new → IsTrue old.in_transaction

@@ -10,7 +10,8 @@ use Rattle.sqlite.specs.Order.{Row, column}
 use Rattle.sqlite_rules.specs.Lists.{Has}
 use Rattle.pid_moderation.specs.CheckTables.{most_items}
 use Rattle.pid_moderation.specs.declared.command.Reply.{Reply}
-use Rattle.pid_tables_rows.specs.TableRows.{number, reply_kind, first_number, second_number, third_number}
+use Rattle.pid_tables_rows.specs.TableRows.{number, reply_kind, first_number, second_number}
+use Rattle.pid_tables_rows.specs.TableRows.{third_number}
 use Rattle.pid_tables_check.specs.Conditions.{IsOwn}
 
 -- by the number and then by the author
@@ -19,7 +20,8 @@ author_cmp x y = ordering_then (nat_cmp x.0 y.0) (string_cmp x.1 y.1)
 
 -- some submission has the number and the author
 abbrev pub IsByAuthor : List Row → ℕ → List ℕ → Type 0
-IsByAuthor rows n author = (r : Row) × Has rows r × (column r 0 ≡ number n) × (column r 1 ≡ Text author)
+IsByAuthor rows n author = (r : Row) × Has rows r × (column r 0 ≡ number n)
+    × (column r 1 ≡ Text author)
 
 -- the set has exactly the numbers and authors of the rows
 abbrev pub AreAuthorsOf : BTreeSet (ℕ × String Global) → List Row → Type 0
@@ -29,7 +31,8 @@ AreAuthorsOf authors rows = (q : ℕ × String Global) → IsUtf8 (string_bytes 
 -- the row has a reply that is the account's own
 abbrev pub HasReply : List Row → Row → List ℕ → Type 0
 HasReply submissions r account =
-    (reply : Reply) × (column r 2 ≡ number (reply_kind reply)) × (column r 3 ≡ number (first_number reply))
+    (reply : Reply) × (column r 2 ≡ number (reply_kind reply))
+    × (column r 3 ≡ number (first_number reply))
     × (column r 4 ≡ number (second_number reply)) × (column r 5 ≡ number (third_number reply))
     × IsOwn submissions account reply
 

@@ -17,7 +17,8 @@ module _ {S : Type 0} (store : Ghosts S) where
       (state store new) result Has Says Fails
 
   abbrev pub AnswersTable : Held S → Held S → Result (Vec Row Global) TableFault → List ℕ → Type 0
-  AnswersTable old new result text = reading.AnswersTable (state store old) (state store new) result text
+  AnswersTable old new result text = reading.AnswersTable (state store old) (state store new)
+      result text
 
   abbrev pub KeepsTable : {X : Type 0} → Held S → Held S → Result X TableFault → Table
       → (List Row → X → Type 0) → Type 0

@@ -12,7 +12,8 @@ use Rattle.pid_tables_check.specs.declared.item.Items.{Items}
 use Rattle.pid_tables_check.specs.declared.submission.Submissions.{Submissions}
 use Rattle.pid_tables_check.specs.declared.tables.Part.{Part}
 use Rattle.pid_tables_check.specs.declared.tables.Judged.{Judged}
-use Rattle.pid_tables_check.specs.declared.shape.Table.TheVariants.{Meta, Account, Item, Submission, Receipt}
+use Rattle.pid_tables_check.specs.declared.shape.Table.TheVariants.{Meta, Account, Item, Submission}
+use Rattle.pid_tables_check.specs.declared.shape.Table.TheVariants.{Receipt}
 use Rattle.pid_tables_check.specs.Steps.AuthorSets.{AreAuthorsOf}
 use Rattle.pid_tables_check.specs.Steps.NameSets.{AreNamesOf}
 use Rattle.pid_tables_check.specs.Steps.PathSets.{ArePathsOf}

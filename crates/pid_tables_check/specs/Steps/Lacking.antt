@@ -1,8 +1,9 @@
--- What is told of a database that lacks a table.
+-- What is answered of a database that lacks a table.
 use Rattle.std.specs.Prelude.{Some, None}
 use Rattle.sqlite.specs.Effect.{Database}
 use Rattle.pid_tables_rows.specs.declared.fault.TableFault.{TableFault}
-use Rattle.pid_tables_rows.specs.declared.fault.TableFault.TheVariants.{Memory, Store, NewerSchema, Damaged}
+use Rattle.pid_tables_rows.specs.declared.fault.TableFault.TheVariants.{Memory, Store, NewerSchema}
+use Rattle.pid_tables_rows.specs.declared.fault.TableFault.TheVariants.{Damaged}
 use Rattle.pid_tables_check.specs.declared.shape.Table.TheVariants.{Meta}
 use Rattle.pid_tables_check.specs.Queries.{query_of}
 use Rattle.pid_tables_check.specs.Shapes.{CanBeAsked, ShowsLater}

@@ -9,7 +9,8 @@ use Rattle.pid_ident.specs.PathTexts.{IsPath}
 use Rattle.pid_ident.specs.Words.{is_text}
 use Rattle.pid_moderation.specs.WellMade.{ProposesName}
 use Rattle.pid_moderation.specs.declared.facts.State.{State}
-use Rattle.pid_moderation.specs.declared.facts.State.TheVariants.{Pending, Approved, Rejected, Withdrawn}
+use Rattle.pid_moderation.specs.declared.facts.State.TheVariants.{Pending, Approved, Rejected}
+use Rattle.pid_moderation.specs.declared.facts.State.TheVariants.{Withdrawn}
 use Rattle.pid_tables_rows.specs.TableRows.{number, state_number}
 use Rattle.pid_moderation.specs.Submissions.{Standing, decider_of, reason_of}
 use Rattle.pid_tables_rows.specs.Answers.{standing_row}

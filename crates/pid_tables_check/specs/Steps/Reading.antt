@@ -1,4 +1,4 @@
--- What calls in a transaction tell of the rows that the transaction shows.
+-- What calls in a transaction say of the rows that the transaction shows.
 use Rattle.std.specs.Prelude.{◌≡◌, ℕ, List, Option, Some, None, Result, MatchResult, Vec}
 use Rattle.std.specs.declared.alloc.Global.{Global}
 use Rattle.sqlite.specs.Effect.{Database}
@@ -6,7 +6,8 @@ use Rattle.sqlite.specs.Order.{Row}
 use Rattle.sqlite.specs.State.{State, HasCleanDisk}
 use Rattle.pid_tables_rows.specs.declared.version.Version.{Version}
 use Rattle.pid_tables_rows.specs.declared.fault.TableFault.{TableFault}
-use Rattle.pid_tables_rows.specs.declared.fault.TableFault.TheVariants.{Memory, Store, NewerSchema, Damaged}
+use Rattle.pid_tables_rows.specs.declared.fault.TableFault.TheVariants.{Memory, Store, NewerSchema}
+use Rattle.pid_tables_rows.specs.declared.fault.TableFault.TheVariants.{Damaged}
 use Rattle.pid_tables_rows.specs.Faults.{IsMemoryOrStore}
 use Rattle.pid_tables_check.specs.declared.shape.Table.{Table}
 use Rattle.pid_tables_check.specs.Queries.{query_of}
@@ -28,11 +29,12 @@ AnswersTable old new result text = JudgesRows old new result (λ d. CanBeAsked d
 -- the same, with what is kept of the rows of a table
 abbrev pub KeepsTable : {X : Type 0} → State → State → Result X TableFault → Table
     → (List Row → X → Type 0) → Type 0
-KeepsTable old new result table Says = JudgesRows old new result (λ d. CanBeAsked d.schema (query_of table))
+KeepsTable old new result table Says = JudgesRows old new result
+    (λ d. CanBeAsked d.schema (query_of table))
     (λ d x. (rows : List Row) × ShowsRows d (query_of table) rows × Says rows x)
     (λ d. IsMemoryOrStore)
 
--- the tables of the schema are not a registry's, or nothing is told of them
+-- the tables of the schema are not a registry's, or nothing is said of them
 abbrev pub TellsDamage : Version → Database → TableFault → Type 0
 TellsDamage version d Memory = Unit {0}
 TellsDamage version d Store = Unit {0}

@@ -24,7 +24,7 @@ AreChangesIn v all rows = AreNamed v all × (rows ≡ map since_shown all)
 abbrev pub IsChangeIn : Views → Changed → Row → Type 0
 IsChangeIn v item row = (name_at item.path v.items ≡ Some item.name) × (row ≡ since_shown item)
 
--- its name stands in the views, and these are its path and its number
+-- its name is in the views, and these are its path and its number
 abbrev pub IsChangeAt : Views → Changed → List ℕ → ℕ → Type 0
 IsChangeAt v item path since = (name_at item.path v.items ≡ Some item.name) × (path ≡ item.path)
     × (since ≡ item.since)

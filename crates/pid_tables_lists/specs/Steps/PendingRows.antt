@@ -9,7 +9,7 @@ use Rattle.pid_moderation.specs.Submissions.{standing_in, Standing}
 use Rattle.pid_tables_rows.specs.Shows.{AreViews}
 use Rattle.pid_tables_rows.specs.TableRows.{number}
 
--- a submission as it stands, and its number behind it
+-- a submission as it stands, and its number after it
 abbrev pub pending_row : ℕ × Standing → Row
 pending_row s = standing_row s.1 ++ number s.0 ∷ []
 

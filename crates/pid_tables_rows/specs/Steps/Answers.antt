@@ -25,8 +25,8 @@ name_row name = Text name ∷ []
 
 -- a kept reply
 abbrev pub reply_row : Reply → Row
-reply_row reply = number (reply_kind reply) ∷ number (first_number reply) ∷ number (second_number reply)
-    ∷ number (third_number reply) ∷ []
+reply_row reply = number (reply_kind reply) ∷ number (first_number reply)
+    ∷ number (second_number reply) ∷ number (third_number reply) ∷ []
 
 -- an item
 abbrev pub item_shown : List ℕ × List ℕ → Row

@@ -7,7 +7,8 @@ use Rattle.pid_tables_rows.specs.declared.version.Version.TheVariants.{One, Two}
 use Rattle.pid_tables_rows.specs.PairRows.{RowsAre}
 use Rattle.pid_tables_rows.specs.Schema.{schema_of}
 use Rattle.pid_tables_rows.specs.Schema as tables
-use Rattle.pid_tables_rows.specs.Shows.{Counts, AreViews, labels_of, remark_in, receipt_in, since_in}
+use Rattle.pid_tables_rows.specs.Shows.{Counts, AreViews, labels_of, remark_in, receipt_in}
+use Rattle.pid_tables_rows.specs.Shows.{since_in}
 use Rattle.pid_moderation.specs.Submissions.{standing_in}
 use Rattle.pid_tables_rows.specs.TableRows.{meta_row, account_row, item_row, submission_row}
 use Rattle.pid_tables_rows.specs.TableRows.{remark_row, receipt_row, since_row}
