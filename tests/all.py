@@ -17,7 +17,9 @@ import program  # noqa: E402
 from cases import last_line  # noqa: E402
 
 # Parts that mostly wait: they are tried at once, each by a process of its own.
-AT_ONCE = "keeping publishing front front_http2 caches packages installing machine machine_load"
+AT_ONCE = (
+    "keeping publishing front front_http2 caches packages installing machine machine_load reboot"
+)
 AT_ONCE = AT_ONCE.split()
 # Parts that take times, or measure memory: nothing else is tried beside them.
 ALONE = "progress serving serving_memory proxy mirror site_parts".split()
