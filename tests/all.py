@@ -17,10 +17,13 @@ import program  # noqa: E402
 from cases import last_line  # noqa: E402
 
 # Parts that mostly wait: they are tried at once, each by a process of its own.
-AT_ONCE = "keeping publishing front front_http2 caches packages installing machine machine_load"
+AT_ONCE = (
+    "site_parts machine machine_load reboot packages front front_http2 caches keeping installing"
+    " publishing proxy mirror"
+)
 AT_ONCE = AT_ONCE.split()
 # Parts that take times, or measure memory: nothing else is tried beside them.
-ALONE = "progress serving serving_memory proxy mirror site_parts".split()
+ALONE = "progress serving serving_memory".split()
 # What site_parts tries, several at a time.
 OF_SITE = "site_reader site_story site_once site_kept site_safety site_access site_firefox".split()
 
@@ -116,11 +119,10 @@ def turns(names):
     processors = len(os.sched_getaffinity(0))
     together = [it for it in names if it not in AT_ONCE + ALONE + OF_SITE]
     waiting = [it for it in names if it in AT_ONCE]
-    alone = [it for it in names if it in ALONE + OF_SITE]
     yield together, min(processors, len(together))
-    yield [it for it in alone if not it.startswith("site_")], 1
+    yield [it for it in names if it in ALONE], 1
     yield waiting, len(waiting)
-    yield [it for it in alone if it.startswith("site_")], 1
+    yield [it for it in names if it in OF_SITE], 1
 
 
 def try_named(chosen, words, files, environment):

@@ -1,4 +1,5 @@
 """`pciids serve` as the tests run it, and what is said over HTTP."""
+import select
 import socket
 import subprocess
 import time
@@ -7,6 +8,8 @@ from program import PROGRAM
 
 JSON, TEXT, BYTES = "application/json", "text/plain; charset=utf-8", "text/plain"
 OK = b'{"ok":true}'
+# The longest that a server takes to say where it listens, in seconds.
+FIRST_LINE = 120
 
 
 def free_port():
@@ -95,6 +98,9 @@ class Server:
         self.process = subprocess.Popen(
             words, stdout=subprocess.PIPE, stderr=subprocess.PIPE, **how
         )
+        if not select.select([self.process.stdout], [], [], FIRST_LINE)[0]:
+            self.kill()
+            raise TimeoutError(f"the server has printed nothing for {FIRST_LINE} seconds")
         self.first_line = self.process.stdout.readline()
 
     def __enter__(self):
