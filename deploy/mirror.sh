@@ -42,10 +42,14 @@ new=$(mktemp -d new.XXXXXX)
 trap 'rm -rf "$new"' EXIT
 trap 'exit 1' HUP INT TERM
 
-# Writes what is at a path into a file.
+# Writes what is at a path into a file. What curl says of tries is shown if all of them failed.
 ask() {
     curl -fsS --connect-timeout 10 --max-time 240 --retry 6 --retry-delay 1 --retry-max-time 120 \
-        -H 'Cache-Control: no-cache' -o "$2" "$server/$1"
+        -H 'Cache-Control: no-cache' -o "$2" "$server/$1" 2> "$new/said" || {
+        status=$?
+        cat "$new/said" >&2
+        exit "$status"
+    }
 }
 
 # Writes the changes since the copy's revision into a file, page by page up to one that is not full.

@@ -21,8 +21,9 @@ from visitors import Connection
 
 GREEDY = 32
 QUESTIONS = 30
-# Of those who are refused: as many tries a second as no program makes by accident.
-PAUSE = 0.2
+# Of those who are refused: as many tries a second as no program makes by accident. And of the other
+# one between two questions.
+PAUSE, REST = 0.2, 0.1
 LONG = ("/children", "/children", "/pci.ids")
 
 
@@ -76,6 +77,7 @@ def main(folder):
         before = codes[200]
         code, took = question(folder)
         ahead.append(codes[200] - before)
+        time.sleep(REST)
         told.append(code)
         seconds.append(took)
     for it in greedy:

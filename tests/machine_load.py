@@ -1,6 +1,6 @@
 """The installed service at work, on a machine of its own: restarts while several people send
-commands and ask, a visitor who takes all he can get of a registry of 100,000 items, how long a
-backup stops its server, and a list that does not fit into the unit's memory."""
+commands and ask, a list that does not fit into the unit's memory, a visitor who takes all he can get
+of a registry of 100,000 items, and how long a backup stops its server."""
 import json
 import os
 import re
@@ -9,7 +9,7 @@ import time
 
 import built_packages
 import program
-from machine import ASK, ASK_SITE, HOST, Story, by, put_packages
+from machine import ASK, ASK_SITE, HOST, Story, put_packages
 from machine_room import Machine
 from program import TOP
 
@@ -33,8 +33,9 @@ ITEMS = VENDORS * (DEVICES + 1)
 # his through at once, and now and then the whole text. He sends 32 at once.
 AHEAD = 8
 
-# What the server may take beside what it has, in bytes, where a list is not to fit.
-MORE = 1 << 20
+# The remarks of a list that is not to fit, and what the server may take for it beside what it has,
+# in bytes.
+REMARKS, MORE = 1_000, 1 << 20
 
 
 def installed(story):
@@ -187,24 +188,32 @@ def greedy(story):
 
 def too_long(story):
     """A list that does not fit into the memory of LimitAS= is refused, and the server goes on. The
-    limit is what the unit says; it is lowered for a list of 50,000 vendors, which is not long."""
+    limit is what the unit says; it is lowered for a proposal with a thousand of the longest
+    remarks."""
+    send = f"{ASK}/comment#[1-{REMARKS}] -H 'X-Account: root' --data-binary @/srv/remark"
+    told = story.works(
+        "a thousand remarks",
+        f"(printf num=1\\&text=; head -c 4000 /dev/zero | tr '\\0' x) > /srv/remark; {send}",
+    )
+    story.cases.equal("too long: the remarks", told, '{"ok":true}' * REMARKS)
     story.works("a server that was asked for nothing", "systemctl restart pciids")
     story.is_up("it is there before a long list")
-    pid = story.machine.run("systemctl show -p MainPID --value pciids")[1].strip()
+    show = "systemctl show -p MainPID --value pciids"
+    pid = story.machine.run(show)[1].strip()
     limit = f"prlimit --pid {pid} --as"
     limits = f"awk '/^Max address space/ {{ print $4, $5 }}' /proc/{pid}/limits"
     story.same("too long: the unit's limit", limits, f"{768 << 20} {768 << 20}")
     size = story.machine.run(f"awk '/^VmSize/ {{ print $2 }}' /proc/{pid}/status")[1]
     story.works("a lower limit", f"{limit}={(int(size) << 10) + MORE}:{768 << 20}")
-    told = story.machine.run(f"{ASK}/children -w ' %{{http_code}}' | tail -c 80")[1].strip()
+    told = story.machine.run(f"{ASK}/submission/1 -w ' %{{http_code}}' | tail -c 80")[1].strip()
     is_refused = told == "000" or '"refused":16' in told
     story.cases.equal(f"too long: a list is refused: {told}", is_refused, True)
-    story.same("too long: the server goes on", f"{ASK}/read/PC/0001?format=text", "Vendor 1")
-    same = "systemctl show -p MainPID --value pciids"
-    story.same("too long: it is the same one", same, pid)
+    story.same("too long: the server goes on", f"{ASK}/pending -o /dev/null -w %{{http_code}}",
+               "200")
+    story.same("too long: it is the same one", show, pid)
     story.works("the unit's limit again", f"{limit}={768 << 20}")
-    rows = f"{ASK}/children | grep -o '\"path\"' | wc -l"
-    story.same("too long: it is enough for that list", rows, str(VENDORS))
+    rows = f"{ASK}/submission/1 | grep -o xxxx | wc -l"
+    story.same("too long: it is enough for that list", rows, str(REMARKS * 1_000))
 
 
 def run(cases):
@@ -216,7 +225,7 @@ def run(cases):
         story = Story(cases, machine)
         installed(story)
         restarts(story)
+        too_long(story)
         filled(story, folder)
         greedy(story)
         backup(story)
-        too_long(story)

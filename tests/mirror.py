@@ -314,7 +314,7 @@ def at_its_pace(cases, folder):
     soon = {"pciids_limits": (("zone=pciids_texts:1m rate=6r/m", "zone=pciids_texts:1m rate=30r/m"),
                               ("    429 10;", "    429 2;"))}
     with Server(database) as server:
-        imported(server, "".join(f"{vendor:04x}  Vendor {vendor}\n" for vendor in range(PACED)))
+        imported(server, "".join(f"{vendor:04x}  V{vendor}\n" for vendor in range(PACED)))
         front = Front(os.path.join(folder, "front"), server.port, **soon)
         try:
             for _ in range(8):
