@@ -4,7 +4,7 @@ by its own Python.
   greedy.py FOLDER
 
 FOLDER has `certificate.pem`. From one address come as many clients at once as GREEDY says, each of
-which asks again and again for what takes the registry long. Meanwhile another one asks
+which asks again and again for what takes the registry long. Meanwhile another one asks at most
 QUESTIONS small questions. Then `greedy.json` is written: `codes`, how often the greedy one was
 answered with each status; `ahead`, how many of his were answered while each question waited; and
 `told` and `seconds` of the questions.
@@ -24,6 +24,8 @@ QUESTIONS = 30
 # Of those who are refused: as many tries a second as no program makes by accident. And of the other
 # one between two questions.
 PAUSE, REST = 0.2, 0.1
+# How long all of it may take, where he is refused nothing.
+LONGEST = 60
 LONG = ("/children", "/children", "/pci.ids")
 
 
@@ -70,10 +72,11 @@ def main(folder):
     for it in greedy:
         it.start()
     # What he may ask at once is behind him then.
-    while codes[429] < 2 * GREEDY and sum(codes.values()) < 20 * GREEDY:
+    end = time.monotonic() + LONGEST
+    while codes[429] < 2 * GREEDY and codes[200] < 2 * GREEDY and time.monotonic() < end:
         time.sleep(0.1)
     ahead, told, seconds = [], [], []
-    for _ in range(QUESTIONS):
+    while len(told) < QUESTIONS and (time.monotonic() < end or not told):
         before = codes[200]
         code, took = question(folder)
         ahead.append(codes[200] - before)

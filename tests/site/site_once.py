@@ -210,15 +210,26 @@ def forgotten(cases, world, browser):
     time.sleep(2)
     left = count(world, "a040"), browser.owed()
     cases.equal("once: what was forgotten isn't sent", left, (0, []))
-    make = ("const done = arguments[0], all = [];"
-            "import('/site/outbox.js').then(async ({ begin, forget }) => {"
-            "for (let n = 0; n < 60; n += 1) all.push((await begin('/x', 'a=b', 'x')).key);"
+    # Each tab makes sixty entries and remembers sixty proposals, both at once.
+    make = ("const [done, own] = arguments, all = [];"
+            "Promise.all([import('/site/outbox.js'), import('/site/detours.js')])"
+            ".then(async ([{ begin, forget }, { rememberOwn }]) => {"
+            "for (let n = 0; n < 60; n += 1) {"
+            "  all.push((await begin('/x', 'a=b', 'x')).key);"
+            "  rememberOwn({ account: 'nobody', body: 'path=x&name=y' }, { num: own + n });"
+            "}"
             "window.forgetAll = () => all.forEach(forget); done(all.length); })")
-    driver.execute_script(f"(function () {{ {make} }})(() => {{ window.made = true; }})")
+    driver.execute_script(f"(function () {{ {make} }})(() => {{ window.made = true; }}, 100)")
     driver.switch_to.window(second)
-    driver.execute_async_script(make)
+    driver.execute_async_script("const [done] = arguments;"
+                                f"(function () {{ {make} }})(done, 200)")
     browser.wait(lambda: len(browser.owed()) == 120, "entries of both tabs")
     cases.equal("once: two tabs keep all their entries", len(browser.owed()), 120)
+    own = driver.execute_async_script(
+        "const [done] = arguments; import('/site/detours.js').then(({ ownProposals }) =>"
+        "  done(ownProposals('nobody').map((it) => it.num)))")
+    want = [*range(259, 199, -1), *range(159, 99, -1)]
+    cases.equal("once: and all their own proposals", own, want)
     browser.js("window.forgetAll()")
     driver.close()
     driver.switch_to.window(first)
