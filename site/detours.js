@@ -3,7 +3,7 @@
 // itself, a function of this module becomes one request.
 
 import { ask, request } from "./api.js";
-import { keep, recall } from "./kept.js";
+import { keep, keysOf, recall } from "./kept.js";
 
 const PAGE = 100;
 const MOST_PENDING = 1_000;
@@ -138,24 +138,31 @@ export async function sinceOf(path) {
   return row?.path === path ? { since: row.since, revision: answer.value.revision } : null;
 }
 
-// Own proposals: no question tells them by author, so this browser remembers those it made.
+// Own proposals: no question tells them by author, so this browser remembers those it made. Each
+// has a key to itself, so that tabs don't overwrite each other's.
 const OWN = "own:";
-const ownKey = (name) => `${OWN}${name}`;
+const MOST_OWN = 500;
+const ownKey = (name, num) => `${OWN}${name}:${num}`;
 
 /** Remembers the proposal that a command of the outbox made, with the answer's value. */
 export function rememberOwn({ account, body }, { num }) {
-  const all = recall("localStorage", ownKey(account)) ?? [];
-  if (all.some((it) => it.num === num)) return;
+  const key = ownKey(account, num);
+  if (recall("localStorage", key)) return;
   const fields = new URLSearchParams(body);
-  const one = { num, path: fields.get("path"), name: fields.get("name") };
-  keep("localStorage", ownKey(account), [one, ...all].slice(0, 500));
+  keep("localStorage", key, { num, path: fields.get("path"), name: fields.get("name") });
+  ownProposals(account).slice(MOST_OWN)
+    .forEach((it) => keep("localStorage", ownKey(account, it.num), null));
 }
 
 /** The proposals that an account made in this browser, the latest first. */
-export const ownProposals = (name) => recall("localStorage", ownKey(name)) ?? [];
+export const ownProposals = (name) => keysOf("localStorage", ownKey(name, ""))
+  .map((it) => recall("localStorage", it)).filter(Boolean)
+  .sort((one, other) => other.num - one.num);
 
 /** Remembers in which state an own proposal was seen last. */
 export function rememberStates(name, states) {
-  const all = ownProposals(name).map((it) => ({ ...it, state: states.get(it.num) ?? it.state }));
-  keep("localStorage", ownKey(name), all);
+  for (const it of ownProposals(name)) {
+    const state = states.get(it.num);
+    if (state) keep("localStorage", ownKey(name, it.num), { ...it, state });
+  }
 }

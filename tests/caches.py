@@ -9,8 +9,9 @@ from front import faults_of
 from front_room import HOST, Front, Recorder, needed, placed, started, stopped
 from http_server import free_port
 
-# How long the published file may be kept in the test, in seconds.
-SHORT = 3
+# How long the published file may be kept, in seconds: for longer than a test takes, and for so
+# short that it waits for the end. And for how long a line of the log is waited for.
+LONG, SHORT, PATIENCE = 600, 2, 30
 
 # An nginx that serves nothing but the cache.
 CONFIGURATION = """daemon off;
@@ -29,17 +30,22 @@ http {{
 """
 LIVE = ("-H", "Cache-Control: no-cache")
 FILE = "/pci.ids"
+# The published file of a front.
+TEXT = b"# PCI ID registry\nC 01  Mass\n"
 
 
 class Cache:
-    """A cache before a front, which trusts what it says of visitors."""
+    """A cache before a front, which trusts what it says of visitors. It may keep the file for so
+    many seconds."""
 
-    def __init__(self, folder, recorder):
+    def __init__(self, folder, recorder, seconds):
         more = {
-            "pciids_site": (("max-age=60", f"max-age={SHORT}"),),
+            "pciids_site": (("max-age=60", f"max-age={seconds}"),),
             "pciids_limits": (
                 ("#set_real_ip_from 192.0.2.7", "set_real_ip_from 127.0.0.1"),
                 ("#real_ip_header", "real_ip_header"),
+                # Six at once, and none more while the test is at it.
+                ("zone=pciids_texts:1m rate=6r/m", "zone=pciids_texts:1m rate=1r/m"),
             ),
         }
         self.folder, self.recorder = folder, recorder
@@ -57,7 +63,10 @@ class Cache:
         self.process = started(folder, "cached.conf", self.port)
         self.log = open(os.path.join(folder, "access.log"), encoding="utf-8")
 
-    def close(self):
+    def __enter__(self):
+        return self
+
+    def __exit__(self, *_):
         self.log.close()
         stopped(self.process)
         self.front.close()
@@ -68,13 +77,12 @@ class Cache:
     def came(self, count=0):
         """The requests that came to the site behind the cache since the last time, with their
         statuses. So many are waited for: nginx notes one when it is over."""
-        found = []
-        for _ in range(20):
+        found, end = [], time.monotonic() + PATIENCE
+        while True:
             time.sleep(0.1)
             found += re.findall(r'"(\w+ \S+) [^"]*" (\d+)', self.log.read())
-            if len(found) >= count:
-                break
-        return found
+            if len(found) >= count or time.monotonic() > end:
+                return found
 
     def publish(self, text):
         """Puts another file in place, as `publish` does, with a time of its own."""
@@ -85,13 +93,18 @@ class Cache:
 
 
 def kept(cases, cache):
-    """The published file is asked for once, and then whether it changed."""
+    """The published file is asked for once."""
     told = [cache.curl(FILE) for _ in range(5)]
-    text = b"# PCI ID registry\nC 01  Mass\n"
-    cases.equal("cache: the file", {it[2] for it in told}, {text})
+    cases.equal("cache: the file", {it[2] for it in told}, {TEXT})
     cases.equal("cache: it was asked for once", cache.came(1), [(f"GET {FILE}", "200")])
+
+
+def renewed(cases, cache):
+    """Once its time is over it is asked whether the published file changed."""
+    cases.equal("cache: the file, for a while", cache.curl(FILE)[2], TEXT)
+    cases.equal("cache: it is asked for", cache.came(1), [(f"GET {FILE}", "200")])
     time.sleep(SHORT + 1)
-    cases.equal("cache: later", cache.curl(FILE)[2], text)
+    cases.equal("cache: later", cache.curl(FILE)[2], TEXT)
     cases.equal("cache: it was not sent again", cache.came(1), [(f"GET {FILE}", "304")])
     cache.publish("# PCI ID registry\nC 02  Net\n")
     time.sleep(SHORT + 1)
@@ -102,13 +115,12 @@ def kept(cases, cache):
 
 def passed(cases, cache):
     """Whatever is not the published file comes to the site each time."""
-    text = b"# PCI ID registry\nC 02  Net\n"
-    cases.equal("cache: the file is kept", cache.curl(FILE)[2], text)
-    cache.came()
+    cases.equal("cache: the file is kept", cache.curl(FILE)[2], TEXT)
+    cases.equal("cache: it was asked for before", cache.came(), [])
     told = {cache.curl(FILE, *LIVE)[2] for _ in range(2)}
     cases.equal("cache: who says no-cache asks the registry", told, {b'{"ok":true}'})
     cases.equal("cache: each time", len(cache.came(2)), 2)
-    cases.equal("cache: others get the file after that", cache.curl(FILE)[2], text)
+    cases.equal("cache: others get the file after that", cache.curl(FILE)[2], TEXT)
     cases.equal("cache: as it was kept", cache.came(), [])
     page = ("-H", "Accept: text/html")
     alice = ("-u", "alice:pw-alice")
@@ -174,13 +186,14 @@ def down(cases, cache):
 
 def run(cases):
     needed()
+    recorder = Recorder()
     with tempfile.TemporaryDirectory() as folder:
-        cache = Cache(folder, Recorder())
-        try:
+        os.chmod(folder, 0o755)
+        with Cache(os.path.join(folder, "long"), recorder, LONG) as cache:
             kept(cases, cache)
             passed(cases, cache)
             commands(cases, cache)
             visitors(cases, cache)
+        with Cache(os.path.join(folder, "short"), recorder, SHORT) as cache:
+            renewed(cases, cache)
             down(cases, cache)
-        finally:
-            cache.close()

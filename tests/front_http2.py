@@ -134,10 +134,10 @@ HOSTILE = {
 }
 
 
-def answers(client):
+def answers(client, quiet):
     """What kinds of frames come back, until the first request is answered or nothing comes."""
     taken, kinds = b"", []
-    client.settimeout(0.25)
+    client.settimeout(quiet)
     try:
         while piece := client.recv(65536):
             taken += piece
@@ -152,37 +152,47 @@ def answers(client):
     return kinds
 
 
-def spoken(front, sent, address="127.0.0.1"):
+def spoken(front, sent, quiet):
     """Speaks HTTP/2 to nginx. What kinds of frames come back."""
-    with front.connect(address, "h2") as client:
+    with front.connect(protocol="h2") as client:
         client.sendall(PREFACE + frame(SETTINGS, 0, 0) + sent)
-        return answers(client)
+        return answers(client, quiet)
 
 
 def hostile(cases, front, recorder):
     for name, (sent, fewest, most) in HOSTILE.items():
-        seen = arrived(recorder, lambda: spoken(front, sent))
+        seen = arrived(front, recorder, lambda quiet: spoken(front, sent, quiet), fewest)
         cases.equal(f"HTTP/2: {name}", list(faults_of(seen)), [])
         is_right = fewest <= len(seen) <= most
         cases.equal(f"HTTP/2: {name}, {len(seen)} came through", is_right, True)
 
 
 def taken_back(cases, front):
-    """Requests that are taken back at once (CVE-2023-44487) hold nobody else up."""
+    """Requests that are taken back at once (CVE-2023-44487) hold nobody else up: commands beside
+    them take not many times as long as without, in one of three tries on a busy machine."""
     numbers = range(1, 2_000, 2)
     asks = [head(ASK, ALONE, it) + frame(RESET, 0, it, b"\0\0\0\x08")
             for it in numbers]
-    with front.connect("127.0.0.5", "h2") as client:
-        try:
-            client.sendall(PREFACE + frame(SETTINGS, 0, 0) + b"".join(asks))
-        except OSError:
-            # nginx has had enough of them.
-            pass
-        start = time.monotonic()
-        told = [front.post("bob", "127.0.0.6") for _ in range(5)]
-        took = time.monotonic() - start
-    cases.equal("HTTP/2: commands beside a thousand requests taken back", told, [200] * 5)
-    cases.equal(f"HTTP/2: in {took:.1f} s", took < 5, True)
+    for _ in range(3):
+        alone = timed(front)[1]
+        with front.connect("127.0.0.5", "h2") as client:
+            try:
+                client.sendall(PREFACE + frame(SETTINGS, 0, 0) + b"".join(asks))
+            except OSError:
+                # nginx has had enough of them.
+                pass
+            told, took = timed(front)
+        cases.equal("HTTP/2: commands beside a thousand requests taken back", told, [200] * 5)
+        if took < 10 * alone:
+            break
+    cases.equal(f"HTTP/2: in {took:.1f} s, alone in {alone:.1f} s", took < 10 * alone, True)
+
+
+def timed(front):
+    """The statuses of five commands, and how many seconds they take."""
+    start = time.monotonic()
+    told = [front.post("bob", "127.0.0.6") for _ in range(5)]
+    return told, time.monotonic() - start
 
 
 def run(cases):
@@ -191,7 +201,8 @@ def run(cases):
     with tempfile.TemporaryDirectory() as folder:
         front = Front(folder, recorder.port)
         try:
-            cases.equal("HTTP/2: it is spoken", HEADERS in spoken(front, command()), True)
+            kinds = spoken(front, command(), front.quiet())
+            cases.equal("HTTP/2: it is spoken", HEADERS in kinds, True)
             hostile(cases, front, recorder)
             taken_back(cases, front)
         finally:

@@ -21,6 +21,11 @@ PEOPLE = ("alice", "bob", "carol")
 # Clients at once, beside what nginx and the test have open.
 FILES = 4_096
 
+# The longest that anything waits, in seconds; and how many times as long as for a response a test
+# waits for one that may never come, and how long at least.
+PATIENCE = 30
+TIMES, LEAST = 10, 0.2
+
 
 def placed(name, places):
     """A file of deploy/nginx with the places and ports of a test. Each has to be in it."""
@@ -78,17 +83,21 @@ class Recorder(threading.Thread):
         while True:
             client, _ = self.listener.accept()
             with client:
-                data = self.request(client)
-                if data:
-                    self.seen.append(Request(data))
-                    head = b"HTTP/1.1 200 OK\r\nContent-Type: application/json\r\n"
-                    client.sendall(
-                        head + b'Content-Length: 11\r\nConnection: close\r\n\r\n{"ok":true}'
-                    )
+                try:
+                    self.answer(client)
+                except OSError:
+                    pass
+
+    def answer(self, client):
+        data = self.request(client)
+        if data:
+            self.seen.append(Request(data))
+            head = b"HTTP/1.1 200 OK\r\nContent-Type: application/json\r\n"
+            client.sendall(head + b'Content-Length: 11\r\nConnection: close\r\n\r\n{"ok":true}')
 
     def request(self, client):
         """All that came: more than the request itself, if something was smuggled with it."""
-        client.settimeout(5)
+        client.settimeout(PATIENCE)
         data = b""
         while True:
             head, end, body = data.partition(b"\r\n\r\n")
@@ -113,6 +122,7 @@ class Front:
 
     def __init__(self, folder, behind, **more):
         self.folder, self.port = folder, free_port()
+        os.makedirs(folder, exist_ok=True)
         os.chmod(folder, 0o755)
         os.makedirs(os.path.join(folder, "public", "item", "PC"))
         os.mkdir(os.path.join(folder, "nginx"))
@@ -122,6 +132,7 @@ class Front:
         self.write("public/item/PC/8086.html", "<h1>Intel</h1>")
         self.write("passwords", "".join(f"{it}:{hashed(f'pw-{it}')}\n" for it in PEOPLE))
         self.certificate = certificate(folder)
+        self.contexts = {}
         self.configure(behind, more)
         subprocess.run(["chmod", "-R", "a+rX", folder], check=True)
         more_files()
@@ -169,18 +180,29 @@ class Front:
 
     def connect(self, address="127.0.0.1", protocol=None):
         """A client to which TLS is spoken."""
-        context = ssl.create_default_context(cafile=self.certificate)
-        if protocol:
-            context.set_alpn_protocols([protocol])
+        if protocol not in self.contexts:
+            context = ssl.create_default_context(cafile=self.certificate)
+            if protocol:
+                context.set_alpn_protocols([protocol])
+            self.contexts[protocol] = context
         place = ("127.0.0.1", self.port)
-        client = socket.create_connection(place, timeout=20, source_address=(address, 0))
-        return context.wrap_socket(client, server_hostname=HOST)
+        client = socket.create_connection(place, timeout=PATIENCE, source_address=(address, 0))
+        return self.contexts[protocol].wrap_socket(client, server_hostname=HOST)
 
-    def raw(self, sent):
+    def quiet(self):
+        """How long nothing has to come until nothing will, in seconds: by how long it takes nginx
+        and the server behind it to answer now."""
+        start = time.monotonic()
+        with self.connect() as client:
+            client.sendall(b"GET /pending HTTP/1.1\r\nHost: a\r\nConnection: close\r\n\r\n")
+            to_end(client)
+        return LEAST + TIMES * (time.monotonic() - start)
+
+    def raw(self, sent, quiet):
         """What comes back for the bytes of a client that speaks HTTP/1.1."""
         with self.connect() as client:
             client.sendall(sent)
-            client.settimeout(0.3)
+            client.settimeout(quiet)
             try:
                 return to_end(client)
             except (TimeoutError, OSError):

@@ -11,8 +11,8 @@ import time
 from program import TOP
 
 LIB = os.path.join(TOP, "deploy", "lib")
-SCRIPTS = ("mirror.sh", "build-deb", "bin/pciids-adduser", "bin/pciids-restore", "lib/hold")
-SCRIPTS += ("lib/backup", "lib/restore", "completions/pciids.bash")
+# How the first line of a script of the shell ends.
+SHELLS = (b"/sh", b"/bash")
 
 # Stands for the program: a registry opens where its file and its log belong together.
 OPENS = """#!/bin/sh
@@ -66,13 +66,23 @@ def ran(*words, tools=None, **more):
     return done.returncode, done.stdout.decode(errors="replace")
 
 
+def scripts():
+    """All scripts of the shell in deploy/ and debian/."""
+    for top in ("deploy", "debian"):
+        for folder, _, names in os.walk(os.path.join(TOP, top)):
+            for path in sorted(os.path.join(folder, it) for it in names):
+                with open(path, "rb") as file:
+                    is_script = file.readline().rstrip().endswith(SHELLS)
+                if is_script or path.endswith(".bash"):
+                    yield path
+
+
 def linted(cases):
     if shutil.which("shellcheck") is None:
         cases.skipped("keeping: shellcheck", "shellcheck is not installed")
         return
-    paths = [os.path.join(TOP, "deploy", it) for it in SCRIPTS]
-    for name in ("prerm", "postrm"):
-        paths.append(os.path.join(TOP, "debian", f"pciids-registry.{name}"))
+    paths = list(scripts())
+    cases.equal(f"keeping: shellcheck of {len(paths)} scripts", len(paths) >= 10, True)
     cases.equal("keeping: shellcheck", ran("shellcheck", *paths), (0, ""))
 
 

@@ -245,7 +245,7 @@ def kept(story):
     story.machine.run(f"printf '#!/bin/sh\\necho told of $1\\n' > {hook}; chmod 755 {hook}")
     story.fails("a copy that does not open", "pciids-restore 2000-01-01T000000Z 2> /dev/null")
     name = "$(systemd-escape --template=pciids-restore@.service 2000-01-01T000000Z)"
-    said = story.machine.until(f"journalctl -q | grep -qF \"told of {name}\"", 20)
+    said = story.machine.until(f"journalctl -q | grep -qF \"told of {name}\"")
     story.cases.equal("machine: the operator's program was told of it", said, True)
     story.machine.run(f"rm {hook}")
     story.is_up("the server goes on after it")

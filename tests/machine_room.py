@@ -31,6 +31,10 @@ exec systemd-nspawn -D . --register=no --keep-unit -q --private-network --hostna
 
 LOCK = "/run/lock/pciids-test-machine"
 
+# The longest that a start of the machine, a command in it and a wait for one take, in seconds. A
+# busy machine of this one takes many times as long as an idle one.
+BOOT, COMMAND, WAIT = 180, 300, 120
+
 # Folders that the program needs beside /usr, such as that of its libraries; colons between them.
 NEEDS = [it for it in os.environ.get("PCIIDS_NEEDS", "").split(":") if it]
 
@@ -72,7 +76,7 @@ class Machine:
         self.leader = None
 
     def __enter__(self):
-        end = time.monotonic() + 60
+        end = time.monotonic() + BOOT
         while time.monotonic() < end and self.process.poll() is None:
             time.sleep(0.2)
             self.leader = self.find_leader()
@@ -110,7 +114,7 @@ class Machine:
             return None
         return found[0] if found else None
 
-    def run(self, command, text=None, within=120):
+    def run(self, command, text=None, within=COMMAND):
         """The status of a command of the shell in the machine, and what it printed."""
         enter = ["nsenter", "-t", self.leader, "-m", "-u", "-i", "-n", "-p", "-r", "-w"]
         path = "/usr/local/sbin:/usr/local/bin:/usr/sbin:/usr/bin:/sbin:/bin"
@@ -131,7 +135,7 @@ class Machine:
         if status != 0:
             raise RuntimeError(told)
 
-    def until(self, command, within=60):
+    def until(self, command, within=WAIT):
         """Waits until a command of the machine succeeds. False if it does not in that time."""
         end = time.monotonic() + within
         while self.run(command)[0] != 0:

@@ -1,6 +1,7 @@
 """deploy/mirror.sh, which keeps a copy of a registry's file: at the server, behind a cache of these tests, and behind nginx."""
 import fcntl
 import os
+import re
 import shutil
 import socket
 import subprocess
@@ -10,6 +11,7 @@ import time
 from http.client import HTTPConnection
 from http.server import BaseHTTPRequestHandler, ThreadingHTTPServer
 
+from front_room import HOST, Front, needed
 from http_server import Server, ask_curl, free_port
 from program import HEADER, TOP
 from registry import script
@@ -37,6 +39,9 @@ http {{
     }}
 }}
 """
+
+# So many items are 82 pages of changes; an address may ask for 61 at once.
+PACED = 8_150
 
 LATE = b"mirror: the file is older than the changes\n"
 
@@ -100,9 +105,12 @@ def kept_in(folder):
     return *kept, sorted(set(os.listdir(folder)) - {"pci.ids", "revision"})
 
 
-def mirrored(port, folder, **how):
-    """What a run of the mirror prints and says, its status, and the copy and the number that it has then."""
-    ran = subprocess.run([MIRROR, f"http://127.0.0.1:{port}", folder], stdout=subprocess.PIPE, stderr=subprocess.PIPE, timeout=120, **how)
+def mirrored(port, folder, site=None, **how):
+    """What a run of the mirror prints and says, its status, and the copy and the number that it has
+    then. The registry is at a port of this machine, or at another address."""
+    words = [MIRROR, site or f"http://127.0.0.1:{port}", folder]
+    piped = {"stdout": subprocess.PIPE, "stderr": subprocess.PIPE, "timeout": 300}
+    ran = subprocess.run(words, **piped, **how)
     copy, number, more = kept_in(folder)
     return ran.stdout, ran.stderr, ran.returncode, copy, number, *more
 
@@ -295,6 +303,38 @@ def behind_nginx(cases, server, folder):
         nginx.wait()
 
 
+def at_its_pace(cases, folder):
+    """A new mirror of a large registry asks for more pages at once than the site's nginx lets an
+    address ask: it goes on as fast as it may, and has them all."""
+    needed()
+    database, copy = os.path.join(folder, "registry.db"), os.path.join(folder, "copy")
+    os.mkdir(copy)
+    script(database)
+    # Of the whole text one address may ask for six; the next one comes after two seconds here.
+    soon = {"pciids_limits": (("zone=pciids_texts:1m rate=6r/m", "zone=pciids_texts:1m rate=30r/m"),
+                              ("    429 10;", "    429 2;"))}
+    with Server(database) as server:
+        imported(server, "".join(f"{vendor:04x}  V{vendor}\n" for vendor in range(PACED)))
+        front = Front(os.path.join(folder, "front"), server.port, **soon)
+        try:
+            for _ in range(8):
+                front.curl("/pci.ids", "-H", "Cache-Control: no-cache")
+            with open(os.path.join(folder, ".curlrc"), "w", encoding="utf-8") as file:
+                place = f"{HOST}:{front.port}"
+                file.write(f'cacert = "{front.certificate}"\nresolve = "{place}:127.0.0.1"\n')
+            home = dict(os.environ, HOME=folder)
+            told = mirrored(None, copy, f"https://{place}", env=home)
+            counts = told[0].count(b"\n"), *told[1:3], told[3] == text_of(server), told[4]
+            cases.equal("mirror: a large registry", counts, (PACED, b"", 0, True, b"1\n"))
+            with open(os.path.join(folder, "front", "access.log"), encoding="utf-8") as file:
+                log = file.read()
+        finally:
+            front.close()
+    for path in ("/changes", "/pci.ids"):
+        refused = len(re.findall(rf'"GET {path}[^"]*" 429 ', log))
+        cases.equal(f"mirror: {path} was refused {refused} times", refused > 0, True)
+
+
 def run(cases):
     if shutil.which("curl") is None:
         cases.skipped("mirror", "curl is not installed")
@@ -315,3 +355,6 @@ def run(cases):
             with tempfile.TemporaryDirectory() as room:
                 os.chmod(room, 0o755)
                 behind_nginx(cases, server, room)
+    with tempfile.TemporaryDirectory() as folder:
+        os.chmod(folder, 0o755)
+        at_its_pace(cases, folder)

@@ -15,8 +15,9 @@ from program import HEADER, REAL_FILE, TOP, tidy
 HOST = "pciids.example.org"
 PASSWORDS = {"root": "secret of root", "alice": "secret:of:alice", "mona": "mona", "Bob": "bob"}
 
-# The bound of nginx.conf on a client that sends nothing, in seconds.
-PATIENCE = 10
+# The bound of nginx.conf on a client that sends nothing, and the one that nginx has by itself, in
+# seconds.
+PATIENCE, OWN = 10, 60
 
 
 def config():
@@ -71,7 +72,7 @@ class Proxy:
         self.process.communicate(timeout=30)
 
     def connect(self):
-        return socket.create_connection(("127.0.0.1", self.port), timeout=4 * PATIENCE)
+        return socket.create_connection(("127.0.0.1", self.port), timeout=OWN)
 
     def connect_safely(self):
         """A client to which TLS is spoken."""
@@ -212,27 +213,33 @@ def cut(cases, proxy, server, slow):
         # More than the kernel keeps for a client.
         client.sendall(b"GET /pci.ids HTTP/1.1\r\nHost: a\r\n\r\n" * 12)
         time.sleep(1)
-        cases.equal("proxy: beside a client that does not read", server.curl("/pending?after=9", "--max-time", "5"), (200, JSON, b"[]"))
+        told = server.curl("/pending?after=9")
+        cases.equal("proxy: beside a client that does not read", told, (200, JSON, b"[]"))
     for name, client in slow.items():
-        client.join(3 * PATIENCE)
-        cases.equal(f"proxy: a client that {name} is cut", (client.told, PATIENCE - 1 < client.seconds < 2 * PATIENCE), (b"", True))
+        client.join(OWN)
+        is_soon = PATIENCE - 1 < client.seconds < OWN - PATIENCE
+        cases.equal(f"proxy: a client that {name} is cut", (client.told, is_soon), (b"", True))
     cases.equal("proxy: nothing came of them", proxy.curl("/pending?after=2"), (200, JSON, b"[]"))
 
 
 def many_clients(cases, proxy):
     """Sixteen requests of one address may be open, and when they are gone as many again."""
     slow = [proxy.connect_safely() for _ in range(16)]
-    told = []
-    for client in slow:
-        told.append(proxy.curl("/pending")[0])
+    for client in slow[1:]:
         client.sendall(HALF_BODY)
+    cases.equal("proxy: a request beside fifteen open ones", proxy.curl("/pending")[0], 200)
+    slow[0].sendall(HALF_BODY)
+    # nginx takes them when it comes to it.
+    end = time.monotonic() + PATIENCE / 2
+    while (told := proxy.curl("/pending")[0]) == 200 and time.monotonic() < end:
         time.sleep(0.05)
-    cases.equal("proxy: sixteen open requests", told, [200] * 16)
-    cases.equal("proxy: a seventeenth", proxy.curl("/pending")[0], 503)
+    cases.equal("proxy: one beside sixteen", told, 503)
     for client in slow:
         client.close()
-    time.sleep(0.3)
-    cases.equal("proxy: when they are gone", proxy.curl("/pending")[0], 200)
+    end = time.monotonic() + OWN
+    while (told := proxy.curl("/pending")[0]) == 503 and time.monotonic() < end:
+        time.sleep(0.05)
+    cases.equal("proxy: when they are gone", told, 200)
 
 
 def head_of_one(listener, heads):

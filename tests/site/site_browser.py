@@ -1,10 +1,14 @@
 """A browser without a head, as the tests of the site use it: Debian's chromium by its driver."""
+import shutil
 import sys
 import time
 
 import program
 
 DEBIANS = "/usr/lib/python3/dist-packages"
+# The longest that a test waits for a page, or the driver for the browser, in seconds. Most waits
+# end much sooner; on a busy machine a page may need more than a person would bear.
+PATIENCE = 50
 
 
 def selenium():
@@ -34,17 +38,19 @@ class Browser:
         webdriver = selenium()
         from selenium.webdriver.chrome.service import Service
         from selenium.webdriver.common.keys import Keys
+        from selenium.webdriver.remote.remote_connection import RemoteConnection
+        RemoteConnection.set_timeout(PATIENCE + 5)
         options = webdriver.ChromeOptions()
         for it in (*SWITCHES, f"--window-size={size[0]},{size[1]}"):
             options.add_argument(it)
         if dark:
             options.add_argument("--blink-settings=preferredColorScheme=0")
         options.set_capability("goog:loggingPrefs", {"browser": "ALL"})
-        import shutil
         options.binary_location = shutil.which("chromium")
         self.driver = webdriver.Chrome(service=Service(shutil.which("chromedriver")),
                                        options=options)
-        self.driver.set_script_timeout(50)
+        self.driver.set_script_timeout(PATIENCE)
+        self.driver.set_page_load_timeout(PATIENCE)
         self.base, self.keys = base, Keys
         self.said = []
 
@@ -57,7 +63,7 @@ class Browser:
     def js(self, text, *words):
         return self.driver.execute_script(text, *words)
 
-    def wait(self, condition, what, seconds=20):
+    def wait(self, condition, what, seconds=PATIENCE):
         """Waits until a condition holds, and returns what it gave."""
         end = time.monotonic() + seconds
         while True:
@@ -91,13 +97,13 @@ class Browser:
     def text(self, selector="main"):
         return self.js("return document.querySelector(arguments[0])?.innerText ?? ''", selector)
 
-    def has(self, text, selector="main", seconds=20):
+    def has(self, text, selector="main"):
         """Waits until a text is there."""
-        self.wait(lambda: text in self.text(selector), f"{text!r} in {selector}", seconds)
+        self.wait(lambda: text in self.text(selector), f"{text!r} in {selector}")
         return True
 
-    def heading(self, text, seconds=20):
-        return self.has(text, "main h1", seconds)
+    def heading(self, text):
+        return self.has(text, "main h1")
 
     def click(self, selector):
         """Clicks as a person does: no sooner than a hand can have seen what is there."""
@@ -107,6 +113,17 @@ class Browser:
         self.js("document.querySelector(arguments[0])?.scrollIntoView({ block: 'center' })",
                 selector)
         self.wait(lambda: self.one(selector).click() or True, f"{selector} to be clicked")
+
+    def stop_clock(self):
+        """The clock that the page goes by stands still: what a person does within half a second is
+        done within it also on a machine that takes longer for it."""
+        self.js("window.clock = performance.now(); performance.now = () => window.clock")
+
+    def let_pass(self, seconds):
+        self.js("window.clock += arguments[0] * 1000", seconds)
+
+    def start_clock(self):
+        self.js("delete performance.now")
 
     def type(self, selector, *words):
         self.one(selector).send_keys(*words)

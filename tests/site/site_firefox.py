@@ -22,6 +22,8 @@ user_pref("network.captive-portal-service.enabled", false);
 user_pref("network.connectivity-service.enabled", false);
 user_pref("browser.safebrowsing.downloads.remote.enabled", false);
 """
+# The longest that the test waits for the page or the browser, in seconds.
+PATIENCE = 50
 # What a page of another site or a breach of the policy would leave.
 WATCH = """
 window.breaches = [];
@@ -48,10 +50,10 @@ class Firefox:
         self.call("WebDriver:NewSession", {"acceptInsecureCerts": True})
 
     def connected(self):
-        end = time.monotonic() + 60
+        end = time.monotonic() + PATIENCE
         while True:
             try:
-                return socket.create_connection(("127.0.0.1", self.port), timeout=50)
+                return socket.create_connection(("127.0.0.1", self.port), timeout=PATIENCE)
             except OSError:
                 if time.monotonic() > end or self.process.poll() is not None:
                     raise
@@ -61,11 +63,17 @@ class Firefox:
         """The next message: its length, a colon, and JSON."""
         length = b""
         while not length.endswith(b":"):
-            length += self.link.recv(1)
+            length += self.piece(1)
         text = b""
         while len(text) < int(length[:-1]):
-            text += self.link.recv(int(length[:-1]) - len(text))
+            text += self.piece(int(length[:-1]) - len(text))
         return json.loads(text)
+
+    def piece(self, most):
+        taken = self.link.recv(most)
+        if not taken:
+            raise EOFError("Firefox has ended")
+        return taken
 
     def call(self, name, words=None):
         self.count += 1
@@ -84,9 +92,9 @@ class Firefox:
         self.wait("document.body.classList.contains('ready')")
         self.js(WATCH)
 
-    def wait(self, condition, seconds=20):
+    def wait(self, condition):
         """Waits until an expression holds."""
-        end = time.monotonic() + seconds
+        end = time.monotonic() + PATIENCE
         while not self.js(f"return Boolean({condition})"):
             if time.monotonic() > end:
                 text = self.js("return document.body.innerText")
@@ -125,7 +133,7 @@ def story(cases, world, firefox):
     firefox.type("#log-name", "alice")
     firefox.type("#log-password", "pw-alice\ue007")
     firefox.wait("document.querySelector('#owed').innerText.includes(\"isn't known yet\")")
-    firefox.wait("document.querySelector('h1').innerText.startsWith('Proposal ')", 40)
+    firefox.wait("document.querySelector('h1').innerText.startsWith('Proposal ')")
     told = [it["author"] for it in world.pending("PC/8086/a090")]
     cases.equal("firefox: lost twice, one proposal", told, ["alice"])
     owed = firefox.js("return Object.keys(localStorage).filter((it) => it.startsWith('owed:'))")

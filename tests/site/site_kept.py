@@ -56,14 +56,13 @@ def again(browser):
 
 def asked_in_the_bar(cases, world, browser):
     """A sent draft is bound to its key over a reload, and goes when the bar learns the outcome."""
-    world.spoiler.set("hold", seconds=3)
+    world.spoiler.set("keep")
     send(browser, "a070", "Sent once")
-    time.sleep(1)
-    again(browser)
-    cases.equal("kept: a sent draft can't be changed", value(browser, "#name"), ["Sent once", True])
-    cases.equal("kept: and says so", browser.has("This was sent", "form.propose"), True)
-    world.spoiler.set("pass")
     browser.wait(lambda: count(world, "a070") == 1, "the first try to have come through")
+    again(browser)
+    cases.equal("kept: and says so", browser.has("This was sent", "form.propose"), True)
+    cases.equal("kept: a sent draft can't be changed", value(browser, "#name"), ["Sent once", True])
+    world.spoiler.set("pass")
     browser.has("no answer came", "#owed")
     browser.click("#owed button")
     told = browser.has("It was done, as proposal", "form.propose")
@@ -142,26 +141,29 @@ def refused(cases, world, browser):
 
 def fallen(cases, world, browser):
     """A click that was meant for the bar doesn't fall onto what it lay over."""
-    world.spoiler.set("hold", seconds=2)
+    world.spoiler.set("keep")
     send(browser, "a075", "Left at once")
     browser.js("document.querySelector('header nav a[href=\"/help\"]').click()")
     browser.heading("Help")
-    browser.has("done, as proposal", "#owed")
     world.spoiler.set("pass")
+    browser.has("done, as proposal", "#owed")
     browser.js("const it = document.createElement('button'); window.fell = 0;"
                "it.style.cssText = 'position: fixed; inset: auto 0 0 0; height: 300px; z-index: 1';"
                "it.onclick = () => { window.fell += 1; }; document.body.append(it)")
     time.sleep(0.6)
     place = browser.js("const it = document.querySelector('#owed button').getBoundingClientRect();"
                        "return [it.x + 5, it.y + 5]")
-    for _ in range(2):
-        mouse(browser, place, 1)
-        time.sleep(0.2)
-    gone = browser.js("return [document.getElementById('owed').hidden, fell]")
-    cases.equal("kept: a click that was meant for the bar", gone, [True, 0])
-    time.sleep(0.6)
+    browser.stop_clock()
+    mouse(browser, place, 1)
+    gone = "return document.getElementById('owed').hidden"
+    cases.equal("kept: the bar is closed", browser.wait(lambda: browser.js(gone), "no bar"), True)
+    browser.let_pass(0.2)
+    mouse(browser, place, 1)
+    cases.equal("kept: a click that was meant for the bar", browser.js("return fell"), 0)
+    browser.let_pass(0.6)
     mouse(browser, place, 1)
     cases.equal("kept: and one that wasn't", browser.js("return fell"), 1)
+    browser.start_clock()
 
 
 def rejected(cases, world, browser, number):
@@ -208,7 +210,7 @@ def typed(cases, world, browser):
         browser.heading("Help")
         browser.driver.back()
         browser.wait(lambda box=box: browser.all(box), box)
-        browser.wait(lambda box=box, text=text: value(browser, box)[0] == text, f"{box} again", 3)
+        browser.wait(lambda box=box, text=text: value(browser, box)[0] == text, f"{box} again")
         cases.equal(f"kept: {path} {box}, Back", value(browser, box)[0], text)
     browser.go("/item/PC/8086")
     narrowed = value(browser, "#narrow-devices")[0]
@@ -250,7 +252,7 @@ def late_rows(cases, world, browser):
                                           {"source": PLACES})
     world.spoiler.set("hold", seconds=0.3)
     browser.go("/queue")
-    browser.wait(lambda: browser.all(".queue button.main"), "the first row", 40)
+    browser.wait(lambda: browser.all(".queue button.main"), "the first row")
     world.spoiler.set("pass")
     browser.all_rows(".queue > li", len(world.pending()))
     row = f".queue a[href='/proposals/{parent}']"
@@ -262,9 +264,9 @@ def late_rows(cases, world, browser):
     world.spoiler.set("lose", left=2)
     browser.js(f"{approve}.click()", row)
     browser.has("It isn't known yet", "#owed")
-    browser.wait(lambda: world.state(parent) == "approved", "approved", 30)
+    browser.wait(lambda: world.state(parent) == "approved", "approved")
     browser.wait(lambda: browser.js("return document.querySelector(arguments[0]).closest('li')"
-                                    ".classList.contains('settled')", row), "the row", 30)
+                                    ".classList.contains('settled')", row), "the row")
     time.sleep(0.7)
     places = browser.js("return places")
     moved = {name: its for name, its in places.items() if len(its) != 1}
@@ -280,7 +282,7 @@ def unfetched(cases, world, browser):
     browser.go("/recent")
     told = browser.has("There is no connection")
     driver.execute_cdp_cmd("Network.setBlockedURLs", {"urls": []})
-    cases.equal("kept: a file that was missing", (told, browser.heading("Recent changes", 60)),
+    cases.equal("kept: a file that was missing", (told, browser.heading("Recent changes")),
                 (True, True))
     path = os.path.join(world.folder, "public", "pci.ids")
     os.rename(path, f"{path}.away")

@@ -27,22 +27,21 @@ def lost(cases, world, browser):
     browser.click("form.propose button.main")
     browser.has("It isn't known yet whether this was done", "#owed")
     cases.equal("once: kept before its outcome is known", len(browser.owed()), 1)
-    browser.heading("Proposal ", 30)
+    browser.heading("Proposal ")
     cases.equal("once: lost three times, one proposal", count(world, "a001"), 1)
     cases.equal("once: nothing is kept after it", browser.owed(), [])
 
 
 def reloaded(cases, world, browser):
     """A reload during the first try, and one between two tries."""
-    world.spoiler.set("hold", seconds=3)
+    world.spoiler.set("keep")
     propose(browser, "a002", "Loaded anew in the first try")
     browser.click("form.propose button.main")
-    time.sleep(1)
+    browser.wait(lambda: count(world, "a002") == 1, "the first try to have come through")
     browser.go("/help")
     told = browser.has("Loaded anew in the first", "#owed")
     cases.equal("once: told of after a reload", told, True)
     world.spoiler.set("pass")
-    browser.wait(lambda: count(world, "a002") == 1, "the first try to have come through")
     browser.has("no answer came", "#owed")
     browser.click("#owed button")
     browser.has("done, as proposal", "#owed")
@@ -66,11 +65,14 @@ def doubled(cases, world, browser):
         time.sleep(SETTLE)
         place = browser.js("const it = document.querySelector('form.propose button.main')"
                            ".getBoundingClientRect(); return [it.x + 10, it.y + 10]")
+        browser.stop_clock()
         for clicks in (1, 2):
             mouse(browser, place, clicks)
             time.sleep(pause)
+            browser.let_pass(pause)
         browser.heading("Proposal ")
         time.sleep(SETTLE)
+        browser.start_clock()
         states = [it["path"] for it in world.pending(f"PC/8086/{digits}")]
         cases.equal(f"once: a double click of {pause} s", states, [f"PC/8086/{digits}"])
     propose(browser, "a006", "Ten clicks")
@@ -83,14 +85,15 @@ def doubled(cases, world, browser):
     number = world.pending("PC/8086/a006")[0]["num"]
     browser.js("document.querySelector('header nav a[href=\"/help\"]').click()")
     browser.heading("Help")
-    browser.js("let first; window.clicks = setInterval(() => {"
+    browser.stop_clock()
+    browser.js("window.clicks = 0; window.clicking = setInterval(() => {"
                "  const button = document.querySelector('.decide button');"
-               "  if (button) first ??= performance.now();"
-               "  if (button && performance.now() - first < 250) button.click();"
+               "  if (button) { button.click(); window.clicks += 1; }"
                "}); history.back()")
     browser.heading("Proposal ")
-    time.sleep(0.3)
-    browser.js("clearInterval(window.clicks)")
+    browser.wait(lambda: browser.js("return window.clicks > 3"), "clicks on what came")
+    browser.js("clearInterval(window.clicking)")
+    browser.start_clock()
     cases.equal("once: a button that just came", world.state(number), "pending")
 
 
@@ -166,21 +169,21 @@ def killed(cases, world, browser):
     browser.click("form.propose button.main")
     time.sleep(1.5)
     world.start_server()
-    browser.heading("Proposal ", 40)
+    browser.heading("Proposal ")
     cases.equal("once: a killed server, one proposal", count(world, "a020"), 1)
 
 
 def late(cases, world, browser):
     """A late answer doesn't take anybody away from where he is by now."""
-    world.spoiler.set("hold", seconds=3)
+    world.spoiler.set("keep")
     propose(browser, "a030", "Late")
     browser.click("form.propose button.main")
     browser.js("document.querySelector('header nav a[href=\"/check\"]').click()")
     browser.heading("Check a file")
     cases.equal("once: told in the bar meanwhile", browser.has("Late", "#owed"), True)
     browser.type("#paste", "typed meanwhile")
-    browser.has("done, as proposal", "#owed")
     world.spoiler.set("pass")
+    browser.has("done, as proposal", "#owed")
     typed = browser.js("return document.getElementById('paste').value")
     cases.equal("once: who is elsewhere stays there", (browser.text("main h1"), typed),
                 ("Check a file", "typed meanwhile"))
@@ -207,15 +210,26 @@ def forgotten(cases, world, browser):
     time.sleep(2)
     left = count(world, "a040"), browser.owed()
     cases.equal("once: what was forgotten isn't sent", left, (0, []))
-    make = ("const done = arguments[0], all = [];"
-            "import('/site/outbox.js').then(async ({ begin, forget }) => {"
-            "for (let n = 0; n < 60; n += 1) all.push((await begin('/x', 'a=b', 'x')).key);"
+    # Each tab makes sixty entries and remembers sixty proposals, both at once.
+    make = ("const [done, own] = arguments, all = [];"
+            "Promise.all([import('/site/outbox.js'), import('/site/detours.js')])"
+            ".then(async ([{ begin, forget }, { rememberOwn }]) => {"
+            "for (let n = 0; n < 60; n += 1) {"
+            "  all.push((await begin('/x', 'a=b', 'x')).key);"
+            "  rememberOwn({ account: 'nobody', body: 'path=x&name=y' }, { num: own + n });"
+            "}"
             "window.forgetAll = () => all.forEach(forget); done(all.length); })")
-    driver.execute_script(f"(function () {{ {make} }})(() => {{ window.made = true; }})")
+    driver.execute_script(f"(function () {{ {make} }})(() => {{ window.made = true; }}, 100)")
     driver.switch_to.window(second)
-    driver.execute_async_script(make)
-    browser.wait(lambda: len(browser.owed()) == 120, "entries of both tabs", 5)
+    driver.execute_async_script("const [done] = arguments;"
+                                f"(function () {{ {make} }})(done, 200)")
+    browser.wait(lambda: len(browser.owed()) == 120, "entries of both tabs")
     cases.equal("once: two tabs keep all their entries", len(browser.owed()), 120)
+    own = driver.execute_async_script(
+        "const [done] = arguments; import('/site/detours.js').then(({ ownProposals }) =>"
+        "  done(ownProposals('nobody').map((it) => it.num)))")
+    want = [*range(259, 199, -1), *range(159, 99, -1)]
+    cases.equal("once: and all their own proposals", own, want)
     browser.js("window.forgetAll()")
     driver.close()
     driver.switch_to.window(first)
@@ -327,7 +341,7 @@ def imports(cases, world, browser):
     world.spoiler.set("lose", left=50)
     revision = world.ask("/changes?since=9000000000000000000")["revision"]
     browser.click(".result button.main")
-    browser.has("It isn't known yet", "#owed", 40)
+    browser.has("It isn't known yet", "#owed")
     browser.go("/help")
     browser.has("Choose the same file again", "#owed")
     world.spoiler.set("pass")
@@ -343,10 +357,10 @@ def stopped(cases, world, browser):
     """A slow and a stopped registry are told of, and browsing goes on."""
     browser.go("/help")
     time.sleep(3)
-    world.spoiler.set("hold", seconds=3)
+    world.spoiler.set("hold", seconds=5)
     browser.js("document.querySelector('header nav a[href=\"/vendors\"]').click()")
     cases.equal("stopped: told that it is slow", browser.has("slow to answer", "#notice"), True)
-    browser.heading("Vendors", 30)
+    browser.heading("Vendors")
     world.spoiler.set("gone")
     browser.go("/item/PC/8086/1237")
     got = "published file" in browser.text(), "440FX" in browser.text("h1")

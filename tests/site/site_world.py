@@ -16,7 +16,7 @@ import urllib.parse
 import urllib.request
 
 import program
-from http_server import Server, ask_curl, free_port
+from http_server import Server, ask_curl, free_port, to_end
 
 SITE = os.path.join(program.TOP, "site")
 # Where nginx's files for the site are.
@@ -30,6 +30,8 @@ TAKEN = {
     "C 01": 12, "C 02": 6, "C 03": 5, "C 06": 8,
 }
 ALWAYS = ("PC/8086/1237", "PC/8086/1237/1af41100")
+# The longest that anything of a test waits for another program, in seconds.
+PATIENCE = 50
 
 
 def items_of_file():
@@ -66,7 +68,8 @@ def fill(database, items):
     lines = [f"account root who={who}&rank={rank}\n" for who, rank in PEOPLE.items()
              if who != "root"]
     words = [program.PROGRAM, "script", "--db", database]
-    subprocess.run(words, input="".join(lines).encode(), stdout=subprocess.DEVNULL, check=True)
+    quiet = {"stdout": subprocess.DEVNULL, "timeout": PATIENCE, "check": True}
+    subprocess.run(words, input="".join(lines).encode(), **quiet)
     with sqlite3.connect(database) as registry:
         registry.executemany("INSERT INTO item VALUES (?, ?)", items)
         registry.executemany("INSERT INTO item_since VALUES (?, 5)", [(path,) for path, _ in items])
@@ -77,17 +80,20 @@ def fill(database, items):
 
 class Spoiler:
     """Stands between nginx and the server. `mode` is `pass`, `lose` (the responses to the next
-    `left` commands are thrown away), `hold` (each response comes `seconds` late) or `gone`."""
+    `left` commands are thrown away), `hold` (each response comes `seconds` late), `keep` (responses
+    to commands wait for another mode) or `gone`."""
 
     def __init__(self, behind):
         self.behind, self.port = behind, free_port()
-        self.set("pass")
-        self.lock = threading.Lock()
+        self.changed = threading.Condition()
+        self.mode, self.left, self.seconds = "pass", 0, 0
         self.listener = socket.create_server(("127.0.0.1", self.port), backlog=100)
         threading.Thread(target=self.listen, daemon=True).start()
 
     def set(self, mode, left=0, seconds=0):
-        self.mode, self.left, self.seconds = mode, left, seconds
+        with self.changed:
+            self.mode, self.left, self.seconds = mode, left, seconds
+            self.changed.notify_all()
 
     def listen(self):
         while True:
@@ -97,15 +103,8 @@ class Spoiler:
                 return
             threading.Thread(target=self.serve, args=(client,), daemon=True).start()
 
-    def is_lost(self, head):
-        is_command = head.startswith(b"POST") and b"\nx-key:" in head.lower()
-        with self.lock:
-            if self.mode != "lose" or not is_command or self.left == 0:
-                return False
-            self.left -= 1
-            return True
-
     def serve(self, client):
+        client.settimeout(PATIENCE)
         with client:
             if self.mode == "gone":
                 client.setsockopt(socket.SOL_SOCKET, socket.SO_LINGER, b"\1\0\0\0\0\0\0\0")
@@ -116,23 +115,48 @@ class Spoiler:
                 pass
 
     def pass_on(self, client):
-        head = b""
-        while b"\r\n\r\n" not in head:
-            head += client.recv(65536) or b"\r\n\r\n"
-        length = re.search(rb"\ncontent-length: *([0-9]+)", head, re.I)
-        whole = head.index(b"\r\n\r\n") + 4 + (int(length[1]) if length else 0)
-        while len(head) < whole:
-            head += client.recv(65536)
-        is_lost = self.is_lost(head)
-        with socket.create_connection(("127.0.0.1", self.behind)) as server:
-            server.sendall(head)
-            response = b""
-            while piece := server.recv(65536):
-                response += piece
+        request = whole_request(client)
+        if request is None:
+            return
+        is_command = request.startswith(b"POST") and b"\nx-key:" in request.lower()
+        is_lost = is_command and self.is_lost()
+        place = ("127.0.0.1", self.behind)
+        with socket.create_connection(place, timeout=PATIENCE) as server:
+            server.sendall(request)
+            response = to_end(server)
         if self.mode == "hold":
             time.sleep(self.seconds)
+        with self.changed:
+            self.changed.wait_for(lambda: self.mode != "keep" or not is_command, PATIENCE)
         if not is_lost:
             client.sendall(response)
+
+    def is_lost(self):
+        with self.changed:
+            if self.mode != "lose" or self.left == 0:
+                return False
+            self.left -= 1
+            return True
+
+
+def whole_request(client):
+    """A request of nginx, or None where it does not come whole: nginx drops one whose page was left
+    meanwhile. Nothing of such a one may go on, since the server serves one connection at a time and
+    would wait for the rest."""
+    taken = b""
+    while (size := size_of(taken)) is None or len(taken) < size:
+        piece = client.recv(65536)
+        if not piece:
+            return None
+        taken += piece
+    return taken
+
+
+def size_of(taken):
+    """How long a request is, once its head is there."""
+    head, end, _ = taken.partition(b"\r\n\r\n")
+    length = re.search(rb"\ncontent-length: *([0-9]+)", head, re.I)
+    return len(head + end) + (int(length[1]) if length else 0) if end else None
 
 
 NGINX = """user root;
@@ -161,11 +185,12 @@ class Nginx:
         certificate = ["openssl", "req", "-x509", "-newkey", "rsa:2048", "-nodes", "-days", "1",
                        "-subj", "/CN=localhost", "-out", f"{folder}/certificate.pem", "-keyout",
                        f"{folder}/key.pem"]
-        subprocess.run(certificate, stderr=subprocess.DEVNULL, check=True)
+        quiet = {"stderr": subprocess.DEVNULL, "timeout": PATIENCE, "check": True}
+        subprocess.run(certificate, **quiet)
         open(f"{folder}/passwords", "w").close()
         for name in PEOPLE:
             words = ["htpasswd", "-bB", "-C", "4", f"{folder}/passwords", name, f"pw-{name}"]
-            subprocess.run(words, stderr=subprocess.DEVNULL, check=True)
+            subprocess.run(words, **quiet)
         for name in ("headers", "limits", "site"):
             with open(f"{CONFIG}/pciids-{name}.conf", encoding="utf-8") as file:
                 text = self.in_place(file.read(), behind)
@@ -232,11 +257,11 @@ class World:
         self.wait()
 
     def wait(self):
-        for _ in range(200):
-            if ask_curl("-k", f"{self.base}/read/PC/8086")[0] == 200:
-                return
+        end = time.monotonic() + PATIENCE
+        while ask_curl("-k", f"{self.base}/read/PC/8086")[0] != 200:
+            if time.monotonic() > end:
+                raise TimeoutError("the site doesn't answer")
             time.sleep(0.05)
-        raise TimeoutError("the site doesn't answer")
 
     def __enter__(self):
         return self
@@ -260,7 +285,7 @@ class World:
         request.add_header("X-Account", account)
         request.add_header("Connection", "close")
         try:
-            with urllib.request.urlopen(request, timeout=60) as response:
+            with urllib.request.urlopen(request, timeout=PATIENCE) as response:
                 return json.load(response)
         except urllib.error.HTTPError as fault:
             return json.load(fault)
