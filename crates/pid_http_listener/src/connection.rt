@@ -11,8 +11,9 @@ use std::io;
 use std::io::{BufReader, BufWriter, Read, Write};
 use std::net::TcpStream;
 
-/// The most that is read ahead of what is asked for, in bytes.
-const READ_AHEAD: usize = 65_536;
+/// The most that is read ahead of what is asked for, in bytes. So many zeros are written for each
+/// connection.
+const READ_AHEAD: usize = 8_192;
 
 /// The most of a reply that is held back, in bytes.
 const HELD_BACK: usize = 65_536;

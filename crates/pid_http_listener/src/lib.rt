@@ -1,9 +1,8 @@
 //! Connections of a listener, one served after the other.
 //!
 //! `serve_on` accepts a connection, hands its bytes to a `StreamServer`, and closes it so that its
-//!   client loses no reply. What
-//! comes is read ahead, at most 64 KiB, and replies are held back until they are asked for: each is
-//! out before the next read.
+//! client loses no reply. What comes is read ahead, at most 8 KiB, and replies are held back until
+//! they are asked for, at most 64 KiB: each is out before the next read.
 #![tactic(auto)]
 
 mod closing;
