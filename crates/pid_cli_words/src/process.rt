@@ -1,5 +1,5 @@
 //! The arguments of the process, and what it prints if they name no job.
-ghost use Rattle.std.specs.Prelude.{◌≡◌, ◌≢◌};
+ghost use Rattle.std.specs.Prelude.{◌≡◌, ◌≢◌, ◌⊎◌, IfErr};
 ghost use Rattle.clap.specs.Words.{kind_of};
 ghost use Rattle.clap.specs.declared.error.kind.ErrorKind.TheVariants.{DisplayHelp, DisplayVersion};
 ghost use Rattle.pid_cli_words.specs.WordsFaults.{IsNoJobStatus};
@@ -16,7 +16,9 @@ pub const UNKNOWN_WORDS: u8 = 2;
 
 /// The arguments of the process, the program's name first. Reports an argument that is not UTF-8,
 /// or that it ran out of memory, on standard error, and returns the exit status.
-pub fn words_given(rt: &HostRuntime) -> Result<Vec<String>, u8> {
+pub fn words_given(rt: &HostRuntime) -> Result<Vec<String>, u8>
+    ensures { IfErr result (λ status. (status ≡ 2) ⊎ (status ≡ 3)) }
+{
     match collected(rt) {
         Ok(words) => Ok(words),
         Err(error) => {
