@@ -191,7 +191,7 @@ class Front:
 
     def quiet(self):
         """How long nothing has to come until nothing will, in seconds: by how long it takes nginx
-        and the server behind it to answer now."""
+        and the server to answer now."""
         start = time.monotonic()
         with self.connect() as client:
             client.sendall(b"GET /pending HTTP/1.1\r\nHost: a\r\nConnection: close\r\n\r\n")

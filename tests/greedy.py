@@ -71,7 +71,7 @@ def main(folder):
     greedy = [Greedy(folder, codes) for _ in range(GREEDY)]
     for it in greedy:
         it.start()
-    # What he may ask at once is behind him then.
+    # By then he has asked what he may ask at once.
     end = time.monotonic() + LONGEST
     while codes[429] < 2 * GREEDY and codes[200] < 2 * GREEDY and time.monotonic() < end:
         time.sleep(0.1)

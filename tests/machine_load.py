@@ -1,6 +1,6 @@
 """The installed service at work, on a machine of its own: restarts while several people send
-commands and ask, a list that does not fit into the unit's memory, a visitor who takes all he can get
-of a registry of 100,000 items, and how long a backup stops its server."""
+commands and ask, a list that does not fit into the unit's memory, a visitor who takes all he can
+get of a registry of 100,000 items, and how long a backup stops its server."""
 import json
 import os
 import re

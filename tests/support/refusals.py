@@ -28,7 +28,7 @@ def numbered(text, kind):
 
 
 def defined():
-    """The same as the definitions have it: of commands, of questions, of requests, of streams."""
+    """The same as the definitions have it: of commands, of questions, of requests."""
     found = {}
     outcomes = spec("pid_http_replies", "Outcomes")
     said = re.findall(r"^status_of_refusal \(?refusals\.(\w+).*= (\d+)$", outcomes, re.M)
@@ -42,10 +42,8 @@ def defined():
     statuses = {variant: int(status) for status, variant in said}
     for variant, (number, word) in numbered(spec("pid_lookup", "Unanswered"), "unanswered").items():
         found[number] = (word, statuses[variant])
-    early = spec("pid_http_replies", "EarlyAnswers")
-    for status, number, word in re.findall(r'json_refusal (\d+) (\d+) \(codes "(\w+)"\)', early):
-        found[int(number)] = (word, int(status))
-    fault = r'answer_with (\d+) Json\n.*\\"refused\\":(\d+),\\"word\\":\\"(\w+)\\"'
-    for status, number, word in re.findall(fault, spec("pid_http_stream", "Replies")):
-        found[int(number)] = (word, int(status))
+    requests = spec("pid_http_stream", "RequestRefusals")
+    statuses = dict(re.findall(r"^request_refusal_status (\w+) = (\d+)$", requests, re.M))
+    for variant, (number, word) in numbered(requests, "request_refusal").items():
+        found[number] = (word, int(statuses[variant]))
     return found

@@ -13,9 +13,7 @@ ghost use Rattle.pid_service.specs.Asking.{Answers, AnswersIfThere};
 use crate::laws;
 use crate::registry::Registry;
 use pid_ident::{Name, Path};
-use pid_moderation::{
-    Changes, Discussion, Item, PAGE, Pending, Refusal, sinces_are_last_changes,
-};
+use pid_moderation::{Changes, Discussion, Item, PAGE, Pending, Refusal, sinces_are_last_changes};
 use pid_tables::refusal_of;
 use pid_tables_lists::changes_page;
 use pid_tables_rows::meta::revision;
