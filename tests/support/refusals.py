@@ -17,7 +17,9 @@ def shown():
 
 
 def spec(crate, name):
-    return text_of("crates", crate, "specs", f"{name}.antt")
+    """A file of definitions; empty if there is none."""
+    path = os.path.join(TOP, "crates", crate, "specs", f"{name}.antt")
+    return text_of(path) if os.path.exists(path) else ""
 
 
 def numbered(text, kind):
@@ -41,6 +43,11 @@ def defined():
     said += re.findall(missing, outcomes, re.M)
     statuses = {variant: int(status) for status, variant in said}
     for variant, (number, word) in numbered(spec("pid_lookup", "Unanswered"), "unanswered").items():
+        found[number] = (word, statuses[variant])
+    requests = spec("pid_http_stream", "RequestRefusals")
+    said = re.findall(r"^request_refusal_status (\w+) = (\d+)$", requests, re.M)
+    statuses = {variant: int(status) for variant, status in said}
+    for variant, (number, word) in numbered(requests, "request_refusal").items():
         found[number] = (word, statuses[variant])
     early = spec("pid_http_replies", "EarlyAnswers")
     for status, number, word in re.findall(r'json_refusal (\d+) (\d+) \(codes "(\w+)"\)', early):
