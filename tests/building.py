@@ -88,8 +88,8 @@ def builds(cases):
         noted = notes(folder)
         cases.equal("the lowest crate gets all processors", noted[0], "begin low lib --jobs 4 over new")
         both = sorted(noted[2:4])
-        wanted = [f"begin {it} lib --jobs 2 over low new" for it in ("left", "right")]
-        cases.equal("two crates share the processors", both, wanted)
+        wanted = [f"begin {it} lib --jobs {n} over low new" for it, n in (("left", 4), ("right", 1))]
+        cases.equal("a second crate goes on beside the first", both, wanted)
         cases.equal("the last one", noted[6], "begin top lib --jobs 4 over left low right new")
         cases.equal("no lane is left", lanes(folder), [])
         stamp = os.path.join(folder, "crates", "top", "out", "rlib", "stamp")

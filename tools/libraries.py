@@ -4,9 +4,9 @@
     tools/libraries.py PROGRAM PROCESSORS
 
 `rt` locks all crates below the one that it builds. So each crate is built in a lane: a folder in
-which the sources and the libraries below it are hard links. Its `out` folder then moves back. A
-crate gets the processors that no other crate can use, and the one with the longest chain of crates
-above it goes first. Prints `crate NAME: modules stand` when a crate is built; what `rt` prints goes
+which the sources and the libraries below it are hard links. Its `out` folder then moves back. The
+crate with the longest chain of crates above it gets all processors, and others go on beside it with
+what it leaves idle. Prints `crate NAME: modules stand` when a crate is built; what `rt` prints goes
 to standard error if it fails.
 """
 
@@ -88,18 +88,25 @@ class Build:
         threads = []
         with self.changed:
             while not self.failed and len(self.built) < len(self.crates):
-                ready = self.ready()
-                for place, crate in enumerate(ready):
-                    idle = self.processors - sum(self.jobs.values())
-                    if idle == 0:
-                        break
-                    self.jobs[crate] = max(1, min(4, idle // (len(ready) - place)))
-                    threads.append(threading.Thread(target=self.build, args=(crate,)))
-                    threads[-1].start()
+                for crate in self.ready():
+                    jobs = self.jobs_for(crate)
+                    if jobs:
+                        self.jobs[crate] = jobs
+                        threads.append(threading.Thread(target=self.build, args=(crate,)))
+                        threads[-1].start()
                 self.changed.wait(timeout=1)
         for thread in threads:
             thread.join()
         return not self.failed
+
+    def jobs_for(self, crate):
+        """Returns how many jobs a crate can have now: all processors for the one that the most waits
+        for; for each other one a job, as long as half of the processors have no such crate."""
+        waiting = [it for it in self.crates if it not in self.built]
+        if crate == max(waiting, key=self.chains.get):
+            return self.processors
+        beside = sum(1 for jobs in self.jobs.values() if jobs == 1)
+        return 1 if beside < max(1, self.processors // 2) else 0
 
     def build(self, crate):
         """Builds one crate in a lane of its own."""
@@ -152,8 +159,10 @@ class Build:
                 os.rename(os.path.join(source, part), os.path.join(target, part))
 
     def rt_lib(self, place, jobs):
+        """Builds the crate in this folder; one beside that with all processors waits for it."""
+        beside = ["nice"] if jobs < self.processors else []
         process = subprocess.Popen(
-            ["rt", "lib", "--jobs", str(jobs)],
+            [*beside, "rt", "lib", "--jobs", str(jobs)],
             cwd=place,
             stdin=subprocess.DEVNULL,
             stdout=subprocess.PIPE,
