@@ -1,4 +1,5 @@
 """The Debian packages of the program under test, built once for all parts of a run."""
+import fcntl
 import functools
 import os
 import shutil
@@ -47,17 +48,54 @@ def build(folder, **more):
 
 
 def packages():
-    """The folder that has both packages. They are built when the first part asks."""
+    """The folder that has both packages. They are built when the first part asks, also where each
+    part is a process of its own: their folder goes by the process that began them all."""
     program.need("dpkg-deb", "dpkg-buildpackage", "dh")
-    if "packages" not in _built:
-        folder = tempfile.mkdtemp()
-        program.AT_END.append(functools.partial(shutil.rmtree, folder, ignore_errors=True))
-        os.chmod(folder, 0o755)
-        told, status = build(folder)
+    folder = os.path.join(tempfile.gettempdir(), f"pciids-packages-{os.getppid()}")
+    while "packages" not in _built:
+        lock = open(f"{folder}.lock", "w", encoding="utf-8")
+        # Many may use them, and one alone builds or removes them.
+        fcntl.flock(lock, fcntl.LOCK_SH)
+        if not os.path.exists(folder):
+            fcntl.flock(lock, fcntl.LOCK_EX)
+            if is_in_place(lock) and not os.path.exists(folder):
+                built_beside(folder)
+            fcntl.flock(lock, fcntl.LOCK_SH)
+        if is_in_place(lock) and os.path.exists(folder):
+            _built["packages"] = folder
+            program.AT_END.append(functools.partial(left, folder, lock))
+        else:
+            lock.close()
+    return folder
+
+
+def is_in_place(file):
+    """Whether an open file still has its name."""
+    return os.path.exists(file.name) and os.path.samestat(os.fstat(file.fileno()),
+                                                          os.stat(file.name))
+
+
+def built_beside(folder):
+    """Builds both packages, and puts the folder in its place when they are there."""
+    beside = tempfile.mkdtemp()
+    try:
+        os.chmod(beside, 0o755)
+        told, status = build(beside)
         if status != 0:
             raise RuntimeError(f"build-deb: {told}")
-        _built["packages"] = folder
-    return _built["packages"]
+        shutil.move(beside, folder)
+    finally:
+        shutil.rmtree(beside, ignore_errors=True)
+
+
+def left(folder, lock):
+    """Removes the packages, unless another part holds them."""
+    try:
+        fcntl.flock(lock, fcntl.LOCK_EX | fcntl.LOCK_NB)
+    except BlockingIOError:
+        return
+    shutil.rmtree(folder, ignore_errors=True)
+    os.remove(lock.name)
 
 
 def package(name):

@@ -22,6 +22,17 @@ ASK_SITE = (
 IS_UP = f"{ASK}/pending"
 MARK = "/run/pciids/stopped"
 HOLD = "/usr/lib/pciids-registry/hold"
+KILL = "systemctl kill --kill-whom=main -s KILL pciids"
+# Forty connections to the socket of the registry that are closed at some point of a request.
+LEFT = r"""
+import socket
+command = b"POST /submit HTTP/1.1\r\nContent-Length: 9\r\n\r\na=b"
+for sent in (b"", b"\r\n\r\n", b"GET /pen", command):
+    for _ in range(10):
+        with socket.socket(socket.AF_UNIX) as client:
+            client.connect("/run/pciids/http.sock")
+            client.sendall(sent)
+"""
 
 
 def examples():
@@ -204,8 +215,16 @@ def stops(story):
     story.works("the job lets go", f"{HOLD} release test")
     story.is_up("the server is back")
     kill_backup(story)
-    story.works("the server killed", "systemctl kill -s KILL pciids")
+    story.works("the server killed", KILL)
     story.is_up("it was started again")
+
+
+def left(story):
+    """Requests that nginx drops before they are whole, as of visitors who leave, hold nobody up:
+    the server serves one connection at a time, and learns that it was closed."""
+    story.machine.run("cat > /srv/left.py", text=LEFT.encode())
+    story.works("requests that are left", "/usr/bin/python3 /srv/left.py")
+    story.works("a question after them", f"{ASK}/pending -f")
 
 
 def kill_backup(story):
@@ -351,6 +370,7 @@ def run(cases):
         web(story)
         moderated(story)
         stops(story)
+        left(story)
         kept(story)
         upgraded(story, folder)
         imported(story)

@@ -9,7 +9,7 @@ import time
 
 import built_packages
 import program
-from machine import ASK, ASK_SITE, HOST, Story, put_packages
+from machine import ASK, ASK_SITE, HOST, KILL, Story, put_packages
 from machine_room import Machine
 from program import TOP
 
@@ -105,7 +105,7 @@ def restarts(story):
         while number < TIMES or len(stands(story)) < COMMANDS and time.monotonic() < end:
             start = time.monotonic()
             if number % 2:
-                story.works("the server killed", "systemctl kill -s KILL pciids")
+                story.works("the server killed", KILL)
             else:
                 story.works("the server started anew", "systemctl restart pciids")
             story.is_up("the server is back beneath visitors")
