@@ -1,7 +1,7 @@
 //! Words, paths and their texts, and readers and writers that are interrupted or fail.
 use pid_ident::{
-    Account, FaultyOutput, Input, Key, LineKind, Name, Output, Path, PathText, Plain, Text,
-    WordFault, WriteFault, write_all, write_parts,
+    Account, FaultyOutput, Input, Key, Name, Output, Path, PathText, Plain, Text, WordFault,
+    WriteFault, write_all, write_parts,
 };
 use std::io;
 use std::io::{ErrorKind, Read, Write};
@@ -86,13 +86,6 @@ fn words_compare_by_their_bytes(rt: HostRuntime) -> Result<(), Fail> {
     let text = Text::of(rt.alloc(), "")?;
     assert!(rt; text == text.copy()?);
     assert!(rt; text != Text::of(rt.alloc(), "seen")?);
-    Ok(())
-}
-
-#[test]
-fn kinds_print_their_words(rt: HostRuntime) -> Result<(), Fail> {
-    let word = LineKind::VendorMissing.to_string(rt.alloc())?;
-    assert_eq!(rt; word.as_str(), "VendorMissing");
     Ok(())
 }
 

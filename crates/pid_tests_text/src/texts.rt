@@ -34,20 +34,21 @@ fn texts_are_tidied_however_they_are_cut(rt: HostRuntime) {
     for (text, want) in printed {
         for most in 1..=text.len().max(1) {
             let (end, output, faults) = tidied(rt.alloc(), text, most);
-            assert_eq!(rt; end, TextEnd::Done);
+            assert!(rt; matches!(end, TextEnd::Done));
             assert!(rt; output.taken.as_slice() == want, "{most}");
             assert!(rt; faults.taken.is_empty());
         }
     }
     let text = b"8086  I\n8086  J";
     let (end, output, faults) = tidied(rt.alloc(), text, 3);
-    assert_eq!(rt;
+    let second = matches!(
         end,
         TextEnd::Line {
             line: 2,
             kind: LineKind::Duplicate
         }
     );
+    assert!(rt; second);
     assert_eq!(rt; end.status(), 1);
     assert!(rt; output.taken.is_empty());
     assert!(rt; faults.taken.as_slice() == b"line 2: 7 Duplicate\n".as_slice());
@@ -114,14 +115,14 @@ fn limits_of_a_text(rt: HostRuntime) -> Result<(), Fail> {
     assert!(rt; output.taken.as_slice() == b"ok 100000\n".as_slice());
     let more = entries(rt.alloc(), 34_465)?;
     let (end, output) = checked(rt.alloc(), &more, 65_536);
-    assert_eq!(rt; end, TextEnd::TooManyEntries);
+    assert!(rt; matches!(end, TextEnd::TooManyEntries));
     assert!(rt; output.taken.as_slice() == b"too many entries\n".as_slice());
     let mut comment = vec![in rt.alloc(); b'#'; 4_194_304]?;
     let (_, output) = checked(rt.alloc(), &comment, 65_536);
     assert!(rt; output.taken.as_slice() == b"ok 0\n".as_slice());
     comment.push(b'x')?;
     let (end, output) = checked(rt.alloc(), &comment, 65_536);
-    assert_eq!(rt; end, TextEnd::TooLarge);
+    assert!(rt; matches!(end, TextEnd::TooLarge));
     assert!(rt; output.taken.as_slice() == b"too large\n".as_slice());
     Ok(())
 }
@@ -135,7 +136,7 @@ fn a_read_that_fails_is_told_before_all_else(rt: HostRuntime) {
             let mut output = FaultyOutput::new(rt.alloc(), 64);
             let mut faults = FaultyOutput::new(rt.alloc(), 64);
             let end = tidy(rt.alloc(), &mut input, &mut output, &mut faults);
-            assert_eq!(rt; end, TextEnd::ReadFault);
+            assert!(rt; matches!(end, TextEnd::ReadFault));
             assert_eq!(rt; end.status(), 3);
             assert!(rt; output.taken.is_empty() && faults.taken.is_empty());
         }
@@ -150,7 +151,7 @@ fn a_writer_that_fails_took_a_front(rt: HostRuntime) {
             let mut output = FaultyOutput::new(rt.alloc(), 1).failing_after(count as u64, fault);
             let mut faults = FaultyOutput::new(rt.alloc(), 64);
             let end = tidy(rt.alloc(), &mut input, &mut output, &mut faults);
-            assert_eq!(rt; end, TextEnd::WriteFault);
+            assert!(rt; matches!(end, TextEnd::WriteFault));
             let (front, _) = VENDORS_TIDIED.split_at(count);
             assert!(rt; output.taken.as_slice() == front, "{count}");
             assert!(rt; faults.taken.is_empty());
@@ -163,10 +164,8 @@ fn a_writer_that_fails_took_a_front(rt: HostRuntime) {
             count as u64,
             WriteFault::Zero,
         );
-        assert_eq!(rt;
-            check(rt.alloc(), &mut input, &mut output),
-            TextEnd::WriteFault
-        );
+        let end = check(rt.alloc(), &mut input, &mut output);
+        assert!(rt; matches!(end, TextEnd::WriteFault));
         let (front, _) = line.split_at(count);
         assert!(rt; output.taken.as_slice() == front, "{count}");
     }
