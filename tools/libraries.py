@@ -101,14 +101,17 @@ class Build:
         return not self.failed
 
     def jobs_for(self, crate):
-        """Returns how many jobs a crate can have now: all processors for the one that the most
-        waits for; for each other one a job, as long as half of the processors have no such
-        crate."""
+        """Returns how many jobs a crate can have now: all processors for the one that the most waits
+        for; half of them for the only other one that is left, or else a job, as long as half of the
+        processors have no such crate."""
         waiting = [it for it in self.crates if it not in self.built]
         if crate == max(waiting, key=self.chains.get):
             return self.processors
-        beside = sum(1 for jobs in self.jobs.values() if jobs == 1)
-        return 1 if beside < max(1, self.processors // 2) else 0
+        half = max(1, self.processors // 2)
+        if len(waiting) == 2:
+            return half
+        beside = sum(1 for jobs in self.jobs.values() if jobs < self.processors)
+        return 1 if beside < half else 0
 
     def build(self, crate):
         """Builds one crate in a lane of its own."""
