@@ -1,13 +1,10 @@
 //! The jobs of a registry, on any store. Each returns the connection if the registry is live.
-ghost use Rattle.std.specs.Prelude.{◌≡◌, false};
-
 use crate::job_end::JobEnd;
 use crate::replies::{print_step, tell_unopened};
 use crate::serving::{Port, serve_registry};
 use pid_ident::{Account, Input, Key, Output};
 use pid_script::{ScriptEnd, run_script};
 use pid_service::{ExportFault, ImportEnd, Registry, migrate, open};
-use pid_tables::TableFault;
 use sqlite::{Alter, Connection};
 use std::alloc::Global;
 
@@ -25,8 +22,6 @@ pub enum RegistryJob<I> {
     },
     Export,
     Serve(Port),
-    /// Only upgrades the tables; opens no registry.
-    Migrate,
 }
 
 /// Opens or creates the registry of a connection, and does the job.
@@ -37,12 +32,6 @@ pub fn work_on<S: Alter + Drop, I: Input + Drop, O: Output, F: Output>(
     output: &mut O,
     faults: &mut F,
 ) -> (JobEnd, Option<Connection<S>>) {
-    if !conn.is_autocommit() {
-        return (JobEnd::Told(tell_unopened(TableFault::Store, faults)), None);
-    }
-    if matches!(job, RegistryJob::Migrate) {
-        return take_over(rt.alloc(), conn, output, faults);
-    }
     match open(rt.alloc(), conn) {
         Ok(registry) => {
             let mut registry = registry;
@@ -53,15 +42,13 @@ pub fn work_on<S: Alter + Drop, I: Input + Drop, O: Output, F: Output>(
     }
 }
 
-// Upgrades the tables to the newest schema.
-fn take_over<S: Alter + Drop, O: Output, F: Output>(
+/// Brings the tables of a connection to the newest schema; opens no registry.
+pub fn migrate_on<S: Alter + Drop, O: Output, F: Output>(
     alloc: Global,
     conn: Connection<S>,
     output: &mut O,
     faults: &mut F,
-) -> (JobEnd, Option<Connection<S>>)
-    requires { conn.in_transaction ≡ false }
-{
+) -> (JobEnd, Option<Connection<S>>) {
     match migrate(alloc, conn) {
         Ok((conn, step)) => (print_step(step, output), Some(conn)),
         Err((fault, _)) => (JobEnd::Told(tell_unopened(fault, faults)), None),
@@ -92,8 +79,6 @@ fn do_job<S: Alter + Drop, I: Input + Drop, O: Output, F: Output>(
             input,
         } => bring_in(registry, account, key, input),
         RegistryJob::Export => print_all(registry, output),
-        // Done before the registry is opened.
-        RegistryJob::Migrate => JobEnd::Told(0),
         RegistryJob::Serve(port) => serve_registry(rt, registry, port, output, faults),
     }
 }

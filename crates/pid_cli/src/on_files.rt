@@ -1,6 +1,6 @@
 //! The jobs of a registry in a file or in memory.
 use crate::job_end::JobEnd;
-use crate::jobs::{RegistryJob, work_on};
+use crate::jobs::{RegistryJob, migrate_on, work_on};
 use crate::replies::tell_unopened;
 use pid_ident::{Input, Output};
 use pid_tables::TableFault;
@@ -20,6 +20,26 @@ pub fn work_on_file<I: Input + Drop, O: Output, F: Output>(
             let (end, conn) = work_on(rt, conn, job, output, faults);
             if let Some(conn) = conn {
                 // If the log cannot be copied into the file, it stays for the next opening.
+                let _ = conn.close();
+            }
+            end
+        }
+        Err(error) => JobEnd::Told(tell_unopened(TableFault::from(error), faults)),
+    }
+}
+
+/// Brings the tables of a registry file, which is created if it does not exist, to the newest
+/// schema.
+pub fn migrate_file<O: Output, F: Output>(
+    rt: &HostRuntime,
+    file: &str,
+    output: &mut O,
+    faults: &mut F,
+) -> JobEnd {
+    match Connection::open(rt, file) {
+        Ok(conn) => {
+            let (end, conn) = migrate_on(rt.alloc(), conn, output, faults);
+            if let Some(conn) = conn {
                 let _ = conn.close();
             }
             end

@@ -4,25 +4,17 @@ use itoa::Buffer;
 use pid_file::{FAILED, TextEnd, tell_end};
 use pid_ident::{Output, write_all, write_parts};
 use pid_lookup::{Answer, LookupRefusal, Unanswered};
-use pid_moderation::{Refusal, Reply, reply_line};
+use pid_moderation::{Refusal, Reply, write_reply_line};
 use pid_tables::{Step, TableFault};
-use std::alloc::{AllocError, Global};
+use std::alloc::AllocError;
 
 /// The exit status if a command or a lookup is refused.
 pub const REFUSED: u8 = 1;
 
-/// Prints the reply to a command. The exit status is 0 if it was accepted, 3 if memory or the store
+/// Prints the reply to a command, for which no memory is taken. The exit status is 0 if it was accepted, 3 if memory or the store
 /// failed, else 1.
-pub fn print_reply<O: Output, F: Output>(
-    alloc: Global,
-    reply: Result<Reply, Refusal>,
-    output: &mut O,
-    faults: &mut F,
-) -> JobEnd {
-    let Ok(line) = reply_line(alloc, reply) else {
-        return JobEnd::Told(tell_end(TextEnd::Memory, faults));
-    };
-    match write_all(output, line.as_bytes()) {
+pub fn print_reply<O: Output>(reply: Result<Reply, Refusal>, output: &mut O) -> JobEnd {
+    match write_reply_line(output, reply) {
         Ok(()) => JobEnd::Told(status_of(reply)),
         Err(_) => JobEnd::FileFailed,
     }
@@ -30,11 +22,8 @@ pub fn print_reply<O: Output, F: Output>(
 
 /// Reports the refusal of a job whose output is not a reply line, which is an export. Returns the
 /// exit status of a failure.
-pub fn tell_reply<F: Output>(alloc: Global, reply: Result<Reply, Refusal>, faults: &mut F) -> u8 {
-    let Ok(line) = reply_line(alloc, reply) else {
-        return tell_end(TextEnd::Memory, faults);
-    };
-    let _ = write_all(faults, line.as_bytes());
+pub fn tell_reply<F: Output>(reply: Result<Reply, Refusal>, faults: &mut F) -> u8 {
+    let _ = write_reply_line(faults, reply);
     FAILED
 }
 

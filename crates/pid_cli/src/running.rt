@@ -2,7 +2,7 @@
 use crate::job_end::JobEnd;
 use crate::jobs::RegistryJob;
 use crate::look_ups::{print_look_up, read_words};
-use crate::on_files::{work_on_file, work_on_memory};
+use crate::on_files::{migrate_file, work_on_file, work_on_memory};
 use crate::replies::{print_reply, tell_reply};
 use crate::serving::Port;
 use pid_cli_words::{Counted, Job, LookUpWords, Progress, job_of, tell_no_job};
@@ -27,74 +27,100 @@ pub fn run_words<I: Read + Drop, O: Write + Drop, F: Write + Drop>(
     output: O,
     faults: F,
 ) -> u8 {
-    match job_of(rt.alloc(), words) {
-        Ok(Job::Tidy) => run_tidy(rt.alloc(), input, output, faults),
-        Ok(Job::Check) => run_check(rt.alloc(), input, output, faults),
-        Ok(Job::Export { db }) => run_export(rt, db, output, faults),
-        Ok(job) => run_job(rt, &job, input, output, faults),
-        Err(fault) => tell_no_job(&fault, words, output, faults),
+    let job = match job_of(rt.alloc(), words) {
+        Ok(job) => job,
+        Err(fault) => return tell_no_job(&fault, words, output, faults),
+    };
+    match job {
+        Job::Tidy => run_tidy(rt.alloc(), input, output, faults),
+        Job::Check => run_check(rt.alloc(), input, output, faults),
+        Job::Export { db } => run_export(rt, db, output, faults),
+        Job::Lookup(words) => run_plain(rt, PlainJob::Lookup(words), input, output, faults),
+        Job::Script { db } => run_plain(rt, PlainJob::Script(db), input, output, faults),
+        Job::Import {
+            db,
+            account,
+            key,
+            ids,
+        } => {
+            let job = PlainJob::Import {
+                files: (db, ids),
+                sender: (account, key),
+            };
+            run_plain(rt, job, input, output, faults)
+        }
+        Job::Serve {
+            db,
+            port,
+            connections,
+        } => {
+            let port = Port {
+                number: port,
+                connections,
+            };
+            run_plain(rt, PlainJob::Serve(db, port), input, output, faults)
+        }
+        Job::Migrate { db } => run_plain(rt, PlainJob::Migrate(db), input, output, faults),
     }
 }
 
-// A job whose replies are written without a buffer.
-fn run_job<I: Read + Drop, O: Write + Drop, F: Write + Drop>(
+// A job whose output is not buffered. `files` are the registry file and the pci.ids file; `sender`
+// is the account and the key.
+#[derive(Clone, Copy)]
+enum PlainJob<'a> {
+    Lookup(LookUpWords<'a>),
+    Script(Option<&'a str>),
+    Import {
+        files: (&'a str, &'a str),
+        sender: (&'a str, Option<&'a str>),
+    },
+    Serve(&'a str, Port),
+    Migrate(&'a str),
+}
+
+fn run_plain<I: Read + Drop, O: Write + Drop, F: Write + Drop>(
     rt: &HostRuntime,
-    job: &Job<'_>,
+    job: PlainJob<'_>,
     input: I,
     output: O,
     faults: F,
 ) -> u8 {
     let mut output = Plain::new(Watched::new(output));
     let mut faults = Plain::new(faults);
-    let end = match *job {
-        Job::Script { db: Some(file) } => {
-            let job = RegistryJob::Script(Plain::new(input));
-            work_on_file(rt, file, job, &mut output, &mut faults)
-        }
-        Job::Lookup(words) => run_lookup(rt, &words, &mut output, &mut faults),
-        Job::Import {
-            db,
-            account,
-            key,
-            ids,
-        } => run_import(rt, (db, ids), (account, key), &mut output, &mut faults),
-        Job::Serve {
-            db,
-            port,
-            connections,
-        } => {
-            let job: RegistryJob<Plain<I>> = RegistryJob::Serve(Port {
-                number: port,
-                connections,
-            });
-            work_on_file(rt, db, job, &mut output, &mut faults)
-        }
-        Job::Migrate { db } => {
-            let job: RegistryJob<Plain<I>> = RegistryJob::Migrate;
-            work_on_file(rt, db, job, &mut output, &mut faults)
-        }
-        _ => {
-            let job = RegistryJob::Script(Plain::new(input));
-            work_on_memory(rt, job, &mut output, &mut faults)
-        }
-    };
-    let end = match end {
-        JobEnd::Replied(reply) => print_reply(rt.alloc(), reply, &mut output, &mut faults),
+    let end = match do_plain(rt, job, Plain::new(input), &mut output, &mut faults) {
+        JobEnd::Replied(reply) => print_reply(reply, &mut output),
         end => end,
     };
-    status(
-        rt.alloc(),
-        end,
-        output.into_inner().is_unread(),
-        &mut faults,
-    )
+    status(end, output.into_inner().is_unread(), &mut faults)
+}
+
+fn do_plain<I: Input + Drop, O: Output, F: Output>(
+    rt: &HostRuntime,
+    job: PlainJob<'_>,
+    input: I,
+    output: &mut O,
+    faults: &mut F,
+) -> JobEnd {
+    match job {
+        PlainJob::Lookup(words) => run_lookup(rt, &words, output, faults),
+        PlainJob::Script(Some(file)) => {
+            work_on_file(rt, file, RegistryJob::Script(input), output, faults)
+        }
+        PlainJob::Script(None) => work_on_memory(rt, RegistryJob::Script(input), output, faults),
+        PlainJob::Import { files, sender } => run_import(rt, files, sender, output, faults),
+        PlainJob::Serve(file, port) => {
+            let job: RegistryJob<I> = RegistryJob::Serve(port);
+            work_on_file(rt, file, job, output, faults)
+        }
+        PlainJob::Migrate(file) => migrate_file(rt, file, output, faults),
+    }
 }
 
 // Prints what is still to be printed at an end, and returns the exit status.
-fn status<F: Output>(alloc: Global, end: JobEnd, is_unread: bool, faults: &mut F) -> u8 {
+fn status<F: Output>(end: JobEnd, is_unread: bool, faults: &mut F) -> u8 {
     match end {
         JobEnd::Told(status) => status,
-        JobEnd::Replied(reply) => tell_reply(alloc, reply, faults),
+        JobEnd::Replied(reply) => tell_reply(reply, faults),
         JobEnd::FileFailed => tell_failed(is_unread, faults),
     }
 }
@@ -112,7 +138,7 @@ fn run_export<O: Write + Drop, F: Write + Drop>(
     let output = Counted::new(output, &mut progress);
     let (end, is_unread) = print_export(rt, db, output, &mut faults);
     progress.clear();
-    status(rt.alloc(), end, is_unread, &mut faults)
+    status(end, is_unread, &mut faults)
 }
 
 // Prints the registry of a file through a buffer. Also returns whether the reader of the output has
