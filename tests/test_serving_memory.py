@@ -1,5 +1,5 @@
-"""The memory that a server takes: the file of an import and the text of all items pass through, and
-are never held whole.
+"""The memory that a server takes: the file of an import passes through, and so does the text of all
+items if it can't be kept.
 
 What a request took is shown by how far the mark of the server's resident memory rose (VmHWM), and
 by what is answered where the server may take little more than it has. Forms and lists, which are
