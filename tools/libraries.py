@@ -101,9 +101,9 @@ class Build:
         return not self.failed
 
     def jobs_for(self, crate):
-        """Returns how many jobs a crate can have now: all processors for the one that the most waits
-        for; half of them for the only other one that is left, or else a job, as long as half of the
-        processors have no such crate."""
+        """Returns how many jobs a crate can have now: all processors for the one that most crates
+        wait for; half of them for the only other one that is left, or else a job, as long as half
+        of the processors have no such crate."""
         waiting = [it for it in self.crates if it not in self.built]
         if crate == max(waiting, key=self.chains.get):
             return self.processors
