@@ -179,11 +179,12 @@ def real_file(measured, folder):
         took, again = server.raised(question(b"/pci.ids"))
         measured.cases.equal("memory: the text once more", again, back)
         measured.row("the same text once more", took, 0, FEW)
+        took, back = server.raised(question(b"/children?of=PC/8086"))
+        # What was freed while the text grew may do for it.
+        measured.row("a list of subsystems", took, 0, 4 * len(back) // KIB + FEW)
         took, back = server.raised(posted("/import", "root", text))
         measured.cases.equal("memory: the real file", back.startswith(b"HTTP/1.1 200 OK\r\n"), True)
-        measured.row("the real file", took, 0, FEW)
-        took, back = server.raised(question(b"/children?of=PC/8086"))
-        measured.list("subsystems", took, back)
+        measured.row("the real file, which drops the text", took, -kept, FEW)
 
 
 def limited(cases, database):
