@@ -40,8 +40,9 @@ http {{
 }}
 """
 
-# So many items are 82 pages of changes; an address may ask for 61 at once.
-PACED = 8_150
+# So many items are 21 pages of changes; of the nginx of this test an address may ask for five at
+# once.
+PACED = 2_050
 
 LATE = b"mirror: the file is older than the changes\n"
 
@@ -310,9 +311,14 @@ def at_its_pace(cases, folder):
     database, copy = os.path.join(folder, "registry.db"), os.path.join(folder, "copy")
     os.mkdir(copy)
     script(database)
-    # Of the whole text one address may ask for six; the next one comes after two seconds here.
-    soon = {"pciids_limits": (("zone=pciids_texts:1m rate=6r/m", "zone=pciids_texts:1m rate=30r/m"),
-                              ("    429 10;", "    429 2;"))}
+    # Of the whole text one address may ask for six, of lists here for five, however slow it is; the
+    # next one comes after a second or two.
+    soon = {
+        "pciids_limits": (("zone=pciids_texts:1m rate=6r/m", "zone=pciids_texts:1m rate=30r/m"),
+                          ("zone=pciids_walks:1m rate=5r/s", "zone=pciids_walks:1m rate=1r/s"),
+                          ("    429 10;", "    429 2;")),
+        "pciids_site": (("zone=pciids_walks burst=60", "zone=pciids_walks burst=4"),),
+    }
     with Server(database) as server:
         imported(server, "".join(f"{vendor:04x}  V{vendor}\n" for vendor in range(PACED)))
         front = Front(os.path.join(folder, "front"), server.port, **soon)
