@@ -11,8 +11,8 @@ use std::alloc::AllocError;
 /// The exit status if a command or a lookup is refused.
 pub const REFUSED: u8 = 1;
 
-/// Prints the reply to a command, for which no memory is taken. The exit status is 0 if it was accepted, 3 if memory or the store
-/// failed, else 1.
+/// Prints the reply to a command, for which no memory is taken. The exit status is 0 if it was
+/// accepted, 3 if memory or the store failed, else 1.
 pub fn print_reply<O: Output>(reply: Result<Reply, Refusal>, output: &mut O) -> JobEnd {
     match write_reply_line(output, reply) {
         Ok(()) => JobEnd::Told(status_of(reply)),
