@@ -43,8 +43,8 @@ module _ {S T : Type 0} (from : Ghosts S) (to : Ghosts T) where
     pub shown : clauses.HasCleanDisk to conn → (h : History) → IsReached h
         → ShowsOrBlank from earlier h → ShowsOrBlank to conn h
 
-  -- the tables of a connection are what a registry showed; where that had failed, they are of the
-  -- one history or the other
+  -- while the disk of a connection returns what was written, its tables are what a registry showed;
+  -- where that had failed, they are of the one history or the other
   pub record LeavesTablesTo (ended : Registry S from) (conn : Held T) : Type 0 where
     pub clean : clauses.HasCleanDisk to conn → HasCleanDisk from ended
     pub shown : clauses.HasCleanDisk to conn → (h : History) → Shows from ended h

@@ -60,8 +60,8 @@ pub fn histories_are_kept<S: Alter + Drop>()
 
 /// Tables of schema 1 keep no revision and no number of a change: a database that was just opened
 /// on tables that show a history but for those has that history taken over, with its mark behind
-/// all its commands. Where that is reached (`taken_histories_are_reached`), a registry that is
-/// opened there, also after a migration, shows it.
+/// all its commands. Where that is reached (`taken_histories_are_reached`),
+/// `first_openings_show_what_is_there` and `histories_are_kept` go on from there.
 pub fn migrations_find_histories<S: Alter + Drop>()
     ensures { EarlierTablesShow S.Store }
 {
@@ -72,9 +72,9 @@ pub fn migrations_find_histories<S: Alter + Drop>()
 /// store of its own.
 ///
 /// After a stop a new connection finds what a crash may leave; a live registry that was closed
-/// gives its own connection back. Either has the tables that the registry showed, or those of one
-/// of the two histories between which it had failed, and a registry that is opened there shows
-/// them.
+/// gives its own connection back. While the disk of that connection returns what was written,
+/// either has the tables that the registry showed, or those of one of the two histories between
+/// which it had failed, and a registry that is opened there shows them.
 pub fn openings_find_histories<S: Alter + Drop, T: Alter + Drop>()
     ensures { OpeningsShowAgain S.Store T.Store }
 {}
