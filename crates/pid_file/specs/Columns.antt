@@ -1,5 +1,5 @@
 -- The columns of a line: its identifiers in hex digits of either case, each with a space or a tab
--- behind it, and behind blanks its name. pci.ids(5) and the syntax header of the published file.
+-- after it, then blanks and its name. pci.ids(5) and the syntax header of the published file.
 use Rattle.std.specs.Prelude.{ℕ, zero, suc, Bool, true, false, ◌&&◌, List, [], ◌∷◌, ◌++◌, take, drop, map, nat_lt}
 use Rattle.std.specs.Char.{digit_value, to_ascii_lowercase}
 use Rattle.pid_file.specs.Bytes.{is_blank, is_empty}
@@ -15,7 +15,7 @@ begins_with_id n [] = false
 begins_with_id zero (b ∷ bs) = is_blank b
 begins_with_id (suc n) (b ∷ bs) = is_hex b && begins_with_id n bs
 
--- identifiers of these widths, each with a blank behind it
+-- identifiers of these widths, each with a blank after it
 abbrev pub begins_with_ids : List ℕ → List ℕ → Bool
 begins_with_ids [] bytes = true
 begins_with_ids (w ∷ ws) bytes = begins_with_id w bytes && begins_with_ids ws (drop (suc w) bytes)
@@ -32,7 +32,7 @@ digits_in [] bytes = []
 digits_in (w ∷ ws) bytes = map to_ascii_lowercase (take w bytes) ++ digits_in ws
     (drop (suc w) bytes)
 
--- what stands behind the identifiers and blanks
+-- what follows the identifiers and blanks
 abbrev pub name_in : List ℕ → List ℕ → List ℕ
 name_in [] bytes = trim_blanks bytes
 name_in (w ∷ ws) bytes = name_in ws (drop (suc w) bytes)

@@ -1,4 +1,4 @@
--- What a cutter holds of the text that it was fed. Callers need not open it: `new` gives it, and
+-- What a cutter holds of the text that it was fed. Callers need not open it: `new` makes it, and
 -- `feed` and `finish` take it.
 use Rattle.std.specs.Prelude.{◌≡◌, ℕ, List, reverse, Some, None}
 use Rattle.pid_file.specs.declared.refusal.ReadRefusal.{ReadRefusal}
@@ -17,7 +17,7 @@ pub record Holds (c : Cutter) (text : List ℕ) : Type 0 where
   pub good : refusal_of (whole_lines text) ≡ None
   pub shown : Shows c.progress (reverse (whole_lines text))
 
--- the cutter gives this refusal ever after
+-- the cutter answers this refusal from then on
 abbrev pub IsStopped : Cutter → ReadRefusal → Type 0
 IsStopped c r = c.stopped ≡ Some r
 

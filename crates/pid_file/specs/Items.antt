@@ -9,6 +9,6 @@ use Rattle.pid_file.specs.Trees.{TreeMap}
 abbrev pub item_of : Path × List ℕ → List ℕ × List ℕ
 item_of e = (path_text e.0, e.1)
 
--- the map of these items; of those with one path the one that stands first here
+-- the map of these items; of those with one path the one that comes first here
 abbrev pub tree_of : List (Path × List ℕ) → TreeMap
 tree_of es = from_entries (map item_of es)

@@ -1,4 +1,4 @@
--- What stands before the name in the line of an item, by the kind of its path: tabs, `C` before a
+-- What comes before the name in the line of an item, by the kind of its path: tabs, `C` before a
 -- class, and the last digits of the path, as in pci.ids(5) (9 is a tab, 32 a space).
 use Rattle.std.specs.Prelude.{ℕ, List, ◌∷◌, ◌++◌, codes}
 use Rattle.pid_file.specs.declared.path.Path.{Path}

@@ -1,7 +1,7 @@
--- The table of the levels below each mark: the front of the paths, and how many hex digits each
+-- The table of the levels below each mark: how the paths begin, and how many hex digits each
 -- identifier of a line has. pci.ids(5) and the syntax header of the published file, and for generic
--- subsystems libpci too; the fronts PC and PD are those of the PCI ID Repository's pages, and PS is
--- a choice of this project.
+-- subsystems libpci too. PC and PD are those of the PCI ID Repository's pages, and PS is a choice
+-- of this project.
 use Rattle.std.specs.Prelude.{ℕ, zero, suc, List, [], ◌∷◌, codes}
 use Rattle.pid_file.specs.declared.line.Mark.{Mark}
 use Rattle.pid_file.specs.declared.line.Mark.TheVariants.{Devices, Classes, Generics, Unknown}

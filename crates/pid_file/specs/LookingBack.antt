@@ -1,6 +1,6 @@
 -- What a line says, read with the lines before it, the nearest first: its head, its parent line,
--- its entry. pci.ids(5) and the syntax header of the published file: a device stands under the
--- vendor above it, a subsystem under the device above it.
+-- its entry. pci.ids(5) and the syntax header of the published file: a device belongs to the vendor
+-- above it, a subsystem to the device above it.
 use Rattle.std.specs.Prelude.{ℕ, suc, Bool, not, ◌&&◌, List, [], ◌∷◌, ◌++◌, nat_lt, ◌==◌}
 use Rattle.std.specs.Prelude.{if◌then◌else◌, Option, Some, None, unwrap_or, find, is_some}
 use Rattle.std.specs.FinMap.Entries.{find as value_at}
@@ -18,10 +18,10 @@ is_above n line = not (is_idle line) && nat_lt (depth line) n
 abbrev pub above : ℕ → List (List ℕ) → Option (List ℕ)
 above n earlier = find (is_above n) earlier
 
--- The head of a line: itself at depth 0, else the nearest earlier line of depth 0. Where there is
--- none the empty line stands for it, whose mark is that of vendors: so a nested line without a head
--- counts as an entry if it is not idle, and the first of these lines has a fault: NoParent, or
--- TooDeep behind three tabs or more, or before both NotUtf8.
+-- The head of a line: itself at depth 0, else the nearest earlier line of depth 0. If there is
+-- none, the empty line stands for it, whose mark is that of vendors. So a nested line without a
+-- head counts as an entry if it is not idle, and the first of these lines has a fault: NoParent, or
+-- TooDeep after three tabs or more, or before both NotUtf8.
 abbrev pub head_of : List (List ℕ) → List ℕ → List ℕ
 head_of earlier line = if depth line == 0 then line else unwrap_or (above 1 earlier) []
 
@@ -54,13 +54,13 @@ digits_at earlier line = digits_in (widths_at earlier line) (inside line)
 abbrev pub name_at : List (List ℕ) → List ℕ → List ℕ
 name_at earlier line = name_in (widths_at earlier line) (inside line)
 
--- the path of a head: its front and its digits
+-- the path of a head: the prefix of its kind, and its digits
 abbrev pub head_path : List ℕ → List ℕ
 head_path line = front (mark line) ++ digits_in (widths (mark line) 0) (inside line)
 
--- The path of a line: that of its parent line, a slash, and its digits. Between a line and its
--- parent line stands no head, so a parent line that is nested has the same head, and its digits may
--- be read with the lines before its child.
+-- The path of a line: that of its parent line, a slash, and its digits. No head is between a line
+-- and its parent line, so a parent line that is nested has the same head, and its digits may be
+-- read with the lines before its child.
 abbrev pub path_at : List (List ℕ) → List ℕ → List ℕ
 path_at earlier line =
     if depth line == 0 then head_path line else

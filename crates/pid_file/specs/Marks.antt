@@ -1,12 +1,12 @@
--- What a line is by its own bytes alone: whether it is skipped, how deep it stands, and what a line
--- of depth 0 opens. pci.ids(5) and the syntax header of the published file; blocks of generic
--- subsystems behind `S` as pci.ids(5) describes and libpci reads them.
+-- What a line is by its own bytes alone: whether it is skipped, its depth, and what a line of depth
+-- 0 opens. pci.ids(5) and the syntax header of the published file; blocks of generic subsystems
+-- after `S` as pci.ids(5) describes and libpci reads them.
 use Rattle.std.specs.Prelude.{ℕ, suc, Bool, true, false, ◌&&◌, List, [], ◌∷◌, drop, nat_le, ◌==◌, if◌then◌else◌}
 use Rattle.pid_file.specs.Bytes.{is_blank}
 use Rattle.pid_file.specs.declared.line.Mark.{Mark}
 use Rattle.pid_file.specs.declared.line.Mark.TheVariants.{Devices, Classes, Generics, Unknown}
 
--- without the blanks at its front
+-- without its leading blanks
 abbrev pub trim_blanks : List ℕ → List ℕ
 trim_blanks [] = []
 trim_blanks (b ∷ bs) = if is_blank b then trim_blanks bs else b ∷ bs
@@ -15,7 +15,7 @@ abbrev pub begins_idle : List ℕ → Bool
 begins_idle [] = true
 begins_idle (b ∷ bs) = b == 35
 
--- an idle line says nothing: it holds blanks alone, or a `#` behind blanks
+-- an idle line says nothing: it has blanks alone, or a `#` after blanks
 abbrev pub is_idle : List ℕ → Bool
 is_idle line = begins_idle (trim_blanks line)
 
@@ -24,7 +24,7 @@ abbrev pub depth : List ℕ → ℕ
 depth [] = 0
 depth (b ∷ bs) = if b == 9 then suc (depth bs) else 0
 
--- what stands behind these tabs
+-- what follows these tabs
 abbrev pub body : List ℕ → List ℕ
 body [] = []
 body (b ∷ bs) = if b == 9 then body bs else b ∷ bs
@@ -36,10 +36,10 @@ is_capital b = nat_le 65 b && nat_le b 90
 abbrev pub mark_of_letter : ℕ → Mark
 mark_of_letter b = if b == 67 then Classes else (if b == 83 then Generics else Unknown)
 
--- what a line of depth 0 opens: a class behind `C` and a space, generic subsystems behind `S` and a
--- space, an unknown block behind another capital letter and a space, else a vendor. A nested line
+-- What a line of depth 0 opens: a class after `C` and a space, generic subsystems after `S` and a
+-- space, an unknown block after another capital letter and a space, else a vendor. A nested line
 -- begins with a tab, which is no capital: its mark is that of vendors, under which `inside` is what
--- stands behind the tabs.
+-- follows the tabs.
 abbrev pub mark : List ℕ → Mark
 mark [] = Devices
 mark (b ∷ []) = Devices
@@ -63,6 +63,6 @@ behind_mark Classes line = drop 2 line
 behind_mark Generics line = drop 2 line
 behind_mark Unknown line = drop 2 line
 
--- what stands behind the tabs, or behind the letter and its space
+-- what follows the tabs, or the letter and its space
 abbrev pub inside : List ℕ → List ℕ
 inside line = behind_mark (mark line) line

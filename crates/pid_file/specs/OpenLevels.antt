@@ -79,7 +79,7 @@ IsBlockOf said.Unknown line = is_block line ≡ false
 IsBlockOf (said.Block v) line = (is_block line ≡ true) × (digits_in (4 ∷ []) (inside line) ≡ hex4 v)
 IsBlockOf (said.Entry e) line = is_block line ≡ false
 
--- the levels that are open behind an entry
+-- the levels that are open after an entry
 abbrev pub open_below : Path → OpenLevels
 open_below (paths.Vendor v) = Vendor v
 open_below (paths.Device v d) = Device v d
@@ -89,14 +89,14 @@ open_below (paths.Subclass c s) = Subclass c s
 open_below (paths.ProgIf c s i) = Subclass c s
 open_below (paths.Generic v d) = Generics v
 
--- the levels that are open behind a line
+-- the levels that are open after a line
 abbrev pub open_behind : OpenLevels → Said → OpenLevels
 open_behind at said.Nothing = at
 open_behind at said.Unknown = Unknown
 open_behind at (said.Block v) = Generics v
 open_behind at (said.Entry e) = open_below e.path
 
--- what a line says behind others that leave these levels open
+-- what a line says after others that leave these levels open
 pub record Says (at : OpenLevels) (earlier : List (List ℕ)) (line : List ℕ)
     (s : Said) : Type 0 where
   pub good : line_fault_of earlier line ≡ None

@@ -21,7 +21,7 @@ IsPath (Subclass c s) = (c < 2 ^ 8) × (s < 2 ^ 8)
 IsPath (ProgIf c s p) = (c < 2 ^ 8) × (s < 2 ^ 8) × (p < 2 ^ 8)
 IsPath (Generic v d) = (v < 2 ^ 16) × (d < 2 ^ 16)
 
--- the front of a path's text: PC for vendors and below, PD for classes and below, PS for generic
+-- the prefix of a path's text: PC for vendors and below, PD for classes and below, PS for generic
 -- subsystems
 abbrev pub front_of : Path → List ℕ
 front_of (Vendor v) = codes "PC"
@@ -32,7 +32,7 @@ front_of (Subclass c s) = codes "PD"
 front_of (ProgIf c s p) = codes "PD"
 front_of (Generic v d) = codes "PS"
 
--- the digits of each part behind the front
+-- the digits of each part after the prefix
 abbrev pub parts_of : Path → List (List ℕ)
 parts_of (Vendor v) = hex4 v ∷ []
 parts_of (Device v d) = hex4 v ∷ hex4 d ∷ []
@@ -42,7 +42,7 @@ parts_of (Subclass c s) = hex2 c ∷ hex2 s ∷ []
 parts_of (ProgIf c s p) = hex2 c ∷ hex2 s ∷ hex2 p ∷ []
 parts_of (Generic v d) = hex4 v ∷ hex4 d ∷ []
 
--- each part behind a slash
+-- each part after a slash
 abbrev pub slashed : List (List ℕ) → List ℕ
 slashed [] = []
 slashed (part ∷ parts) = 47 ∷ part ++ slashed parts

@@ -8,11 +8,11 @@ use Rattle.pid_file.specs.declared.path.Path.{Path}
 use Rattle.pid_file.specs.PathTexts.{path_text}
 use Rattle.pid_file.specs.Trees.{TreeMap, text_cmp}
 
--- What stands before the name in the line of an item: the label of its path, read off the path's
--- text. It is meant for texts of paths alone, whose length tells the kind: 7 bytes of a vendor, 12
--- of a device or a generic subsystem, 21 of a subsystem, 5 of a class, 8 of a subclass, and else 11
--- of a programming interface. Labels.antt has it by kind, and laws.rt says that the two are one (9
--- is a tab, 32 a space).
+-- What comes before the name in the line of an item: the label of its path, read off the path's
+-- text. It is meant for texts of paths alone, whose length determines the kind: 7 bytes of a
+-- vendor, 12 of a device or a generic subsystem, 21 of a subsystem, 5 of a class, 8 of a subclass,
+-- and else 11 of a programming interface. Labels.antt has it by kind, and laws.rt says that the two
+-- are one (9 is a tab, 32 a space).
 abbrev pub label_of : List ℕ → List ℕ
 label_of path =
     -- a vendor: `8086` of PC/8086
@@ -55,7 +55,7 @@ abbrev pub text_or_none : Option Path → List ℕ
 text_or_none None = []
 text_or_none (Some path) = path_text path
 
--- the lines of items in order, which come behind an item whose path has the text `before`
+-- the lines of items in order, which follow an item whose path has the text `before`
 abbrev pub lines_behind : List ℕ → List (List ℕ × List ℕ) → List (List ℕ)
 lines_behind before [] = []
 lines_behind before (item ∷ items) = (if opens_block before item.0 then block_line item.0

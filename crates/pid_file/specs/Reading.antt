@@ -54,7 +54,7 @@ refusal_of lines = refused_from [] lines
 abbrev pub refused : List ℕ → Option ReadRefusal
 refused text = refusal_of (lines_of text)
 
--- the lines before the first that is refused, behind others, the last one first
+-- the lines before the first that is refused, after others, the last one first
 abbrev pub read_from : List (List ℕ) → List (List ℕ) → List (List ℕ)
 read_from earlier [] = earlier
 read_from earlier (line ∷ lines) = if is_some

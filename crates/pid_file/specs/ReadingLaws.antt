@@ -1,4 +1,4 @@
--- Proofs alone, no definitions: the laws that the readers of this crate give for `stays` and
+-- Proofs alone, no definitions: the laws that the readers of this crate have for `stays` and
 -- `joins` of `Input`. No reads leave a reader as it is, and some reads and then others are reads.
 use Rattle.std.proofs.Common.{ℕ, List, [], ◌++◌, Option, Some, None, refl, sym, ap, ◌∙◌, append_assoc, arith}
 use Rattle.pid_file.specs.InputCalls.{HasUsed, StaysKept, HasReadOn, HasNoMore}

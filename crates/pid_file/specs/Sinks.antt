@@ -22,7 +22,7 @@ pub record TookSome {S : Type 0} (takes : S → Numbered → S → Type 0) (old 
   pub took : Took takes old (numbered_of front) new
 
 -- the lines up to one were read, the sink took their entries, and at the entry of that line, which
--- isn't refused, it gave the fault
+-- isn't refused, it had the fault
 pub record FaultedAt {S F : Type 0} (takes : S → Numbered → S → Type 0)
     (faults : S → Numbered → F → S → Type 0)
     (old : S) (lines : List (List ℕ)) (fault : F) (new : S) : Type 0 where
@@ -38,7 +38,7 @@ pub record FaultedAt {S F : Type 0} (takes : S → Numbered → S → Type 0)
   pub faulted : faults between entry fault new
 
 -- what became of the sink at these lines: it took all their entries and none is refused; it took
--- those before the first refusal; memory was wanting behind some of them; or it gave a fault at an
+-- those before the first refusal; memory ran out after some of them; or the sink had a fault at an
 -- entry
 abbrev pub Ends : {S F X : Type 0} → (S → Numbered → S → Type 0) → (S → Numbered → F → S → Type 0)
     → Result X (CutEnd F) → S → List (List ℕ) → S → Type 0

@@ -31,12 +31,12 @@ FailsPiece room old new skips.TooLong = (front : List ℕ) × Consumes old new f
     × (length front ≡ room + 1)
 FailsPiece room old new skips.ReadFault = Keeps old new
 
--- the text was read whole: nothing is left behind it, and it is short enough
+-- the text was read whole: nothing is left after it, and it is short enough
 pub record IsWhole (limit : ℕ) (rest : Option (List ℕ)) (text : List ℕ) : Type 0 where
   pub at_end : IsAtEnd rest
   pub short : length text ≤ limit
 
--- the sink took the entries of the lines up to one, none of which is refused, or it gave a fault at
+-- the sink took the entries of the lines up to one, none of which is refused, or it had a fault at
 -- the entry of one
 abbrev pub TookOrFaulted : {S F : Type 0} → (S → Numbered → S → Type 0)
     → (S → Numbered → F → S → Type 0) → S → List (List ℕ) → S → Type 0
@@ -44,7 +44,7 @@ TookOrFaulted {S} {F} takes faults old lines new = TookSome takes old lines new
     ⊎ ((fault : F) × FaultedAt takes faults old lines fault new)
 
 -- the whole text was cut; or it is too long, and no more of it was read than shows that; or the
--- input failed behind it
+-- input failed after it
 abbrev pub CutsInput : {S F X : Type 0} → (S → Numbered → S → Type 0)
     → (S → Numbered → F → S → Type 0) → ℕ → Result X (InputEnd F) →
     Option (List ℕ) → List ℕ → S → S → Type 0

@@ -1,5 +1,5 @@
--- Which lines of a text that comes in pieces are whole: those whose LF has come.
--- A text is its ended pieces, each with its LF, and then its open part, in which there is no LF.
+-- Which lines of a text that comes in chunks are whole: those whose LF has come.
+-- A text is its ended lines, each with its LF, and then its open part, in which there is no LF.
 use Rattle.std.specs.Prelude.{ℕ, List, [], ◌∷◌, map, ◌==◌, if◌then◌else◌}
 use Rattle.pid_file.specs.Lines.{drop_cr}
 
@@ -13,12 +13,12 @@ abbrev pub ended_pieces : List ℕ → List (List ℕ)
 ended_pieces [] = []
 ended_pieces (b ∷ bs) = if b == 10 then [] ∷ ended_pieces bs else onto_ended b (ended_pieces bs)
 
--- a byte goes onto the open part where no ended piece stands between
+-- a byte goes onto the open part if no ended line comes between
 abbrev pub onto_open : ℕ → List (List ℕ) → List ℕ → List ℕ
 onto_open b [] rest = b ∷ rest
 onto_open b (piece ∷ pieces) rest = rest
 
--- what stands behind the last LF
+-- what follows the last LF
 abbrev pub open_part : List ℕ → List ℕ
 open_part [] = []
 open_part (b ∷ bs) = if b == 10 then open_part bs else onto_open b (ended_pieces bs) (open_part bs)

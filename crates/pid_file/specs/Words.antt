@@ -4,8 +4,8 @@ use Rattle.std.specs.List.{list_all}
 use Rattle.std.specs.Str.{is_utf8}
 use Rattle.pid_file.specs.Bytes.{is_printed, is_empty, begins_blank}
 
--- a name of an item: UTF-8 of 1 to 1,000 bytes without control bytes but tabs, and with no blank in
--- front
+-- a name of an item: UTF-8 of 1 to 1,000 bytes without control bytes but tabs, and with no leading
+-- blank
 abbrev pub is_name : List ℕ → Bool
 is_name bytes = is_utf8 bytes && not (is_empty bytes) && nat_le (length bytes) 1000 && not
     (begins_blank bytes) && list_all is_printed bytes

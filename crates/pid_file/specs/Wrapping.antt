@@ -9,11 +9,11 @@ use Rattle.pid_file.specs.declared.io.WriteFault.{WriteFault}
 abbrev pub wrapped : {T : Type 0} → Plain T → T
 wrapped p = p.inner
 
--- the fault that a read gave, kept for good
+-- the fault of a read, kept for good
 abbrev pub kept_read_fault : {T : Type 0} → Plain T → Option ReadFault
 kept_read_fault p = p.read_fault
 
--- the fault that a write gave, kept for good
+-- the fault of a write, kept for good
 abbrev pub kept_write_fault : {T : Type 0} → Plain T → Option WriteFault
 kept_write_fault p = p.write_fault
 

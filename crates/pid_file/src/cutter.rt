@@ -1,4 +1,4 @@
-//! A text in pieces, line by line, into a sink.
+//! A text in chunks, line by line, into a sink.
 ghost use Rattle.std.specs.Prelude.{◌≡◌, ◌∷◌, ◌++◌, ℕ, [], List, Err, OnOk, IfErr, reverse};
 ghost use Rattle.pid_file.specs.Lines.{drop_cr, lines_of};
 ghost use Rattle.pid_file.specs.WholeLines.{ended_pieces, open_part, whole_lines};
@@ -16,7 +16,7 @@ use crate::refusal::ReadRefusal;
 use crate::sink::{CutEnd, Sink};
 use std::alloc::Global;
 
-/// Reads a text that comes in pieces, and hands its entries to a sink.
+/// Reads a text that comes in chunks, and hands its entries to a sink.
 #[derive(Drop)]
 pub struct Cutter {
     line: Vec<u8>,
@@ -96,11 +96,11 @@ impl Cutter {
         Ok(())
     }
 
-    /// Takes the next piece of the text, and hands the entries of the lines whose LF has come to
-    /// the sink, up to the first line that is refused.
+    /// Takes the next chunk of the text. Hands the sink the entries of the lines whose LF has come,
+    /// up to the first line that is refused.
     ///
-    /// After an error nothing more is read: `feed` and `finish` leave the sink as it is and give
-    /// that refusal ever after, or `Memory` where the sink faulted.
+    /// After an error nothing more is read: `feed` and `finish` leave the sink as it is and answer
+    /// that refusal from then on, or `Memory` if the sink faulted.
     pub fn feed<S: Sink>(&mut self, piece: &[u8], sink: &mut S) -> Result<(), CutEnd<S::Fault>>
         ensures stopped { (r : ReadRefusal) → IsStopped self.old r
             → (result ≡ Err (Refused r)) × (sink.new ≡ sink.old) × IsStopped self.new r }

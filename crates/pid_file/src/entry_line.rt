@@ -54,7 +54,7 @@ fn hex_value(digit: u8) -> Option<u16>
     }
 }
 
-// The number of four digits, and what stands behind them.
+// The number of four digits, and what follows them.
 fn four_at(bytes: &[u8]) -> Option<(Id16, &[u8])>
     ensures none { result ≡ None → are_digits 4 bytes.now ≡ false }
     ensures some { IfSome result (λ x. are_digits 4 bytes.now ≡ true) }
@@ -70,7 +70,7 @@ fn four_at(bytes: &[u8]) -> Option<(Id16, &[u8])>
     Some((high * 256 + low, behind))
 }
 
-// The number of four digits before a blank, and what stands behind that blank.
+// The number of four digits before a blank, and what follows that blank.
 #[tactic(auto, using(crate::proofs::LineLemmas::no_digits_no_id, crate::proofs::LineLemmas::digits_id))]
 fn id4_at(bytes: &[u8]) -> Option<(Id16, &[u8])>
     ensures none { result ≡ None → begins_with_id 4 bytes.now ≡ false }
@@ -89,7 +89,7 @@ fn id4_at(bytes: &[u8]) -> Option<(Id16, &[u8])>
     Some((number, behind))
 }
 
-// The number of two digits before a blank, and what stands behind that blank.
+// The number of two digits before a blank, and what follows that blank.
 fn id2_at(bytes: &[u8]) -> Option<(Id8, &[u8])>
     ensures none { result ≡ None → begins_with_id 2 bytes.now ≡ false }
     ensures some { IfSome result (λ x. begins_with_id 2 bytes.now ≡ true) }
@@ -122,7 +122,7 @@ pub fn vendor_of_block(bytes: &[u8]) -> Option<Id16>
     Some(vendor)
 }
 
-// The name behind the identifiers.
+// The name after the identifiers.
 fn name_at(bytes: &[u8]) -> Result<&str, LineKind>
     ensures name { IfOk result (λ name. name.now ≡ trimmed bytes.now) }
     ensures good { IfOk result (λ name. IsTrue (name_test name.now)) }
@@ -143,7 +143,7 @@ fn name_at(bytes: &[u8]) -> Result<&str, LineKind>
     }
 }
 
-// The path with the digits that the bytes begin with, and what stands behind them.
+// The path with the digits that the bytes begin with, and what follows them.
 fn path_at(place: Place, bytes: &[u8]) -> Option<(Path, &[u8])>
     ensures none { result ≡ None → begins_with_ids (widths_of place) bytes.now ≡ false }
     ensures some { IfSome result (λ x. begins_with_ids (widths_of place) bytes.now ≡ true) }

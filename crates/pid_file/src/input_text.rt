@@ -29,9 +29,9 @@ pub fn end_without_fault(end: InputEnd<AllocError>) -> InputEnd<Never>
     }
 }
 
-/// The tree of the input's text. A fault of the input is told before all else, and a text of more
-/// than `limit` bytes before what is refused in it. One byte past the limit is read, to know it,
-/// and no other.
+/// The tree of the input's text. A fault of the input is answered before all else; then that the
+/// text has more than `limit` bytes; then what is refused in it. At most one byte past the limit
+/// is read, to know that there is one.
 pub fn read_input<I: Input>(
     alloc: Global,
     limit: usize,
@@ -54,8 +54,8 @@ pub fn read_input<I: Input>(
     }
 }
 
-/// The number of the entries of the input's text, without keeping their names. Faults are told as
-/// by `read_input`, and as much is read.
+/// The number of the entries of the input's text, without keeping their names. Its faults come in
+/// the order of `read_input`, and it reads as much.
 pub fn count_input<I: Input>(
     alloc: Global,
     limit: usize,

@@ -72,14 +72,14 @@ pub trait Input {
     /// What calls of `read`, however many, may make of a reader: the reader before them, and the
     /// reader after.
     ///
-    /// Each function that is given `&mut I` for any reader `I` ensures `I.goes` of what it was
-    /// given and what it leaves. So a caller who lends a reader of a kind that it knows learns what
-    /// it has back: one that gives at most some bytes of another reader, for instance, is still
-    /// over that other one, and used no more of it than it may.
+    /// Each function that takes `&mut I` for any reader `I` ensures `I.goes` of what it got and
+    /// what it leaves. So a caller who lends a reader of a kind that it knows learns what it gets
+    /// back: a reader of at most some bytes of another one, for instance, is still over that other
+    /// one, and used no more of it than it may.
     ghost goes: { Self → Self → Type 0 };
 
     /// Reads some bytes. None into a buffer with room is the end. A fault is kept: each later call
-    /// gives it again.
+    /// fails with it again.
     fn read(&mut self, buffer: &mut [u8]) -> Result<usize, ReadFault>
         ensures room { IfOk result (λ n. n ≤ length buffer.new) }
         ensures bytes { ReadConsumes (to_come self.old) (to_come self.new) result buffer.new }
@@ -106,8 +106,8 @@ pub trait Output {
     /// The fault that is kept.
     ghost write_fault: { Self → Option WriteFault };
 
-    /// Takes some of the bytes, at least one where there are any. A fault is kept: each later call
-    /// gives it again.
+    /// Takes some of the bytes, at least one if there are any. A fault is kept: each later call
+    /// fails with it again.
     fn write(&mut self, bytes: &[u8]) -> Result<usize, WriteFault>
         ensures room { IfOk result (λ n. n ≤ length bytes.now) }
         ensures some { IfOk result (λ n. 0 < length bytes.now → 0 < n) }
@@ -117,7 +117,7 @@ pub trait Output {
         ensures kept { IfSome (write_fault self.old) (λ f. result ≡ Err f) };
 }
 
-/// Writes all of the bytes, or a front of them at a fault.
+/// Writes all of the bytes, or a prefix of them at a fault.
 pub fn write_all<W: Output>(out: &mut W, bytes: &[u8]) -> Result<(), WriteFault>
     ensures sent { Sends result (W.taken out.old) (W.taken out.new) bytes.now }
     ensures fault { IfErr result (λ f. W.write_fault out.new ≡ Some f) }
@@ -131,7 +131,7 @@ pub fn write_all<W: Output>(out: &mut W, bytes: &[u8]) -> Result<(), WriteFault>
     Ok(())
 }
 
-/// Writes the parts one after another, or a front of them at a fault.
+/// Writes the parts one after another, or a prefix of them at a fault.
 pub fn write_parts<W: Output>(out: &mut W, parts: &[&[u8]]) -> Result<(), WriteFault>
     ensures sent { Sends result (W.taken out.old) (W.taken out.new)
         (flat_map (λ part. part.now) parts.now) }

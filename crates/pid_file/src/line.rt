@@ -17,11 +17,11 @@ ghost use Rattle.pid_file.specs.Marks.{
 pub enum Mark {
     /// A vendor, its devices and their subsystems.
     Devices,
-    /// Behind `C` and a space: a class, its subclasses and their programming interfaces.
+    /// After `C` and a space: a class, its subclasses and their programming interfaces.
     Classes,
-    /// Behind `S` and a space: generic subsystems of a vendor.
+    /// After `S` and a space: generic subsystems of a vendor.
     Generics,
-    /// Behind another capital letter and a space: a block that is not known.
+    /// After another capital letter and a space: a block that is not known.
     Unknown,
 }
 
@@ -52,7 +52,7 @@ pub fn is_blank(byte: u8) -> bool
     byte == b' ' || byte == b'\t'
 }
 
-/// Without the blanks at its front.
+/// Without its leading blanks.
 pub fn trim_blanks(bytes: &[u8]) -> &[u8]
     ensures { result.now ≡ trimmed bytes.now }
 {
@@ -66,14 +66,14 @@ pub fn trim_blanks(bytes: &[u8]) -> &[u8]
     rest
 }
 
-/// Whether a line says nothing: it holds blanks alone, or a `#` behind blanks.
+/// Whether a line says nothing: it has blanks alone, or a `#` after blanks.
 pub fn is_idle(line: &[u8]) -> bool
     ensures { result ≡ idle_line line.now }
 {
     matches!(trim_blanks(line), [] | [b'#', ..])
 }
 
-/// How many tabs lead, and what stands behind them.
+/// How many tabs lead, and what follows them.
 pub fn split_depth(line: &[u8]) -> (usize, &[u8])
     ensures depth { result.0 ≡ depth line.now }
     ensures body { result.1.now ≡ body line.now }
@@ -87,7 +87,7 @@ pub fn split_depth(line: &[u8]) -> (usize, &[u8])
     (count, rest)
 }
 
-/// What a line of depth 0 opens, and what stands behind its letter and space.
+/// What a line of depth 0 opens, and what follows its letter and space.
 pub fn split_mark(line: &[u8]) -> (Mark, &[u8])
     requires { depth line.now ≡ 0 }
     ensures mark { result.0 ≡ mark line.now }

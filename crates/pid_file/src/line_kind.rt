@@ -1,7 +1,7 @@
 //! What can be wrong with a line of `pci.ids`.
 ghost use Rattle.std.specs.Prelude.{◌≡◌};
 
-/// What is wrong with a line, in the order in which faults of one line are told.
+/// What is wrong with a line. Of several faults of one line the first of this order is reported.
 #[derive(Clone, Copy, Debug, PartialEq, Eq)]
 pub enum LineKind {
     /// The bytes are not UTF-8.
@@ -11,10 +11,10 @@ pub enum LineKind {
     TooDeep,
     /// No line that it could belong to is open.
     NoParent,
-    /// The hex digits, or the space or tab behind them, are not there; or a block's line has more
-    /// than blanks behind its digits.
+    /// The hex digits, or the space or tab after them, are missing; or a block's line has more than
+    /// blanks after its digits.
     BadId,
-    /// Nothing stands behind the identifier and its blanks.
+    /// Nothing follows the identifier and its blanks.
     NoName,
     /// The name is longer than 1,000 bytes, or holds a control byte that is no tab.
     BadName,

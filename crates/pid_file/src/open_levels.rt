@@ -169,7 +169,7 @@ pub fn read_line<'b>(levels: OpenLevels, line: &'b [u8]) -> Result<Said<'b>, Lin
     }
 }
 
-// The levels that are open behind an entry.
+// The levels that are open after an entry.
 fn open_below(path: Path) -> OpenLevels
     ensures { result ≡ levels_below path }
 {
@@ -190,7 +190,7 @@ fn open_below(path: Path) -> OpenLevels
 }
 
 impl OpenLevels {
-    /// The levels that are open behind a line.
+    /// The levels that are open after a line.
     pub fn behind(self, said: &Said<'_>) -> OpenLevels
         ensures { result ≡ levels_behind self said.now }
     {

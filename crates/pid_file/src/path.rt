@@ -6,7 +6,7 @@ mod order;
 
 use crate::identifier::{Id8, Id16};
 
-/// Where an item stands: which vendor, device, subsystem, class, subclass, programming interface or
+/// The place of an item: its vendor, device, subsystem, class, subclass, programming interface or
 /// generic subsystem.
 ///
 /// Paths are ordered as the bytes of their texts.

@@ -4,7 +4,7 @@ ghost use Rattle.pid_file.specs.WholeLines.{ended_pieces};
 
 use memchr::memchr;
 
-/// What stands before the first LF, and behind it; none where there is no LF.
+/// What comes before the first LF, and what after it; none if there is no LF.
 pub fn split_line(text: &[u8]) -> Option<(&[u8], &[u8])>
     ensures parts { MatchOption result (ended_pieces text.now ≡ [])
         (λ x. (text.now ≡ x.0.now ++ 10 ∷ x.1.now) × (ended_pieces x.0.now ≡ [])) }

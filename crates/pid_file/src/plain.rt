@@ -13,7 +13,7 @@ use crate::io::{Input, Output, ReadFault, WriteFault};
 use std::io;
 use std::io::{ErrorKind, Read, Write};
 
-/// A reader or a writer of std, with the fault that it gave.
+/// A reader or a writer of std, with the fault that it had.
 ///
 /// A call that a signal interrupts is made again, and counts as one. Every other error is the fault
 /// `Device`, and a write that takes none of some bytes is the fault `Zero`.
@@ -80,7 +80,7 @@ fn write_said(written: io::Result<usize>, bytes: usize) -> Option<Result<usize, 
     }
 }
 
-// What one read gives that no signal interrupts.
+// What one read returns that no signal interrupts.
 fn read_once<R: Read>(reader: &mut R, buffer: &mut [u8]) -> Result<usize, ReadFault>
     ensures room { IfOk result (λ n. n ≤ length buffer.new) }
     ensures bytes { ReadConsumes (R.remaining reader.old)

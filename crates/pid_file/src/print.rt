@@ -75,7 +75,7 @@ fn is_same_vendor(vendor: Id16, other: Id16) -> bool
     vendor == other
 }
 
-/// Writes the line that stands before the generic subsystems of a vendor.
+/// Writes the line before the generic subsystems of a vendor.
 pub fn write_block<W: Output>(vendor: Id16, out: &mut W) -> Result<(), WriteFault>
     ensures sent { Sends result (W.taken out.old) (W.taken out.new)
         (ended ((codes "S " ++ four_digits vendor) ∷ [])) }
@@ -96,7 +96,7 @@ pub fn write_item<W: Output>(path: &Path, name: &str, out: &mut W) -> Result<(),
     write_parts(out, &[front, name.as_bytes(), b"\n"])
 }
 
-// What stands before a name, with the spaces behind it: the first `len` bytes.
+// What comes before a name, with the spaces after it: the first `len` bytes.
 #[derive(Clone, Copy)]
 struct Label {
     bytes: [u8; 13],
@@ -160,8 +160,8 @@ impl Label {
     }
 }
 
-/// Writes the lines of an item that comes behind another, or is the first: that of the block that
-/// it opens, and its own.
+/// Writes the lines of an item that follows another or is the first: that of the block that it
+/// opens, and its own.
 pub fn write_behind<W: Output>(
     before: Option<Path>,
     path: &Path,
@@ -178,8 +178,8 @@ pub fn write_behind<W: Output>(
     write_item(path, name, out)
 }
 
-/// Writes the text of a tree: the header, and the lines of each item in canonical order. Where the
-/// writer fails, a front of the text was written, and not all of it.
+/// Writes the text of a tree: the header, and the lines of each item in canonical order. If the
+/// writer fails, a prefix of the text was written, and not all of it.
 pub fn write_canonical<W: Output>(tree: &Tree, out: &mut W) -> Result<(), WriteFault>
     ensures sent { Sends result (W.taken out.old) (W.taken out.new) (print tree.now) }
     ensures fault { IfErr result (λ f. W.write_fault out.new ≡ Some f) }

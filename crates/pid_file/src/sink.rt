@@ -28,7 +28,7 @@ pub trait Sink {
     /// The sink before, an entry, the fault, and the sink after.
     ghost faults: { Self → Numbered → Self.Fault → Self → Type 0 };
 
-    /// Takes an entry, or gives a fault.
+    /// Takes an entry, or fails with a fault.
     fn entry(&mut self, entry: &Entry<'_>) -> Result<(), Self::Fault>
         requires { IsTrue (is_name entry.now.name.now) }
         ensures taken { OnOk result (takes self.old (as_told entry.now) self.new) }

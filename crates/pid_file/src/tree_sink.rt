@@ -10,7 +10,7 @@ use crate::sink::{Entry, Sink};
 use crate::tree::Tree;
 use std::alloc::{AllocError, Global};
 
-/// Why entries give no tree.
+/// Why entries make no tree.
 #[derive(Clone, Copy)]
 pub enum TreeFault {
     /// The parent of a path has no name.
@@ -38,7 +38,7 @@ impl TreeSink {
         }
     }
 
-    /// The tree of the names, or why they give none; of a path that came twice it has the last.
+    /// The tree of the names, or why they make none; a path that came twice has its last name.
     pub fn into_tree(self) -> Result<Tree, TreeFault>
         ensures ok { IfOk result (λ t. t ≡ tree_so_far self) }
         ensures parent_missing { IsErrOf result TreeFault.ParentMissing → IsTree (tree_so_far self)

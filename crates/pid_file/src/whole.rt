@@ -32,7 +32,7 @@ fn has(items: &BTreeMap<Path, Name>, path: Path) -> bool
 }
 
 impl Above {
-    // The next path of the map: what is kept behind it, where its parent is in the map.
+    // The next path of the map: what is kept after it, if its parent is in the map.
     fn with(self, items: &BTreeMap<Path, Name>, path: Path) -> Option<Above>
         requires kept { AreIn items.now.entries self }
         requires there { HasItem items.now.entries path }
@@ -77,7 +77,7 @@ pub(crate) fn is_whole(items: &BTreeMap<Path, Name>) -> bool
         below: None,
     };
     for (key, name) in items.iter() {
-        // Tells the proof that the name keeps the rule of names.
+        // Shows the prover that the name keeps the rule of names.
         let _checked = name.as_str();
         let Some(next) = above.with(items, *key) else {
             return false;

@@ -71,7 +71,7 @@ impl<F: Drop> From<SkipEnd> for InputEnd<F> {
     }
 }
 
-/// The next piece of an input that may have `room` bytes more; none at its end.
+/// The next chunk of an input that may have `room` bytes more; none at its end.
 ///
 /// Fails with `TooLong` if more than `room` bytes are left, of which it has read one too many, and
 /// with `ReadFault` if the reader fails.
@@ -100,7 +100,7 @@ pub fn next_piece<'b, I: Input>(
     Ok(Some(&piece[..count]))
 }
 
-// Takes the next piece, where the text was not given up before.
+// Takes the next chunk, if the text was not given up before.
 fn take_next<K: Sink>(
     cutter: &mut Cutter,
     outcome: Result<(), CutEnd<K::Fault>>,
@@ -137,8 +137,8 @@ where
 
 /// Hands the entries of the input's text to the sink, in the order of their lines, until the text
 /// is refused or the sink faults. Whatever the outcome, the input is read to its end, or until more
-/// than `limit` bytes came: then no more is read. A fault of the input is told before all else, and
-/// a text that is too long before what the sink says.
+/// than `limit` bytes came: then no more is read. A fault of the input is answered before all else;
+/// then that the text is too long; then what the sink made of it.
 pub fn cut_input<K: Sink, I: Input>(
     alloc: Global,
     limit: usize,

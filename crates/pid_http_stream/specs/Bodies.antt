@@ -10,7 +10,7 @@ use Rattle.pid_http_stream.specs.declared.body_input.BodyFault.{BodyFault}
 use Rattle.pid_http_stream.specs.declared.body_input.BodyFault.TheVariants as faults
 
 -- the first n bytes, with zeros for those that are missing: a body that is short never comes to its
--- end, for its reader fails where they would stand
+-- end, for its reader fails where they would be
 abbrev pub padded : ℕ → List ℕ → List ℕ
 padded zero bytes = []
 padded (suc n) [] = 0 ∷ padded n []
@@ -29,14 +29,14 @@ pub record Turns : Type 0 where
 abbrev pub turns_at : ℕ → ℕ → Turns
 turns_at reads left = record { reads = reads; left = left }
 
--- turns are spent on reads, one for each, as far as the reader counts
+-- turns are used up by reads, one for each, as far as the reader counts
 pub record SpendsTurns (a b : Turns) : Type 0 where
   pub spent : b.reads + b.left ≤ a.reads + a.left
   pub exact : a.reads + a.left ≤ 2 ^ 64 - 1 → b.reads + b.left ≡ a.reads + a.left
   pub fewer : b.left ≤ a.left
 
 -- the reader of a body: what came with the head, how many bytes are wanted, its fault, the reader
--- under it, and what the writer beside that had taken
+-- under it, and what the writer of the replies had taken
 pub record BodyState : Type 0 where
   pub held : List ℕ
   pub wanted : ℕ
@@ -70,7 +70,7 @@ pub record IsWithinBody (s : BodyState) (m : Moment) : Type 0 where
   pub wants : length s.held + length came < s.wanted
   pub taken : m.taken ≡ s.taken
 
--- bytes were used from the front: those that were held, and those that came
+-- the first bytes were used: of those that were held, and then of those that came
 pub record HasReadBody (a b : BodyState) : Type 0 where
   pub used : List ℕ
   pub came : List ℕ

@@ -1,4 +1,4 @@
--- Proofs alone, no definitions: the laws that the reader of a body gives for `stays` and `joins` of
+-- Proofs alone, no definitions: the laws that the reader of a body has for `stays` and `joins` of
 -- `Input`.
 use Rattle.std.proofs.Common.{◌≡◌, ℕ, ◌+◌, List, [], ◌++◌, Option, Some, None, refl, sym, ap, ◌∙◌}
 use Rattle.std.proofs.Common.{append_assoc, length, length-append, arith}

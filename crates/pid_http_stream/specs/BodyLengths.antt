@@ -34,7 +34,7 @@ length_of_values [] = Bytes 0
 length_of_values (value ∷ []) = length_said value
 length_of_values (value ∷ second ∷ more) = Bad
 
--- a transfer encoding is told before any length
+-- a transfer encoding decides before any length
 abbrev pub length_unless_encoded : List (List ℕ) → List (List ℕ) → BodyLength
 length_unless_encoded [] lengths = length_of_values lengths
 length_unless_encoded (coding ∷ codings) lengths = Encoded

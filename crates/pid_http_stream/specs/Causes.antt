@@ -11,7 +11,7 @@ pub record LastState : Type 1 where
   pub read_fault : Option ReadFault
   -- the fault that the writer keeps
   pub write_fault : Option WriteFault
-  -- what the handler tells of itself where it could not go on with a body
+  -- what the handler says of itself if it could not go on with a body
   pub stuck : Type 0
   -- how many reads might be made
   pub turns : ℕ
@@ -36,5 +36,5 @@ HasEndCause ends.TurnsSpent s = s.reads + s.turns ≤ 2 ^ 64 - 1 → s.reads_aft
 pub record EndsFor (end : StreamEnd) (s : LastState) : Type 0 where
   -- no more reads were made than might be
   pub within : s.reads_after ≤ s.reads + s.turns
-  -- a fault is kept by who has it; and where the turns are spent, as many reads were made
+  -- a fault is kept by who has it; and if the turns are used up, as many reads were made
   pub cause : HasEndCause end s

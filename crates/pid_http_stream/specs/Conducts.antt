@@ -1,4 +1,4 @@
--- What a handler of requests may do, over its own states: the relations that each handler tells of
+-- What a handler of requests may do, over its own states: the relations that each handler states of
 -- itself.
 use Rattle.std.specs.Prelude.{◌≡◌, ℕ, ◌⊎◌, List, [], ◌∷◌, ◌++◌}
 use Rattle.pid_http_stream.specs.Replies.{Answer, reply_bytes}
@@ -6,15 +6,15 @@ use Rattle.pid_http_stream.specs.Requests.{Request}
 use Rattle.pid_http_stream.specs.Streams.{closes}
 use Rattle.pid_http_stream.specs.declared.reply_head.ReplyHead.{ReplyHead}
 
--- what may be known of a handler before a request and behind it
+-- what may be known of a handler before a request and after it
 pub record Conduct (H : Type 0) : Type 1 where
   -- how it may answer a request
   pub answers : H → Request → Answer → H → Type 0
   -- what it comes to where a whole request came, and memory for its reply is refused
   pub leaves : H → Request → H → Type 0
-  -- what it comes to where it gave a request up, whose body did not come whole
+  -- what it comes to if it gave a request up, whose body did not come whole
   pub gives_up : H → H → Type 0
-  -- what it may say of a body that it is to write itself: to a request, behind this head, so many
+  -- what it may say of a body that it is to write itself: to a request, after this head, so many
   -- bytes
   pub promises : H → Request → ReplyHead → ℕ → H → Type 0
 

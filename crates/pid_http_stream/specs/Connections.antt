@@ -1,4 +1,4 @@
--- Whether a request asks that the connection be closed behind its reply (RFC 9112, section 9.6): a
+-- Whether a request asks that the connection be closed after its reply (RFC 9112, section 9.6): a
 -- Connection field is a list of words between commas (RFC 9110, sections 5.6.1 and 7.6.1).
 use Rattle.std.specs.Prelude.{ℕ, Bool, ◌||◌, ◌==◌, List, codes}
 use Rattle.std.specs.List.{list_any, slice_split}

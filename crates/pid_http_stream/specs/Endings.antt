@@ -1,5 +1,5 @@
--- What is refused at the front of a stream where neither a request nor a leftover stands there:
--- choices of this project.
+-- What is refused in a stream that begins with neither a request nor a leftover: choices of this
+-- project.
 use Rattle.std.specs.Prelude.{◌≡◌, ℕ, ◌<◌, ◌⊎◌, List, length}
 use Rattle.httparse.specs.Grammar.{RequestHead}
 use Rattle.pid_http_stream.specs.BodyLengths.{body_length}
@@ -13,7 +13,7 @@ use Rattle.pid_http_stream.specs.declared.judging.StreamFault.{StreamFault}
 use Rattle.pid_http_stream.specs.declared.judging.StreamFault.TheVariants.{BadHead, Encoding}
 use Rattle.pid_http_stream.specs.declared.judging.StreamFault.TheVariants.{BodyTooLong, BodyShort}
 
--- a head stands at the front, and says this of its body
+-- the stream begins with a head, which says this of its body
 pub record SaysOfBody (stream : List ℕ) (said : BodyLength) : Type 0 where
   pub head : RequestHead
   pub rest : List ℕ
@@ -34,7 +34,7 @@ pub record IsNoHead (stream : List ℕ) : Type 0 where
   pub none : HasNoHead stream
   pub some : ¬ (IsLeftover stream)
 
--- the stream has this fault at its front
+-- the stream begins with this fault
 abbrev pub HasFault : List ℕ → StreamFault → Type 0
 HasFault stream BadHead = IsNoHead stream ⊎ SaysOfBody stream Bad
 HasFault stream Encoding = SaysOfBody stream Encoded

@@ -28,7 +28,7 @@ IsHandled conduct a request result left b =
     MatchResult result (λ reply. MayReply conduct a request reply b)
     (λ _. StandsStill conduct a b ⊎ (IsAtEnd left × conduct.leaves a request b))
 
--- the body was written whole; or a front of it
+-- the body was written whole; or a prefix of it
 abbrev pub WritesBody : {X E : Type 0} → Result X E → Option (List ℕ) → Option (List ℕ) → List ℕ
     → Type 0
 WritesBody result old new body = MatchResult result (λ _. Appends old new body)

@@ -1,4 +1,4 @@
--- The head of a request at the front of a stream, by the grammar of RFC 9112, sections 2 to 5, as
+-- The head of a request with which a stream begins, by the grammar of RFC 9112, sections 2 to 5, as
 -- `httparse` keeps it. The two limits are choices of this project.
 use Rattle.std.specs.Prelude.{ℕ, ◌≤◌, List, length}
 use Rattle.httparse.specs.Grammar.{RequestHead, ReadsRequest, print_request}
@@ -17,6 +17,6 @@ pub record HasHead (stream : List ℕ) (head : RequestHead) (rest : List ℕ) : 
   pub few : length head.fields ≤ most_fields
   pub short : length (print_request head) ≤ longest_head
 
--- no head stands at the front
+-- the stream begins with no head
 abbrev pub HasNoHead : List ℕ → Type 0
 HasNoHead stream = (head : RequestHead) (rest : List ℕ) → ¬ (HasHead stream head rest)

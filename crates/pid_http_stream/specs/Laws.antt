@@ -9,7 +9,7 @@ StreamsAreUnique = (stream : List ℕ) (requests others : List Request) (ending 
     → Splits stream requests ending → Splits stream others other
     → (requests ≡ others) × (ending ≡ other)
 
--- a request found in a front of a stream stands in all that goes on from there
+-- a request found in a prefix of a stream is found in all that goes on from there
 abbrev pub RequestsStay : Type 0
 RequestsStay = (front more : List ℕ) (request : Request) (behind : List ℕ)
     → IsRequest front request behind → IsRequest (front ++ more) request (behind ++ more)

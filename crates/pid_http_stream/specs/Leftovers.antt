@@ -1,10 +1,10 @@
--- What may be left of a stream behind its last request: empty lines (RFC 9112, section 2.2), the
+-- What may be left of a stream after its last request: empty lines (RFC 9112, section 2.2), the
 -- last of which may be cut.
 use Rattle.std.specs.Prelude.{◌≡◌, ℕ, ◌≤◌, ◌⊎◌, List, ◌∷◌, ◌++◌, length, All}
 use Rattle.httparse.specs.Ascii.{carriage_return, line_feed}
 use Rattle.pid_http_stream.specs.Heads.{longest_head}
 
--- each byte is CR or LF, and no CR stands right behind another
+-- each byte is CR or LF, and no CR comes right after another
 pub record AreLineEnds (bytes : List ℕ) : Type 0 where
   pub ends : All (λ b. (b ≡ carriage_return) ⊎ (b ≡ line_feed)) bytes
   pub paired : (front behind : List ℕ) → ¬

@@ -1,4 +1,4 @@
--- Proofs alone, no definitions: accounts of the moments at which a reader was read, one behind
+-- Proofs alone, no definitions: accounts of the moments at which a reader was read, one after
 -- another.
 use Rattle.std.proofs.Common.{List, [], ◌++◌, Option, Some, None, sym, ap, ◌∙◌, append_assoc}
 use Rattle.std.proofs.lemmas.List.{append-nil}

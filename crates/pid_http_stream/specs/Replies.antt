@@ -13,8 +13,8 @@ use Rattle.pid_http_stream.specs.declared.reply_head.Content.TheVariants.{Json, 
 use Rattle.pid_http_stream.specs.declared.reply_head.Content.TheVariants.{AllowGet, AllowPost}
 use Rattle.pid_http_stream.specs.declared.reply_head.Content.TheVariants.{AllowBoth}
 
--- what is answered to a request. The head tells the length before the body is written: `length
--- body`, but where a handler writes the body itself and does not keep to the length that it told
+-- What is answered to a request. The head states the length before the body is written: that is
+-- `length body`, unless a handler writes the body itself and does not keep to the length it stated.
 pub record Answer : Type 0 where
   pub status : ℕ
   pub content : Content
@@ -26,12 +26,12 @@ abbrev pub answer_with : ℕ → Content → List ℕ → Answer
 answer_with status content body =
     record { status = status; content = content; told = length body; body = body }
 
--- an answer with this head, whose body the handler writes itself, behind the length that it told
+-- an answer with this head, whose body the handler writes itself, after the length it stated
 abbrev pub answer_behind : ReplyHead → ℕ → List ℕ → Answer
 answer_behind head told body =
     record { status = head.status; content = head.content; told = told; body = body }
 
--- the phrase of a status, as the crate `http` gives it
+-- the phrase of a status, as the crate `http` has it
 abbrev pub phrase_of : ℕ → List ℕ
 phrase_of status = unwrap_or (reason_phrase status) []
 

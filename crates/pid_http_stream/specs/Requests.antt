@@ -1,4 +1,4 @@
--- A request at the front of a stream: its head, and a body of the length that the head says (RFC
+-- A request with which a stream begins: its head, and a body of the length that the head says (RFC
 -- 9112, section 6.3).
 use Rattle.std.specs.Prelude.{◌≡◌, ℕ, List, ◌++◌, length, map}
 use Rattle.httparse.specs.Grammar.{RequestHead}
@@ -22,6 +22,6 @@ pub record IsRequest (stream : List ℕ) (request : Request) (rest : List ℕ) :
   pub head : HasHead stream request.head (request.body ++ rest)
   pub sized : body_length (fields_of request.head) ≡ Bytes (length request.body)
 
--- no whole request stands at the front
+-- the stream begins with no whole request
 abbrev pub HasNoRequest : List ℕ → Type 0
 HasNoRequest stream = (request : Request) (rest : List ℕ) → ¬ (IsRequest stream request rest)

@@ -35,12 +35,11 @@ pub record Outside (H : Type 0) : Type 0 where
 abbrev pub outside : {H : Type 0} → H → H → Option (List ℕ) → Option (List ℕ) → Outside H
 outside a b old new = record { handler = a; handler_after = b; taken = old; taken_after = new }
 
--- a front of the bytes was written, perhaps all of them
+-- a prefix of the bytes was written, perhaps all of them
 abbrev pub WritesFront : Option (List ℕ) → Option (List ℕ) → List ℕ → Type 0
 WritesFront old new bytes = (n : ℕ) × (n ≤ length bytes) × Appends old new (take n bytes)
 
--- behind the last request the handler is as it was; only where a body is short may it have been
--- asked
+-- after the last request the handler is as it was; only if a body is short may it have been asked
 abbrev pub RestsBehind : {H : Type 0} → Conduct H → Ending → H → H → Type 0
 RestsBehind conduct clean a b = a ≡ b
 RestsBehind conduct closed a b = a ≡ b
@@ -61,7 +60,7 @@ pub record AnswersAll {H : Type 0} (conduct : Conduct H) (o : Outside H) (stream
   pub written : Appends o.taken o.taken_after (replies ++ tail)
   pub counts : count ≡ saturated (length requests)
 
--- the requests at the front of the stream were answered, up to this rest
+-- the first requests of the stream were answered, up to this rest
 pub record AnswersFront {H : Type 0} (conduct : Conduct H) (o : Outside H) (stream rest : List ℕ)
     (count : ℕ) : Type 0 where
   pub requests : List Request
@@ -71,7 +70,7 @@ pub record AnswersFront {H : Type 0} (conduct : Conduct H) (o : Outside H) (stre
   pub written : Appends o.taken o.taken_after replies
   pub counts : count ≡ saturated (length requests)
 
--- these bytes are the reply to the request at the front of what is left
+-- these bytes are the reply to the request with which the rest begins
 abbrev pub IsReplyNext : {H : Type 0} → Conduct H → H → List ℕ → List ℕ → H → Type 0
 IsReplyNext conduct a rest bytes b =
     (request : Request) × (behind : List ℕ) × (answer : Answer) × IsRequest rest request behind
@@ -96,8 +95,8 @@ abbrev pub IsWrittenNext : {H : Type 0} → Conduct H → H → List ℕ → Lis
 IsWrittenNext conduct a rest bytes b = IsReplyNext conduct a rest bytes b
     ⊎ (IsHeadNext conduct a rest bytes b ⊎ IsRefusalNext conduct a rest bytes b)
 
--- the requests at the front of the stream were answered, and a front of what is written next stands
--- behind their replies
+-- the first requests of the stream were answered, and a prefix of what is written next follows
+-- their replies
 pub record BreaksOffInReply {H : Type 0} (conduct : Conduct H) (o : Outside H) (stream : List ℕ)
     (count : ℕ) : Type 0 where
   pub rest : List ℕ
@@ -109,8 +108,8 @@ pub record BreaksOffInReply {H : Type 0} (conduct : Conduct H) (o : Outside H) (
   pub next_is : IsWrittenNext conduct mid rest bytes o.handler_after
   pub written : WritesFront taken o.taken_after bytes
 
--- a reply was cut within its body: the handler promised to write that itself, behind this head and
--- of so many bytes; the head was written whole, and a front of the body behind it
+-- a reply was cut within its body: the handler promised to write that itself, after this head and
+-- of so many bytes; the head was written whole, and then a prefix of the body
 pub record IsCutInBody {H : Type 0} (conduct : Conduct H) (a : H) (request : Request) (b : H)
     (old new : Option (List ℕ)) : Type 0 where
   pub head : ReplyHead
@@ -124,8 +123,7 @@ pub record IsCutInBody {H : Type 0} (conduct : Conduct H) (a : H) (request : Req
   pub written : Appends old new (reply_head head.status head.content told (closes request)
       ++ take count body)
 
--- the requests at the front of the stream were answered, and the reply to the next was cut within
--- its body
+-- the first requests of the stream were answered, and the reply to the next was cut within its body
 pub record BreaksOffInBody {H : Type 0} (conduct : Conduct H) (o : Outside H) (stream : List ℕ)
     (count : ℕ) : Type 0 where
   pub rest : List ℕ
@@ -152,7 +150,7 @@ pub record StopsReading {H : Type 0} (conduct : Conduct H) (o : Outside H) (stre
   pub none : HasNoRequest rest
   pub unfinished : IsUnfinished rest
 
--- the requests at the front of the stream were answered; the handler stands still, or lacked memory
+-- the first requests of the stream were answered; the handler is as it was, or ran out of memory
 -- for the reply to the next
 pub record LacksMemory {H : Type 0} (conduct : Conduct H) (o : Outside H) (stream : List ℕ)
     (count : ℕ) : Type 0 where
@@ -164,9 +162,9 @@ pub record LacksMemory {H : Type 0} (conduct : Conduct H) (o : Outside H) (strea
       ⊎ ((request : Request) × (behind : List ℕ) × IsRequest rest request behind
       × conduct.leaves mid request o.handler_after)
 
--- a reader was read at this moment, as pipelining wants it (RFC 9112, section 9.3.2): the requests
--- at the front of what had come were answered, the writer had taken the replies, and behind them
--- stood no whole request and nothing that is refused: a request that had not come whole
+-- a reader was read at this moment, as pipelining wants it (RFC 9112, section 9.3.2): the first
+-- requests of what had come were answered, and the writer had taken the replies; after them came no
+-- whole request and nothing that is refused: a request that had not come whole
 pub record IsCaughtUp {H : Type 0} (conduct : Conduct H) (start : H) (taken : Option (List ℕ))
     (stream : List ℕ) (m : Moment) : Type 0 where
   pub read : List ℕ

@@ -7,11 +7,11 @@ use Rattle.pid_http_stream.specs.Leftovers.{IsLeftover}
 use Rattle.pid_http_stream.specs.Requests.{Request, IsRequest, fields_of}
 use Rattle.pid_http_stream.specs.declared.judging.StreamFault.{StreamFault}
 
--- the stream ends behind the reply to this request
+-- the stream ends after the reply to this request
 abbrev pub closes : Request → Bool
 closes request = asks_to_close request.head.minor (fields_of request.head)
 
--- how a stream ends behind its last request
+-- how a stream ends after its last request
 pub data Ending : Type 0 where
   -- nothing is left
   clean : Ending
@@ -20,14 +20,13 @@ pub data Ending : Type 0 where
   -- what is left is refused
   faulty : StreamFault → Ending
 
--- what is left behind the last request ends the stream so
+-- what is left after the last request ends the stream so
 abbrev pub EndsStream : List ℕ → Ending → Type 0
 EndsStream rest clean = IsLeftover rest
 EndsStream rest closed = ⊥
 EndsStream rest (faulty fault) = HasFault rest fault
 
--- these requests stand at the front of the stream, none of which closes it, and this rest behind
--- them
+-- the stream begins with these requests, none of which closes it, and has this rest after them
 abbrev pub Fronts : List ℕ → List Request → List ℕ → Type 0
 Fronts stream [] rest = stream ≡ rest
 Fronts stream (request ∷ requests) rest =

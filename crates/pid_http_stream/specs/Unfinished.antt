@@ -1,6 +1,5 @@
--- What may stand at the front of what has come while more is waited for: a request that has not
--- come whole, and nothing that is refused. A head comes in lines that end in LF (RFC 9112, sections
--- 2.1 and 2.2).
+-- What may have come while more is waited for: a request that has not come whole, and nothing that
+-- is refused. A head comes in lines that end in LF (RFC 9112, sections 2.1 and 2.2).
 use Rattle.std.specs.Prelude.{◌≡◌, ◌≢◌, ℕ, ◌≤◌, ◌⊎◌, List, ◌++◌, length, All}
 use Rattle.httparse.specs.Ascii.{line_feed}
 use Rattle.httparse.specs.Grammar.{HasNoRequest as HasNoHeadYet, MayBecomeRequest as MayBecomeHead}
@@ -11,8 +10,8 @@ use Rattle.pid_http_stream.specs.Heads.{longest_head}
 abbrev pub HasNoLineEnd : List ℕ → Type 0
 HasNoLineEnd bytes = All (λ b. b ≢ line_feed) bytes
 
--- the lines that have ended can go on to a head of the grammar: a front in which they stand can,
--- and no line ends behind it
+-- the lines that have ended can go on to a head of the grammar: a prefix that has them can, and no
+-- line ends after it
 pub record CanBeHead (came : List ℕ) : Type 0 where
   pub front : List ℕ
   pub line : List ℕ

@@ -116,7 +116,7 @@ fn ask<H: Handler, B: Input>(
     }
 }
 
-// What came of a body with its head: at most so many of the bytes behind that.
+// What came of a body with its head: at most so many of the bytes after that.
 fn came_with<'b>(head: &Head<'b>, told: usize) -> &'b [u8]
     ensures front { result.now ≡ take (min told
         (length (drop head.now.spans.len head.now.bytes.now)))
@@ -145,8 +145,8 @@ fn asked_of(reply: Result<Reply, NoReply>, wanted: usize, fault: Option<BodyFaul
     }
 }
 
-/// Has a request answered whose head stands at the front of the bytes held, and whose body has so
-/// many bytes: those that came with the head, and then those of the reader.
+/// Has a request answered whose head begins the bytes held, and whose body has so many bytes:
+/// those that came with the head, and then those of the reader.
 pub(crate) fn ask_over<H: Handler, I: Incoming<W>, W: Output>(
     alloc: Global,
     handler: &mut H,

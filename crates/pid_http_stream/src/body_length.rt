@@ -9,7 +9,7 @@ use httparse::spans::HeaderSpan;
 /// The longest body of a request, in bytes: 4 MiB.
 pub const LONGEST_BODY: usize = 4_194_304;
 
-/// What a head says of the body behind it.
+/// What a head says of the body after it.
 #[derive(Clone, Copy, Debug, PartialEq, Eq)]
 pub enum BodyLength {
     /// It is sent in a transfer encoding.
@@ -45,7 +45,7 @@ fn read_length(value: &[u8]) -> BodyLength
     }
 }
 
-/// What the fields of a head say of the body behind it.
+/// What the fields of a head say of the body after it.
 pub(crate) fn length_of(buf: &[u8], fields: &[HeaderSpan]) -> BodyLength
     requires { All (IsHeaderWithin (length buf.now)) fields.now }
     ensures { result ≡ body_length (map (header_bytes buf.now) fields.now) }

@@ -1,4 +1,4 @@
-//! Whether a request asks that the connection be closed behind its reply.
+//! Whether a request asks that the connection be closed after its reply.
 ghost use Rattle.std.specs.Prelude.{
   ◌≡◌,
   ℕ,

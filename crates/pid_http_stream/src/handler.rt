@@ -14,7 +14,7 @@ use crate::reply_head::ReplyHead;
 use pid_ident::{Input, Output};
 use thiserror::Error;
 
-/// What a head asks for, as a handler understands it, by how it wants the body behind the head.
+/// What a head asks for, as a handler understands it, by how it wants the body after the head.
 #[derive(Clone, Copy, Debug, PartialEq, Eq)]
 pub enum Wanted<Q, U> {
     /// Whole, in memory.
@@ -86,13 +86,13 @@ pub trait Handler {
     /// the same registry.
     ghost becomes: { Self → Self → Type 0 };
 
-    /// How it may answer a request, what it may promise, and what is known of it behind that.
+    /// How it may answer a request, what it may promise, and what is known of it afterwards.
     ghost conduct: { Conduct View };
 
-    /// Which bytes it may write as the body that it promised, and what is known of it behind that.
+    /// Which bytes it may write as the body that it promised, and what is known of it afterwards.
     ghost writes: { View → List ℕ → View → Type 0 };
 
-    /// What it tells of itself where it could not go on with a body that it was to write.
+    /// What it says of itself if it could not go on with a body that it was to write.
     ghost cannot_go_on: { Self → Type 0 } = { λ _. ⊤ };
 
     /// Which heads ask for this.
@@ -117,7 +117,7 @@ pub trait Handler {
             → IsHandled conduct v request result (Some []) w) };
 
     /// Answers a request whose body is still to be read, of at most `LONGEST_BODY` bytes. It is to
-    /// read the body to its end before it replies; where the body fails it gives the request up.
+    /// read the body to its end before it replies; if the body fails, it gives the request up.
     fn answer_streamed<B: Input>(
         &mut self,
         upload: Self::Upload,
@@ -133,7 +133,7 @@ pub trait Handler {
             → B.to_come body.old ≡ Some request.body → length request.body ≤ longest_body
             → IsHandled conduct v request result (B.to_come body.new) w) };
 
-    /// Writes the body that the last reply promised, or at a fault a front of it.
+    /// Writes the body that the last reply promised, or at a fault a prefix of it.
     fn write_body<W: Output>(&mut self, out: &mut W) -> Result<(), BodyStop>
         ensures becomes { becomes self.old self.new }
         ensures written { Leads is_good stands self.old self.new

@@ -29,7 +29,7 @@ impl<'b> Head<'b> {
         self.spans.path.of(self.bytes)
     }
 
-    // Where the fields stand.
+    // Where the fields are.
     fn present(&self) -> &'b [HeaderSpan]
         ensures value { result.now ≡ take self.now.spans.headers self.now.fields.now }
         ensures within { All (IsHeaderWithin (length self.now.bytes.now)) result.now }
@@ -53,7 +53,7 @@ impl<'b> Head<'b> {
         first_named(self.bytes, self.present(), name)
     }
 
-    /// Whether the request asks that the connection be closed behind its reply.
+    /// Whether the request asks that the connection be closed after its reply.
     pub fn closes(&self) -> bool
         ensures { (head : RequestHead) → IsHeadOf self.now head
             → result ≡ asks head.minor (fields_of head) }

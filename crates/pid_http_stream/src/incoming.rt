@@ -21,7 +21,7 @@ use pid_ident::{Input, Output, ReadFault};
 /// A reader of what a client sends, which is shown the writer of the replies to it each time that
 /// it is read.
 ///
-/// So one that keeps account of these moments tells when replies go out. Each `Input` is one that
+/// So one that keeps account of these moments records when replies go out. Each `Input` is one that
 /// keeps none.
 pub trait Incoming<W: Output> {
     ghost use Rattle.std.specs.Prelude.{ℕ, List, Option, None};
@@ -43,7 +43,7 @@ pub trait Incoming<W: Output> {
     /// The moments at which it was read, in order, where it keeps account of them.
     ghost moments: { Self → Option (List Moment) } = { λ _. None };
 
-    /// Reads some bytes, behind what the writer has taken. None into a buffer with room is the end.
+    /// Reads some bytes, after what the writer has taken. None into a buffer with room is the end.
     fn read_behind(&mut self, output: &W, buffer: &mut [u8]) -> Result<usize, ReadFault>
         ensures room { IfOk result (λ n. n ≤ length buffer.new) }
         ensures bytes { ReadConsumes (to_come self.old) (to_come self.new) result buffer.new }

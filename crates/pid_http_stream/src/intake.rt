@@ -49,7 +49,7 @@ pub(crate) enum Stop {
     Memory,
 }
 
-/// What one read brought.
+/// What came of one read.
 #[derive(Clone, Copy, Debug, PartialEq, Eq)]
 pub(crate) enum Filled {
     Piece,
@@ -57,10 +57,10 @@ pub(crate) enum Filled {
     Stopped(Stop),
 }
 
-/// What stands at the front, once a head has come or can't come any more.
+/// What the bytes begin with, once a head has come or can't come any more.
 #[derive(Clone, Copy, Debug)]
 pub(crate) enum HeadRead {
-    /// A head, and the length of the body behind it.
+    /// A head, and the length of the body after it.
     Head { spans: RequestSpans, body: usize },
     /// The stream ended, and nothing is left.
     Nothing,
@@ -143,8 +143,8 @@ fn judge_end(held: &[u8]) -> HeadRead
     }
 }
 
-// Judges what came, of which so many bytes hold no head. They are parsed anew only where a line
-// ends behind these: no head ends but with a line.
+// Judges what came, of which so many bytes hold no head. They are parsed again only if a line
+// ends after these: every head ends with a line.
 fn judge_more(held: &[u8], before: usize, fields: &mut [HeaderSpan]) -> Judged
     requires wants { IsHeadUnfinished (take before held.now) }
     requires before { before ≤ length held.now }

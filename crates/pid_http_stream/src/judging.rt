@@ -1,4 +1,4 @@
-//! What stands at the front of the bytes that came.
+//! What the bytes that came begin with.
 ghost use Rattle.std.specs.Prelude.{
   ◌≡◌,
   ◌↔◌,
@@ -37,8 +37,8 @@ pub const LONGEST_HEAD: usize = 16_384;
 /// Why a stream is refused.
 #[derive(Clone, Copy, Debug, PartialEq, Eq, Error)]
 pub enum StreamFault {
-    /// What stands there is no head, has too many fields or is too long, or its Content-Length is
-    /// no length.
+    /// The bytes begin with no head, or with one that has too many fields or is too long, or whose
+    /// Content-Length is no length.
     #[error("no head of a request, or one that is too long or says no length")]
     BadHead,
     #[error("the body is sent in a transfer encoding")]
@@ -65,12 +65,12 @@ impl StreamFault {
     }
 }
 
-/// What stands at the front of the bytes that came.
+/// What the bytes that came begin with.
 #[derive(Clone, Copy, Debug)]
 pub(crate) enum Judged {
     /// No whole head yet: more bytes can make it one.
     More,
-    /// A head, and the length of the body behind it.
+    /// A head, and the length of the body after it.
     Head { spans: RequestSpans, body: usize },
     /// The stream has this fault here.
     Faulty(StreamFault),

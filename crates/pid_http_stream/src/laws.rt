@@ -6,7 +6,7 @@ pub fn streams_are_unique()
     ensures { StreamsAreUnique }
 {}
 
-/// A request at the front of some bytes stays what it is, whatever comes behind them.
+/// A request that some bytes begin with stays what it is, whatever comes after them.
 pub fn requests_stay()
     ensures { RequestsStay }
 {}

@@ -46,7 +46,7 @@ fn send_head<W: Output>(head: ReplyHead, told: u64, closes: bool, out: &mut W) -
     }
 }
 
-// Whether the writer has failed: then it keeps its fault, and gives it to a write of nothing too.
+// Whether the writer has failed: then it keeps its fault, and a write of nothing fails with it too.
 fn has_failed<W: Output>(out: &mut W) -> bool
     ensures taken { Appends (W.taken out.old) (W.taken out.new) [] }
     ensures failed { result ≡ true → IsSome (W.write_fault out.new) }

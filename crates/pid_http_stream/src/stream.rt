@@ -47,7 +47,7 @@ use std::alloc::Global;
 /// How the serving of a stream ended.
 #[derive(Clone, Copy, Debug, PartialEq, Eq)]
 pub enum StreamEnd {
-    /// The stream ended behind its last request.
+    /// The stream ended after its last request.
     Clean,
     /// The last request asked for it.
     Closed,
@@ -57,10 +57,10 @@ pub enum StreamEnd {
     BodyFault,
     /// The reader failed.
     ReadFault,
-    /// The writer failed, or took no byte; a front of the next reply was written.
+    /// The writer failed, or took no byte; a prefix of the next reply was written.
     WriteFault,
     /// The handler could not go on with a body that it wrote itself, and the writer is good; the
-    /// head of the reply was written, and a front of the body.
+    /// head of the reply was written, and a prefix of the body.
     StoreFault,
     /// Memory was refused.
     Memory,
@@ -87,7 +87,7 @@ pub(crate) enum Answered {
     Ended(StreamEnd),
 }
 
-// Drops so many bytes from the front, or all where there are fewer.
+// Drops the first bytes, so many, or all if there are fewer.
 fn drop_front(held: &mut Vec<u8>, count: usize)
     ensures { held.new.items ≡ drop count held.old.items }
 {
@@ -109,7 +109,7 @@ fn refuse<W: Output>(fault: StreamFault, out: &mut W) -> StreamEnd
     }
 }
 
-// Ends a stream whose body broke off; only where it is short that is told.
+// Ends a stream whose body broke off; only a short body is reported.
 fn end_broken<W: Output>(fault: BodyFault, out: &mut W) -> StreamEnd
     ensures ended { EndsBroken fault (W.taken out.old) (W.taken out.new) result }
     ensures fault { result ≡ StreamEnd.WriteFault → IsSome (W.write_fault out.new) }
@@ -138,8 +138,7 @@ fn answered_by(sent: Sent, closes: bool) -> Answered
     }
 }
 
-// Serves the request whose head stands at the front of the bytes held, and whose body has so many
-// bytes.
+// Serves the request whose head begins the bytes held, and whose body has so many bytes.
 fn serve_request<H: Handler, I: Incoming<W>, W: Output>(
     alloc: Global,
     handler: &mut H,
@@ -214,10 +213,10 @@ fn with_refusal(answered: u64, end: StreamEnd) -> u64
 /// Answers the requests of a stream, one after another, in at most so many reads.
 ///
 /// Whenever it reads, the requests that came whole are answered, the writer has taken their
-/// replies, and nothing that is refused stands behind them. Where the writer takes all and neither
-/// memory, turns nor the store fail, the bytes written are the replies to the requests of the whole
-/// stream, in their order, however the bytes come cut; then the one refusal where the stream ends
-/// with a fault.
+/// replies, and nothing that is refused follows them. If the writer takes all and neither memory,
+/// turns nor the store fail, the bytes written are the replies to the requests of the whole stream,
+/// in their order, in whatever chunks the bytes come; then the one refusal, if the stream ends with
+/// a fault.
 pub fn serve_stream<H: Handler, I: Incoming<W>, W: Output>(
     alloc: Global,
     handler: &mut H,

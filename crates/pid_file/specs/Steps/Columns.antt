@@ -1,4 +1,4 @@
--- Steps beside Columns.
+-- Steps of Columns.
 use Rattle.std.specs.Prelude.{ℕ, zero, suc, Bool, true, false, ◌&&◌, List, [], ◌∷◌}
 use Rattle.pid_file.specs.Columns.{is_hex}
 

@@ -20,7 +20,7 @@ pub record RefusedLine {S : Type 0} (r : ReadRefusal) (earlier : List (List ℕ)
   pub refused : IsRefusal r (refusal_at earlier line)
   pub kept : new ≡ old
 
--- it is not refused, and the sink gave the fault at its entry
+-- it is not refused, and the sink had the fault at its entry
 pub record FaultedLine {S F : Type 0} (faults : S → Numbered → F → S → Type 0) (fault : F)
     (earlier : List (List ℕ)) (line : List ℕ) (old new : S) : Type 0 where
   pub good : refusal_at earlier line ≡ None

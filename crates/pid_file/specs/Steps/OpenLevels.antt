@@ -1,4 +1,4 @@
--- Steps beside OpenLevels.
+-- Steps of OpenLevels.
 use Rattle.std.specs.Prelude.{ℕ, ◌==◌, if◌then◌else◌}
 use Rattle.std.specs.Prelude.{Option, Some, None, Result, Ok, Err}
 use Rattle.pid_file.specs.declared.line_kind.LineKind.{LineKind}

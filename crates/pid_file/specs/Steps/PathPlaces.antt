@@ -1,4 +1,4 @@
--- What orders paths without their texts: the letter of the front, and then the numbers.
+-- What orders paths without their texts: the letter, and then the numbers.
 use Rattle.std.specs.Prelude.{ℕ, List, [], ◌∷◌, slice_get}
 use Rattle.std.specs.declared.cmp.Ordering.{Ordering}
 use Rattle.std.specs.Option.{option_cmp}
@@ -28,6 +28,6 @@ numbers_of (Generic v d) = v ∷ d ∷ []
 abbrev pub cmp_at : ℕ → List ℕ → List ℕ → Ordering
 cmp_at i ms ns = option_cmp nat_cmp (slice_get ms i) (slice_get ns i)
 
--- by the numbers behind the first, of which there are at most three
+-- by the numbers after the first, of which there are at most three
 abbrev pub rest_cmp : List ℕ → List ℕ → Ordering
 rest_cmp ms ns = ordering_then (cmp_at 1 ms ns) (ordering_then (cmp_at 2 ms ns) (cmp_at 3 ms ns))

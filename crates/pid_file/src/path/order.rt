@@ -1,5 +1,5 @@
-//! The bytewise order of the texts of paths, without the texts: the letter of the front decides,
-//! and then the numbers.
+//! The bytewise order of the texts of paths, without the texts: the letter decides, and then the
+//! numbers.
 ghost use Rattle.std.specs.Prelude.{◌≡◌, Some, slice_get};
 ghost use Rattle.std.specs.Ordering.{on, eq_by_cmp, as_partial_cmp};
 ghost use Rattle.std.specs.Cmp.{
@@ -17,7 +17,7 @@ ghost use Rattle.pid_file.specs.Steps.PathPlaces.{letter_of, numbers_of, rest_cm
 use super::Path;
 use std::cmp::Ordering;
 
-// The letter of the front, and the first number: most paths differ there.
+// The letter and the first number: most paths differ there.
 #[derive(Clone, Copy)]
 struct Head {
     letter: u8,
@@ -41,7 +41,7 @@ fn head_of(path: Path) -> Head
     Head { letter, first }
 }
 
-// The numbers behind the first.
+// The numbers after the first.
 #[derive(Clone, Copy)]
 struct Rest {
     second: Option<u16>,
@@ -77,7 +77,7 @@ fn rest_of(path: Path) -> Rest
     }
 }
 
-// By the numbers behind the first: a missing one comes before every other.
+// By the numbers after the first: a missing one comes before every other.
 fn compare_rests(mine: Path, theirs: Path) -> Ordering
     ensures { result ≡ rest_cmp (numbers_of mine) (numbers_of theirs) }
 {

@@ -1,4 +1,4 @@
--- What comes in from a reader, and what stands at the front of what came.
+-- What comes in from a reader, and what the bytes that came begin with.
 use Rattle.std.specs.Prelude.{◌≡◌, ℕ, ◌<◌, ◌≤◌, List, ◌++◌, take, map, Option, IfSome, IsSome, ⊤}
 use Rattle.std.specs.Io.KnownBytes.{Consumes, IsAtEnd}
 use Rattle.httparse.specs.Spans.{header_bytes, IsRequestWithin, IsRequestOf}
@@ -21,13 +21,13 @@ use Rattle.pid_http_stream.specs.declared.intake.Stop.TheVariants as stops
 use Rattle.pid_http_stream.specs.declared.intake.HeadRead.{HeadRead}
 use Rattle.pid_http_stream.specs.declared.intake.HeadRead.TheVariants as heads
 
--- what came from the reader stands behind what was held
+-- what came from the reader follows what was held
 pub record ComesIn (held held_after : List ℕ) (input input_after : Option (List ℕ)) : Type 0 where
   pub piece : List ℕ
   pub consumed : Consumes input input_after piece
   pub kept : held_after ≡ held ++ piece
 
--- when the reader was read, what was held and what had come behind it was a request that had not
+-- when the reader was read, what was held and what had come after it was a request that had not
 -- come whole, and the writer had taken this
 pub record WaitsForRequest (held : List ℕ) (input taken : Option (List ℕ)) (m : Moment)
     : Type 0 where
@@ -61,7 +61,7 @@ HeadStops heads.Nothing fault left = ⊤
 HeadStops (heads.Faulty why) fault left = ⊤
 HeadStops (heads.Stopped stop) fault left = StopsFor stop fault left
 
--- the spans are those of a head at the front, which says that its body has so many bytes
+-- the spans are those of a head that begins the bytes, which says that its body has so many bytes
 pub record StandsAt (held : List ℕ) (headers : List HeaderSpan) (spans : RequestSpans)
     (body : ℕ) : Type 0 where
   pub found : IsRequestOf held headers spans
@@ -72,7 +72,7 @@ pub record StandsAt (held : List ℕ) (headers : List HeaderSpan) (spans : Reque
   pub fits : body ≤ longest_body
   pub says : body_length (map (header_bytes held) (take spans.headers headers)) ≡ Bytes body
 
--- at a fault the stream has it, whatever comes behind
+-- at a fault the stream has it, whatever comes after
 abbrev pub IsHeadJudged : List ℕ → List HeaderSpan → Judged → Type 0
 IsHeadJudged held headers judged.More = IsHeadUnfinished held
 IsHeadJudged held headers (judged.Head spans body) = StandsAt held headers spans body

@@ -39,15 +39,14 @@ pub record Around (H : Type 0) : Type 0 where
   pub input : Option (List ℕ)
   pub input_after : Option (List ℕ)
 
--- a head at the front of the bytes held: where its parts are, and the length that it says of its
--- body
+-- a head that begins the bytes held: where its parts are, and the length that it says of its body
 pub record FrontHead : Type 0 where
   pub held : List ℕ
   pub headers : List HeaderSpan
   pub spans : RequestSpans
   pub content_length : ℕ
 
--- what is held behind the request that has this head
+-- what is held after the request that has this head
 abbrev pub held_behind : FrontHead → List ℕ
 held_behind f = drop (f.spans.len + f.content_length) f.held
 
@@ -83,18 +82,18 @@ pub record AsksHandler {H : Type 0} (conduct : Conduct H) (o : Around H) (front 
   pub after : o.input_after ≡ Some more
   pub is : IsAskedOver conduct o (record { front = front; came = came }) result
 
--- the bytes were written, whole or a front of them
+-- the bytes were written, whole or a prefix of them
 abbrev pub SendsText : Sent → Option (List ℕ) → Option (List ℕ) → List ℕ → Type 0
 SendsText sent.Whole old new bytes = Appends old new bytes
 SendsText sent.WriteFault old new bytes = WritesFront old new bytes
 SendsText sent.StoreFault old new bytes = ⊥
 
--- a request, and whether the stream ends behind its reply
+-- a request, and whether the stream ends after its reply
 pub record Replied : Type 0 where
   pub request : Request
   pub closing : Bool
 
--- an answer was written, a front of one, or a front of the head of one whose body was not asked
+-- an answer was written, a prefix of one, or a prefix of the head of one whose body was not asked
 -- for; or it was cut in its body
 abbrev pub IsSent : {H : Type 0} → Conduct H → Outside H → Replied → Sent → Type 0
 IsSent conduct o r sent.Whole = (answer : Answer)
@@ -109,7 +108,7 @@ IsSent conduct o r sent.WriteFault =
 IsSent conduct o r sent.StoreFault = closes r.request ≡ r.closing
     → IsCutInBody conduct o.handler r.request o.handler_after o.taken o.taken_after
 
--- a refusal was written, whole or a front of it
+-- a refusal was written, whole or a prefix of it
 abbrev pub WritesRefusal : StreamFault → Option (List ℕ) → Option (List ℕ) → StreamEnd → Type 0
 WritesRefusal fault old new ends.HeadFault = (is_head_fault fault ≡ true)
     × Appends old new (reply_bytes (fault_answer fault) true)
@@ -130,7 +129,7 @@ EndsBroken faults.Short old new end = WritesRefusal BodyShort old new end
 EndsBroken faults.ReadFault old new end = (end ≡ ends.ReadFault) × (new ≡ old)
 EndsBroken faults.TurnsSpent old new end = (end ≡ ends.TurnsSpent) × (new ≡ old)
 
--- the bytes of a step: what was held and what came for a request, what of it is held behind that,
+-- the bytes of a step: what was held and what came for a request, what of it is held after that,
 -- and all that is left of the stream
 pub record Portion : Type 0 where
   pub came : List ℕ
