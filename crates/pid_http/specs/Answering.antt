@@ -1,4 +1,4 @@
--- The answers to what requests come to, and the history behind them. Choices of this project.
+-- The answers to what requests come to, and the history after them. Choices of this project.
 use Rattle.std.specs.Prelude.{◌≡◌, ℕ, List, Option, Some, None, Result, Ok, Err, if◌then◌else◌}
 use Rattle.pid_ident.specs.PathTexts.{path_text}
 use Rattle.pid_file.specs.declared.path.Path.{Path}
@@ -85,7 +85,7 @@ answer_over h (Pending number format) = pending_answer format (pending_in PAGE n
 answer_over h (Changes since after format) = changes_answer format
     (changes_in PAGE since (start_text after) (views_of h))
 
--- the history behind it: only a command that is accepted adds to the one before
+-- the history after it: only a command that is accepted adds to the one before
 abbrev pub history_behind : History → Option Asked → History
 history_behind h None = h
 history_behind h (Some command) = after h command
@@ -95,7 +95,7 @@ abbrev pub IsErrandRefused : Errand → Refusal → Answer → Type 0
 IsErrandRefused errand refusal given = (known_answer errand ≡ None)
     × (given ≡ outcome_answer (format_of errand) (Err refusal))
 
--- Memory was short for a command's sender or form, before the registry was asked.
+-- Memory ran out for a command's sender or form, before the registry was asked.
 abbrev pub LacksForm : Errand → Answer → Type 0
 LacksForm (Denied refusal format) given = given ≡ outcome_answer format (Err Memory)
 LacksForm (Obeys command format) given = given ≡ outcome_answer format (Err Memory)

@@ -1,4 +1,4 @@
--- What is known of a registry between two requests of a stream, and of its life.
+-- What is known of a registry between two requests of a stream, and of its session.
 use Rattle.std.specs.Prelude.{◌≡◌, false, List, ◌++◌}
 use Rattle.sqlite_trees.specs.declared.store.Store.{Ghosts}
 use Rattle.pid_moderation.specs.History.{History}
@@ -12,8 +12,8 @@ use Rattle.pid_service.specs.Registries.{is_live}
 pub data Known : Type 0 where
   -- it is live and shows this history, and so does all that a crash may leave
   Live : History → Known
-  -- it failed at a command: what a crash may leave shows the history before the command, or the one
-  -- behind it
+  -- it failed at a command: what a crash may leave shows the history without the command, or the
+  -- one with it
   Between : (before behind : History) → Known
   -- it had failed earlier
   Down : Known
@@ -25,26 +25,26 @@ module _ {S : Type 0} (store : Ghosts S) where
   IsKnownOf r (Between before behind) = FailsBetween store r before behind
   IsKnownOf r Down = is_live r ≡ false
 
-  -- Calls on the registry led from the one to the other, and each did what lives ask of a call: so
-  -- they are a part of its life. One that has failed stays as it is.
+  -- Calls on the registry led from the one to the other, and each did what a session asks of a
+  -- call: so they are a part of its session. One that has failed stays as it is.
   pub record LivesOn (old new : Registry S store) : Type 0 where
     pub rests : is_live old ≡ false → new ≡ old
     pub calls : List Call
     pub lead : CallsLead (showing store) old calls new
 
-  -- What is told of a registry within a life: how it was as that began, the calls since then, and
-  -- what is known of it.
+  -- What is known of a registry within a session: how it was as that began, the calls since then,
+  -- and what it shows.
   pub record Told : Type 0 where
     pub start : Registry S store
     pub calls : List Call
     pub known : Known
 
-  -- this is told of the registry, and it is so
+  -- the registry is as this says
   pub record IsToldOf (r : Registry S store) (t : Told) : Type 0 where
     pub is_known : IsKnownOf r t.known
     pub lead : CallsLead (showing store) t.start t.calls r
 
-  -- more calls of the same life led from the one to the other, of which this holds
+  -- more calls of the same session led from the one to the other, of which this holds
   pub record ByCalls (t u : Told) (Holds : List Call → Type 0) : Type 0 where
     pub same_life : u.start ≡ t.start
     pub more : List Call

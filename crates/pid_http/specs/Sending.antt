@@ -1,4 +1,4 @@
--- What the requests of a stream send a registry within its life. Choices of this project.
+-- What the requests of a stream send a registry within its session. Choices of this project.
 use Rattle.std.specs.Prelude.{◌≡◌, ◌⊎◌, ℕ, List, [], ◌∷◌, ◌++◌, Option, Some, None}
 use Rattle.sqlite_trees.specs.declared.store.Store.{Ghosts}
 use Rattle.pid_service_laws.specs.Calls.{Call, StopsAt, sent_in}
@@ -29,22 +29,22 @@ AreSomeOf some [] = some ≡ []
 AreSomeOf some (command ∷ all) = AreSomeOf some all
     ⊎ ((others : List Asked) × (some ≡ command ∷ others) × AreSomeOf others all)
 
--- The calls sent some of the commands, in their order, and the registry shows the history behind
+-- The calls sent some of the commands, in their order, and the registry shows the history after
 -- these. Or they stopped at a later one of the commands, at which it failed: what a crash may leave
--- shows the history behind those that were sent, or behind that one too.
+-- shows the history after those that were sent, or after that one too.
 abbrev pub SendsSome : History → List Asked → List Call → Known → Type 0
 SendsSome h commands calls k =
     (AreSomeOf (commands_in (sent_in calls)) commands × (k ≡ Live (after_sent h (sent_in calls))))
     ⊎ ((c : Asked) × StopsAt c calls × AreSomeOf (commands_in (sent_in calls) ++ c ∷ []) commands
     × (k ≡ Between (after_sent h (sent_in calls)) (after (after_sent h (sent_in calls)) c)))
 
--- the requests stand at the front of the stream, one behind the other
+-- the stream begins with the requests, one after the other
 abbrev pub StandInFront : List ℕ → List Request → Type 0
 StandInFront stream [] = Unit {0}
 StandInFront stream (request ∷ requests) = (behind : List ℕ) × IsRequest stream request behind
     × StandInFront behind requests
 
--- requests at the front of the stream sent some of their commands
+-- the first requests of the stream sent some of their commands
 pub record SendsOf {S : Type 0} (store : Ghosts S) (h : History) (t u : Told store)
     (stream : List ℕ) : Type 0 where
   pub requests : List Request
@@ -52,7 +52,7 @@ pub record SendsOf {S : Type 0} (store : Ghosts S) (h : History) (t u : Told sto
   pub sends : ByCalls store t u (λ calls. SendsSome h (commands_asked requests) calls u.known)
 
 -- A stream that was served of a registry that showed a history sent it, whichever way it ended,
--- commands of requests at its front.
+-- commands of the first requests of the stream.
 abbrev pub StreamsSend : {S : Type 0} (store : Ghosts S) → Type 0
 StreamsSend store = (o : Outside (Told store)) (h : History) (stream : List ℕ)
     (left : Option (List ℕ)) (end : StreamEnd) (count : ℕ) → o.handler.known ≡ Live h

@@ -6,8 +6,8 @@ use Rattle.pid_service.specs.declared.registry.Registry.{Registry}
 use Rattle.pid_http_stream.specs.Leading.{Leads}
 use Rattle.pid_http.specs.Known.{IsToldOf, Told}
 
--- While the disk returns what was written, and where the bytes to come are known, this holds of
--- what is told of the registry before and after, and of these bytes.
+-- While the disk returns what was written, and if the bytes to come are known, this holds of what
+-- is known of the registry before and after, and of these bytes.
 abbrev pub OverStream : {S : Type 0} (store : Ghosts S) → Registry S store → Registry S store
     → Option (List ℕ) → (Told store → Told store → List ℕ → Type 0) → Type 0
 OverStream store old new to_come Holds = Leads (HasCleanDisk store) (IsToldOf store) old new

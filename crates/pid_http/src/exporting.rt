@@ -1,4 +1,4 @@
-//! The canonical text of all items, whose length is told before it is written.
+//! The canonical text of all items, whose length is stated before it is written.
 ghost use Rattle.std.specs.Prelude.{◌≡◌, Ok};
 ghost use Rattle.pid_http.specs.Errands as errands;
 ghost use Rattle.pid_http.specs.Steps.Replying.{Replies};
@@ -11,7 +11,7 @@ use pid_service::{Registry, clauses_meet_lives};
 use sqlite::Alter;
 use std::alloc::{AllocError, Global};
 
-/// The head of the reply with the text, which is written behind it, item by item.
+/// The head of the reply with the text, which is written after it, item by item.
 pub(crate) fn export<S: Alter + Drop>(
     alloc: Global,
     registry: &mut Registry<S>,

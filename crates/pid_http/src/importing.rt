@@ -146,8 +146,8 @@ fn import_of_sender<S: Alter + Drop, B: Input>(
     }
 }
 
-/// Has an import obeyed whose file is the body. The sender is judged first, but told only behind
-/// the body.
+/// Has an import obeyed whose file is the body. The sender is judged first, but a refusal is
+/// answered only after the body.
 pub(crate) fn import<S: Alter + Drop, B: Input>(
     alloc: Global,
     registry: &mut Registry<S>,

@@ -7,10 +7,10 @@ use pid_service_laws::judgements_are_outcomes;
 use sqlite::Alter;
 
 /// What a stream sends a registry that shows a history, whichever way it ends. The calls of the
-/// registry's life go on by calls that sent commands of the requests at the front of the stream, in
-/// their order, and nothing else; and the registry shows the history behind these. Or it failed at
-/// one of the commands behind them, and what a crash may leave shows the history before that one or
-/// behind it.
+/// registry's session go on by calls that sent commands of the first requests of the stream, in
+/// their order, and nothing else; and the registry shows the history after these. Or it failed at
+/// one of the commands after them, and what a crash may leave shows the history without that one or
+/// with it.
 pub fn streams_send_their_commands<S: Alter + Drop>()
     ensures { StreamsSend S.Store }
 {

@@ -1,4 +1,4 @@
-//! A registry behind the routes.
+//! A registry and the routes to it.
 use pid_http_requests::Routes;
 use pid_service::Registry;
 use sqlite::Alter;

@@ -18,25 +18,24 @@ use std::alloc::Global;
 /// Answers the requests of a stream over a registry, one after another, in at most so many reads.
 ///
 /// Each reply is that to the request over the history that the registry shows then, and the writer
-/// has taken it before another read is made. What the calls of the registry's life send it are the
-/// commands of these requests, in their order. Where memory is short or the store fails the reply
-/// is that refusal; where the registry failed so at a command, each later request that asks
-/// something of it is told so, and it has to be opened anew. Bodies and replies are held in memory,
-/// but for the file of an import and the text of all items, which pass through in pieces (tested
-/// over sockets, no clause says it).
+/// has taken it before another read is made. The calls of the registry's session send it the
+/// commands of these requests, in their order. If memory runs out or the store fails, the reply is
+/// that refusal. If the registry failed so at a command, each later request that asks something of
+/// it is refused as well, and it has to be opened again. Bodies and replies are held in memory, but
+/// for the file of an import and the text of all items, which pass through in chunks (tested over
+/// sockets, no clause says it).
 ///
 /// # How it ends
 ///
-/// - `Clean`, `Closed`, `HeadFault`, `BodyFault`: all requests of the stream were answered, behind
-///   them the refusal of what is none.
-/// - `ReadFault`, `TurnsSpent`: the requests that came whole were answered.
-/// - `Memory`: the requests before were answered; the next may have been obeyed.
-/// - `WriteFault`: the requests before were answered, and a front of the next reply was written,
-///   which may be all of it where the writer failed behind it; the next may have been obeyed.
-/// - `StoreFault`: the same within the text of all items, which the store failed or memory cut
-///   short, over a writer that is good.
+/// - `Clean`, `Closed`, `HeadFault`, `BodyFault`: all requests of the stream were answered, and
+/// then what is no request was refused. - `ReadFault`, `TurnsSpent`: the requests that came whole
+/// were answered. - `Memory`: the requests before were answered; the next may have been obeyed. -
+/// `WriteFault`: the requests before were answered, and a prefix of the next reply was written,
+/// which may be all of it if the writer failed after it; the next may have been obeyed. -
+/// `StoreFault`: the same within the text of all items, which the store or memory cut short, over a
+/// writer that is good.
 ///
-/// Where there is no memory for the routes it ends so before anything is read. A server makes them
+/// If there is no memory for the routes, it ends so before anything is read. A server makes them
 /// once, and calls `serve_with`.
 pub fn serve_stream<S: Alter + Drop, I: Incoming<W>, W: Output>(
     alloc: Global,
@@ -46,10 +45,10 @@ pub fn serve_stream<S: Alter + Drop, I: Incoming<W>, W: Output>(
     turns: u64,
 ) -> Served
     // The bytes are the replies to the stream's requests over the histories that the registry
-    // shows, and it shows the one behind them. The commands of the requests are what the calls of
-    // its life sent it. As `t` a reader takes what is told of the registry at the start: `start` is
-    // this registry, there are no `calls` yet, and `known` is `Live h` where it shows the history
-    // `h`, `Down` where it had failed earlier.
+    // shows, and it shows the one after them. The commands of the requests are what the calls of
+    // its session sent it. As `t` a reader takes what is known of the registry at the start:
+    // `start` is this registry, there are no `calls` yet, and `known` is `Live h` if it shows the
+    // history `h`, `Down` if it had failed earlier.
     ensures served { OverStream S.Store registry.old registry.new (I.to_come reader.old)
         (λ t u stream. IsServed (serving S.Store)
         (outside t u (W.taken writer.old) (W.taken writer.new))
@@ -59,8 +58,8 @@ pub fn serve_stream<S: Alter + Drop, I: Incoming<W>, W: Output>(
     ensures caught_up { OverStream S.Store registry.old registry.new (I.to_come reader.old)
         (λ t _ stream. AllSince (IsCaughtUp (serving S.Store) t (W.taken writer.old) stream)
         (I.moments reader.old) (I.moments reader.new)) }
-    // Whatever the bytes are and wherever it ends, it is a part of the registry's life; and one
-    // that has failed stays as it is.
+    // Whatever the bytes are and wherever it ends, it is a part of the registry's session; and
+    // one that has failed stays as it is.
     ensures lives { LivesOn S.Store registry.old registry.new }
     ensures ended { EndsFor result.end (record {
       read_fault = I.read_fault reader.new;

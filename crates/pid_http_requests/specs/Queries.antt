@@ -46,12 +46,12 @@ abbrev pub format_in : Fields → Option Format
 format_in fields = if is_format_alone fields then format_said
     (value (codes "format") fields) else None
 
--- and beside another field
+-- with another field
 abbrev pub format_beside : List ℕ → Fields → Option Format
 format_beside name fields = if are_both name fields then format_said
     (value (codes "format") fields) else None
 
--- and beside two other fields
+-- with two other fields
 abbrev pub format_beside_two : List ℕ → List ℕ → Fields → Option Format
 format_beside_two first second fields = if are_three first second fields then format_said
     (value (codes "format") fields) else None
@@ -79,11 +79,11 @@ abbrev pub since_said : Option (List ℕ) → Option ℕ
 since_said None = Some 0
 since_said (Some text) = if bytes_eq text (codes "0") then Some 0 else revision_in text
 
--- behind a path, where a text is one
+-- after a path, if a text is one
 abbrev pub start_path : Option Path → Start
 start_path None = starts.BadPath
 start_path (Some path) = starts.Behind path
 
--- the first item where the text is empty, else what stands behind the path that it is
+-- the first item if the text is empty, else what follows the path that it is
 abbrev pub start_said : List ℕ → Start
 start_said text = if is_empty text then starts.First else start_path (path_of text)

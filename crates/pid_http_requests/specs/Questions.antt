@@ -31,7 +31,7 @@ use Rattle.pid_http_requests.specs.declared.question.Question.TheVariants.{Comma
 use Rattle.pid_http_stream.specs.declared.handler.Wanted.{Wanted}
 use Rattle.pid_http_stream.specs.declared.handler.Wanted.TheVariants.{Buffered, Streamed}
 
--- what stands behind the front of a path, where it has that front
+-- what follows the prefix of a path, if the path has it
 abbrev pub rest_after : List ℕ → List ℕ → List ℕ
 rest_after front path = if starts_with ◌==◌ path front then drop (length front) path else []
 
@@ -40,7 +40,7 @@ abbrev pub export_asked : Fields → Option Question
 export_asked [] = Some Export
 export_asked (field ∷ fields) = None
 
--- the item at the path that stands behind `/read/`
+-- the item at the path after `/read/`
 abbrev pub read_asked : List ℕ → Fields → Option Question
 read_asked path fields = option_map
     (λ format. Read (path_of (rest_after (codes "/read/") path)) format)
@@ -51,7 +51,7 @@ abbrev pub children_asked : Fields → Option Question
 children_asked fields = option_map (λ format. Children
     (above_said (text_at (codes "of") fields)) format) (format_beside (codes "of") fields)
 
--- the submission with the number that stands behind `/submission/`
+-- the submission with the number after `/submission/`
 abbrev pub submission_asked : List ℕ → Fields → Option Question
 submission_asked path fields = option_map
     (λ format. Submission (number_in (rest_after (codes "/submission/") path)) format)
@@ -63,7 +63,7 @@ pending_asked fields =
     option_and_then (λ format. option_map (λ after. Pending after format)
     (after_said (value (codes "after") fields))) (format_beside (codes "after") fields)
 
--- the items whose changes have numbers above `since`, behind the path `after`
+-- the items whose changes have numbers above `since`, after the path `after`
 abbrev pub changes_asked : Fields → Option Question
 changes_asked fields =
     option_and_then
@@ -72,7 +72,7 @@ changes_asked fields =
     (since_said (value (codes "since") fields)))
     (format_beside_two (codes "since") (codes "after") fields)
 
--- a command, whose own fields stand in the body
+-- a command, whose own fields are in the body
 abbrev pub verb_asked : Verb → Fields → Option Question
 verb_asked verb fields = option_map (λ format. Command verb format) (format_in fields)
 
@@ -123,8 +123,8 @@ begins_slash (b ∷ bytes) = b == 47
 abbrev pub is_target : List ℕ → Bool
 is_target target = is_utf8 target && begins_slash target
 
--- at a target: the route of its path, which is what stands before the first `?`; the query is what
--- stands behind that
+-- at a target: the route of its path, which is what comes before the first `?`; the query is what
+-- comes after it
 unfoldable pub with_target : List ℕ → List ℕ → Asking
 with_target method target = with_route method (route_at (split_once 63 target).0)
     (split_once 63 target).0 (split_once 63 target).1

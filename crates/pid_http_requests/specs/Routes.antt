@@ -14,7 +14,7 @@ use Rattle.pid_http_requests.specs.declared.route.Route.TheVariants.{Reject, Imp
 abbrev pub literal : List ℕ → Route → List ℕ × RouteOf Route
 literal text route = (text, record { pattern = text; text = text; names = []; value = route })
 
--- one or more bytes behind `/read/`; the word `path` of the text begins at place 8 and ends before
+-- one or more bytes after `/read/`; the word `path` of the text begins at place 8 and ends before
 -- 12
 abbrev pub read_route : List ℕ × RouteOf Route
 read_route = (
@@ -29,7 +29,7 @@ read_route = (
   },
 )
 
--- one or more bytes behind `/submission/`, none of them a slash; the word `num` of the text begins
+-- one or more bytes after `/submission/`, none of them a slash; the word `num` of the text begins
 -- at place 13 and ends before 16
 abbrev pub submission_route : List ℕ × RouteOf Route
 submission_route = (

@@ -9,7 +9,7 @@ use pid_moderation::{Command, Refusal, Verb, command_of};
 use std::alloc::Global;
 
 /// The command of a sender that the form in a body makes, or the first check that fails: that of
-/// the text, and then those of the form. Refused is also where memory is short.
+/// the text, and then those of the form. It is also refused if memory runs out.
 #[tactic(auto, unfolding(crate::specs::Commands::command_made))]
 pub fn command_in(
     alloc: Global,

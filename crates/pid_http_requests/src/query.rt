@@ -39,9 +39,9 @@ pub enum Above {
 pub enum Start {
     /// With the first item.
     First,
-    /// Behind this path, whether an item is there or not.
+    /// After this path, whether an item is there or not.
     Behind(Path),
-    /// Behind a text that is no path.
+    /// After a text that is no path.
     BadPath,
 }
 
@@ -97,7 +97,7 @@ pub(crate) fn format_of(fields: &[(String, String)]) -> Option<Format>
     format_named(value(fields, "format"))
 }
 
-// The format, of fields that may say one thing beside it.
+// The format, of fields that may say one other thing.
 pub(crate) fn format_beside(fields: &[(String, String)], other: &str) -> Option<Format>
     ensures { result ≡ format_in_both other.now (texts_of fields.now) }
 {
@@ -107,7 +107,7 @@ pub(crate) fn format_beside(fields: &[(String, String)], other: &str) -> Option<
     format_named(value(fields, "format"))
 }
 
-// The format, of fields that may say two things beside it.
+// The format, of fields that may say two other things.
 pub(crate) fn format_beside_two(
     fields: &[(String, String)],
     first: &str,
@@ -121,7 +121,7 @@ pub(crate) fn format_beside_two(
     format_named(value(fields, "format"))
 }
 
-// The number that a page begins behind: 0 where none is said.
+// The number after which a page begins: 0 if none is said.
 pub(crate) fn after_named(value: Option<&str>) -> Option<u32>
     ensures { result ≡ after_said (option_copied value.entry) }
 {
@@ -137,7 +137,7 @@ pub(crate) fn after_named(value: Option<&str>) -> Option<u32>
     }
 }
 
-// What a text says that children stand below.
+// What children are asked for below, by a text.
 pub(crate) fn above_named(text: &str) -> Above
     ensures { result ≡ above_said text.now }
 {

@@ -125,7 +125,7 @@ fn text_of_target(target: &[u8]) -> Option<&str>
     if has_slash(text) { Some(text) } else { None }
 }
 
-// What stands behind the front of a path.
+// What follows a prefix of a path.
 fn rest_behind<'a>(path: &'a str, front: &str) -> &'a str
     ensures { result.now ≡ rest_after front.now path.now }
 {
@@ -280,7 +280,7 @@ fn ask(
 /// What a method and a target ask for. The file of an import is read as it comes; the format is
 /// that of its reply.
 ///
-/// The path of the target is what stands before its first `?`, the query what stands behind that.
+/// The path of the target is what comes before its first `?`, the query what comes after it.
 /// Neither is decoded but for the names and values of the query's fields.
 ///
 /// # Errors

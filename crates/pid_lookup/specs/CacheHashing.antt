@@ -1,4 +1,4 @@
--- What a path feeds a hasher: the letter of its front, and its numbers.
+-- What a path feeds a hasher: the letter of its kind, and its numbers.
 use Rattle.std.specs.Prelude.{ℕ, List, [], ◌++◌}
 use Rattle.std.specs.Option.{option_map_or}
 use Rattle.std.specs.Hash.{HashWrites}

@@ -5,7 +5,7 @@ use Rattle.pid_lookup.specs.declared.answering.LookupRefusal.{LookupRefusal}
 use Rattle.pid_lookup.specs.declared.answering.LookupRefusal.TheVariants.{BadFlags, Names, Memory}
 use Rattle.pid_lookup.specs.Flags.{switches_of, request_of}
 
--- a name must be asked for, where the flags are not bad: numbers do not stand alone, and there is a
+-- a name must be asked for: the flags are not bad, more than numbers is wanted, and there is a
 -- request
 abbrev pub NeedsNames : ℕ → Type 0
 NeedsNames flags = ((switches_of flags).numeric ≡ false) × IsSome (request_of flags)
@@ -25,9 +25,9 @@ IsToldBy may flags result = NeedsNames flags → TellsOnlyIf may result
 -- What a look-up takes of a holder of names.
 pub record AsksWhereNeeded {A F : Type 0} (may_give : F → Type 0) (may_tell : Type 0) (flags : ℕ)
     (result : Result A (LookupRefusal F)) : Type 0 where
-  -- a fault of the holder is one that it may give
+  -- a fault of the holder is one with which it may fail
   pub fault : (f : F) → IsErrOf result (Names f) → may_give f
-  -- none comes where numbers stand alone
+  -- none comes if only numbers are wanted
   pub unasked : (switches_of flags).numeric ≡ true → (f : F) → result ≢ Err (Names f)
   -- nor where there is no request
   pub unrequested : IsNone (request_of flags) → (f : F) → result ≢ Err (Names f)

@@ -1,4 +1,4 @@
-//! The texts that libpci's `pci_lookup_name` gives.
+//! The texts that libpci's `pci_lookup_name` returns.
 ghost use Rattle.std.specs.Prelude.{◌≡◌, ◌≢◌, ◌↔◌, true, false, Err, IfOk, IsErrOf};
 ghost use Rattle.std.specs.List.{flat_map};
 ghost use Rattle.pid_lookup.specs.declared.answering.LookupRefusal.TheVariants.{Memory};
@@ -29,7 +29,7 @@ use thiserror::Error;
 pub enum LookupRefusal<F> {
     #[error("the flags ask for numbers alone and for no numbers, or have an unknown bit")]
     BadFlags,
-    /// The holder of the names gave a fault.
+    /// The holder of the names failed with a fault.
     #[error("the names could not be read")]
     Names(F),
     #[error("no memory")]

@@ -58,7 +58,7 @@ impl Hash for PathKey {
     }
 }
 
-// Feeds the letter of the path's front and the path's numbers.
+// Feeds the letter of the path's kind and the path's numbers.
 fn feed<H: Hasher>(path: Path, state: &mut H)
     ensures fed { state.new ≡ fold H.write state.old (fed_by path) }
     ensures in_range { IsPath path }

@@ -87,7 +87,7 @@ const MIXED: u32 = 0x4_0000;
 
 const UNKNOWN: u32 = 0xfff8_0000;
 
-// The style of three switches; none where numbers would stand alone and be missing.
+// The style of three switches; none if they ask for numbers alone and for no numbers.
 fn style_of(numeric: bool, no_numbers: bool, mixed: bool) -> Option<Style>
     ensures bad { IsNone result ↔ (((numeric && not mixed) && no_numbers) ≡ true) }
     ensures style { IfSome result (λ style. switches style

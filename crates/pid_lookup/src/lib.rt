@@ -1,4 +1,4 @@
-//! Look-ups: the texts that libpci's `pci_lookup_name` gives, over any holder of names.
+//! Look-ups: the texts that libpci's `pci_lookup_name` returns, over any holder of names.
 #![tactic(auto)]
 
 mod answer;

@@ -8,9 +8,9 @@ use pid_ident::{Name, Path};
 
 /// A holder of names: a tree, or a registry over a disk.
 ///
-/// Where the holder is honest as a question ends, the name that it answers is that of the map that
-/// it shows. A holder that may not answer gives every question a fault, and so says of no path that
-/// it has a name or that it has none.
+/// If the holder is honest as a question ends, the name that it answers is that of the map that
+/// it shows. A holder that may not answer fails with a fault at every question, and so says of no
+/// path that it has a name or that it has none.
 ///
 /// No question changes what is shown, which faults may come or whether it may answer, nor, honest
 /// or not, more of the holder than `only_asked` allows.
@@ -27,10 +27,10 @@ pub trait Names {
     /// Whether the holder shows this.
     ghost shows: { Self → Shown → Type 0 };
 
-    /// Whether what the holder reads from gave back what was written to it.
+    /// Whether what the holder reads from returned what was written to it.
     ghost is_honest: { Self → Type 0 };
 
-    /// Whether the holder may give this fault.
+    /// Whether the holder may fail with this fault.
     ghost may_give: { Self → Self.Fault → Type 0 };
 
     /// Whether the holder may answer that a path has a name, or that it has none: where not, each

@@ -1,5 +1,4 @@
--- What a registry answers to a question. It tells of the history that it shows, and goes on showing
--- it.
+-- What a registry answers to a question: by the history that it shows, which it goes on showing.
 use Rattle.std.specs.Prelude.{◌≡◌, ◌⊎◌, Bool, true, false, Option, Some, None, Result, Err}
 use Rattle.std.specs.Prelude.{IfErr, MatchResult}
 use Rattle.sqlite.specs.Held.{Held}
@@ -14,24 +13,24 @@ use Rattle.pid_service.specs.declared.registry.Registry.{Registry}
 use Rattle.pid_service.specs.Histories.{Shows, IsFault, OverHistory}
 use Rattle.pid_service.specs.Registries.{OnlyReads, connection, is_live}
 
--- a live registry gives `Memory` and `Store` alone, one that has failed gives `Failed` alone
+-- a live registry fails with `Memory` and `Store` alone, one that has failed with `Failed` alone
 pub record MayGive (live : Bool) (e : Refusal) : Type 0 where
   pub alive : live ≡ true → IsFault e
   pub failed : live ≡ false → e ≡ Failed
 
--- there is no such submission; or memory was short, or the store failed
+-- there is no such submission; or memory ran out, or the store failed
 abbrev pub IsMissing : {X : Type 0} → Option X → Refusal → Type 0
 IsMissing found e = ((e ≡ NoSubmission) × (found ≡ None)) ⊎ IsFault e
 
 module _ {S : Type 0} (store : Ghosts S) where
-  -- the history that was shown is shown still, and is what is told
+  -- the history that was shown is shown still, and the answer is by it
   abbrev pub TellsHistory : {X : Type 0} → Registry S store → Registry S store → Result X Refusal
       → (History → X → Type 0) → (History → Refusal → Type 0) → Type 0
   TellsHistory old new result Says Denies = OverHistory store old new
       (λ h. MatchResult result (Says h) (Denies h) × Shows store new h)
 
-  -- Memory may be short at any time. The store is told of where the disk failed or refused in the
-  -- call, where a fault had shut the connection before, or where a limit of steps was set.
+  -- Memory may run out at any time. The store is the cause if the disk failed or refused in the
+  -- call, if a fault had shut the connection before, or if a limit of steps was set.
   abbrev pub IsCausedAs : Held S → Held S → Refusal → Type 0
   IsCausedAs old new Memory = Unit {0}
   IsCausedAs old new Store = clauses.IsCaused store old new faults.Store
@@ -51,7 +50,7 @@ module _ {S : Type 0} (store : Ghosts S) where
     pub told : TellsHistory old new result Says (λ h e. IsFault e)
     pub caused : OverHistory store old new (λ h. IfErr result (λ e. FaultIsCaused old new e))
 
-  -- A question for something that may not be there, which is told as `NoSubmission`.
+  -- A question for something that may not be there; then the answer is `NoSubmission`.
   pub record AnswersIfThere {X Y : Type 0} (old new : Registry S store) (result : Result X Refusal)
       (found : History → Option Y) (means : X → Y) : Type 0 where
     pub failed : is_live old ≡ false → (result ≡ Err Failed) × (new ≡ old)

@@ -8,11 +8,11 @@ use Rattle.pid_reader.specs.Numbered.{Numbered, item_in}
 use Rattle.pid_tree.specs.Printing.{ended, lines_behind, text_or_none}
 use Rattle.pid_service.specs.declared.export_sink.ExportSink.{ExportSink}
 
--- the lines of an entry, behind those of the entry before
+-- the lines of an entry, after those of the entry before
 abbrev pub lines_of_entry : {W : Type 0} → ExportSink W → Numbered → List ℕ
 lines_of_entry s entry = ended (lines_behind (text_or_none s.before) (item_in entry ∷ []))
 
--- one entry is printed behind the same borrow, and is now the one before
+-- one entry is printed through the same borrow, and is now the one before
 pub record PrintsItem {W : Type 0} (taken : W → Option (List ℕ)) (s : ExportSink W)
     (entry : Numbered) (t : ExportSink W) : Type 0 where
   pub same_reference : t.out.ghost_name ≡ s.out.ghost_name

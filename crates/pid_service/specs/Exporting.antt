@@ -20,8 +20,8 @@ use Rattle.pid_service.specs.Asking.{FaultIsCaused, MayGive}
 use Rattle.pid_service.specs.Histories.{OverHistory, Shows}
 use Rattle.pid_service.specs.Registries.{OnlyReads, is_live}
 
--- the canonical text of the tree; where the writer failed a front of it that lacks some; and where
--- memory was short or the store failed whole lines of it, the first ones
+-- the canonical text of the tree; if the writer failed, a prefix of it that lacks some; and if
+-- memory ran out or the store failed, whole lines of it, the first ones
 abbrev pub ExportsTree : {X : Type 0} → Result X ExportFault → Option (List ℕ) → Option (List ℕ)
     → History → Type 0
 ExportsTree (Ok x) old new h = Appends old new (print (tree_of h))

@@ -13,8 +13,8 @@ use Rattle.pid_service.specs.declared.registry.Registry.{Registry}
 use Rattle.pid_service.specs.Registries.{HasCleanDisk, connection, is_live}
 use Rattle.pid_service.specs.KeptViews.{KeepsRight}
 
--- Commands lead to the history from its beginning, at least as many accepted as its mark says. What
--- the mark is no table tells.
+-- Commands lead to the history from its beginning, at least as many accepted as its mark says. The
+-- mark is in no table.
 pub record IsReached (h : History) : Type 0 where
   pub mark : ℕ
   pub commands : List Asked
@@ -45,6 +45,6 @@ module _ {S : Type 0} (store : Ghosts S) where
   abbrev pub OverHistory : Registry S store → Registry S store → (History → Type 0) → Type 0
   OverHistory old new Holds = HasCleanDisk store new → (h : History) → Shows old h → Holds h
 
-  -- how lives see a registry
+  -- how sessions see a registry
   abbrev pub showing : Showing (Registry S store)
   showing = record { is_clean = HasCleanDisk store; shows = Shows; fails_between = FailsBetween }

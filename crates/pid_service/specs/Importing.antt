@@ -21,8 +21,8 @@ use Rattle.pid_service.specs.Obeying.{Lasts, Obeys}
 use Rattle.pid_service.specs.Registries.{HasCleanDisk, is_live}
 
 -- how much of the input was read: all of it, if it is not too long; one byte more than a file may
--- have, where it is, which is refused as a broken form, or as a registry that has failed refuses
--- everything; or what stands before its fault
+-- have, if it has that, which is refused as a broken form, or as a registry that has failed refuses
+-- everything; or what comes before its fault
 abbrev pub ReadsImport : Result Reply ImportEnd → Option (List ℕ) → List ℕ → Type 0
 ReadsImport (Ok reply) rest text = IsWhole most_file_bytes rest text
 ReadsImport (Err (Refused e)) rest text = IsWhole most_file_bytes rest text
@@ -44,7 +44,7 @@ ObeysImport store (Ok reply) r h c = Obeys store (Ok reply) r h c
 ObeysImport store (Err (Refused e)) r h c = Obeys store (Err e) r h c
 ObeysImport store (Err Body) r h c = Shows store r h
 
--- it does not tell that the registry had failed before
+-- it does not say that the registry had failed before
 abbrev pub EndIsNotFailed : ImportEnd → Type 0
 EndIsNotFailed (Refused e) = e ≢ Failed
 EndIsNotFailed Body = Unit {0}
@@ -56,7 +56,7 @@ leaves_live (Ok reply) = true
 leaves_live (Err (Refused e)) = is_outcome (Err e)
 leaves_live (Err Body) = true
 
--- memory was short, or the store failed
+-- memory ran out, or the store failed
 abbrev pub IsEndFault : ImportEnd → Type 0
 IsEndFault (Refused e) = IsFault e
 IsEndFault Body = ⊥
@@ -82,7 +82,7 @@ module _ {S : Type 0} (store : Ghosts S) where
     pub forgets : ForgetsAll old new
     -- a live one does not answer that it had failed
     pub alive : is_live old ≡ true → IfErr result EndIsNotFailed
-    -- nor does one fail but at an answer that memory was short or the store failed
+    -- nor does one fail but with the answer that memory ran out or the store failed
     pub stays : is_live old ≡ true → leaves_live result ≡ true → is_live new ≡ true
     pub fails : is_live old ≡ true → is_live new ≡ false → IsErrAnd result IsEndFault
 

@@ -1,4 +1,4 @@
--- The canonical text of items, which stand in the bytewise order of their paths' texts: a choice of
+-- The canonical text of items, which are in the bytewise order of their paths' texts: a choice of
 -- this project, as that of a tree. laws.rt says that the text of a history's items is that of its
 -- tree.
 use Rattle.std.specs.Prelude.{◌≡◌, ℕ, List, [], ◌∷◌, Option, IfSome, Vec, length}

@@ -36,7 +36,7 @@ use Rattle.pid_service.specs.Registries.{HasCleanDisk, connection, is_live}
 use Rattle.pid_service.specs.Running.{Runs}
 
 module _ {S : Type 0} (store : Ghosts S) where
-  -- The clauses of each call say what lives ask of it.
+  -- The clauses of each call say what a session asks of it.
   pub record CallsMeetLives : Type 0 where
     -- one that obeys a command
     pub obeys : (old new : Registry S store) (c : Asked) (result : Result Reply Refusal)
@@ -89,7 +89,7 @@ module _ {S : Type 0} (store : Ghosts S) where
     -- and where an opening failed, the connection that comes back shows it
     pub unopened : (conn back : Held S) (fault : TableFault)
         → OpensTo store conn (Err (fault, back)) → KeepsHistory store store conn back
-    -- neither tells of damage or of a later schema
+    -- neither answers damage or a later schema
     pub unmoved_for : (conn back : Held S) (fault : TableFault) (h : History) → IsReached h
         → ShowsOrBlank store conn h → MovesTo store conn (Err (fault, back))
         → clauses.HasCleanDisk store back → IsMemoryOrStore fault
@@ -97,13 +97,13 @@ module _ {S : Type 0} (store : Ghosts S) where
         → ShowsOrBlank store conn h → OpensTo store conn (Err (fault, back))
         → clauses.HasCleanDisk store back → IsMemoryOrStore fault
 
-  -- tables of schema 1, which keep no numbers, have the history taken over
+  -- tables of schema 1, which keep no numbers, have the history moved
   abbrev pub EarlierTablesShow : Type 0
   EarlierTablesShow = (conn : Held S) (v : Views) (h : History) → IsOpened store conn
       → ShowsIn One (found_in (schema_of One) (clauses.seen store conn).trees) v
       → without_numbers v ≡ without_numbers (views_of h) → ShowsOrBlank store conn (taken_over h)
 
--- From the end of a life to the next opening, which may be over another store.
+-- From the end of a session to the next opening, which may be over another store.
 pub record OpeningsShowAgain {S T : Type 0} (from : Ghosts S) (to : Ghosts T) : Type 0 where
   -- what a stop leaves of a connection shows what that showed
   pub stops : (earlier : Held S) (conn : Held T) → IsAfterStop from to earlier conn
@@ -111,7 +111,7 @@ pub record OpeningsShowAgain {S T : Type 0} (from : Ghosts S) (to : Ghosts T) : 
   -- what a stop leaves of a registry has its tables, whether it is live or has failed
   pub stopped : (ended : Registry S from) (conn : Held T)
       → IsAfterStop from to (connection ended) conn → LeavesTablesTo from to ended conn
-  -- so has the connection that a live one gives back as it is closed
+  -- so has the connection that a live one hands back as it is closed
   pub closed : (ended : Registry S from) → is_live ended ≡ true
       → LeavesTablesTo from from ended (connection ended)
   -- a registry that is opened on these tables shows again what they showed
@@ -119,14 +119,14 @@ pub record OpeningsShowAgain {S T : Type 0} (from : Ghosts S) (to : Ghosts T) : 
       → LeavesTablesTo from to ended conn → OpensTo to conn (Ok next)
       → ShowsAgain (showing from) (showing to) ended next
 
--- Stops, migrations and openings that fail may come between two lives, as many as there are.
+-- Stops, migrations and openings that fail may come between two sessions, as many as there are.
 abbrev pub KeepsBetween : {S T U : Type 0} → Ghosts S → Ghosts T → Ghosts U → Type 0
 KeepsBetween {S} {T} {U} from by to = (ended : Registry S from) (conn : Held T) (next : Held U)
     → LeavesTablesTo from by ended conn → KeepsHistory by to conn next
     → LeavesTablesTo from to ended next
 
--- The crash prefix, life by life: the history that a first registry shows, and then that of each
--- later one, whose store may be another.
+-- The crash prefix, session by session: the history that a first registry shows, and then that of
+-- each later one, whose store may be another.
 pub record ReopeningsShowPrefixes {S T : Type 0} (from : Ghosts S) (to : Ghosts T) : Type 0 where
   pub none : (first : Registry S from) (start : History) → Shows from first start
       → ShowsPrefixes from first start []

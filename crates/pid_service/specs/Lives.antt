@@ -1,4 +1,4 @@
--- Registries as `pid_service_laws` speaks of them, and what stands between one opening and the
+-- Registries as `pid_service_laws` speaks of them, and what comes between one opening and the
 -- next, which may be over another store. Choices of this project.
 use Rattle.std.specs.Prelude.{◌≡◌, ◌⊎◌, ◌↔◌, Bool, List, Result, Ok, Err}
 use Rattle.sqlite.specs.Held.{Held, state}
@@ -30,7 +30,7 @@ import_sent c (Err Body) live = nothing_sent
 module _ {S T : Type 0} (from : Ghosts S) (to : Ghosts T) where
   -- A connection was just opened on trees that a crash of an earlier one may leave, which may have
   -- been over another store: each process has its own. That one's disk returned what was written,
-  -- which the new connection cannot tell.
+  -- which the new connection cannot know.
   pub record IsAfterStop (earlier : Held S) (conn : Held T) : Type 0 where
     pub clean : clauses.HasCleanDisk from earlier
     pub opened : IsOpened to conn
@@ -53,7 +53,7 @@ module _ {S T : Type 0} (from : Ghosts S) (to : Ghosts T) where
         → ShowsOrBlank to conn h ⊎ ShowsOrBlank to conn next
 
 -- A registry shows the history after the one at the start, to which commands led, and a prefix of
--- the commands of each life, told by its calls.
+-- the commands of each session, described by its calls.
 pub record ShowsPrefixes {S : Type 0} (store : Ghosts S) (r : Registry S store) (start : History)
     (calls : List (List Call)) : Type 0 where
   pub from : IsReached start

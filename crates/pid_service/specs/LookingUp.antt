@@ -38,5 +38,5 @@ pub record IsLookedUp {S : Type 0} (store : Ghosts S) (old new : Registry S stor
       → result ≢ Err (Names f)
   pub unrequested : is_live old ≡ true → IsNone (request_of flags) → (f : Refusal)
       → result ≢ Err (Names f)
-  -- And where one must be asked for, only a live registry answers, or wants memory for it.
+  -- And if one must be asked for, only a live registry answers, or runs out of memory for it.
   pub told : IsToldBy (is_live old ≡ true) flags result

@@ -18,9 +18,9 @@ use Rattle.pid_service.specs.Histories.{IsFault, OverHistory, Shows, showing}
 use Rattle.pid_service.specs.KeptViews.{kept_by, nothing}
 use Rattle.pid_service.specs.Registries.{HasCleanDisk, is_live}
 
--- What lives ask of a command (`CommandLeaves` of pid_service_laws). The answer is that of the
--- judgement over the history, and the registry shows the history after the command. Or memory was
--- short or the store failed: while it was only read, then the registry shows the history as before;
+-- What a session asks of a command (`CommandLeaves` of pid_service_laws). The answer is that of the
+-- judgement over the history, and the registry shows the history after the command. Or memory ran
+-- out or the store failed: while it was only read, then the registry shows the history as before;
 -- or while it was written, then it has failed, and what a crash may leave shows the history before
 -- the command or after it.
 abbrev pub Obeys : {S : Type 0} → (store : Ghosts S) → Result Reply Refusal → Registry S store
@@ -52,7 +52,7 @@ module _ {S : Type 0} (store : Ghosts S) where
     pub alive : is_live old ≡ true → IfErr result (λ e. e ≢ Failed)
     -- an outcome leaves it live
     pub stays : is_live old ≡ true → is_outcome result ≡ true → is_live new ≡ true
-    -- and where it has failed since, memory was short or its store failed
+    -- and if it has failed since, memory ran out or its store failed
     pub fails : is_live old ≡ true → is_live new ≡ false → IsErrAnd result IsFault
 
   -- A command was obeyed.

@@ -28,14 +28,14 @@ abbrev pub IsFound : Database → Type 0
 IsFound db = (version : Version) × FindsVersion db (Some version)
 
 module _ {S : Type 0} (store : Ghosts S) where
-  -- a registry that shows the history; or memory was short or the store failed, and the connection
+  -- a registry that shows the history; or memory ran out or the store failed, and the connection
   -- that comes back still shows it, as does everything that a crash may leave
   abbrev pub Opens : Result (Registry S store) (TableFault × Held S) → History → Type 0
   Opens result h = MatchResult result
       (λ r. registries.HasCleanDisk store r → Shows store r h)
       (λ e. clauses.HasCleanDisk store e.1 → IsMemoryOrStore e.0 × tables.ShowsOrBlank store e.1 h)
 
-  -- after this step the tables show the history in the schema of today; or memory was short or the
+  -- after this step the tables show the history in the schema of today; or memory ran out or the
   -- store failed, and the connection that comes back still shows it
   abbrev pub StepsTo : Step → Result (Held S × Step) (TableFault × Held S) → History → Type 0
   StepsTo step result h = MatchResult result
@@ -46,12 +46,12 @@ module _ {S : Type 0} (store : Ghosts S) where
   abbrev pub KeepsConditions : Held S → Type 0
   KeepsConditions conn = IsTrue (clauses.is_open store conn) → FindsVersion (seen store conn) (Some Two)
 
-  -- while it is open, the fault tells what fails of the tables as they are now
+  -- while it is open, the fault says what fails of the tables as they are now
   abbrev pub ExplainsNow : Held S → TableFault → Type 0
   ExplainsNow conn fault = IsTrue (clauses.is_open store conn) → Explains (seen store conn) fault
 
   -- A migration that only reads or moves is refused, as `migrate` says; or tables of schema 1 were
-  -- moved that kept all conditions, and the fault tells what fails of what they became.
+  -- moved that kept all conditions, and the fault says what fails of what they became.
   abbrev pub RefusesToOpen : Held S → TableFault → Held S → Type 0
   RefusesToOpen conn fault back = tables.Refuses store conn fault back
       ⊎ (FindsVersion (seen store conn) (Some One) × ExplainsNow back fault)
@@ -68,7 +68,7 @@ module _ {S : Type 0} (store : Ghosts S) where
       → clauses.RestsIn store Two new v
 
   -- A step may have been made: there was no table, or tables of schema 1 kept all conditions. Views
-  -- are shown as before, and the fault tells what fails of what is seen now.
+  -- are shown as before, and the fault says what fails of what is seen now.
   pub record MayHaveMade (old : Held S) (fault : TableFault) (new : Held S) : Type 0 where
     pub found : clauses.HasCleanDisk store new → HasSomeTable (seen store old).schema
         → FindsVersion (seen store old) (Some One)
@@ -102,32 +102,32 @@ module _ {S : Type 0} (store : Ghosts S) where
   step_of (Ok r) = Ok r.1
   step_of (Err e) = Err e.0
 
-  -- What an opening leaves of a connection, whatever there is, also beside the tables.
+  -- What an opening leaves of a connection, whatever other tables there are.
   pub record OpensAtOnce {X : Type 0} (old new : Held S) (result : Result X TableFault)
       : Type 0 where
     pub settled : new.in_transaction ≡ false
     pub clean : clauses.HasCleanDisk store new → clauses.HasCleanDisk store old
     -- a crash leaves what it left before, or all of one step
     pub once : tables.IsOneStep store old new
-    -- After a fault nothing of the step is seen; or it may have been made, and the fault tells what
+    -- After a fault nothing of the step is seen; or it may have been made, and the fault says what
     -- fails of what is seen now.
     pub back : IfErr result (λ e. tables.IsTakenBack store old new ⊎ MayHaveMade old e new)
 
-  -- What an opening tells, by what there is, while the disk returns what was written.
+  -- What an opening answers, by what there is, while the disk returns what was written.
   pub record ExplainsOpening {X : Type 0} (old new : Held S) (result : Result X TableFault)
       : Type 0 where
-    -- Some table: it is opened only where all keep the conditions of a registry in the schema that
-    -- they name. Of others the fault tells which one fails, and everything is as it was.
+    -- Some table: it is opened only if all keep the conditions of a registry in the schema that
+    -- they name. Of others the fault says which one fails, and everything is as it was.
     pub told : clauses.HasCleanDisk store new → HasSomeTable (seen store old).schema
         → MatchResult result (λ _. IsFound (seen store old)) (λ e. RefusesToOpen old e new)
     -- Some table, but none of schema 1 that keeps its conditions: nothing is written.
     pub only_read : clauses.HasCleanDisk store new → HasSomeTable (seen store old).schema
         → ¬ (FindsVersion (seen store old) (Some One)) → clauses.OnlyReads store old new
-    -- Tables of schema 1 that show views, of a history or not: the fault tells what fails of them,
+    -- Tables of schema 1 that show views, of a history or not: the fault says what fails of them,
     -- or, while the connection is open, of what they became.
     pub explained : clauses.HasCleanDisk store new → (v : Views) → clauses.RestsIn store One old v
         → IfErr result (λ e. Explains (seen store old) e ⊎ ExplainsNow new e)
-    -- No table, whatever else there is: a later schema is told only of what was made there.
+    -- No table, whatever else there is: a later schema is answered only of what was made there.
     pub bare : clauses.HasCleanDisk store new → HasNoTable (seen store old).schema
         → IfErr result (λ e. IsNotNewerSchema e ⊎ ExplainsNow new e)
     -- No table, but something else under the name of one.
@@ -152,7 +152,7 @@ module _ {S : Type 0} (store : Ghosts S) where
     pub lives : IfOk result (λ r. is_live r ≡ true)
     pub kept : KeepsTables conn (connection_left result) (opening_end result)
 
-  -- What the laws over lives ask of an opening.
+  -- What the laws over sessions ask of an opening.
   pub record OpensTo (conn : Held S) (result : Result (Registry S store)
       (TableFault × Held S)) : Type 0 where
     -- the disk had returned what was written before the call too
@@ -162,7 +162,7 @@ module _ {S : Type 0} (store : Ghosts S) where
     -- there is no table, a new registry is made.
     pub opened : (h : History) → IsReached h → tables.ShowsOrBlank store conn h → Opens result h
 
-  -- What a migration leaves of a connection, whatever there is, also beside the tables.
+  -- What a migration leaves of a connection, whatever other tables there are.
   pub record MovesAtOnce (conn : Held S) (result : Result (Held S × Step) (TableFault × Held S))
       : Type 0 where
     pub settled : (moved_to result).in_transaction ≡ false
@@ -179,7 +179,7 @@ module _ {S : Type 0} (store : Ghosts S) where
         (λ e. clauses.HasCleanDisk store e.1 → ¬ (IsMemoryOrStore e.0)
         → clauses.OnlyReads store conn e.1)
 
-  -- What the laws over lives ask of a migration.
+  -- What the laws over sessions ask of a migration.
   pub record MovesTo (conn : Held S) (result : Result (Held S × Step) (TableFault × Held S))
       : Type 0 where
     -- the disk had returned what was written before the call too
@@ -199,7 +199,7 @@ module _ {S : Type 0} (store : Ghosts S) where
         → clauses.HasCleanDisk store (moved_to result)
         → clauses.OnlyReads store conn (moved_to result)
         × MatchResult result (λ r. r.1 ≡ Already) (λ e. IsMemoryOrStore e.0)
-    -- Of tables of schema 1 the fault tells what fails of them.
+    -- Of tables of schema 1 the fault says what fails of them.
     pub explained : (v : Views) → clauses.RestsIn store One conn v
         → clauses.HasCleanDisk store (moved_to result)
         → IfErr result (λ e. Explains (seen store conn) e.0)
@@ -211,20 +211,20 @@ module _ {S : Type 0} (store : Ghosts S) where
   -- Whatever the tables are, they are judged before anything is done.
   pub record MovesJudged (conn : Held S) (result : Result (Held S × Step) (TableFault × Held S))
       : Type 0 where
-    -- Those of schema 1 are judged before they are moved, and where a condition fails, the fault
-    -- tells which one, and everything is as it was.
+    -- Those of schema 1 are judged before they are moved, and if a condition fails, the fault says
+    -- which one, and everything is as it was.
     pub told : clauses.HasCleanDisk store (moved_to result) → HasSomeTable (seen store conn).schema
         → MatchResult result (λ r. tables.Brings store conn r.1 r.0)
         (λ e. tables.Refuses store conn e.0 e.1)
     -- `Already` is answered only where the labels show schema 2.
     pub named : clauses.HasCleanDisk store (moved_to result)
         → IfOk result (λ r. r.1 ≡ Already → NamesLatest (seen store conn))
-    -- Labels of schema 2 are handed on, as far as it is known what stood there.
+    -- Labels of schema 2 are handed on, as far as it is known what was there.
     pub latest : clauses.HasCleanDisk store (moved_to result)
         → IfOk result (λ r. IsTrue (clauses.is_open store r.0)
         → tables.HandsLatest store conn r.1 r.0)
-    -- Where there is no table, whatever else there is, it answers no other step than that they were
-    -- made, and tells of no later schema.
+    -- If there is no table, whatever else there is, it answers no other step than that they were
+    -- made, and no later schema.
     pub bare : clauses.HasCleanDisk store (moved_to result) → HasNoTable (seen store conn).schema
         → MatchResult result (λ r. r.1 ≡ Created) (λ e. IsNotNewerSchema e.0)
     -- Something else under the name of a table is refused,

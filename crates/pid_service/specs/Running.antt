@@ -20,7 +20,7 @@ use Rattle.pid_service.specs.KeptViews.{kept_by, nothing}
 use Rattle.pid_service.specs.Obeying.{Forgets}
 use Rattle.pid_service.specs.Registries.{HasCleanDisk, is_live}
 
--- it does not tell that the registry had failed before
+-- it does not say that the registry had failed before
 abbrev pub ReplyIsNotFailed : Result Reply Refusal → Type 0
 ReplyIsNotFailed reply = IfErr reply (λ e. e ≢ Failed)
 
@@ -30,7 +30,7 @@ LeaveItems h [] = Unit {0}
 LeaveItems h (c ∷ commands) = (items_of (after h c) ≡ items_of h) × LeaveItems (after h c) commands
 
 module _ {S : Type 0} (store : Ghosts S) where
-  -- where a list ends: all commands were obeyed; or at the next one memory was short or the store
+  -- where a list ends: all commands were obeyed; or at the next one memory ran out or the store
   -- failed, and the registry shows the history so far, or has failed between that and the history
   -- after this command
   abbrev pub EndsRun : Option Refusal → List Asked → Registry S store → History → Type 0
@@ -69,8 +69,8 @@ module _ {S : Type 0} (store : Ghosts S) where
         × (report.fault ≡ Some Failed) × (new ≡ old)
     pub clean : HasCleanDisk store new → HasCleanDisk store old
     pub fault : IfSome report.fault (MayGive (is_live old))
-    -- Whatever its disk does: where no fault is told each command has a reply, and where a live
-    -- registry tells one some have none.
+    -- Whatever its disk does: without a fault each command has a reply, and if a live registry
+    -- reports one, some have none.
     pub complete : report.fault ≡ None → length report.replies.items ≡ length commands
     pub cut : is_live old ≡ true → IsSome report.fault
         → length report.replies.items < length commands

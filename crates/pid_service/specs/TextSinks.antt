@@ -5,11 +5,11 @@ use Rattle.pid_tree.specs.Printing.{ended, lines_behind, text_or_none}
 use Rattle.pid_service.specs.Steps.TextSinks.{Lengthens}
 use Rattle.pid_service.specs.declared.items_text.TextSink.{TextSink}
 
--- the lines of an entry, behind those of the entry before
+-- the lines of an entry, after those of the entry before
 abbrev pub lines_of_entry : TextSink → Numbered → List ℕ
 lines_of_entry s entry = ended (lines_behind (text_or_none s.before) (item_in entry ∷ []))
 
--- one entry is counted, where the sum fits, and is now the one before; its lines are kept behind
+-- one entry is counted, if the sum fits, and is now the one before; its lines are kept after
 -- those that were, or no text is kept any more
 pub record TakesItem (s : TextSink) (entry : Numbered) (t : TextSink) : Type 0 where
   pub before : text_or_none t.before ≡ (item_in entry).0

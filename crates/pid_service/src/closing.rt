@@ -11,7 +11,7 @@ use crate::registry::Registry;
 use sqlite::{Alter, Connection};
 
 impl<S: Alter + Drop> Registry<S> {
-    /// Whether the registry is live: one that has failed answers `Failed` until it is opened anew.
+    /// Whether the registry is live: one that has failed answers `Failed` until it is opened again.
     pub fn is_live(&self) -> bool
         ensures { result ≡ lives self.now }
     {
@@ -26,8 +26,8 @@ impl<S: Alter + Drop> Registry<S> {
         self.kept.names.len()
     }
 
-    /// Hands the connection back, outside a transaction. Of a registry that has failed, open the
-    /// files anew.
+    /// Hands the connection back, outside a transaction. If the registry has failed, open the files
+    /// again.
     pub fn close(self) -> Connection<S>
         ensures same { result ≡ connection self }
         ensures settled { result.in_transaction ≡ false }

@@ -5,7 +5,7 @@ use pid_ident::{Output, Path, WriteFault};
 use pid_reader::{Entry, Sink};
 use pid_tree::write_behind;
 
-/// Writes the lines of each item that it is given behind those of the one before.
+/// Writes the lines of each item that it takes after those of the one before.
 #[derive(Drop)]
 pub(crate) struct ExportSink<'w, W: Output> {
     out: &'w mut W,

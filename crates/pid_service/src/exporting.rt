@@ -55,11 +55,11 @@ impl<S: Alter + Drop> Registry<S> {
     /// Writes the canonical text of all items: the text that is kept in memory, or one that is
     /// printed while the items are read one by one.
     ///
-    /// A registry that has failed writes nothing and answers `Refused(Failed)`. Where memory is
-    /// short or the store fails, `Refused` has `Memory` or `Store`, and the first lines were
-    /// written, or none, each of them whole; where the writer fails, `Write` has its fault, and a
-    /// front of the text was written, which may end within a line. In all of these cases the
-    /// registry shows the history as before, and is live or has failed as before.
+    /// A registry that has failed writes nothing and answers `Refused(Failed)`. If memory runs out
+    /// or the store fails, `Refused` has `Memory` or `Store`, and the first lines were written, or
+    /// none, each of them whole. If the writer fails, `Write` has its fault, and a prefix of the
+    /// text was written, which may end within a line. In all of these cases the registry shows the
+    /// history as before, and is live or has failed as before.
     pub fn export<W: Output>(&mut self, output: &mut W) -> Result<(), ExportFault>
         ensures { IsExported S.Store W.Output self.old self.new output.old output.new result }
     {

@@ -59,7 +59,7 @@ impl ImportEnd {
     }
 }
 
-// An import whose file stands elsewhere.
+// An import whose file is elsewhere.
 fn import_command(alloc: Global, account: Account, key: Option<Key>) -> Command
     ensures { result ≡ record { account = account; key = key; act = Act.Import [] } }
 {
@@ -101,7 +101,7 @@ fn plain(end: Result<Reply, ImportEnd>) -> Result<Reply, Refusal>
     }
 }
 
-// What stops the transaction of an import is want of memory, or the store.
+// What stops the transaction of an import: out of memory, or the store.
 fn stopping(refusal: Refusal) -> Refusal
     ensures fault { IsFault result }
     ensures same { IsFault refusal → result ≡ refusal }
@@ -113,7 +113,7 @@ fn stopping(refusal: Refusal) -> Refusal
 }
 
 impl<S: Alter + Drop> Registry<S> {
-    // Brings a file in. At a fault the registry has failed.
+    // Imports a file. At a fault the registry has failed.
     fn carry_in<I: Input>(
         &mut self,
         facts: &mut Facts,
@@ -147,7 +147,7 @@ impl<S: Alter + Drop> Registry<S> {
         }
     }
 
-    // Obeys an import whose file the input gives; that of the command is left out.
+    // Obeys an import whose file is in the input; that of the command is left out.
     fn import_act<I: Input>(&mut self, command: &Command, input: &mut I) -> Result<Reply, ImportEnd>
         ensures clean { HasCleanDisk S.Store self.new → HasCleanDisk S.Store self.old }
         ensures taken { HasRead result (I.to_come input.old) (I.to_come input.new)
@@ -184,10 +184,10 @@ impl<S: Alter + Drop> Registry<S> {
         plain(end)
     }
 
-    /// Obeys an import whose file an input gives, as `obey` obeys one whose file it has.
+    /// Obeys an import whose file is in an input, as `obey` obeys one whose file it has.
     ///
-    /// The input is read to its end whatever the answer is, in reads of at most 4,096 bytes; where
-    /// more than 4,194,304 bytes came, the file is `BadText` and no more is read. `Body` where the
+    /// The input is read to its end whatever the answer is, in reads of at most 4,096 bytes; if
+    /// more than 4,194,304 bytes came, the file is `BadText` and no more is read. `Body` if the
     /// input failed: then the registry is as before, but for what it kept in memory.
     pub fn import_from<I: Input>(
         &mut self,

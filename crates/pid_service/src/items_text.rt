@@ -25,7 +25,7 @@ const HEADER: u64 = 18;
 // The length of `S 1af4` and its LF.
 const BLOCK: u64 = 7;
 
-// The length of what stands before the spaces and the name in the line of an item.
+// The length of what comes before the spaces and the name in the line of an item.
 fn label_length(path: Path) -> u64
     ensures { result ≡ length (label_of (path_text path)) }
 {
@@ -38,7 +38,7 @@ fn label_length(path: Path) -> u64
     }
 }
 
-// The length of the line before an item, if it opens a block behind this path or as the first.
+// The length of the line before an item, if it opens a block after this path or as the first.
 fn block_length(before: Option<Path>, path: Path) -> u64
     ensures { result ≡ length (ended (block_behind (text_or_none before) (path_text path))) }
 {
@@ -48,7 +48,7 @@ fn block_length(before: Option<Path>, path: Path) -> u64
     }
 }
 
-// The length of the lines of an item that comes behind another, or is the first.
+// The length of the lines of an item that follows another or is the first.
 fn lines_length(before: Option<Path>, path: Path, name: &str) -> u64
     ensures { result ≡ length (ended (lines_behind (text_or_none before)
         ((path_text path, name.now) ∷ []))) }
@@ -97,7 +97,7 @@ pub(crate) fn first_line(alloc: Global) -> Option<TextBuffer>
     }
 }
 
-// A text and the lines of an item behind it, or none where there is no room for them.
+// A text and the lines of an item after it, or none if there is no room for them.
 fn with_lines(
     text: Option<TextBuffer>,
     before: Option<Path>,
@@ -114,7 +114,7 @@ fn with_lines(
     }
 }
 
-/// Adds up the lengths of the lines of each item that it is given behind those of the one before,
+/// Adds up the lengths of the lines of each item that it takes after those of the one before,
 /// up to the greatest number, and keeps the lines as long as there is room.
 #[derive(Drop)]
 struct TextSink {
@@ -168,8 +168,8 @@ pub(crate) struct ItemsText {
 }
 
 /// What `export_items` writes, by one walk over the items, of which each is lent by the connection.
-/// It is kept behind its first line, if that is; a text of more than 16,777,216 bytes is counted
-/// alone, and so is one for which memory is short.
+/// It is kept after its first line, if that is; a text of more than 16,777,216 bytes is only
+/// counted, and so is one for which memory runs out.
 pub(crate) fn items_text<S: Alter + Drop>(
     tables: &mut Tables<S>,
     first: Option<TextBuffer>,

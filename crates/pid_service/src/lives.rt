@@ -1,8 +1,8 @@
 //! From the calls on registries to the crash prefix. Each law is the contract of a function that
 //! does nothing of its own.
 //!
-//! The calls of a life each do what `clauses_meet_lives` says of their clauses. From the end of a
-//! life to the next opening leads `openings_find_histories`, over stops, failed openings and
+//! The calls of a session each do what `clauses_meet_lives` says of their clauses. From the end of
+//! a session to the next opening leads `openings_find_histories`, over stops, failed openings and
 //! migrations that come between (`histories_are_kept_between`), and into a store that may be of
 //! another type. `first_openings_show_what_is_there` is of the first opening, and
 //! `reopened_registries_show_prefixes` says what each opening shows.
@@ -31,13 +31,13 @@ impl<S: Alter + Drop> ShowsHistories for Registry<S> {
     ghost showing = { registry_showing S.Store };
 }
 
-/// The clauses of a call say what lives ask of it.
+/// The clauses of a call say what a session asks of it.
 ///
 /// `obeys` is of `obey` and `import`, `imports` of `import_from`, `runs` of `run`; the premises are
 /// the facts `clean`, `failed`, and `obeyed` or `ran` of their contracts. Every other call `looks`:
 /// `read`, `children`, `submission`, `pending`, `changes`, `lookup`, `name_of`, `export` and
-/// `export_length`. A command is in doubt where its fault left the registry failed; where the
-/// registry stayed live, it counts as not sent.
+/// `export_length`. A command is in doubt if its fault left the registry failed; if the registry
+/// stayed live, the command counts as not sent.
 pub fn clauses_meet_lives<S: Alter + Drop>()
     ensures { CallsMeetLives S.Store }
 {
@@ -52,15 +52,15 @@ pub fn first_openings_show_what_is_there<S: Alter + Drop>()
 {}
 
 /// A migration, or an opening that fails. The tables that a migration leaves show the history in
-/// the schema of today. Where either failed it told of no damage and no later schema, and the
-/// connection that comes back shows the same history, so that the call may be made again.
+/// the schema of today. If either failed with a fault that is neither damage nor a later schema,
+/// the connection that comes back shows the same history, so that the call may be made again.
 pub fn histories_are_kept<S: Alter + Drop>()
     ensures { HistoriesAreKept S.Store }
 {}
 
 /// Tables of schema 1 keep no revision and no number of a change: a database that was just opened
-/// on tables that show a history but for those has that history taken over, with its mark behind
-/// all its commands. Where that is reached (`taken_histories_are_reached`),
+/// on tables that show a history but for those has that history moved, with its mark after all its
+/// commands. If that is reached (`taken_histories_are_reached`),
 /// `first_openings_show_what_is_there` and `histories_are_kept` go on from there.
 pub fn migrations_find_histories<S: Alter + Drop>()
     ensures { EarlierTablesShow S.Store }
@@ -68,11 +68,11 @@ pub fn migrations_find_histories<S: Alter + Drop>()
     taken_files_begin_anew(); // proof only
 }
 
-/// From the end of a life to the next opening, which may be over another store: each process has a
-/// store of its own.
+/// From the end of a session to the next opening, which may be over another store: each process
+/// has a store of its own.
 ///
 /// After a stop a new connection finds what a crash may leave; a live registry that was closed
-/// gives its own connection back. While the disk of that connection returns what was written,
+/// hands its own connection back. While the disk of that connection returns what was written,
 /// either has the tables that the registry showed, or those of one of the two histories between
 /// which it had failed, and a registry that is opened there shows them.
 pub fn openings_find_histories<S: Alter + Drop, T: Alter + Drop>()
@@ -80,18 +80,18 @@ pub fn openings_find_histories<S: Alter + Drop, T: Alter + Drop>()
 {}
 
 /// What keeps a history (a stop, a migration, an opening that fails) may come between the end of a
-/// life and the next opening, as often as it likes: the tables are still what the registry showed.
-/// Such an opening is no life.
+/// session and the next opening, as often as it likes: the tables are still what the registry
+/// showed. Such an opening begins no session.
 pub fn histories_are_kept_between<S: Alter + Drop, T: Alter + Drop, U: Alter + Drop>()
     ensures { KeepsBetween S.Store T.Store U.Store }
 {}
 
-/// The crash prefix, life by life. Let the first registry show a history, that without commands
-/// where it is new, and let each further one be opened on what the one before it left, after any
-/// calls, over a stop at any place, a fault or a close. Then it shows the history after the first
-/// one's and a prefix of the commands of each life, joined in order, which holds every acknowledged
-/// one. It is of the mark of the first one, from which the revision and the numbers that the tables
-/// show are counted. The printed text of its tree reads back to that tree, and to no other.
+/// The crash prefix, session by session. Let the first registry show a history, that without
+/// commands if it is new, and let each further one be opened on what the one before it left, after
+/// any calls, over a stop at any place, a fault or a close. Then it shows the history after the
+/// first one's and a prefix of the commands of each session, joined in order, which has every
+/// acknowledged one. It has the mark of the first one, from which the revision and the numbers in
+/// the tables are counted. The printed text of its tree reads back to that tree, and to no other.
 ///
 /// That text is what `export` writes of a registry that shows the history, and `lookup` answers
 /// over the same tree. All while the disk returns what was written.

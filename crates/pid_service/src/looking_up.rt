@@ -7,7 +7,7 @@ use pid_moderation::Refusal;
 use sqlite::Alter;
 
 impl<S: Alter + Drop> Registry<S> {
-    /// The text that libpci's `pci_lookup_name` gives for the flags and the arguments over the
+    /// The text that libpci's `pci_lookup_name` returns for the flags and the arguments over the
     /// names of the registry, as it fits into a buffer of `size` bytes (`pid_lookup::lookup`).
     ///
     /// A registry that has failed answers `Names(Failed)`, before bad flags.

@@ -39,7 +39,7 @@ fn is_today(found: Option<Version>) -> bool
     }
 }
 
-// Judges tables in the schema of today. There are no others behind a migration.
+// Judges tables in the schema of today. There are no others after a migration.
 fn judge_tables<S: Alter + Drop>(tables: &mut Tables<S>, alloc: Global) -> Result<(), TableFault>
     requires { tables.old.conn.in_transaction ≡ false }
     ensures rests { OnlyReads S.Store tables.old.conn tables.new.conn }
@@ -126,12 +126,12 @@ pub fn open<S: Alter + Drop>(
     }
 }
 
-/// Moves a database to the schema of today, in one transaction: it makes the tables where there is
+/// Moves a database to the schema of today, in one transaction: it makes the tables if there is
 /// none (`Created`), moves those of schema 1, once all its conditions were judged (`Moved`), and
 /// leaves those of schema 2 unjudged (`Already`).
 ///
-/// The history stays the same. That of schema 1 stands before the mark: each name has the number 0,
-/// and so has the revision. Where it fails it hands the connection back, as `open` does, with the
+/// The history stays the same. That of schema 1 is before the mark: each name has the number 0,
+/// and so has the revision. If it fails, it hands the connection back, as `open` does, with the
 /// same faults.
 pub fn migrate<S: Alter + Drop>(
     alloc: Global,

@@ -37,7 +37,7 @@ impl<S: Alter + Drop> Registry<S> {
     }
 
     /// The items directly below a path in the canonical order, which puts the generic subsystems of
-    /// a vendor behind its devices; without a path the vendors and the classes. Below a path that
+    /// a vendor after its devices; without a path the vendors and the classes. Below a path that
     /// has no item there is none.
     pub fn children(&mut self, above: Option<Path>) -> Result<Vec<Item>, Refusal>
         ensures { Answers S.Store self.old self.new result
@@ -55,7 +55,7 @@ impl<S: Alter + Drop> Registry<S> {
     }
 
     /// The pending submissions whose numbers are above a number, rising, `PAGE` at most: from 0 on,
-    /// and then from the last number that was told, pages go through all that are pending.
+    /// and then from the last number of a page, the pages go through all that are pending.
     pub fn pending(&mut self, after: u32) -> Result<Vec<Pending>, Refusal>
         ensures { Answers S.Store self.old self.new result
             (λ h page. map told_of page.items ≡ pending_in PAGE after (views_of h)) }
@@ -70,8 +70,8 @@ impl<S: Alter + Drop> Registry<S> {
         }
     }
 
-    /// The submission with the number, as it stands, and the remarks on it in their order.
-    /// `NoSubmission` where there is none.
+    /// The submission with the number, as it is now, and the remarks on it in their order.
+    /// `NoSubmission` if there is none.
     pub fn submission(&mut self, number: u32) -> Result<Discussion, Refusal>
         ensures { AnswersIfThere S.Store self.old self.new result
             (λ h. discussion_in (views_of h) number) discussion_of }
@@ -103,11 +103,11 @@ impl<S: Alter + Drop> Registry<S> {
         }
     }
 
-    /// The items that were named anew after a revision, in the canonical order, `PAGE` at most:
-    /// each with its path, its name and the number of the last change of it. Behind none, and then
-    /// behind the last path that was told, pages go through all of them. Items that were removed
-    /// are not told. With it the revision that they are told of; where `since` is not below it, the
-    /// items are not looked at.
+    /// The items that were added or renamed after a revision, in the canonical order, `PAGE` at
+    /// most: each with its path, its name and the number of its last change. From no path on, and
+    /// then from the last path of a page, the pages go through all of them. Items that were removed
+    /// are left out. With them the revision at which they were read; if `since` is not below it,
+    /// the items are not looked at.
     pub fn changes(&mut self, since: u64, after: Option<&Path>) -> Result<Changes, Refusal>
         ensures { Answers S.Store self.old self.new result
             (λ h changes. page_of changes

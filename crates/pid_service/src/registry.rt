@@ -7,7 +7,7 @@ use sqlite::{Alter, Connection};
 use std::alloc::Global;
 
 /// A registry over the tables of a connection. It is live until memory or the store fails it while
-/// it writes. Beside them it keeps views in memory that are asked for again and again.
+/// it writes. It also keeps in memory views that are asked for again and again.
 #[derive(Drop)]
 pub struct Registry<S: Alter + Drop> {
     pub(crate) tables: Tables<S>,

@@ -85,7 +85,7 @@ impl<S: Alter + Drop> Registry<S> {
         }
     }
 
-    /// Obeys commands in order, up to the first at which memory is short or the store fails.
+    /// Obeys commands in order, up to the first at which memory runs out or the store fails.
     ///
     /// The memory for the replies is taken first, so that none is lost. A registry that has failed
     /// obeys nothing, with the fault `Failed`.

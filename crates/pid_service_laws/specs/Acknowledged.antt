@@ -38,6 +38,6 @@ HoldsOutcome h c (Err refusal) = Unit {0}
 abbrev pub HoldsAll : History → List Sent → Type 0
 HoldsAll h sent = AllByRecursion (λ s. HoldsOutcome h s.command s.outcome) sent
 
--- every acknowledged command of the lives
+-- every acknowledged command of the sessions
 abbrev pub HoldsLives : History → List Life → Type 0
 HoldsLives h lives = AllByRecursion (λ life. HoldsAll h life.sent) lives

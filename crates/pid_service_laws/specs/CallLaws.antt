@@ -1,4 +1,4 @@
--- The laws that lead from calls to lives, for any type of registries: each is the contract of a
+-- The laws that lead from calls to sessions, for any type of registries: each is the contract of a
 -- function of `calls`. A choice of this project.
 use Rattle.std.specs.Prelude.{◌≡◌, ℕ, Bool, true, false, List, [], ◌∷◌, ◌++◌, Option, Some, Err}
 use Rattle.std.specs.Prelude.{Result}
@@ -59,7 +59,8 @@ module _ {R : Type 0} (w : Showing R) where
       → WhereFailed old (λ h next. w.fails_between new h next)
       → Does w old nothing_sent new
 
-  -- Calls on a registry that shows a history are a life, with exactly the outcomes that they gave.
+  -- Calls on a registry that shows a history are a session, with exactly the outcomes answered.
+  -- answered.
   abbrev pub CallsAreALife : Type 0
   CallsAreALife = (old new : R) (h : History) (calls : List Call)
       → w.shows old h
@@ -67,14 +68,14 @@ module _ {R : Type 0} (w : Showing R) where
       → w.is_clean new
       → EndsLife w h calls new
 
--- No life leaves the history at the start.
+-- No session leaves the history at the start.
 abbrev pub NoLifeIsAPrefix : Type 0
 NoLifeIsAPrefix = (mark : ℕ) (before : List Asked) → let start = after_all (Begins mark) before in
     IsAfterPrefixes start [] start
 
 module _ {R T : Type 0} (w : Showing R) (u : Showing T) where
-  -- One life more. A registry shows the history after earlier lives. After its calls another is
-  -- opened, which shows again what it showed: that shows the history after one life more.
+  -- One session more. A registry shows the history after earlier ones. After its calls another is
+  -- opened, which shows again what it showed: that shows the history after one session more.
   abbrev pub OneLifeMore : Type 0
   OneLifeMore = (mark : ℕ) (before : List Asked) (opened ended : R) (next : T) (h : History)
       (lives : List (List Call)) (calls : List Call) → let start = after_all (Begins mark) before in

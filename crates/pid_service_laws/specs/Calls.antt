@@ -1,4 +1,4 @@
--- What calls on a registry send, told by what they answer. A choice of this project.
+-- What calls on a registry send, by what they answer. A choice of this project.
 use Rattle.std.specs.Prelude.{◌≡◌, ◌⊎◌, Bool, not, ◌&&◌, List, [], ◌∷◌, ◌++◌, length, slice_get}
 use Rattle.std.specs.Prelude.{if◌then◌else◌, Option, Some, None, Result, Ok, Err}
 use Rattle.std.specs.List.{AllByRecursion}
@@ -54,7 +54,7 @@ ran commands outcomes fault live = record {
   stopped = stopped_by fault live (slice_get commands (length outcomes));
 }
 
--- what the calls of a life sent, in turn
+-- what the calls of a session sent, in turn
 abbrev pub sent_in : List Call → List Sent
 sent_in [] = []
 sent_in (call ∷ calls) = call.sent ++ sent_in calls
@@ -68,16 +68,16 @@ abbrev pub StopsAt : Asked → List Call → Type 0
 StopsAt c [] = ⊥
 StopsAt c (call ∷ calls) = ((call.stopped ≡ Some c) × AreNothing calls) ⊎ StopsAt c calls
 
--- the life that the calls are, with this doubt
+-- the session that the calls are, with this doubt
 abbrev pub life_of : List Call → Doubt → Life
 life_of calls doubt = record { sent = sent_in calls; doubt = doubt }
 
--- The command in doubt is the one at which the calls stopped. Where none is named nothing is asked:
--- a command in doubt that does not stand may be left out, since the prefix of the life is the same.
+-- The command in doubt is the one at which the calls stopped. If none is named, nothing is asked: a
+-- command in doubt that was not written may be left out, as the prefix of the session is the same.
 abbrev pub IsDoubtOf : List Call → Doubt → Type 0
 IsDoubtOf calls NoDoubt = Unit {0}
 IsDoubtOf calls (InDoubt c stands) = StopsAt c calls
 
--- these are the calls of that life: it has exactly their outcomes, in order
+-- these are the calls of that session: it has exactly their outcomes, in order
 abbrev pub IsLifeOf : List Call → Life → Type 0
 IsLifeOf calls life = (life.sent ≡ sent_in calls) × IsDoubtOf calls life.doubt

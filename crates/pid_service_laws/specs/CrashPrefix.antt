@@ -1,4 +1,4 @@
--- The crash prefix: what an opening finds after lives that ended anywhere. A choice of this
+-- The crash prefix: what an opening finds after sessions that ended anywhere. A choice of this
 -- project.
 use Rattle.std.specs.Prelude.{◌≡◌, ◌≤◌, ℕ, List}
 use Rattle.std.specs.List.{AllZip, flat_map}
@@ -11,10 +11,10 @@ use Rattle.pid_service_laws.specs.KeptReplies.{IsKept, KeepsLives}
 use Rattle.pid_service_laws.specs.Calls.{Call, IsLifeOf}
 
 -- From the history that the first opening showed, this one is the one after a prefix of the
--- commands of each life, joined in order. It holds every acknowledged one, and has kept its mark.
+-- commands of each session, joined in order. It has every acknowledged one, and has kept its mark.
 pub record IsAfterPrefixes (start : History) (calls : List (List Call)) (h : History) : Type 0 where
   pub lives : List Life
-  -- the lives are those of the calls, with the outcomes of the judgement
+  -- the sessions are those of the calls, with the outcomes of the judgement
   pub are_of : AllZip IsLifeOf calls lives
   pub judged : AreLives start lives
   pub joined : h ≡ after_all start (flat_map prefix_of lives)

@@ -23,6 +23,6 @@ abbrev pub KeepsSent : History → List Sent → Type 0
 KeepsSent h sent = AllByRecursion
     (λ s. KeepsOutcome h s.command.account s.command.key s.outcome) sent
 
--- every reply of the lives
+-- every reply of the sessions
 abbrev pub KeepsLives : History → List Life → Type 0
 KeepsLives h lives = AllByRecursion (λ life. KeepsSent h life.sent) lives

@@ -1,4 +1,5 @@
--- What holds of all lives, over stops at any place: the words of `laws`. A choice of this project.
+-- What holds of all sessions, over stops at any place: cited by `laws`. A choice of this project.
+-- project.
 use Rattle.std.specs.Prelude.{◌≡◌, ◌⊎◌, ◌≤◌, ℕ, true, List, [], ◌∷◌, ◌++◌, Some, Err}
 use Rattle.std.specs.List.{flat_map}
 use Rattle.pid_moderation.specs.declared.refusal.Refusal.{Refusal}
@@ -10,20 +11,20 @@ use Rattle.pid_service_laws.specs.Acknowledged.{IsIn, IsAcceptedIn}
 use Rattle.pid_service_laws.specs.KeptReplies.{IsKept}
 use Rattle.pid_service_laws.specs.Lives.{InDoubt, Life, after_lives, commands_in, prefix_of}
 
--- these are the commands with an outcome, and the one in doubt where it stands
+-- these are the commands with an outcome, and the one in doubt if it was written
 abbrev pub IsOutcomesAndDoubt : Life → List Asked → Type 0
 IsOutcomesAndDoubt life commands = (commands ≡ commands_in life.sent)
     ⊎ ((c : Asked) × (life.doubt ≡ InDoubt c true) × (commands ≡ commands_in life.sent ++ c ∷ []))
 
--- the prefixes of all lives, joined in order
+-- the prefixes of all sessions, joined in order
 abbrev pub all_prefixes : List Life → List Asked
 all_prefixes lives = flat_map prefix_of lives
 
--- the history that lives leave, the first of which began with this mark and no command
+-- the history that sessions leave, the first of which began with this mark and no command
 abbrev pub history_left : ℕ → List Life → History
 history_left mark lives = after_lives (Begins mark) lives
 
--- What any lives leave.
+-- What any sessions leave.
 pub record JoinsPrefixes (mark : ℕ) (lives : List Life) (h : History) : Type 0 where
   -- it is the history after the prefixes of all, joined in order
   pub joined : h ≡ after_all (Begins mark) (all_prefixes lives)

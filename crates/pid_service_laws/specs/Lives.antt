@@ -1,4 +1,4 @@
--- The lives of a registry: a life goes from one opening to the next, over a stop at any place. A
+-- The sessions of a registry: one goes from an opening to the next, over a stop at any place. A
 -- choice of this project.
 use Rattle.std.specs.Prelude.{◌≡◌, ℕ, ◌+◌, Bool, List, [], ◌∷◌, ◌++◌, map, length, take}
 use Rattle.std.specs.Prelude.{if◌then◌else◌, Result}
@@ -14,7 +14,7 @@ pub record Sent : Type 0 where
   pub outcome : Result Reply Refusal
 
 -- A registry may end in a fault by which it failed. Of the command that met the fault it is not
--- known whether it stands; it went one way or the other.
+-- known whether it was written; it was, or it was not.
 pub data Doubt : Type 0 where
   NoDoubt : Doubt
   InDoubt : (command : Asked) (stands : Bool) → Doubt
@@ -25,7 +25,7 @@ pub data Doubt : Type 0 where
 pub record Life : Type 0 where
   -- the commands with an outcome, the first one first
   pub sent : List Sent
-  -- the one command more, the last one, where the life ended in doubt
+  -- the one command more, the last one, if the session ended in doubt
   pub doubt : Doubt
 
 -- the commands that were sent, without their outcomes
@@ -37,17 +37,17 @@ abbrev pub doubted : Doubt → List Asked
 doubted NoDoubt = []
 doubted (InDoubt command stands) = command ∷ []
 
--- the commands of a life: those with an outcome, and the one in doubt
+-- the commands of a session: those with an outcome, and the one in doubt
 abbrev pub life_commands : Life → List Asked
 life_commands life = commands_in life.sent ++ doubted life.doubt
 
--- one more where the command in doubt stands
+-- one more if the command in doubt was written
 abbrev pub standing : Doubt → ℕ
 standing NoDoubt = 0
 standing (InDoubt command stands) = if stands then 1 else 0
 
 -- how many of them the prefix has: as many as have an outcome, the refused ones too, and one more
--- where the command in doubt stands
+-- if the command in doubt was written
 abbrev pub prefix_length : Life → ℕ
 prefix_length life = length life.sent + standing life.doubt
 
@@ -59,11 +59,11 @@ prefix_of life = take (prefix_length life) (life_commands life)
 abbrev pub after_sent : History → List Sent → History
 after_sent h sent = after_all h (commands_in sent)
 
--- the history that a life leaves, which the next opening finds
+-- the history that a session leaves, which the next opening finds
 abbrev pub after_life : History → Life → History
 after_life h life = after_all h (prefix_of life)
 
--- the history that lives leave, from the first one on
+-- the history that sessions leave, from the first one on
 abbrev pub after_lives : History → List Life → History
 after_lives h [] = h
 after_lives h (life ∷ lives) = after_lives (after_life h life) lives
@@ -74,8 +74,8 @@ AreJudged h [] = Unit {0}
 AreJudged h (s ∷ sent) = (s.outcome ≡ answer (judge (views_of h) s.command))
     × AreJudged (after h s.command) sent
 
--- in each life each outcome is that of the judgement, and it begins with the history that the life
--- before it left
+-- in each session each outcome is that of the judgement, and it begins with the history that the
+-- session before it left
 abbrev pub AreLives : History → List Life → Type 0
 AreLives h [] = Unit {0}
 AreLives h (life ∷ lives) = AreJudged h life.sent × AreLives (after_life h life) lives

@@ -1,4 +1,4 @@
--- Which answers tell that a command was judged, and which that it was not: a choice of this
+-- Which answers say that a command was judged, and which that it was not: a choice of this
 -- project.
 use Rattle.std.specs.Prelude.{Bool, true, ◌&&◌, nat_le, Result, Ok, Err}
 use Rattle.pid_moderation.specs.declared.command.Reply.{Reply}

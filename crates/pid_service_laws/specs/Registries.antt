@@ -1,10 +1,10 @@
--- What the public calls of a registry promise, as far as lives speak of it. A choice of this
+-- What the public calls of a registry promise, as far as sessions speak of it. A choice of this
 -- project.
 --
 -- The way to the crash prefix, for any types of registries: each call `Does` what it promises;
--- through a life `CallsLead` from the registry as it was opened to how it ended; a later opening,
--- maybe of another type, `ShowsAgain` what the one before it showed. The laws of `calls` say, life
--- by life, what it shows.
+-- through a session `CallsLead` from the registry as it was opened to how it ended; a later
+-- opening, maybe of another type, `ShowsAgain` what the one before it showed. The laws of `calls`
+-- say, session by session, what it shows.
 use Rattle.std.specs.Prelude.{◌≡◌, ◌⊎◌, ◌<◌, ◌+◌, true, false, List, [], ◌∷◌, length, take, Option}
 use Rattle.std.specs.Prelude.{Some, Result, IsErrAnd, IsSomeAnd}
 use Rattle.pid_moderation.specs.declared.command.Reply.{Reply}
@@ -17,7 +17,7 @@ use Rattle.pid_service_laws.specs.Lives.{after_sent, AreJudged, NoDoubt, InDoubt
 use Rattle.pid_service_laws.specs.Calls.{Call, nothing_sent, sent_in, StopsAt, life_of}
 use Rattle.pid_service_laws.specs.Doubts.{left_at_stop}
 
--- the words by which a registry is told
+-- the relations by which a registry is described
 pub record Showing (R : Type 0) : Type 1 where
   -- so far its disk has returned what was written
   pub is_clean : R → Type 0
@@ -28,7 +28,7 @@ pub record Showing (R : Type 0) : Type 1 where
 
 module _ {R : Type 0} (w : Showing R) where
   -- After a command over a history: the answer is that of the judgement, and the registry shows the
-  -- history after it. Or memory was short or the store failed: then it shows the history as before,
+  -- history after it. Or memory ran out or the store failed: then it shows the history as before,
   -- or it has failed between the two.
   abbrev pub CommandLeaves : Result Reply Refusal → R → History → Asked → Type 0
   CommandLeaves result new h c =
@@ -36,7 +36,7 @@ module _ {R : Type 0} (w : Showing R) where
       ⊎ (IsErrAnd result IsFault × (w.shows new h ⊎ w.fails_between new h (after h c)))
 
   -- After a list of commands over a history: the replies are the answers to the first ones, and the
-  -- registry shows the history after these. Or memory was short or the store failed, and it has
+  -- registry shows the history after these. Or memory ran out or the store failed, and it has
   -- failed at the next one.
   pub record ListLeaves (replies : List (Result Reply Refusal)) (fault : Option Refusal) (new : R)
       (h : History) (commands : List Asked) : Type 0 where
@@ -72,9 +72,9 @@ module _ {R : Type 0} (w : Showing R) where
   CallsLead old (call ∷ calls) new = (between : R) × Does old call between
       × CallsLead between calls new
 
-  -- After the calls of a life: each outcome is that of the judgement, and the registry shows the
-  -- history after the life, without a doubt. Or it has failed at a command: the history after the
-  -- life where that does not stand, or where it does.
+  -- After the calls of a session: each outcome is that of the judgement, and the registry shows the
+  -- history after the session, without a doubt. Or it has failed at a command: then it shows the
+  -- history after the session with that command or without it.
   pub record EndsLife (h : History) (calls : List Call) (ended : R) : Type 0 where
     pub judged : AreJudged h (sent_in calls)
     pub ends : w.shows ended (after_life h (life_of calls NoDoubt))

@@ -1,4 +1,4 @@
-//! Laws over lives. Each is the contract of a function that does nothing of its own.
+//! Laws over sessions. Each is the contract of a function that does nothing of its own.
 ghost use Rattle.std.specs.Prelude.{◌≡◌, ℕ, Bool, true, List};
 ghost use Rattle.pid_moderation.specs.declared.refusal.Refusal.{Refusal};
 ghost use Rattle.pid_moderation.specs.History.{Asked, Begins, History};
@@ -23,12 +23,12 @@ ghost use Rattle.pid_service_laws.specs.Outcomes.{is_outcome};
 
 use pid_moderation::{histories_are_sound, keys_stand_once, marks_stay};
 
-/// The history that the next opening finds is the one after the prefixes of all lives, joined in
-/// order: of each life the commands with an outcome, and the one in doubt where it stands. It keeps
-/// the mark with which it began. It holds every command that was acknowledged, and no command that
-/// was not sent. It holds at most one of an account under a key, and every reply that was given
-/// there is that command's. Where the commands are well made, the history has a tree of names, and
-/// what tables ask of it.
+/// The history that the next opening finds is the one after the prefixes of all sessions, joined in
+/// order: of each session the commands with an outcome, and the one in doubt if it was written. The
+/// history keeps the mark with which it began. It has every command that was acknowledged, and no
+/// command that was not sent. It has at most one of an account under a key, and every reply that
+/// was answered there is that command's. If the commands are well made, the history has a tree of
+/// names, and what tables ask of it.
 pub fn lives_are_prefixes()
     ensures prefix { (life : Life) → IsOutcomesAndDoubt life (prefix_of life) }
     ensures joined { (mark : ℕ) (lives : List Life)

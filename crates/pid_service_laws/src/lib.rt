@@ -1,9 +1,9 @@
-//! The lives of a registry, from one opening to the next, over stops at any place, and the laws
+//! The sessions of a registry, from one opening to the next, over stops at any place, and the laws
 //! that hold over them.
 //!
-//! `specs/Registries` says what each call of a registry does. From there `calls` leads to lives,
-//! and `laws` from lives to the crash prefix: an opening finds the history after a prefix of the
-//! commands, which holds every acknowledged one.
+//! `specs/Registries` says what each call of a registry does. From there `calls` leads to sessions,
+//! and `laws` from sessions to the crash prefix: an opening finds the history after a prefix of the
+//! commands, which has every acknowledged one.
 #![tactic(auto)]
 
 mod calls;

@@ -1,9 +1,11 @@
-//! What the rows of these tests ask of a registry, and what it tells as one line.
+//! What the rows of these tests ask of a registry, and what it answers, as one line.
 //!
-//! A row is a command, as `comment alice num=1&text=seen`, where the key of a caller stands before a slash; or `import`, the
-//! caller and the file, which comes whole, or by pieces with `slowly`, or from an input that fails behind it with `broken`; or a question:
-//! `export`, `length` (of the export), `read`, `children` with a path or `top`, `submission` and `pending` with a number, `changes` with a
-//! revision and a path, if there is one, `lookup` with its fields. In a row `;` ends a line of a file and `>` is a tab.
+//! A row is a command, as `comment alice num=1&text=seen`, where the key of a caller is before a
+//! slash; or `import`, the caller and the file, which comes whole, or in chunks with `slowly`, or
+//! from an input that fails after it with `broken`; or a question: `export`, `length` (of the
+//! export), `read`, `children` with a path or `top`, `submission` and `pending` with a number,
+//! `changes` with a revision and a path, if there is one, `lookup` with its fields. In a row `;`
+//! ends a line of a file and `>` is a tab.
 use pid_ident::{Account, FaultyInput, FaultyOutput, Key, Path, PathText};
 use pid_lookup::{Answer, LookupRefusal, args_of};
 use pid_model::rows::{command_in, fields_of};
@@ -86,7 +88,8 @@ fn import<S: Alter + Drop>(
     line_of(alloc, registry.import(account, key, file.as_bytes()))
 }
 
-// An import whose file comes in pieces of at most seven bytes, or from an input that fails behind them.
+// An import whose file comes in chunks of at most seven bytes, or from an input that fails after
+// them.
 fn slowly<S: Alter + Drop>(
     registry: &mut Registry<S>,
     alloc: Global,
@@ -274,7 +277,7 @@ fn submission<S: Alter + Drop>(
     }
 }
 
-// The revision, and the items that were named anew behind a revision and a path, where there is one.
+// The revision, and the items that were named after a revision and a path, if there is one.
 fn changes<S: Alter + Drop>(
     registry: &mut Registry<S>,
     alloc: Global,
@@ -319,7 +322,7 @@ fn lookup<S: Alter + Drop>(
     Ok(String::from_str(alloc, text)?)
 }
 
-// What the registry tells of a row.
+// What the registry answers to a row.
 pub(crate) fn told<S: Alter + Drop>(
     registry: &mut Registry<S>,
     alloc: Global,
@@ -342,7 +345,7 @@ pub(crate) fn told<S: Alter + Drop>(
     }
 }
 
-// Asserts what the registry tells, row by row.
+// Asserts what the registry answers, row by row.
 pub(crate) fn expect_told<S: Alter + Drop>(
     rt: &impl Abort,
     alloc: Global,
@@ -357,7 +360,7 @@ pub(crate) fn expect_told<S: Alter + Drop>(
     Ok(())
 }
 
-// Asserts what a new registry in memory tells.
+// Asserts what a new registry in memory answers.
 pub(crate) fn expect_run(rt: &impl Abort, alloc: Global, rows: &str) -> Result<(), Fail> {
     let mut registry = new_in_memory(alloc)?;
     expect_told(rt, alloc, &mut registry, rows)

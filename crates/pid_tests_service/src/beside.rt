@@ -1,4 +1,4 @@
-//! Tables, views and indexes of others beside the tables of a registry.
+//! Tables, views and indexes of others in the file of a registry.
 use crate::asking::{expect_told, opened};
 use crate::migrations::{GOES_ON, MOVED};
 use crate::openings::{AGAIN, RUN, expect_refused};
@@ -9,7 +9,8 @@ use std::alloc::Global;
 use std::process::Abort;
 use std::test::Fail;
 
-// What others make before the tables of a registry, and behind them; what they ask of it, and what it then shows.
+// What others make before a registry's tables, and after; what they ask of it, and what it then
+// shows.
 const BESIDE: [(&str, &str, &str, &str); 5] = [
     (
         "CREATE TABLE other (x TEXT); INSERT INTO other VALUES ('kept')",
@@ -55,7 +56,7 @@ fn expect_shown(
     Ok(())
 }
 
-// A registry is opened and obeys, is closed and opened again, and what stands beside it is as it was.
+// A registry is opened and obeys, is closed and opened again, and what others made is as it was.
 fn expect_borne(
     rt: &impl Abort,
     alloc: Global,
@@ -85,7 +86,7 @@ fn what_stands_beside_is_borne(rt: HostRuntime) -> Result<(), Fail> {
     Ok(())
 }
 
-// Tables of schema 1 are moved beside it.
+// Tables of schema 1 are moved in the same file.
 #[test]
 fn older_tables_are_moved_beside_it(rt: HostRuntime) -> Result<(), Fail> {
     let alloc = rt.alloc();

@@ -1,4 +1,4 @@
-//! Files that come by pieces, end too soon, or are too long, and exports that break off.
+//! Files that come in chunks, end too soon, or are too long, and exports that break off.
 use crate::asking::{caller_of, expect_told, file_of, new_in_memory};
 use crate::noted::NotedInput;
 use pid_ident::{FaultyInput, FaultyOutput, WriteFault};
@@ -9,7 +9,7 @@ use std::alloc::Global;
 use std::process::Abort;
 use std::test::Fail;
 
-// What an import of a file is answered that comes in pieces of at most so many bytes.
+// What an import of a file is answered that comes in chunks of at most so many bytes.
 fn by_pieces(
     registry: &mut Registry<MemStore>,
     alloc: Global,
@@ -67,7 +67,7 @@ fn files_come_by_pieces(rt: HostRuntime) -> Result<(), Fail> {
     Ok(())
 }
 
-// Imports a file in pieces of at most so many bytes. It was read until it had no more, by reads of at most 4,096 bytes.
+// Imports a file in chunks. It was read until it had no more, by reads of at most 4,096 bytes.
 fn expect_emptied(
     rt: &impl Abort,
     alloc: Global,
@@ -85,7 +85,7 @@ fn expect_emptied(
     Ok(())
 }
 
-// A file of more than two reads, behind lines that are brought in, refused for themselves, or not looked at.
+// A file of more than two reads, after lines that are imported, refused, or not looked at.
 #[test]
 fn files_are_read_to_their_end(rt: HostRuntime) -> Result<(), Fail> {
     let alloc = rt.alloc();
@@ -117,7 +117,7 @@ fn files_are_read_to_their_end(rt: HostRuntime) -> Result<(), Fail> {
     Ok(())
 }
 
-// Whatever else holds, a fault of the input is told, and nothing of the file stays.
+// Whatever else holds, a fault of the input is answered, and nothing of the file stays.
 #[test]
 fn a_failing_input_changes_nothing(rt: HostRuntime) -> Result<(), Fail> {
     let alloc = rt.alloc();
@@ -189,7 +189,7 @@ export | # PCI ID registry;8086  Intel;>1237  440FX;C 01  Mass;S 8086;>1100  Boa
 const TEXT: &str =
     "# PCI ID registry\n8086  Intel\n\t1237  440FX\nC 01  Mass\nS 8086\n\t1100  Board\n";
 
-// What stands after so many good writes of one byte is a front, and the registry goes on.
+// What was written after so many good writes of one byte is a prefix, and the registry goes on.
 #[test]
 fn exports_break_off(rt: HostRuntime) -> Result<(), Fail> {
     let alloc = rt.alloc();

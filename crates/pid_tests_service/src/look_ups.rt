@@ -74,7 +74,7 @@ approve bob num=1 | ok
 lookup flags=1&vendor=8086 | Third
 ";
 
-// What is kept is told anew behind an import and an approval, and does not grow without an end.
+// What is kept is read again after an import and an approval, and does not grow without end.
 #[test]
 fn keeps_names_until_they_change(rt: HostRuntime) -> Result<(), Fail> {
     let alloc = rt.alloc();

@@ -64,7 +64,7 @@ fn older_tables_are_moved_once(rt: HostRuntime) -> Result<(), Fail> {
     )
 }
 
-// What damages the database of schema 1, what it is told as, and what mends it.
+// What damages the database of schema 1, how it is refused, and what mends it.
 const DAMAGES: [(&str, TableFault, &str); 8] = [
     (
         "UPDATE meta SET value = 2 WHERE label = 'items'",
@@ -163,7 +163,7 @@ fn told_in(line: &str) -> usize {
     line.chars().filter(|letter| *letter == ';').count()
 }
 
-// A page has a hundred of them; the next one begins behind the last path.
+// A page has a hundred of them; the next one begins after the last path.
 #[test]
 fn changes_come_by_pages(rt: HostRuntime) -> Result<(), Fail> {
     let alloc = rt.alloc();

@@ -1,7 +1,7 @@
 //! An input that notes how it is read.
 use pid_ident::{FaultyInput, Input, ReadFault};
 
-/// An input, the greatest buffer that it was handed, and whether it has told its end.
+/// An input, the greatest buffer that it was handed, and whether it has answered its end.
 #[derive(Drop)]
 pub(crate) struct NotedInput<'a> {
     pub(crate) input: FaultyInput<'a>,

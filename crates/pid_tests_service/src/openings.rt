@@ -7,7 +7,7 @@ use std::alloc::Global;
 use std::process::Abort;
 use std::test::Fail;
 
-// What opening tells of the database, and the connection.
+// What opening answers of the database, and the connection.
 fn told_of(
     alloc: Global,
     conn: Connection<MemStore>,
@@ -49,7 +49,7 @@ approve root num=1 | refused 8 NotPending
 export | # PCI ID registry;8086  Intel;
 ";
 
-// What damages a registry, what it is told as, and what mends it.
+// What damages a registry, how it is refused, and what mends it.
 const DAMAGES: [(&str, TableFault, &str); 11] = [
     (
         "UPDATE meta SET value = 3 WHERE label = 'items'",

@@ -1,6 +1,8 @@
-//! Want of memory. `rt try --test --fail-alloc N` refuses the N-th request of a test. A row that meets it is answered whole, or for want
-//! of memory or by the store; the registry then shows what it showed before the row or shows behind it; and the row is answered once it
-//! is sent again, under its key. Where the test itself meets it, it ends with that. Without a refusal these are worked rows over files.
+//! Out of memory. `rt try --test --fail-alloc N` refuses the N-th request of a test. A row that
+//! meets it is answered whole, or refused for memory or by the store; the registry then shows what
+//! it showed before the row or shows after it; and the row is answered once it is sent again, under
+//! its key. If the test itself meets it, it ends with that. Without a refusal these are worked
+//! rows.
 use crate::commands::{DEVICE, IMPORTS, REFUSALS, VENDOR};
 use crate::migrations::MOVED;
 use crate::stops::{
@@ -35,7 +37,7 @@ changes 0 | revision 6;1 PC/8086 Intel Corporation;1 PS/8086/1100 Board;
 length | 62
 ";
 
-// One row, and what files hold behind it; nothing where the row was refused, since no other request is.
+// One row, and what files hold after it; nothing if the row was refused, as no other request is.
 fn expect_row(
     rt: &impl Abort,
     alloc: Global,

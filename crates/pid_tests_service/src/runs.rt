@@ -49,7 +49,7 @@ const CALLERS: [&str; 8] = [
 
 const ACCOUNTS: [&str; 4] = ["bob", "sue", "joe", "root"];
 
-// Paths in their order, and what stands before the name of each in the file.
+// Paths in their order, and what comes before the name of each in the file.
 const PATHS: [(&str, &str); 10] = [
     ("PC/10ec", "10ec  "),
     ("PC/10ec/8139", ">8139  "),
@@ -180,7 +180,8 @@ struct Shown {
     since: u64,
 }
 
-// What the list shows of each path behind a command. Where a name is another than before, it is from that command.
+// What the list shows of each path after a command. A name that was other before is of that
+// command.
 fn shown_behind(alloc: Global, list: &PlainRegistry, before: &[Shown]) -> Result<Vec<Shown>, Fail> {
     let items = list.items()?;
     let mut all = Vec::new(alloc);
@@ -199,7 +200,7 @@ fn shown_behind(alloc: Global, list: &PlainRegistry, before: &[Shown]) -> Result
     Ok(all)
 }
 
-// What is told of the items: the export, and those that were named anew behind a revision.
+// What is answered of the items: the export, and those that were named after a revision.
 fn items_in(alloc: Global, all: &[Shown], since: u64) -> Result<(String, String), Fail> {
     let mut export = String::from_str(alloc, "# PCI ID registry;")?;
     let mut changes = String::new(alloc);
@@ -215,7 +216,7 @@ fn items_in(alloc: Global, all: &[Shown], since: u64) -> Result<(String, String)
     Ok((export, changes))
 }
 
-// Adds a submission as pages tell it, if it is pending in the list.
+// Adds a submission as pages have it, if it is pending in the list.
 fn tell_pending(
     told: &mut String,
     alloc: Global,
@@ -241,7 +242,7 @@ fn pending_in(alloc: Global, list: &PlainRegistry) -> Result<String, Fail> {
     Ok(all)
 }
 
-// The pages of what is pending tell all of it, in their order, and the last one is empty.
+// The pages of what is pending have all of it, in their order, and the last one is empty.
 fn expect_pages(
     rt: &impl Abort,
     alloc: Global,

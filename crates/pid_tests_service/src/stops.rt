@@ -105,10 +105,10 @@ fn bytes_of(alloc: Global, files: &Files<Stopping>) -> Result<Held, Fail> {
     })
 }
 
-// What stands for an answer where there is none.
+// What an answer is replaced by if there is none.
 const NOT_TOLD: &str = "not told";
 
-/// Whether a row was answered, and not refused for want of memory or by the store.
+/// Whether a row was answered, and not refused for memory or by the store.
 pub(crate) fn is_answered(line: &str) -> bool {
     !matches!(
         line,
@@ -140,7 +140,7 @@ fn shown<S: Alter + Drop>(registry: &mut Registry<S>, alloc: Global) -> Result<S
     Ok(all)
 }
 
-/// What a row is answered without a stop, and what the registry shows before and behind it.
+/// What a row is answered without a stop, and what the registry shows before and after it.
 #[derive(Drop)]
 pub(crate) struct Whole {
     before: String,
@@ -165,7 +165,7 @@ fn whole_row<S: Alter + Drop>(
     Ok((whole, registry.close()))
 }
 
-/// A row over files without a stop, and what they hold behind it.
+/// A row over files without a stop, and what they hold after it.
 pub(crate) fn undisturbed(alloc: Global, held: &Held, row: &str) -> Result<(Whole, Held), Fail> {
     match connected(alloc, laid(alloc, held, ALL)?) {
         Ok(conn) => {
@@ -178,7 +178,7 @@ pub(crate) fn undisturbed(alloc: Global, held: &Held, row: &str) -> Result<(Whol
     }
 }
 
-// What files hold behind these rows; without any they were never opened.
+// What files hold after these rows; without any they were never opened.
 fn held_behind(alloc: Global, rows: &str) -> Result<Held, Fail> {
     let mut held = nothing(alloc);
     for row in rows.lines() {
@@ -187,7 +187,7 @@ fn held_behind(alloc: Global, rows: &str) -> Result<Held, Fail> {
     Ok(held)
 }
 
-// What a registry tells that has failed.
+// What a registry answers that has failed.
 const FAILED: &str = "\
 account root who=sue&rank=0 | refused 18 Failed
 submit root path=PC/8086&name=Intel | refused 18 Failed
@@ -229,7 +229,7 @@ fn opened_again<S: Alter + Drop>(
     }
 }
 
-// Moves the tables; no answer is told. Where it failed, memory was short or the store failed.
+// Moves the tables and answers nothing. If it failed, memory ran out or the store failed.
 fn migrated<S: Alter + Drop>(
     rt: &impl Abort,
     alloc: Global,
@@ -253,8 +253,8 @@ fn migrated<S: Alter + Drop>(
     }
 }
 
-// What the last row is answered, and the connection behind it. `migrate` moves the tables and is told no answer, as is a row of a registry
-// that was not opened. A registry that has failed says so to all that it is asked.
+// What the last row is answered, and the connection after it. `migrate` moves the tables and is
+// answered nothing, as is a row of a registry that was not opened. A failed registry says so.
 fn answered<S: Alter + Drop>(
     rt: &impl Abort,
     alloc: Global,
@@ -289,7 +289,7 @@ fn answered<S: Alter + Drop>(
     }
 }
 
-// The same on files that stop, and the files behind it.
+// The same on files that stop, and the files after it.
 fn stopped(
     rt: &impl Abort,
     alloc: Global,
@@ -319,8 +319,8 @@ pub(crate) fn crashed(
     Ok((line, is_whole, bytes_of(alloc, &files)?))
 }
 
-// Opened again, the registry is as before the last row or behind it, and behind it where that was answered; sent again, the row is
-// answered as without a stop.
+// Opened again, the registry is as before the last row or after it, and after it if that was
+// answered; sent again, the row is answered as without a stop.
 fn expect_kept<S: Alter + Drop>(
     rt: &impl Abort,
     alloc: Global,
@@ -376,7 +376,8 @@ fn stop_at(of_log: bool, calls: u64) -> Calls {
     }
 }
 
-// Stops one of the files at each call of opening and of a row behind it. The other row is asked once the machine is back.
+// Stops one of the files at each call of opening and of a row. The other row is asked after a
+// restart.
 fn stop_each(
     rt: &impl Abort,
     alloc: Global,
@@ -395,7 +396,7 @@ fn stop_each(
     Err("a run without a stop")?
 }
 
-// Stops the log, and then the database, at the last row behind the first ones.
+// Stops the log, and then the database, at the last row after the first ones.
 fn stop_both(rt: &impl Abort, alloc: Global, rows: (&str, &str)) -> Result<(), Fail> {
     let (first, last) = rows;
     let held = held_behind(alloc, first)?;
@@ -457,7 +458,7 @@ fn a_stop_of_a_withdrawal(rt: HostRuntime) -> Result<(), Fail> {
     stop_both(&rt, rt.alloc(), rows)
 }
 
-// An import of fifty vendors, whole or by pieces.
+// An import of fifty vendors, whole or in chunks.
 fn stop_import(rt: &impl Abort, alloc: Global, verb: &str) -> Result<(), Fail> {
     let mut row = format!(in alloc; "{verb} k1/root ")?;
     for vendor in 0..50u32 {

@@ -11,15 +11,15 @@ use Rattle.pid_http_stream.specs.Leading.{Leads}
 use Rattle.pid_http.specs.Known.{Known, IsKnownOf, LivesOn}
 
 module _ {S : Type 0} (store : Ghosts S) where
-  -- Calls of its life led from the one to the other, and while the disk returns what was written,
-  -- what was known leads by these calls on to what is known then.
+  -- Calls of its session led from the one to the other, and while the disk returns what was
+  -- written, what was known leads by these calls on to what is known then.
   pub record Goes (old new : Registry S store)
       (Next : Known → List Call → Known → Type 0) : Type 0 where
     pub lives : LivesOn store old new
     pub served : Leads (HasCleanDisk store) (IsKnownOf store) old new
         (λ k now. Next k lives.calls now)
 
--- From here on proofs: calls after calls, and the laws that what answers streams gives for `stays`
+-- From here on proofs: calls after calls, and the laws that what answers streams has for `stays`
 -- and `joins`.
 pub calls_join : {R : Type 0} (w : Showing R) (a b c : R) (first more : List Call)
     → CallsLead w a first b → CallsLead w b more c → CallsLead w a (first ++ more) c
@@ -28,7 +28,7 @@ calls_join w a b c (call ∷ calls) more (between, does, leads) further =
     (between, does, calls_join w between b c calls more leads further)
 
 module _ {S : Type 0} {store : Ghosts S} where
-  -- without a call it is the same life
+  -- without a call it is the same session
   pub lives_still : (r : Registry S store) → LivesOn store r r
   lives_still r = record { rests = λ off. refl; calls = []; lead = refl }
 

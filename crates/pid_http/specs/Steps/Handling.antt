@@ -1,4 +1,4 @@
--- What the service tells of itself as a handler.
+-- What the service says of itself as a handler.
 use Rattle.std.specs.Prelude.{◌≡◌, ℕ, List, [], ◌∷◌, ◌++◌}
 use Rattle.std.proofs.Common.{sym, ap, subst, ◌∙◌, append_assoc}
 use Rattle.sqlite_trees.specs.declared.store.Store.{Ghosts}

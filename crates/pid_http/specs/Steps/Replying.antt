@@ -1,4 +1,4 @@
--- What the functions that answer one request tell of their reply.
+-- What the functions that answer one request say of their reply.
 use Rattle.std.specs.Prelude.{◌≡◌, ◌≤◌, ◌⊎◌, ℕ, true, false, List, [], ◌∷◌, length}
 use Rattle.std.specs.Prelude.{Option, Some, None, Result}
 use Rattle.std.specs.Prelude.{Ok, Err, IsErrAnd, MatchResult, Vec, map, option_map, option_copied}

@@ -1,4 +1,4 @@
--- Steps beside Routes.
+-- Steps of Routes.
 use Rattle.std.specs.Prelude.{ℕ, List, codes}
 use Rattle.pid_http_requests.specs.declared.route.Route.{Route}
 use Rattle.pid_http_requests.specs.declared.route.Route.TheVariants.{Export, Read, Children}

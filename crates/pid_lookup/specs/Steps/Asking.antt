@@ -11,7 +11,7 @@ module _ {X F : Type 0} (names : Ghosts X F) where
   pub record AsksNames {A : Type 0} (old new : X) (result : Result A F)
       (Says : (Path → Option (List ℕ)) → A → Type 0) : Type 0 where
     pub found : OfShown names old new (λ s. IfOk result (Says (name_in_map (names.map_of s))))
-    -- the fault is one that the holder may give
+    -- the fault is one with which the holder may fail
     pub fault : IfErr result (λ f. names.may_give old f)
     -- and has its cause since any start, since which the holder was only asked
     pub caused : OfShown names old new (λ s. (start : X) → names.only_asked start old

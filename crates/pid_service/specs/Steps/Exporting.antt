@@ -1,4 +1,4 @@
--- Steps beside Exporting.
+-- Steps of Exporting.
 use Rattle.std.specs.Prelude.{◌≡◌}
 use Rattle.pid_service.specs.declared.item_text.ExportEnd.{ExportEnd}
 use Rattle.pid_service.specs.declared.item_text.ExportEnd.TheVariants as ends
@@ -7,7 +7,7 @@ use Rattle.pid_moderation.specs.declared.refusal.Refusal.{Refusal}
 use Rattle.pid_service.specs.declared.exporting.ExportFault.{ExportFault}
 use Rattle.pid_service.specs.declared.exporting.ExportFault.TheVariants.{Refused, Write}
 
--- how the end of an export of tables is told.
+-- how the end of an export of tables is answered
 abbrev pub IsToldAs : ExportEnd → ExportFault → Type 0
 IsToldAs (ends.Tables fault) told = (e : Refusal) × (told ≡ Refused e) × IsFault e
     × (e ≡ refusal_for fault)

@@ -1,4 +1,4 @@
--- Steps beside Exports.
+-- Steps of Exports.
 use Rattle.std.specs.Prelude.{ℕ, List, Option, Result, Ok, Err}
 use Rattle.std.specs.Io.KnownBytes.{Appends}
 use Rattle.pid_ident.specs.Sending.{SendsFront}
@@ -8,7 +8,7 @@ use Rattle.pid_service.specs.declared.item_text.ExportEnd.{ExportEnd}
 use Rattle.pid_service.specs.declared.item_text.ExportEnd.TheVariants.{Tables, Write}
 use Rattle.pid_service.specs.Exports.{TakesWholeLines}
 
--- the whole text; a front of it, and not all, where the writer failed; whole lines of it where the
+-- the whole text; a prefix of it, and not all, if the writer failed; whole lines of it if the
 -- tables did
 abbrev pub WritesItems : {X : Type 0} → Result X ExportEnd → Option (List ℕ) → Option (List ℕ)
     → Items → Type 0

@@ -21,7 +21,7 @@ use Rattle.pid_service.specs.Importing.{ObeysImport}
 use Rattle.pid_service.specs.KeptViews.{kept_by, nothing}
 use Rattle.pid_service.specs.Registries.{HasCleanDisk}
 
--- The registry is as live as before. Or it does not tell that it had failed, and memory was short
+-- The registry is as live as before. Or the answer is not that it had failed, and memory ran out
 -- or the store failed.
 abbrev pub EndStaysLive : Result Reply ImportEnd → (before after : Bool) → Type 0
 EndStaysLive (Ok reply) before after = after ≡ before
@@ -41,7 +41,7 @@ IsPlain (Ok reply) result = result ≡ Ok reply
 IsPlain (Err (Refused e)) result = result ≡ Err e
 IsPlain (Err Body) result = result ≡ Err Store
 
--- the history is left, or memory was short or the store or the input failed
+-- the history is left, or memory ran out or the store or the input failed
 abbrev pub EndSpares : Result Reply ImportEnd → History → Asked → Type 0
 EndSpares (Ok reply) h c = after h c ≡ h
 EndSpares (Err (Refused e)) h c = (after h c ≡ h) ⊎ IsFault e

@@ -16,7 +16,7 @@ use Rattle.pid_service.specs.Histories.{IsFault, IsReached}
 
 -- A reply that was kept changes nothing. An accepted command has a change, which leads from what
 -- the history shows to what it shows with the command. A refusal is that of the judgement and
--- changes nothing, or memory was short or the store failed.
+-- changes nothing, or memory ran out or the store failed.
 abbrev pub JudgesCommand : History → Asked → Result Judged Refusal → Type 0
 JudgesCommand h c (Ok (Kept reply)) = (answer (judge (views_of h) c) ≡ Ok reply) × (after h c ≡ h)
 JudgesCommand h c (Ok (Accepted change reply)) = (answer (judge (views_of h) c) ≡ Ok reply)

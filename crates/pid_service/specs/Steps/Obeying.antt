@@ -15,13 +15,13 @@ use Rattle.pid_service.specs.KeptViews.{kept_by, nothing}
 use Rattle.pid_service.specs.Registries.{is_live}
 use Rattle.pid_service.specs.Steps.Judging.{JudgesCommand}
 
--- The registry is as live as before. Or it does not tell that it had failed, and memory was short
+-- The registry is as live as before. Or the answer is not that it had failed, and memory ran out
 -- or the store failed.
 abbrev pub StaysLive : {X : Type 0} → Result X Refusal → (before after : Bool) → Type 0
 StaysLive result before after = MatchResult result (λ _. after ≡ before)
     (λ e. (e ≢ Failed) × (IsFault e ⊎ (after ≡ before)))
 
--- no name is kept in memory, or the items are left, or memory was short or the store failed
+-- no name is kept in memory, or the items are left, or memory ran out or the store failed
 abbrev pub SparesNames : {S : Type 0} {store : Ghosts S} → Result Reply Refusal → Registry S store
     → History → Asked → Type 0
 SparesNames result r h c = (kept_by r ≡ nothing)

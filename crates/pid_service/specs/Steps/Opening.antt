@@ -10,7 +10,7 @@ use Rattle.pid_tables_rows.specs.Faults.{IsMemoryOrStore}
 use Rattle.pid_tables.specs.Clauses.{ShowsOrBlank}
 use Rattle.pid_service.specs.Histories.{IsReached}
 
--- tables that show a history, or can be made, show it in the schema of today; or memory was short
+-- tables that show a history, or can be made, show it in the schema of today; or memory ran out
 -- or the store failed, and it is still shown
 abbrev pub IsMadeReady : {S X : Type 0} (store : Ghosts S) → Held S → Held S → Result X TableFault
     → Type 0

@@ -1,4 +1,4 @@
--- Steps beside TextSinks.
+-- Steps of TextSinks.
 use Rattle.std.specs.Prelude.{◌≡◌, ℕ, List, [], ◌∷◌, ◌++◌, Option, None, Some, if◌then◌else◌}
 use Rattle.pid_tree.specs.Printing.{block_line, opens_block}
 use Rattle.pid_service.specs.declared.items_text.TextBuffer.{TextBuffer}
@@ -12,7 +12,7 @@ abbrev pub text_in : Option TextBuffer → Option (List ℕ)
 text_in None = None
 text_in (Some text) = Some text.taken.items
 
--- what is kept now was kept before, with these bytes behind it
+-- what is kept now was kept before, with these bytes after it
 abbrev pub Lengthens : Option TextBuffer → Option TextBuffer → List ℕ → Type 0
 Lengthens old new more = (now : List ℕ) → text_in new ≡ Some now
     → (was : List ℕ) × (text_in old ≡ Some was) × (now ≡ was ++ more)
