@@ -42,7 +42,7 @@ pub fn work_on<S: Alter + Drop, I: Input + Drop, O: Output, F: Output>(
     }
 }
 
-/// Brings the tables of a connection to the newest schema; opens no registry.
+/// Moves the tables of a connection to the newest schema; opens no registry.
 pub fn migrate_on<S: Alter + Drop, O: Output, F: Output>(
     alloc: Global,
     conn: Connection<S>,

@@ -28,7 +28,7 @@ pub fn work_on_file<I: Input + Drop, O: Output, F: Output>(
     }
 }
 
-/// Brings the tables of a registry file, which is created if it does not exist, to the newest
+/// Moves the tables of a registry file, which is created if it does not exist, to the newest
 /// schema.
 pub fn migrate_file<O: Output, F: Output>(
     rt: &HostRuntime,

@@ -7,7 +7,7 @@ pub const VERSION: &str = "\
 pciids 0.1.0
 ";
 
-/// What stands below a word that is no command.
+/// What follows an argument that is no command.
 pub const USAGE: &str = "\
 Usage: pciids < FILE
        pciids <COMMAND> [ARGS]

@@ -97,7 +97,7 @@ tasks = (codes "check", λ rows. Checks)
     ∷ []
 
 -- the task of the subcommand with this name, whose options have these values; `tidy` for any other
--- name, which no arguments give
+-- name, which no arguments have
 abbrev pub task_named : Text → List Row → Task
 task_named name rows = option_map_or (λ entry. entry.1 rows)
     (find (λ entry. bytes_eq name entry.0) tasks) Tidies

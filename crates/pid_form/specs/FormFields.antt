@@ -12,7 +12,7 @@ decoded bytes = utf8_lossy (decode bytes)
 abbrev pub field : List ℕ × List ℕ → List ℕ × List ℕ
 field pair = (decoded pair.0, decoded pair.1)
 
--- the names and the values that stand between the `&`, in their order
+-- the names and the values between the `&`, in their order
 abbrev pub fields_in : List ℕ → List (List ℕ × List ℕ)
 fields_in form = map field (raw_pairs form)
 

@@ -5,7 +5,7 @@ use Rattle.std.specs.Char.{is_ascii_digit, is_digit}
 use Rattle.std.specs.List.{list_all}
 use Rattle.std.specs.Str.Parse.{digits_value}
 
--- 1 to so many decimal digits without a zero in front
+-- 1 to so many decimal digits without a leading zero
 abbrev pub is_plain_number : (most_digits : ℕ) (text : List ℕ) → Bool
 is_plain_number most_digits text = nat_le 1 (length text) && nat_le (length text) most_digits
     && list_all is_ascii_digit text && not (slice_index text 0 == 48)

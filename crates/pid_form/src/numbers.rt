@@ -31,8 +31,8 @@ fn is_plain_number(text: &str, most_digits: usize) -> bool
     are_decimal(bytes)
 }
 
-/// The number that a text writes, where it is at most `most`. The text is 1 to `most_digits`
-/// decimal digits without a zero in front; any other text writes none.
+/// The number that a text writes, if it is at most `most`. The text is 1 to `most_digits` decimal
+/// digits without a leading zero; any other text writes none.
 pub fn number_up_to(text: &str, most: u64, most_digits: usize) -> Option<u64>
     ensures number { result ≡ number_to most most_digits text.now }
     ensures bound { IfSome result (λ number. number ≤ most) }

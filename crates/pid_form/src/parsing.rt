@@ -5,8 +5,8 @@ ghost use Rattle.pid_form.specs.FormFields.{bytes_of, fields_in};
 use form_urlencoded::parse;
 use std::alloc::{AllocError, Global};
 
-/// The fields of a form in their order: names and values, of which each may be empty and stand more
-/// than once.
+/// The fields of a form in their order: names and values. Each may be empty and may come more than
+/// once.
 ///
 /// A `+` is a space, `%` and two hex digits are the byte with that number, and bytes that are no
 /// UTF-8 become U+FFFD.

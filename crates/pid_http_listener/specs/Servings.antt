@@ -10,7 +10,7 @@ CountsStreams All connections streams = streams ≡ connections
 CountsStreams NotLive connections streams = (0 < streams) × (streams ≤ connections)
 CountsStreams AcceptFault connections streams = streams < connections
 
--- whether the server is live behind the last stream
+-- whether the server is live after the last stream
 abbrev pub IsLiveAt : ServingEnd → ℕ → Bool → Type 0
 IsLiveAt All streams live = 0 < streams → live ≡ true
 IsLiveAt NotLive streams live = live ≡ false

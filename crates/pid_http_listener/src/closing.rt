@@ -4,7 +4,7 @@ use std::io::Read;
 use std::net::{Shutdown, TcpStream};
 use std::time::Duration;
 
-/// The most reads of what a client sent behind its last reply.
+/// The most reads of what a client sent after its last reply.
 const READS_DROPPED: u32 = 64;
 
 /// The most bytes of the first of these reads. Most clients send nothing more, and what a buffer
@@ -17,7 +17,7 @@ const READ_DROPPED: usize = 65_536;
 /// How long one of them waits, in seconds.
 const SECONDS: u64 = 1;
 
-// Drops what a client sends behind a first read.
+// Drops what a client sends after a first read.
 fn drop_rest(mut stream: &TcpStream) {
     let mut dropped = [0u8; READ_DROPPED];
     for _ in 1..READS_DROPPED {

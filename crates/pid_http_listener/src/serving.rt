@@ -13,7 +13,7 @@ use std::net::{TcpListener, TcpStream};
 pub enum ServingEnd {
     /// All were served that were to be, and the server is live.
     All,
-    /// The server is not live behind the last one.
+    /// The server is not live after the last one.
     NotLive,
     /// No further connection could be accepted.
     AcceptFault,
@@ -27,7 +27,7 @@ pub struct Serving {
     pub end: ServingEnd,
 }
 
-// The next connection. One that its client gave up before, or a wait that a signal interrupts, is
+// The next connection. One that its client closed before, or a wait that a signal interrupts, is
 // none.
 fn next_connection(listener: &TcpListener) -> Option<TcpStream> {
     for _ in 0..u64::MAX {
@@ -44,8 +44,8 @@ fn next_connection(listener: &TcpListener) -> Option<TcpStream> {
 
 /// Serves the streams of so many connections, one after the other, 1,000,000 reads each.
 ///
-/// Whatever ends one stream leaves the next ones to be served. It stops where the server is not
-/// live behind a stream, and where no connection can be accepted.
+/// Whatever ends one stream leaves the next ones to be served. It stops if the server is not live
+/// after a stream, and if no connection can be accepted.
 pub fn serve_on<S: StreamServer>(
     alloc: Global,
     listener: &TcpListener,

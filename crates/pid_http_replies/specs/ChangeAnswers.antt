@@ -1,4 +1,4 @@
--- The answers with items that were named anew: choices of this project. An item stands with the
+-- The answers with items that were added or renamed: choices of this project. An item has the
 -- number of the last change of its name.
 use Rattle.std.specs.Prelude.{ℕ, List, ◌++◌, map, codes, decimal}
 use Rattle.std.specs.List.{flat_map}
@@ -35,6 +35,6 @@ abbrev pub changes_text : ChangePage → List ℕ
 changes_text page = word_line (codes "revision") (decimal page.revision)
     ++ flat_map changed_line page.items
 
--- items that were named anew, and the revision
+-- items that were added or renamed, and the revision
 abbrev pub changes_answer : Format → ChangePage → Answer
 changes_answer format page = answer_in format 200 (changes_data page) (changes_text page)

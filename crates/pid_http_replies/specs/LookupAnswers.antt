@@ -1,4 +1,4 @@
--- The answer to a look-up: the text that libpci's `pci_lookup_name` gives, byte for byte. Its
+-- The answer to a look-up: the text that libpci's `pci_lookup_name` returns, byte for byte. Its
 -- refusals are choices of this project.
 use Rattle.std.specs.Prelude.{Result, Ok, Err}
 use Rattle.pid_lookup.specs.declared.answer.Answer.{Answer as Found}
@@ -13,7 +13,7 @@ use Rattle.pid_http_stream.specs.declared.reply_head.Content.TheVariants.{Bytes}
 use Rattle.pid_http_replies.specs.Outcomes.{unanswered_answer, outcome_answer}
 use Rattle.pid_http_requests.specs.declared.format.Format.TheVariants as formats
 
--- the text, with nothing behind it; where there is none, why not
+-- the text, with nothing after it; if there is none, why not
 abbrev pub lookup_answer : Result Found (LookupRefusal Refusal) → Answer
 lookup_answer (Ok (Text text)) = answer_with 200 Bytes text
 lookup_answer (Ok NoAnswer) = unanswered_answer 404 whys.NoAnswer

@@ -1,5 +1,4 @@
--- The answers with pending submissions: choices of this project. A submission stands with its
--- number.
+-- The answers with pending submissions: choices of this project. A submission has its number.
 use Rattle.std.specs.Prelude.{ℕ, List, ◌++◌, map, codes, decimal}
 use Rattle.std.specs.List.{flat_map}
 use Rattle.serde_json.specs.Data.{Data, null, number, unsigned, string, array}

@@ -17,7 +17,7 @@ abbrev pub answer_in : Format → ℕ → Data → List ℕ → Answer
 answer_in Json status value text = answer_with status contents.Json (compact_text value)
 answer_in Text status value text = answer_with status contents.Text text
 
--- the body is there, and behind this head it is the answer
+-- the body is there, and after this head it is the answer
 abbrev pub IsBodyOf : ReplyHead → ReplyBody → Answer → Type 0
 IsBodyOf head (Bytes body) answer = answer_with head.status head.content body.items ≡ answer
 IsBodyOf head (Written told) answer = ⊥

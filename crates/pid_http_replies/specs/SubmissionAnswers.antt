@@ -17,7 +17,7 @@ use Rattle.pid_http_replies.specs.Replying.{answer_in}
 use Rattle.pid_http_replies.specs.WordLines.{word_line}
 use Rattle.pid_http_requests.specs.declared.format.Format.{Format}
 
--- how it stands, in one word
+-- its state, in one word
 abbrev pub state_word : State → List ℕ
 state_word Pending = codes "pending"
 state_word (Approved decider) = codes "approved"

@@ -1,4 +1,4 @@
-//! Replies with items that were named anew.
+//! Replies with items that were added or renamed.
 ghost use Rattle.std.specs.Prelude.{◌≡◌, ◌++◌, map, string_bytes, IfOk, OnOk};
 ghost use Rattle.std.specs.List.{flat_map};
 ghost use Rattle.serde_json.specs.View.{view};
@@ -88,9 +88,9 @@ fn changes_text(alloc: Global, changes: &Changes) -> Result<String, AllocError>
     Ok(text)
 }
 
-/// The reply with items that were named anew, in their order. The text has the line `revision` with
-/// the revision, and then a line for each item: the number of the last change of its name, its path
-/// and its name.
+/// The reply with items that were added or renamed, in their order. The text has the line
+/// `revision` with the revision, and then a line for each item: the number of the last change of
+/// its name, its path and its name.
 pub fn changes_reply(alloc: Global, format: Format, changes: &Changes) -> Result<Reply, AllocError>
     ensures { MakesReply result (changes_answer format (page_of changes.now)) }
 {

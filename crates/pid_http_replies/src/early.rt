@@ -36,8 +36,8 @@ fn allow_reply(alloc: Global, content: Content) -> Reply
     reply_with(StatusCode::METHOD_NOT_ALLOWED, content, Vec::new(alloc))
 }
 
-/// The reply to a request that comes to no call. One of another method is told which are allowed,
-/// with no body; any other has a refusal as JSON, whatever format it asks for.
+/// The reply to a request that comes to no call. One of another method gets the list of those that
+/// are allowed, with no body; any other has a refusal as JSON, whatever format it asks for.
 pub fn early_reply(alloc: Global, early: Early) -> Result<Reply, AllocError>
     ensures { MakesReply result (early_answer early) }
 {

@@ -7,7 +7,7 @@ ghost use Rattle.serde_json.specs.Written.{comma_if, compact_text, has_float};
 use serde_json::Value;
 use std::alloc::{AllocError, Global};
 
-/// Appends a row to the text of a list, behind a comma where `later` says that a row stands before
+/// Appends a row to the text of a list, after a comma if `later` says that there is a row before
 /// it.
 pub(crate) fn push_row(
     alloc: Global,

@@ -111,7 +111,7 @@ fn page_text(alloc: Global, page: &[Pending]) -> Result<String, AllocError>
 }
 
 /// The reply with pending submissions, in their order. The text has a line for each: its number,
-/// its author, what is proposed (`name` or `remove`), its path, and behind `name` the name.
+/// its author, what is proposed (`name` or `remove`), its path, and after `name` the name.
 pub fn pending_reply(alloc: Global, format: Format, page: &[Pending]) -> Result<Reply, AllocError>
     ensures { MakesReply result (pending_answer format (map told_of page.now)) }
 {

@@ -102,7 +102,7 @@ fn push_remark_list(alloc: Global, text: &mut String, remarks: &[Comment]) -> Re
     Ok(())
 }
 
-// What stands before the remarks, as an object.
+// What comes before the remarks, as an object.
 fn standing_value(alloc: Global, number: u32, submission: &Submission) -> Result<Value, AllocError>
     ensures { IfOk result (λ value. view value
         ≡ object (standing_members number (standing_of submission.now))) }

@@ -5,7 +5,7 @@ ghost use Rattle.pid_http_replies.specs.WordLines.{word_line};
 use itoa::Buffer;
 use std::alloc::AllocError;
 
-/// Appends a word, a space, what stands there, and a line feed.
+/// Appends a word, a space, the value, and a line feed.
 pub(crate) fn push_line(text: &mut String, word: &str, value: &str) -> Result<(), AllocError>
     ensures { OnOk result (string_bytes text.new
         ≡ string_bytes text.old ++ word_line word.now value.now) }

@@ -1,5 +1,5 @@
 -- The path of a text, and the text of its parent, as functions that compute. A stranger need not
--- read them: laws.rt says that `path_of` gives the one path whose text it is, and `parent_text` the
+-- read them: laws.rt says that `path_of` is the one path whose text it is, and `parent_text` the
 -- text of that path's parent.
 use Rattle.std.specs.Prelude.{ℕ, ◌+◌, ◌-◌, ◌*◌, ◌%◌, ◌==◌, ◌++◌, nat_le, if◌then◌else◌, List}
 use Rattle.std.specs.Prelude.{length, take, drop, slice_index, Option, Some, None, codes}
@@ -24,8 +24,8 @@ two_at i text = 16 * digit_at i text + digit_at (i + 1) text
 abbrev pub four_at : ℕ → List ℕ → ℕ
 four_at i text = 256 * two_at i text + two_at (i + 2) text
 
--- the only path that a text of this length and front may have: the second letter parts PC/8086/1237
--- from PS/8086/1237
+-- the only path that a text of this length and these letters may have: the second letter parts
+-- PC/8086/1237 from PS/8086/1237
 abbrev pub candidate : List ℕ → Option Path
 candidate text =
     if length text == 7 then Some (Vendor (four_at 3 text))

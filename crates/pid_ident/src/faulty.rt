@@ -30,7 +30,7 @@ use std::alloc::Global;
 pub struct FaultyInput<'a> {
     /// The bytes to come.
     pub rest: &'a [u8],
-    /// The most bytes that a call gives, at least one.
+    /// The most bytes that a call returns, at least one.
     pub most: usize,
     /// How many calls are still good; `None` where none fails.
     pub good_calls: Option<u64>,
@@ -42,7 +42,7 @@ pub struct FaultyInput<'a> {
 }
 
 impl<'a> FaultyInput<'a> {
-    /// A reader of the bytes that gives at most `most` of them a call, and at least one.
+    /// A reader of the bytes that returns at most `most` of them a call, and at least one.
     pub fn new(bytes: &'a [u8], most: usize) -> FaultyInput<'a>
         ensures rest { result.rest.now ≡ bytes.now }
         ensures most { result.most ≡ max most 1 }
@@ -154,7 +154,7 @@ pub struct FaultyOutput {
     pub most: usize,
     /// How many calls are still good; `None` where none fails.
     pub good_calls: Option<u64>,
-    /// What the first bad call gives.
+    /// What the first bad call fails with.
     pub last_fault: WriteFault,
     /// The fault that is kept.
     pub fault: Option<WriteFault>,
@@ -179,7 +179,7 @@ impl FaultyOutput {
         }
     }
 
-    /// The writer, giving the fault after so many writes.
+    /// The writer, failing with the fault after so many writes.
     pub fn failing_after(mut self, writes: u64, fault: WriteFault) -> FaultyOutput
         ensures taken { result.taken.items ≡ self.taken.items }
         ensures most { result.most ≡ self.most }

@@ -57,7 +57,7 @@ fn write(
     }
 }
 
-/// Each path of a file gets its name; where a path stands twice, the name that stands first.
+/// Each path of a file gets its name; if a path comes twice, the name that comes first.
 pub fn import(items: &mut BTreeMap<Path, Name>, pairs: &[(Path, Name)]) -> Result<(), AllocError>
     ensures { OnOk result (texts items.new
         ≡ imported (map item_texts pairs.now) (texts items.old)) }

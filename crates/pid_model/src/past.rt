@@ -174,7 +174,7 @@ pub fn numbered(past: &[Accepted], number: u32) -> Option<Submission<'_>>
     found
 }
 
-// How a submission stands after a command.
+// The state of a submission after a command.
 fn decided(entry: &Accepted, submission: u32, before: State) -> Result<State, AllocError>
     ensures { let e = accepted_entry entry.now in
         IfOk result (λ state. state ≡ decided_by submission e.asked.account e.asked.deed before) }
@@ -195,7 +195,7 @@ fn decided(entry: &Accepted, submission: u32, before: State) -> Result<State, Al
     }
 }
 
-/// How a submission stands.
+/// The state of a submission.
 pub fn standing(past: &[Accepted], submission: u32) -> Result<State, AllocError>
     ensures { IfOk result (λ state. state ≡ state_of submission (accepted_history past.now)) }
 {

@@ -47,7 +47,7 @@ pub fn fields_of(alloc: Global, row: &str) -> Result<Vec<(String, String)>, Fail
     Ok(fields)
 }
 
-// The command of a verb for a caller; the key stands before a slash, as in `k1/alice`.
+// The command of a verb for a caller; the key comes before a slash, as in `k1/alice`.
 pub fn command_by(
     alloc: Global,
     verb: Verb,

@@ -40,7 +40,7 @@ changes_in most since after v = record {
       (changed_behind since after v);
 }
 
--- the text after which a page begins: that of a path, or the empty one, which is in front of every
+-- the text after which a page begins: that of a path, or the empty one, which comes before every
 -- path
 abbrev pub start_text : Option Path → List ℕ
 start_text None = []

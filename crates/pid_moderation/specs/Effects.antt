@@ -82,7 +82,7 @@ change_of f c reply = record {
 abbrev pub no_change : Facts → Change
 no_change f = record { effect = Nothing; receipt = None; revision = f.revision }
 
--- what a file brings
+-- what a file names
 abbrev pub file_pairs : Deed → Items
 file_pairs (Imports reading) = pairs_of reading
 file_pairs deed = []

@@ -9,14 +9,14 @@ use Rattle.pid_moderation.specs.declared.command.Command.{Command}
 use Rattle.pid_moderation.specs.declared.rank.Rank.{Rank}
 use Rattle.pid_moderation.specs.declared.refusal.FileFault.{FileFault}
 
--- what the file of an import reads to: paths with their names, in any order, since none stands
--- there twice; or why it is not imported. Other commands have no file
+-- what the file of an import reads to: paths with their names, in any order, as none comes twice;
+-- or why it is not imported. Other commands have no file
 pub data Reading : Type 0 where
   TooLong : Reading
   Faulty : FileFault → Reading
   Good : List (List ℕ × List ℕ) → Reading
 
--- what is asked; an import stands with its reading
+-- what is asked; an import has its reading
 pub data Deed : Type 0 where
   Ranks : (who : List ℕ) (rank : Rank) → Deed
   Submits : (path : Path) (proposal : Proposal) (note : List ℕ) → Deed

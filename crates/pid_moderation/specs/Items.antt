@@ -22,8 +22,8 @@ abbrev pub written : List ℕ → Proposal → Items → Items
 written path (Name name) items = put text_cmp path name items
 written path Removal items = where_key text_cmp (λ k. not (eq_by_cmp text_cmp path k)) items
 
--- the items after these pairs were put in turn, of which the last is the first here: where a path
--- stands twice, its name is the one that stands first
+-- the items after these pairs were put in turn, of which the last is the first here: if a path
+-- comes twice, its name is the one that comes first
 abbrev pub imported : Items → Items → Items
 imported [] items = items
 imported (pair ∷ pairs) items = put text_cmp pair.0 pair.1 (imported pairs items)

@@ -11,6 +11,6 @@ abbrev pub with_mark : ℕ → History → History
 with_mark mark (Begins before) = Begins mark
 with_mark mark (More e h) = More e (with_mark mark h)
 
--- what the history of a file becomes that is upgraded: all its commands stand before the mark
+-- what the history of a file becomes that is upgraded: all its commands are before the mark
 abbrev pub taken_over : History → History
 taken_over h = with_mark (accepted_count h) h

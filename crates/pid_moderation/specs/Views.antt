@@ -32,7 +32,7 @@ pub record Views : Type 0 where
   pub rank : List ℕ → Option Rank
   -- the submissions; the n-th is number n
   pub submits : List Submitted
-  -- how a submission stands
+  -- whether a submission is pending, and how it was decided
   pub state : ℕ → State
   -- the remarks on a submission, in order
   pub remarks : ℕ → List Remark
@@ -41,10 +41,10 @@ pub record Views : Type 0 where
   pub kept : List ℕ → List ℕ → Option Reply
   -- how many commands were accepted since the mark
   pub revision : ℕ
-  -- the number of the last command that named the item of a path anew
+  -- the number of the last command that added or renamed the item of a path
   pub since : List ℕ → ℕ
 
--- the rank that the last command on an account gave it; `root` is an administrator at first
+-- the rank that the last command on an account set; `root` is an administrator at first
 abbrev pub ranked : List ℕ → Deed → Option Rank → Option Rank
 ranked a (Ranks who rank) before = if bytes_eq a who then Some rank else before
 ranked a deed before = before
@@ -130,7 +130,7 @@ is_named_anew before None = false
 is_named_anew before (Some name) = not (has_name name before)
 
 -- the number of the last command that added the item or changed its name, counted from the mark; 0
--- where that stands before the mark, or where there is none
+-- if that is before the mark, or if there is none
 abbrev pub since_of : List ℕ → History → ℕ
 since_of path (Begins mark) = 0
 since_of path (More e h) = if is_named_anew (name_at path (items_of h))

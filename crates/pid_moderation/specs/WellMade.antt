@@ -25,7 +25,7 @@ pub record HoldsParents (items : Items) : Type 0 where
   pub parents : (path : List ℕ) → is_some (name_at path items) ≡ true
       → holds_parent (parent_text path) items ≡ true
 
--- no path stands twice
+-- no path comes twice
 abbrev pub AreApart : Items → Type 0
 AreApart [] = Unit {0}
 AreApart (e ∷ pairs) = (name_at e.0 pairs ≡ None) × AreApart pairs

@@ -58,7 +58,7 @@ impl File {
 /// What a command asks for.
 #[derive(Debug, Drop)]
 pub enum Act {
-    /// Gives an account its rank, and makes it where it is new.
+    /// Sets the rank of an account, and adds the account if it is new.
     Account {
         who: Account,
         rank: Rank,

@@ -48,7 +48,7 @@ pub fn keys_stand_once()
     ensures { KeysStandOnce }
 {}
 
-/// The tree of a history gives each path the name of its last write; its entries are the items.
+/// The tree of a history has at each path the name of its last write; its entries are the items.
 pub fn trees_are_last_writes()
     ensures names { (h : History) (path : List ℕ)
         → get (tree_of h) path ≡ last_written path (writes_of h) }
@@ -121,7 +121,7 @@ pub fn sinces_are_last_changes()
     // Up to the mark nothing counts as changed.
     ensures at_mark { (h : History) (path : List ℕ) → accepted_count h ≤ mark_of h
         → since_of path h ≡ 0 }
-    // A command that leaves the name leaves the since: also an import that brings the same name.
+    // A command that leaves the name leaves the since: also an import that has the same name.
     ensures kept { (h : History) (c : Asked) (path : List ℕ)
         → name_at path (items_of (after h c)) ≡ name_at path (items_of h)
         → since_of path (after h c) ≡ since_of path h }

@@ -123,7 +123,7 @@ fn write_refused<W: Output>(out: &mut W, refusal: Refusal) -> Result<(), WriteFa
 }
 
 /// Writes the line that answers a command, with the line feed at its end; at a fault a prefix of
-/// it. It takes no memory, so that no answer is lost for want of it.
+/// it. It takes no memory, so that no answer is lost when memory runs out.
 pub fn write_reply_line<W: Output>(
     out: &mut W,
     outcome: Result<Reply, Refusal>,

@@ -8,7 +8,7 @@ ghost use Rattle.pid_moderation.specs.Wants.{wanted_by};
 use crate::command::{Act, Command};
 use pid_ident::Account;
 
-/// The rows that a command is judged by, beside its account's rank and kept reply.
+/// The rows by which a command is judged, apart from its account's rank and kept reply.
 #[derive(Clone, Copy)]
 pub enum Rows<'a> {
     /// The rank of this account.

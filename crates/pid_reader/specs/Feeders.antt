@@ -17,6 +17,6 @@ pub record Feeds (f : Feeder) (text : List ℕ) : Type 0 where
   pub empty_tree : tree_so_far start ≡ empty
   pub took : Took SetsItem start (numbered_of (whole_lines text)) f.sink
 
--- the feeder gives this refusal ever after
+-- the feeder answers this refusal from then on
 abbrev pub GaveUp : Feeder → ReadRefusal → Type 0
 GaveUp f r = IsStopped f.cutter r

@@ -26,12 +26,12 @@ told_from earlier [] = []
 told_from earlier (line ∷ lines) = told_at earlier line (line_fault_of earlier line)
     (told_from (line ∷ earlier) lines)
 
--- the reader of lines stands after these lines
+-- the reader of lines is after these lines
 pub record StandsAfter (l : Lines) (earlier : List (List ℕ)) : Type 0 where
   pub levels : IsOpenAt l.levels earlier
   pub number : l.number ≡ length earlier
 
--- this is what the reader of lines will give
+-- this is what the reader of lines will return
 pub record HasLeft (l : Lines) (items : List (Result Numbered LineFault)) : Type 0 where
   pub earlier : List (List ℕ)
   pub stands : StandsAfter l earlier

@@ -29,9 +29,8 @@ impl Feeder {
         }
     }
 
-    /// Takes the next piece of the text. The error is the first refusal among the lines whose LF
-    /// has come, or `Memory`;
-    /// `feed` and `finish` give it ever after.
+    /// Takes the next chunk of the text. The error is the first refusal among the lines whose LF
+    /// has come, or `Memory`; `feed` and `finish` answer it from then on.
     pub fn feed(&mut self, piece: &[u8]) -> Result<(), ReadRefusal>
         ensures feeds { (text : List ℕ) → Feeds self.old text
             → OnOk result (Feeds self.new (text ++ piece.now)

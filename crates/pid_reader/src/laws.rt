@@ -47,7 +47,7 @@ pub fn texts_read_to_trees()
     ensures { (text : List ℕ) (t : TreeMap) → Reads text t → IsTree t }
 {}
 
-/// A text is its whole lines, each with its LF, and what stands open after them. In neither is
+/// A text is its whole lines, each with its LF, and the open part after them. In neither is
 /// another LF.
 pub fn whole_lines_make_the_text()
     ensures text { (text : List ℕ) → flat_map (λ line. line ++ 10 ∷ []) (ended_pieces text)

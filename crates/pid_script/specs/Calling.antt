@@ -1,4 +1,4 @@
--- The calls that a script makes of a registry, as lives tell them: choices of this project.
+-- The calls that a script makes of a registry, as sessions have them: choices of this project.
 use Rattle.std.specs.Prelude.{◌≡◌, ◌⊎◌, List}
 use Rattle.pid_moderation.specs.History.{Asked}
 use Rattle.pid_service_laws.specs.CallLaws.{StaysClean}
@@ -6,9 +6,9 @@ use Rattle.pid_service_laws.specs.Calls.{Call, sent_in}
 use Rattle.pid_service_laws.specs.Lives.{commands_in}
 use Rattle.pid_service_laws.specs.Registries.{Showing, CallsLead}
 
--- `seen` is how lives see a registry
+-- `seen` is how sessions see a registry
 module _ {R : Type 0} (seen : Showing R) where
-  -- calls in turn lead from the one registry to the other, so that these are part of one life
+  -- calls in turn lead from the one registry to the other, so that these are part of one session
   pub record CallsGo (old new : R) : Type 0 where
     pub clean : StaysClean seen old new
     pub calls : List Call

@@ -13,8 +13,8 @@ pub record TakesWholeFront (old new : Option (List ℕ)) (text : List ℕ) : Typ
   pub whole : IsWholeFront text front
   pub told : Appends old new front
 
--- The whole text; a prefix of it, and not all, where the writer failed; or whole lines of it, where
--- memory was short or the store failed.
+-- The whole text; a prefix of it, and not all, if the writer failed; or whole lines of it, if
+-- memory ran out or the store failed.
 abbrev pub ExportsText : {X : Type 0} → Result X ExportFault → Option (List ℕ) → Option (List ℕ)
     → List ℕ → Type 0
 ExportsText (Ok x) old new text = Appends old new text

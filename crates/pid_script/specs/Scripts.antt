@@ -113,9 +113,9 @@ module _ {R : Type 0} (registry : Ghosts R) where
     pub calls : CallsSend registry.showing p.old (commands_of_lines lines) p.new
 
   -- The lines before one got their replies. In place of its reply, or after what was begun of it,
-  -- the line of a refusal stands last; and the registry shows the history before the line, or has
-  -- failed at its command, which may stand. The commands that calls sent are those of the lines
-  -- before.
+  -- the line of a refusal comes last; and the registry shows the history before the line, or has
+  -- failed at its command, which may have been written. The commands that calls sent are those of
+  -- the lines before.
   pub record StopsAtLine (h : History) (p : Passage R) (lines : List (List ℕ)) : Type 0 where
     pub before : List (List ℕ)
     pub line : List ℕ
@@ -130,7 +130,7 @@ module _ {R : Type 0} (registry : Ghosts R) where
         (command_of (ask_of line))
     pub calls : CallsSend registry.showing p.old (commands_of_lines before) p.new
 
-  -- the lines before one got their replies, and that one is too long, and was told so
+  -- the lines before one got their replies, and that one is too long, and was refused as such
   pub record EndsTooLong (h : History) (p : Passage R) (lines : List (List ℕ)) : Type 0 where
     pub before : List (List ℕ)
     pub line : List ℕ

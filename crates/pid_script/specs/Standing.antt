@@ -9,7 +9,7 @@ module _ {R : Type 0} (registry : Ghosts R) where
   abbrev pub ShowsOrHasFailed : R → History → Type 0
   ShowsOrHasFailed r h = registry.showing.shows r h ⊎ registry.has_failed r
 
-  -- while the disk returns what was written, this holds of the history that the registry stood on
+  -- while the disk returns what was written, this holds of the history that the registry showed
   abbrev pub OverStanding : R → R → (History → Type 0) → Type 0
   OverStanding old new Holds = registry.showing.is_clean new
       → (h : History) → ShowsOrHasFailed old h → Holds h
@@ -38,7 +38,7 @@ module _ {R : Type 0} (registry : Ghosts R) where
 
   -- What a stop leaves: if the registry showed the one history, it now shows the other, which is
   -- the one before the line of the stop, or it has failed at the command of that line, which may
-  -- stand. If it had failed earlier, it is as before.
+  -- have been written. If it had failed earlier, it is as before.
   pub record StopsBehind (old : R) (h : History) (new : R) (before : History)
       (commands : List Asked) : Type 0 where
     pub shows : registry.showing.shows old h

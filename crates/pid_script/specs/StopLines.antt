@@ -25,7 +25,7 @@ is_stop refusal = false
 abbrev pub IsStopLine : List ℕ → Type 0
 IsStopLine text = (refusal : Refusal) × (is_stop refusal ≡ true) × (text ≡ refused_line refusal)
 
--- what stands before the line: of an export whole lines of its text, else nothing
+-- what comes before the line: of an export whole lines of its text, else nothing
 abbrev pub IsBegun : Ask → History → List ℕ → Type 0
 IsBegun AsksExport h = λ begun. IsWholeFront (print (tree_of h)) begun
 IsBegun AsksNothing h = λ begun. begun ≡ []
@@ -54,7 +54,7 @@ module _ {R : Type 0} (registry : Ghosts R) where
     pub failed : registry.has_failed r → (refusal ≡ Failed) ⊎ (refusal ≡ Memory)
     pub unasked : is_call ask ≡ false → refusal ≡ Memory
 
-  -- What may stand in place of the reply to what a line asks: the registry showed the first history
+  -- What may come in place of the reply to what a line asks: the registry showed the first history
   -- at the start, and the second before the line.
   abbrev pub IsStopInPlace : R → (first at : History) → Ask → List ℕ → Type 0
   IsStopInPlace r first at ask = IsStopText (StoppedBy r first ask) (IsBegun ask at)

@@ -22,12 +22,12 @@ use pid_service::ExportFault;
 
 /// A registry under moderation, as scripts ask it.
 ///
-/// What it answers and shows holds where its store gave back what was written to it, as the call
+/// What it answers and shows holds if its store returned what was written to it, as the call
 /// ends. A registry that has failed answers `Failed` to all and stays as it is.
 pub trait Moderated {
     ghost use Rattle.pid_service_laws.specs.Registries.{Showing};
 
-    /// Whether its store gave back what was written to it, which history it shows, and between
+    /// Whether its store returned what was written to it, which history it shows, and between
     /// which two it has failed.
     ghost showing: { Showing Self };
 
@@ -37,9 +37,9 @@ pub trait Moderated {
     /// Obeys a command, or says why not.
     fn obey(&mut self, command: Command) -> Result<Reply, Refusal>
         ensures honest { showing.is_clean self.new → showing.is_clean self.old }
-        // To lives it is the call that obeys the command, with this answer. `live` says whether the
-        // registry is live after it: with true it shows one history, and only with false may it
-        // have failed between two.
+        // In a session it is the call that obeys the command, with this answer. `live` says whether
+        // the registry is live after it: with true it shows one history, and only with false may
+        // it have failed between two.
         ensures calls { (live : Bool) × Does showing self.old
             (obeyed (asks command) result live) self.new }
         ensures obeys { showing.is_clean self.new → (h : History) → showing.shows self.old h

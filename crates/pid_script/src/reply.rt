@@ -164,8 +164,8 @@ fn say_answer<O: Output>(
     send_line(output, answer)
 }
 
-/// Says the line of an answer, with all that is held. What was answered is told, however short
-/// memory is.
+/// Writes the line of an answer, with all that is held. What was answered is written, even if
+/// memory runs out.
 pub fn send_answer<O: Output>(
     output: &mut O,
     held: &mut Vec<u8>,

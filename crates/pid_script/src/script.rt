@@ -281,7 +281,7 @@ pub fn run_script<R: Moderated, I: Input, O: Output>(
     turns: u64,
 ) -> ScriptEnd
     // Whatever was read and written, calls lead from the one registry to the other, so that the
-    // script is part of a life.
+    // script is part of a session.
     ensures calls { CallsGo R.showing registry.old registry.new }
     // The replies are those of the lines of the text, and the registry shows the history after
     // them.

@@ -1,4 +1,4 @@
--- What a database that is brought to schema 2 had, and what becomes of it.
+-- What a database that is moved to schema 2 had, and what becomes of it.
 use Rattle.std.specs.Prelude.{◌≡◌, ◌⊎◌, ℕ, false, List, Option, Some, codes}
 use Rattle.std.specs.Prelude.{Result, IfErr, IfOk, OnOk, MatchResult, IsTrue}
 use Rattle.sqlite.specs.Effect.{Database}
@@ -52,7 +52,7 @@ pub data Refuses (old : State) (fault : TableFault) (new : State) : Type 0 where
   -- none fails, and tables of schema 1 could not be moved, which says nothing of a later one
   Stays : FindsVersion old.now (Some One) → IsNotNewerSchema fault → Refuses old fault new
 
--- What was brought has the labels of schema 2: tables that were left alone, whatever they are, show
+-- What was moved has the labels of schema 2: tables that were left alone, whatever they are, show
 -- them; and those that were made where there was nothing, or moved where views were shown in schema
 -- 1, have that label in storage.
 abbrev pub HandsLatest : State → Step → State → Type 0
@@ -93,9 +93,9 @@ pub record MigratesJudged (old new : State) (result : Result Step TableFault) : 
       → MatchResult result (λ step. Brings old step new) (λ fault. Refuses old fault new)
   -- `Already` is answered only where the labels show schema 2,
   pub named : HasCleanDisk new → IfOk result (λ step. step ≡ Already → NamesLatest old.now)
-  -- and then nothing is done, also beside the tables.
+  -- and then nothing is done to other tables either
   pub only_read : IfOk result (λ step. step ≡ Already → OnlyReads old new)
-  -- Labels of schema 2 are handed on, as far as it is known what stood there.
+  -- Labels of schema 2 are handed on, as far as it is known what was there.
   pub latest : HasCleanDisk new
       → IfOk result (λ step. IsTrue new.is_open → HandsLatest old step new)
 

@@ -1,5 +1,5 @@
--- What clauses say of a connection while tables are made or moved: the words of Creation, AtOnce,
--- Bringing, Making and ShowsOrBlank, said of what the connections show; `store` is `S.Store`.
+-- What clauses say of a connection while tables are made or moved: the definitions of Creation,
+-- AtOnce, Bringing, Making and ShowsOrBlank, of what the connections show; `store` is `S.Store`.
 use Rattle.std.specs.Prelude.{ℕ, List, Option, Result}
 use Rattle.sqlite.specs.Held.{Held, state}
 use Rattle.sqlite.specs.State as states

@@ -18,7 +18,7 @@ use Rattle.pid_moderation.specs.Judgement.{judge, answer, after}
 use Rattle.pid_moderation.specs.Views.{views_of}
 
 -- Why the text of a file is refused. Its last line is never used: `refused` of pid_reader, whose
--- refusals are these, never gives `Memory`.
+-- refusals are these, never answers `Memory`.
 abbrev pub fault_as : ReadRefusal → FileFault
 fault_as (reads.Line line kind) = faults.Line line kind
 fault_as reads.TooManyEntries = faults.TooMany

@@ -1,5 +1,5 @@
--- What clauses say of the connection of an import: the words of Putting and Importing, said of what
--- the connection shows; `store` is `S.Store`.
+-- What clauses say of the connection of an import: the definitions of Putting and Importing, of
+-- what the connection shows; `store` is `S.Store`.
 use Rattle.std.specs.Prelude.{◌≡◌, ℕ, false, Result}
 use Rattle.sqlite.specs.Held.{Held, state}
 use Rattle.sqlite_trees.specs.declared.store.Store.{Ghosts}

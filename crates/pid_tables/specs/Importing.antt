@@ -1,4 +1,4 @@
--- An import whose file is brought in, step by step.
+-- An import of a file, step by step.
 use Rattle.std.specs.Prelude.{◌≡◌, ◌≢◌, ◌⊎◌, ◌+◌, ◌≤◌, ℕ, List, length, Option, IsSome}
 use Rattle.std.specs.Prelude.{Result, Ok, Err}
 use Rattle.sqlite.specs.State.{State}

@@ -252,9 +252,9 @@ pub fn begin<S: Alter>(conn: &mut Connection<S>) -> Batch<'_, S>
     conn.transaction()
 }
 
-/// Gives a path a name within the transaction, and answers what it was to it. Where the name is not
-/// the one that is there, the path gets the number of the change, `revision`. The count of items
-/// and the revision follow with the change.
+/// Sets the name at a path within the transaction, and answers what it was to it. If the name is
+/// not the one that is there, the path gets the number of the change, `revision`. The count of
+/// items and the revision follow with the change.
 pub fn put<S: Alter>(
     batch: &mut Batch<'_, S>,
     alloc: Global,
@@ -297,7 +297,7 @@ pub fn apply<S: Alter>(
     write_change(batch, alloc, change)
 }
 
-/// Lets what the transaction wrote stand, all of it or nothing.
+/// Commits what the transaction wrote, all of it or nothing.
 pub fn commit<S: Alter>(batch: Batch<'_, S>) -> Result<(), TableFault>
     ensures ended { batch.exit.0.now.in_transaction ≡ false }
     ensures survives { Survives S.Store batch.entry.conn.now batch.exit.0.now

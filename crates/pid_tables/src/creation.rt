@@ -192,10 +192,9 @@ fn fill<S: Alter>(tx: &mut Transaction<'_, S>) -> Result<(), TableFault>
 ///
 /// In a database with no table at all, whatever it answers, a crash leaves that, or the new
 /// registry whole; after a fault the connection has no table, and a further call may make them.
-/// Where a name is taken that one of the tables wants, it answers
-/// `Damaged`, or else `Memory` or `Store`, and changes nothing. Beside tables of other names the
-///   new ones are made, all in one
-/// step, or after a fault none of them; what they then are together, no clause says.
+/// If a name is taken that one of the tables wants, it answers `Damaged`, or else `Memory` or
+/// `Store`, and changes nothing. If there are tables of other names, the new ones are made all in
+/// one step, or after a fault none of them; what they then are together, no clause says.
 pub fn create<S: Alter>(conn: &mut Connection<S>) -> Result<(), TableFault>
     requires { conn.old.in_transaction ≡ false }
     // Whatever the database, it is one step.

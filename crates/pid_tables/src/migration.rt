@@ -1,4 +1,4 @@
-//! Brings the tables of a database to schema 2.
+//! Moves the tables of a database to schema 2.
 ghost use Rattle.std.specs.Prelude.{
   ◌≡◌,
   None,
@@ -49,7 +49,7 @@ use pid_tables_rows::{TableFault, Version};
 use sqlite::{Alter, Connection};
 use std::alloc::Global;
 
-/// What was in a database that was brought to schema 2.
+/// What was in a database that was moved to schema 2.
 #[derive(Clone, Copy, Debug, PartialEq, Eq)]
 pub enum Step {
     /// No table: those of a new registry were made.
@@ -142,7 +142,7 @@ fn move_up<S: Alter>(conn: &mut Connection<S>) -> Result<(), TableFault>
     commit(batch)
 }
 
-// Brings what stands to schema 2.
+// Moves what is there to schema 2.
 fn bring<S: Alter>(conn: &mut Connection<S>, found: Option<Version>) -> Result<Step, TableFault>
     requires { conn.old.in_transaction ≡ false }
     ensures at_once { WritesAtOnce S.Store conn.old conn.new result }
@@ -173,8 +173,8 @@ fn bring<S: Alter>(conn: &mut Connection<S>, found: Option<Version>) -> Result<S
     }
 }
 
-/// Brings the database to schema 2: makes the tables of a new registry where there is none, moves
-/// those of schema 1, and leaves those of schema 2 as they are.
+/// Moves the database to schema 2: makes the tables of a new registry if there is none, moves those
+/// of schema 1, and leaves those of schema 2 as they are.
 ///
 /// Tables of schema 1 are judged before, as `check` does it, and moved in one transaction. Whatever
 /// a crash leaves of that shows the same history, in schema 1 or in schema 2. Tables whose labels

@@ -32,7 +32,7 @@ use sqlite::{Alter, Connection};
 use std::alloc::Global;
 use thiserror::Error;
 
-/// Why a file was not brought in.
+/// Why a file was not imported.
 ///
 /// - `Body`: the input failed. The tables are as before.
 /// - `Refused`: the import is refused for this reason. The tables are as before.
@@ -155,12 +155,11 @@ fn apply_file<S: Alter>(
     }
 }
 
-/// Brings the file of an import in, in one transaction with the rest of the import.
+/// Imports the file of an import, in one transaction with the rest of the import.
 ///
-/// `facts` and `items` are those of `judge_import`, where the import hangs on its file. The input
-///   is read to its end, or
-/// until its text is too long: then one byte more than a file may have was read. The file that the
-/// command has is not looked at.
+/// `facts` and `items` are those of `judge_import`, if the import depends on its file. The input is
+/// read to its end, or until its text is too long: then one byte more than a file may have was
+/// read. The file that the command has is not looked at.
 pub fn bring_in<S: Alter, I: Input>(
     conn: &mut Connection<S>,
     alloc: Global,

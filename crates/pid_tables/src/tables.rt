@@ -77,7 +77,7 @@ impl<S: Alter + Drop> Tables<S> {
         Tables { conn }
     }
 
-    /// Gives the connection back as it is.
+    /// Hands the connection back as it is.
     pub fn into_conn(self) -> Connection<S>
         ensures { result ≡ self.conn }
     {
@@ -232,11 +232,11 @@ impl<S: Alter + Drop> Tables<S> {
         check(&mut self.conn, alloc)
     }
 
-    /// The number of the schema, as the labels have it, and 0 where none of its tables is there,
+    /// The number of the schema, as the labels have it, and 0 if none of its tables is there,
     /// whatever others are.
     ///
-    /// What the labels have is what the query of the label answers first, whatever is beside its
-    /// tables; where that is no number of 32 bits, the tables are `Damaged`.
+    /// What the labels have is what the query of the label answers first, whatever other tables
+    /// there are; if that is no number of 32 bits, the tables are `Damaged`.
     pub fn version(&mut self) -> Result<u32, TableFault>
         requires { self.old.conn.in_transaction ≡ false }
         ensures rests { OnlyReads S.Store self.old.conn self.new.conn }

@@ -42,7 +42,7 @@ pub record Rows : Type 0 where
 abbrev pub columns : List ℕ → Row → Row
 columns places r = map (column r) places
 
--- as storage keeps them: the rowid stands before the columns, and is itself the number of a
+-- as storage keeps them: the rowid comes before the columns, and is itself the number of a
 -- submission
 abbrev pub rows_in : Trees → Rows
 rows_in db = record {
@@ -61,7 +61,7 @@ HasValue rows at value = (r : Row) × Has rows r × (column r at ≡ value)
 
 -- ---- meta
 
--- what a schema has in labels beside the three: schema 2 has the revision
+-- the labels that a schema has in addition to the three: schema 2 has the revision
 abbrev pub labels_beside : Version → ℕ → List (List ℕ × ℕ)
 labels_beside One revision = []
 labels_beside Two revision = (codes "revision", revision) ∷ []
@@ -230,7 +230,7 @@ pub record AreCounted (version : Version) (t : Rows) : Type 0 where
 
 -- The rows are those of a registry in this schema. What the tables themselves keep of their rows is
 -- not said again: that a remark is on a submission and a receipt of an account, that a row of
--- item_since is of an item, and that no key stands twice.
+-- item_since is of an item, and that no key comes twice.
 pub record AreOfRegistry (version : Version) (t : Rows) : Type 0 where
   pub counts : AreCounted version t
   pub accounts : AreAccounts t.accounts

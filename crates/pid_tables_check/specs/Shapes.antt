@@ -42,7 +42,7 @@ HasNoTable schema = ¬ (HasSomeTable schema)
 abbrev pub HasSinceTable : Schema → Type 0
 HasSinceTable schema = CanBeAsked schema any_since
 
--- the tables of a schema are there: beside the six, schema 1 has no table item_since, and schema 2
+-- the tables of a schema are there: with the six, schema 1 has no table item_since, and schema 2
 -- has it with its columns
 abbrev pub HasTables : Version → Schema → Type 0
 HasTables One schema = HasEachTable schema × ¬ (HasSinceTable schema)

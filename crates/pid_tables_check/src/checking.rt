@@ -88,17 +88,16 @@ fn check_whole<S: Alter>(
     check_tables(&mut tx, alloc, version)
 }
 
-/// The schema of the tables, where they are those of some registry; `None` where there is no table.
+/// The schema of the tables, if they are those of some registry; `None` if there is no table.
 ///
-/// Which tables are there, it finds out by preparing a query of each table's columns by their
-/// names. Where none can be prepared it answers `None`: there is nothing to be damaged. Where some
-/// can, and not each of a schema, it answers `Damaged`, and so it does where a table `item_since`
-/// of any columns is beside the six of schema 1. It answers a schema only where all conditions
-/// of that schema hold of the rows that the queries answer, and `Damaged` only where one of them
-/// fails. A later schema is judged before either, whatever the tables: `NewerSchema` only where the
-/// labels have that greater number, and a schema or `Damaged` only where they have none. It answers
-/// `Memory` and `Store` otherwise, and changes nothing. Other tables, indexes and views are
-/// allowed.
+/// It finds out which tables are there by preparing a query of each table's columns by their names.
+/// If none can be prepared, it answers `None`: there is nothing to be damaged. If some can, and not
+/// each of a schema, it answers `Damaged`, and so it does if a table `item_since` of any columns is
+/// there with the six of schema 1. It answers a schema only if all conditions of that schema hold
+/// of the rows that the queries answer, and `Damaged` only if one of them fails. A later schema is
+/// judged before either, whatever the tables: `NewerSchema` only if the labels have that greater
+/// number, and a schema or `Damaged` only if they have none. It answers `Memory` and `Store`
+/// otherwise, and changes nothing. Other tables, indexes and views are allowed.
 pub fn check<S: Alter>(
     conn: &mut Connection<S>,
     alloc: Global,

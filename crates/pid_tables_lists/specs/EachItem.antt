@@ -28,7 +28,7 @@ module _ {S F : Type 0} (takes : S → Numbered → S → Type 0)
     pub parts : items ≡ front ++ rest
     pub took : Took takes old (reverse front) new
 
-  -- it took the items before one, in their order, and gave the fault at that one
+  -- it took the items before one, in their order, and had the fault at that one
   pub record FaultedAtOne (old : S) (items : List Numbered) (fault : F) (new : S) : Type 0 where
     pub front : List Numbered
     pub item : Numbered

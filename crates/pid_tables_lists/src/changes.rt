@@ -46,8 +46,7 @@ use sqlite::types::{ToSql, ValueRef};
 use sqlite::{Alter, Connection, Row};
 use std::alloc::{AllocError, Global};
 
-// A number as a query asks for it: the greatest that SQLite holds stands for those that it does not
-// hold.
+// A number as a query asks for it: for one that SQLite does not hold, the greatest that it holds.
 fn held<'a>(whole: u64) -> ValueRef<'a>
     ensures { owned result ≡ number (held_number whole) }
 {

@@ -13,7 +13,7 @@ ghost use Rattle.pid_tables_lists.specs.Laws.{HoldMostListed, PendingMostListed,
 /// that page left out.
 pub fn pending_go_on()
     ensures next { PendingGoOn }
-    // Pages one after the other are the whole list from its front: each submission once, in the
+    // Pages one after the other are the whole list from its start: each submission once, in the
     // order of the numbers.
     ensures joined { PendingPagesJoin }
     ensures whole { PendingPagesAreAll }
@@ -23,7 +23,7 @@ pub fn pending_go_on()
 /// out, while the items are in the order of their paths, as those of every history are.
 pub fn changes_go_on()
     ensures next { ChangesGoOn }
-    // Pages one after the other are the whole list from its front: each item once, in the canonical
+    // Pages one after the other are the whole list from its start: each item once, in the canonical
     // order of the paths.
     ensures joined { ChangePagesJoin }
     ensures whole { ChangePagesAreAll }

@@ -32,7 +32,7 @@ pub record Numbers : Type 0 where
   pub revision : ℕ
   pub since : Map (List ℕ) ℕ
 
--- what the schemas have in labels beside the three
+-- the labels that the schemas have in addition to the three
 abbrev pub more_labels : Version → ℕ → Map (List ℕ) ℕ
 more_labels One revision label = None
 more_labels Two revision label = if bytes_eq label (codes "revision") then Some revision else None

@@ -14,7 +14,7 @@ use Rattle.pid_moderation.specs.Changes.{with_items}
 abbrev pub with_rank : List ℕ → Rank → Views → Views
 with_rank name rank v = record v { rank = λ a. if bytes_eq a name then Some rank else v.rank a }
 
--- a path has this name, and the number where that names it anew
+-- a path has this name, and the number if that adds or renames it
 abbrev pub with_name : ℕ → List ℕ → List ℕ → Views → Views
 with_name n path name v = with_items n (put text_cmp path name v.items) v
 

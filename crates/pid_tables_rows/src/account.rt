@@ -34,7 +34,7 @@ pub fn add_account<S: Alter>(
     )
 }
 
-/// Gives an account that is there another rank. Where there is no such account it writes nothing
+/// Sets another rank of an account that is there. If there is no such account, it writes nothing
 /// and answers `Ok`.
 pub fn change_rank<S: Alter>(
     tx: &mut Transaction<'_, S>,

@@ -152,8 +152,8 @@ fn update_since<S: Alter>(
     )
 }
 
-/// Gives the item at a path another name, which is not tested, and the number of its change. Where
-/// the path has no item it writes nothing and answers `Ok`. A number that 63 bits do not hold is
+/// Sets another name of the item at a path, which is not tested, and the number of its change. If
+/// the path has no item, it writes nothing and answers `Ok`. A number that 63 bits do not hold is
 /// refused with `Store`.
 pub fn rename_item<S: Alter>(
     tx: &mut Transaction<'_, S>,

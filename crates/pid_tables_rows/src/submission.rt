@@ -143,7 +143,7 @@ fn reason(state: &State) -> &str
     }
 }
 
-/// Gives a submission a state that names who decided.
+/// Sets a state of a submission that names who decided.
 fn set_state<S: Alter>(
     tx: &mut Transaction<'_, S>,
     number: u32,
@@ -182,8 +182,8 @@ fn withdraw<S: Alter>(tx: &mut Transaction<'_, S>, number: u32) -> Result<(), Ta
     )
 }
 
-/// Gives the submission with a number a state, whatever its state is. Where there is no such
-/// submission it writes nothing and answers `Ok`.
+/// Sets the state of the submission with a number, whatever its state is. If there is no such
+/// submission, it writes nothing and answers `Ok`.
 pub fn decide<S: Alter>(
     tx: &mut Transaction<'_, S>,
     number: u32,
@@ -239,7 +239,7 @@ fn submission_rows<S: Alter>(conn: &mut Connection<S>, number: u32) -> Result<Ve
     )
 }
 
-/// The submission with a number, as it stands, and none where there is none. A row that is no
+/// The submission with a number, as it stands, or none if there is none. A row that is no
 /// submission's is `Damaged`.
 pub fn standing<S: Alter>(
     conn: &mut Connection<S>,

@@ -11,7 +11,7 @@ use pid_http_stream::{
 use pid_ident::{FaultyInput, FaultyOutput, Input, Output, write_all};
 use std::alloc::Global;
 
-/// Gives each body of `/echo` back, drops the one of `/import`, writes that of `/pci.ids` itself,
+/// Answers `/echo` with its body, drops the one of `/import`, writes that of `/pci.ids` itself,
 /// and knows no other path.
 #[derive(Drop)]
 pub struct Desk {
@@ -150,7 +150,7 @@ pub fn serve(alloc: Global, stream: &[u8], most: usize, turns: u64) -> Outcome {
     serve_with(alloc, FaultyInput::new(stream, most), turns, false)
 }
 
-/// Serves what the reader gives.
+/// Serves what the reader reads.
 pub fn serve_with(
     alloc: Global,
     mut input: FaultyInput<'_>,

@@ -30,7 +30,7 @@ pub(crate) struct Outcome {
     pub(crate) served: Served,
 }
 
-/// Serves what the reader gives.
+/// Serves what the reader reads.
 pub(crate) fn serve<S: Alter + Drop, I: Input>(
     alloc: Global,
     registry: &mut Registry<S>,

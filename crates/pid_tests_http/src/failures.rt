@@ -115,7 +115,7 @@ fn calls_of_opening(alloc: Global) -> u64 {
     low.saturating_add(1)
 }
 
-// The disk stops at a call behind those of the opening, the first that leaves the registry failed.
+// The disk stops at a call after those of the opening, the first that leaves the registry failed.
 #[test]
 fn each_route_tells_of_a_registry_that_has_failed(rt: HostRuntime) -> Result<(), Fail> {
     let alloc = rt.alloc();

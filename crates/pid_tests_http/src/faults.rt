@@ -59,7 +59,7 @@ const KNOWN: &str =
     r#"POST /submit alice path=PC/8086&name=Intel+Corporation | 200 OK json {"num":1,"ok":true}
 "#;
 
-// The writer takes a byte a call, and fails behind each count of them. The replies that went out
+// The writer takes a byte a call, and fails after each count of them. The replies that went out
 // whole are counted, and their commands stay.
 fn each_write_fails(rt: &impl Abort, alloc: Global, fault: WriteFault) -> Result<(), Fail> {
     for good in 0..THEIR_REPLIES.len() {

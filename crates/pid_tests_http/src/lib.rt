@@ -1,5 +1,5 @@
-//! Tests of HTTP, by public functions alone: streams over a small handler, a registry behind a
-//! stream, the bodies of replies, and connections of a listener.
+//! Tests of HTTP, by public functions alone: streams over a small handler and over a registry, the
+//! bodies of replies, and connections of a listener.
 #![tactic(auto)]
 
 pub mod account;

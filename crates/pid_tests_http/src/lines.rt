@@ -1,8 +1,8 @@
-//! Requests and replies, told as lines.
+//! Requests and replies as lines.
 //!
 //! A request is `GET` and a target; or `POST`, a target, the sender and the body, where the sender
-//! is an account, behind a key and a slash where there is one; or `RAW` and the bytes themselves. A
-//! reply is its status, ` close` where the stream ends behind it, the kind of its content and its
+//! is an account, after a key and a slash if there is one; or `RAW` and the bytes themselves. A
+//! reply is its status, ` close` if the stream ends after it, the kind of its content and its
 //! body. In all of them `~` is CRLF and `;` is LF.
 use std::alloc::Global;
 use std::test::Fail;

@@ -22,7 +22,7 @@ fn give_back<I: Input, O: Output>(input: &mut I, output: &mut O, turns: u64)
     }
 }
 
-// Gives back what it reads, up to so many reads of each stream, and is live for so many streams.
+// Writes back what it reads, up to so many reads of each stream, and is live for so many streams.
 #[derive(Drop)]
 struct Echo {
     reads: u64,

@@ -1,4 +1,4 @@
-//! Want of memory within a stream. With memory for all, the replies are those to the stream; `rt
+//! Out of memory within a stream. With memory for all, the replies are those to the stream; `rt
 //! try --test --fail-alloc N` refuses the N-th request for memory.
 use crate::exchange::{TURNS, new_in_memory, serve};
 use crate::streams::{THEIR_REPLIES, THREE};
@@ -16,7 +16,7 @@ const NO_MEMORY: &[u8] = b"HTTP/1.1 503 Service Unavailable\r\nContent-Type: app
 const FAILED: &[u8] = b"HTTP/1.1 503 Service Unavailable\r\nContent-Type: application/json\r\n\
         Content-Length: 41\r\n\r\n{\"ok\":false,\"refused\":18,\"word\":\"Failed\"}";
 
-// What stands behind a reply, or behind a refusal for want of memory in its place.
+// What follows a reply, or a refusal for lack of memory in its place.
 fn behind<'a>(written: &'a [u8], reply: &[u8]) -> Option<&'a [u8]> {
     for front in [reply, NO_MEMORY, FAILED] {
         if let Some(rest) = written.strip_prefix(front) {
@@ -26,7 +26,7 @@ fn behind<'a>(written: &'a [u8], reply: &[u8]) -> Option<&'a [u8]> {
     None
 }
 
-// Asserts that the replies are there, so many as were answered, and behind them nothing, or a front
+// Asserts that the replies are there, so many as were answered, and after them nothing, or a prefix
 // of the text of all items.
 fn expect_replies(rt: &impl Abort, written: &[u8], answered: u64, end: StreamEnd) {
     let mut rest = written;

@@ -56,7 +56,7 @@ fn replies_are_out_before_each_read(rt: HostRuntime) -> Result<(), Fail> {
     Ok(())
 }
 
-// Whether this head, with a request before it and another behind it, is refused as soon as it has
+// Whether this head, with a request before it and another after it, is refused as soon as it has
 // come: it is not read on first.
 fn is_refused_at_once(alloc: Global, head: &[u8]) -> Result<bool, Fail> {
     let mut stream = Vec::from_slice(alloc, FIRST)?;

@@ -30,7 +30,7 @@ fn requests_in_turn_at_any_cut(rt: HostRuntime) -> Result<(), Fail> {
     Ok(())
 }
 
-// A body of more bytes than one read brings.
+// A body of more bytes than one read returns.
 #[test]
 fn a_long_body_is_held(rt: HostRuntime) -> Result<(), Fail> {
     let mut body = Vec::new(rt.alloc());

@@ -190,7 +190,7 @@ fn changes_are_told(rt: HostRuntime) -> Result<(), Fail> {
     expect_rows(&rt, alloc, &mut registry, CHANGES, StreamEnd::Clean)
 }
 
-// All requests in one stream, in one piece and in pieces.
+// All requests in one stream, in one chunk and in many.
 #[test]
 fn requests_follow_one_another(rt: HostRuntime) -> Result<(), Fail> {
     let alloc = rt.alloc();
@@ -223,7 +223,7 @@ fn requests_follow_one_another(rt: HostRuntime) -> Result<(), Fail> {
     Ok(())
 }
 
-// Of a form that is not UTF-8 nothing is read; of such a file the line is told.
+// Of a form that is not UTF-8 nothing is read; of such a file the line is reported.
 #[test]
 fn bodies_of_any_bytes(rt: HostRuntime) -> Result<(), Fail> {
     let alloc = rt.alloc();

@@ -31,7 +31,7 @@ fn tells_statuses(rt: HostRuntime) -> Result<(), Fail> {
     Ok(())
 }
 
-// A line may have 16,777,216 bytes, its CR not counted. Behind the read that brings one more,
+// A line may have 16,777,216 bytes, its CR not counted. After the read that returns one more,
 // nothing is read.
 #[test]
 fn ends_at_a_line_too_long(rt: HostRuntime) -> Result<(), Fail> {

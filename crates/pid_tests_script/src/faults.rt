@@ -66,7 +66,7 @@ fn each_read_fails(rt: HostRuntime) -> Result<(), Fail> {
     Ok(())
 }
 
-// The writer takes a byte a call, and fails behind each count of them.
+// The writer takes a byte a call, and fails after each count of them.
 fn expect_broken(rt: &impl Abort, alloc: Global, rows: &str) -> Result<(), Fail> {
     let (script, replies) = script_and_replies(alloc, rows)?;
     for good in 0..replies.len() {
@@ -101,7 +101,7 @@ fn each_write_of_a_refusal_fails(rt: HostRuntime) -> Result<(), Fail> {
     expect_broken(&rt, rt.alloc(), REFUSALS)
 }
 
-// What was answered stands, whatever the writer did behind it.
+// What was answered stays, whatever the writer did after it.
 #[test]
 fn answered_commands_stand(rt: HostRuntime) -> Result<(), Fail> {
     let alloc = rt.alloc();

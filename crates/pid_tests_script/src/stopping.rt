@@ -8,7 +8,7 @@ use std::alloc::Global;
 use std::process::Abort;
 use std::test::Fail;
 
-/// A registry that does so many commands and then refuses all; an export it breaks off behind whole
+/// A registry that does so many commands and then refuses all; an export it breaks off after whole
 /// lines.
 #[derive(Drop)]
 pub struct Refusing {
@@ -55,7 +55,7 @@ impl Moderated for Refusing {
     }
 }
 
-// What is told up to the refusal, with which the script stops. What stands behind the line that is
+// What is answered up to the refusal, with which the script stops. What follows the line that is
 // refused is not read.
 fn expect_stop(
     rt: &impl Abort,
@@ -91,7 +91,7 @@ fn the_store_fails(rt: HostRuntime) -> Result<(), Fail> {
     expect_stop(&rt, rt.alloc(), registry, script, b"ok\nrefused 17 Store\n")
 }
 
-// Whole lines of the text stand before the refusal.
+// Whole lines of the text come before the refusal.
 #[test]
 fn the_store_fails_within_an_export(rt: HostRuntime) -> Result<(), Fail> {
     for refusal in [Refusal::Memory, Refusal::Store] {

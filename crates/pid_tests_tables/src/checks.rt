@@ -80,8 +80,8 @@ const SECOND_CHANGES: [&str; 4] = [
         UPDATE meta SET value = 3 WHERE label = 'items'",
 ];
 
-// What is beside the tables, before them, between the schemas, and after: a table, an index, a
-// view.
+// What is in the file with the tables, before them, between the schemas, and after: a table, an
+// index, a view.
 const BESIDE: [(&str, &str, &str); 5] = [
     ("", "", "CREATE TABLE other (x INTEGER)"),
     ("", "", "CREATE INDEX by_name ON item (name)"),

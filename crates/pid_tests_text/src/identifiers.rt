@@ -122,7 +122,7 @@ fn paths_and_their_texts(rt: HostRuntime) -> Result<(), Fail> {
     Ok(())
 }
 
-// Each call is interrupted once, and then gives one byte.
+// Each call is interrupted once, and then returns one byte.
 #[derive(Drop)]
 struct Hiccups<'a> {
     rest: &'a [u8],

@@ -5,7 +5,7 @@ use std::alloc::Global;
 use std::process::Abort;
 use std::test::Fail;
 
-// Gives the path of a text a name.
+// Sets the name at the path of a text.
 fn set(
     tree: &mut Tree,
     alloc: Global,

@@ -4,7 +4,7 @@ use Rattle.pid_ident.specs.PathTexts.{path_text}
 use Rattle.pid_moderation.specs.Submissions.{Standing, decider_of, reason_of}
 use Rattle.pid_http_replies.specs.PendingAnswers.{proposed_data}
 
--- the keys of a submission that stand before its remarks
+-- the keys of a submission that come before its remarks
 abbrev pub standing_members : ℕ → Standing → Members
 standing_members n s =
     member (codes "author") (string s.submitted.author)

@@ -1,4 +1,4 @@
--- Steps beside Feeders.
+-- Steps of Feeders.
 use Rattle.std.specs.Prelude.{Option}
 use Rattle.pid_file.specs.declared.refusal.ReadRefusal.{ReadRefusal}
 use Rattle.pid_file.specs.declared.sink.CutEnd.{CutEnd}
@@ -8,7 +8,7 @@ use Rattle.pid_file.specs.declared.tree_sink.TreeFault.TheVariants.{ParentMissin
 use Rattle.pid_reader.specs.declared.feeder.Feeder.{Feeder}
 use Rattle.pid_file.specs.Refusals.{IsRefusal}
 
--- for a private function: why a whole text gives no tree: its refusal, or no memory. That a
+-- for a private function: why a whole text makes no tree: its refusal, or no memory. That a
 -- parent is missing never comes.
 abbrev pub IsTreeEnd : CutEnd TreeFault → Option ReadRefusal → Type 0
 IsTreeEnd (Refused r) refusal = IsRefusal r refusal

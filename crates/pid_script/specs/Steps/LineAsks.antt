@@ -1,4 +1,4 @@
--- What the code's word for a line's ask tells.
+-- What a line asks, by the code's value of it.
 use Rattle.std.specs.Prelude.{ℕ, List, Option}
 use Rattle.std.specs.Option.{option_map}
 use Rattle.std.specs.Borrow.{Bor}
@@ -8,7 +8,7 @@ use Rattle.pid_script.specs.declared.line.LineAsk.{LineAsk}
 use Rattle.pid_script.specs.declared.line.LineAsk.TheVariants.{Nothing, Command, Export, Read}
 use Rattle.pid_script.specs.declared.line.LineAsk.TheVariants.{LookUp, Unclear, TooLong}
 
--- the same by the words of scripts
+-- the same as an ask of scripts
 abbrev pub ask_told : LineAsk → Ask
 ask_told Nothing = asks.AsksNothing
 ask_told (Command verb account form) = asks.AsksCommand verb account.now form.now

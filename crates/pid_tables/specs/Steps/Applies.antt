@@ -1,4 +1,4 @@
--- Steps beside Applies.
+-- Steps of Applies.
 use Rattle.std.specs.Prelude.{Some, None}
 use Rattle.pid_moderation.specs.declared.change.Effect.{Effect}
 use Rattle.pid_moderation.specs.declared.change.Effect.TheVariants.{Nothing, Ranked, Submitted}

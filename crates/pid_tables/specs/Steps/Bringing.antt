@@ -1,4 +1,4 @@
--- What is in a database that is to be brought to schema 2, and which step that takes.
+-- What is in a database that is to be moved to schema 2, and which step that takes.
 use Rattle.std.specs.Prelude.{◌≡◌, Bool, true, false, Option, None, Some}
 use Rattle.std.specs.Prelude.{Result, IfOk, MatchResult}
 use Rattle.sqlite.specs.Effect.{Database}
@@ -18,7 +18,7 @@ use Rattle.pid_tables.specs.Bringing.{NamesLatest}
 use Rattle.pid_tables.specs.declared.migration.Step.{Step}
 use Rattle.pid_tables.specs.declared.migration.Step.TheVariants.{Created, Moved, Already}
 
--- the schema that the tables are brought to
+-- the schema to which the tables are moved
 abbrev pub is_latest : Version → Bool
 is_latest One = false
 is_latest Two = true
@@ -28,7 +28,7 @@ abbrev pub TellsLatest : Database → Result Bool TableFault → Type 0
 TellsLatest db result = (version : Version) (counts : Counts) (numbers : Numbers) (v : Views)
     → ShowsKeeping version counts numbers db v → IfOk result (λ is. is ≡ is_latest version)
 
--- the step that is made where this stands
+-- the step that is made if this is there
 abbrev pub step_for : Option Version → Step
 step_for None = Created
 step_for (Some One) = Moved

@@ -1,4 +1,4 @@
--- Steps beside Clauses: what private clauses say of a transaction.
+-- Steps of Clauses: what private clauses say of a transaction.
 use Rattle.std.specs.Prelude.{Result, IfOk, IsTrue, MatchResult}
 use Rattle.sqlite_trees.specs.declared.store.Store.{Ghosts}
 use Rattle.pid_moderation.specs.declared.change.Change.{Change}

@@ -1,4 +1,4 @@
--- Steps beside ImportClauses.
+-- Steps of ImportClauses.
 use Rattle.std.specs.Prelude.{ℕ, Result}
 use Rattle.sqlite.specs.Held.{Held, state}
 use Rattle.sqlite_trees.specs.declared.store.Store.{Ghosts}

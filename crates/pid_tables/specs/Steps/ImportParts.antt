@@ -1,4 +1,4 @@
--- Steps beside Importing.
+-- Steps of Importing.
 use Rattle.std.specs.Prelude.{◌≡◌, ◌+◌, ◌≤◌, ◌<◌, ℕ, List, length, None, Result, Ok, Err}
 use Rattle.pid_reader.specs.Lines.{lines_of}
 use Rattle.pid_reader.specs.Reading.{entries_of, refused}

@@ -1,4 +1,4 @@
--- Steps beside Importing.
+-- Steps of Importing.
 use Rattle.std.specs.Prelude.{◌≡◌, Result, Ok, Err}
 use Rattle.sqlite.specs.State.{State}
 use Rattle.pid_moderation.specs.declared.command.Reply.{Reply}

@@ -1,4 +1,4 @@
--- Steps beside Making: the first rows of a new registry.
+-- Steps of Making: the first rows of a new registry.
 use Rattle.std.specs.Prelude.{ℕ, List, [], ◌∷◌, Result, IsTrue, MatchResult}
 use Rattle.sqlite.specs.Held.{Held}
 use Rattle.sqlite.specs.Table.{Table}

@@ -1,4 +1,4 @@
--- Steps beside Putting.
+-- Steps of Putting.
 use Rattle.std.specs.Prelude.{ℕ, [], ◌∷◌}
 use Rattle.pid_reader.specs.LookingBack.{Item}
 use Rattle.pid_moderation.specs.Items.{Items}

@@ -1,4 +1,4 @@
--- Steps beside Tallies.
+-- Steps of Tallies.
 use Rattle.std.specs.Prelude.{[], ◌∷◌}
 use Rattle.pid_moderation.specs.Items.{Items, name_at, imported}
 use Rattle.pid_tables.specs.Puts.{put_over}

@@ -1,4 +1,4 @@
--- What clauses say of a connection in a transaction: the words of Reading, said of what the
+-- What clauses say of a connection in a transaction: the definitions of Reading, of what the
 -- connections show.
 use Rattle.std.specs.Prelude.{ℕ, List, Result, Vec}
 use Rattle.std.specs.declared.alloc.Global.{Global}

@@ -21,7 +21,7 @@ IsLabelled Two items submissions revision r = IsCount 2 items submissions r
 abbrev pub HasLabelRow : List ℕ × ℕ → List Row → Type 0
 HasLabelRow e rows = Any (λ r. r ≡ label_row e) rows
 
--- the labels whose numbers the schema gives are there
+-- the labels whose numbers the schema determines are there
 abbrev pub HasMore : Version → ℕ → List Row → Type 0
 HasMore One revision rows = HasLabelRow (codes "schema", 1) rows
 HasMore Two revision rows = HasLabelRow (codes "schema", 2) rows

@@ -1,4 +1,4 @@
--- Steps beside NameSets.
+-- Steps of NameSets.
 use Rattle.std.specs.Prelude.{◌≡◌, ◌↔◌, ℕ, true, List, IsUtf8, String}
 use Rattle.std.specs.BTreeSet.{BTreeSet, contains_text}
 use Rattle.std.specs.declared.alloc.Global.{Global}

@@ -26,7 +26,7 @@ IsDecidedAmong names author (Rejected decider reason) = (decider ≢ author) × 
     × (is_text reason ≡ true) × (is_empty reason ≡ false)
 IsDecidedAmong names author Withdrawn = Unit {0}
 
--- the row stands as a submission of the author may
+-- the row is as a submission of the author may be
 abbrev pub StandsInRows : BTreeSet (String Global) → Row → List ℕ → Type 0
 StandsInRows names r author = (s : State) × (column r 6 ≡ number (state_number s))
     × (column r 7 ≡ Text (decider_of author s)) × (column r 8 ≡ Text (reason_of s))

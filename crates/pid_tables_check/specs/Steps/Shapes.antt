@@ -1,4 +1,4 @@
--- Steps beside Shapes.
+-- Steps of Shapes.
 use Rattle.std.specs.Prelude.{Option, Some, None}
 use Rattle.sqlite.specs.Schema.{Schema}
 use Rattle.sqlite_rules.specs.Lists.{Has}

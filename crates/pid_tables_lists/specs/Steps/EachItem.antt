@@ -1,4 +1,4 @@
--- Steps beside EachItem.
+-- Steps of EachItem.
 use Rattle.std.specs.Prelude.{◌≡◌, Result, Ok, Err}
 use Rattle.pid_reader.specs.Numbered.{Numbered}
 use Rattle.pid_tables_rows.specs.Unread.{IsUnreadable}

@@ -18,11 +18,11 @@ abbrev pub IsReadablePending : ℕ × Standing → Type 0
 IsReadablePending s = (s.0 < 2 ^ 32) × IsReadableSubmission s.1.submitted
     × IsReadableState s.1.state
 
--- each of them stands so in the views
+-- each of them is so in the views
 abbrev pub AreStandingIn : Views → List (ℕ × Standing) → Type 0
 AreStandingIn v all = AllByRecursion (λ (s : ℕ × Standing). standing_in v s.0 ≡ Some s.1) all
 
--- they stand so in views, and these are their rows
+-- they are so in views, and these are their rows
 abbrev pub ArePendingIn : Views → List (ℕ × Standing) → List Row → Type 0
 ArePendingIn v all rows = AreViews v × AreStandingIn v all × (rows ≡ map pending_row all)
 

@@ -1,4 +1,4 @@
--- Steps beside Clauses.
+-- Steps of Clauses.
 use Rattle.std.specs.Prelude.{Result}
 use Rattle.sqlite.specs.Held.{Held, state}
 use Rattle.sqlite_trees.specs.declared.store.Store.{Ghosts}

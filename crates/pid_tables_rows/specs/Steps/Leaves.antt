@@ -1,4 +1,4 @@
--- Steps beside Leaves.
+-- Steps of Leaves.
 use Rattle.std.specs.Prelude.{Result, MatchResult, IsTrue}
 use Rattle.sqlite.specs.State.{State, HasCleanDisk}
 use Rattle.pid_moderation.specs.Views.{Views}

@@ -1,4 +1,4 @@
--- Steps beside Shows.
+-- Steps of Shows.
 use Rattle.std.specs.Prelude.{ℕ, List}
 use Rattle.pid_tables_rows.specs.declared.version.Version.TheVariants.{Two}
 use Rattle.pid_tables_rows.specs.PairRows.{Map}

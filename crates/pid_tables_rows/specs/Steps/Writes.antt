@@ -1,4 +1,4 @@
--- Steps beside Writes.
+-- Steps of Writes.
 use Rattle.std.specs.Prelude.{ℕ, List, Some, if◌then◌else◌}
 use Rattle.std.specs.Str.{bytes_eq}
 use Rattle.std.specs.FinMap.Entries.{put}
