@@ -12,7 +12,7 @@ from concurrent.futures import ThreadPoolExecutor
 import pytest
 
 from program import TOP
-from words_to_change import found_in
+from words_to_change import WORDS, WORDS_OF_SOURCES, found_in
 
 # What people read beside the pages, and how wide its lines may be.
 TEXTS = ("pciids", "test", ".ci/*", "bench/*", "tests/**/*", "tools/*")
@@ -91,9 +91,9 @@ def comments_of(name):
     return "\n".join(it[1] if it else "" for it in found)
 
 
-def words_of(names, read):
+def words_of(names, read, words=WORDS):
     return [f"{name}:{line}: {word!r}, say {better}" for name in names
-            for line, word, better in found_in(read(name))]
+            for line, word, better in found_in(read(name), words)]
 
 
 def test_columns(cases):
@@ -110,6 +110,8 @@ def test_words(cases):
     names = [it for it in files(*TEXTS) if not is_old(it)]
     cases.equal("words of comments to change", words_of(names, comments_of), [])
     cases.equal("words of help to change", words_of(HELP, text_of), [])
+    found = words_of(files(*SOURCES), comments_of, WORDS_OF_SOURCES)
+    cases.equal("words of comments in sources to change", found, [])
 
 
 @pytest.mark.needs("shellcheck")

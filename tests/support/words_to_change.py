@@ -18,10 +18,20 @@ WORDS = (
     (r"li(?:fe|ves)", "session"),
 )
 
+# What comments of sources do not say either.
+WORDS_OF_SOURCES = WORDS + (
+    (r"beside", "with, also"),
+    (r"stands? (?:before|after|below|under|on|there|twice)", "comes, is"),
+    (r"(?:a|without a|the) \w+ (?:at its|in) front(?! of)", "leading"),
+    (r"gives? back|gave back", "hands back, returns"),
+    (r"ever after", "from then on"),
+    (r"anew", "again"),
+)
 
-def found_in(text):
-    """The words of a text that are on the list, each with its line and what to say."""
+
+def found_in(text, words=WORDS):
+    """The words of a text that are on a list, each with its line and what to say."""
     text = re.sub(r"`[^`\n]*`", lambda it: " " * len(it[0]), text)
-    for word, better in WORDS:
+    for word, better in words:
         for found in re.finditer(rf"\b(?:{word})\b".replace(" ", r"\s+"), text, re.I):
             yield text.count("\n", 0, found.start()) + 1, " ".join(found[0].split()), better

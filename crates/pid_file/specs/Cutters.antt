@@ -21,7 +21,7 @@ pub record Holds (c : Cutter) (text : List ℕ) : Type 0 where
 abbrev pub IsStopped : Cutter → ReadRefusal → Type 0
 IsStopped c r = c.stopped ≡ Some r
 
--- the refusal that is given ever after an end; after a fault of the sink it is Memory
+-- the refusal that is answered from an end on; after a fault of the sink it is Memory
 abbrev pub left_by : {F : Type 0} → CutEnd F → ReadRefusal
 left_by (Refused r) = r
 left_by (Fault f) = Memory

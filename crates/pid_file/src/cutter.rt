@@ -127,9 +127,8 @@ impl Cutter {
         }
     }
 
-    /// The text has ended: a last line without LF is read too. After an error of `feed` its refusal
-    /// is given again, or
-    /// `Memory` where the sink faulted, and the sink stays as it is.
+    /// The text has ended: a last line without LF is read too. After an error of `feed` it answers
+    /// its refusal again, or `Memory` if the sink faulted, and the sink stays as it is.
     pub fn finish<S: Sink>(self, sink: &mut S) -> Result<(), CutEnd<S::Fault>>
         ensures stopped { (r : ReadRefusal) → IsStopped self r
             → (result ≡ Err (Refused r)) × (sink.new ≡ sink.old) }

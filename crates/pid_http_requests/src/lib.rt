@@ -2,8 +2,7 @@
 //! that it makes.
 //!
 //! `question_of` answers what a method and a target ask for; `sender_of` who sends a command, by
-//!   its head; `command_in` the
-//! command that a sender's form makes. Nothing here knows a registry.
+//! its head; `command_in` the command that a sender's form makes. Nothing here knows a registry.
 #![tactic(auto)]
 
 mod command;

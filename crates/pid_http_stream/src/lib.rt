@@ -2,11 +2,10 @@
 //! by Content-Length).
 //!
 //! `serve_stream` reads heads by `httparse`, judges them, hands each request to a `Handler` and
-//!   writes its reply before it
-//! reads on. It holds one buffer for the head and one for the body, whatever a client sends: a head
-//! has at most 16,384 bytes and 32 fields, a body at most 4,194,304 bytes. A body that the handler
-//! wants as a stream is not held at all, and neither is the body of a reply that the handler writes
-//! itself.
+//! writes its reply before it reads on. It holds one buffer for the head and one for the body,
+//! whatever a client sends: a head has at most 16,384 bytes and 32 fields, a body at most 4,194,304
+//! bytes. A body that the handler wants as a stream is not held at all, and neither is the body of
+//! a reply that the handler writes itself.
 #![tactic(auto)]
 
 mod asking;

@@ -40,7 +40,7 @@ pub enum Style {
 }
 
 impl Style {
-    /// The style that shows the number beside a name, too.
+    /// The style that also shows the number of a name.
     pub fn with_numbers(self) -> Style
         ensures { switches result ≡ with_numbers (switches self) }
     {

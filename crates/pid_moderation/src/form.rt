@@ -164,13 +164,13 @@ fn act(alloc: Global, verb: Verb, fields: &[(String, String)]) -> Result<Act, Re
     }
 }
 
-/// The command of an account, under a key where there is one, that the fields say; or the first
-/// form check that fails.
+/// The command of an account, under a key if there is one, that the fields say; or the first form
+/// check that fails.
 ///
 /// The fields are the names and values of a form, in any order: `who` and `rank` (`0` to `3`) of
-/// `account`; `path`, one of `name` and `remove` (`yes`), and where wanted `note` of `submit`;
-/// `num` and `text` of `comment`; `num` of
-/// `withdraw` and `approve`; `num` and `reason` of `reject`; `file` of `import`.
+/// `account`; `path`, one of `name` and `remove` (`yes`), and if wanted `note` of `submit`; `num`
+/// and `text` of `comment`; `num` of `withdraw` and `approve`; `num` and `reason` of `reject`;
+/// `file` of `import`.
 pub fn command_of(
     alloc: Global,
     verb: Verb,

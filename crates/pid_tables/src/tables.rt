@@ -197,13 +197,12 @@ impl<S: Alter + Drop> Tables<S> {
         gather_facts(&mut self.conn, alloc, account, key, rows)
     }
 
-    /// The schema of the tables, where they are those of some registry, and `None` where there is
-    /// no table: every row is read and judged.
+    /// The schema of the tables, if they are those of some registry, and `None` if there is no
+    /// table: every row is read and judged.
     ///
-    /// `Damaged` where a table or a column lacks, or a row breaks a condition of a registry in the
-    ///   schema of its tables; `NewerSchema`
-    /// where the labels have a later schema, which is judged before. `docs/STORAGE.md` has the
-    /// conditions.
+    /// `Damaged` if a table or a column is missing, or a row breaks a condition of a registry in
+    /// the schema of its tables; `NewerSchema` if the labels have a later schema, which is judged
+    /// before. `docs/STORAGE.md` has the conditions.
     pub fn check(&mut self, alloc: Global) -> Result<Option<Version>, TableFault>
         requires { self.old.conn.in_transaction ≡ false }
         ensures rests { OnlyReads S.Store self.old.conn self.new.conn }

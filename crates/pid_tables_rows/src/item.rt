@@ -89,8 +89,8 @@ fn insert_since<S: Alter>(
 
 /// Adds an item at a path that has none, with the number of its change. The path is the text of a
 /// path, as `PC/8086/1237`; neither it nor the name is tested, and nor is whether the path's parent
-/// is there. A path that has an item is refused with
-/// `Store`, and so is a number that 63 bits do not hold.
+/// is there. A path that has an item is refused with `Store`, and so is a number that 63 bits do
+/// not hold.
 pub fn add_item<S: Alter>(
     tx: &mut Transaction<'_, S>,
     path: &str,

@@ -37,8 +37,8 @@ pub record IsPut (h : History) (text : List ℕ) (t : Tally) : Type 0 where
 abbrev pub IsNext : ℕ → ℕ → Type 0
 IsNext revision n = revision < most_revision → n ≡ revision + 1
 
--- an import whose pairs were put is accepted with a change for the
--- views with these, or it is refused.
+-- an import whose pairs were put is accepted with a change for the views with these, or it is
+-- refused
 abbrev pub JudgesFile : History → Asked → Items → Result (Change × Reply) Refusal → Type 0
 JudgesFile h c pairs (Ok d) = (revision_of h < most_revision)
     × (answer (judge (views_of h) c) ≡ Ok d.1)

@@ -12,8 +12,7 @@ use Rattle.pid_tables.specs.declared.put_file.Stop.TheVariants as stops
 use Rattle.pid_tables.specs.Faults.{IsFault}
 use Rattle.pid_tables.specs.Importing.{RefusesImport}
 
--- what a transaction shows in which the file was put and the rest
--- of the import was written, or not.
+-- what a transaction shows in which the file was put and the rest of the import was written, or not
 abbrev pub Applies : Result Reply Stop → State → History → Asked → Type 0
 Applies (Ok reply) s h c = (answer (judge (views_of h) c) ≡ Ok reply)
     × Written (counts_of (views_of (after h c))) s (views_of h) (views_of (after h c))
