@@ -30,7 +30,8 @@ def edits(crate, folder):
 
 
 def turned(crate, path):
-    """The function that has the last line which the edit replaces, or that begins after it."""
+    """The function that has the last line which the edit replaces, or that begins after it; the
+    file if that has none."""
     text = read(path)
     file = re.findall(r"^file: (.+)$", text, re.M)[-1]
     old = re.findall(r"^old: (.*)$", text, re.M)[-1]
@@ -38,13 +39,14 @@ def turned(crate, path):
     start = source.find(old.strip())
     assert start >= 0, path
     before = re.findall(r"\bfn (\w+)", source[:start + len(old)])
-    return before[-1] if before else re.search(r"\bfn (\w+)", source[start:])[1]
+    after = re.findall(r"\bfn (\w+)", source[start:])
+    return (before[-1:] + after[:1] + [os.path.basename(file)])[0]
 
 
-def by_function(crate):
-    """The edits of the gate, by the functions that they turn."""
+def by_function(crate, folder="must-fail"):
+    """The edits of the gate, or those on demand, by the functions that they turn."""
     found = {}
-    for path in edits(crate, "must-fail"):
+    for path in edits(crate, folder):
         name = os.path.basename(path)[:-len(".edit")]
         found.setdefault(turned(crate, path), []).append(name)
     return found
@@ -71,18 +73,6 @@ def page_part():
 
 def shown_part():
     return read(PAGE).partition(BEGINS)[2].partition(ENDS)[0]
-
-
-def unknown():
-    """The edits that the page names and no crate has, and how many it names."""
-    known = {os.path.basename(path)[:-len(".edit")] for crate in crates()
-             for folder in ("must-fail", "edits-on-demand") for path in edits(crate, folder)}
-    named = set()
-    for listed in re.findall(r"\*Edits:\*(.*?)(?:\*Not said|\n- \*\*|\n\n)", read(PAGE), re.S):
-        plain = re.sub(r"`[^`]*`", "", listed)
-        named |= set(re.findall(r"(?<![`\w.])[a-z]\w*_\w+(?![`\w.:(])", plain))
-    named -= set(crates())
-    return len(named), sorted(named - known)
 
 
 def write():

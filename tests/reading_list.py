@@ -16,6 +16,7 @@ CRATES = os.path.join(TOP, "crates")
 PAGE = os.path.join(TOP, "docs", "PROMISES.md")
 BEGINS, ENDS = "<!-- reading list: begins -->\n", "<!-- reading list: ends -->\n"
 NAME = r"[^\s(){}\[\].,;:λ→×⊎≡∷]+"
+WHOLE = {"break_long_words": False, "break_on_hyphens": False}
 
 # The public calls of each promise, as the table in README.md has them.
 PROMISES = (
@@ -175,8 +176,9 @@ class Sources:
         block = []
         for line in lines[start:]:
             block.append(line)
-            if line == indent + "{" or (line.startswith(indent) and line.endswith(";")
-                                        and not line.startswith(indent + " ")):
+            if line in (indent + "{", indent + "{}") or (
+                    line.startswith(indent) and line.endswith(";")
+                    and not line.startswith(indent + " ")):
                 break
             is_outer = line[:len(indent) + 1].strip()
             if line.endswith("{") and is_outer and not re.search(r"ensures|requires", line):
@@ -211,6 +213,30 @@ class Sources:
                     end = next(i for i in range(at, len(lines)) if lines[i] == "}")
                     body = [it for it in lines[at:end] if not it.strip().startswith("//")]
                     yield lines, "\n".join(body)
+
+
+def clauses_of(contract):
+    """The names of the clauses of a contract."""
+    return re.findall(r"^\s*(?:ensures|requires) (\w+) \{", contract, re.M)
+
+
+def fields_of(definition):
+    """The fields of a record; none of another definition."""
+    if definition.kind != "record":
+        return []
+    return re.findall(r"^\s+pub (\w+) :", definition.code, re.M)
+
+
+def says(specs, sources, call):
+    """The names of the clauses of a call, or of the fields of the record that is its one clause;
+    none if that is written out."""
+    lines, contract = sources.contract(call)
+    names = clauses_of(contract)
+    if names:
+        return names
+    clause = contract.partition("ensures {")[2]
+    keys = specs.cited(re.search(NAME, clause).group(), used_names("\n".join(lines)))
+    return [it for key in keys for it in fields_of(specs.definitions[key])]
 
 
 def definitions_for(specs, sources, calls):
@@ -253,7 +279,7 @@ def lists(specs, keys):
         by_crate.setdefault(crate, []).append(f"`{'/'.join(inner)}` {sizes[module]}")
     for crate, files in by_crate.items():
         text = f"{crate}: " + ", ".join(files).replace("` ", "`\0")
-        wrapped = textwrap.wrap(text, 98, break_long_words=False, break_on_hyphens=False)
+        wrapped = textwrap.wrap(text, 98, **WHOLE)
         yield "- " + "\n  ".join(wrapped).replace("\0", " ")
 
 
@@ -269,9 +295,13 @@ def page_part():
         keys = definitions_for(specs, sources, calls)
         size = sum(specs.definitions[key].size for key in keys)
         rows.append(f"| {promise} | {', '.join(map(name_of, calls))} | {len(keys)} | {size:,} |\n")
-        files = ", ".join(dict.fromkeys(f"`{sources.places[it]}`" for it in calls))
-        head = f"\n### To read for {promise}\n\n- the clauses: {files}\n"
-        parts.append(head + "\n".join(lists(specs, keys)) + "\n")
+        parts.append(f"\n### To read for {promise}\n\n")
+        for call in calls:
+            names = ", ".join(f"`{it}`" for it in says(specs, sources, call))
+            what = f"clauses {names}" if names else "clause"
+            text = f"`{sources.places[call]}`, {name_of(call)}: {what}"
+            parts.append("- " + "\n  ".join(textwrap.wrap(text, 98, **WHOLE)) + "\n")
+        parts.append("\n".join(lists(specs, keys)) + "\n")
     head = "\n| promise | public calls | definitions | lines |\n|---|---|---|---|\n"
     return head + "".join(rows) + "".join(parts) + "\n"
 

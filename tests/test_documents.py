@@ -123,87 +123,16 @@ def missing_evidence():
     return named, missing
 
 
-def all_specs():
-    """The text of each file of specs, by its path."""
-    found = {}
-    for folder, _, files in os.walk(os.path.join(TOP, "crates")):
-        for file in files if "/specs" in folder[len(TOP):] else ():
-            if file.endswith(".antt"):
-                with open(os.path.join(folder, file), encoding="utf-8") as spec:
-                    found[os.path.join(folder, file)] = spec.read()
-    return found
-
-
-def misplaced_definitions():
-    """How many definitions docs/PROOFS.md names with their files, and those that are not there."""
-    count, missing, specs = 0, [], all_specs()
-    for said in re.findall(r"\*Defined\s+by\*(.*?)\*[A-Z]", text_of("docs/PROOFS.md"), re.S):
-        said = " ".join(said.split())
-        for path, names in re.findall(r"`([A-Z][\w/]+)` \(((?:`\w+`(?:, )?)+)", said):
-            texts = [text for at, text in specs.items() if at.endswith(f"/{path}.antt")]
-            for name in re.findall(r"\w+", names):
-                count += 1
-                if not any(re.search(rf"\b{name}\b", text) for text in texts):
-                    missing.append(f"{path}: {name}")
-    return count, missing
-
-
-def fields():
-    """The fields of all records in specs, and those of the records that they cite."""
-    own, cited = {}, {}
-    pattern = (r"^( *)(?:pub )?record (\w+)(.*?)(?=^ *(?:pub |abbrev |unfoldable )*"
-               r"(?:record|data|abbrev|unfoldable|module)\b|\Z)")
-    for text in all_specs().values():
-        for indent, name, body in re.findall(pattern, text, re.M | re.S):
-            names = re.findall(rf"^{indent} +pub (\w+) :", body, re.M)
-            own.setdefault(name, set()).update(names)
-            cited.setdefault(name, set()).update(re.findall(r"\b[A-Z]\w+", body))
-    return {name: names.union(*(own.get(it, set()) for it in cited[name]))
-            for name, names in own.items()}
-
-
-def contracts():
-    """The name and the contract of each function, in any crate."""
-    for folder, _, files in os.walk(os.path.join(TOP, "crates")):
-        for file in files if "/src" in folder[len(TOP):] else ():
-            with open(os.path.join(folder, file), encoding="utf-8") as source:
-                name, contract = None, []
-                for line in source:
-                    begins = re.match(r"( *)(?:pub(?:\(\w+\))? )?(?:const )?fn (\w+)", line)
-                    if begins:
-                        indent, name, contract = begins[1], begins[2], []
-                    contract.append(line)
-                    ends = begins and line.endswith("{\n") or line == indent + "{\n" if name else ""
-                    if name and (ends or line.endswith(";\n") and " = " not in line):
-                        yield name, "".join(contract)
-                        name = None
-
-
-def clauses():
-    """For all functions of a name: the names of their clauses, and of the fields of the records
-    that these cite."""
-    found, records = {}, fields()
-    for name, contract in contracts():
-        names = found.setdefault(name, set())
-        names.update(re.findall(r"^ *ensures (\w+) \{", contract, re.M))
-        for word in set(re.findall(r"\b[A-Z]\w+", contract.partition("ensures")[2])):
-            names |= records.get(word, set())
-    return found
-
-
-def missing_clauses():
-    """How many clauses docs/PROOFS.md names with their calls, and those that no such call has."""
-    count, missing, known = 0, [], clauses()
-    for said in re.findall(r"\*Carried\s+by\*(.*?)\*[A-Z]", text_of("docs/PROOFS.md") + "*E", re.S):
-        said = " ".join(said.split())
-        pattern = r"((?:`[\w:]+`(?:, )?)+): ((?:`\w+`(?:, )?)+)(?=[;.(]| \(|$)"
-        for calls, names in re.findall(pattern, said):
-            calls = [it for it in re.findall(r"(\w+)`", calls) if it in known]
-            for name in re.findall(r"\w+", names) if calls else ():
-                count += 1
-                if not any(name in known[it] for it in calls):
-                    missing.append(f"{', '.join(calls)}: {name}")
-    return count, missing
+def unknown_names(page):
+    """How many names of code a page has, and those that no source, definition or test has."""
+    known = set(os.listdir(os.path.join(TOP, "crates"))) | {"unsafe"}
+    for folder in ("crates", "tests"):
+        for at, _, files in os.walk(os.path.join(TOP, folder)):
+            for file in (it for it in files if it.endswith((".rt", ".antt", ".py"))):
+                with open(os.path.join(at, file), encoding="utf-8") as source:
+                    known.update(re.findall(r"\w+", source.read()))
+    names = set(re.findall(r"`([A-Za-z_][\w:]*)`", prose_of(page)))
+    return len(names), sorted(it for it in names if not known.issuperset(it.split("::")))
 
 
 def missing_words():
@@ -265,6 +194,7 @@ def test_contributing(cases):
     count, missing = missing_paths()
     cases.equal("files that do not exist", missing, [])
     cases.equal("it names some", count > 50, True)
+    cases.equal("names that nothing has", unknown_names("CONTRIBUTING.md")[1], [])
 
 
 def test_security(cases):
@@ -288,18 +218,18 @@ def test_reading_list(cases):
 def test_edits(cases):
     shown, printed = edit_list.shown_part(), edit_list.page_part()
     cases.equal("PROOFS.md: wrong bodies (run tests/edit_list.py)", shown == printed, True)
-    count, missing = edit_list.unknown()
-    cases.equal("PROOFS.md: edits that no crate has", missing, [])
-    cases.equal("PROOFS.md: it names some", count > 100, True)
 
 
 def test_evidence(cases):
-    count, missing = misplaced_definitions()
-    cases.equal("PROOFS.md: definitions that are not in their files", missing, [])
-    cases.equal("PROOFS.md: it names definitions", count > 100, True)
-    count, missing = missing_clauses()
-    cases.equal("PROOFS.md: clauses that no call has", missing, [])
-    cases.equal("PROOFS.md: it names clauses", count > 200, True)
+    count, missing = unknown_names("docs/PROOFS.md")
+    cases.equal("PROOFS.md: names that nothing has", missing, [])
+    cases.equal("PROOFS.md: it names some", count > 100, True)
+    ran = subprocess.run([os.path.join(TOP, "tests", "evidence.py")], capture_output=True,
+                         text=True, timeout=60)
+    printed = {line.strip() for line in ran.stdout.splitlines()}
+    cases.equal("evidence.py: a public function", "Registry::obey" in printed, True)
+    cases.equal("evidence.py: a wrong body", "close: close_sets_the_revision_back" in printed, True)
+    cases.equal("evidence.py: status", ran.returncode, 0)
 
 
 def test_glossary(cases):
