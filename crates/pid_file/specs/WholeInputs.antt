@@ -9,7 +9,7 @@ use Rattle.pid_file.specs.declared.whole_input.InputEnd.TheVariants.{ReadFault, 
 use Rattle.pid_file.specs.declared.whole_input.SkipEnd.{SkipEnd}
 use Rattle.pid_file.specs.declared.whole_input.SkipEnd.TheVariants as skips
 
--- the end of an input that could not be read, where it was cut
+-- the end of an input that could not be skipped, as that of one that is cut
 abbrev pub as_input_end : {F : Type 0} → SkipEnd → InputEnd F
 as_input_end skips.ReadFault = ReadFault
 as_input_end skips.TooLong = TooLong

@@ -3,7 +3,7 @@
 use Rattle.std.specs.Prelude.{ℕ, List, [], ◌∷◌, map, ◌==◌, if◌then◌else◌}
 use Rattle.pid_file.specs.Lines.{drop_cr}
 
--- a byte goes onto the first ended piece; where there is none it is of the open part
+-- a byte goes onto the first ended piece; if there is none it is of the open part
 abbrev pub onto_ended : ℕ → List (List ℕ) → List (List ℕ)
 onto_ended b [] = []
 onto_ended b (piece ∷ pieces) = (b ∷ piece) ∷ pieces

@@ -77,7 +77,7 @@ impl Cutter {
         Ok(())
     }
 
-    // Takes the next piece, where nothing was refused.
+    // Takes the next chunk, if nothing was refused.
     fn go_on<S: Sink>(&mut self, piece: &[u8], sink: &mut S) -> Result<(), CutEnd<S::Fault>>
         ensures holds { (text : List ℕ) → Holds self.old text
             → OnOk result (Holds self.new (text ++ piece.now)) }

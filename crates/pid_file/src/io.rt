@@ -60,7 +60,7 @@ impl WriteFault {
 pub trait Input {
     ghost use Rattle.pid_file.specs.declared.io.ReadFault.{ReadFault};
 
-    /// The bytes to come, where they are known.
+    /// The bytes to come, if they are known.
     ghost to_come: { Self → Option (List ℕ) };
 
     /// The fault that is kept.
@@ -100,7 +100,7 @@ pub trait Input {
 pub trait Output {
     ghost use Rattle.pid_file.specs.declared.io.WriteFault.{WriteFault};
 
-    /// The bytes taken, where they are known.
+    /// The bytes taken, if they are known.
     ghost taken: { Self → Option (List ℕ) };
 
     /// The fault that is kept.

@@ -26,7 +26,7 @@ impl Model for Name {
 }
 
 impl Name {
-    /// The text as a name, kept byte for byte; `Bad` exactly where it breaks the rule.
+    /// The text as a name, kept byte for byte; `Bad` exactly when it breaks the rule.
     pub fn of(alloc: Global, text: &str) -> Result<Name, WordFault>
         ensures ok { IfOk result (λ word. word ≡ text.now) }
         ensures bad { IsErrOf result WordFault.Bad ↔ (name_test text.now ≡ false) }
@@ -39,7 +39,7 @@ impl Name {
         })
     }
 
-    /// The text as a name, where it is known to keep the rule.
+    /// The text as a name, if it is known to keep the rule.
     pub fn of_checked(alloc: Global, text: &str) -> Result<Name, AllocError>
         requires { IsTrue (name_test text.now) }
         ensures { IfOk result (λ word. word ≡ text.now) }
@@ -49,7 +49,7 @@ impl Name {
         })
     }
 
-    /// The bytes that were given, as text. They keep the rule of names.
+    /// The bytes of the text that was checked. They keep the rule of names.
     pub fn as_str(&self) -> &str
         ensures text { result.now ≡ self.now }
         ensures checked { IsTrue (name_test self.now) }

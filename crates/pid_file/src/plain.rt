@@ -49,7 +49,7 @@ impl<T> Plain<T> {
     }
 }
 
-// What a read of std is here; none where a signal interrupted it, so that it is made again.
+// What a read of std is here; none if a signal interrupted it, so that it is made again.
 fn read_said(read: io::Result<usize>) -> Option<Result<usize, ReadFault>>
     ensures good { IfOk read (λ n. result ≡ Some (Ok n)) }
     ensures again { IfErr read (λ e. error_kind e ≡ ErrorKind.Interrupted → result ≡ None) }
@@ -63,7 +63,7 @@ fn read_said(read: io::Result<usize>) -> Option<Result<usize, ReadFault>>
     }
 }
 
-// What a write of std is here, of so many bytes; none where a signal interrupted it, so that it is
+// What a write of std is here, of so many bytes; none if a signal interrupted it, so that it is
 // made again.
 fn write_said(written: io::Result<usize>, bytes: usize) -> Option<Result<usize, WriteFault>>
     ensures good { IfOk written (λ n. (n ≡ 0 → bytes ≡ 0) → result ≡ Some (Ok n)) }

@@ -42,7 +42,7 @@ pub fn write_header<W: Output>(out: &mut W) -> Result<(), WriteFault>
     write_all(out, b"# PCI ID registry\n")
 }
 
-/// The vendor whose block the item opens, where one line comes before it: it is a generic
+/// The vendor whose block the item opens, if one line comes before it: it is a generic
 /// subsystem, and the item before, if there is one, is none of that vendor.
 pub fn opened_block(before: Option<Path>, path: Path) -> Option<Id16>
     ensures opens { is_some result ≡ opens_block (text_or_none before) (path_text path) }

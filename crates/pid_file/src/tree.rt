@@ -36,7 +36,7 @@ impl Model for Tree {
 }
 
 impl Tree {
-    /// The tree of these items, which may come in any order; where they come in canonical order it
+    /// The tree of these items, which may come in any order; if they come in canonical order it
     /// is built in one pass. Of items with one path the last stays.
     ///
     /// Fails with `ParentMissing` if the parent of a path is not among them, and with `Memory` if

@@ -29,6 +29,6 @@ is_one_of name other fields = (is_once name fields && times other fields == 0)
 abbrev pub value : List ℕ → Fields → Option (List ℕ)
 value name fields = option_map (λ f. f.1) (find (λ f. bytes_eq f.0 name) fields)
 
--- and the empty text where it is missing
+-- and the empty text if it is missing
 abbrev pub text_at : List ℕ → Fields → List ℕ
 text_at name fields = unwrap_or (value name fields) []

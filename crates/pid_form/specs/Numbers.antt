@@ -10,7 +10,7 @@ abbrev pub is_plain_number : (most_digits : ℕ) (text : List ℕ) → Bool
 is_plain_number most_digits text = nat_le 1 (length text) && nat_le (length text) most_digits
     && list_all is_ascii_digit text && not (slice_index text 0 == 48)
 
--- the number that they write, where it is at most `most`
+-- the number that they write, if it is at most `most`
 abbrev pub number_up_to : (most most_digits : ℕ) (text : List ℕ) → Option ℕ
 number_up_to most most_digits text =
     if is_plain_number most_digits text && nat_le (digits_value 10 text) most

@@ -67,7 +67,7 @@ pub fn value<'a>(fields: &'a [(String, String)], name: &str) -> Option<&'a str>
     }
 }
 
-/// The value of a field, and the empty text where it is missing.
+/// The value of a field, and the empty text if it is missing.
 pub fn text_at<'a>(fields: &'a [(String, String)], name: &str) -> &'a str
     ensures { result.now ≡ text_in name.now (bytes_of fields.now) }
 {

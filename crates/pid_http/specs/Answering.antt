@@ -38,12 +38,12 @@ abbrev pub item_or_missing : Path → Format → Option (List ℕ) → Answer
 item_or_missing path format None = missing_answer format
 item_or_missing path format (Some name) = item_answer format (path_text path, name)
 
--- none where nothing is at the path
+-- none if nothing is at the path
 abbrev pub items_if : Option (List ℕ) → Items → Option Items
 items_if None items = None
 items_if (Some name) items = Some items
 
--- the items right below a path, where one is at that; without a path those at the top
+-- the items right below a path, if one is at that; without a path those at the top
 abbrev pub children_below : Option Path → Items → Option Items
 children_below None items = Some (children_of None items)
 children_below (Some path) items = items_if (name_at (path_text path) items)

@@ -66,7 +66,7 @@ format_of (Pending number format) = format
 format_of (Changes since after format) = format
 format_of errand = Json
 
--- the answer that is known without the registry; none where that is asked
+-- the answer that is known without the registry; none if that is asked
 abbrev pub known_answer : Errand → Option Answer
 known_answer (Answered given) = Some given
 known_answer (Denied refusal format) = Some (outcome_answer format (Err refusal))
@@ -92,7 +92,7 @@ abbrev pub read_for : Format → Option Path → Errand
 read_for format None = Answered (outcome_answer format (Err BadPath))
 read_for format (Some path) = Read path format
 
--- the items below a path, or those at the top where it is empty; what is no path's text is refused
+-- the items below a path, or those at the top if it is empty; what is no path's text is refused
 abbrev pub children_for : Format → Above → Errand
 children_for format above.Top = Children None format
 children_for format (above.Below path) = Children (Some path) format

@@ -73,7 +73,7 @@ IsPromised (Live h) errand head told calls k = (errand ≡ Export) × IsTextHead
 IsPromised (Between before behind) errand head told calls k = ⊥
 IsPromised Down errand head told calls k = ⊥
 
--- Where memory lacked for a reply, what it is a reply to may have been done. A request that was
+-- If memory ran out for a reply, what it is a reply to may have been done. A request that was
 -- given up left the registry as it was, and sent nothing.
 abbrev pub serving : {S : Type 0} (store : Ghosts S) → Conduct (Told store)
 serving store = record {

@@ -99,7 +99,7 @@ fn take_in<S: Alter + Drop, B: Input>(
     }
 }
 
-// The key, where there is one.
+// The key, if there is one.
 fn key_of(alloc: Global, key: Option<&str>) -> Result<Option<Key>, WordFault>
     ensures { IfOk result (λ k. k ≡ option_copied key.entry) }
 {
@@ -112,7 +112,7 @@ fn key_of(alloc: Global, key: Option<&str>) -> Result<Option<Key>, WordFault>
     }
 }
 
-// The account and the key of a sender; none where there is no memory for them.
+// The account and the key of a sender; none if there is no memory for them.
 fn owner_of(alloc: Global, sender: Sender<'_>) -> Option<(Account, Option<Key>)>
     ensures { IfSome result (λ owner. (owner.0 ≡ sender.entry.account.now)
         × (owner.1 ≡ option_copied sender.entry.key)) }

@@ -60,7 +60,7 @@ pub(crate) fn read<S: Alter + Drop>(
     read_outcome(alloc, path, format, found)
 }
 
-// The items below a path, where one is at that.
+// The items below a path, if one is at that.
 fn children_under<S: Alter + Drop>(
     registry: &mut Registry<S>,
     path: Path,
@@ -78,7 +78,7 @@ fn children_under<S: Alter + Drop>(
     }
 }
 
-// The items below a path, where one is at that; without a path those at the top.
+// The items below a path, if one is at that; without a path those at the top.
 fn children_below<S: Alter + Drop>(
     registry: &mut Registry<S>,
     above: Option<Path>,

@@ -65,8 +65,8 @@ fn serve_bare<S: StreamServer, R: Read + Drop, W: Write + Drop>(
     let _served = server.serve(&mut input, &mut output, TURNS);
 }
 
-/// Serves the stream of a connection and closes that. Where the connection fails the client loses
-/// replies, and no one else does; where memory for its buffers is refused the stream is served
+/// Serves the stream of a connection and closes that. If the connection fails the client loses
+/// replies, and no one else does; if memory for its buffers is refused the stream is served
 /// without them.
 pub(crate) fn serve_connection<S: StreamServer>(alloc: Global, stream: &TcpStream, server: &mut S)
     ensures goes { S.goes server.old server.new }

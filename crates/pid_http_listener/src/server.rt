@@ -15,7 +15,7 @@ pub trait StreamServer {
     /// What the serving of streams, however many, may make of it: before it and after.
     ghost goes: { Self → Self → Type 0 };
 
-    /// How many streams it was given, where it counts them: exact below the greatest count.
+    /// How many streams it was given, if it counts them: exact below the greatest count.
     ghost given: { Self → Option ℕ } = { λ _. None };
 
     fn is_live(&self) -> bool

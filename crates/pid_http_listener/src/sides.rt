@@ -16,7 +16,7 @@ pub(crate) fn send_held<W: Write + Drop>(writer: &RefCell<BufWriter<W>>) -> io::
 }
 
 /// What a client sends. Before more of it is waited for, all replies to what it sent so far are
-/// sent; where that fails no more is read.
+/// sent; if that fails no more is read.
 #[derive(Drop)]
 pub(crate) struct Requests<'w, R: Drop, W: Write + Drop> {
     pub(crate) reader: BufReader<R>,

@@ -97,6 +97,6 @@ unanswered_data why = refusal_data (unanswered_number why) (unanswered_word why)
 abbrev pub unanswered_answer : ℕ → Unanswered → Answer
 unanswered_answer status why = answer_with status Json (compact_text (unanswered_data why))
 
--- the answer where no item is at a path
+-- the answer if no item is at a path
 abbrev pub missing_answer : Format → Answer
 missing_answer format = answer_in format 404 (unanswered_data NoItem) (unanswered_line NoItem)

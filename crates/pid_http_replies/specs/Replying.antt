@@ -26,6 +26,6 @@ IsBodyOf head (Written told) answer = ⊥
 abbrev pub IsReplyOf : Reply → Answer → Type 0
 IsReplyOf reply answer = IsBodyOf reply.head reply.body answer
 
--- the reply, where there was memory for it, is the answer
+-- the reply, if there was memory for it, is the answer
 abbrev pub MakesReply : {E : Type 0} → Result Reply E → Answer → Type 0
 MakesReply result answer = IfOk result (λ reply. IsReplyOf reply answer)

@@ -107,7 +107,7 @@ fn outcome_value(alloc: Global, outcome: Result<Reply, Refusal>) -> Result<Value
 
 /// The reply to a command, imports too: what it was answered, or why it was refused. A refusal has
 /// its number and its word, and that of a faulty file the line, counted from 1, and the kind of its
-/// fault; both are 0 where the file has too many entries. The text is the reply line of scripts.
+/// fault; both are 0 if the file has too many entries. The text is the reply line of scripts.
 pub fn outcome_reply(
     alloc: Global,
     format: Format,
@@ -173,7 +173,7 @@ pub(crate) fn unanswered_reply(
     json_reply(alloc, status, value)
 }
 
-/// The reply where no item is at a path.
+/// The reply if no item is at a path.
 pub fn missing_reply(alloc: Global, format: Format) -> Result<HttpReply, AllocError>
     ensures { MakesReply result (missing_answer format) }
 {

@@ -23,7 +23,7 @@ use pid_moderation::{Pending, Proposal};
 use serde_json::{Value, json};
 use std::alloc::{AllocError, Global};
 
-/// The value of what is proposed: the name, or null where the item is to be removed.
+/// The value of what is proposed: the name, or null if the item is to be removed.
 pub(crate) fn proposed_value(alloc: Global, proposal: &Proposal) -> Result<Value, AllocError>
     ensures { IfOk result (λ value. view value ≡ proposed_data proposal.now) }
 {

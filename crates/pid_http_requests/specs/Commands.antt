@@ -15,7 +15,7 @@ abbrev pub body_checks : Verb → Sending → List ℕ → Checks
 body_checks verb s body = (not (is_utf8 body), BadText)
     ∷ form_checks verb s.account s.key (fields_in body)
 
--- a refusal where there is one, else the command that was said
+-- a refusal if there is one, else the command that was said
 abbrev pub unless_refused : Option Refusal → Option Command → Result Command Refusal
 unless_refused (Some refusal) said = Err refusal
 unless_refused None None = Err BadText

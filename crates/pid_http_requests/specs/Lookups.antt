@@ -9,6 +9,6 @@ use Rattle.pid_http_requests.specs.declared.lookup.LookupQuery.{LookupQuery}
 abbrev pub as_query : LookUp → LookupQuery
 as_query l = record { flags = l.flags; args = l.args; size = l.size }
 
--- the look-up that the fields say, where they are not bad
+-- the look-up that the fields say, if they are not bad
 abbrev pub lookup_asked : Fields → Option LookupQuery
 lookup_asked fields = option_map as_query (look_up_in fields)

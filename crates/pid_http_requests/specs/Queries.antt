@@ -16,7 +16,7 @@ use Rattle.pid_http_requests.specs.declared.query.Above.TheVariants.{Top, Below,
 use Rattle.pid_http_requests.specs.declared.query.Start.{Start}
 use Rattle.pid_http_requests.specs.declared.query.Start.TheVariants as starts
 
--- `json`, also where nothing is said, or `text`
+-- `json`, also if nothing is said, or `text`
 abbrev pub format_said : Option (List ℕ) → Option Format
 format_said None = Some Json
 format_said (Some text) = if bytes_eq text (codes "json") then Some Json else if bytes_eq text
@@ -56,17 +56,17 @@ abbrev pub format_beside_two : List ℕ → List ℕ → Fields → Option Forma
 format_beside_two first second fields = if are_three first second fields then format_said
     (value (codes "format") fields) else None
 
--- `0`, also where nothing is said, or the number of a submission
+-- `0`, also if nothing is said, or the number of a submission
 abbrev pub after_said : Option (List ℕ) → Option ℕ
 after_said None = Some 0
 after_said (Some text) = if bytes_eq text (codes "0") then Some 0 else number_in text
 
--- below a path, where a text is one
+-- below a path, if a text is one
 abbrev pub above_path : Option Path → Above
 above_path None = BadPath
 above_path (Some path) = Below path
 
--- the top where the text is empty, else the path that it is
+-- the top if the text is empty, else the path that it is
 abbrev pub above_said : List ℕ → Above
 above_said text = if is_empty text then Top else above_path (path_of text)
 
@@ -74,7 +74,7 @@ above_said text = if is_empty text then Top else above_path (path_of text)
 abbrev pub revision_in : List ℕ → Option ℕ
 revision_in text = numbers.number_up_to most_revision 19 text
 
--- `0`, also where nothing is said, or the number of a change
+-- `0`, also if nothing is said, or the number of a change
 abbrev pub since_said : Option (List ℕ) → Option ℕ
 since_said None = Some 0
 since_said (Some text) = if bytes_eq text (codes "0") then Some 0 else revision_in text

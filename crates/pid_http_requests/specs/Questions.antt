@@ -84,7 +84,7 @@ Asking = Wanted Question Format
 abbrev pub buffered : Option Question → Option Asking
 buffered asked = option_map Buffered asked
 
--- what is asked at a route; none where the query is bad
+-- what is asked at a route; none if the query is bad
 unfoldable pub question_at : Route → List ℕ → Fields → Option Asking
 question_at routes.Export path fields = buffered (export_asked fields)
 question_at routes.Read path fields = buffered (read_asked path fields)

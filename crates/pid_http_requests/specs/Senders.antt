@@ -3,7 +3,7 @@ use Rattle.std.specs.Prelude.{ℕ, ◌&&◌, List, [], ◌∷◌, Option, Some, 
 use Rattle.pid_ident.specs.Words.{is_account, is_key}
 use Rattle.pid_http_stream.specs.FieldValues.{NamedValue, values_of}
 
--- an account, and a key where there is one
+-- an account, and a key if there is one
 pub record Sending : Type 0 where
   pub account : List ℕ
   pub key : Option (List ℕ)

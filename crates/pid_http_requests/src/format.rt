@@ -3,7 +3,7 @@
 /// How a reply is written.
 #[derive(Clone, Copy, Debug, PartialEq, Eq)]
 pub enum Format {
-    /// As one JSON value (RFC 8259). Also where a request names no format.
+    /// As one JSON value (RFC 8259). Also if a request names no format.
     Json,
     /// As lines of text.
     Text,

@@ -14,7 +14,7 @@ pub struct LookupQuery {
     pub size: u32,
 }
 
-// The look-up that some fields say, where they are not bad.
+// The look-up that some fields say, if they are not bad.
 pub(crate) fn query_of(fields: &[(String, String)]) -> Option<LookupQuery>
     ensures { result ≡ lookup_asked (texts_of fields.now) }
 {

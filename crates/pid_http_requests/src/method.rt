@@ -4,7 +4,7 @@ ghost use Rattle.pid_http_requests.specs.Methods.{method_in};
 
 use http::Method;
 
-// The method with this name, in its own case, where a route may take it. No method is made of what
+// The method with this name, in its own case, if a route may take it. No method is made of what
 // a client sent: the name of a constant is compared.
 pub(crate) fn method_named(name: &[u8]) -> Option<Method>
     ensures { result ≡ method_in name.now }

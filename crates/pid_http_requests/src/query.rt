@@ -45,7 +45,7 @@ pub enum Start {
     BadPath,
 }
 
-// The format that a value says: JSON where none is said.
+// The format that a value says: JSON if none is said.
 fn format_named(value: Option<&str>) -> Option<Format>
     ensures { result ≡ format_said (option_copied value.entry) }
 {
@@ -150,7 +150,7 @@ pub(crate) fn above_named(text: &str) -> Above
     }
 }
 
-// The number above which changes are asked for: 0 where none is said.
+// The number above which changes are asked for: 0 if none is said.
 pub(crate) fn since_named(value: Option<&str>) -> Option<u64>
     ensures { result ≡ since_said (option_copied value.entry) }
 {

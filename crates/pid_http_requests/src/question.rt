@@ -61,7 +61,7 @@ pub enum Question {
     BadQuery,
     /// The canonical text of all items.
     Export,
-    /// The item with a path; none where the text is no path.
+    /// The item with a path; none if the text is no path.
     Read {
         path: Option<Path>,
         format: Format,
@@ -73,7 +73,7 @@ pub enum Question {
     },
     /// A look-up.
     Lookup(LookupQuery),
-    /// The submission with a number; none where the text is no number of a submission.
+    /// The submission with a number; none if the text is no number of a submission.
     Submission {
         number: Option<u32>,
         format: Format,
@@ -116,7 +116,7 @@ fn has_slash(target: &str) -> bool
     }
 }
 
-// The target as text, where it begins with a slash.
+// The target as text, if it begins with a slash.
 fn text_of_target(target: &[u8]) -> Option<&str>
     ensures { MatchOption result (is_target target.now ≡ false)
         (λ text. (text.now ≡ target.now) × (is_target target.now ≡ true)) }
@@ -132,7 +132,7 @@ fn rest_behind<'a>(path: &'a str, front: &str) -> &'a str
     path.strip_prefix(front).unwrap_or("")
 }
 
-// The refusal, where the route takes the other method.
+// The refusal, if the route takes the other method.
 fn other_method(method: &Method, route: Route) -> Option<Question>
     ensures { result ≡ in_other method.now (method_at route) }
 {
@@ -229,7 +229,7 @@ fn import_of(fields: &[(String, String)]) -> Option<Wanted<Question, Format>>
     Some(Wanted::Streamed(format))
 }
 
-// What a route, its path and the fields of its query ask for; none where the query is bad.
+// What a route, its path and the fields of its query ask for; none if the query is bad.
 #[tactic(auto, unfolding(crate::specs::Questions::question_at))]
 fn ask_route(
     route: Route,

@@ -17,7 +17,7 @@ pub struct Sender<'a> {
     pub key: Option<&'a str>,
 }
 
-// The text, where it may be an account's name.
+// The text, if it may be an account's name.
 fn account_of(bytes: &[u8]) -> Option<&str>
     ensures { MatchOption result (account_test bytes.now ≡ false)
         (λ text. (text.now ≡ bytes.now) × (account_test bytes.now ≡ true)) }
@@ -26,7 +26,7 @@ fn account_of(bytes: &[u8]) -> Option<&str>
     if is_account(text) { Some(text) } else { None }
 }
 
-// The text, where it may be a key.
+// The text, if it may be a key.
 fn key_of(bytes: &[u8]) -> Option<&str>
     ensures { MatchOption result (key_test bytes.now ≡ false)
         (λ text. (text.now ≡ bytes.now) × (key_test bytes.now ≡ true)) }

@@ -2,7 +2,7 @@
 ghost use Rattle.std.specs.Prelude.{◌≡◌, true, false, MatchOption};
 ghost use Rattle.std.specs.Str.{is_utf8};
 
-// The text, where the bytes are UTF-8.
+// The text, if the bytes are UTF-8.
 pub(crate) fn text_of(bytes: &[u8]) -> Option<&str>
     ensures { MatchOption result (is_utf8 bytes.now ≡ false)
         (λ text. (text.now ≡ bytes.now) × (is_utf8 bytes.now ≡ true)) }

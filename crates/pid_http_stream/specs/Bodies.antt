@@ -53,7 +53,7 @@ IsCauseOf faults.Short s = IsAtEnd s.to_come
 IsCauseOf faults.ReadFault s = IsSome s.kept
 IsCauseOf faults.TurnsSpent s = s.turns.left ≡ 0
 
--- where there is a fault bytes are still wanted, and none are held
+-- if there is a fault bytes are still wanted, and none are held
 pub record HasBrokenOff (s : BodyState) (fault : BodyFault) : Type 0 where
   pub wants : 0 < s.wanted
   pub none_held : s.held ≡ []

@@ -22,7 +22,7 @@ more_turns a b c p q = record {
   fewer = omega (arith, p.fewer, q.fewer);
 }
 
--- a fault is kept where nothing is done
+-- a fault is kept if nothing is done
 pub stays_kept : (f : Option BodyFault) → StaysKept f f
 stays_kept None = tt
 stays_kept (Some f) = refl

@@ -10,7 +10,7 @@ use Rattle.pid_http_stream.specs.declared.reply_head.ReplyHead.{ReplyHead}
 pub record Conduct (H : Type 0) : Type 1 where
   -- how it may answer a request
   pub answers : H → Request → Answer → H → Type 0
-  -- what it comes to where a whole request came, and memory for its reply is refused
+  -- what it comes to if a whole request came, and memory for its reply is refused
   pub leaves : H → Request → H → Type 0
   -- what it comes to if it gave a request up, whose body did not come whole
   pub gives_up : H → H → Type 0

@@ -20,7 +20,7 @@ IsBodyFor conduct a request head (Written told) b = conduct.promises a request h
 abbrev pub MayReply : {H : Type 0} → Conduct H → H → Request → Reply → H → Type 0
 MayReply conduct a request reply b = IsBodyFor conduct a request reply.head reply.body b
 
--- a reply was made; or the request was given up, or its body came whole and memory lacked. left:
+-- a reply was made; or the request was given up, or its body came whole and memory ran out. left:
 -- what is left of its body
 abbrev pub IsHandled : {H E : Type 0} → Conduct H → H → Request → Result Reply E
     → Option (List ℕ) → H → Type 0

@@ -10,7 +10,7 @@ pub record Moment : Type 0 where
 abbrev pub IsMoment : Option (List ℕ) → Option (List ℕ) → Moment → Type 0
 IsMoment to_come taken m = m ≡ (record { to_come = to_come; taken = taken })
 
--- this holds of each moment of an account that it did not have before; where none is kept nothing
+-- this holds of each moment of an account that it did not have before; if none is kept nothing
 -- is said
 abbrev pub AllSince : (Moment → Type 0) → Option (List Moment) → Option (List Moment) → Type 0
 AllSince P earlier None = Unit {0}

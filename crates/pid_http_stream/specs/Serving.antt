@@ -1,4 +1,4 @@
--- What is read and written where the requests of a stream are answered in turn, by each way in
+-- What is read and written when the requests of a stream are answered in turn, by each way in
 -- which that may end.
 use Rattle.std.specs.Prelude.{◌≡◌, ℕ, ◌+◌, ◌-◌, ◌^◌, ◌≤◌, ◌⊎◌, min, Bool, true, false, List, []}
 use Rattle.std.specs.Prelude.{◌++◌, length, take, Option, Some}

@@ -128,7 +128,7 @@ fn came_with<'b>(head: &Head<'b>, told: usize) -> &'b [u8]
     front
 }
 
-// What came of it: the body is whole where none of it is wanted any more.
+// What came of it: the body is whole if none of it is wanted any more.
 fn asked_of(reply: Result<Reply, NoReply>, wanted: usize, fault: Option<BodyFault>) -> Asked
     ensures { result ≡ asked_so reply wanted fault }
 {

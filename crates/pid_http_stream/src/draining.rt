@@ -8,7 +8,7 @@ use crate::intake::READ_SIZE;
 use pid_ident::Input;
 
 /// Reads a body to its end, and drops it: for a handler that replies whatever the body is.
-/// `NoReply` only where the body fails, or has more bytes than a body may.
+/// `NoReply` only if the body fails, or has more bytes than a body may.
 pub fn discard<B: Input>(body: &mut B) -> Result<(), NoReply>
     ensures whole { IfOk result (λ _. IsAtEnd (B.to_come body.new)) }
     ensures fails { IfErr result (λ _. IsSome (B.read_fault body.new)

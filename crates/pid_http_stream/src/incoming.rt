@@ -28,7 +28,7 @@ pub trait Incoming<W: Output> {
     ghost use Rattle.pid_file.specs.declared.io.ReadFault.{ReadFault};
     ghost use Rattle.pid_http_stream.specs.Moments.{Moment};
 
-    /// The bytes to come, where they are known.
+    /// The bytes to come, if they are known.
     ghost to_come: { Self → Option (List ℕ) };
 
     /// The fault that is kept.
@@ -40,7 +40,7 @@ pub trait Incoming<W: Output> {
     /// What reads, however many, may make of it: before them and after.
     ghost goes: { Self → Self → Type 0 };
 
-    /// The moments at which it was read, in order, where it keeps account of them.
+    /// The moments at which it was read, in order, if it keeps account of them.
     ghost moments: { Self → Option (List Moment) } = { λ _. None };
 
     /// Reads some bytes, after what the writer has taken. None into a buffer with room is the end.

@@ -18,7 +18,7 @@ use http::StatusCode;
 use itoa::Buffer;
 use pid_ident::{Output, WriteFault, write_parts};
 
-// The phrase of a status; none where it has none.
+// The phrase of a status; none if it has none.
 fn phrase_of(status: StatusCode) -> &'static [u8]
     ensures { result.now ≡ phrase_for status }
 {

@@ -25,7 +25,7 @@ impl Model for Account {
 }
 
 impl Account {
-    /// The text as the name of an account, kept byte for byte; `Bad` exactly where it breaks the
+    /// The text as the name of an account, kept byte for byte; `Bad` exactly when it breaks the
     /// rule.
     pub fn of(alloc: Global, text: &str) -> Result<Account, WordFault>
         ensures ok { IfOk result (λ word. word ≡ text.now) }
@@ -39,7 +39,7 @@ impl Account {
         })
     }
 
-    /// The bytes that were given, as text. They keep the rule of accounts.
+    /// The bytes of the text that was checked. They keep the rule of accounts.
     pub fn as_str(&self) -> &str
         ensures text { result.now ≡ self.now }
         ensures checked { IsTrue (account_test self.now) }

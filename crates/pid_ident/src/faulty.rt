@@ -32,7 +32,7 @@ pub struct FaultyInput<'a> {
     pub rest: &'a [u8],
     /// The most bytes that a call returns, at least one.
     pub most: usize,
-    /// How many calls are still good; `None` where none fails.
+    /// How many calls are still good; `None` if none fails.
     pub good_calls: Option<u64>,
     /// The fault that is kept.
     pub fault: Option<ReadFault>,
@@ -145,14 +145,14 @@ fn is_spent(good_calls: &mut Option<u64>) -> bool
 }
 
 /// A writer that keeps what it takes, for tests: each call takes at most some bytes, and from one
-/// call on each fails. Where it has no memory for the bytes, that is the fault `Device`.
+/// call on each fails. If it has no memory for the bytes, that is the fault `Device`.
 #[derive(Drop)]
 pub struct FaultyOutput {
     /// The bytes that were taken.
     pub taken: Vec<u8>,
     /// The most bytes that a call takes, at least one.
     pub most: usize,
-    /// How many calls are still good; `None` where none fails.
+    /// How many calls are still good; `None` if none fails.
     pub good_calls: Option<u64>,
     /// What the first bad call fails with.
     pub last_fault: WriteFault,

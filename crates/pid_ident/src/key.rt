@@ -25,7 +25,7 @@ impl Model for Key {
 }
 
 impl Key {
-    /// The text as the key of a command, kept byte for byte; `Bad` exactly where it breaks the
+    /// The text as the key of a command, kept byte for byte; `Bad` exactly when it breaks the
     /// rule.
     pub fn of(alloc: Global, text: &str) -> Result<Key, WordFault>
         ensures ok { IfOk result (λ word. word ≡ text.now) }
@@ -39,7 +39,7 @@ impl Key {
         })
     }
 
-    /// The bytes that were given, as text. They keep the rule of keys.
+    /// The bytes of the text that was checked. They keep the rule of keys.
     pub fn as_str(&self) -> &str
         ensures text { result.now ≡ self.now }
         ensures checked { IsTrue (key_test self.now) }

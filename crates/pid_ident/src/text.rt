@@ -25,7 +25,7 @@ impl Model for Text {
 }
 
 impl Text {
-    /// The text as a note, a comment or a reason, kept byte for byte; `Bad` exactly where it breaks
+    /// The text as a note, a comment or a reason, kept byte for byte; `Bad` exactly when it breaks
     /// the rule.
     pub fn of(alloc: Global, text: &str) -> Result<Text, WordFault>
         ensures ok { IfOk result (λ word. word ≡ text.now) }
@@ -39,7 +39,7 @@ impl Text {
         })
     }
 
-    /// The bytes that were given, as text. They keep the rule of such texts.
+    /// The bytes of the text that was checked. They keep the rule of such texts.
     pub fn as_str(&self) -> &str
         ensures text { result.now ≡ self.now }
         ensures checked { IsTrue (text_test self.now) }

@@ -10,7 +10,7 @@ use Rattle.pid_lookup.specs.declared.name_cache.TheConstants.{CAPACITY}
 abbrev pub Entries : Type 0
 Entries = List (List ℕ × Option (List ℕ))
 
--- what the entries have for a path; None where they have no entry of it. A choice of this project.
+-- what the entries have for a path; None if they have no entry of it. A choice of this project.
 abbrev pub entry_at : List ℕ → Entries → Option (Option (List ℕ))
 entry_at text entries = lookup (bytes_eq text) entries
 

@@ -5,8 +5,8 @@ use Rattle.std.specs.Prelude.{take, codes}
 abbrev pub too_small : List ℕ
 too_small = codes "<pci_lookup_name: buffer too small>"
 
--- The text where it and its closing 0 byte fit into a buffer of `size` bytes; else as much of it as
--- leaves room for three dots and that byte. Where it does not fit, and the buffer has less than 4
+-- The text if it and its closing 0 byte fit into a buffer of `size` bytes; else as much of it as
+-- leaves room for three dots and that byte. If it does not fit, and the buffer has less than 4
 -- bytes, it is the text that says so, whole.
 abbrev pub cut : List ℕ → ℕ → List ℕ
 cut text size =

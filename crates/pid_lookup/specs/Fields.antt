@@ -8,12 +8,12 @@ use Rattle.pid_form.specs.Fields.{Fields, is_twice, value}
 use Rattle.pid_form.specs.Numbers.{numeral}
 use Rattle.pid_lookup.specs.declared.args.Args.{Args}
 
--- a value by its rule, and what is said where there is none
+-- a value by its rule, and what is said if there is none
 abbrev pub by_rule : (List ℕ → Option ℕ) → Option ℕ → Option (List ℕ) → Option ℕ
 by_rule rule missing None = missing
 by_rule rule missing (Some value) = rule value
 
--- what a field says: nothing where it is there more than once
+-- what a field says: nothing if it is there more than once
 abbrev pub said : (List ℕ → Option ℕ) → Option ℕ → List ℕ → Fields → Option ℕ
 said rule missing name fields = if is_twice name fields then None
     else by_rule rule missing (value name fields)
@@ -22,15 +22,15 @@ said rule missing name fields = if is_twice name fields then None
 abbrev pub flags_said : Fields → Option ℕ
 flags_said fields = said (numeral 16 1 8) None (codes "flags") fields
 
--- the size: 1 to 9 decimal digits, 1024 where it is missing
+-- the size: 1 to 9 decimal digits, 1024 if it is missing
 abbrev pub size_said : Fields → Option ℕ
 size_said fields = said (numeral 10 1 9) (Some 1024) (codes "size") fields
 
--- vendor, device, subvendor, subdevice and class: 4 hex digits, 0000 where it is missing
+-- vendor, device, subvendor, subdevice and class: 4 hex digits, 0000 if it is missing
 abbrev pub number_said : List ℕ → Fields → Option ℕ
 number_said name fields = said (numeral 16 4 4) (Some 0) name fields
 
--- the programming interface: 2 hex digits, 00 where it is missing
+-- the programming interface: 2 hex digits, 00 if it is missing
 abbrev pub progif_said : Fields → Option ℕ
 progif_said fields = said (numeral 16 2 2) (Some 0) (codes "progif") fields
 
@@ -47,7 +47,7 @@ abbrev pub are_known : Fields → Bool
 are_known fields = list_all (λ field. is_known field.0) fields
 
 -- Bad fields: one is unknown, or one of the eight says nothing: it breaks its rule, is there twice,
--- or is missing where it must be there.
+-- or is missing though it must be there.
 abbrev pub are_bad : Fields → Bool
 are_bad fields = not (are_known fields) || list_any is_none (
     flags_said fields ∷ size_said fields
@@ -80,7 +80,7 @@ look_up_said fields = record {
   size = unwrap_or (size_said fields) 0;
 }
 
--- and none where they are bad
+-- or none if they are bad
 unfoldable pub look_up_in : Fields → Option LookUp
 look_up_in fields = if are_bad fields then None else Some (look_up_said fields)
 

@@ -22,7 +22,7 @@ first_there [] = None
 first_there (None ∷ names) = first_there names
 first_there (Some name ∷ names) = Some name
 
--- a name that counts only where a test holds
+-- a name that counts only if a test holds
 abbrev pub where_true : Bool → Option (List ℕ) → Option (List ℕ)
 where_true true name = name
 where_true false name = None
@@ -32,7 +32,7 @@ abbrev pub under_device : (Path → Option (List ℕ)) → Args → Option (List
 under_device named a = where_true (nat_lt 0 a.vendor && nat_lt 0 a.device)
     (named (Subsystem a.vendor a.device a.subvendor a.subdevice))
 
--- the device, where it is its own subsystem
+-- the device, if it is its own subsystem
 abbrev pub own_device : (Path → Option (List ℕ)) → Args → Option (List ℕ)
 own_device named a = where_true (a.subvendor == a.vendor && a.subdevice == a.device)
     (named (Device a.vendor a.device))
@@ -55,7 +55,7 @@ subclass_name named a = named (Subclass (class_byte a) (subclass_byte a))
 abbrev pub class_name : (Path → Option (List ℕ)) → Args → Option (List ℕ)
 class_name named a = named (Class (class_byte a))
 
--- a word in a list, where the bit is set
+-- a word in a list, if the bit is set
 abbrev pub word_at : ℕ → ℕ → List ℕ → List (List ℕ)
 word_at progif bit word = if has_bits progif bit then word ∷ [] else []
 

@@ -2,7 +2,7 @@
 use Rattle.std.specs.Prelude.{◌↔◌}
 
 -- What was shown is still shown, an honest holder was honest before, the faults that may come are
--- the same, it may answer exactly where it could before, and a holder that was only asked since
+-- the same, it may answer exactly when it could before, and a holder that was only asked since
 -- some start still is.
 pub record KeepsHolder {X S F : Type 0} (shows : X → S → Type 0) (honest : X → Type 0)
     (may_give : X → F → Type 0) (may_tell : X → Type 0) (only_asked : X → X → Type 0)

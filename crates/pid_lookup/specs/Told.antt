@@ -10,7 +10,7 @@ use Rattle.pid_lookup.specs.Flags.{switches_of, request_of}
 abbrev pub NeedsNames : ℕ → Type 0
 NeedsNames flags = ((switches_of flags).numeric ≡ false) × IsSome (request_of flags)
 
--- An answer, or no memory for it, comes only where the holder may answer; bad flags and a fault
+-- An answer, or no memory for it, comes only if the holder may answer; bad flags and a fault
 -- of the holder come of any.
 abbrev pub TellsOnlyIf : {A F : Type 0} → Type 0 → Result A (LookupRefusal F) → Type 0
 TellsOnlyIf may (Ok answer) = may
@@ -18,7 +18,7 @@ TellsOnlyIf may (Err BadFlags) = ⊤
 TellsOnlyIf may (Err (Names fault)) = ⊤
 TellsOnlyIf may (Err Memory) = may
 
--- where a name must be asked for, a look-up has an answer only of a holder that may answer
+-- if a name must be asked for, a look-up has an answer only of a holder that may answer
 abbrev pub IsToldBy : {A F : Type 0} → Type 0 → ℕ → Result A (LookupRefusal F) → Type 0
 IsToldBy may flags result = NeedsNames flags → TellsOnlyIf may result
 
@@ -29,7 +29,7 @@ pub record AsksWhereNeeded {A F : Type 0} (may_give : F → Type 0) (may_tell : 
   pub fault : (f : F) → IsErrOf result (Names f) → may_give f
   -- none comes if only numbers are wanted
   pub unasked : (switches_of flags).numeric ≡ true → (f : F) → result ≢ Err (Names f)
-  -- nor where there is no request
+  -- nor if there is no request
   pub unrequested : IsNone (request_of flags) → (f : F) → result ≢ Err (Names f)
-  -- where a name must be asked for, an answer comes only of a holder that may answer
+  -- if a name must be asked for, an answer comes only of a holder that may answer
   pub told : IsToldBy may_tell flags result

@@ -1,5 +1,5 @@
--- Why a question has no answer, where no command is refused so: the number, the word and the line
--- of each. Choices of this project.
+-- Why a question has no answer, for causes that refuse no command: the number, the word and the
+-- line of each. Choices of this project.
 use Rattle.std.specs.Prelude.{ℕ, List, codes}
 use Rattle.pid_lookup.specs.declared.unanswered.Unanswered.{Unanswered}
 use Rattle.pid_lookup.specs.declared.unanswered.Unanswered.TheVariants.{NoItem, BadFlags, NoAnswer}
@@ -16,7 +16,7 @@ unanswered_word NoItem = codes "NoItem"
 unanswered_word BadFlags = codes "BadFlags"
 unanswered_word NoAnswer = codes "NoAnswer"
 
--- its line: as that of a command that is refused, and `none` where a look-up has no answer
+-- its line: as that of a command that is refused, and `none` if a look-up has no answer
 abbrev pub unanswered_line : Unanswered → List ℕ
 unanswered_line NoItem = codes "refused 25 NoItem\n"
 unanswered_line BadFlags = codes "refused 26 BadFlags\n"

@@ -64,12 +64,12 @@ impl<F> From<AllocError> for LookupRefusal<F> {
 /// The low 16 bits of the flags say what is looked up, as libpci's `PCI_LOOKUP_VENDOR` and its kin
 /// do; above these `PCI_LOOKUP_NUMERIC`, `PCI_LOOKUP_NO_NUMBERS` and `PCI_LOOKUP_MIXED` say how.
 ///
-/// `BadFlags` comes exactly where the flags ask for numbers alone and for no numbers, or have an
-/// unknown bit. `Names` is a fault of the holder, and comes only where a name must be asked for;
-/// `Memory` comes where there is none for the answer. After an error, as after an answer, the
+/// `BadFlags` comes exactly when the flags ask for numbers alone and for no numbers, or have an
+/// unknown bit. `Names` is a fault of the holder, and comes only if a name must be asked for;
+/// `Memory` comes if there is none for the answer. After an error, as after an answer, the
 /// holder shows what it showed.
 ///
-/// Where the flags are good and a name must be asked for, an answer comes only of a holder that may
+/// If the flags are good and a name must be asked for, an answer comes only of a holder that may
 /// answer; of another its fault is all that comes.
 pub fn lookup<N: Names>(
     alloc: Global,

@@ -18,7 +18,7 @@ use crate::args::Args;
 use pid_form::{is_twice, numeral, value};
 use thiserror::Error;
 
-/// A field of a look-up is unknown, there twice, missing where it must be there, or breaks its
+/// A field of a look-up is unknown, there twice, missing though it must be there, or breaks its
 /// rule.
 #[derive(Clone, Copy, Debug, PartialEq, Eq, Error)]
 #[error("the fields of the look-up are bad")]
@@ -26,9 +26,9 @@ pub struct BadField;
 
 /// The flags, the arguments and the size that fields, pairs of a name and a value, say.
 ///
-/// `flags` is 1 to 8 hex digits and must be there. `size` is 1 to 9 decimal digits, 1024 where it
+/// `flags` is 1 to 8 hex digits and must be there. `size` is 1 to 9 decimal digits, 1024 if it
 /// is missing. `vendor`, `device`, `subvendor`, `subdevice` and `class` are 4 hex digits, `progif`
-/// is 2, and 0 where they are missing. The order of the fields does not matter.
+/// is 2, and 0 if they are missing. The order of the fields does not matter.
 pub fn args_of(fields: &[(String, String)]) -> Result<(u32, Args, u32), BadField>
     ensures ok { IfOk result (λ look_up. look_up_in (bytes_of fields.now)
         ≡ Some (as_look_up look_up)) }

@@ -130,7 +130,7 @@ fn find_generic<N: Names>(names: &mut N, args: &Args) -> Result<Option<Name>, N:
     })
 }
 
-// The device, where it is its own subsystem.
+// The device, if it is its own subsystem.
 fn find_own_device<N: Names>(names: &mut N, args: &Args) -> Result<Option<Name>, N::Fault>
     ensures asks { AsksNamesFor N.Names names.old names.new result
         (λ named. own_device named args.now) }

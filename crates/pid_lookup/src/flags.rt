@@ -70,7 +70,7 @@ impl Request {
     }
 }
 
-/// What the flags say; the request is missing where the low 16 bits are none.
+/// What the flags say; the request is missing if the low 16 bits are none.
 #[derive(Clone, Copy)]
 pub struct Flags {
     /// What is looked up.

@@ -52,7 +52,7 @@ impl IdeWords {
         front
     }
 
-    // One more word, where it is there.
+    // One more word, if it is there.
     fn with(self, is_there: bool, word: &[u8]) -> IdeWords
         requires { length self + 1 + length word.now ≤ 32 }
         ensures words { result ≡ with_word self is_there word.now }

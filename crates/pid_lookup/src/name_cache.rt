@@ -61,8 +61,8 @@ impl NameCache {
         })
     }
 
-    /// What is known of the path: None where it has no entry, and else a copy of its name or the
-    /// absence of one. It fails only where memory for the copy is refused. The path counts as used
+    /// What is known of the path: None if it has no entry, and else a copy of its name or the
+    /// absence of one. It fails only if memory for the copy is refused. The path counts as used
     /// either way.
     pub fn get(&mut self, path: &Path) -> Result<Option<Option<Name>>, AllocError>
         ensures found { IfOk result (λ found. found ≡ entry_at (path_text path.now) self.old) }
@@ -80,7 +80,7 @@ impl NameCache {
         }
     }
 
-    /// Keeps what was found for the path. Where memory for it is refused, the cache stays as it
+    /// Keeps what was found for the path. If memory for it is refused, the cache stays as it
     /// was.
     pub fn put(&mut self, path: &Path, name: &Option<Name>)
         ensures kept_or_not { (self.new ≡ with_answer (path_text path.now) name.now self.old)

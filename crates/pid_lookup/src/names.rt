@@ -33,19 +33,19 @@ pub trait Names {
     /// Whether the holder may fail with this fault.
     ghost may_give: { Self → Self.Fault → Type 0 };
 
-    /// Whether the holder may answer that a path has a name, or that it has none: where not, each
+    /// Whether the holder may answer that a path has a name, or that it has none: if not, each
     /// question gets a fault.
     ghost may_tell: { Self → Type 0 } = { λ _. ⊤ };
 
-    /// Whether this fault has its cause between the first holder and the second, where the first
+    /// Whether this fault has its cause between the first holder and the second, if the first
     /// was only asked for names since.
     ghost has_cause: { Self → Self → Self.Fault → Type 0 } = { λ _ _ _. ⊤ };
 
-    /// Whether a holder that was the first may be the second where it was asked for names, and
+    /// Whether a holder that was the first may be the second if it was asked for names, and
     /// nothing else was done to it.
     ghost only_asked: { Self → Self → Type 0 };
 
-    /// A copy of the name of a path, and none where it has no name; or a fault.
+    /// A copy of the name of a path, or none if it has no name; or a fault.
     fn name_of(&mut self, path: &Path) -> Result<Option<Name>, Self::Fault>
         ensures found { is_honest self.new → (s : Shown) → shows self.old s
             → IfOk result (λ name. name ≡ name_in_map (map_of s) path.now) }

@@ -44,7 +44,7 @@ impl Unanswered {
         }
     }
 
-    /// The line that says so: `refused`, the number and the word, and `none` where a look-up has
+    /// The line that says so: `refused`, the number and the word, and `none` if a look-up has
     /// no answer.
     pub fn line(self) -> &'static str
         ensures { result.now ≡ unanswered_line self }

@@ -54,6 +54,6 @@ shown registry = accepted_history registry.accepted.items
 abbrev pub views : PlainRegistry → Views
 views registry = views_of (shown registry)
 
--- what a command asks, where the file of an import reads to this
+-- what a command asks, if the file of an import reads to this
 abbrev pub asked_plainly : Command → FileReading → Asked
 asked_plainly command file = asked command (plain_reading file)

@@ -71,7 +71,7 @@ pub fn import(items: &mut BTreeMap<Path, Name>, pairs: &[(Path, Name)]) -> Resul
     }
 }
 
-// What a command does to the items, where these came before it.
+// What a command does to the items, if these came before it.
 fn itemize(
     items: &mut BTreeMap<Path, Name>,
     entry: &Accepted,

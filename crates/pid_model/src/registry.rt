@@ -224,7 +224,7 @@ impl PlainRegistry {
         }
     }
 
-    /// Obeys a command. Where it is an import, its file reads to this; with other commands that
+    /// Obeys a command. If it is an import, its file reads to this; with other commands that
     /// says nothing. What is accepted, and was not answered before, is added to the list. A
     /// refusal, also one as out of memory, changes nothing.
     pub fn obey(&mut self, command: Command, file: FileReading) -> Result<Reply, Refusal>

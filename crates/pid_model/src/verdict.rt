@@ -98,7 +98,7 @@ fn good(mut items: BTreeMap<Path, Name>, pairs: &[(Path, Name)]) -> Result<Verdi
     })
 }
 
-/// What a file comes to over the items; None where it is too long.
+/// What a file comes to over the items; None if it is too long.
 pub fn verdict(
     items: BTreeMap<Path, Name>,
     file: &FileReading,

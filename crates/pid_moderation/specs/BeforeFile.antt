@@ -9,7 +9,7 @@ use Rattle.pid_moderation.specs.Views.{views_of}
 use Rattle.pid_moderation.specs.CheckTables.{first_failing, import_checks}
 use Rattle.pid_moderation.specs.Judgement.{judge, answer, after}
 
--- an import of an account, under a key where there is one
+-- an import of an account, under a key if there is one
 abbrev pub import_of : List ℕ → Option (List ℕ) → Reading → Asked
 import_of account key reading = record { account = account; key = key; deed = Imports reading }
 

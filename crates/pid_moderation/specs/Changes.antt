@@ -28,12 +28,12 @@ abbrev pub write : Option Write → Items → Items
 write None items = items
 write (Some w) items = edited (path_text w.path) w.edit items
 
--- the number of a path, where a change with this number leads from items to other items
+-- the number of a path, if a change with this number leads from items to other items
 abbrev pub renumbered : ℕ → (before now : Items) → (List ℕ → ℕ) → List ℕ → ℕ
 renumbered n before now since path = if is_named_anew (name_at path before)
     (name_at path now) then n else since path
 
--- other items, with the number where they are added or renamed
+-- other items, with the number if they are added or renamed
 abbrev pub with_items : ℕ → Items → Views → Views
 with_items n items v = record v { items = items; since = renumbered n v.items items v.since }
 
@@ -58,7 +58,7 @@ affected n (Decided number state w) v = record
     (with_items n (write w v.items) v) { state = λ m. if m == number then state else v.state m }
 affected n (Imported items) v = v
 
--- the receipt, where there is a key
+-- the receipt, if there is a key
 abbrev pub keeping : Option Receipt → Views → Views
 keeping None v = v
 keeping (Some r) v = record v {
@@ -79,8 +79,8 @@ with_pairs pairs v = with_items (v.revision + 1) (imported pairs v.items) v
 abbrev pub IsThere : Option Submission → Type 0
 IsThere o = is_some o ≡ true
 
--- an item is added where there is none, renamed where there is one of another name, and removed
--- where there is one
+-- an item is added if there is none, renamed if there is one of another name, and removed
+-- if there is one
 abbrev pub FitsEdit : Edit → Option (List ℕ) → Type 0
 FitsEdit (Add name) present = is_none present ≡ true
 FitsEdit (Rename name) present = (is_some present ≡ true) × (has_name name present ≡ false)
@@ -102,7 +102,7 @@ FitsEffect (Decided number state w) v = IsThere (submission_at number v.submits)
     × FitsWrite w v.items
 FitsEffect (Imported items) v = items ≡ length v.items
 
--- no reply is kept yet where a receipt goes
+-- no reply is kept yet under the key of a receipt
 abbrev pub FitsReceipt : Option Receipt → Views → Type 0
 FitsReceipt None v = Unit {0}
 FitsReceipt (Some r) v = v.kept r.account r.key ≡ None

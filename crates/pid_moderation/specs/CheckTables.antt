@@ -116,7 +116,7 @@ item_checks f s =
 abbrev pub approval_checks : List ℕ → Facts → Named → Checks
 approval_checks account f s = decision_checks account f.rank s ++ item_checks f s
 
--- the checks of the named submission; where there is none, that is the refusal
+-- the checks of the named submission; if there is none, that is the refusal
 abbrev pub if_named : Option Named → (Named → Checks) → Checks
 if_named None checks = (true, NoSubmission) ∷ []
 if_named (Some s) checks = checks s

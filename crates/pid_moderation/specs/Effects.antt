@@ -1,4 +1,4 @@
--- What is answered and changed where all checks pass, by the facts.
+-- What is answered and changed if all checks pass, by the facts.
 use Rattle.std.specs.Prelude.{◌≡◌, ◌≢◌, ℕ, ◌+◌, ◌-◌, is_none, List, [], Option, Some, None, Result}
 use Rattle.std.specs.Prelude.{Ok, Err, IfOk, IfErr, MatchResult}
 use Rattle.std.specs.Option.{option_map}

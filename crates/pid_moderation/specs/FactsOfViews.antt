@@ -95,7 +95,7 @@ looked_at v NoRows f = f
 abbrev pub facts_at : Views → List ℕ → Option (List ℕ) → Wanted → Facts
 facts_at v account key w = looked_at v w (known v account key)
 
--- and what the file of an import comes to: from here on `file` is `None` where it is too long, or
+-- and what the file of an import comes to: from here on `file` is `None` if it is too long, or
 -- the command is no import
 abbrev pub with_file : Items → Deed → Facts → Facts
 with_file items (Imports reading) f = record f { file = verdict items reading }

@@ -58,7 +58,7 @@ rank_in text =
 abbrev pub number_in : List ℕ → Option ℕ
 number_in text = numbers.number_up_to most_submissions 10 text
 
--- a name where there is one, else a removal
+-- a name if there is one, else a removal
 abbrev pub proposal_in : Option (List ℕ) → Proposal
 proposal_in (Some name) = proposals.Name name
 proposal_in None = proposals.Removal
@@ -108,12 +108,12 @@ form_checks verb account key fields =
     ∷ (not (is_none_or is_key key), BadText)
     ∷ []
 
--- what a proposal says: a name where there is one, else a removal
+-- what a proposal says: a name if there is one, else a removal
 abbrev pub submission_said : Fields → Path → Act
 submission_said fields path = acts.Submit path (proposal_in (value (codes "name") fields))
     (text_at (codes "note") fields)
 
--- what the fields say, where they pass the checks
+-- what the fields say, if they pass the checks
 abbrev pub act_said : Verb → Fields → Option Act
 act_said Account fields =
     option_map (λ rank. acts.Account (text_at (codes "who") fields) rank)

@@ -35,7 +35,7 @@ abbrev pub is_import : Act → Bool
 is_import (acts.Import file) = true
 is_import act = false
 
--- what a command asks, where the file of an import reads to this
+-- what a command asks, if the file of an import reads to this
 abbrev pub deed_of : Act → Reading → Deed
 deed_of (acts.Account who rank) reading = Ranks who rank
 deed_of (acts.Submit path proposal note) reading = Submits path proposal note

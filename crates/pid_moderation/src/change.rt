@@ -37,7 +37,7 @@ pub struct Write {
 pub enum Effect {
     /// None of these changes.
     Nothing,
-    /// An account gets a rank; `is_new` where it is not there yet.
+    /// An account gets a rank; `is_new` if it is not there yet.
     Ranked {
         who: Account,
         rank: Rank,
@@ -58,7 +58,7 @@ pub enum Effect {
         author: Account,
         text: Text,
     },
-    /// A pending submission gets a state, and where it is approved the item of its path is written.
+    /// A pending submission gets a state, and if it is approved the item of its path is written.
     Decided {
         number: u32,
         state: State,
@@ -74,7 +74,7 @@ pub enum Effect {
 #[derive(Debug, Drop)]
 pub struct Change {
     pub effect: Effect,
-    /// The reply that is kept from now on, where the command has a key.
+    /// The reply that is kept from now on, if the command has a key.
     pub receipt: Option<Receipt>,
     /// The revision that it leads to; for a kept reply the one that is.
     pub revision: u64,

@@ -61,7 +61,7 @@ pub fn first_failing(checks: &[(bool, Refusal)]) -> Option<Refusal>
     }
 }
 
-/// Passes where no check fails; else the refusal of the first that does.
+/// Passes if no check fails; else the refusal of the first that does.
 pub fn pass(checks: &[(bool, Refusal)]) -> Result<(), Refusal>
     ensures { FollowsChecks checks.now tt result }
 {

@@ -48,13 +48,13 @@ pub struct Facts {
     pub kept: Option<Reply>,
     /// How many commands were accepted since the registry began to count.
     pub revision: u64,
-    /// The rank of the account whose rank is to be set; None where it is new.
+    /// The rank of the account whose rank is to be set; None if it is new.
     pub who: Option<Rank>,
-    /// How many submissions there are, where one more is to be made.
+    /// How many submissions there are, if one more is to be made.
     pub submissions: u32,
-    /// How many items there are, where a submission is to be approved.
+    /// How many items there are, if a submission is to be approved.
     pub items: u32,
-    /// The submission with the command's number; None where there is none.
+    /// The submission with the command's number; None if there is none.
     pub named: Option<Named>,
     /// The name at the path of the submission that is to be approved.
     pub present: Option<Name>,
@@ -63,6 +63,6 @@ pub struct Facts {
     /// Whether that path is the parent of an item.
     pub has_children: bool,
     /// What the file of an import comes to. For `before_file` it is None, since the file is not
-    /// read yet; for `decide` it is None where the file is too long, and of every other command.
+    /// read yet; for `decide` it is None if the file is too long, and of every other command.
     pub file: Option<Verdict>,
 }

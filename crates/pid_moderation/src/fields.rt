@@ -72,7 +72,7 @@ pub fn account_in(alloc: Global, text: &str) -> Result<Account, Refusal>
     }
 }
 
-/// A key, where there is one; or `BadText`, or `Memory`.
+/// A key, if there is one; or `BadText`, or `Memory`.
 pub fn key_in(alloc: Global, text: Option<&str>) -> Result<Option<Key>, Refusal>
     ensures ok { IfOk result (λ word. (word ≡ option_copied text.entry) ×
         (is_none_or key_test (option_copied text.entry) ≡ true)) }
@@ -125,7 +125,7 @@ pub fn remark_in(alloc: Global, text: &str) -> Result<Text, Refusal>
     Ok(remark)
 }
 
-/// A file; or `BadText` where it is too long, or `Memory`.
+/// A file; or `BadText` if it is too long, or `Memory`.
 pub fn file_in(alloc: Global, text: &str) -> Result<File, Refusal>
     ensures ok { IfOk result (λ file. (file ≡ text.now)
         × (nat_le (length text.now) file_bytes ≡ true)) }

@@ -87,7 +87,7 @@ fn proposal(alloc: Global, fields: &[(String, String)]) -> Result<Proposal, Refu
     }
 }
 
-// Whether a removal, where there is one, is said by `yes`.
+// Whether a removal, if there is one, is said by `yes`.
 fn is_removal_told(fields: &[(String, String)]) -> bool
     ensures { result ≡ is_none_or (bytes_eq (codes "yes"))
         (value_in (codes "remove") (texts_of fields.now)) }

@@ -115,7 +115,7 @@ pub fn revisions_are_within()
 {}
 
 /// The since of an item that is there is the revision at which it was added or renamed for the last
-/// time, 0 where that was before the mark.
+/// time, 0 if that was before the mark.
 pub fn sinces_are_last_changes()
     ensures within { (h : History) (path : List ℕ) → since_of path h ≤ revision_of h }
     // Up to the mark nothing counts as changed.
@@ -128,7 +128,7 @@ pub fn sinces_are_last_changes()
     ensures removed { (h : History) (c : Asked) (path : List ℕ)
         → name_at path (items_of (after h c)) ≡ None
         → since_of path (after h c) ≡ since_of path h }
-    // A name that was not there is as new as the command, also where the item had it before it was
+    // A name that was not there is as new as the command, also if the item had it before it was
     // removed.
     ensures given { (h : History) (c : Asked) (path name : List ℕ)
         → name_at path (items_of (after h c)) ≡ Some name

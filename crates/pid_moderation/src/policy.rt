@@ -76,7 +76,7 @@ use crate::refusal::Refusal;
 use pid_ident::{Account, Name, Path, Text};
 use std::alloc::AllocError;
 
-// What is refused where no submission has the number.
+// What is refused if no submission has the number.
 fn absent(facts: &Facts) -> Refusal
     ensures { first_that_fails ((is_none facts.now.rank, Refusal.NoAccount)
         ∷ (true, Refusal.NoSubmission) ∷ []) ≡ Some result }
@@ -359,13 +359,13 @@ fn import(facts: &Facts) -> Result<(Effect, Reply), Refusal>
 }
 
 /// What an import is answered before its file is read: the reply that is kept for it, or a refusal
-/// that no file changes but one that is too long. None where it depends on the file.
+/// that no file changes but one that is too long. None if it depends on the file.
 pub fn before_file(facts: &Facts) -> Option<Result<Reply, Refusal>>
     // Whatever the file reads to, that is the answer, and the import changes nothing.
     ensures settled { (h : History) (account : List ℕ) (key : Option (List ℕ))
         → facts.now ≡ facts_at (views_of h) account key NoRows
         → IfSome result (SettlesImport h account key) }
-    // None where there is no kept reply, and no check before those of the file fails.
+    // None if there is no kept reply, and no check before those of the file fails.
     ensures open { IfNone result (WaitsForFile facts.now) }
     // Whatever the facts are.
     ensures alive { IfSome result (λ r. IfErr r (λ e. e ≢ Refusal.Failed)) }

@@ -64,7 +64,7 @@ pub fn refusals_stand()
         → refused (text ++ more) ≡ Some r }
 {}
 
-/// A text is refused nowhere exactly where no line has a fault and it has at most 100,000 entries.
+/// A text is refused nowhere exactly when no line has a fault and it has at most 100,000 entries.
 pub fn good_texts_are_read()
     ensures { (text : List ℕ) → (refused text ≡ None)
         ↔ (AreGood (history_of text) × (length (entries_back (history_of text)) ≤ ENTRIES)) }

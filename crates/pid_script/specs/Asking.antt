@@ -54,6 +54,6 @@ path_in fields = refused_or (first_failing (path_checks fields))
 unfoldable pub path_asked : List ℕ → Result Path Refusal
 path_asked form = path_in (fields_in form)
 
--- the look-up that a form says, where its fields are not bad
+-- the look-up that a form says, if its fields are not bad
 unfoldable pub look_up_asked : List ℕ → Option LookUp
 look_up_asked form = look_up_in (fields_in form)

@@ -5,7 +5,7 @@ use Rattle.pid_script.specs.declared.script_end.ScriptEnd.TheVariants.{Done, Rea
 use Rattle.pid_script.specs.declared.script_end.ScriptEnd.TheVariants.{TooLong, Stopped}
 use Rattle.pid_script.specs.declared.script_end.ScriptEnd.TheVariants.{TurnsSpent}
 
--- 0 where all lines were answered, whatever was refused on the way; 1 where a line is too long; 3
+-- 0 if all lines were answered, whatever was refused on the way; 1 if a line is too long; 3
 -- for the others
 abbrev pub script_status : ScriptEnd → ℕ
 script_status Done = 0

@@ -10,7 +10,7 @@ use Rattle.pid_lookup.specs.Flags.{is_bad}
 use Rattle.pid_moderation.specs.declared.refusal.Refusal.{Refusal}
 use Rattle.pid_moderation.specs.Faults.{IsFault}
 
--- the answer over the tree, where the flags are not bad; that they are bad; or out of memory or a
+-- the answer over the tree, if the flags are not bad; that they are bad; or out of memory or a
 -- fault of the store
 abbrev pub LooksUp : Result Answer (LookupRefusal Refusal) → TreeMap → ℕ → Args → ℕ → Type 0
 LooksUp (Ok answer) tree flags args size = (is_bad flags ≡ false)

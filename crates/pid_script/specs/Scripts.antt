@@ -72,7 +72,7 @@ AllButLast P [] = Unit {0}
 AllButLast P (line ∷ []) = Unit {0}
 AllButLast P (line ∷ next ∷ lines) = P line × AllButLast P (next ∷ lines)
 
--- Lines in three parts, where a writer failed: those whose replies were out; those that wait, of
+-- Lines in three parts, if a writer failed: those whose replies were out; those that wait, of
 -- which only the last may be a command; and those that were not read.
 pub record WriterCut (lines : List (List ℕ)) : Type 0 where
   pub before : List (List ℕ)

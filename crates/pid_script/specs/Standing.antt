@@ -25,7 +25,7 @@ module _ {R : Type 0} (registry : Ghosts R) where
   ShowsEither r first second = registry.showing.shows r first
       ⊎ (registry.showing.shows r second ⊎ registry.showing.fails_between r first second)
 
-  -- the same, where it may not be known which of the two histories it is
+  -- the same, if it may not be known which of the two histories it is
   pub record BecomesEither (old : R) (h : History) (new : R) (first second : History) : Type 0 where
     pub shows : registry.showing.shows old h → ShowsEither new first second
     pub failed : registry.has_failed old → new ≡ old

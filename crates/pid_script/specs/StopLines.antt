@@ -47,7 +47,7 @@ pub record IsStopText (Cause : Refusal → Type 0) (Begun : List ℕ → Type 0)
 module _ {R : Type 0} (registry : Ghosts R) where
   -- Which answer stops a script: a live registry refuses because memory ran out or its store
   -- failed, one that has failed refuses all; and memory may run out for the script itself, which is
-  -- all that stops it where the registry is not asked.
+  -- all that stops it if the registry is not asked.
   pub record StoppedBy (r : R) (h : History) (ask : Ask) (refusal : Refusal) : Type 0 where
     pub stops : is_stop refusal ≡ true
     pub live : registry.showing.shows r h → IsFault refusal

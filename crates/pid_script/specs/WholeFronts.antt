@@ -1,4 +1,4 @@
--- Whole lines of a text: what an export has written where the store fails it.
+-- Whole lines of a text: what an export has written if the store fails it.
 use Rattle.std.specs.Prelude.{◌≡◌, ℕ, List, [], ◌++◌}
 use Rattle.pid_reader.specs.WholeLines.{open_part}
 

@@ -73,8 +73,8 @@ pub trait Moderated {
         ensures failed { has_failed self.old
             → (result ≡ Err (look_ups.Names Failed)) × (self.new ≡ self.old) };
 
-    /// Writes the canonical text, line by line. Where it is refused, what was written is whole
-    /// lines of the text, or nothing. Where the writer failed it may end within a line.
+    /// Writes the canonical text, line by line. If it is refused, what was written is whole
+    /// lines of the text, or nothing. If the writer failed it may end within a line.
     fn export<O: Output>(&mut self, out: &mut O) -> Result<(), ExportFault>
         ensures calls { Does showing self.old nothing_sent self.new }
         ensures kept { showing.is_clean self.new → (h : History) → showing.shows self.old h

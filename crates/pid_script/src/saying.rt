@@ -1,7 +1,7 @@
 //! The text that is held for a writer.
 //!
 //! Replies are held until a command was answered, a read ends or there is no more room, so that
-//! many go out by one write. Where there is no memory to hold them they go out at once.
+//! many go out by one write. If there is no memory to hold them they go out at once.
 ghost use Rattle.std.specs.Prelude.{
   ◌≡◌,
   ◌≤◌,
@@ -28,7 +28,7 @@ use pid_ident::{Output, write_all};
 /// The most bytes that are held.
 pub const ROOM: usize = 65_536;
 
-// Holds more bytes, where there is room and memory for them.
+// Holds more bytes, if there is room and memory for them.
 fn holds(held: &mut Vec<u8>, text: &[u8]) -> bool
     ensures held { result ≡ true → held.new.items ≡ held.old.items ++ text.now }
     ensures same { result ≡ false → held.new.items ≡ held.old.items }

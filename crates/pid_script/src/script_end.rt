@@ -20,8 +20,8 @@ pub enum ScriptEnd {
 }
 
 impl ScriptEnd {
-    /// The status of a process whose script ends so: 0 where all lines were answered, whatever was
-    /// refused on the way, 1 where a line is too long, else 3.
+    /// The status of a process whose script ends so: 0 if all lines were answered, whatever was
+    /// refused on the way, 1 if a line is too long, else 3.
     pub fn status(self) -> u8
         ensures { result ≡ script_status self }
     {

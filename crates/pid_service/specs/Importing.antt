@@ -37,7 +37,7 @@ pub record HasRead (result : Result Reply ImportEnd) (to_come left : Option (Lis
   pub read : ReadsImport result left text
   pub holds : Holds text
 
--- as a command is obeyed; where the input failed, the registry shows the history as before
+-- as a command is obeyed; if the input failed, the registry shows the history as before
 abbrev pub ObeysImport : {S : Type 0} → (store : Ghosts S) → Result Reply ImportEnd
     → Registry S store → History → Asked → Type 0
 ObeysImport store (Ok reply) r h c = Obeys store (Ok reply) r h c
@@ -49,7 +49,7 @@ abbrev pub EndIsNotFailed : ImportEnd → Type 0
 EndIsNotFailed (Refused e) = e ≢ Failed
 EndIsNotFailed Body = Unit {0}
 
--- where one of these is answered a live registry stays live: a reply, a refusal with a number from
+-- if one of these is answered a live registry stays live: a reply, a refusal with a number from
 -- 1 to 15, or a fault of the input
 abbrev pub leaves_live : Result Reply ImportEnd → Bool
 leaves_live (Ok reply) = true
@@ -104,6 +104,6 @@ module _ {S : Type 0} (store : Ghosts S) where
 pub record InputIsRead {I : Type 0} (input : inputs.Ghosts I) (old new : I)
     (result : Result Reply ImportEnd) : Type 0 where
   pub goes : input.goes old new
-  -- Body is answered exactly where it failed
+  -- Body is answered exactly when it failed
   pub fault : result ≡ Err Body → IsSome (input.read_fault new)
   pub fault_first : IsSome (input.read_fault new) → result ≡ Err Body

@@ -11,7 +11,7 @@ use Rattle.pid_tree.specs.Printing.{ended, header, lines_behind}
 abbrev pub text_of_items : Items → List ℕ
 text_of_items items = ended (header ∷ lines_behind [] items)
 
--- a text's length in bytes, and the text itself where it is in memory
+-- a text's length in bytes, and the text itself if it is in memory
 pub record IsTextOf (bytes : ℕ) (text : Option (Vec ℕ Global)) (items : Items) : Type 0 where
   pub counted : bytes ≡ length (text_of_items items)
   pub kept : IfSome text (λ t. t.items ≡ text_of_items items)

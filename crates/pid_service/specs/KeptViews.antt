@@ -22,7 +22,7 @@ nothing = record { names = []; text = None }
 pub record IsRightFor (k : KeptViews) (v : Views) : Type 0 where
   -- the paths that were asked for last, each with its name or the absence of one
   pub names : Agrees k.names (λ path. name_at path v.items)
-  -- the canonical text, where it is kept
+  -- the canonical text, if it is kept
   pub text : IfSome k.text (λ bytes. bytes.items ≡ text_of_items v.items)
 
 -- while the disk returns what was written, what is kept is right about the history

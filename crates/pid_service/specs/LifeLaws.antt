@@ -77,7 +77,7 @@ module _ {S : Type 0} (store : Ghosts S) where
         → ShowsOrBlank store conn h → OpensTo store conn (Ok first) → HasCleanDisk store first
         → Shows store first h
 
-  -- What becomes of a history that a connection shows, where it is migrated or not opened.
+  -- What becomes of a history that a connection shows, if it is migrated or not opened.
   pub record HistoriesAreKept : Type 0 where
     -- the tables that a migration leaves show it in the schema of today
     pub moved : (conn moved : Held S) (step : Step) (h : History) → IsReached h
@@ -86,7 +86,7 @@ module _ {S : Type 0} (store : Ghosts S) where
     -- whether it failed or not, it is shown still
     pub migrated : (conn : Held S) (result : Result (Held S × Step) (TableFault × Held S))
         → MovesTo store conn result → KeepsHistory store store conn (moved_to store result)
-    -- and where an opening failed, the connection that comes back shows it
+    -- and if an opening failed, the connection that comes back shows it
     pub unopened : (conn back : Held S) (fault : TableFault)
         → OpensTo store conn (Err (fault, back)) → KeepsHistory store store conn back
     -- neither answers damage or a later schema

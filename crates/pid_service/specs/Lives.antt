@@ -44,7 +44,7 @@ module _ {S T : Type 0} (from : Ghosts S) (to : Ghosts T) where
         → ShowsOrBlank from earlier h → ShowsOrBlank to conn h
 
   -- while the disk of a connection returns what was written, its tables are what a registry showed;
-  -- where that had failed, they are of the one history or the other
+  -- if that had failed, they are of the one history or the other
   pub record LeavesTablesTo (ended : Registry S from) (conn : Held T) : Type 0 where
     pub clean : clauses.HasCleanDisk to conn → HasCleanDisk from ended
     pub shown : clauses.HasCleanDisk to conn → (h : History) → Shows from ended h

@@ -33,7 +33,7 @@ pub record IsLookedUp {S : Type 0} (store : Ghosts S) (old new : Registry S stor
   -- the fault has its cause in the call, or before
   pub caused : OverHistory store old new
       (λ h. (f : Refusal) → IsErrOf result (Names f) → FaultIsCaused store old new f)
-  -- No name is asked for where numbers alone are, or nothing that there is.
+  -- No name is asked for if only numbers are wanted, or if the request is for nothing.
   pub unasked : is_live old ≡ true → (switches_of flags).numeric ≡ true → (f : Refusal)
       → result ≢ Err (Names f)
   pub unrequested : is_live old ≡ true → IsNone (request_of flags) → (f : Refusal)

@@ -71,6 +71,6 @@ module _ {S : Type 0} (store : Ghosts S) where
     -- judgement does not refuse.
     pub caused : OverHistory store old new (λ h. is_import command.act ≡ false
         → IfErr result (IsRefusedFor store old new h (asks command)))
-    -- where it leaves other items, no name is kept in memory
+    -- if it leaves other items, no name is kept in memory
     pub forgets : OverHistory store old new (λ h. Forgets store new h (asks command))
     pub lasts : Lasts old new result

@@ -158,7 +158,7 @@ module _ {S : Type 0} (store : Ghosts S) where
     -- the disk had returned what was written before the call too
     pub clean : clauses.HasCleanDisk store (connection_left result)
         → clauses.HasCleanDisk store conn
-    -- Tables that show a history are opened with that history, whichever schema they have. Where
+    -- Tables that show a history are opened with that history, whichever schema they have. If
     -- there is no table, a new registry is made.
     pub opened : (h : History) → IsReached h → tables.ShowsOrBlank store conn h → Opens result h
 
@@ -173,7 +173,7 @@ module _ {S : Type 0} (store : Ghosts S) where
     -- One that fails, or finds nothing to do, leaves all that is seen as it was.
     pub unchanged : MatchResult result (λ r. r.1 ≡ Already → SeesTheSame conn r.0)
         (λ e. SeesTheSame conn e.1)
-    -- Where nothing had to be done, nothing is; and a fault other than `Memory` and `Store` changes
+    -- If nothing had to be done, nothing is; and a fault other than `Memory` and `Store` changes
     -- nothing.
     pub only_read : MatchResult result (λ r. r.1 ≡ Already → clauses.OnlyReads store conn r.0)
         (λ e. clauses.HasCleanDisk store e.1 → ¬ (IsMemoryOrStore e.0)
@@ -216,7 +216,7 @@ module _ {S : Type 0} (store : Ghosts S) where
     pub told : clauses.HasCleanDisk store (moved_to result) → HasSomeTable (seen store conn).schema
         → MatchResult result (λ r. tables.Brings store conn r.1 r.0)
         (λ e. tables.Refuses store conn e.0 e.1)
-    -- `Already` is answered only where the labels show schema 2.
+    -- `Already` is answered only if the labels show schema 2.
     pub named : clauses.HasCleanDisk store (moved_to result)
         → IfOk result (λ r. r.1 ≡ Already → NamesLatest (seen store conn))
     -- Labels of schema 2 are handed on, as far as it is known what was there.

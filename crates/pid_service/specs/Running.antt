@@ -76,7 +76,7 @@ module _ {S : Type 0} (store : Ghosts S) where
         → length report.replies.items < length commands
     pub most : length report.replies.items ≤ length commands
     pub ran : OverHistory store old new (λ h. Runs report new h (map asks commands))
-    -- where some command left other items, no name is kept in memory
+    -- if some command left other items, no name is kept in memory
     pub forgets : OverHistory store old new (λ h. ForgetsRun report new h (map asks commands))
     -- Whatever its disk does: without a fault a live registry stays live, one that has failed since
     -- was short of memory, or its store failed,

@@ -95,7 +95,7 @@ impl<S: Alter + Drop> Registry<S> {
         }
     }
 
-    /// How many bytes `export` would write. Where the text is not kept in memory the items are read
+    /// How many bytes `export` would write. If the text is not kept in memory the items are read
     /// one by one, and it is kept from then on: up to 16,777,216 bytes, if memory is there for them.
     pub fn export_length(&mut self) -> Result<u64, Refusal>
         ensures { Answers S.Store self.old self.new result (λ h n. n ≡ length (print (tree_of h))) }

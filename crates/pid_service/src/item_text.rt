@@ -50,7 +50,7 @@ impl From<EachEnd<WriteFault>> for ExportEnd {
 /// Writes the header and then the lines of each item in the canonical order, while the item is lent
 /// by the connection: no list of items is made, and none is held.
 ///
-/// The tables stay as they are. Where it ends early the writer keeps what it took until then.
+/// The tables stay as they are. If it ends early the writer keeps what it took until then.
 pub fn export_items<S: Alter + Drop, W: Output>(
     tables: &mut Tables<S>,
     out: &mut W,

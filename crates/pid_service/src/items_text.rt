@@ -1,4 +1,4 @@
-//! The canonical text of all items in memory, where it is short enough, and how many bytes it has.
+//! The canonical text of all items in memory, if it is short enough, and how many bytes it has.
 ghost use Rattle.std.specs.Prelude.{◌≡◌, ◌∷◌, [], false, length, Err, IfSome, Some};
 ghost use Rattle.pid_service.specs.Steps.TextSinks.{Lengthens, block_behind, text_in};
 ghost use Rattle.pid_service.specs.ItemTexts.{IsTextOf};
@@ -83,7 +83,7 @@ impl Output for TextBuffer {
     }
 }
 
-/// The header in memory, where there is some.
+/// The header in memory, if there is some.
 pub(crate) fn first_line(alloc: Global) -> Option<TextBuffer>
     ensures { IfSome result (λ text. text.taken.items ≡ ended (header ∷ [])) }
 {
@@ -160,7 +160,7 @@ fn taken_of(text: Option<TextBuffer>) -> Option<Vec<u8>>
     }
 }
 
-/// The length of a text in bytes, and the text where it is short enough and memory is there.
+/// The length of a text in bytes, and the text if it is short enough and memory is there.
 #[derive(Drop)]
 pub(crate) struct ItemsText {
     pub(crate) bytes: u64,

@@ -48,7 +48,7 @@ impl KeptViews {
         self.text = None;
     }
 
-    /// Drops all that is kept where the change writes an item.
+    /// Drops all that is kept if the change writes an item.
     pub(crate) fn forget_for(&mut self, change: &Change)
         ensures right { (v : Views) → IsRightFor self.old v → IsRightFor self.new (changed change.now v) }
         ensures spares { (self.new ≡ nothing)

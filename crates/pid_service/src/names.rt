@@ -17,7 +17,7 @@ use pid_tables::refusal_of;
 use sqlite::Alter;
 
 impl<S: Alter + Drop> Registry<S> {
-    // What is kept in memory for a path; none where nothing is.
+    // What is kept in memory for a path; none if nothing is.
     fn known(&mut self, path: &Path) -> Option<Result<Option<Name>, Refusal>>
         ensures rests { OnlyReads S.Store self.old self.new }
         ensures clean { HasCleanDisk S.Store self.new → HasCleanDisk S.Store self.old }

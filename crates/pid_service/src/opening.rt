@@ -68,7 +68,7 @@ fn judge_tables<S: Alter + Drop>(tables: &mut Tables<S>, alloc: Global) -> Resul
     }
 }
 
-// Makes the tables where there is none, moves those of schema 1, and judges them.
+// Makes the tables if there is none, moves those of schema 1, and judges them.
 fn make_ready<S: Alter + Drop>(tables: &mut Tables<S>, alloc: Global) -> Result<(), TableFault>
     requires { tables.old.conn.in_transaction ≡ false }
     ensures at_once { OpensAtOnce S.Store tables.old.conn tables.new.conn result }
@@ -85,12 +85,12 @@ fn make_ready<S: Alter + Drop>(tables: &mut Tables<S>, alloc: Global) -> Result<
     }
 }
 
-/// Opens the registry whose tables the connection has, or makes a new one where it has none of
+/// Opens the registry whose tables the connection has, or makes a new one if it has none of
 /// them. Tables of an older schema are moved first, as `migrate` does.
 ///
-/// Where it fails it hands the connection back: `NewerSchema` of a schema that is later than this
+/// If it fails it hands the connection back: `NewerSchema` of a schema that is later than this
 /// one, which is judged first; `Damaged` of tables that break a condition (docs/STORAGE.md), or
-/// where something else has the name of one; else `Memory` or `Store`. A connection within a
+/// if something else has the name of one; else `Memory` or `Store`. A connection within a
 /// transaction gets `Store` and is left alone. Other tables, indexes and views are allowed: that is
 /// tested, not promised. After `Memory` and `Store` the connection that comes back shows what it
 /// showed, and the call may be made again.

@@ -20,7 +20,7 @@ use pid_tables_rows::meta::revision;
 use sqlite::Alter;
 
 impl<S: Alter + Drop> Registry<S> {
-    /// The name of the item at a path, where there is one. It asks the tables, whatever names are
+    /// The name of the item at a path, if there is one. It asks the tables, whatever names are
     /// kept in memory.
     pub fn read(&mut self, path: &Path) -> Result<Option<Name>, Refusal>
         ensures { Answers S.Store self.old self.new result

@@ -29,7 +29,7 @@ pub struct RunReport {
     /// The reply or the refusal of each command that was obeyed, from the first one on.
     pub replies: Vec<Result<Reply, Refusal>>,
     /// `Memory` or `Store` at the command after these, or `Failed` of a registry that had failed
-    /// before; none where all were obeyed.
+    /// before; none if all were obeyed.
     pub fault: Option<Refusal>,
 }
 

@@ -1,4 +1,4 @@
--- What a history holds. A command is acknowledged where it was replied to. A choice of this
+-- What a history holds. A command is acknowledged if it was replied to. A choice of this
 -- project.
 use Rattle.std.specs.Prelude.{◌≡◌, ◌⊎◌, ℕ, List, [], ◌∷◌, Some, Result, Ok, Err}
 use Rattle.std.specs.List.{AllByRecursion}

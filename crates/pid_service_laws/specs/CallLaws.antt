@@ -27,7 +27,7 @@ module _ {R : Type 0} (w : Showing R) where
   abbrev pub WhereFailed : R → (History → History → Type 0) → Type 0
   WhereFailed r Has = (h next : History) → w.fails_between r h next → Has h next
 
-  -- whether the registry is live: never where it has failed
+  -- whether the registry is live: never if it has failed
   abbrev pub SaysLive : Bool → R → Type 0
   SaysLive live r = WhereFailed r (λ h next. live ≡ false)
 

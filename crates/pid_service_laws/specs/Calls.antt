@@ -21,7 +21,7 @@ pub record Call : Type 0 where
 abbrev pub nothing_sent : Call
 nothing_sent = record { sent = []; stopped = None }
 
--- A fault 16 or 17 stops at the next command where it left the registry failed; one that is still
+-- A fault 16 or 17 stops at the next command if it left the registry failed; one that is still
 -- live may be sent the command again. 18 stops at none, since the registry has failed before.
 abbrev pub stopped_by : Option Refusal → (live : Bool) → Option Asked → Option Asked
 stopped_by None live next = None

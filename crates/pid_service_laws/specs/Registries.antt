@@ -83,7 +83,7 @@ module _ {R : Type 0} (w : Showing R) where
         (after_life h (life_of calls (InDoubt c true))))
 
 module _ {R T : Type 0} (w : Showing R) (u : Showing T) where
-  -- A later opening, maybe over another store, shows what the registry showed; where that had
+  -- A later opening, maybe over another store, shows what the registry showed; if that had
   -- failed, the one history or the other.
   pub record ShowsAgain (ended : R) (opened : T) : Type 0 where
     pub clean : u.is_clean opened → w.is_clean ended

@@ -31,7 +31,7 @@ abbrev pub ShowsLatest : Database → Type 0
 ShowsLatest db = ShowsNumber db (codes "schema") 2
     ⊎ ((rows : List Row) × ShowsRows db labels_text rows × Has rows (label_row (codes "schema", 2)))
 
--- and where the tables of a schema were made first, whatever comes after them, storage has that
+-- and if the tables of a schema were made first, whatever comes after them, storage has that
 -- label
 pub record NamesLatest (db : Database) : Type 0 where
   pub shown : ShowsLatest db
@@ -53,8 +53,8 @@ pub data Refuses (old : State) (fault : TableFault) (new : State) : Type 0 where
   Stays : FindsVersion old.now (Some One) → IsNotNewerSchema fault → Refuses old fault new
 
 -- What was moved has the labels of schema 2: tables that were left alone, whatever they are, show
--- them; and those that were made where there was nothing, or moved where views were shown in schema
--- 1, have that label in storage.
+-- them; and those that were made from nothing, or moved while views were shown in schema 1, have
+-- that label in storage.
 abbrev pub HandsLatest : State → Step → State → Type 0
 HandsLatest old Created new = RestsBare old → HasLabel new.now.trees (codes "schema") 2
 HandsLatest old Moved new = (v : Views) → RestsIn One old v
@@ -63,7 +63,7 @@ HandsLatest old Already new = NamesLatest new.now
 
 -- What was shown is shown afterwards.
 pub record MigratesShown (old new : State) (result : Result Step TableFault) : Type 0 where
-  -- Where there is no table, a new registry is made; a crash leaves no table, or the new registry.
+  -- If there is no table, a new registry is made; a crash leaves no table, or the new registry.
   -- After a fault there is none still, so that the next call goes on.
   pub created : HasCleanDisk new → RestsBare old
       → MatchResult result (λ step. (step ≡ Created) × AtRest new (views_of new_history))
@@ -87,11 +87,11 @@ pub record MigratesShown (old new : State) (result : Result Step TableFault) : T
 
 -- Whatever the tables are, they are judged before anything is done.
 pub record MigratesJudged (old new : State) (result : Result Step TableFault) : Type 0 where
-  -- Those of schema 1 are moved only where they keep all conditions, and a judgement changes
+  -- Those of schema 1 are moved only if they keep all conditions, and a judgement changes
   -- nothing.
   pub found : HasCleanDisk new → HasSomeTable old.now.schema
       → MatchResult result (λ step. Brings old step new) (λ fault. Refuses old fault new)
-  -- `Already` is answered only where the labels show schema 2,
+  -- `Already` is answered only if the labels show schema 2,
   pub named : HasCleanDisk new → IfOk result (λ step. step ≡ Already → NamesLatest old.now)
   -- and then nothing is done to other tables either
   pub only_read : IfOk result (λ step. step ≡ Already → OnlyReads old new)
@@ -99,7 +99,7 @@ pub record MigratesJudged (old new : State) (result : Result Step TableFault) : 
   pub latest : HasCleanDisk new
       → IfOk result (λ step. IsTrue new.is_open → HandsLatest old step new)
 
--- Where there is no table, whatever else there is.
+-- If there is no table, whatever else there is.
 pub record MigratesNone (old new : State) (result : Result Step TableFault) : Type 0 where
   -- It answers no other step than that they were made, and reports no later schema.
   pub bare : HasCleanDisk new → HasNoTable old.now.schema

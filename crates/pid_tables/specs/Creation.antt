@@ -84,14 +84,14 @@ IsFaultOfTaken old new Store = IsCaused old new Store
 IsFaultOfTaken old new (NewerSchema n) = ⊥
 IsFaultOfTaken old new Damaged = Unit {0}
 
--- Where there is no table, a new registry is made. After a fault there is still none, and it says
+-- If there is no table, a new registry is made. After a fault there is still none, and it says
 -- nothing of the rows.
 pub record MakesNew {X : Type 0} (old new : State) (result : Result X TableFault) : Type 0 where
   pub made : RestsBare old → OnOk result (AtRest new (views_of new_history))
   pub untold : HasCleanDisk new → RestsBare old → IfErr result IsMemoryOrStore
   pub bare : RestsBare old → OnErr result (RestsBare new)
 
--- Where a name is taken, or a fault has shut the connection, nothing is made. So tables that show
+-- If a name is taken, or a fault has shut the connection, nothing is made. So tables that show
 -- views go on to show them.
 pub record MakesNothing {X : Type 0} (old new : State) (result : Result X TableFault)
     : Type 0 where

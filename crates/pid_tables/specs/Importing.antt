@@ -55,7 +55,7 @@ EndsImport result s h c = (ending_of result).leaves s h c
 abbrev pub ReadsFile : Result Reply Stop → Option (List ℕ) → List ℕ → Type 0
 ReadsFile result rest text = (ending_of result).read rest text
 
--- it reports a fault of the input exactly where the input has one
+-- it reports a fault of the input exactly when the input has one
 pub record TellsReadFault {F : Type 0} (result : Result Reply Stop) (fault : Option F)
     : Type 0 where
   pub told : result ≡ Err stops.Body → IsSome fault

@@ -19,7 +19,7 @@ pub record IsOpen (h : History) (command : Command) (f : Facts) : Type 0 where
   pub facts : f ≡ facts_at (views_of h) command.account command.key NoRows
   pub waits : WaitsForFile f
 
--- this holds where an import over a marked history hangs on its file, with these facts and so many
+-- this holds if an import over a marked history depends on its file, with these facts and so many
 -- items
 abbrev pub WhereOpen : History → Command → Facts → ℕ → Type 0 → Type 0
 WhereOpen h command facts items Holds = IsMarked h → is_import command.act ≡ true

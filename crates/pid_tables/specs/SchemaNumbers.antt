@@ -11,18 +11,18 @@ use Rattle.pid_tables_rows.specs.LabelRows.{IsDamageOf, ShowsNoNumber, ShowsNumb
 use Rattle.pid_tables_rows.specs.Leaves.{RestsIn}
 use Rattle.pid_tables_check.specs.Shapes.{HasNoTable, HasSomeTable, IsMadeFirst}
 
--- The number that the labels have, or 0 where there is no table.
+-- The number that the labels have, or 0 if there is no table.
 pub record TellsSchema (old new : State) (result : Result ℕ TableFault) : Type 0 where
   -- Tables of schema 1 that show views have their number.
   pub earlier : HasCleanDisk new → (v : Views) → RestsIn One old v
       → MatchResult result (λ n. n ≡ 1) IsMemoryOrStore
   pub none : HasCleanDisk new → HasNoTable old.now.schema
       → MatchResult result (λ n. n ≡ 0) IsMemoryOrStore
-  -- Where some table is there, whatever else is.
+  -- If some table is there, whatever else is.
   pub shown : HasCleanDisk new → HasSomeTable old.now.schema
       → MatchResult result (ShowsNumber old.now (codes "schema"))
       (IsDamageOf (ShowsNoNumber old.now (codes "schema")))
-  -- The same by what storage has, where the tables of a schema were made first.
+  -- The same by what storage has, if the tables of a schema were made first.
   pub labelled : HasCleanDisk new → (schema : Version) → IsMadeFirst schema old.now.schema
       → IfOk result (HasLabel old.now.trees (codes "schema"))
   pub refused : HasCleanDisk new → (schema : Version) → IsMadeFirst schema old.now.schema

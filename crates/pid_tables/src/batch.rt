@@ -62,7 +62,7 @@ use pid_tables_rows::submission::{add_submission, decide};
 use sqlite::{Alter, Connection, Transaction};
 use std::alloc::Global;
 
-/// One transaction on the tables. Where it is dropped before its commit, nothing of it stays.
+/// One transaction on the tables. If it is dropped before its commit, nothing of it stays.
 pub type Batch<'t, S> = Transaction<'t, S>;
 
 fn set_rank<S: Alter>(
@@ -317,7 +317,7 @@ pub fn commit<S: Alter>(batch: Batch<'_, S>) -> Result<(), TableFault>
 
 /// Gives the transaction up, and commits nothing.
 ///
-/// Where the tables showed views before it, they show the same again, and so does whatever a crash
+/// If the tables showed views before it, they show the same again, and so does whatever a crash
 /// leaves. A roll back that fails shuts the connection, which then shows nothing.
 pub fn roll_back<S: Alter>(batch: Batch<'_, S>)
     ensures ended { batch.exit.0.now.in_transaction ≡ false }

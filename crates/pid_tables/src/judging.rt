@@ -25,7 +25,7 @@ pub enum Early {
 /// Judges an import before its file is read. The tables are only read; the file that the command
 /// has is not looked at.
 ///
-/// It holds of tables that show a sound history. Where there is no memory or the store fails, that
+/// It holds of tables that show a sound history. If there is no memory or the store fails, that
 /// is the answer.
 pub fn judge_import<S: Alter + Drop>(
     tables: &mut Tables<S>,

@@ -36,7 +36,7 @@ pub fn views_of_sound_histories()
 }
 
 /// A connection that has just found trees which show views is at rest on them, in the schema in
-/// which they do; where it found no table, it is blank.
+/// which they do; if it found no table, it is blank.
 pub fn opened_tables_rest<S: Alter>(conn: &Connection<S>)
     ensures shown { (v : Views) → IsOpened S.Store conn.now
         → Shows (as_found (seen S.Store conn.now).trees) v → AtRest S.Store conn.now v }
@@ -47,7 +47,7 @@ pub fn opened_tables_rest<S: Alter>(conn: &Connection<S>)
         → IsBlank S.Store conn.now }
 {}
 
-/// A read leaves what was shown, also where there is no table.
+/// A read leaves what was shown, also if there is no table.
 pub fn reads_keep_what_is_shown<S: Alter>(old: &Connection<S>, new: &Connection<S>)
     ensures { (h : History) → OnlyReads S.Store old.now new.now → ShowsOrBlank S.Store old.now h
         → ShowsOrBlank S.Store new.now h }

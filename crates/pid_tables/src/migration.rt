@@ -101,7 +101,7 @@ fn is_current<S: Alter>(conn: &mut Connection<S>) -> Result<bool, TableFault>
     }
 }
 
-// The schema of the tables; none where there is no table. Those of schema 1 are judged, those of
+// The schema of the tables; none if there is no table. Those of schema 1 are judged, those of
 // schema 2 are not.
 fn standing<S: Alter>(
     conn: &mut Connection<S>,

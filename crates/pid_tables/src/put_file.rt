@@ -91,7 +91,7 @@ fn stop_of(end: InputEnd<TableFault>) -> Stop
     }
 }
 
-// The number that an import has where it is accepted.
+// The number that an import has if it is accepted.
 fn next_revision(facts: &Facts) -> u64
     ensures { IsNext facts.now.revision result }
 {

@@ -21,7 +21,7 @@ pub(crate) trait Putter {
     /// The number of the command, before, an item, what it was to what is there, and after.
     ghost puts: { ℕ → Self → List ℕ × List ℕ → Put → Self → Type 0 };
 
-    /// Before and after, where nothing is put.
+    /// Before and after, if nothing is put.
     ghost gives_up: { Self → Self → Type 0 };
 
     fn put_name(

@@ -98,7 +98,7 @@ impl<S: Alter + Drop> Tables<S> {
     /// Hands all items to a sink, in the canonical order, one at a time: no list of them is made.
     /// The line of an entry is its place among them, counted from 1.
     ///
-    /// Where it fails, the sink took the items before one, in their order, and faulted at that one,
+    /// If it fails, the sink took the items before one, in their order, and faulted at that one,
     /// or was handed no more: nothing that it took is taken back.
     pub fn each_item<K: Sink>(&mut self, sink: &mut K) -> Result<(), EachEnd<K::Fault>>
         requires { self.old.conn.in_transaction ≡ false }
@@ -213,8 +213,8 @@ impl<S: Alter + Drop> Tables<S> {
         ensures told { HasCleanDisk S.Store self.new.conn
             → MatchResult result (FindsVersion (seen S.Store self.old.conn))
             (Explains (seen S.Store self.old.conn)) }
-        // Where the tables of a schema were made first, whatever else comes after them: it finds
-        // the schema exactly where storage has a registry in it.
+        // If the tables of a schema were made first, whatever else comes after them: it finds
+        // the schema exactly when storage has a registry in it.
         ensures stored { HasCleanDisk S.Store self.new.conn → (schema : Version)
             → IsMadeFirst schema (seen S.Store self.old.conn).schema
             → MatchResult result (λ found. (found ≡ Some schema)

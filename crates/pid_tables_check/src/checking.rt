@@ -71,7 +71,7 @@ fn check_tables<S: Alter>(
     }
 }
 
-// The check where each of the six tables is there, and the tables are those of this schema.
+// The check if each of the six tables is there, and the tables are those of this schema.
 fn check_whole<S: Alter>(
     conn: &mut Connection<S>,
     alloc: Global,
@@ -110,8 +110,8 @@ pub fn check<S: Alter>(
     ensures told { HasCleanDisk S.Store conn.new
         → MatchResult result (FindsVersion (seen S.Store conn.old))
         (Explains (seen S.Store conn.old)) }
-    // Where the tables of a schema were made first, whatever else comes after them: it finds the
-    // schema exactly where storage has a registry in it.
+    // If the tables of a schema were made first, whatever else comes after them: it finds the
+    // schema exactly when storage has a registry in it.
     ensures stored { HasCleanDisk S.Store conn.new → (version : Schema)
         → IsMadeFirst version (seen S.Store conn.old).schema
         → MatchResult result (λ found. (found ≡ Some version)

@@ -69,7 +69,7 @@ pub(crate) fn newer(rows: &[Row]) -> Option<u64>
     None
 }
 
-// The number under the label of the revision, where it is within the limit.
+// The number under the label of the revision, if it is within the limit.
 fn revision(row: &Row) -> Option<u64>
     ensures found { IfSome result (λ n. (n ≤ most_revision)
         × (row.now ≡ label_row (codes "revision", n))) }

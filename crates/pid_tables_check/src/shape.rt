@@ -191,7 +191,7 @@ pub fn has_some_table<S: Alter>(conn: &mut Connection<S>) -> Result<bool, TableF
     has_any(conn, &SEVEN)
 }
 
-/// Of which schema the tables are, where each of the six is there.
+/// Of which schema the tables are, if each of the six is there.
 pub(crate) fn tables_of<S: Alter>(conn: &mut Connection<S>) -> Result<Option<Version>, TableFault>
     requires { conn.old.in_transaction ≡ false }
     ensures rests { OnlyReads S.Store conn.old conn.new }

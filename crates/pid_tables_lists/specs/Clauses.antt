@@ -18,7 +18,7 @@ module _ {S : Type 0} (store : Ghosts S) where
   OverViews old new Holds = HasCleanDisk store new → (v : Views) → AtRest store old v → Holds v
 
   -- A read of what is so of an element of the views that were at rest: a value says this of the
-  -- element, and a fault has a cause where what the views hold can be read.
+  -- element, and a fault has a cause if what the views hold can be read.
   abbrev pub TellsOf : {X E : Type 0} → Held S → Held S → Result X TableFault
       → (Views → E → Type 0) → (E → X → Type 0) → Type 0
   TellsOf {E = E} old new result IsSo Says = HasCleanDisk store new → (v : Views) (e : E)

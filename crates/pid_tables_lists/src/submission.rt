@@ -68,7 +68,7 @@ fn comments<S: Alter>(
     comments_of(rows.as_slice(), alloc)
 }
 
-/// The submission with the number, as it stands, and the remarks on it in their order. None where
+/// The submission with the number, as it stands, and the remarks on it in their order. None if
 /// there is none.
 pub fn submission_with_remarks<S: Alter>(
     conn: &mut Connection<S>,

@@ -78,7 +78,7 @@ fn hand_on<K: Sink>(row: &Row, line: usize, sink: &mut K) -> Result<(), EachEnd<
 }
 
 /// Hands all items to a sink, in the canonical order, one at a time: no list of them is made. The
-/// line of an entry is its place among them, counted from 1. Where it ends early, the sink keeps
+/// line of an entry is its place among them, counted from 1. If it ends early, the sink keeps
 /// what it took until then.
 pub fn each_item<S: Alter, K: Sink>(
     conn: &mut Connection<S>,

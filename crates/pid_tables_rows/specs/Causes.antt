@@ -16,9 +16,9 @@ use Rattle.pid_tables_rows.specs.declared.fault.TableFault.{TableFault}
 use Rattle.pid_tables_rows.specs.declared.fault.TableFault.TheVariants.{Memory, Store, NewerSchema}
 use Rattle.pid_tables_rows.specs.declared.fault.TableFault.TheVariants.{Damaged}
 
--- Memory may be short at any time. The store is named where the disk failed or refused in the
--- call, where a fault had shut the connection before, or where a limit of steps was set. Tables
--- that show views are of this schema and undamaged.
+-- Memory may run out at any time. The store is named if the disk failed or refused in the call, if
+-- a fault had shut the connection before, or if a limit of steps was set. Tables that show views
+-- are of this schema and undamaged.
 abbrev pub IsCaused : State → State → TableFault → Type 0
 IsCaused old new Memory = Unit {0}
 IsCaused old new Store = MoreFaults old.faults new.faults

@@ -76,7 +76,7 @@ module _ {S : Type 0} (store : Ghosts S) where
   -- A statement that writes, with these parameters, inside a transaction.
   pub record RunsWrite {X : Type 0} (sql : List ℕ) (params : Row) (old new : Held S)
       (result : Result X TableFault) : Type 0 where
-    -- where it answers a value, it was carried out
+    -- if it answers a value, it was carried out
     pub ran : HasCleanDisk new → IsTrue old.in_transaction
         → OnOk result ((count : ℕ) × Executes sql params old new (Ok count))
     -- a text that writes in the schema is not damage
@@ -118,7 +118,7 @@ module _ {S : Type 0} (store : Ghosts S) where
   abbrev pub LeadsTo : {X : Type 0} → Held S → Held S → Result X TableFault → Turn → Type 0
   LeadsTo old new result turn = leaves.LeadsTo (state store old) (state store new) result turn
 
-  -- the same, where the counts stay as they are
+  -- the same, if the counts stay as they are
   abbrev pub ChangesTo : {X : Type 0} → Held S → Held S → Result X TableFault → (Views → Type 0)
       → (Views → Views) → Type 0
   ChangesTo old new result IsFor next = LeadsTo old new result (record {

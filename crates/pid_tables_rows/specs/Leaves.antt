@@ -1,7 +1,7 @@
 -- What a connection is left as by a call, and what a crash may then leave. All of it holds while
 -- the disk returns what was written.
 --
--- The states, where the tables showed v at the start, and w once the change is made:
+-- The states, if the tables showed v at the start, and w once the change is made:
 --
 --     at rest          begun               written             committed
 --     AtRest v ──────▶ Within c v v ─────▶ Written c v w ────▶ AtRest w
@@ -38,7 +38,7 @@ use Rattle.pid_tables_rows.specs.Shows.{numbers_in}
 abbrev pub found_in : Schema → Trees → Database
 found_in schema db = record { schema = schema; trees = db }
 
--- where they list schema 2
+-- if they list schema 2
 abbrev pub as_found : Trees → Database
 as_found = found_in pid_schema
 
@@ -81,7 +81,7 @@ pub record KeepsCommitted (s : State) (v : Views) : Type 0 where
   pub committed : IsTrue s.is_open → Shows s.committed v
   pub leaves : LeavesViews s v
 
--- a transaction is under way that holds the first views and shows the second, where meta has these
+-- a transaction is under way that holds the first views and shows the second, if meta has these
 -- counts
 pub record Within (c : Counts) (s : State) (held now : Views) : Type 0 where
   pub inside : HasCleanDisk s → IsTrue s.in_transaction
@@ -93,7 +93,7 @@ pub record Written (c : Counts) (s : State) (held now : Views) : Type 0 where
   pub within : Within c s held now
   pub opened : HasCleanDisk s → IsTrue s.is_open
 
--- A call inside a transaction commits nothing, whatever it answers; where it answers a value, the
+-- A call inside a transaction commits nothing, whatever it answers; if it answers a value, the
 -- transaction goes on.
 pub record GoesOn {X E : Type 0} (old new : State) (result : Result X E) : Type 0 where
   pub survives : Survives old new (λ _. ⊥)
@@ -114,8 +114,8 @@ pub record Turn : Type 1 where
 abbrev pub recounting : (Counts → Counts) → Turn
 recounting recount = record { IsFor = λ c v. Unit {0}; recount = recount; next = λ v. v }
 
--- Where the transaction shows what the turn is for, the call answers a value only with the
--- transaction showing what comes next, and a fault only where there is no memory or the store
+-- If the transaction shows what the turn is for, the call answers a value only with the
+-- transaction showing what comes next, and a fault only if there is no memory or the store
 -- failed or refused.
 abbrev pub LeadsTo : {X : Type 0} → State → State → Result X TableFault → Turn → Type 0
 LeadsTo old new result turn =
@@ -123,8 +123,8 @@ LeadsTo old new result turn =
     → ShowsCounting c old.now v → turn.IsFor c v
     → MatchResult result (λ _. ShowsCounting (turn.recount c) new.now (turn.next v)) IsMemoryOrStore
 
--- Where the transaction, while it is open, shows views in schema 1, it answers a value only with it
--- showing the same in schema 2, and a fault only where there is no memory, or where the store
+-- If the transaction, while it is open, shows views in schema 1, it answers a value only with it
+-- showing the same in schema 2, and a fault only if there is no memory, or if the store
 -- failed or refused.
 abbrev pub Moves : {X : Type 0} → State → State → Result X TableFault → Type 0
 Moves old new result =
@@ -147,7 +147,7 @@ pub record OnlyReads (old new : State) : Type 0 where
   pub same : (d : Database) → RestsOn old d → RestsOn new d
   pub kept : (v : Views) → AtRest old v → AtRest new v
 
--- and speaks of the views that were at rest; a fault has a cause where what they hold can be read
+-- and speaks of the views that were at rest; a fault has a cause if what they hold can be read
 abbrev pub Tells : {X : Type 0} → State → State → Result X TableFault → (Views → X → Type 0)
     → Type 0
 Tells old new result Says = HasCleanDisk new → (v : Views) → AtRest old v

@@ -91,7 +91,7 @@ pub record ShowsKeeping (version : Version) (counts : Counts) (numbers : Numbers
 abbrev pub counts_of : Views → Counts
 counts_of v = record { items = length v.items; submissions = length v.submits }
 
--- a path has a number where it has an item
+-- a path has a number if it has an item
 abbrev pub since_in : Views → Map (List ℕ) ℕ
 since_in v path = option_map (λ name. v.since path) (name_at path v.items)
 

@@ -69,7 +69,7 @@ reply_kind Done = 0
 reply_kind (Numbered n) = 1
 reply_kind (Counts added renamed same) = 2
 
--- the numbers of a reply, 0 where it has none
+-- the numbers of a reply, 0 if it has none
 abbrev pub first_number : Reply → ℕ
 first_number Done = 0
 first_number (Numbered n) = n

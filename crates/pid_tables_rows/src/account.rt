@@ -64,7 +64,7 @@ fn rank_rows<S: Alter>(conn: &mut Connection<S>, name: &str) -> Result<Vec<Row>,
     read_rows(conn, "SELECT rank FROM account WHERE name = ?1", &[name])
 }
 
-/// The rank of an account, and none where there is no such account. A number that is no rank's is
+/// The rank of an account, or none if there is no such account. A number that is no rank's is
 /// `Damaged`.
 pub fn rank<S: Alter>(conn: &mut Connection<S>, name: &str) -> Result<Option<Rank>, TableFault>
     requires { conn.old.in_transaction ≡ false }

@@ -192,7 +192,7 @@ fn name_rows<S: Alter>(conn: &mut Connection<S>, path: &str) -> Result<Vec<Row>,
     read_rows(conn, "SELECT name FROM item WHERE path = ?1", &[path])
 }
 
-/// The name of the item at a path, and none where the path has no item or the text is no path's.
+/// The name of the item at a path, or none if the path has no item or the text is no path's.
 /// A stored text that is no name is `Damaged`.
 pub fn item_name<S: Alter>(
     conn: &mut Connection<S>,
@@ -333,7 +333,7 @@ pub fn has_children<S: Alter>(
 }
 
 /// The item of a row that has the text of its path in the first column and its name in the second;
-/// further columns are not looked at. Where a column is missing or breaks its rule, the row is
+/// further columns are not looked at. If a column is missing or breaks its rule, the row is
 /// `Damaged`.
 pub fn item_of(row: &Row, alloc: Global) -> Result<Item, TableFault>
     ensures path { IfOk result (λ item. column row.now 0 ≡ TextValue (path_text item.path)) }

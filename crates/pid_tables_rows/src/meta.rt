@@ -187,12 +187,12 @@ pub fn revision<S: Alter>(conn: &mut Connection<S>) -> Result<u64, TableFault>
 pub fn schema_number<S: Alter>(conn: &mut Connection<S>) -> Result<u32, TableFault>
     requires { conn.old.in_transaction ≡ false }
     ensures reads { Reads S.Store conn.old conn.new result (λ v n. n ≡ 2) }
-    // Whatever the schema: it is what the query of the label answers first, and `Damaged` where
+    // Whatever the schema: it is what the query of the label answers first, and `Damaged` if
     // that is no number.
     ensures shown { HasCleanDisk S.Store conn.new
         → MatchResult result (ShowsNumber (seen S.Store conn.old) (codes "schema"))
         (IsDamageOf (ShowsNoNumber (seen S.Store conn.old) (codes "schema"))) }
-    // The same by what storage has, where the table was made first, whatever comes after it.
+    // The same by what storage has, if the table was made first, whatever comes after it.
     ensures stored { HasCleanDisk S.Store conn.new → IsMetaFirst (seen S.Store conn.old).schema
         → MatchResult result (HasLabel (seen S.Store conn.old).trees (codes "schema"))
         (ExplainsNumber (seen S.Store conn.old).trees (codes "schema")) }

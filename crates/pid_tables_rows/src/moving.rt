@@ -63,7 +63,7 @@ fn raise_labels<S: Alter>(tx: &mut Transaction<'_, S>) -> Result<(), TableFault>
 
 /// Makes tables of schema 1 those of schema 2: a table of the numbers of changes, where each item
 /// has 0, and the revision, which is 0. What the six tables show stays. The caller knows that the
-/// tables are of schema 1: where they have a table, a view or an index of the new table's name, it
+/// tables are of schema 1: if they have a table, a view or an index of the new table's name, it
 /// is refused with `Damaged` or `Store`.
 pub fn move_tables<S: Alter>(tx: &mut Transaction<'_, S>) -> Result<(), TableFault>
     ensures same_reference { tx.new.conn.ghost_name ≡ tx.old.conn.ghost_name }

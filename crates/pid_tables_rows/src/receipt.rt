@@ -101,7 +101,7 @@ fn reply_rows<S: Alter>(
     )
 }
 
-/// The reply that is kept under an account and a key, and none where there is none. Numbers that
+/// The reply that is kept under an account and a key, or none if there is none. Numbers that
 /// are no reply's are `Damaged`.
 pub fn kept_reply<S: Alter>(
     conn: &mut Connection<S>,

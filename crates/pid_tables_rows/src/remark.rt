@@ -72,7 +72,7 @@ pub fn remark_count<S: Alter>(conn: &mut Connection<S>, number: u32) -> Result<u
 }
 
 /// The remark of a row that has its author in the first column and its text in the second; further
-/// columns are not looked at. Where a column is missing or breaks its rule, the row is `Damaged`.
+/// columns are not looked at. If a column is missing or breaks its rule, the row is `Damaged`.
 pub fn comment_of(row: &Row, alloc: Global) -> Result<Comment, TableFault>
     ensures author { IfOk result (λ comment. column row.now 0 ≡ TextValue comment.author) }
     ensures text { IfOk result (λ comment. column row.now 1 ≡ TextValue comment.text) }

@@ -204,7 +204,7 @@ pub fn decide<S: Alter>(
 }
 
 /// The submission of a row that has its author, path, form, name, note, state, decider and reason
-/// in the first eight columns; further columns are not looked at. Where a column is missing or
+/// in the first eight columns; further columns are not looked at. If a column is missing or
 /// breaks its rule, the row is `Damaged`.
 pub fn submission_of(row: &Row, alloc: Global) -> Result<Submission, TableFault>
     ensures read { IfOk result (ReadsTo row.now) }

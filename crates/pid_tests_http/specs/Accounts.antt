@@ -8,6 +8,6 @@ use Rattle.pid_tests_http.specs.declared.account.Kept.{Kept}
 abbrev pub moment_of : Kept → Moment
 moment_of kept = record { to_come = Some kept.to_come.now; taken = Some kept.taken.items }
 
--- all of them, where memory sufficed
+-- all of them, if memory sufficed
 abbrev pub moments_of : Account → Option (List Moment)
 moments_of account = if account.is_lost then None else Some (map moment_of account.kept.items)

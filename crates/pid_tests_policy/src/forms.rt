@@ -5,7 +5,7 @@ use std::alloc::Global;
 use std::process::Abort;
 use std::test::Fail;
 
-// Asserts what the form of each row is answered, `ok` where it is a command.
+// Asserts what the form of each row is answered, `ok` if it is a command.
 fn expect_forms(rt: &impl Abort, alloc: Global, rows: &str) -> Result<(), Fail> {
     for row in rows.lines() {
         let (form, expected) = row.split_once(" | ").ok_or("a row")?;

@@ -126,7 +126,7 @@ fn expect_answers(rt: &impl Abort, alloc: Global, rows: &str) -> Result<(), Fail
     Ok(())
 }
 
-// After each refusal the row where the next check fails too, where there can be one.
+// After each refusal the row where the next check fails too, if there can be one.
 const ACCOUNT_AND_SUBMIT_CHECKS: &str = "\
 account root who=bob&rank=1 | - | refused 4 NoAccount
 account root who=root&rank=1 | who=1 | refused 4 NoAccount
@@ -399,7 +399,7 @@ import k1/root file=a | rank=2&file=good&items=3 | ok added=1 renamed=2 same=3
 import root file=a | rank=2&file=faulty | refused 14 FileFault line=3 kind=7 Duplicate
 ";
 
-// Where one request for memory is refused, that is answered, and the same call answers as ever when it
+// If one request for memory is refused, that is answered, and the same call answers as ever when it
 // is made again. (Run with each request refused in turn; what a row is made of ends the test then.)
 #[test]
 fn tells_want_of_memory(rt: HostRuntime) -> Result<(), Fail> {

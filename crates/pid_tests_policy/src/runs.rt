@@ -303,7 +303,7 @@ approve bob num=2 | ok
 import bob PC/8086/1237=440FX | ok added=1 renamed=0 same=0
 ";
 
-// What a command is answered, sent again where memory was refused.
+// What a command is answered, sent again if memory was refused.
 fn obeyed(
     registry: &mut PlainRegistry,
     first: (Command, FileReading),
@@ -319,8 +319,8 @@ fn obeyed(
     }
 }
 
-// Where one request for memory is refused while a command is obeyed, the command has done nothing,
-// and is obeyed as ever when it is sent again. (Run with each request refused in turn; where that
+// If one request for memory is refused while a command is obeyed, the command has done nothing,
+// and is obeyed as ever when it is sent again. (Run with each request refused in turn; if that
 // is one for the commands themselves, which are made first, the test ends there.)
 #[test]
 fn stays_where_memory_is_refused(rt: HostRuntime) -> Result<(), Fail> {

@@ -82,7 +82,7 @@ fn connected(
     }
 }
 
-// The files as they are where the process ends.
+// The files as they are when the process ends.
 fn left(conn: Connection<FileStore<Stopping>>) -> Files<Stopping> {
     conn.into_store().close()
 }
@@ -116,7 +116,7 @@ pub(crate) fn is_answered(line: &str) -> bool {
     )
 }
 
-// The answer to a row, where neither memory nor the store refuses it.
+// The answer to a row, if neither memory nor the store refuses it.
 fn answer_to<S: Alter + Drop>(
     registry: &mut Registry<S>,
     alloc: Global,

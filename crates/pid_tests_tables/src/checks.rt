@@ -1,5 +1,5 @@
 //! Databases made by statements of these tests, and what the check answers of them. What it means
-//! is in its contract: the tests show that it answers so where there is memory.
+//! is in its contract: the tests show that it answers so if there is memory.
 use pid_model::rows::OLDER;
 use pid_tables::{Step, Tables, create, migrate};
 use pid_tables_check::check;

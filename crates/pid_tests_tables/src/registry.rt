@@ -1,5 +1,5 @@
 //! A registry written and read back. What each call means is in its contract: the tests show that
-//! the calls succeed where there is memory, and that the texts of rows are those of SQLite.
+//! the calls succeed if there is memory, and that the texts of rows are those of SQLite.
 use pid_ident::{Account, Key, Path, PathText};
 use pid_moderation::{
     Change, Command, Facts, Rank, Reply, Rows, Verb, command_of, decide, needs, reply_line,
@@ -149,7 +149,7 @@ fn name(tables: &mut Tables<MemStore>, alloc: Global, text: &str) -> Result<Stri
     }
 }
 
-// The number of the schema, where the tables are those of a registry.
+// The number of the schema, if the tables are those of a registry.
 fn judged(tables: &mut Tables<MemStore>, alloc: Global) -> Result<u32, TableFault> {
     if !tables.conn.is_autocommit() {
         return Err(TableFault::Store);

@@ -366,7 +366,7 @@ fn cuts_to_each_size(rt: HostRuntime) -> Result<(), Fail> {
     Ok(())
 }
 
-// What buffers hold of a name of 1,000 bytes: whole where its closing 0 byte fits too, and no
+// What buffers hold of a name of 1,000 bytes: whole if its closing 0 byte fits too, and no
 // buffer is larger than its text.
 #[test]
 fn fits_long_names_and_large_buffers(rt: HostRuntime) -> Result<(), Fail> {

@@ -174,7 +174,7 @@ fn sends_a_front_at_a_fault(rt: HostRuntime) -> Result<(), Fail> {
     Ok(())
 }
 
-// Where memory is refused, the tree has what it had before, and nothing of the new path.
+// If memory is refused, the tree has what it had before, and nothing of the new path.
 #[test]
 fn stays_where_memory_is_refused(rt: HostRuntime) {
     let alloc = rt.alloc();

@@ -17,7 +17,7 @@ abbrev pub name_fault : List ℕ → Option LineKind
 name_fault name = if is_empty name then Some NoName else
     (if not (is_name name) then Some BadName else None)
 
--- the least kind from BadId to BadName, where the identifiers have these widths
+-- the least kind from BadId to BadName, if the identifiers have these widths
 abbrev pub columns_fault : List ℕ → List ℕ → Option LineKind
 columns_fault ws bytes = if not (begins_with_ids ws bytes) then Some BadId else name_fault
     (name_in ws bytes)

@@ -11,7 +11,7 @@ use Rattle.pid_file.specs.declared.open_levels.OpenLevels.TheVariants.{Device, C
 use Rattle.pid_file.specs.declared.open_levels.OpenLevels.TheVariants.{Generics}
 use Rattle.pid_file.specs.Marks.{depth}
 
--- what a line of depth 1, of depth 2, and of a greater one names below open levels; none where it
+-- what a line of depth 1, of depth 2, and of a greater one names below open levels; none if it
 -- is skipped
 abbrev pub first_below : OpenLevels → Result (Option Place) LineKind
 first_below Nothing = Err NoParent

@@ -75,7 +75,7 @@ IsMetBy k errand result calls now = MatchResult result
     (λ reply. IsBodyMet k errand reply.head reply.body calls now)
     (λ _. (given : Answer) × IsErrandMet k errand given calls now)
 
--- The same where the body is read as it comes: it may have been given up, and memory lacked only
+-- The same if the body is read as it comes: it may have been given up, and memory ran out only
 -- with the body at its end.
 abbrev pub IsMetBehind : {E : Type 0} → Known → Errand → Result Reply E → Option (List ℕ)
     → List Call → Known → Type 0
@@ -91,14 +91,14 @@ abbrev pub Replies : {S E : Type 0} → (store : Ghosts S) → Registry S store 
 Replies store old new errand result = Goes store old new
     (λ k calls now. IsMetBy k errand result calls now)
 
--- the same, where the sender is the one that the head names
+-- the same, if the sender is the one that the head names
 abbrev pub RepliesTo : {S E : Type 0} → (store : Ghosts S) → Registry S store → Registry S store
     → Head → (Option Sending → Errand) → Result Reply E → Type 0
 RepliesTo store old new head errand result = Goes store old new
     (λ k calls now. (request : RequestHead) → IsHeadOf head request
     → IsMetBy k (errand (sender (fields_of request))) result calls now)
 
--- the same, where the body is a file that is read as it comes, known and not too long
+-- the same, if the body is a file that is read as it comes, known and not too long
 abbrev pub RepliesToFile : {S E : Type 0} → (store : Ghosts S) → Registry S store
     → Registry S store → Option (List ℕ) → Option (List ℕ) → (List ℕ → Errand) → Result Reply E
     → Type 0

@@ -123,7 +123,7 @@ WritesRefusal fault old new ends.StoreFault = ⊥
 WritesRefusal fault old new ends.Memory = ⊥
 WritesRefusal fault old new ends.TurnsSpent = ⊥
 
--- how the stream ends where a body broke off
+-- how the stream ends if a body broke off
 abbrev pub EndsBroken : BodyFault → Option (List ℕ) → Option (List ℕ) → StreamEnd → Type 0
 EndsBroken faults.Short old new end = WritesRefusal BodyShort old new end
 EndsBroken faults.ReadFault old new end = (end ≡ ends.ReadFault) × (new ≡ old)
@@ -185,7 +185,7 @@ pub record Taken : Type 0 where
   pub held : List ℕ
   pub held_after : List ℕ
 
--- where this came of a request, and this was left of the stream
+-- of what was taken: this came of a request, and this was left of the stream
 abbrev pub portion_of : Taken → List ℕ → List ℕ → Portion
 portion_of t came more =
     record { came = t.held ++ came; behind = t.held_after; all = (t.held ++ came) ++ more }
@@ -199,7 +199,7 @@ pub record Steps {H : Type 0} (conduct : Conduct H) (o : Outside H) (t : Taken)
   pub after : t.input_after ≡ Some more
   pub is : IsStep conduct o (portion_of t came more) result
 
--- where the stream ends within the request, there is a cause
+-- if the stream ends within the request, there is a cause
 abbrev pub EndsSo : Answered → LastState → Type 0
 EndsSo answered.Open s = ⊤
 EndsSo answered.Closed s = ⊤
@@ -212,18 +212,18 @@ answered_so sent.Whole false = answered.Open
 answered_so sent.WriteFault closing = answered.Ended ends.WriteFault
 answered_so sent.StoreFault closing = answered.Ended ends.StoreFault
 
--- how a stream ends where reading stops
+-- how a stream ends if reading stops
 abbrev pub stop_end : Stop → StreamEnd
 stop_end stops.ReadFault = ends.ReadFault
 stop_end stops.TurnsSpent = ends.TurnsSpent
 stop_end stops.Memory = ends.Memory
 
--- what a handler's result is where the body is whole
+-- what a handler's result is if the body is whole
 abbrev pub whole_so : {E : Type 0} → Result Reply E → Asked
 whole_so (Ok reply) = asked.Reply reply
 whole_so (Err e) = asked.NoMemory
 
--- and where it is not
+-- and if it is not
 abbrev pub broken_so : Option BodyFault → Asked
 broken_so None = asked.NoMemory
 broken_so (Some fault) = asked.Broken fault

@@ -98,7 +98,7 @@ abbrev pub IsReplyOrStop : List ℕ → Result Reply Refusal → Type 0
 IsReplyOrStop reply answer = (outcome_line answer ≡ reply)
     ⊎ ((refusal : Refusal) × (is_stop refusal ≡ true) × (answer ≡ Err refusal))
 
--- what was answered goes on where it is no stop
+-- what was answered goes on if it is no stop
 abbrev pub GoesOnAfter : Result (Unit {0}) LineEnd → Option Refusal → Type 0
 GoesOnAfter (Ok x) (Some refusal) = is_stop refusal ≡ false
 GoesOnAfter (Ok x) None = Unit {0}
@@ -123,7 +123,7 @@ Unfit TooLong bytes old new = Appends old.taken new.taken (old.held ++ refused_l
     × (lines.LONGEST + 1 < length bytes)
 
 module _ {R : Type 0} (registry : Ghosts R) where
-  -- the line was answered, and nothing is held any more where it was a command
+  -- the line was answered, and nothing is held any more if it was a command
   pub record GoesBehind (r : R) (h : History) (new : R) (ask : Ask) (left : Out) : Type 0 where
     pub becomes : Becomes registry r h new (after_all h (command_of ask))
     pub lives : registry.has_failed r → is_call ask ≡ false
@@ -143,8 +143,8 @@ module _ {R : Type 0} (registry : Ghosts R) where
   LeavesAfter (Err WriteFault) r h new ask left = BecomesEither registry r h new h
       (after_all h (command_of ask))
 
-  -- What calls sent for the line: its command where it was answered, none that has an outcome where
-  -- it was stopped, and one or the other where the writer failed.
+  -- What calls sent for the line: its command if it was answered, none that has an outcome if
+  -- it was stopped, and one or the other if the writer failed.
   abbrev pub SendsFor : Result (Unit {0}) LineEnd → R → R → Ask → Type 0
   SendsFor (Ok x) r new ask = CallsSend registry.showing r (command_of ask) new
   SendsFor (Err TooLong) r new ask = CallsSend registry.showing r [] new

@@ -6,7 +6,7 @@ use Rattle.pid_moderation.specs.declared.refusal.Refusal.{Refusal}
 use Rattle.pid_moderation.specs.declared.refusal.Refusal.TheVariants.{Memory, Store}
 use Rattle.pid_service.specs.declared.running.RunReport.{RunReport}
 
--- the fault that an answer is, where it is one
+-- the fault that an answer is, if it is one
 abbrev pub fault_in : Result Reply Refusal → Option Refusal
 fault_in (Err Memory) = Some Memory
 fault_in (Err Store) = Some Store

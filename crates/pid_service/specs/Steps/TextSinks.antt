@@ -7,7 +7,7 @@ use Rattle.pid_service.specs.declared.items_text.TextBuffer.{TextBuffer}
 abbrev pub block_behind : List ℕ → List ℕ → List (List ℕ)
 block_behind before path = if opens_block before path then block_line path ∷ [] else []
 
--- the bytes that are kept, where some are
+-- the bytes that are kept, if some are
 abbrev pub text_in : Option TextBuffer → Option (List ℕ)
 text_in None = None
 text_in (Some text) = Some text.taken.items

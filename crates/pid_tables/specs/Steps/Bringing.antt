@@ -23,7 +23,7 @@ abbrev pub is_latest : Version → Bool
 is_latest One = false
 is_latest Two = true
 
--- where views are shown, the answer is whether they are shown in that schema
+-- if views are shown, the answer is whether they are shown in that schema
 abbrev pub TellsLatest : Database → Result Bool TableFault → Type 0
 TellsLatest db result = (version : Version) (counts : Counts) (numbers : Numbers) (v : Views)
     → ShowsKeeping version counts numbers db v → IfOk result (λ is. is ≡ is_latest version)
@@ -41,7 +41,7 @@ pub data IsStanding (db : Database) (found : Option Version) : Type 0 where
   -- else the check finds it
   Found : FindsVersion db found → IsStanding db found
 
--- What is shown is found, where memory is enough and the store does not fail.
+-- What is shown is found, if memory is enough and the store does not fail.
 pub record FindsShown (old new : State) (result : Result (Option Version) TableFault)
     : Type 0 where
   pub shut : HasCleanDisk new → old.is_open ≡ false

@@ -37,7 +37,7 @@ module _ {S : Type 0} (store : Ghosts S) where
   TellsWithin old new result Says = HasCleanDisk store new → (c : Counts) (v : Views)
       → ShowsCounting c (seen store old) v → IfOk result (Says v)
 
-  -- where the transaction shows views to which the change fits, it shows the changed ones then
+  -- if the transaction shows views to which the change fits, it shows the changed ones then
   abbrev pub WritesChange : {X : Type 0} → Held S → Held S → Result X TableFault → Change → Type 0
   WritesChange old new result change = HasCleanDisk store new → IsTrue old.in_transaction
       → (counts : Counts) (v : Views) → ShowsCounting counts (seen store old) v

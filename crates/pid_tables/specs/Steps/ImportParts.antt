@@ -33,7 +33,7 @@ pub record IsPut (h : History) (text : List ℕ) (t : Tally) : Type 0 where
   pub good : refused text ≡ None
   pub tally : t ≡ tally_of (items_of h) (entries_of (lines_of text))
 
--- the number of one command more, where it can be counted.
+-- the number of one command more, if it can be counted.
 abbrev pub IsNext : ℕ → ℕ → Type 0
 IsNext revision n = revision < most_revision → n ≡ revision + 1
 

@@ -36,7 +36,7 @@ module _ {S : Type 0} (store : Ghosts S) where
       → HasOnlyMeta before (seen store old)
       → MatchResult result (λ _. HasOnlyMeta after (seen store new)) IsMemoryOrStore
 
-  -- where there was no table, those of a new registry are there then
+  -- if there was no table, those of a new registry are there then
   abbrev pub MakesRegistry : {X : Type 0} → Held S → Held S → Result X TableFault → Type 0
   MakesRegistry old new result = HasCleanDisk store new → IsTrue old.in_transaction
       → (IsTrue (is_open store old) → AreMade [] (seen store old))

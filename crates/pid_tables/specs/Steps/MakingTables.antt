@@ -40,8 +40,8 @@ pub record Creates (so_far : List Table) (text : List ℕ) (table : Table) : Typ
   pub tree : next_tree (making so_far) ≡ table.tree
   pub alone : lacks_sequence (created (making so_far) (record table { tree = 0 })) ≡ false
 
--- A step of the making, inside a transaction: where the first of these are made it answers a value
--- only with the others made, and a fault only where there is no memory, or where the store failed
+-- A step of the making, inside a transaction: if the first of these are made it answers a value
+-- only with the others made, and a fault only if there is no memory, or if the store failed
 -- or refused.
 abbrev pub Makes : {X : Type 0} → State → State → Result X TableFault → List Table → List Table
     → Type 0
@@ -49,7 +49,7 @@ Makes old new result before after = HasCleanDisk new → IsTrue old.in_transacti
     → (IsTrue old.is_open → AreMade before old.now)
     → MatchResult result (λ _. AreMade after new.now) IsMemoryOrStore
 
--- where the text is understood it defines a table
+-- if the text is understood it defines a table
 abbrev pub IsMaker : List ℕ → Result Compiled CompileError → Type 0
 IsMaker text (Ok c) = IsDefinition text c
 IsMaker text (Err e) = Unit {0}
@@ -66,7 +66,7 @@ pub record TookNames (names : List (List ℕ)) (old new : Schema) : Type 0 where
   pub free : AllByRecursion (λ name. is_used old name ≡ false) names
   pub kept : (name : List ℕ) → is_used old name ≡ true → is_used new name ≡ true
 
--- A step of the making in any database: it answers a value only where each of the names was free.
+-- A step of the making in any database: it answers a value only if each of the names was free.
 abbrev pub Takes : {X : Type 0} → State → State → Result X TableFault → List (List ℕ) → Type 0
 Takes old new result names = HasCleanDisk new → IsTrue old.in_transaction
     → MatchResult result (λ _. TookNames names old.now.schema new.now.schema) IsNotNewerSchema
@@ -81,7 +81,7 @@ FindsTables old new result = HasCleanDisk new → IsTrue old.in_transaction
     → (IsTrue old.is_open → old.now.schema ≡ pid_schema)
     → MatchResult result (λ _. ⊥) (IsFaultOfTaken old new)
 
--- all seven, where meta has some rows and the others have none
+-- all seven, if meta has some rows and the others have none
 pub record HasOnlyMeta (m : Map (List ℕ) ℕ) (db : Database) : Type 0 where
   pub schema : db.schema ≡ pid_schema
   pub sound : IsDatabase db

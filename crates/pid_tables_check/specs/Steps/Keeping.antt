@@ -24,7 +24,7 @@ use Rattle.pid_tables_check.specs.Conditions.{AreRemarks, AreReceipts, AreSinces
 
 -- ---- one table
 
--- it is true exactly where the rows keep a condition
+-- it is true exactly when the rows keep a condition
 abbrev pub IsPartJudged : (List Row → Type 0) → List Row → Bool → Type 0
 IsPartJudged Are rows good = IsTrue good ↔ Are rows
 

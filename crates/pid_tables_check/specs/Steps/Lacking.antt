@@ -8,7 +8,7 @@ use Rattle.pid_tables_check.specs.declared.shape.Table.TheVariants.{Meta}
 use Rattle.pid_tables_check.specs.Queries.{query_of}
 use Rattle.pid_tables_check.specs.Shapes.{CanBeAsked, ShowsLater}
 
--- A later schema is judged before all else: it is Damaged where the labels can't be asked for, or
+-- A later schema is judged before all else: it is Damaged if the labels can't be asked for, or
 -- show none.
 abbrev pub ExplainsLater : Database → TableFault → Type 0
 ExplainsLater db Memory = Unit {0}

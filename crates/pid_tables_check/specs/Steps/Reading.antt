@@ -14,14 +14,14 @@ use Rattle.pid_tables_check.specs.Queries.{query_of}
 use Rattle.pid_tables_check.specs.Shapes.{CanBeAsked, ShowsRows, ShowsLater}
 use Rattle.pid_tables_check.specs.Checking.{ShowsRegistry, ShowsDamage}
 
--- Where the transaction sees a database of which `Has` holds: a value says `Says` of it, and the
+-- If the transaction sees a database of which `Has` holds: a value says `Says` of it, and the
 -- transaction still sees it; a fault says `Fails`.
 abbrev pub JudgesRows : {X : Type 0} → State → State → Result X TableFault → (Database → Type 0)
     → (Database → X → Type 0) → (Database → TableFault → Type 0) → Type 0
 JudgesRows old new result Has Says Fails = HasCleanDisk new → (d : Database) → old.now ≡ d → Has d
     → MatchResult result (λ x. Says d x × (new.now ≡ d)) (Fails d)
 
--- the rows that a query answers, where it can be asked
+-- the rows that a query answers, if it can be asked
 abbrev pub AnswersTable : State → State → Result (Vec Row Global) TableFault → List ℕ → Type 0
 AnswersTable old new result text = JudgesRows old new result (λ d. CanBeAsked d.schema text)
     (λ d rows. ShowsRows d text rows.items) (λ d. IsMemoryOrStore)

@@ -36,7 +36,7 @@ item_shown e = Text e.0 ∷ Text e.1 ∷ []
 abbrev pub remark_shown : Remark → Row
 remark_shown r = Text r.author ∷ Text r.text ∷ []
 
--- one row where some item's path is between these, and else none
+-- one row if some item's path is between these, and else none
 abbrev pub IsFirstWithin : List ℕ → List ℕ → Items → List Row → Type 0
 IsFirstWithin low high items rows = ((rows ≡ []) × (holds_between low high items ≡ false))
     ⊎ ((row : Row) × (rows ≡ row ∷ []) × (holds_between low high items ≡ true))

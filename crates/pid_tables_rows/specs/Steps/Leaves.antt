@@ -15,7 +15,7 @@ pub record HalfTurn : Type 1 where
   pub renumber : Numbers → Numbers
   pub next : Views → Views
 
--- Where the transaction shows what the half is for, in these counts and numbers, the call answers a
+-- If the transaction shows what the half is for, in these counts and numbers, the call answers a
 -- value only with the transaction showing what comes next.
 abbrev pub LeadsKeeping : {X : Type 0} → State → State → Result X TableFault → HalfTurn → Type 0
 LeadsKeeping old new result half =
