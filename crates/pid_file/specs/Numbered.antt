@@ -9,7 +9,7 @@ use Rattle.pid_file.specs.Reading.{read_from}
 abbrev pub Numbered : Type 0
 Numbered = ℕ × Item
 
--- an entry as its numbers and its name
+-- an entry of the code as a numbered entry
 abbrev pub as_told : Entry → Numbered
 as_told e = (e.line, (path_text e.path, e.name.now))
 

@@ -28,7 +28,7 @@ use Rattle.pid_moderation.specs.Changes.{changed, with_pairs, FitsViews}
 use Rattle.pid_moderation.specs.Judgement.{Outcome, Refused, Repeated, Accepts, judge, judged}
 use Rattle.pid_moderation.specs.Judgement.{answer, after}
 
--- what an import does: nothing where its file is not imported, as one that is too long (`None`)
+-- what an import does: nothing if its file is not imported, as one that is too long (`None`)
 abbrev pub import_effect : Option Verdict → Effect
 import_effect (Some (verdicts.Good added renamed same items)) = Imported items
 import_effect (Some (verdicts.Faulty fault)) = Nothing

@@ -79,7 +79,7 @@ module _ {S : Type 0} (store : Ghosts S) where
     -- if some command left other items, no name is kept in memory
     pub forgets : OverHistory store old new (λ h. ForgetsRun report new h (map asks commands))
     -- Whatever its disk does: without a fault a live registry stays live, one that has failed since
-    -- was short of memory, or its store failed,
+    -- ran out of memory, or its store failed,
     pub stays : is_live old ≡ true → report.fault ≡ None → is_live new ≡ true
     pub fails : is_live old ≡ true → is_live new ≡ false → IsSomeAnd report.fault IsFault
     -- and no live one replies that it had failed.

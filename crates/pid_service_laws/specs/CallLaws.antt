@@ -60,7 +60,6 @@ module _ {R : Type 0} (w : Showing R) where
       → Does w old nothing_sent new
 
   -- Calls on a registry that shows a history are a session, with exactly the outcomes answered.
-  -- answered.
   abbrev pub CallsAreALife : Type 0
   CallsAreALife = (old new : R) (h : History) (calls : List Call)
       → w.shows old h

@@ -1,5 +1,4 @@
 -- What holds of all sessions, over stops at any place: cited by `laws`. A choice of this project.
--- project.
 use Rattle.std.specs.Prelude.{◌≡◌, ◌⊎◌, ◌≤◌, ℕ, true, List, [], ◌∷◌, ◌++◌, Some, Err}
 use Rattle.std.specs.List.{flat_map}
 use Rattle.pid_moderation.specs.declared.refusal.Refusal.{Refusal}

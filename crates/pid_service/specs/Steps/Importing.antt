@@ -48,7 +48,7 @@ EndSpares (Err (Refused e)) h c = (after h c ≡ h) ⊎ IsFault e
 EndSpares (Err Body) h c = Unit {0}
 
 module _ {S : Type 0} (store : Ghosts S) where
-  -- the registry shows a history, over which the import hangs on its file, and it can go on
+  -- the registry shows a history, over which the import depends on its file, and it can go on
   pub record HangsOnFile (r : Registry S store) (facts : Facts) (items : ℕ) (command : Command)
       (h : History) (c : Asked) : Type 0 where
     pub shows : Shows store r h
