@@ -290,9 +290,10 @@ def name_of(call):
 def page_part():
     """The part of docs/PROMISES.md between its marks."""
     specs, sources = Specs(), Sources()
-    rows, parts = [], []
+    rows, parts, read = [], [], set()
     for promise, calls in PROMISES:
         keys = definitions_for(specs, sources, calls)
+        read |= keys
         size = sum(specs.definitions[key].size for key in keys)
         rows.append(f"| {promise} | {', '.join(map(name_of, calls))} | {len(keys)} | {size:,} |\n")
         parts.append(f"\n### To read for {promise}\n\n")
@@ -302,6 +303,8 @@ def page_part():
             text = f"`{sources.places[call]}`, {name_of(call)}: {what}"
             parts.append("- " + "\n  ".join(textwrap.wrap(text, 98, **WHOLE)) + "\n")
         parts.append("\n".join(lists(specs, keys)) + "\n")
+    size = sum(specs.definitions[key].size for key in read)
+    rows.append(f"| all ten | | {len(read)} | {size:,} |\n")
     head = "\n| promise | public calls | definitions | lines |\n|---|---|---|---|\n"
     return head + "".join(rows) + "".join(parts) + "\n"
 

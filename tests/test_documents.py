@@ -162,6 +162,19 @@ def missing_paths():
     return named, missing
 
 
+def misplaced_definitions():
+    """How many definitions docs/PROMISES.md lists with files, and those that are not there."""
+    count, missing = 0, []
+    for names, file in re.findall(r"^\| (`.*`) \| `(pid_\w+/specs/\w+)` \|",
+                                  text_of("docs/PROMISES.md"), re.M):
+        spec = text_of(os.path.join("crates", file + ".antt"))
+        for name in re.findall(r"\w+", names):
+            count += 1
+            if not re.search(rf"^\s*(?:\w+ )*{name} ", spec, re.M):
+                missing.append(f"{file}: {name}")
+    return count, missing
+
+
 def has_reader(page):
     """Whether the first sentence of a page says for whom it is."""
     first = text_of(page).split("\n\n")[1]
@@ -210,6 +223,9 @@ def test_refusals(cases):
 def test_reading_list(cases):
     shown, printed = reading_list.shown_part(), reading_list.page_part()
     cases.equal("PROMISES.md: what to read (run tests/reading_list.py)", shown == printed, True)
+    count, missing = misplaced_definitions()
+    cases.equal("PROMISES.md: definitions that are not in their files", missing, [])
+    cases.equal("PROMISES.md: it lists some", count > 30, True)
     steps = set(re.findall(r"`(Steps/\w+)`", shown))
     named = set(re.findall(r"`(Steps/\w+)`", text_of("docs/ARCHITECTURE.md")))
     cases.equal("ARCHITECTURE.md: the steps that promises rest on", named, steps)
