@@ -48,7 +48,7 @@ Exit status:
 Run 'pciids help <COMMAND>' for details and an example.
 ";
 
-/// The help of one of the commands, but for `help`.
+/// The help of one of the commands, except for `help`.
 pub fn page_of(command: &str) -> Option<&'static str> {
     match command {
         "tidy" => Some(TIDY),

@@ -21,7 +21,7 @@ pub fn begins_blank(bytes: &[u8]) -> bool
     matches!(bytes, [b' ' | b'\t', ..])
 }
 
-/// Whether no byte is DEL or a control byte, but for tabs.
+/// Whether no byte is DEL or a control byte, except for tabs.
 pub fn are_printed(bytes: &[u8]) -> bool
     ensures { result ≡ list_all printed_byte bytes.now }
 {

@@ -22,7 +22,7 @@ use crate::line_kind::LineKind;
 use crate::name::is_name;
 use crate::path::Path;
 
-/// What a line names, but for its own digits.
+/// What a line names, except for its own digits.
 #[derive(Clone, Copy)]
 pub enum Place {
     Vendor,

@@ -120,7 +120,7 @@ fn standing_value(alloc: Global, number: u32, submission: &Submission) -> Result
     })
 }
 
-// The same as text, but for the closing brace: more follows.
+// The same as text, except for the closing brace: more follows.
 fn standing_json(alloc: Global, number: u32, submission: &Submission) -> Result<String, AllocError>
     ensures { IfOk result (λ text. string_bytes text ++ codes "}"
         ≡ compact_text (object (standing_members number (standing_of submission.now)))) }

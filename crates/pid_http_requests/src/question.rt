@@ -281,7 +281,7 @@ fn ask(
 /// that of its reply.
 ///
 /// The path of the target is what comes before its first `?`, the query what comes after it.
-/// Neither is decoded but for the names and values of the query's fields.
+/// Neither is decoded except for the names and values of the query's fields.
 ///
 /// # Errors
 ///

@@ -148,6 +148,6 @@ views_of h = record {
   since = λ path. since_of path h;
 }
 
--- the views but for the numbers: no revision, and no number of a change
+-- the views except for the numbers: no revision, and no number of a change
 abbrev pub without_numbers : Views → Views
 without_numbers v = record v { revision = 0; since = λ path. 0 }

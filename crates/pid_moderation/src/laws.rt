@@ -74,7 +74,7 @@ pub fn marks_stay()
         → IsMarked (after_all h commands) }
 {}
 
-/// What is shown but for the numbers of changes does not depend on the mark, nor, while the
+/// What is shown except for the numbers of changes does not depend on the mark, nor, while the
 /// revision is below its limit, what is answered: the same commands are accepted from any
 /// beginning.
 pub fn marks_judge_nothing()

@@ -114,7 +114,7 @@ impl<S: Alter + Drop> Registry<S> {
                 self.kept.text = text;
                 Ok(bytes)
             }
-            // The text may have taken the memory that was short.
+            // The text may have taken the memory that ran out.
             Err(TableFault::Memory) => self.counted_length(),
             Err(fault) => Err(refusal_of(fault)),
         }

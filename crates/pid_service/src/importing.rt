@@ -71,7 +71,7 @@ fn import_command(alloc: Global, account: Account, key: Option<Key>) -> Command
     }
 }
 
-// Reads the rest of an input for an answer that does not hang on its text.
+// Reads the rest of an input for an answer that does not depend on its text.
 fn answer_past<I: Input>(answer: Result<Reply, Refusal>, input: &mut I) -> Result<Reply, ImportEnd>
     ensures past { HasRead result (I.to_come input.old) (I.to_come input.new)
         (AnswersPast answer result) }
@@ -188,7 +188,7 @@ impl<S: Alter + Drop> Registry<S> {
     ///
     /// The input is read to its end whatever the answer is, in reads of at most 4,096 bytes; if
     /// more than 4,194,304 bytes came, the file is `BadText` and no more is read. `Body` if the
-    /// input failed: then the registry is as before, but for what it kept in memory.
+    /// input failed: then the registry is as before, except for what it kept in memory.
     pub fn import_from<I: Input>(
         &mut self,
         account: Account,

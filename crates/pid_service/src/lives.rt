@@ -58,8 +58,8 @@ pub fn histories_are_kept<S: Alter + Drop>()
     ensures { HistoriesAreKept S.Store }
 {}
 
-/// Tables of schema 1 keep no revision and no number of a change: a database that was just opened
-/// on tables that show a history but for those has that history moved, with its mark after all its
+/// Tables of schema 1 keep no revision and no number of a change. Let a database be just opened on
+/// tables that otherwise show a history: it has that history moved, with its mark after all its
 /// commands. If that is reached (`taken_histories_are_reached`),
 /// `first_openings_show_what_is_there` and `histories_are_kept` go on from there.
 pub fn migrations_find_histories<S: Alter + Drop>()

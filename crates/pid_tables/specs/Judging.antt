@@ -14,7 +14,7 @@ use Rattle.pid_tables.specs.declared.judging.Early.{Early}
 use Rattle.pid_tables.specs.declared.judging.Early.TheVariants.{Answered, Open}
 use Rattle.pid_tables.specs.Faults.{IsFault}
 
--- the import hangs on its file, and these are its facts without it
+-- the import depends on its file, and these are its facts without it
 pub record IsOpen (h : History) (command : Command) (f : Facts) : Type 0 where
   pub facts : f ≡ facts_at (views_of h) command.account command.key NoRows
   pub waits : WaitsForFile f
@@ -31,7 +31,7 @@ abbrev pub HasOneOutcome : History → Command → Result Reply Refusal → Type
 HasOneOutcome h command (Ok reply) = SettlesImport h command.account command.key (Ok reply)
 HasOneOutcome h command (Err e) = SettlesImport h command.account command.key (Err e) ⊎ IsFault e
 
--- the import is answered, or it hangs on its file, and there are so many items
+-- the import is answered, or it depends on its file, and there are so many items
 abbrev pub IsJudgedEarly : History → Command → Early → Type 0
 IsJudgedEarly h command (Answered result) = HasOneOutcome h command result
 IsJudgedEarly h command (Open facts items) = IsOpen h command facts × (items ≡ length (items_of h))

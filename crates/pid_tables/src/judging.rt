@@ -18,7 +18,7 @@ use std::alloc::Global;
 pub enum Early {
     /// It is answered whatever its file is, if that is not too long.
     Answered(Result<Reply, Refusal>),
-    /// It hangs on its file: what it is judged by without that, and how many items there are.
+    /// It depends on its file: what it is judged by without that, and how many items there are.
     Open { facts: Facts, items: u32 },
 }
 

@@ -23,7 +23,7 @@ pub struct Account<'a> {
     pub reads: u64,
     /// The account, in order.
     pub kept: Vec<Kept<'a>>,
-    /// Whether memory was wanting for a part of it.
+    /// Whether memory ran out for a part of it.
     pub is_lost: bool,
 }
 

@@ -48,7 +48,7 @@ pub(crate) fn push_request(alloc: Global, text: &mut String, line: &str) -> Resu
     }
 }
 
-// The field of a kind of content, but for that of no content.
+// The field of a kind of content, except for that of no content.
 fn field_of(kind: &str) -> Option<&'static str> {
     match kind {
         " json " => Some("Content-Type: application/json\r\n"),

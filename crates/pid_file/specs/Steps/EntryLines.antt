@@ -1,4 +1,4 @@
--- What is wrong with the columns of a line, and what a line names, but for its own digits.
+-- What is wrong with the columns of a line, and what a line names, except for its own digits.
 -- Serves private functions alone; no promise rests on it.
 use Rattle.std.specs.Prelude.{◌≡◌, ℕ, not, List, [], ◌∷◌, ◌++◌, if◌then◌else◌, Option, Some, None}
 use Rattle.pid_file.specs.declared.line_kind.LineKind.{LineKind}

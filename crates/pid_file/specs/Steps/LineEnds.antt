@@ -14,7 +14,7 @@ pub record TookLine {S : Type 0} (takes : S → Numbered → S → Type 0) (earl
   pub good : refusal_at earlier line ≡ None
   pub took : Took takes old (numbered_at earlier line) new
 
--- it is refused, or memory is wanting, and the sink is as before
+-- it is refused, or memory ran out, and the sink is as before
 pub record RefusedLine {S : Type 0} (r : ReadRefusal) (earlier : List (List ℕ)) (line : List ℕ)
     (old new : S) : Type 0 where
   pub refused : IsRefusal r (refusal_at earlier line)

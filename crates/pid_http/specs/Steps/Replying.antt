@@ -69,7 +69,7 @@ IsBodyMet k errand head (Bytes body) calls now = IsErrandMet k errand
     (answer_with head.status head.content body.items) calls now
 IsBodyMet k errand head (Written told) calls now = IsPromised k errand head told calls now
 
--- the reply is an answer; or memory lacked for it, and what it is a reply to was done
+-- the reply is an answer; or memory ran out for it, and what it is a reply to was done
 abbrev pub IsMetBy : {E : Type 0} → Known → Errand → Result Reply E → List Call → Known → Type 0
 IsMetBy k errand result calls now = MatchResult result
     (λ reply. IsBodyMet k errand reply.head reply.body calls now)

@@ -85,7 +85,7 @@ abbrev pub refusal_given : {X : Type 0} → Result X Refusal → Option Refusal
 refusal_given (Ok x) = None
 refusal_given (Err refusal) = Some refusal
 
--- the refusal of the holder of names in the answer of a look-up; memory may be short for the
+-- the refusal of the holder of names in the answer of a look-up; memory may run out for the
 -- look-up itself
 abbrev pub refusal_of_names : Result Answer (LookupRefusal Refusal) → Option Refusal
 refusal_of_names (Ok text) = None

@@ -95,7 +95,7 @@ pub record AreAllGood (version : Version) (revision : ℕ) (t : Rows) : Type 0 w
   pub receipts : AreReceipts t.submissions t.receipts
   pub sinces : AreDated version revision t.items t.sinces
 
--- these are the rows of all tables, but for those of meta
+-- these are the rows of all tables, except for those of meta
 pub record ShowsJudged (version : Version) (revision : ℕ) (d : Database)
     (it : Judged) : Type 0 where
   pub rows : Rows
