@@ -35,9 +35,9 @@ def source(program):
     usage = subprocess.run([program, "no.such.command"], capture_output=True).stderr.decode()
     usage = usage[usage.index("Usage: "):usage.index("To read a file")]
     parts = [HEAD, constant("VERSION", printed(program, "--version"), "What `--version` prints.")]
-    parts.append(constant("USAGE", usage, "What stands below a word that is no command."))
+    parts.append(constant("USAGE", usage, "What follows an argument that is no command."))
     parts.append(constant("HELP", printed(program, "help"), "What `--help` and `help` print."))
-    parts.append("\n/// The help of one of the commands, but for `help`.\n")
+    parts.append("\n/// The help of one of the commands, except for `help`.\n")
     parts.append("pub fn page_of(command: &str) -> Option<&'static str> {\n    match command {\n")
     for command in COMMANDS:
         parts.append(f'        "{command}" => Some({command.upper()}),\n')
