@@ -305,20 +305,23 @@ account root who=bob&rank=1 | rank=3&revision=9000000000000000000 | refused 15 F
 submit alice path=PC/8086&name=a | rank=0&revision=9000000000000000000 | refused 15 Full
 comment alice num=1&text=a | rank=0&author=bob&path=PC/8086&revision=9000000000000000000 | refused 15 Full
 withdraw alice num=1 | rank=0&author=alice&path=PC/8086&revision=9000000000000000000 | refused 15 Full
-approve root num=1 | rank=2&author=bob&path=PC/8086&name=a&present=b&parent=yes&items=1&revision=9000000000000000000 | refused 15 Full
+approve root num=1 | rank=2&author=bob&path=PC/8086&name=a&present=b\
+&parent=yes&items=1&revision=9000000000000000000 | refused 15 Full
 reject root num=1&reason=no | rank=2&author=bob&path=PC/8086&revision=9000000000000000000 | refused 15 Full
 import root file=a | rank=2&file=good&items=3&revision=9000000000000000000 | refused 15 Full
 account root who=bob&rank=1 | rank=3&revision=8999999999999999999 | ok
 submit alice path=PC/8086&name=a | rank=0&revision=8999999999999999999 | ok 1
 comment alice num=1&text=a | rank=0&author=bob&path=PC/8086&revision=8999999999999999999 | ok
 withdraw alice num=1 | rank=0&author=alice&path=PC/8086&revision=8999999999999999999 | ok
-approve root num=1 | rank=2&author=bob&path=PC/8086&name=a&present=b&parent=yes&items=1&revision=8999999999999999999 | ok
+approve root num=1 | rank=2&author=bob&path=PC/8086&name=a&present=b\
+&parent=yes&items=1&revision=8999999999999999999 | ok
 reject root num=1&reason=no | rank=2&author=bob&path=PC/8086&revision=8999999999999999999 | ok
 import root file=a | rank=2&file=good&items=3&revision=8999999999999999999 | ok added=1 renamed=2 same=3
 account root who=bob&rank=1 | kept=yes&rank=3&revision=9000000000000000000 | ok 7
 import root file=a | kept=yes&rank=2&file=good&items=3&revision=9000000000000000000 | ok 7
 withdraw alice num=1 | revision=9000000000000000000 | refused 4 NoAccount
-approve root num=1 | rank=2&author=bob&path=PC/8086&name=a&present=a&parent=yes&items=1&revision=9000000000000000000 | refused 13 NothingToDo
+approve root num=1 | rank=2&author=bob&path=PC/8086&name=a&present=a\
+&parent=yes&items=1&revision=9000000000000000000 | refused 13 NothingToDo
 import root file=a | rank=2&file=faulty&revision=9000000000000000000 | refused 14 FileFault line=3 kind=7 Duplicate
 ";
 

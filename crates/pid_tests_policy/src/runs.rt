@@ -198,7 +198,8 @@ fn keeps_replies_under_keys(rt: HostRuntime) -> Result<(), Fail> {
 }
 
 const KINDS: &str = "\
-import root PC/8086=a&PC/8086/1237=b&PC/8086/1237/1af41100=c&PS/8086/0001=d&PD/01=e&PD/01/01=f&PD/01/01/80=g | ok added=7 renamed=0 same=0
+import root PC/8086=a&PC/8086/1237=b&PC/8086/1237/1af41100=c&PS/8086/0001=d\
+&PD/01=e&PD/01/01=f&PD/01/01/80=g | ok added=7 renamed=0 same=0
 account root who=bob&rank=0 | ok
 submit bob path=PC/8086&remove=yes | ok 1
 submit bob path=PC/8086/1237&remove=yes | ok 2

@@ -28,7 +28,8 @@ export | # PCI ID registry
 ";
 
 const GENERIC_SUBSYSTEMS: &str = "\
-import root file=1af4++Red+Hat%0AS+1AF4%0A%091100++Qemu%0A%090001++Net%0AC+01++Mass%0A8086++I%0AS+1af4%0A%090002++Blk%0A | ok added=6 renamed=0 same=0
+import root file=1af4++Red+Hat%0AS+1AF4%0A%091100++Qemu%0A%090001++Net\
+%0AC+01++Mass%0A8086++I%0AS+1af4%0A%090002++Blk%0A | ok added=6 renamed=0 same=0
 export | # PCI ID registry
 +1af4  Red Hat
 +8086  I
@@ -124,7 +125,8 @@ lookup flags=10&class=0102&progif=8a | text ProgIf 8a
 ";
 
 const SUBSYSTEMS: &str = "\
-import root file=8086++Intel+Corporation%0A%091237++440FX%0A%09%091af4+1100++Qemu+machine%0A1af4++Red+Hat,+Inc.%0A | ok added=4 renamed=0 same=0
+import root file=8086++Intel+Corporation%0A%091237++440FX\
+%0A%09%091af4+1100++Qemu+machine%0A1af4++Red+Hat,+Inc.%0A | ok added=4 renamed=0 same=0
 lookup flags=b&vendor=8086&device=1237&subvendor=1af4&subdevice=1100 | text Red Hat, Inc. Qemu machine
 lookup flags=4000b&vendor=8086&device=1237&subvendor=1af4&subdevice=1100 | text Red Hat, Inc. Qemu machine [1af4:1100]
 lookup flags=b&vendor=8086&device=1237&subvendor=1af4&subdevice=1101 | text Red Hat, Inc. Device 1101

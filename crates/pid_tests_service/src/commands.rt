@@ -90,7 +90,8 @@ submission 1 | root PC/10ec x;pending;alice seen
 ";
 
 const CHILDREN: &str = "\
-import root 8086  Intel Corporation;>1237  440FX;>>1af4 1100  Qemu machine;1af4  Red Hat, Inc.;C 01  Mass; | ok added=5 renamed=0 same=0
+import root 8086  Intel Corporation;>1237  440FX;>>1af4 1100  Qemu machine;1af4  Red Hat, Inc.;C 01  Mass; \
+| ok added=5 renamed=0 same=0
 children PC/8086 | PC/8086/1237 440FX;
 children PC/8086/1237 | PC/8086/1237/1af41100 Qemu machine;
 children PC/10ec | 
@@ -106,7 +107,8 @@ children PC/8086 | PC/8086/1237 440FX;PS/8086/1100 Board;
 reject bob num=1&reason=stays | ok
 submission 1 | root PC/1af4 remove;rejected by bob: stays
 pending 0 | 
-export | # PCI ID registry;1af4  Red Hat, Inc.;8086  Intel Corporation;>1237  440FX;>>1af4 1100  Qemu machine;C 01  Mass;S 8086;>1100  Board;
+export | # PCI ID registry;1af4  Red Hat, Inc.;8086  Intel Corporation;>1237  440FX;\
+>>1af4 1100  Qemu machine;C 01  Mass;S 8086;>1100  Board;
 ";
 
 #[test]
@@ -196,7 +198,8 @@ fn name_and_read(
     number: u32,
 ) -> Result<(), Fail> {
     let rows = format!(in alloc;
-        "submit bob path=PC/{number:04x}&name=a | ok {number}\napprove root num={number} | ok\nread PC/{number:04x} | a\n"
+        "submit bob path=PC/{number:04x}&name=a | ok {number}\napprove root num={number} | ok\n\
+        read PC/{number:04x} | a\n"
     )?;
     expect_told(rt, alloc, registry, rows.as_str())
 }

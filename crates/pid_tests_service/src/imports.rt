@@ -150,8 +150,9 @@ fn comment_of(alloc: Global, bytes: usize) -> Result<String, Fail> {
 
 const LONGEST: usize = 4_194_304;
 
-// A file that is too long is refused before the reply that is kept and whoever sends it, by both calls; one of just as many
-// bytes is read. Of one that is longer by more than a read one byte past the limit is read, and no read asks for more than 4,096.
+// A file that is too long is refused before the reply that is kept and whoever sends it, by both
+// calls; one of just as many bytes is read. Of one that is longer by more than a read one byte past
+// the limit is read, and no read asks for more than 4,096.
 #[test]
 fn files_have_a_longest_length(rt: HostRuntime) -> Result<(), Fail> {
     let alloc = rt.alloc();

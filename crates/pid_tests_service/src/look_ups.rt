@@ -47,7 +47,8 @@ lookup flags=10&class=0102&progif=8a | ProgIf 8a
 ";
 
 const SUBSYSTEMS: &str = "\
-import root 8086  Intel Corporation;>1237  440FX;>>1af4 1100  Qemu machine;1af4  Red Hat, Inc. | ok added=4 renamed=0 same=0
+import root 8086  Intel Corporation;>1237  440FX;>>1af4 1100  Qemu machine;1af4  Red Hat, Inc. \
+| ok added=4 renamed=0 same=0
 lookup flags=b&vendor=8086&device=1237&subvendor=1af4&subdevice=1100 | Red Hat, Inc. Qemu machine
 lookup flags=4000b&vendor=8086&device=1237&subvendor=1af4&subdevice=1100 | Red Hat, Inc. Qemu machine [1af4:1100]
 lookup flags=b&vendor=8086&device=1237&subvendor=1af4&subdevice=1101 | Red Hat, Inc. Device 1101

@@ -105,8 +105,9 @@ const DAMAGES: [(&str, TableFault, &str); 8] = [
         "DROP TABLE receipt; CREATE TABLE receipt (x INTEGER)",
         TableFault::Damaged,
         "DROP TABLE receipt;
-        CREATE TABLE receipt (account TEXT NOT NULL REFERENCES account(name), token TEXT NOT NULL, kind INTEGER NOT NULL,
-            a INTEGER NOT NULL, b INTEGER NOT NULL, c INTEGER NOT NULL, PRIMARY KEY (account, token)) STRICT",
+        CREATE TABLE receipt (account TEXT NOT NULL REFERENCES account(name), token TEXT NOT NULL,
+            kind INTEGER NOT NULL, a INTEGER NOT NULL, b INTEGER NOT NULL, c INTEGER NOT NULL,
+            PRIMARY KEY (account, token)) STRICT",
     ),
 ];
 

@@ -32,11 +32,22 @@ impl Input for NotedInput<'_> {
     ghost reads = { λ n. n.input.reads };
 
     // As the input under it.
-    ghost goes = { λ a b. HasReadOn (Some a.input.rest.now) (Some b.input.rest.now) a.input.fault b.input.fault a.input.reads b.input.reads × (b.input.most ≡ a.input.most) × HasNoMore a.input.good_calls b.input.good_calls };
+    ghost goes = { λ a b.
+        HasReadOn (Some a.input.rest.now) (Some b.input.rest.now) a.input.fault b.input.fault
+        a.input.reads b.input.reads
+        × (b.input.most ≡ a.input.most) × HasNoMore a.input.good_calls b.input.good_calls };
 
-    ghost stays = { λ a. (no_reads (Some a.input.rest.now) a.input.fault a.input.reads, refl, no_more_stays a.input.good_calls) };
+    ghost stays = { λ a. (
+      no_reads (Some a.input.rest.now) a.input.fault a.input.reads,
+      refl,
+      no_more_stays a.input.good_calls,
+    ) };
 
-    ghost joins = { λ a b c p q. (more_reads _ (Some b.input.rest.now) _ _ b.input.fault _ _ b.input.reads _ p.0 q.0, q.1 ∙ p.1, no_more_then a.input.good_calls b.input.good_calls c.input.good_calls p.2 q.2) };
+    ghost joins = { λ a b c p q. (
+      more_reads _ (Some b.input.rest.now) _ _ b.input.fault _ _ b.input.reads _ p.0 q.0,
+      q.1 ∙ p.1,
+      no_more_then a.input.good_calls b.input.good_calls c.input.good_calls p.2 q.2,
+    ) };
 
     fn read(&mut self, buffer: &mut [u8]) -> Result<usize, ReadFault> {
         self.greatest = self.greatest.max(buffer.len());

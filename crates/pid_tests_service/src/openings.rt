@@ -100,7 +100,8 @@ const DAMAGES: [(&str, TableFault, &str); 11] = [
         "DROP TABLE item_since; CREATE TABLE item_since (x INTEGER)",
         TableFault::Damaged,
         "DROP TABLE item_since;
-        CREATE TABLE item_since (path TEXT NOT NULL PRIMARY KEY REFERENCES item(path) ON DELETE CASCADE, since INTEGER NOT NULL) STRICT;
+        CREATE TABLE item_since (path TEXT NOT NULL PRIMARY KEY REFERENCES item(path) ON DELETE CASCADE,
+            since INTEGER NOT NULL) STRICT;
         INSERT INTO item_since VALUES ('PC/8086', 3)",
     ),
     (

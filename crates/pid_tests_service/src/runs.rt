@@ -1,5 +1,6 @@
-//! Generated commands through the plain registry, which keeps the list of what it accepted, and through the registry over
-//! tables: the same replies, and now and then the same items, changes and pages.
+//! Generated commands through the plain registry, which keeps the list of what it accepted, and
+//! through the registry over tables: the same replies, and now and then the same items, changes and
+//! pages.
 use crate::asking::{new_in_memory, proposed, tell_item, told};
 use crate::commands::ends_of;
 use pid_ident::{LineKind, Name, Path, PathText};

@@ -1,5 +1,6 @@
-//! The disk stops at a call, and fails each one after: what opening then finds. The contracts say what a crash may leave; these
-//! tests show that the calls get there, over files in memory that keep what was synced alone.
+//! The disk stops at a call, and fails each one after: what opening then finds. The contracts say
+//! what a crash may leave; these tests show that the calls get there, over files in memory that keep
+//! what was synced alone.
 use crate::asking::{expect_told, opened, told};
 use pid_model::rows::OLDER;
 use pid_moderation::Refusal;
@@ -305,7 +306,8 @@ fn stopped(
     }
 }
 
-/// What the last row is answered over files of which so many calls go well, whether they met no stop, and what the machine comes back with.
+/// What the last row is answered over files of which so many calls go well, whether they met no
+/// stop, and what the machine comes back with.
 pub(crate) fn crashed(
     rt: &impl Abort,
     alloc: Global,

@@ -20,7 +20,8 @@ INSERT INTO receipt VALUES ('bob', 'k1', 1, 2, 0, 0);
 
 // It leads on to schema 2.
 const SECOND: &str = "
-CREATE TABLE item_since (path TEXT NOT NULL PRIMARY KEY REFERENCES item(path) ON DELETE CASCADE, since INTEGER NOT NULL) STRICT;
+CREATE TABLE item_since (path TEXT NOT NULL PRIMARY KEY REFERENCES item(path) ON DELETE CASCADE,
+    since INTEGER NOT NULL) STRICT;
 INSERT INTO item_since VALUES ('PC/8086', 3), ('PC/8086/1237', 0);
 INSERT INTO meta VALUES ('revision', 3);
 UPDATE meta SET value = 2 WHERE label = 'schema';

@@ -106,7 +106,11 @@ fn prints_each_kind(rt: HostRuntime) -> Result<(), Fail> {
         &rt,
         &tree,
         alloc,
-        "# PCI ID registry\n1af4  Red Hat, Inc.\n8086  Intel Corporation\n\t1237  440FX - 82441FX PMC [Natoma]\n\t\t1af4 1100  Qemu virtual machine\nC 01  Mass storage controller\n\t01  IDE interface\n\t\t00  ISA Compatibility mode-only controller\nS 1af4\n\t1100  Virtual machine\nS 8086\n\t0001  Board\n",
+        "# PCI ID registry\n1af4  Red Hat, Inc.\n8086  Intel Corporation\n\
+        \t1237  440FX - 82441FX PMC [Natoma]\n\t\t1af4 1100  Qemu virtual machine\n\
+        C 01  Mass storage controller\n\t01  IDE interface\n\
+        \t\t00  ISA Compatibility mode-only controller\n\
+        S 1af4\n\t1100  Virtual machine\nS 8086\n\t0001  Board\n",
     )
 }
 
