@@ -2,7 +2,7 @@
 -- asked for. Choices of this project.
 use Rattle.std.specs.Prelude.{ℕ, List, Option, Some, None, Result, Ok, Err}
 use Rattle.pid_file.specs.declared.path.Path.{Path}
-use Rattle.pid_tables.specs.Files.{asks, file_reading}
+use Rattle.pid_service.specs.Files.{asks, file_reading}
 use Rattle.pid_moderation.specs.BeforeFile.{import_of}
 use Rattle.pid_moderation.specs.History.{Asked}
 use Rattle.pid_moderation.specs.declared.command.Command.{Command}

@@ -1,6 +1,6 @@
 //! Commands, each with its reply.
 ghost use Rattle.std.specs.Prelude.{◌≡◌, Err};
-ghost use Rattle.pid_tables.specs.Files.{asks};
+ghost use Rattle.pid_service.specs.Files.{asks};
 ghost use Rattle.pid_http_requests.specs.Commands.{command_made};
 ghost use Rattle.pid_http.specs.Errands as errands;
 ghost use Rattle.pid_http.specs.Errands.{command_errand, sent};

@@ -9,7 +9,7 @@ ghost use Rattle.std.specs.Prelude.{
   option_copied,
 };
 ghost use Rattle.std.specs.Io.KnownBytes.{IsAtEnd};
-ghost use Rattle.pid_tables.specs.Files.{file_reading};
+ghost use Rattle.pid_service.specs.Files.{file_reading};
 ghost use Rattle.pid_moderation.specs.BeforeFile.{import_of};
 ghost use Rattle.pid_http_replies.specs.Outcomes.{outcome_answer};
 ghost use Rattle.pid_http_replies.specs.Replying.{MakesReply};

@@ -1,4 +1,4 @@
-use Rattle.pid_tables.specs.Files.{asks}
+use Rattle.pid_service.specs.Files.{asks}
 use Rattle.pid_http.proofs.Meeting.{obeyed, obeyed_met, turned, replied}
 use Rattle.pid_http.proofs.commanding.obey.Goals as goal
 

@@ -1,4 +1,4 @@
-use Rattle.pid_tables.specs.Files.{file_reading}
+use Rattle.pid_service.specs.Files.{file_reading}
 use Rattle.pid_moderation.specs.BeforeFile.{import_of}
 use Rattle.pid_http.specs.Errands.{Obeys}
 use Rattle.pid_http.proofs.Imports.{accepted, refused, gave_up}
