@@ -3,7 +3,7 @@ use crate::job_end::JobEnd;
 use crate::jobs::{RegistryJob, migrate_on, work_on};
 use crate::replies::tell_unopened;
 use pid_ident::{Input, Output};
-use pid_tables::TableFault;
+use pid_service::TableFault;
 use sqlite::Connection;
 
 /// Does the job on a registry file, which is created if it does not exist. Afterwards, all that was

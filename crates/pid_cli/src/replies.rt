@@ -5,7 +5,7 @@ use pid_file::{FAILED, TextEnd, tell_end};
 use pid_ident::{Output, write_all, write_parts};
 use pid_lookup::{Answer, LookupRefusal, Unanswered};
 use pid_moderation::{Refusal, Reply, write_reply_line};
-use pid_tables::{Step, TableFault};
+use pid_service::{Step, TableFault};
 use std::alloc::AllocError;
 
 /// The exit status if a command or a lookup is refused.

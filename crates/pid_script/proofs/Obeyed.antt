@@ -12,7 +12,7 @@ use Rattle.pid_moderation.specs.Judgement.{after, after_all, judge}
 use Rattle.pid_moderation.specs.Judgement as judgement
 use Rattle.pid_moderation.specs.ReplyLines.{outcome_line}
 use Rattle.pid_moderation.specs.Views.{views_of}
-use Rattle.pid_tables.specs.Files.{asks}
+use Rattle.pid_service.specs.Files.{asks}
 use Rattle.pid_moderation.specs.Faults.{IsFault}
 use Rattle.pid_service_laws.specs.Calls as lives
 use Rattle.pid_service_laws.specs.Outcomes.{is_outcome}

@@ -11,7 +11,7 @@ ghost use Rattle.pid_moderation.specs.declared.refusal.Refusal.TheVariants.{Fail
 ghost use Rattle.pid_moderation.specs.Faults.{IsFault};
 ghost use Rattle.pid_service_laws.specs.Calls.{nothing_sent, obeyed};
 ghost use Rattle.pid_service_laws.specs.Registries.{CommandLeaves, Does, Showing};
-ghost use Rattle.pid_tables.specs.Files.{asks};
+ghost use Rattle.pid_service.specs.Files.{asks};
 ghost use Rattle.pid_script.specs.Exporting.{ExportsText};
 ghost use Rattle.pid_script.specs.LookingUp.{LooksUp};
 

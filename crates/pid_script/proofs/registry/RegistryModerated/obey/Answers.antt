@@ -1,5 +1,5 @@
 use Rattle.pid_service.specs.Registries.{is_live}
-use Rattle.pid_tables.specs.Files.{asks}
+use Rattle.pid_service.specs.Files.{asks}
 use Rattle.pid_script.proofs.registry.RegistryModerated.obey.Goals as goal
 
 pub returns-clause-calls : goal.returns-clause-calls
