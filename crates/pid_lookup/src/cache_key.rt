@@ -7,7 +7,7 @@ ghost use Rattle.std.specs.Hash.{same_Alike};
 ghost use Rattle.pid_file.specs.PathTexts.{IsPath, path_text};
 ghost use Rattle.pid_lookup.specs.CacheHashing.{fed_by, fed_text};
 
-use pid_ident::{Path, laws};
+use pid_ident::Path;
 use std::hash::{Hash, Hasher};
 use std::marker::Model;
 
@@ -53,7 +53,7 @@ impl Hash for PathKey {
     ghost respects_eq = { (same_Alike fed_text bytes_decides).fed };
 
     fn hash<H: Hasher>(&self, state: &mut H) {
-        laws::texts_have_one_path(); // proof only
+        pid_ident::laws::texts_have_one_path(); // proof only
         feed(self.path, state);
     }
 }

@@ -18,7 +18,7 @@ ghost use Rattle.pid_moderation.specs.Views.{itemized, submits_of, items_of};
 ghost use Rattle.pid_model.specs.Shown.{accepted_entry, accepted_history, item_texts, texts};
 
 use crate::past::{Accepted, FileReading, numbered};
-use pid_ident::{Name, Path, laws};
+use pid_ident::{Name, Path};
 use pid_moderation::{Act, Proposal};
 use std::alloc::{AllocError, Global};
 use std::collections::BTreeMap;
@@ -107,7 +107,7 @@ pub fn items_after(alloc: Global, past: &[Accepted]) -> Result<BTreeMap<Path, Na
 fn is_child(item: Path, path: Path) -> bool
     ensures { result ≡ is_parent (path_text path) (parent_text (path_text item)) }
 {
-    laws::parents_have_texts(); // proof only
+    pid_ident::laws::parents_have_texts(); // proof only
     match item.parent() {
         Some(parent) => path == parent,
         None => false,
