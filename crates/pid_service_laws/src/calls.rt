@@ -11,8 +11,6 @@ ghost use Rattle.pid_service_laws.specs.CallLaws.{
 };
 ghost use Rattle.pid_service_laws.specs.Registries.{Showing};
 
-use pid_moderation::{keys_stand_once, marks_stay};
-
 /// A registry, as far as sessions speak of it: it shows a history, or has failed between two.
 pub trait ShowsHistories {
     /// Whether its disk returned what was written, which history it shows, and between which two it
@@ -46,8 +44,8 @@ pub fn openings_find_prefixes<R: ShowsHistories, T: ShowsHistories>()
     ensures none { NoLifeIsAPrefix }
     ensures more { OneLifeMore R.showing T.showing }
 {
-    keys_stand_once(); // proof only
-    marks_stay(); // proof only
+    pid_moderation::laws::keys_stand_once(); // proof only
+    pid_moderation::laws::marks_stay(); // proof only
 }
 
 /// A command under a key was in doubt, and after another opening it is sent again: the first

@@ -21,8 +21,6 @@ ghost use Rattle.pid_service_laws.specs.LifeLaws.{
 ghost use Rattle.pid_service_laws.specs.Lives.{AreLives, Life, prefix_of};
 ghost use Rattle.pid_service_laws.specs.Outcomes.{is_outcome};
 
-use pid_moderation::{histories_are_sound, keys_stand_once, marks_stay};
-
 /// The history that the next opening finds is the one after the prefixes of all sessions, joined in
 /// order: of each session the commands with an outcome, and the one in doubt if it was written. The
 /// history keeps the mark with which it began. It has every command that was acknowledged, and no
@@ -40,9 +38,9 @@ pub fn lives_are_prefixes()
     ensures sound { (mark : ℕ) (lives : List Life)
         → AreWellMade (all_prefixes lives) → IsSound (history_left mark lives) }
 {
-    histories_are_sound(); // proof only
-    keys_stand_once(); // proof only
-    marks_stay(); // proof only
+    pid_moderation::laws::histories_are_sound(); // proof only
+    pid_moderation::laws::keys_stand_once(); // proof only
+    pid_moderation::laws::marks_stay(); // proof only
 }
 
 /// A command under a key that was in doubt, and is sent again as the next one, has the outcome and
