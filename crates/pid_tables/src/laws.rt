@@ -18,9 +18,6 @@ ghost use Rattle.pid_reader.specs.Lines.{lines_of};
 ghost use Rattle.pid_reader.specs.Reading.{entries_of, refused};
 ghost use Rattle.pid_tables.specs.Files.{IsBroken, file_reading};
 
-use pid_ident::parents_have_texts;
-use pid_moderation::{trees_are_files, trees_are_last_writes};
-use pid_reader::laws::texts_tell_entries;
 use sqlite::{Alter, Connection};
 
 /// The views of every sound history, as that of each registry is, keep what tables ask of views,
@@ -31,8 +28,8 @@ pub fn views_of_sound_histories()
     ensures items { (h : History) → IsSound h → AllItems (items_of h) }
     ensures parents { (h : History) → IsSound h → HoldsParents (items_of h) }
 {
-    trees_are_files(); // proof only
-    trees_are_last_writes(); // proof only
+    pid_moderation::laws::trees_are_files(); // proof only
+    pid_moderation::laws::trees_are_last_writes(); // proof only
 }
 
 /// A connection that has just found trees which show views is at rest on them, in the schema in
@@ -59,8 +56,8 @@ pub fn texts_read_to_files()
     ensures entries { (text : List ℕ) → refused text ≡ None → IsFile (entries_of (lines_of text)) }
     ensures readings { (text : List ℕ) → HasGoodFile (file_reading text) }
 {
-    texts_tell_entries(); // proof only
-    parents_have_texts(); // proof only
+    pid_reader::laws::texts_tell_entries(); // proof only
+    pid_ident::laws::parents_have_texts(); // proof only
 }
 
 /// A file of more than 4,194,304 bytes, and no other, reads to one that is too long. Its import is

@@ -41,7 +41,6 @@ ghost use Rattle.pid_tables.specs.Steps.Bringing.{IsStanding, TellsLatest, is_la
 
 use crate::batch::commit;
 use crate::creation::create;
-use pid_tables_check::laws::{schemas_have_tables, sound_histories_are_registries};
 use pid_tables_check::{check, has_some_table};
 use pid_tables_rows::meta::schema_number;
 use pid_tables_rows::moving::move_tables;
@@ -93,7 +92,7 @@ fn is_current<S: Alter>(conn: &mut Connection<S>) -> Result<bool, TableFault>
         → OnOk result (IsTrue (is_open S.Store conn.old)) }
     ensures untold { IfErr result IsMemoryOrStore }
 {
-    schemas_have_tables(); // proof only
+    pid_tables_check::laws::schemas_have_tables(); // proof only
     if has_some_table(conn)? {
         names_latest(conn)
     } else {
@@ -116,7 +115,7 @@ fn standing<S: Alter>(
         → MatchResult result (IsStanding (seen S.Store conn.old))
         (Explains (seen S.Store conn.old)) }
 {
-    sound_histories_are_registries(); // proof only
+    pid_tables_check::laws::sound_histories_are_registries(); // proof only
     // Outside a transaction nothing is uncommitted, so that all reads see the same.
     let _settled = conn.is_autocommit();
     if is_current(conn)? {
@@ -188,7 +187,7 @@ pub fn migrate<S: Alter>(conn: &mut Connection<S>, alloc: Global) -> Result<Step
     ensures judged { MigratesJudged S.Store conn.old conn.new result }
     ensures none { MigratesNone S.Store conn.old conn.new result }
 {
-    schemas_have_tables(); // proof only
+    pid_tables_check::laws::schemas_have_tables(); // proof only
     let found = standing(conn, alloc)?;
     bring(conn, found)
 }

@@ -23,9 +23,7 @@ use crate::tally::Tally;
 use pid_ident::Input;
 use pid_moderation::{
     Change, Command, FILE_BYTES, Facts, FileFault, Refusal, Reply, Verdict, decide,
-    items_are_sorted,
 };
-use pid_reader::laws::numbered_entries_are_entries;
 use pid_reader::{CutEnd, InputEnd, ReadRefusal, cut_input};
 use pid_tables_rows::TableFault;
 use sqlite::{Alter, Connection};
@@ -63,7 +61,7 @@ pub(crate) fn put_file<K: Putter, I: Input>(
     ensures fault_first { IsSome (I.read_fault input.new) → result ≡ Err InputEnd.ReadFault }
     ensures goes { I.goes input.old input.new }
 {
-    numbered_entries_are_entries(); // proof only
+    pid_reader::laws::numbered_entries_are_entries(); // proof only
     let mut sink = PutSink::new(batch, alloc, revision);
     match cut_input(alloc, FILE_BYTES, input, &mut sink) {
         Ok(()) => Ok(sink.tally),
@@ -111,7 +109,7 @@ fn judge_file(
     ensures alive { IfErr result (λ e. e ≢ Refusal.Failed) }
 {
     laws::texts_read_to_files(); // proof only
-    items_are_sorted(); // proof only
+    pid_moderation::laws::items_are_sorted(); // proof only
     let Some(items) = items.checked_add(tally.added) else {
         return Err(Refusal::Memory);
     };

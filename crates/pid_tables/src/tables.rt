@@ -49,7 +49,6 @@ use crate::gather::gather_facts;
 use pid_ident::{Account, Key, Name, Path, PathText};
 use pid_moderation::{Changes, Discussion, Facts, Item, PAGE, Pending, Rows};
 use pid_reader::Sink;
-use pid_tables_check::laws::sound_histories_are_registries;
 use pid_tables_check::{check, has_some_table};
 use pid_tables_lists::{
     EachEnd, changes_page, children_below, each_item, pending_page, submission_with_remarks,
@@ -227,7 +226,7 @@ impl<S: Alter + Drop> Tables<S> {
             → RestsIn S.Store schema self.old.conn (views_of h)
             → MatchResult result (λ found. found ≡ Some schema) IsMemoryOrStore }
     {
-        sound_histories_are_registries(); // proof only
+        pid_tables_check::laws::sound_histories_are_registries(); // proof only
         check(&mut self.conn, alloc)
     }
 

@@ -13,10 +13,6 @@ ghost use Rattle.pid_tables_rows.specs.Shows.{ShowsIn};
 ghost use Rattle.pid_tables_check.specs.Checking.{IsRegistry};
 ghost use Rattle.pid_tables_check.specs.Shapes.{HasNoTable, HasEachTable, HasTables, IsMadeFirst};
 
-use pid_moderation::{
-    histories_are_sound, items_are_sorted, revisions_are_within, sinces_are_last_changes,
-};
-
 /// Every database that shows a sound history whose revision is within its limit, in either schema,
 /// has the tables of the schema and meets all conditions on their rows.
 pub fn sound_histories_are_registries()
@@ -24,8 +20,8 @@ pub fn sound_histories_are_registries()
         → (version : Version) (db : Database) → ShowsIn version db (views_of h)
         → IsRegistry version db }
 {
-    items_are_sorted(); // proof only
-    sinces_are_last_changes(); // proof only
+    pid_moderation::laws::items_are_sorted(); // proof only
+    pid_moderation::laws::sinces_are_last_changes(); // proof only
 }
 
 /// So does every database that shows what well made commands lead to, from any beginning.
@@ -34,9 +30,9 @@ pub fn shown_tables_are_registries()
         → (version : Version) (db : Database)
         → ShowsIn version db (views_of (after_all (Begins mark) commands)) → IsRegistry version db }
 {
-    histories_are_sound(); // proof only
-    revisions_are_within(); // proof only
-    sound_histories_are_registries(); // proof only
+    pid_moderation::laws::histories_are_sound(); // proof only
+    pid_moderation::laws::revisions_are_within(); // proof only
+    crate::laws::sound_histories_are_registries(); // proof only
 }
 
 /// A database without any table has none of the seven. Those of each schema have all tables of the

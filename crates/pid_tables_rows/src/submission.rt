@@ -27,7 +27,7 @@ ghost use Rattle.pid_tables_rows.specs.Clauses.{ChangesTo, GoesOn, Reads};
 use crate::fault::TableFault;
 use crate::run::{read_rows, write_one};
 use crate::value::{account_at, path_at, proposal_at, state_at, words_at};
-use pid_ident::{Account, Path, PathText, Text, texts_have_one_path};
+use pid_ident::{Account, Path, PathText, Text};
 use pid_moderation::{Proposal, State, Submission};
 use sqlite::types::ToSql;
 use sqlite::{Alter, Connection, Row, Transaction};
@@ -250,7 +250,7 @@ pub fn standing<S: Alter>(
     ensures { Reads S.Store conn.old conn.new result
         (λ v s. option_map standing_of s ≡ standing_in v number) }
 {
-    texts_have_one_path(); // proof only
+    pid_ident::laws::texts_have_one_path(); // proof only
     let rows = submission_rows(conn, number)?;
     match rows.first() {
         Some(row) => Ok(Some(submission_of(row, alloc)?)),
