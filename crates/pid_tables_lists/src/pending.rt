@@ -15,7 +15,6 @@ ghost use Rattle.pid_tables_lists.specs.Steps.PendingRows.{
 };
 ghost use Rattle.pid_tables_rows.specs.Clauses.{Reads};
 
-use pid_ident::texts_have_one_path;
 use pid_moderation::{PAGE, Pending, Submission};
 use pid_tables_rows::TableFault;
 use pid_tables_rows::run::read_rows;
@@ -43,7 +42,7 @@ fn pending_of(row: &Row, alloc: Global) -> Result<Pending, TableFault>
     ensures { (v : Views) (s : ℕ × Standing) → IsPendingIn v s row.now → MatchResult result
         (λ pending. told_of pending ≡ s) (IsUnreadable (IsReadablePending s)) }
 {
-    texts_have_one_path(); // proof only
+    pid_ident::laws::texts_have_one_path(); // proof only
     let submission = submission_of(row, alloc)?;
     let number = number_at(row, 8)?;
     Ok(Pending { number, submission })
