@@ -28,9 +28,8 @@ ghost use Rattle.pid_service.specs.Steps.Obeying.{SparesNames, StaysLive};
 use crate::laws;
 use crate::registry::Registry;
 use pid_ident::{Account, Input, Key};
-use pid_moderation::{Act, Command, FILE_BYTES, Facts, File, Refusal, Reply, command_is_well_made};
+use pid_moderation::{Act, Command, FILE_BYTES, Facts, File, Refusal, Reply};
 use pid_reader::{SkipEnd, SliceInput, skip_input};
-use pid_tables::laws::{long_files_are_refused, texts_read_to_files};
 use pid_tables::{Early, Stop, bring_in, judge_import};
 use sqlite::Alter;
 use std::alloc::Global;
@@ -157,11 +156,11 @@ impl<S: Alter + Drop> Registry<S> {
         ensures reads { InputIsRead I.Input input.old input.new result }
         ensures held { EndStaysLive result (lives self.old) (lives self.new) }
     {
-        command_is_well_made(command); // proof only
+        pid_moderation::laws::command_is_well_made(command); // proof only
         laws::commands_lead_on(); // proof only
         laws::reached_histories_are_kept(); // proof only
-        texts_read_to_files(); // proof only
-        long_files_are_refused(); // proof only
+        pid_tables::laws::texts_read_to_files(); // proof only
+        pid_tables::laws::long_files_are_refused(); // proof only
         match judge_import(&mut self.tables, self.alloc, command) {
             Early::Answered(answer) => answer_past(answer, input),
             Early::Open { mut facts, items } => self.carry_in(&mut facts, items, command, input),
@@ -223,7 +222,7 @@ impl<S: Alter + Drop> Registry<S> {
     ) -> Result<Reply, Refusal>
         ensures { IsImported S.Store self.old self.new (import_of account key) file.now result }
     {
-        long_files_are_refused(); // proof only
+        pid_tables::laws::long_files_are_refused(); // proof only
         if !self.live {
             return Err(Refusal::Failed);
         }

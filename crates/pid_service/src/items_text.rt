@@ -12,7 +12,7 @@ ghost use Rattle.pid_tree.specs.Printing.{ended, header, label_of, lines_behind,
 use pid_ident::{Output, Path, WriteFault};
 use pid_reader::{Entry, Never, Sink};
 use pid_tables::{EachEnd, TableFault, Tables};
-use pid_tree::{labels_are_of_paths, opened_block, write_behind, write_header};
+use pid_tree::{opened_block, write_behind, write_header};
 use sqlite::Alter;
 use std::alloc::Global;
 
@@ -29,7 +29,7 @@ const BLOCK: u64 = 7;
 fn label_length(path: Path) -> u64
     ensures { result ≡ length (label_of (path_text path)) }
 {
-    labels_are_of_paths(); // proof only
+    pid_tree::laws::labels_are_of_paths(); // proof only
     match path {
         Path::Vendor { .. } | Path::Class { .. } | Path::ProgIf { .. } => 4,
         Path::Device { .. } | Path::Generic { .. } => 5,

@@ -23,13 +23,10 @@ mod writing;
 pub use exporting::ExportFault;
 pub use importing::ImportEnd;
 pub use laws::{
-    commands_lead_on, items_print_as_their_tree, pages_tell_a_hundred, reached_histories_are_kept,
-    taken_histories_are_reached,
-};
-pub use lives::{
-    clauses_meet_lives, first_openings_show_what_is_there, histories_are_kept,
-    histories_are_kept_between, migrations_find_histories, openings_find_histories,
-    reopened_registries_show_prefixes, repeats_end_doubts,
+    clauses_meet_lives, commands_lead_on, first_openings_show_what_is_there, histories_are_kept,
+    histories_are_kept_between, items_print_as_their_tree, migrations_find_histories,
+    openings_find_histories, pages_tell_a_hundred, reached_histories_are_kept,
+    reopened_registries_show_prefixes, repeats_end_doubts, taken_histories_are_reached,
 };
 pub use opening::{migrate, open};
 pub use registry::Registry;

@@ -20,11 +20,7 @@ ghost use Rattle.pid_service.specs.Lives.{showing as registry_showing};
 
 use crate::laws;
 use crate::registry::Registry;
-use pid_moderation::taken_files_begin_anew;
-use pid_reader::laws::printed_trees_read_back;
-use pid_service_laws::{
-    ShowsHistories, calls_do, doubts_end_when_sent_again, openings_find_prefixes,
-};
+use pid_service_laws::ShowsHistories;
 use sqlite::Alter;
 
 impl<S: Alter + Drop> ShowsHistories for Registry<S> {
@@ -41,7 +37,7 @@ impl<S: Alter + Drop> ShowsHistories for Registry<S> {
 pub fn clauses_meet_lives<S: Alter + Drop>()
     ensures { CallsMeetLives S.Store }
 {
-    calls_do::<Registry<S>>(); // proof only
+    pid_service_laws::calls_do::<Registry<S>>(); // proof only
 }
 
 /// The first opening. A database without tables has what the history of a new registry shows, and
@@ -65,7 +61,7 @@ pub fn histories_are_kept<S: Alter + Drop>()
 pub fn migrations_find_histories<S: Alter + Drop>()
     ensures { EarlierTablesShow S.Store }
 {
-    taken_files_begin_anew(); // proof only
+    pid_moderation::laws::taken_files_begin_anew(); // proof only
 }
 
 /// From the end of a session to the next opening, which may be over another store: each process
@@ -98,9 +94,9 @@ pub fn histories_are_kept_between<S: Alter + Drop, T: Alter + Drop, U: Alter + D
 pub fn reopened_registries_show_prefixes<S: Alter + Drop, T: Alter + Drop>()
     ensures { ReopeningsShowPrefixes S.Store T.Store }
 {
-    openings_find_prefixes::<Registry<S>, Registry<T>>(); // proof only
+    pid_service_laws::openings_find_prefixes::<Registry<S>, Registry<T>>(); // proof only
     laws::reached_histories_are_kept(); // proof only
-    printed_trees_read_back(); // proof only
+    pid_reader::laws::printed_trees_read_back(); // proof only
 }
 
 /// A command under a key was in doubt as a registry failed, and after the next opening it is sent
@@ -109,5 +105,5 @@ pub fn reopened_registries_show_prefixes<S: Alter + Drop, T: Alter + Drop>()
 pub fn repeats_end_doubts<S: Alter + Drop, T: Alter + Drop>()
     ensures { RepeatsEndDoubts S.Store T.Store }
 {
-    doubts_end_when_sent_again::<Registry<S>, Registry<T>>(); // proof only
+    pid_service_laws::doubts_end_when_sent_again::<Registry<S>, Registry<T>>(); // proof only
 }

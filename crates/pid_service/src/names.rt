@@ -12,7 +12,7 @@ use crate::laws;
 use crate::registry::Registry;
 use pid_ident::{Name, Path};
 use pid_lookup::Names;
-use pid_moderation::{Refusal, trees_are_last_writes};
+use pid_moderation::Refusal;
 use pid_tables::refusal_of;
 use sqlite::Alter;
 
@@ -86,7 +86,7 @@ impl<S: Alter + Drop> Names for Registry<S> {
     ghost only_asked = { OnlyAsked S.Store };
 
     fn name_of(&mut self, path: &Path) -> Result<Option<Name>, Refusal> {
-        trees_are_last_writes(); // proof only
+        pid_moderation::laws::trees_are_last_writes(); // proof only
         if !self.live {
             return Err(Refusal::Failed);
         }

@@ -14,7 +14,7 @@ use crate::judging::{Judged, judge};
 use crate::laws;
 use crate::registry::Registry;
 use crate::writing::write;
-use pid_moderation::{Act, Change, Command, Refusal, Reply, breaks_form, command_is_well_made};
+use pid_moderation::{Act, Change, Command, Refusal, Reply, breaks_form};
 use pid_tables::refusal_of;
 use sqlite::Alter;
 
@@ -47,7 +47,7 @@ impl<S: Alter + Drop> Registry<S> {
             (λ h. SparesNames result self.new h (asks command.now)) }
         ensures none { kept_by self.old ≡ nothing → kept_by self.new ≡ nothing }
     {
-        command_is_well_made(command); // proof only
+        pid_moderation::laws::command_is_well_made(command); // proof only
         laws::commands_lead_on(); // proof only
         if !self.live {
             return Err(Refusal::Failed);

@@ -13,7 +13,7 @@ ghost use Rattle.pid_service.specs.Asking.{Answers, AnswersIfThere};
 use crate::laws;
 use crate::registry::Registry;
 use pid_ident::{Name, Path};
-use pid_moderation::{Changes, Discussion, Item, PAGE, Pending, Refusal, sinces_are_last_changes};
+use pid_moderation::{Changes, Discussion, Item, PAGE, Pending, Refusal};
 use pid_tables::refusal_of;
 use pid_tables_lists::changes_page;
 use pid_tables_rows::meta::revision;
@@ -117,7 +117,7 @@ impl<S: Alter + Drop> Registry<S> {
             return Err(Refusal::Failed);
         }
         laws::reached_histories_are_kept(); // proof only
-        sinces_are_last_changes(); // proof only
+        pid_moderation::laws::sinces_are_last_changes(); // proof only
         match revision(&mut self.tables.conn) {
             Err(fault) => Err(refusal_of(fault)),
             Ok(revision) => {
