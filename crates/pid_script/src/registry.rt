@@ -3,7 +3,7 @@ use crate::moderated::Moderated;
 use pid_ident::{Name, Output, Path};
 use pid_lookup::{Answer, Args, LookupRefusal};
 use pid_moderation::{Command, Refusal, Reply};
-use pid_service::{ExportFault, Registry, clauses_meet_lives, laws};
+use pid_service::{ExportFault, Registry};
 use sqlite::Alter;
 
 impl<S: Alter + Drop> Moderated for Registry<S> {
@@ -16,12 +16,12 @@ impl<S: Alter + Drop> Moderated for Registry<S> {
     ghost has_failed = { λ r. is_live r ≡ false };
 
     fn obey(&mut self, command: Command) -> Result<Reply, Refusal> {
-        clauses_meet_lives::<S>(); // proof only
+        pid_service::laws::clauses_meet_lives::<S>(); // proof only
         Registry::obey(self, command)
     }
 
     fn read(&mut self, path: &Path) -> Result<Option<Name>, Refusal> {
-        clauses_meet_lives::<S>(); // proof only
+        pid_service::laws::clauses_meet_lives::<S>(); // proof only
         Registry::read(self, path)
     }
 
@@ -31,13 +31,13 @@ impl<S: Alter + Drop> Moderated for Registry<S> {
         args: &Args,
         size: u32,
     ) -> Result<Answer, LookupRefusal<Refusal>> {
-        clauses_meet_lives::<S>(); // proof only
+        pid_service::laws::clauses_meet_lives::<S>(); // proof only
         self.lookup(flags, args, size)
     }
 
     fn export<O: Output>(&mut self, out: &mut O) -> Result<(), ExportFault> {
-        clauses_meet_lives::<S>(); // proof only
-        laws::items_print_as_their_tree(); // proof only
+        pid_service::laws::clauses_meet_lives::<S>(); // proof only
+        pid_service::laws::items_print_as_their_tree(); // proof only
         Registry::export(self, out)
     }
 }
