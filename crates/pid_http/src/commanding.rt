@@ -10,7 +10,7 @@ use pid_http_replies::{outcome_reply, refusal_reply};
 use pid_http_requests::{Format, Sender, command_in};
 use pid_http_stream::Reply;
 use pid_moderation::{Command, Refusal, Verb};
-use pid_service::{Registry, clauses_meet_lives};
+use pid_service::Registry;
 use sqlite::Alter;
 use std::alloc::{AllocError, Global};
 
@@ -24,7 +24,7 @@ fn obey<S: Alter + Drop>(
     ensures { Replies S.Store registry.old registry.new
         (errands.Obeys (asks command) format) result }
 {
-    clauses_meet_lives::<S>(); // proof only
+    pid_service::laws::clauses_meet_lives::<S>(); // proof only
     let outcome = registry.obey(command);
     outcome_reply(alloc, format, outcome)
 }

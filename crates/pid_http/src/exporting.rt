@@ -7,7 +7,7 @@ use http::StatusCode;
 use pid_http_replies::refusal_reply;
 use pid_http_requests::Format;
 use pid_http_stream::{Content, Reply, ReplyBody, ReplyHead};
-use pid_service::{Registry, clauses_meet_lives};
+use pid_service::Registry;
 use sqlite::Alter;
 use std::alloc::{AllocError, Global};
 
@@ -18,7 +18,7 @@ pub(crate) fn export<S: Alter + Drop>(
 ) -> Result<Reply, AllocError>
     ensures { Replies S.Store registry.old registry.new errands.Export result }
 {
-    clauses_meet_lives::<S>(); // proof only
+    pid_service::laws::clauses_meet_lives::<S>(); // proof only
     match registry.export_length() {
         Ok(length) => Ok(Reply {
             head: ReplyHead {

@@ -7,7 +7,7 @@ use crate::service::Service;
 use pid_http_requests::{Format, Question, question_of, sender_of};
 use pid_http_stream::{BodyStop, Handler, Head, NoReply, Reply, Wanted};
 use pid_ident::{Input, Output};
-use pid_service::{ExportFault, clauses_meet_lives, laws};
+use pid_service::ExportFault;
 use sqlite::Alter;
 
 impl<S: Alter + Drop> Handler for Service<'_, '_, S> {
@@ -77,8 +77,8 @@ impl<S: Alter + Drop> Handler for Service<'_, '_, S> {
     }
 
     fn write_body<W: Output>(&mut self, out: &mut W) -> Result<(), BodyStop> {
-        clauses_meet_lives::<S>(); // proof only
-        laws::items_print_as_their_tree(); // proof only
+        pid_service::laws::clauses_meet_lives::<S>(); // proof only
+        pid_service::laws::items_print_as_their_tree(); // proof only
         match self.registry.export(out) {
             Ok(()) => Ok(()),
             Err(ExportFault::Write(_)) => Err(BodyStop::Writer),

@@ -23,7 +23,7 @@ use pid_http_stream::{LONGEST_BODY, NoReply, Reply, discard};
 use pid_ident::{Account, Input, Key, WordFault};
 use pid_moderation::{Refusal, Reply as Outcome};
 use pid_reader::skip_input;
-use pid_service::{ImportEnd, Registry, clauses_meet_lives};
+use pid_service::{ImportEnd, Registry};
 use sqlite::Alter;
 use std::alloc::Global;
 
@@ -91,7 +91,7 @@ fn take_in<S: Alter + Drop, B: Input>(
         (B.to_come body.old) (B.to_come body.new)
         (λ file. errands.Obeys (import_of account key (file_reading file)) format) result }
 {
-    clauses_meet_lives::<S>(); // proof only
+    pid_service::laws::clauses_meet_lives::<S>(); // proof only
     match registry.import_from(account, key, body) {
         Ok(reply) => reply_with(alloc, format, Ok(reply)),
         Err(ImportEnd::Refused(refusal)) => refuse(alloc, format, refusal, body),

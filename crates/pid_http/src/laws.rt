@@ -2,8 +2,6 @@
 //! its own.
 ghost use Rattle.pid_http.specs.Sending.{StreamsSend};
 
-use pid_http_stream::laws;
-use pid_service_laws::judgements_are_outcomes;
 use sqlite::Alter;
 
 /// What a stream sends a registry that shows a history, whichever way it ends. The calls of the
@@ -14,6 +12,6 @@ use sqlite::Alter;
 pub fn streams_send_their_commands<S: Alter + Drop>()
     ensures { StreamsSend S.Store }
 {
-    judgements_are_outcomes(); // proof only
-    laws::requests_stay(); // proof only
+    pid_service_laws::judgements_are_outcomes(); // proof only
+    pid_http_stream::laws::requests_stay(); // proof only
 }

@@ -27,7 +27,7 @@ use pid_http_requests::{Format, LookupQuery};
 use pid_http_stream::Reply;
 use pid_ident::{Name, Path};
 use pid_moderation::{Changes, Discussion, Item, Pending, Refusal};
-use pid_service::{Registry, clauses_meet_lives};
+use pid_service::Registry;
 use sqlite::Alter;
 use std::alloc::{AllocError, Global};
 
@@ -55,7 +55,7 @@ pub(crate) fn read<S: Alter + Drop>(
 ) -> Result<Reply, AllocError>
     ensures { Replies S.Store registry.old registry.new (errands.Read path.now format) result }
 {
-    clauses_meet_lives::<S>(); // proof only
+    pid_service::laws::clauses_meet_lives::<S>(); // proof only
     let found = registry.read(path);
     read_outcome(alloc, path, format, found)
 }
@@ -119,7 +119,7 @@ pub(crate) fn children<S: Alter + Drop>(
 ) -> Result<Reply, AllocError>
     ensures { Replies S.Store registry.old registry.new (errands.Children above format) result }
 {
-    clauses_meet_lives::<S>(); // proof only
+    pid_service::laws::clauses_meet_lives::<S>(); // proof only
     let found = children_below(registry, above);
     children_outcome(alloc, format, found)
 }
@@ -132,7 +132,7 @@ pub(crate) fn lookup<S: Alter + Drop>(
 ) -> Result<Reply, AllocError>
     ensures { Replies S.Store registry.old registry.new (errands.Lookup query) result }
 {
-    clauses_meet_lives::<S>(); // proof only
+    pid_service::laws::clauses_meet_lives::<S>(); // proof only
     let found = registry.lookup(query.flags, &query.args, query.size);
     lookup_reply(alloc, found)
 }
@@ -161,7 +161,7 @@ pub(crate) fn submission<S: Alter + Drop>(
 ) -> Result<Reply, AllocError>
     ensures { Replies S.Store registry.old registry.new (errands.Submission number format) result }
 {
-    clauses_meet_lives::<S>(); // proof only
+    pid_service::laws::clauses_meet_lives::<S>(); // proof only
     let found = registry.submission(number);
     submission_outcome(alloc, number, format, found)
 }
@@ -189,7 +189,7 @@ pub(crate) fn pending<S: Alter + Drop>(
 ) -> Result<Reply, AllocError>
     ensures { Replies S.Store registry.old registry.new (errands.Pending after format) result }
 {
-    clauses_meet_lives::<S>(); // proof only
+    pid_service::laws::clauses_meet_lives::<S>(); // proof only
     let found = registry.pending(after);
     pending_outcome(alloc, format, found)
 }
@@ -219,7 +219,7 @@ pub(crate) fn changes<S: Alter + Drop>(
     ensures { Replies S.Store registry.old registry.new
         (errands.Changes since (option_copied after.entry) format) result }
 {
-    clauses_meet_lives::<S>(); // proof only
+    pid_service::laws::clauses_meet_lives::<S>(); // proof only
     let found = registry.changes(since, after);
     changes_outcome(alloc, format, found)
 }
