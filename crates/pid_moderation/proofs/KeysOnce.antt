@@ -9,7 +9,7 @@ use Rattle.pid_moderation.specs.History.{Asked, Begins, History, accepted_in}
 use Rattle.pid_moderation.specs.Views.{views_of, kept_of, receipted}
 use Rattle.pid_moderation.specs.FactsOfViews.{facts_of, kept_in}
 use Rattle.pid_moderation.specs.Judgement.{Outcome, Refused, Repeated, Accepts, judge, added, after, after_all}
-use Rattle.pid_moderation.specs.Keys.{has_key, is_under, times_under}
+use Rattle.pid_moderation.specs.Keys.{has_key, is_of_key, times_under}
 use Rattle.pid_moderation.proofs.Changing.{entry}
 use Rattle.pid_moderation.proofs.Passing.{accepted_passes}
 use Rattle.pid_moderation.proofs.ReceiptsStay.{facts-kept}
@@ -45,7 +45,7 @@ one_more : (a k : List ℕ) (h : History) (c : Asked) (o : Outcome) → judge (v
 one_more a k h c (Refused e) is old = old
 one_more a k h c (Repeated reply) is old = old
 one_more a k h c (Accepts reply) is old =
-    sum_by-cons (λ e. cond (is_under a k e) 1 0) (entry c reply) (accepted_in h) ∙ one_step h a k c.account c.key reply (times_under a k h) (new_key h c reply is) old
+    sum_by-cons (λ e. cond (is_of_key a k e) 1 0) (entry c reply) (accepted_in h) ∙ one_step h a k c.account c.key reply (times_under a k h) (new_key h c reply is) old
 
 all_kept : (a k : List ℕ) (cs : List Asked) (h : History) → AsKept a k h → AsKept a k (after_all h cs)
 all_kept a k [] h old = old

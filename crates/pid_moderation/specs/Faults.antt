@@ -4,5 +4,5 @@ use Rattle.pid_moderation.specs.declared.refusal.Refusal.{Refusal}
 use Rattle.pid_moderation.specs.declared.refusal.Refusal.TheVariants.{Memory, Store}
 
 -- out of memory, or the store failed
-abbrev pub IsFault : Refusal → Type 0
-IsFault refusal = (refusal ≡ Memory) ⊎ (refusal ≡ Store)
+abbrev pub IsMemoryOrStore : Refusal → Type 0
+IsMemoryOrStore refusal = (refusal ≡ Memory) ⊎ (refusal ≡ Store)

@@ -11,7 +11,7 @@ use Rattle.pid_moderation.specs.Judgement.{after, after_all, answer, answers, ju
 use Rattle.pid_moderation.specs.Keys.{times_under}
 use Rattle.pid_moderation.specs.Laws.{KeysStandOnce}
 use Rattle.pid_moderation.specs.Views.{views_of}
-use Rattle.pid_service_laws.specs.Outcomes.{IsFault, is_fault, is_outcome}
+use Rattle.pid_service_laws.specs.Outcomes.{IsMemoryOrStore, is_fault, is_outcome}
 use Rattle.pid_service_laws.specs.Lives.{Sent, NoDoubt, InDoubt, Life, AreJudged, AreLives, after_life, after_lives, after_sent, commands_in, prefix_of}
 use Rattle.pid_service_laws.specs.Calls.{AreNothing, Call, IsLifeOf, StopsAt, life_of, nothing_sent, obeyed, paired, ran, refusal_answered, sent_in, stopped_by}
 use Rattle.pid_service_laws.specs.CallLaws.{CallsAreALife, DoubtsEndWhenSentAgain, LookingDoes, NoLifeIsAPrefix, ObeyingDoes, OneLifeMore, RunningDoes, SaysLive}
@@ -80,14 +80,14 @@ ran_none : (cs : List Asked) (live : Bool) → ran cs [] (Some Failed) live ≡ 
 ran_none [] live = refl
 ran_none (c ∷ cs) live = refl
 
-fault_stops : (fault : Option Refusal) (live : Bool) (next : Option Asked) → IsSomeAnd fault IsFault → live ≡ false → stopped_by fault live next ≡ next
+fault_stops : (fault : Option Refusal) (live : Bool) (next : Option Asked) → IsSomeAnd fault IsMemoryOrStore → live ≡ false → stopped_by fault live next ≡ next
 fault_stops None live next f off = absurd f
 fault_stops (Some e) live next (inl is) off = λ i. stopped_by (Some (is i)) (off i) next
 fault_stops (Some e) live next (inr is) off = λ i. stopped_by (Some (is i)) (off i) next
 
 -- AN ANSWER
 
-obeyed-fault : (c : Asked) (result : Result Reply Refusal) (live : Bool) → IsErrAnd result IsFault → obeyed c result live ≡ record { sent = []; stopped = cond (not live) (Some c) None }
+obeyed-fault : (c : Asked) (result : Result Reply Refusal) (live : Bool) → IsErrAnd result IsMemoryOrStore → obeyed c result live ≡ record { sent = []; stopped = cond (not live) (Some c) None }
 obeyed-fault c (Ok reply) live f = absurd f
 obeyed-fault c (Err e) live (inl is) = ap (λ (r : Refusal). obeyed c (Err r) live) is
 obeyed-fault c (Err e) live (inr is) = ap (λ (r : Refusal). obeyed c (Err r) live) is
@@ -126,7 +126,7 @@ module _ {R : Type 0} (w : Showing R) where
 
   ran_ends : (commands : List Asked) (replies : List (Result Reply Refusal)) (fault : Option Refusal) (live : Bool) (new : R) (h g : History) → SaysLive w live new → g ≡ after_all h (take (length replies) commands)
       → w.shows new (after_all h (take (length replies) commands))
-      ⊎ (IsSomeAnd fault IsFault × (length replies < length commands)
+      ⊎ (IsSomeAnd fault IsMemoryOrStore × (length replies < length commands)
       × w.fails_between new (after_all h (take (length replies) commands)) (after_all h (take (length replies + 1) commands)))
       → w.shows new g ⊎ ((c : Asked) × ((ran commands replies fault live).stopped ≡ Some c) × w.fails_between new (left_at_stop g c false) (left_at_stop g c true))
   ran_ends commands replies fault live new h g told is (inl s) = inl (subst (λ x. w.shows new x) (sym is) s)

@@ -3,7 +3,7 @@
 use Rattle.std.specs.Prelude.{Bool, true, ◌&&◌, nat_le, Result, Ok, Err}
 use Rattle.pid_moderation.specs.declared.command.Reply.{Reply}
 use Rattle.pid_moderation.specs.declared.refusal.Refusal.{Refusal}
-pub use Rattle.pid_moderation.specs.Faults.{IsFault}
+pub use Rattle.pid_moderation.specs.Faults.{IsMemoryOrStore}
 use Rattle.pid_moderation.specs.Refusals.{refusal_number}
 
 -- A reply, or a refusal with a number from 1 to 15. The others are 16 and 17, faults of memory and

@@ -12,7 +12,7 @@ use Rattle.pid_moderation.specs.declared.refusal.Refusal.{Refusal}
 use Rattle.pid_moderation.specs.History.{Asked, History}
 use Rattle.pid_moderation.specs.Judgement.{answer, answers, judge, after, after_all}
 use Rattle.pid_moderation.specs.Views.{views_of}
-use Rattle.pid_service_laws.specs.Outcomes.{IsFault}
+use Rattle.pid_service_laws.specs.Outcomes.{IsMemoryOrStore}
 use Rattle.pid_service_laws.specs.Lives.{after_sent, AreJudged, NoDoubt, InDoubt, after_life}
 use Rattle.pid_service_laws.specs.Calls.{Call, nothing_sent, sent_in, StopsAt, life_of}
 use Rattle.pid_service_laws.specs.Doubts.{left_at_stop}
@@ -33,7 +33,7 @@ module _ {R : Type 0} (w : Showing R) where
   abbrev pub CommandLeaves : Result Reply Refusal → R → History → Asked → Type 0
   CommandLeaves result new h c =
       ((result ≡ answer (judge (views_of h) c)) × w.shows new (after h c))
-      ⊎ (IsErrAnd result IsFault × (w.shows new h ⊎ w.fails_between new h (after h c)))
+      ⊎ (IsErrAnd result IsMemoryOrStore × (w.shows new h ⊎ w.fails_between new h (after h c)))
 
   -- After a list of commands over a history: the replies are the answers to the first ones, and the
   -- registry shows the history after these. Or memory ran out or the store failed, and it has
@@ -42,7 +42,7 @@ module _ {R : Type 0} (w : Showing R) where
       (h : History) (commands : List Asked) : Type 0 where
     pub replied : replies ≡ answers h (take (length replies) commands)
     pub ends : w.shows new (after_all h (take (length replies) commands))
-        ⊎ (IsSomeAnd fault IsFault × (length replies < length commands)
+        ⊎ (IsSomeAnd fault IsMemoryOrStore × (length replies < length commands)
         × w.fails_between new (after_all h (take (length replies) commands))
         (after_all h (take (length replies + 1) commands)))
 
