@@ -1,11 +1,8 @@
 -- What clauses say of a connection before and after a list is read; `store` is `S.Store`.
-use Rattle.std.specs.Prelude.{Result, MatchResult}
 use Rattle.sqlite.specs.Held.{Held, state}
 use Rattle.sqlite_trees.specs.declared.store.Store.{Ghosts}
 use Rattle.pid_moderation.specs.Views.{Views}
-use Rattle.pid_tables_rows.specs.declared.fault.TableFault.{TableFault}
-use Rattle.pid_tables_rows.specs.Causes.{IsReadable}
-use Rattle.pid_tables_rows.specs.Clauses.{AtRest, HasCleanDisk, IsCaused}
+use Rattle.pid_tables_rows.specs.Clauses.{AtRest, HasCleanDisk}
 use Rattle.pid_tables_lists.specs.EachItem as each
 use Rattle.pid_tables_lists.specs.declared.walk.EachEnd.{EachEnd}
 
@@ -16,11 +13,3 @@ module _ {S : Type 0} (store : Ghosts S) where
   -- while the disk returns what was written, this holds of the views that were at rest
   abbrev pub OverViews : Held S → Held S → (Views → Type 0) → Type 0
   OverViews old new Holds = HasCleanDisk store new → (v : Views) → AtRest store old v → Holds v
-
-  -- A read of what is so of an element of the views that were at rest: a value says this of the
-  -- element, and a fault has a cause if what the views hold can be read.
-  abbrev pub TellsOf : {X E : Type 0} → Held S → Held S → Result X TableFault
-      → (Views → E → Type 0) → (E → X → Type 0) → Type 0
-  TellsOf {E = E} old new result IsSo Says = HasCleanDisk store new → (v : Views) (e : E)
-      → AtRest store old v → IsSo v e
-      → MatchResult result (Says e) (λ fault. IsReadable v → IsCaused store old new fault)

@@ -2,5 +2,6 @@
 pub mod Adding
 pub mod ChangeRows
 pub mod Children
+pub mod Clauses
 pub mod PendingRows
 pub mod EachItem

@@ -15,7 +15,7 @@ ghost use Rattle.std.specs.Option.{option_copied};
 ghost use Rattle.sqlite_value.specs.Value.{owned};
 ghost use Rattle.pid_ident.specs.PathTexts.{path_text};
 ghost use Rattle.pid_tables_rows.specs.Clauses.{OnlyReads, Reads};
-ghost use Rattle.pid_tables_lists.specs.Clauses.{TellsOf};
+ghost use Rattle.pid_tables_lists.specs.Steps.Clauses.{TellsOf};
 ghost use Rattle.pid_tables_lists.specs.Steps.Adding.{Adds};
 ghost use Rattle.pid_tables_rows.specs.TableRows.{number};
 ghost use Rattle.pid_moderation.specs.ChangePages.{
