@@ -26,7 +26,7 @@ use Rattle.pid_tables.specs.declared.put_file.Stop.{Stop}
 use Rattle.pid_tables.specs.declared.put_file.Stop.TheVariants as stops
 use Rattle.pid_tables.specs.declared.tally.Tally.{Tally}
 use Rattle.pid_tables.specs.Files.{file_reading, read_as}
-use Rattle.pid_tables.specs.Faults.{IsFault}
+use Rattle.pid_tables.specs.Faults.{IsMemoryOrStore}
 use Rattle.pid_tables.specs.Importing.{StopIsNotFailed, ReadsFile, EndsImport}
 use Rattle.pid_tables.specs.Steps.ImportParts.{IsStopOf}
 use Rattle.pid_tables.specs.Steps.Importing.{Applies}
@@ -99,7 +99,7 @@ err_is a b e = cc
 pub end_is : (a b : InputEnd TableFault) → ◌≡◌ {A = Result Tally (InputEnd TableFault)} (Err a) (Err b) → a ≡ b
 end_is a b e = cc
 
-fault_live : (e : Refusal) → IsFault e → e ≢ refusals.Failed
+fault_live : (e : Refusal) → IsMemoryOrStore e → e ≢ refusals.Failed
 fault_live e (inl memory) bad = let both = sym memory ∙ bad in let no : ⊥ = cc in no
 fault_live e (inr store) bad = let both = sym store ∙ bad in let no : ⊥ = cc in no
 

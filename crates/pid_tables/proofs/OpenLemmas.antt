@@ -12,7 +12,7 @@ use Rattle.pid_tables_rows.specs.Leaves.{as_found, found_in, AtRest, RestsIn, On
 use Rattle.pid_tables_rows.specs.Schema.{no_schema, pid_schema, schema_of}
 use Rattle.pid_tables_rows.specs.Shows.{Shows, ShowsIn}
 use Rattle.pid_tables_rows.proofs.OnlyReading.{rests_in_still}
-use Rattle.pid_tables.specs.Creation.{AreMade, IsBare, IsBlank, RestsBare}
+use Rattle.pid_tables.specs.Creation.{AreMade, ListsNoTable, IsBlank, RestsBare}
 use Rattle.pid_tables.specs.ShowsOrBlank.{ShowsOrBlank}
 use Rattle.pid_tables.proofs.AtOnceLemmas.{still_bare}
 
@@ -43,12 +43,12 @@ opened_rests version s v law opens live shows = record {
   leaves = record { each = λ clean db may. (version, subst (λ t. ShowsIn version (found_in (schema_of version) t) v) (sym (left_now s opens law db may)) shows) };
 }
 
-pub opened_bare : (s : State) → LeavesCommitted s → Opens s → IsLive s → IsBare s.now.trees → IsBlank s
+pub opened_bare : (s : State) → LeavesCommitted s → Opens s → IsLive s → ListsNoTable s.now.trees → IsBlank s
 opened_bare s law opens live bare = record {
   settled = opens.autocommit;
   same = λ opened. opens.clean;
   empty = λ opened. subst (AreMade []) (sym (found_now s no_schema opens live bare)) (record { schema = refl; sound = bare; empty = tt });
-  leaves = λ clean db may. subst IsBare (sym (left_now s opens law db may)) bare;
+  leaves = λ clean db may. subst ListsNoTable (sym (left_now s opens law db may)) bare;
 }
 
 pub still_shown : (old new : State) (h : History) → OnlyReads old new → ShowsOrBlank old h → ShowsOrBlank new h

@@ -27,9 +27,6 @@ module _ {S : Type 0} (store : Ghosts S) where
   abbrev pub IsFaultOfTaken : Held S → Held S → TableFault → Type 0
   IsFaultOfTaken old new fault = creation.IsFaultOfTaken (state store old) (state store new) fault
 
-  abbrev pub IsUndone : Held S → Held S → Type 0
-  IsUndone old new = creation.IsUndone (state store old) (state store new)
-
   abbrev pub FailsToCommit : {X : Type 0} → Held S → Held S → Result X TableFault → Type 0
   FailsToCommit old new result = creation.FailsToCommit (state store old) (state store new) result
 

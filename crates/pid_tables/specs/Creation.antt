@@ -30,8 +30,8 @@ pub record AreMade (tables : List Table) (db : Database) : Type 0 where
   pub empty : AllByRecursion (λ (t : Table). db.trees t.tree ≡ []) tables
 
 -- trees that list no table
-abbrev pub IsBare : Trees → Type 0
-IsBare db = IsDatabase (record { schema = no_schema; trees = db })
+abbrev pub ListsNoTable : Trees → Type 0
+ListsNoTable db = IsDatabase (record { schema = no_schema; trees = db })
 
 -- outside a transaction, while it is open, the database has no table, and nor has anything that a
 -- crash may leave
@@ -39,7 +39,7 @@ pub record IsBlank (s : State) : Type 0 where
   pub settled : s.in_transaction ≡ false
   pub same : IsTrue s.is_open → s.now ≡ s.committed
   pub empty : IsTrue s.is_open → AreMade [] s.now
-  pub leaves : HasCleanDisk s → (db : Trees) → s.may_leave db → IsBare db
+  pub leaves : HasCleanDisk s → (db : Trees) → s.may_leave db → ListsNoTable db
 
 -- a transaction failed to commit: what was committed before is seen again
 pub record IsUndone (old new : State) : Type 0 where
@@ -59,7 +59,7 @@ pub record FailsToCommit {X : Type 0} (old new : State) (result : Result X Table
 -- everything that a crash may leave has no table, or shows the history of a new registry
 pub record LeavesBareOrNew (s : State) : Type 0 where
   pub each : HasCleanDisk s → (db : Trees) → s.may_leave db
-      → IsBare db ⊎ Shows (as_found db) (views_of new_history)
+      → ListsNoTable db ⊎ Shows (as_found db) (views_of new_history)
 
 -- the same, but a crash may leave the new registry: one could not be made, and the next call may
 -- try again

@@ -1,7 +1,7 @@
 -- What a fault of the tables is answered as: choices of this project.
 use Rattle.pid_moderation.specs.declared.refusal.Refusal.{Refusal}
 use Rattle.pid_moderation.specs.declared.refusal.Refusal.TheVariants.{Memory, Store}
-pub use Rattle.pid_moderation.specs.Faults.{IsFault}
+pub use Rattle.pid_moderation.specs.Faults.{IsMemoryOrStore}
 use Rattle.pid_tables_rows.specs.declared.fault.TableFault.{TableFault}
 use Rattle.pid_tables_rows.specs.declared.fault.TableFault.TheVariants as faults
 

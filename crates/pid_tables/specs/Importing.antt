@@ -14,19 +14,19 @@ use Rattle.pid_moderation.specs.Views.{views_of}
 use Rattle.pid_tables_rows.specs.Leaves.{AtRest, LeavesEither}
 use Rattle.pid_tables.specs.declared.put_file.Stop.{Stop}
 use Rattle.pid_tables.specs.declared.put_file.Stop.TheVariants as stops
-use Rattle.pid_tables.specs.Faults.{IsFault}
+use Rattle.pid_tables.specs.Faults.{IsMemoryOrStore}
 
 -- the judgement refuses, and nothing changes; or there was no memory, or the store failed
 abbrev pub RefusesImport : History → Asked → Refusal → Type 0
-RefusesImport h c e = ((answer (judge (views_of h) c) ≡ Err e) × (after h c ≡ h)) ⊎ IsFault e
+RefusesImport h c e = ((answer (judge (views_of h) c) ≡ Err e) × (after h c ≡ h)) ⊎ IsMemoryOrStore e
 
 -- What an answer to an import says: how much of the input was read, by what is still to come and
 -- the text that came, and what the transaction leaves of a history and the import.
-pub record Ending : Type 1 where
+pub record ImportEnding : Type 1 where
   pub read : Option (List ℕ) → List ℕ → Type 0
   pub leaves : State → History → Asked → Type 0
 
-abbrev pub ending_of : Result Reply Stop → Ending
+abbrev pub ending_of : Result Reply Stop → ImportEnding
 -- the whole input was read, and the tables show the history with the import
 ending_of (Ok reply) = record {
   read = λ rest text. IsWhole most_file_bytes rest text;
@@ -46,7 +46,7 @@ ending_of (Err (stops.Refused e)) = record {
 -- what a crash may leave shows the history with the import or without it
 ending_of (Err (stops.Failed e)) = record {
   read = λ rest text. IsWhole most_file_bytes rest text;
-  leaves = λ s h c. LeavesEither s (views_of h) (views_of (after h c)) × IsFault e;
+  leaves = λ s h c. LeavesEither s (views_of h) (views_of (after h c)) × IsMemoryOrStore e;
 }
 
 abbrev pub EndsImport : Result Reply Stop → State → History → Asked → Type 0

@@ -12,7 +12,7 @@ use Rattle.pid_moderation.specs.Revisions.{IsMarked}
 use Rattle.pid_moderation.specs.Views.{views_of, items_of}
 use Rattle.pid_tables.specs.declared.judging.Early.{Early}
 use Rattle.pid_tables.specs.declared.judging.Early.TheVariants.{Answered, Open}
-use Rattle.pid_tables.specs.Faults.{IsFault}
+use Rattle.pid_tables.specs.Faults.{IsMemoryOrStore}
 
 -- the import depends on its file, and these are its facts without it
 pub record IsOpen (h : History) (command : Command) (f : Facts) : Type 0 where
@@ -29,7 +29,7 @@ WhereOpen h command facts items Holds = IsMarked h → is_import command.act ≡
 -- the store failed
 abbrev pub HasOneOutcome : History → Command → Result Reply Refusal → Type 0
 HasOneOutcome h command (Ok reply) = SettlesImport h command.account command.key (Ok reply)
-HasOneOutcome h command (Err e) = SettlesImport h command.account command.key (Err e) ⊎ IsFault e
+HasOneOutcome h command (Err e) = SettlesImport h command.account command.key (Err e) ⊎ IsMemoryOrStore e
 
 -- the import is answered, or it depends on its file, and there are so many items
 abbrev pub IsJudgedEarly : History → Command → Early → Type 0

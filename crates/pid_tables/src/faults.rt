@@ -1,6 +1,6 @@
 //! Faults of the tables as refusals.
 ghost use Rattle.std.specs.Prelude.{◌≡◌, ◌≢◌};
-ghost use Rattle.pid_tables.specs.Faults.{IsFault, refusal_for};
+ghost use Rattle.pid_tables.specs.Faults.{IsMemoryOrStore, refusal_for};
 
 use pid_moderation::Refusal;
 use pid_tables_rows::TableFault;
@@ -8,7 +8,7 @@ use pid_tables_rows::TableFault;
 /// No memory is answered as such, and every other fault as one of the store.
 pub fn refusal_of(fault: TableFault) -> Refusal
     ensures same { result ≡ refusal_for fault }
-    ensures fault { IsFault result }
+    ensures fault { IsMemoryOrStore result }
     ensures alive { result ≢ Refusal.Failed }
 {
     match fault {

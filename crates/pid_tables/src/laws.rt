@@ -8,7 +8,7 @@ ghost use Rattle.pid_tables_rows.specs.Leaves.{as_found, found_in};
 ghost use Rattle.pid_tables_rows.specs.Schema.{schema_of};
 ghost use Rattle.pid_tables_rows.specs.declared.version.Version.{Version};
 ghost use Rattle.pid_tables_rows.specs.Shows.{AreViews, Shows, ShowsIn};
-ghost use Rattle.pid_tables.specs.Creation.{IsBare};
+ghost use Rattle.pid_tables.specs.Creation.{ListsNoTable};
 ghost use Rattle.pid_tables_rows.specs.Clauses.{AtRest, OnlyReads, RestsIn, seen};
 ghost use Rattle.pid_tables.specs.Clauses.{IsBlank, IsOpened, ShowsOrBlank};
 ghost use Rattle.std.specs.Prelude.{◌≡◌, ◌↔◌, ◌<◌, ℕ, List, length, true, None};
@@ -40,7 +40,7 @@ pub fn opened_tables_rest<S: Alter>(conn: &Connection<S>)
     ensures rests { (version : Version) (v : Views) → IsOpened S.Store conn.now
         → ShowsIn version (found_in (schema_of version) (seen S.Store conn.now).trees) v
         → RestsIn S.Store version conn.now v }
-    ensures bare { IsOpened S.Store conn.now → IsBare (seen S.Store conn.now).trees
+    ensures bare { IsOpened S.Store conn.now → ListsNoTable (seen S.Store conn.now).trees
         → IsBlank S.Store conn.now }
 {}
 

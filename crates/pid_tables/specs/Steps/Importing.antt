@@ -9,7 +9,7 @@ use Rattle.pid_tables_rows.specs.Leaves.{Written}
 use Rattle.pid_tables_rows.specs.Shows.{counts_of}
 use Rattle.pid_tables.specs.declared.put_file.Stop.{Stop}
 use Rattle.pid_tables.specs.declared.put_file.Stop.TheVariants as stops
-use Rattle.pid_tables.specs.Faults.{IsFault}
+use Rattle.pid_tables.specs.Faults.{IsMemoryOrStore}
 use Rattle.pid_tables.specs.Importing.{RefusesImport}
 
 -- what a transaction shows in which the file was put and the rest of the import was written, or not
@@ -18,4 +18,4 @@ Applies (Ok reply) s h c = (answer (judge (views_of h) c) ≡ Ok reply)
     × Written (counts_of (views_of (after h c))) s (views_of h) (views_of (after h c))
 Applies (Err stops.Body) s h c = ⊥
 Applies (Err (stops.Refused e)) s h c = RefusesImport h c e
-Applies (Err (stops.Failed e)) s h c = IsFault e
+Applies (Err (stops.Failed e)) s h c = IsMemoryOrStore e
