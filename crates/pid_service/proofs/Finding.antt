@@ -20,7 +20,7 @@ use Rattle.pid_tables_rows.specs.Schema.{schema_of}
 use Rattle.pid_tables_rows.specs.Shows.{ShowsIn}
 use Rattle.pid_tables.specs.declared.migration.Step.{Step}
 use Rattle.pid_tables.specs.Clauses.{ShowsOrBlank}
-use Rattle.pid_tables.specs.Creation.{IsBare}
+use Rattle.pid_tables.specs.Creation.{ListsNoTable}
 use Rattle.pid_tables.proofs.OpenLemmas.{LeavesCommitted, blank_rests, opened_bare, opened_rests, opened_shown}
 use Rattle.pid_service.specs.declared.registry.Registry.{Registry}
 use Rattle.pid_service.specs.Histories.{FailsBetween, IsReached, Shows}
@@ -85,7 +85,7 @@ module _ {S : Type 0} (store : Ghosts S) where
   unopened_untold conn back fault h reached shows opens clean = (opens.opened h reached shows clean).0
 
   -- the first opening
-  pub bare_shows_none : IsSettled → (conn : Held S) → IsOpened store conn → IsBare (clauses.seen store conn).trees → ShowsOrBlank store conn new_history
+  pub bare_shows_none : IsSettled → (conn : Held S) → IsOpened store conn → ListsNoTable (clauses.seen store conn).trees → ShowsOrBlank store conn new_history
   bare_shows_none law conn opens bare = inr (inr (blank_rests (state store conn) (opened_bare (state store conn) (law conn) opens.0 opens.1 bare), refl))
 
   pub shown_rests : IsSettled → (conn : Held S) (h : History) → IsOpened store conn → IsShown (clauses.seen store conn).trees (views_of h) → ShowsOrBlank store conn h

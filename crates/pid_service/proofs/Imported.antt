@@ -23,7 +23,7 @@ use Rattle.pid_tables.specs.Judging.{HasOneOutcome}
 use Rattle.pid_service.specs.declared.importing.ImportEnd.{ImportEnd}
 use Rattle.pid_service.specs.declared.importing.ImportEnd.TheVariants as imports
 use Rattle.pid_service.specs.declared.registry.Registry.{Registry}
-use Rattle.pid_service.specs.Histories.{IsFault, IsReached, Shows}
+use Rattle.pid_service.specs.Histories.{IsMemoryOrStore, IsReached, Shows}
 use Rattle.pid_service.specs.Importing.{ObeysImport, ReadsImport}
 use Rattle.pid_service.specs.Steps.Importing.{AnswersPast, EndSpares, IsPlain}
 use Rattle.pid_service.specs.KeptViews.{KeepsRight}
@@ -126,7 +126,7 @@ module _ {S : Type 0} (store : Ghosts S) where
   refused_carried old new h c stop e is shows same names ends = refused_obeyed old new h c e shows same names (subst (λ (s : Stop). EndsImport store (connection new) (Err s) h c) is ends)
 
   -- what stops it, told as a fault
-  pub failed_carried : (old new : Registry S store) (h : History) (c : Asked) (stop : Stop) (refusal told : Refusal) → stop ≡ stops.Failed refusal → (IsFault refusal → told ≡ refusal) → Shows store old h → is_live new ≡ false → IsReached (after h c)
+  pub failed_carried : (old new : Registry S store) (h : History) (c : Asked) (stop : Stop) (refusal told : Refusal) → stop ≡ stops.Failed refusal → (IsMemoryOrStore refusal → told ≡ refusal) → Shows store old h → is_live new ≡ false → IsReached (after h c)
       → EndsImport store (connection new) (Err stop) h c → ObeysImport store (Err (imports.Refused told)) new h c
   failed_carried old new h c stop refusal told is same shows off reached ends =
       let so : EndsImport store (connection new) (Err (stops.Failed refusal)) h c = subst (λ (s : Stop). EndsImport store (connection new) (Err s) h c) is ends in
@@ -171,7 +171,7 @@ settled_spares : (h : History) (command : Command) (text : List ℕ) (result : R
 settled_spares h command text result is short told = subst (λ (c : Asked). after h c ≡ h) (import_asks command (file_reading text) is) (told (file_reading text) short).1
 
 early_spares : (h : History) (command : Command) (text : List ℕ) (e : Refusal) → is_import command.act ≡ true → file_reading text ≢ TooLong → HasOneOutcome h command (Err e)
-    → (after h (asked command (file_reading text)) ≡ h) ⊎ IsFault e
+    → (after h (asked command (file_reading text)) ≡ h) ⊎ IsMemoryOrStore e
 early_spares h command text e is short (inl told) = inl (settled_spares h command text (Err e) is short told)
 early_spares h command text e is short (inr fault) = inr fault
 
@@ -185,10 +185,10 @@ past_spares h command given (Err (imports.Refused e)) text long refused is told 
 past_spares h command given (Err imports.Body) text long refused is told past = tt
 
 plain_spares : (given : Result Reply ImportEnd) (result : Result Reply Refusal) (h : History) (c : Asked) → IsPlain given result → given ≢ Err imports.Body → EndSpares given h c
-    → (items_of (after h c) ≡ items_of h) ⊎ IsErrAnd result IsFault
+    → (items_of (after h c) ≡ items_of h) ⊎ IsErrAnd result IsMemoryOrStore
 plain_spares (Ok reply) result h c plain sure same = inl (ap items_of same)
 plain_spares (Err (imports.Refused e)) result h c plain sure (inl same) = inl (ap items_of same)
-plain_spares (Err (imports.Refused e)) result h c plain sure (inr fault) = inr (subst (λ (x : Result Reply Refusal). IsErrAnd x IsFault) (sym plain) fault)
+plain_spares (Err (imports.Refused e)) result h c plain sure (inr fault) = inr (subst (λ (x : Result Reply Refusal). IsErrAnd x IsMemoryOrStore) (sym plain) fault)
 plain_spares (Err imports.Body) result h c plain sure same = absurd (sure refl)
 
 module _ {S : Type 0} (store : Ghosts S) where
@@ -199,10 +199,10 @@ module _ {S : Type 0} (store : Ghosts S) where
 
   pub bytes_spare : (given : Result Reply ImportEnd) (result : Result Reply Refusal) (None : Type 0) (h : History) (command : Command) (file text rest : List ℕ) → IsPlain given result → given ≢ Err imports.Body → file ≡ text ++ rest
       → ReadsImport given (Some rest) text → length file ≤ most_file_bytes → None ⊎ EndSpares given h (asked command (file_reading text))
-      → None ⊎ ((items_of (after h (asked command (file_reading file))) ≡ items_of h) ⊎ IsErrAnd result IsFault)
+      → None ⊎ ((items_of (after h (asked command (file_reading file))) ≡ items_of h) ⊎ IsErrAnd result IsMemoryOrStore)
   bytes_spare given result None h command file text rest plain sure parts read short (inl none) = inl none
   bytes_spare given result None h command file text rest plain sure parts read short (inr same) =
-      inr (subst (λ (t : List ℕ). (items_of (after h (asked command (file_reading t))) ≡ items_of h) ⊎ IsErrAnd result IsFault) (read_text given file text rest sure parts read short)
+      inr (subst (λ (t : List ℕ). (items_of (after h (asked command (file_reading t))) ≡ items_of h) ⊎ IsErrAnd result IsMemoryOrStore) (read_text given file text rest sure parts read short)
       (plain_spares given result h (asked command (file_reading text)) plain sure same))
 
   -- of a command that has a file of its own

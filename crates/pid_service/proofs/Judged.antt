@@ -17,7 +17,7 @@ use Rattle.pid_moderation.specs.Items.{Items, name_at}
 use Rattle.pid_moderation.specs.Judgement.{Outcome, Refused, Repeated, Accepts, unless, unless_kept, judge, answer, added, after}
 use Rattle.pid_moderation.specs.Views.{Views, views_of}
 use Rattle.pid_moderation.proofs.Changing.{not_anew}
-use Rattle.pid_service.specs.Histories.{IsFault}
+use Rattle.pid_service.specs.Histories.{IsMemoryOrStore}
 
 refusal_adds : (h : History) (c : Asked) (o : Outcome) (e : Refusal) → answer o ≡ Err e → added h c o ≡ h
 refusal_adds h c (Refused r) e same = refl
@@ -65,7 +65,7 @@ pub fits : (h : History) (command : Command) (reading : Reading) (change : Chang
 fits h command reading change other fit =
     subst (FitsViews change) (no_more (views_of h)) (subst (λ (ps : Items). FitsViews change (with_pairs ps (views_of h))) (no_pairs command.act reading (judge (views_of h) (asked command reading)) other) fit)
 
-told_by : (h : History) (c : Asked) (e : Refusal) → answer (judge (views_of h) c) ≡ Err e → ((answer (judge (views_of h) c) ≡ Err e) × (after h c ≡ h)) ⊎ IsFault e
+told_by : (h : History) (c : Asked) (e : Refusal) → answer (judge (views_of h) c) ≡ Err e → ((answer (judge (views_of h) c) ≡ Err e) × (after h c ≡ h)) ⊎ IsMemoryOrStore e
 told_by h c e same = inl (same, refused_stays h c e same)
 
 pub told_or_memory : (h : History) (c : Asked) (e : Refusal) → (e ≢ Memory → answer (judge (views_of h) c) ≡ Err e) → (answer (judge (views_of h) c) ≡ Err e) ⊎ (e ≡ Memory)
@@ -87,7 +87,7 @@ told_or_memory h c Memory told = inr refl
 told_or_memory h c Store told = inl (told (λ bad. let no : ⊥ = cc in no))
 told_or_memory h c Failed told = inl (told (λ bad. let no : ⊥ = cc in no))
 
-pub refusal_told : (h : History) (c : Asked) (e : Refusal) → (e ≢ Memory → answer (judge (views_of h) c) ≡ Err e) → ((answer (judge (views_of h) c) ≡ Err e) × (after h c ≡ h)) ⊎ IsFault e
+pub refusal_told : (h : History) (c : Asked) (e : Refusal) → (e ≢ Memory → answer (judge (views_of h) c) ≡ Err e) → ((answer (judge (views_of h) c) ≡ Err e) × (after h c ≡ h)) ⊎ IsMemoryOrStore e
 refusal_told h c e told = elim (told_or_memory h c e told) [
   | inl same ↦ told_by h c e same
   | inr is ↦ inr (inl is)

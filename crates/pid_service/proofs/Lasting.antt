@@ -9,7 +9,7 @@ use Rattle.pid_moderation.specs.declared.refusal.Refusal.TheVariants.{BadText, F
 use Rattle.pid_service.specs.declared.importing.ImportEnd.{ImportEnd}
 use Rattle.pid_service.specs.declared.importing.ImportEnd.TheVariants.{Refused, Body}
 use Rattle.pid_service.specs.Asking.{MayGive}
-use Rattle.pid_service.specs.Histories.{IsFault}
+use Rattle.pid_service.specs.Histories.{IsMemoryOrStore}
 use Rattle.sqlite_trees.specs.declared.store.Store.{Ghosts}
 use Rattle.pid_service.specs.declared.registry.Registry.{Registry}
 use Rattle.pid_service.specs.Importing.{EndIsNotFailed, EndLasts, ForgetsAll, IsEndFault, leaves_live}
@@ -20,7 +20,7 @@ use Rattle.pid_service.specs.Steps.Obeying.{StaysLive}
 use Rattle.pid_service.specs.Steps.Running.{fault_in}
 use Rattle.pid_service.proofs.Runs.{no_fault}
 
-no_outcome : (e : Refusal) → IsFault e → is_outcome (Err e) ≡ true → ⊥
+no_outcome : (e : Refusal) → IsMemoryOrStore e → is_outcome (Err e) ≡ true → ⊥
 no_outcome e (inl is) told = let no : is_outcome (Err Memory) ≡ true = subst (λ (x : Refusal). is_outcome (Err x) ≡ true) is told in let bad : ⊥ = cc in bad
 no_outcome e (inr is) told = let no : is_outcome (Err Store) ≡ true = subst (λ (x : Refusal). is_outcome (Err x) ≡ true) is told in let bad : ⊥ = cc in bad
 
@@ -32,7 +32,7 @@ stays_live (Ok reply) before after same on told = same ∙ on
 stays_live (Err e) before after (alive, inl fault) on told = absurd (no_outcome e fault told)
 stays_live (Err e) before after (alive, inr same) on told = same ∙ on
 
-fails_so : (r : Result Reply Refusal) (before after : Bool) → StaysLive r before after → before ≡ true → after ≡ false → IsErrAnd r IsFault
+fails_so : (r : Result Reply Refusal) (before after : Bool) → StaysLive r before after → before ≡ true → after ≡ false → IsErrAnd r IsMemoryOrStore
 fails_so (Ok reply) before after same on off = both before after same on off
 fails_so (Err e) before after (alive, inl fault) on off = fault
 fails_so (Err e) before after (alive, inr same) on off = both before after same on off
@@ -65,7 +65,7 @@ still_live (Err (Refused e)) alive live = (alive, inr refl)
 still_live (Err Body) alive live = refl
 
 -- a fault is not that a registry had failed
-fault_alive : (e : Refusal) → IsFault e → e ≢ Failed
+fault_alive : (e : Refusal) → IsMemoryOrStore e → e ≢ Failed
 fault_alive e (inl is) = λ failed. let no : Memory ≡ Failed = sym is ∙ failed in let bad : ⊥ = cc in bad
 fault_alive e (inr is) = λ failed. let no : Store ≡ Failed = sym is ∙ failed in let bad : ⊥ = cc in bad
 
@@ -73,7 +73,7 @@ pub not_failed : BadText ≢ Failed
 not_failed is = let bad : ⊥ = cc in bad
 
 -- a change was carried out, or could not be
-pub carried : (r : Result Reply Refusal) (before after : Bool) → MatchResult r (λ x. after ≡ before) (λ e. IsFault e × (after ≡ false)) → StaysLive r before after
+pub carried : (r : Result Reply Refusal) (before after : Bool) → MatchResult r (λ x. after ≡ before) (λ e. IsMemoryOrStore e × (after ≡ false)) → StaysLive r before after
 carried (Ok reply) before after same = same
 carried (Err e) before after (fault, off) = (fault_alive e fault, inl fault)
 
@@ -96,20 +96,20 @@ module _ {S : Type 0} (store : Ghosts S) (old new : Registry S store) where
 -- ---- a list
 
 -- behind an answer that is no fault
-pub on_after : (r : Result Reply Refusal) (after : Bool) → fault_in r ≡ None → (after ≡ false → IsErrAnd r IsFault) → after ≡ true
+pub on_after : (r : Result Reply Refusal) (after : Bool) → fault_in r ≡ None → (after ≡ false → IsErrAnd r IsMemoryOrStore) → after ≡ true
 on_after r true none fails = refl
 on_after r false none fails = absurd (no_fault r none (fails refl))
 
-pub stays_so : (fault : Option Refusal) (after : Bool) → (after ≡ true) ⊎ IsSomeAnd fault IsFault → fault ≡ None → after ≡ true
+pub stays_so : (fault : Option Refusal) (after : Bool) → (after ≡ true) ⊎ IsSomeAnd fault IsMemoryOrStore → fault ≡ None → after ≡ true
 stays_so fault after (inl on) none = on
 stays_so None after (inr is) none = absurd is
 stays_so (Some e) after (inr is) none = absurd (let no : ⊥ = cc in no)
 
-pub fault_so : (fault : Option Refusal) (after : Bool) → (after ≡ true) ⊎ IsSomeAnd fault IsFault → after ≡ false → IsSomeAnd fault IsFault
+pub fault_so : (fault : Option Refusal) (after : Bool) → (after ≡ true) ⊎ IsSomeAnd fault IsMemoryOrStore → after ≡ false → IsSomeAnd fault IsMemoryOrStore
 fault_so fault after (inl on) off = absurd (let no : true ≡ false = sym on ∙ off in let bad : ⊥ = cc in bad)
 fault_so fault after (inr is) off = is
 
-pub some_fault : (fault : Option Refusal) → is_some fault ≡ true → IfSome fault IsFault → IsSomeAnd fault IsFault
+pub some_fault : (fault : Option Refusal) → is_some fault ≡ true → IfSome fault IsMemoryOrStore → IsSomeAnd fault IsMemoryOrStore
 some_fault None some is = let no : ⊥ = cc in absurd no
 some_fault (Some e) some is = is
 
@@ -118,7 +118,7 @@ all_more P [] x all one = (one, tt)
 all_more P (y ∷ xs) x all one = (all.0, all_more P xs x all.1 one)
 
 -- a live registry gives a fault as it may
-pub given_live : (fault : Option Refusal) (live : Bool) → live ≡ true → IfSome fault IsFault → IfSome fault (MayGive live)
+pub given_live : (fault : Option Refusal) (live : Bool) → live ≡ true → IfSome fault IsMemoryOrStore → IfSome fault (MayGive live)
 given_live None live on is = tt
 given_live (Some e) live on is = record { alive = λ was. is; failed = λ off. absurd (let no : true ≡ false = sym on ∙ off in let bad : ⊥ = cc in bad) }
 

@@ -19,7 +19,7 @@ use Rattle.pid_tables_rows.specs.Clauses.{AtRest, LeavesEither}
 use Rattle.pid_lookup.specs.CacheEntries.{Entries}
 use Rattle.pid_service.specs.declared.judging.Judged.TheVariants.{Kept, Accepted}
 use Rattle.pid_service.specs.declared.registry.Registry.{Registry}
-use Rattle.pid_service.specs.Histories.{IsReached, Shows, IsFault}
+use Rattle.pid_service.specs.Histories.{IsReached, Shows, IsMemoryOrStore}
 use Rattle.pid_service.specs.Asking.{IsCausedAs}
 use Rattle.pid_service.specs.Steps.Judging.{IsJudgedFor, JudgesCommand}
 use Rattle.pid_service.specs.KeptViews.{IsRightFor, kept_by, nothing}
@@ -53,7 +53,7 @@ module _ {S : Type 0} (store : Ghosts S) where
   )
 
   pub failed : (old new : Registry S store) (h : History) (c : Asked) (change : Change) (reply : Reply) (e : Refusal) → Shows store old h → JudgesCommand h c (Ok (Accepted change reply)) → IsReached (after h c)
-      → ((v : Views) → AtRest store (connection old) v → FitsViews change v → LeavesEither store (connection new) v (changed change v)) → is_live new ≡ false → IsFault e → Obeys store (Err e) new h c
+      → ((v : Views) → AtRest store (connection old) v → FitsViews change v → LeavesEither store (connection new) v (changed change v)) → is_live new ≡ false → IsMemoryOrStore e → Obeys store (Err e) new h c
   failed old new h c change reply e shows told reached either off fault = inr (
     fault,
     inr (record {
@@ -76,7 +76,7 @@ module _ {S : Type 0} (store : Ghosts S) where
   told_or_short old new h c (Err e) (inr is) = inr (subst (IsCausedAs store old new) (sym is) tt)
 
   -- a fault of the change leaves the registry failed, over a command that the judgement answers
-  pub failed_over : (start new : Registry S store) (live : Bool) (h : History) (c : Asked) (change : Change) (reply : Reply) (r : Result Reply Refusal) → MatchResult r (λ x. is_live new ≡ live) (λ e. IsFault e × (is_live new ≡ false))
+  pub failed_over : (start new : Registry S store) (live : Bool) (h : History) (c : Asked) (change : Change) (reply : Reply) (r : Result Reply Refusal) → MatchResult r (λ x. is_live new ≡ live) (λ e. IsMemoryOrStore e × (is_live new ≡ false))
       → JudgesCommand h c (Ok (Accepted change reply)) → IfErr r (IsRefusedFor store start new h c)
   failed_over start new live h c change reply (Ok x) held told = tt
   failed_over start new live h c change reply (Err e) (fault, off) told = inr (inr (off, (reply, told.0)))
@@ -122,13 +122,13 @@ accepted_spares None h c change reply told (inr same) = inr (ap (λ (v : Views).
 abbrev told_err : Refusal → Result Reply Refusal
 told_err e = Err e
 
-pub refused_spares : (None : Type 0) (h : History) (c : Asked) (e : Refusal) → JudgesCommand h c (Err e) → None ⊎ ((items_of (after h c) ≡ items_of h) ⊎ IsErrAnd (told_err e) IsFault)
+pub refused_spares : (None : Type 0) (h : History) (c : Asked) (e : Refusal) → JudgesCommand h c (Err e) → None ⊎ ((items_of (after h c) ≡ items_of h) ⊎ IsErrAnd (told_err e) IsMemoryOrStore)
 refused_spares None h c e (inl told) = inr (inl (ap items_of told.1))
 refused_spares None h c e (inr fault) = inr (inr fault)
 
-pub then_spares : (None : Type 0) (h : History) (c : Asked) (r : Result Reply Refusal) → None ⊎ (items_of (after h c) ≡ items_of h) → None ⊎ ((items_of (after h c) ≡ items_of h) ⊎ IsErrAnd r IsFault)
+pub then_spares : (None : Type 0) (h : History) (c : Asked) (r : Result Reply Refusal) → None ⊎ (items_of (after h c) ≡ items_of h) → None ⊎ ((items_of (after h c) ≡ items_of h) ⊎ IsErrAnd r IsMemoryOrStore)
 then_spares None h c r (inl none) = inl none
 then_spares None h c r (inr same) = inr (inl same)
 
-pub broken_spares : (None : Type 0) (h : History) (c : Asked) → judge (views_of h) c ≡ Outcomes.Refused BadText → None ⊎ ((items_of (after h c) ≡ items_of h) ⊎ IsErrAnd (told_err BadText) IsFault)
+pub broken_spares : (None : Type 0) (h : History) (c : Asked) → judge (views_of h) c ≡ Outcomes.Refused BadText → None ⊎ ((items_of (after h c) ≡ items_of h) ⊎ IsErrAnd (told_err BadText) IsMemoryOrStore)
 broken_spares None h c is = inr (inl (ap items_of (refused_stays h c BadText (ap answer is))))

@@ -8,7 +8,7 @@ use Rattle.pid_moderation.specs.Judgement.{after, after_all}
 use Rattle.pid_service_laws.specs.Registries as lives
 use Rattle.pid_service.specs.declared.registry.Registry.{Registry}
 use Rattle.pid_service.specs.declared.running.RunReport.{RunReport}
-use Rattle.pid_service.specs.Histories.{FailsBetween, IsFault, Shows}
+use Rattle.pid_service.specs.Histories.{FailsBetween, IsMemoryOrStore, Shows}
 use Rattle.pid_service.specs.Lives.{showing}
 use Rattle.pid_service.specs.Running.{EndsRun, Runs}
 
@@ -33,7 +33,7 @@ after_next (x ∷ commands) h c = after_next commands (after h x) c
 module _ {S : Type 0} (store : Ghosts S) where
   -- it failed at the next command
   record FailsNext (fault : Option Refusal) (rest : List Asked) (r : Registry S store) (h : History) : Type 0 where
-    pub is_fault : IsSomeAnd fault IsFault
+    pub is_fault : IsSomeAnd fault IsMemoryOrStore
     pub next : Asked
     pub behind : List Asked
     pub is_next : rest ≡ next ∷ behind

@@ -8,7 +8,7 @@ use Rattle.pid_moderation.specs.History.{Asked, History}
 use Rattle.pid_moderation.specs.Judgement.{judge, answer, answers, after, after_all}
 use Rattle.pid_moderation.specs.Views.{items_of, views_of}
 use Rattle.pid_service.specs.declared.registry.Registry.{Registry}
-use Rattle.pid_service.specs.Histories.{Shows, IsFault}
+use Rattle.pid_service.specs.Histories.{Shows, IsMemoryOrStore}
 use Rattle.pid_service.specs.KeptViews.{kept_by, nothing}
 use Rattle.pid_service.specs.Obeying.{Forgets, Obeys}
 use Rattle.pid_service.specs.declared.running.RunReport.{RunReport}
@@ -49,7 +49,7 @@ module _ {X : Type 0} (f : X → Asked) where
 
 -- an answer is a fault
 
-pub told_fault : (r : Result Reply Refusal) (e : Refusal) → fault_in r ≡ Some e → (r ≡ Err e) × IsFault e
+pub told_fault : (r : Result Reply Refusal) (e : Refusal) → fault_in r ≡ Some e → (r ≡ Err e) × IsMemoryOrStore e
 told_fault (Err Memory) e is = let same : Memory ≡ e = cc in (ap Err same, inl (sym same))
 told_fault (Err Store) e is = let same : Store ≡ e = cc in (ap Err same, inr (sym same))
 told_fault (Ok reply) e is = absurd (let no : ⊥ = cc in no)
@@ -73,7 +73,7 @@ pub none_of : {X : Type 0} (o : Option X) → is_some o ≡ false → o ≡ None
 none_of None off = refl
 none_of (Some x) off = absurd (let no : ⊥ = cc in no)
 
-pub no_fault : (r : Result Reply Refusal) → fault_in r ≡ None → IsErrAnd r IsFault → ⊥
+pub no_fault : (r : Result Reply Refusal) → fault_in r ≡ None → IsErrAnd r IsMemoryOrStore → ⊥
 no_fault (Err e) is (inl memory) = let no : ⊥ = let bad : Some Memory ≡ None = subst (λ x. fault_in (Err x) ≡ None) memory is in cc in no
 no_fault (Err e) is (inr store) = let no : ⊥ = let bad : Some Store ≡ None = subst (λ x. fault_in (Err x) ≡ None) store is in cc in no
 no_fault (Ok reply) is bad = absurd bad
@@ -119,11 +119,11 @@ module _ {S : Type 0} (store : Ghosts S) where
 
 -- none was obeyed, for want of memory or of the store
 module _ {S : Type 0} (store : Ghosts S) {X : Type 0} (f : X → Asked) where
-  at_first : (r : Registry S store) (h : History) (cs : List X) (e : Refusal) → IsFault e → 0 < length cs → Shows store r h → EndsRun store (Some e) (map f cs) r h
+  at_first : (r : Registry S store) (h : History) (cs : List X) (e : Refusal) → IsMemoryOrStore e → 0 < length cs → Shows store r h → EndsRun store (Some e) (map f cs) r h
   at_first r h [] e fault less shows = absurd (omega (arith, less))
   at_first r h (c ∷ cs) e fault less shows = (fault, inl shows)
 
-  pub runs_none : (report : RunReport) (r : Registry S store) (h : History) (cs : List X) (e : Refusal) → report.replies.items ≡ [] → report.fault ≡ Some e → IsFault e → length report.replies.items < length cs → Shows store r h
+  pub runs_none : (report : RunReport) (r : Registry S store) (h : History) (cs : List X) (e : Refusal) → report.replies.items ≡ [] → report.fault ≡ Some e → IsMemoryOrStore e → length report.replies.items < length cs → Shows store r h
       → Runs store report r h (map f cs)
   runs_none report r h cs e none is fault less shows =
       let count : length report.replies.items ≡ 0 = ap length none in
@@ -145,7 +145,7 @@ none_then Before After Left keep (inr left) = inr left
 
 -- one command more was obeyed
 pub forgets_more : (Before After : Type 0) (r : Result Reply Refusal) (h : History) (cs more : List Asked) (c : Asked) → more ≡ cs ++ c ∷ [] → (Before → After) → Before ⊎ LeaveItems h cs
-    → After ⊎ ((items_of (after (after_all h cs) c) ≡ items_of (after_all h cs)) ⊎ IsErrAnd r IsFault) → fault_in r ≡ None → After ⊎ LeaveItems h more
+    → After ⊎ ((items_of (after (after_all h cs) c) ≡ items_of (after_all h cs)) ⊎ IsErrAnd r IsMemoryOrStore) → fault_in r ≡ None → After ⊎ LeaveItems h more
 forgets_more Before After r h cs more c is keep so (inl none) sure = inl none
 forgets_more Before After r h cs more c is keep so (inr (inr fault)) sure = absurd (no_fault r sure fault)
 forgets_more Before After r h cs more c is keep (inl none) (inr (inl same)) sure = inl (keep none)

@@ -10,17 +10,17 @@ use Rattle.pid_moderation.specs.History.{History}
 use Rattle.pid_tables_rows.specs.Clauses as clauses
 use Rattle.pid_tables_rows.specs.declared.fault.TableFault.TheVariants as faults
 use Rattle.pid_service.specs.declared.registry.Registry.{Registry}
-use Rattle.pid_service.specs.Histories.{Shows, IsFault, OverHistory}
+use Rattle.pid_service.specs.Histories.{Shows, IsMemoryOrStore, OverHistory}
 use Rattle.pid_service.specs.Registries.{OnlyReads, connection, is_live}
 
 -- a live registry fails with `Memory` and `Store` alone, one that has failed with `Failed` alone
 pub record MayGive (live : Bool) (e : Refusal) : Type 0 where
-  pub alive : live ≡ true → IsFault e
+  pub alive : live ≡ true → IsMemoryOrStore e
   pub failed : live ≡ false → e ≡ Failed
 
 -- there is no such submission; or memory ran out, or the store failed
 abbrev pub IsMissing : {X : Type 0} → Option X → Refusal → Type 0
-IsMissing found e = ((e ≡ NoSubmission) × (found ≡ None)) ⊎ IsFault e
+IsMissing found e = ((e ≡ NoSubmission) × (found ≡ None)) ⊎ IsMemoryOrStore e
 
 module _ {S : Type 0} (store : Ghosts S) where
   -- the history that was shown is shown still, and the answer is by it
@@ -47,7 +47,7 @@ module _ {S : Type 0} (store : Ghosts S) where
     pub fault : IfErr result (MayGive (is_live old))
     pub lives : is_live new ≡ is_live old
     pub rests : OnlyReads store old new
-    pub told : TellsHistory old new result Says (λ h e. IsFault e)
+    pub told : TellsHistory old new result Says (λ h e. IsMemoryOrStore e)
     pub caused : OverHistory store old new (λ h. IfErr result (λ e. FaultIsCaused old new e))
 
   -- A question for something that may not be there; then the answer is `NoSubmission`.

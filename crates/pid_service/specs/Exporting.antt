@@ -6,7 +6,7 @@ use Rattle.pid_file.specs.declared.io.Output as outputs
 use Rattle.pid_file.specs.declared.io.WriteFault.{WriteFault}
 use Rattle.pid_ident.specs.Sending.{SendsFront}
 use Rattle.pid_service.specs.Exports.{TakesWholeLines}
-use Rattle.pid_tables.specs.Faults.{IsFault}
+use Rattle.pid_tables.specs.Faults.{IsMemoryOrStore}
 use Rattle.pid_moderation.specs.declared.refusal.Refusal.{Refusal}
 use Rattle.pid_moderation.specs.declared.refusal.Refusal.TheVariants.{Failed}
 use Rattle.pid_moderation.specs.History.{History}
@@ -26,7 +26,7 @@ abbrev pub ExportsTree : {X : Type 0} → Result X ExportFault → Option (List 
     → History → Type 0
 ExportsTree (Ok x) old new h = Appends old new (print (tree_of h))
 ExportsTree (Err (Write fault)) old new h = SendsFront old new (print (tree_of h))
-ExportsTree (Err (Refused e)) old new h = IsFault e × TakesWholeLines old new (items_of h)
+ExportsTree (Err (Refused e)) old new h = IsMemoryOrStore e × TakesWholeLines old new (items_of h)
 
 -- An export of a registry to a writer, whose trait says what it took and which fault it keeps.
 pub record IsExported {S W : Type 0} (store : Ghosts S) (writer : outputs.Ghosts W)

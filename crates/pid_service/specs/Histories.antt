@@ -1,7 +1,7 @@
 -- Histories that commands lead to, and registries that show them: choices of this project.
 use Rattle.std.specs.Prelude.{◌≡◌, ℕ, List, true, false}
 use Rattle.sqlite_trees.specs.declared.store.Store.{Ghosts}
-pub use Rattle.pid_tables.specs.Faults.{IsFault}
+pub use Rattle.pid_tables.specs.Faults.{IsMemoryOrStore}
 use Rattle.pid_moderation.specs.History.{Asked, Begins, History}
 use Rattle.pid_moderation.specs.Judgement.{after_all}
 use Rattle.pid_moderation.specs.Revisions.{IsMarked}

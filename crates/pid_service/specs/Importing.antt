@@ -15,7 +15,7 @@ use Rattle.pid_tables.specs.Files.{file_reading}
 use Rattle.pid_service.specs.declared.importing.ImportEnd.{ImportEnd}
 use Rattle.pid_service.specs.declared.importing.ImportEnd.TheVariants.{Refused, Body}
 use Rattle.pid_service.specs.declared.registry.Registry.{Registry}
-use Rattle.pid_service.specs.Histories.{IsFault, OverHistory, Shows}
+use Rattle.pid_service.specs.Histories.{IsMemoryOrStore, OverHistory, Shows}
 use Rattle.pid_service.specs.KeptViews.{kept_by, nothing}
 use Rattle.pid_service.specs.Obeying.{Lasts, Obeys}
 use Rattle.pid_service.specs.Registries.{HasCleanDisk, is_live}
@@ -58,7 +58,7 @@ leaves_live (Err Body) = true
 
 -- memory ran out, or the store failed
 abbrev pub IsEndFault : ImportEnd → Type 0
-IsEndFault (Refused e) = IsFault e
+IsEndFault (Refused e) = IsMemoryOrStore e
 IsEndFault Body = ⊥
 
 -- what a registry that has failed answers, unless the input failed

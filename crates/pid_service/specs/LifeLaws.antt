@@ -22,7 +22,7 @@ use Rattle.pid_tables_rows.specs.Shows.{ShowsIn}
 use Rattle.pid_tables_rows.specs.declared.version.Version.TheVariants.{One}
 use Rattle.pid_tables.specs.declared.migration.Step.{Step}
 use Rattle.pid_tables.specs.Clauses.{IsOpened, ShowsOrBlank}
-use Rattle.pid_tables.specs.Creation.{IsBare}
+use Rattle.pid_tables.specs.Creation.{ListsNoTable}
 use Rattle.pid_service.specs.declared.importing.ImportEnd.{ImportEnd}
 use Rattle.pid_service.specs.declared.registry.Registry.{Registry}
 use Rattle.pid_service.specs.declared.running.RunReport.{RunReport}
@@ -66,7 +66,7 @@ module _ {S : Type 0} (store : Ghosts S) where
   -- What a connection shows before the first opening, and the registry that is opened there.
   pub record FirstOpenings : Type 0 where
     -- a database without tables has what the history of a new registry shows
-    pub bare : (conn : Held S) → IsOpened store conn → IsBare (clauses.seen store conn).trees
+    pub bare : (conn : Held S) → IsOpened store conn → ListsNoTable (clauses.seen store conn).trees
         → ShowsOrBlank store conn new_history
     pub new : IsReached new_history
     -- one that was just opened on tables has the history that they show

@@ -14,7 +14,7 @@ use Rattle.pid_moderation.specs.Views.{items_of, views_of}
 use Rattle.pid_tables.specs.Files.{asks}
 use Rattle.pid_service.specs.declared.registry.Registry.{Registry}
 use Rattle.pid_service.specs.Asking.{FaultIsCaused}
-use Rattle.pid_service.specs.Histories.{IsFault, OverHistory, Shows, showing}
+use Rattle.pid_service.specs.Histories.{IsMemoryOrStore, OverHistory, Shows, showing}
 use Rattle.pid_service.specs.KeptViews.{kept_by, nothing}
 use Rattle.pid_service.specs.Registries.{HasCleanDisk, is_live}
 
@@ -53,7 +53,7 @@ module _ {S : Type 0} (store : Ghosts S) where
     -- an outcome leaves it live
     pub stays : is_live old ≡ true → is_outcome result ≡ true → is_live new ≡ true
     -- and if it has failed since, memory ran out or its store failed
-    pub fails : is_live old ≡ true → is_live new ≡ false → IsErrAnd result IsFault
+    pub fails : is_live old ≡ true → is_live new ≡ false → IsErrAnd result IsMemoryOrStore
 
   -- A command was obeyed.
   pub record IsObeyed (old new : Registry S store) (command : Command)

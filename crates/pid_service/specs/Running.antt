@@ -15,7 +15,7 @@ use Rattle.pid_tables.specs.Files.{asks}
 use Rattle.pid_service.specs.declared.registry.Registry.{Registry}
 use Rattle.pid_service.specs.declared.running.RunReport.{RunReport}
 use Rattle.pid_service.specs.Asking.{MayGive}
-use Rattle.pid_service.specs.Histories.{Shows, FailsBetween, IsFault, OverHistory}
+use Rattle.pid_service.specs.Histories.{Shows, FailsBetween, IsMemoryOrStore, OverHistory}
 use Rattle.pid_service.specs.KeptViews.{kept_by, nothing}
 use Rattle.pid_service.specs.Obeying.{Forgets}
 use Rattle.pid_service.specs.Registries.{HasCleanDisk, is_live}
@@ -37,7 +37,7 @@ module _ {S : Type 0} (store : Ghosts S) where
   EndsRun None [] r h = Shows store r h
   EndsRun None (c ∷ rest) r h = ⊥
   EndsRun (Some e) [] r h = ⊥
-  EndsRun (Some e) (c ∷ rest) r h = IsFault e
+  EndsRun (Some e) (c ∷ rest) r h = IsMemoryOrStore e
       × (Shows store r h ⊎ FailsBetween store r h (after h c))
 
   -- the replies are the answers to the first commands, so many, and the registry shows the history
@@ -81,6 +81,6 @@ module _ {S : Type 0} (store : Ghosts S) where
     -- Whatever its disk does: without a fault a live registry stays live, one that has failed since
     -- ran out of memory, or its store failed,
     pub stays : is_live old ≡ true → report.fault ≡ None → is_live new ≡ true
-    pub fails : is_live old ≡ true → is_live new ≡ false → IsSomeAnd report.fault IsFault
+    pub fails : is_live old ≡ true → is_live new ≡ false → IsSomeAnd report.fault IsMemoryOrStore
     -- and no live one replies that it had failed.
     pub alive : is_live old ≡ true → AllByRecursion ReplyIsNotFailed report.replies.items

@@ -2,6 +2,7 @@
 pub mod Exporting
 pub mod Exports
 pub mod Importing
+pub mod ItemTexts
 pub mod Judging
 pub mod TextSinks
 pub mod Obeying

@@ -1,7 +1,7 @@
 //! An import, whose file comes as an input or as bytes.
 ghost use Rattle.std.specs.Prelude.{◌≡◌, ◌≢◌, Bool, [], false, Err, IfErr};
 ghost use Rattle.pid_moderation.specs.BeforeFile.{import_of};
-ghost use Rattle.pid_service.specs.Histories.{IsFault};
+ghost use Rattle.pid_service.specs.Histories.{IsMemoryOrStore};
 ghost use Rattle.pid_service.specs.Importing.{
   AnswersFailed,
   EndIsNotFailed,
@@ -102,8 +102,8 @@ fn plain(end: Result<Reply, ImportEnd>) -> Result<Reply, Refusal>
 
 // What stops the transaction of an import: out of memory, or the store.
 fn stopping(refusal: Refusal) -> Refusal
-    ensures fault { IsFault result }
-    ensures same { IsFault refusal → result ≡ refusal }
+    ensures fault { IsMemoryOrStore result }
+    ensures same { IsMemoryOrStore refusal → result ≡ refusal }
 {
     match refusal {
         Refusal::Memory => Refusal::Memory,

@@ -1,7 +1,7 @@
 //! The canonical text of all items in memory, if it is short enough, and how many bytes it has.
 ghost use Rattle.std.specs.Prelude.{◌≡◌, ◌∷◌, [], false, length, Err, IfSome, Some};
 ghost use Rattle.pid_service.specs.Steps.TextSinks.{Lengthens, block_behind, text_in};
-ghost use Rattle.pid_service.specs.ItemTexts.{IsTextOf};
+ghost use Rattle.pid_service.specs.Steps.ItemTexts.{IsKeptText};
 ghost use Rattle.pid_ident.specs.PathTexts.{path_text};
 ghost use Rattle.pid_moderation.specs.Views.{Views};
 ghost use Rattle.pid_tables_rows.specs.Causes.{IsReadable};
@@ -177,7 +177,7 @@ pub(crate) fn items_text<S: Alter + Drop>(
     requires settled { tables.old.conn.in_transaction ≡ false }
     requires first { IfSome first (λ text. text.taken.items ≡ ended (header ∷ [])) }
     ensures { Reads S.Store tables.old.conn tables.new.conn result
-        (λ v found. IsReadable v → IsTextOf found.bytes found.text v.items) }
+        (λ v found. IsReadable v → IsKeptText found.bytes found.text v.items) }
 {
     let mut sink = TextSink {
         bytes: HEADER,

@@ -5,7 +5,7 @@ ghost use Rattle.pid_moderation.specs.History.{History};
 ghost use Rattle.pid_moderation.specs.Items.{name_at};
 ghost use Rattle.pid_moderation.specs.Views.{items_of};
 ghost use Rattle.pid_service.specs.Asking.{FaultIsCaused};
-ghost use Rattle.pid_service.specs.Histories.{IsFault, OverHistory, Shows};
+ghost use Rattle.pid_service.specs.Histories.{IsMemoryOrStore, OverHistory, Shows};
 ghost use Rattle.pid_service.specs.Registries.{HasCleanDisk, OnlyReads, is_live as lives};
 
 use crate::laws;
@@ -25,7 +25,7 @@ impl<S: Alter + Drop> Registry<S> {
         ensures shown { (h : History) → Shows S.Store self.old h → Shows S.Store self.new h }
         ensures found { OverHistory S.Store self.old self.new (λ h. IfSome result
             (λ r. IfOk r (λ name. name ≡ name_at (path_text path.now) (items_of h)))) }
-        ensures fault { IfSome result (λ r. IfErr r IsFault) }
+        ensures fault { IfSome result (λ r. IfErr r IsMemoryOrStore) }
         ensures caused { IfSome result
             (λ r. IfErr r (FaultIsCaused S.Store self.old self.new)) }
     {
@@ -44,7 +44,7 @@ impl<S: Alter + Drop> Registry<S> {
         ensures shown { (h : History) → Shows S.Store self.old h → Shows S.Store self.new h }
         ensures found { OverHistory S.Store self.old self.new
             (λ h. IfOk result (λ name. name ≡ name_at (path_text path.now) (items_of h))) }
-        ensures fault { IfErr result IsFault }
+        ensures fault { IfErr result IsMemoryOrStore }
         ensures caused { OverHistory S.Store self.old self.new
             (λ h. IfErr result (FaultIsCaused S.Store self.old self.new)) }
     {

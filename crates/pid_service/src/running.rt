@@ -14,7 +14,7 @@ ghost use Rattle.std.specs.Prelude.{
 };
 ghost use Rattle.std.specs.List.{AllByRecursion};
 ghost use Rattle.pid_tables.specs.Files.{asks};
-ghost use Rattle.pid_service.specs.Histories.{IsFault, OverHistory};
+ghost use Rattle.pid_service.specs.Histories.{IsMemoryOrStore, OverHistory};
 ghost use Rattle.pid_service.specs.Registries.{HasCleanDisk, is_live as lives};
 ghost use Rattle.pid_service.specs.Running.{ReplyIsNotFailed, ForgetsRun, IsRun, Runs};
 ghost use Rattle.pid_service.specs.Steps.Running.{CountsReplies, fault_in};
@@ -35,7 +35,7 @@ pub struct RunReport {
 
 fn fault_of(outcome: Result<Reply, Refusal>) -> Option<Refusal>
     ensures told { result ≡ fault_in outcome }
-    ensures fault { IfSome result IsFault }
+    ensures fault { IfSome result IsMemoryOrStore }
 {
     match outcome {
         Err(Refusal::Memory) => Some(Refusal::Memory),
@@ -55,14 +55,14 @@ impl<S: Alter + Drop> Registry<S> {
         requires len { vec_len replies ≡ 0 }
         requires room { length commands.now ≤ vec_capacity replies }
         ensures clean { HasCleanDisk S.Store self.new → HasCleanDisk S.Store self.old }
-        ensures fault { IfSome result.fault IsFault }
+        ensures fault { IfSome result.fault IsMemoryOrStore }
         ensures counts { CountsReplies result commands.now }
         ensures ran { OverHistory S.Store self.old self.new
             (λ h. Runs S.Store result self.new h (map asks commands.now)) }
         ensures forgets { OverHistory S.Store self.old self.new
             (λ h. ForgetsRun S.Store result self.new h (map asks commands.now)) }
         ensures held { lives self.old ≡ true
-            → (lives self.new ≡ true) ⊎ IsSomeAnd result.fault IsFault }
+            → (lives self.new ≡ true) ⊎ IsSomeAnd result.fault IsMemoryOrStore }
         ensures alive { lives self.old ≡ true
             → AllByRecursion ReplyIsNotFailed result.replies.items }
     {

@@ -16,7 +16,7 @@ use Rattle.pid_tables.specs.Judging.{IsOpen}
 use Rattle.pid_service.specs.declared.importing.ImportEnd.{ImportEnd}
 use Rattle.pid_service.specs.declared.importing.ImportEnd.TheVariants.{Refused, Body}
 use Rattle.pid_service.specs.declared.registry.Registry.{Registry}
-use Rattle.pid_service.specs.Histories.{IsFault, IsReached, OverHistory, Shows}
+use Rattle.pid_service.specs.Histories.{IsMemoryOrStore, IsReached, OverHistory, Shows}
 use Rattle.pid_service.specs.Importing.{ObeysImport}
 use Rattle.pid_service.specs.KeptViews.{kept_by, nothing}
 use Rattle.pid_service.specs.Registries.{HasCleanDisk}
@@ -25,7 +25,7 @@ use Rattle.pid_service.specs.Registries.{HasCleanDisk}
 -- or the store failed.
 abbrev pub EndStaysLive : Result Reply ImportEnd → (before after : Bool) → Type 0
 EndStaysLive (Ok reply) before after = after ≡ before
-EndStaysLive (Err (Refused e)) before after = (e ≢ Failed) × (IsFault e ⊎ (after ≡ before))
+EndStaysLive (Err (Refused e)) before after = (e ≢ Failed) × (IsMemoryOrStore e ⊎ (after ≡ before))
 EndStaysLive (Err Body) before after = after ≡ before
 
 -- the answer that was known before, unless the text is too long or the input failed
@@ -44,7 +44,7 @@ IsPlain (Err Body) result = result ≡ Err Store
 -- the history is left, or memory ran out or the store or the input failed
 abbrev pub EndSpares : Result Reply ImportEnd → History → Asked → Type 0
 EndSpares (Ok reply) h c = after h c ≡ h
-EndSpares (Err (Refused e)) h c = (after h c ≡ h) ⊎ IsFault e
+EndSpares (Err (Refused e)) h c = (after h c ≡ h) ⊎ IsMemoryOrStore e
 EndSpares (Err Body) h c = Unit {0}
 
 module _ {S : Type 0} (store : Ghosts S) where

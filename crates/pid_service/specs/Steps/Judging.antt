@@ -12,7 +12,7 @@ use Rattle.pid_tables_rows.specs.Clauses.{AtRest, HasCleanDisk}
 use Rattle.pid_service.specs.declared.judging.Judged.{Judged}
 use Rattle.pid_service.specs.declared.judging.Judged.TheVariants.{Kept, Accepted}
 use Rattle.pid_service.specs.Asking.{IsCausedAs}
-use Rattle.pid_service.specs.Histories.{IsFault, IsReached}
+use Rattle.pid_service.specs.Histories.{IsMemoryOrStore, IsReached}
 
 -- A reply that was kept changes nothing. An accepted command has a change, which leads from what
 -- the history shows to what it shows with the command. A refusal is that of the judgement and
@@ -21,7 +21,7 @@ abbrev pub JudgesCommand : History → Asked → Result Judged Refusal → Type 
 JudgesCommand h c (Ok (Kept reply)) = (answer (judge (views_of h) c) ≡ Ok reply) × (after h c ≡ h)
 JudgesCommand h c (Ok (Accepted change reply)) = (answer (judge (views_of h) c) ≡ Ok reply)
     × (views_of (after h c) ≡ changed change (views_of h)) × FitsViews change (views_of h)
-JudgesCommand h c (Err e) = ((answer (judge (views_of h) c) ≡ Err e) × (after h c ≡ h)) ⊎ IsFault e
+JudgesCommand h c (Err e) = ((answer (judge (views_of h) c) ≡ Err e) × (after h c ≡ h)) ⊎ IsMemoryOrStore e
 
 module _ {S : Type 0} (store : Ghosts S) where
   -- while the disk returns what was written, this holds of the history that the tables showed, and

@@ -10,7 +10,7 @@ use Rattle.pid_moderation.specs.Judgement.{after}
 use Rattle.pid_moderation.specs.Views.{items_of}
 use Rattle.pid_service.specs.declared.judging.Judged.TheVariants.{Accepted}
 use Rattle.pid_service.specs.declared.registry.Registry.{Registry}
-use Rattle.pid_service.specs.Histories.{IsFault, IsReached, Shows}
+use Rattle.pid_service.specs.Histories.{IsMemoryOrStore, IsReached, Shows}
 use Rattle.pid_service.specs.KeptViews.{kept_by, nothing}
 use Rattle.pid_service.specs.Registries.{is_live}
 use Rattle.pid_service.specs.Steps.Judging.{JudgesCommand}
@@ -19,13 +19,13 @@ use Rattle.pid_service.specs.Steps.Judging.{JudgesCommand}
 -- or the store failed.
 abbrev pub StaysLive : {X : Type 0} → Result X Refusal → (before after : Bool) → Type 0
 StaysLive result before after = MatchResult result (λ _. after ≡ before)
-    (λ e. (e ≢ Failed) × (IsFault e ⊎ (after ≡ before)))
+    (λ e. (e ≢ Failed) × (IsMemoryOrStore e ⊎ (after ≡ before)))
 
 -- no name is kept in memory, or the items are left, or memory ran out or the store failed
 abbrev pub SparesNames : {S : Type 0} {store : Ghosts S} → Result Reply Refusal → Registry S store
     → History → Asked → Type 0
 SparesNames result r h c = (kept_by r ≡ nothing)
-    ⊎ ((items_of (after h c) ≡ items_of h) ⊎ IsErrAnd result IsFault)
+    ⊎ ((items_of (after h c) ≡ items_of h) ⊎ IsErrAnd result IsMemoryOrStore)
 
 module _ {S : Type 0} (store : Ghosts S) where
   -- the registry shows a history, over which this change is to be written for the command
@@ -38,4 +38,4 @@ module _ {S : Type 0} (store : Ghosts S) where
   -- the reply was answered, and the registry is as live as before; or it has failed
   abbrev pub LivesOrFails : Result Reply Refusal → Registry S store → Registry S store → Type 0
   LivesOrFails result old new = MatchResult result (λ _. is_live new ≡ is_live old)
-      (λ e. IsFault e × (is_live new ≡ false))
+      (λ e. IsMemoryOrStore e × (is_live new ≡ false))
