@@ -14,7 +14,7 @@ use Rattle.pid_moderation.specs.History.{History}
 use Rattle.pid_moderation.specs.Judgement.{after_all}
 use Rattle.pid_moderation.specs.ReplyLines.{refused_line}
 use Rattle.pid_moderation.specs.Writes.{tree_of}
-use Rattle.pid_moderation.specs.Faults.{IsFault}
+use Rattle.pid_moderation.specs.Faults.{IsMemoryOrStore}
 use Rattle.pid_service_laws.specs.Calls.{nothing_sent}
 use Rattle.pid_service_laws.specs.Registries.{Does}
 use Rattle.pid_file.specs.declared.path.Path.{Path}
@@ -138,15 +138,15 @@ look_up_facts m found h r flags size args told failed (inl s) = by found (told s
     by : (f : Result Answer (LookupRefusal Refusal)) → LooksUp f (tree_of h) flags args size → IfOk f (λ a. (is_bad flags ≡ false) × (a ≡ answer_of (tree_of h) flags args size)) × (IsErrOf f look_ups.BadFlags → is_bad flags ≡ true) × ((e : Refusal) → IsErrOf f (look_ups.Names e) → is_stop e ≡ true)
     by (Ok a) t = (t, (λ is. absurd cc), (λ e is. absurd cc))
     by (Err look_ups.BadFlags) t = (tt, (λ is. t), (λ e is. absurd cc))
-    by (Err (look_ups.Names g)) t = (tt, (λ is. absurd cc), (λ e is. let same : g ≡ e = cc in faults_stop e (subst IsFault same t)))
+    by (Err (look_ups.Names g)) t = (tt, (λ is. absurd cc), (λ e is. let same : g ≡ e = cc in faults_stop e (subst IsMemoryOrStore same t)))
     by (Err look_ups.Memory) t = (tt, (λ is. absurd cc), (λ e is. absurd cc))
 look_up_facts m found h r flags size args told failed (inr f) = subst (λ g. IfOk g (λ a. (is_bad flags ≡ false) × (a ≡ answer_of (tree_of h) flags args size)) × (IsErrOf g look_ups.BadFlags → is_bad flags ≡ true) × ((e : Refusal) → IsErrOf g (look_ups.Names e) → is_stop e ≡ true)) (sym (failed f))
     (tt, (λ is. absurd cc), (λ e is. let same : Failed ≡ e = cc in ap is_stop (sym same)))
 
-faults_named : (found : Result Answer (LookupRefusal Refusal)) (tree : TreeMap) (flags size : ℕ) (args : Args) → LooksUp found tree flags args size → (e : Refusal) → found ≡ Err (look_ups.Names e) → IsFault e
+faults_named : (found : Result Answer (LookupRefusal Refusal)) (tree : TreeMap) (flags size : ℕ) (args : Args) → LooksUp found tree flags args size → (e : Refusal) → found ≡ Err (look_ups.Names e) → IsMemoryOrStore e
 faults_named (Ok a) tree flags size args t e is = absurd cc
 faults_named (Err look_ups.BadFlags) tree flags size args t e is = absurd cc
-faults_named (Err (look_ups.Names g)) tree flags size args t e is = let same : g ≡ e = cc in subst IsFault same t
+faults_named (Err (look_ups.Names g)) tree flags size args t e is = let same : g ≡ e = cc in subst IsMemoryOrStore same t
 faults_named (Err look_ups.Memory) tree flags size args t e is = absurd cc
 
 pub looked_for : {R : Type 0} (m : Ghosts R) (result : Result (Unit {0}) LineEnd) (found : Result Answer (LookupRefusal Refusal)) (form : List ℕ) (l : ℕ × Args × ℕ) (h : History) (r new : R) (old left : Out)
@@ -174,18 +174,18 @@ no_look_up m e form h r old left told fits =
     asked m (Err e) (lines.AsksLookUp form) h r r old left (Some Memory) refl (λ e. cc) (same m r h) (own_cause m r h (lines.AsksLookUp form)) tt tt (λ is. fits (cc is)) (send_still m.showing r) (told (line_reply (lines.AsksLookUp form) h))
 
 -- the name of a path was asked
-name_facts : {R X : Type 0} (m : Ghosts R) (answer : Result X Refusal) (h : History) (r : R) (P : X → Type 0) → (m.showing.shows r h → MatchResult answer P IsFault) → (m.has_failed r → answer ≡ Err Failed) → ShowsOrHasFailed m r h → IfOk answer P × IfErr answer (λ e. is_stop e ≡ true)
-name_facts m answer h r P told failed (inl s) = (if_ok answer P IsFault (told s), err_stops answer (λ e is. faults_stop e (if_err answer P IsFault (told s) e is)))
+name_facts : {R X : Type 0} (m : Ghosts R) (answer : Result X Refusal) (h : History) (r : R) (P : X → Type 0) → (m.showing.shows r h → MatchResult answer P IsMemoryOrStore) → (m.has_failed r → answer ≡ Err Failed) → ShowsOrHasFailed m r h → IfOk answer P × IfErr answer (λ e. is_stop e ≡ true)
+name_facts m answer h r P told failed (inl s) = (if_ok answer P IsMemoryOrStore (told s), err_stops answer (λ e is. faults_stop e (if_err answer P IsMemoryOrStore (told s) e is)))
 name_facts m answer h r P told failed (inr f) = subst (λ a. IfOk a P × IfErr a (λ e. is_stop e ≡ true)) (sym (failed f)) (tt, refl)
 
 pub named : {R X : Type 0} (m : Ghosts R) (result : Result (Unit {0}) LineEnd) (answer : Result X Refusal) (form : List ℕ) (path : Path) (h : History) (r new : R) (old left : Out) (P : X → Type 0)
-    → path_asked form ≡ Ok path → (m.showing.shows r h → MatchResult answer P IsFault) → (m.showing.shows r h → m.showing.shows new h) → (m.has_failed r → (answer ≡ Err Failed) × (new ≡ r))
+    → path_asked form ≡ Ok path → (m.showing.shows r h → MatchResult answer P IsMemoryOrStore) → (m.showing.shows r h → m.showing.shows new h) → (m.has_failed r → (answer ≡ Err Failed) × (new ≡ r))
     → (IfOk answer P → IfErr answer (λ e. is_stop e ≡ true) → TellsLine result (name_line (name_at (path_text path) (items_of h))) (IsGivenStop (refusal_given answer)) old left)
     → GoesOnAfter result (refusal_given answer) → (result ≡ Err TooLong → ⊥) → Does m.showing r nothing_sent new → ShowsOrHasFailed m r h → AnswersLine m result (lines.AsksName form) h r old new left
 named m result answer form path h r new old left P is told kept failed sends goes fits does stands =
     let facts = name_facts m answer h r P told (λ f. (failed f).0) stands in
     asked m result (lines.AsksName form) h r new old left (refusal_given answer) refl (λ e. cc) (record { shows = kept; failed = λ f. (failed f).1 })
-    (fault_cause m answer r h (lines.AsksName form) (ap is_ok is) (λ s. if_err answer P IsFault (told s)) (λ f. (failed f).0))
+    (fault_cause m answer r h (lines.AsksName form) (ap is_ok is) (λ s. if_err answer P IsMemoryOrStore (told s)) (λ f. (failed f).0))
     (always result (m.has_failed r → (is_call (lines.AsksName form) ≡ false) ⊎ (refusal_given answer ≡ Some Failed)) (λ f. inr (ap refusal_given (failed f).0)))
     goes fits (send_none m.showing r new does)
     (subst (λ a. TellsLine result (name_reply a h) (IsGivenStop (refusal_given answer)) old left) (sym is) (sends facts.0 facts.1))

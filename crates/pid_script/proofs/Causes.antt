@@ -17,7 +17,7 @@ use Rattle.pid_ident.specs.PathReading.{path_of}
 use Rattle.pid_form.specs.FormFields.{fields_in}
 use Rattle.pid_moderation.specs.History.{History}
 use Rattle.pid_moderation.specs.Writes.{tree_of}
-use Rattle.pid_moderation.specs.Faults.{IsFault}
+use Rattle.pid_moderation.specs.Faults.{IsMemoryOrStore}
 use Rattle.pid_script.specs.declared.line_end.LineEnd.{LineEnd}
 use Rattle.pid_script.specs.declared.line_end.LineEnd.TheVariants.{Stopped, WriteFault, TooLong}
 use Rattle.pid_script.specs.declared.moderated.Moderated.{Ghosts}
@@ -54,7 +54,7 @@ none_begun lines.Unclear h b none = none
 none_begun lines.TooLong h b none = none
 
 -- a fault is a stop
-pub faults_stop : (e : Refusal) → IsFault e → is_stop e ≡ true
+pub faults_stop : (e : Refusal) → IsMemoryOrStore e → is_stop e ≡ true
 faults_stop e (inl m) = ap is_stop m
 faults_stop e (inr s) = ap is_stop s
 
@@ -62,9 +62,9 @@ faults_stop e (inr s) = ap is_stop s
 pub no_memory : (e : Refusal) → is_stop e ≡ false → e ≢ Memory
 no_memory e h m = true≢false (sym (ap is_stop m) ∙ h)
 
-pub fault_in : (answer : Result Reply Refusal) (e : Refusal) → IsErrAnd answer IsFault → answer ≡ Err e → IsFault e
+pub fault_in : (answer : Result Reply Refusal) (e : Refusal) → IsErrAnd answer IsMemoryOrStore → answer ≡ Err e → IsMemoryOrStore e
 fault_in (Ok reply) e f is = absurd f
-fault_in (Err g) e f is = let same : g ≡ e = cc in subst IsFault same f
+fault_in (Err g) e f is = let same : g ≡ e = cc in subst IsMemoryOrStore same f
 
 pub err_in : {X : Type 0} (answer : Result X Refusal) (e : Refusal) → refusal_given answer ≡ Some e → answer ≡ Err e
 err_in (Ok x) e is = absurd cc
@@ -133,7 +133,7 @@ unfolding path_asked
 path_no_stop form g is = refused_no_stop (first_failing (path_checks (fields_in form))) (path_of (text_at (codes "path") (fields_in form))) (none_stops (path_checks (fields_in form)) (refl, (refl, tt))) g is
 
 -- the causes of what a question is answered
-pub fault_cause : {R X : Type 0} (m : Ghosts R) (answer : Result X Refusal) (r : R) (h : History) (ask : Ask) → is_call ask ≡ true → (m.showing.shows r h → (e : Refusal) → answer ≡ Err e → IsFault e) → (m.has_failed r → answer ≡ Err Failed) → (e : Refusal) → IsGivenRefusal (refusal_given answer) e → StoppedBy m r h ask e
+pub fault_cause : {R X : Type 0} (m : Ghosts R) (answer : Result X Refusal) (r : R) (h : History) (ask : Ask) → is_call ask ≡ true → (m.showing.shows r h → (e : Refusal) → answer ≡ Err e → IsMemoryOrStore e) → (m.has_failed r → answer ≡ Err Failed) → (e : Refusal) → IsGivenRefusal (refusal_given answer) e → StoppedBy m r h ask e
 fault_cause m answer r h ask called live failed e given = record { stops = given.1; live = λ s. live s e (err_in answer e given.0); failed = λ f. inl (let same : Err e ≡ Err Failed = sym (err_in answer e given.0) ∙ failed f in cc); unasked = λ off. absurd (true≢false (sym called ∙ off)) }
 
 names_in : (found : Result Answer (LookupRefusal Refusal)) (e : Refusal) → refusal_of_names found ≡ Some e → (e ≡ Memory) ⊎ (found ≡ Err (look_ups.Names e))
@@ -142,7 +142,7 @@ names_in (Err look_ups.BadFlags) e is = absurd cc
 names_in (Err (look_ups.Names f)) e is = inr (let same : f ≡ e = cc in ap (λ g. Err (look_ups.Names g)) same)
 names_in (Err look_ups.Memory) e is = inl (let same : Memory ≡ e = cc in sym same)
 
-pub names_cause : {R : Type 0} (m : Ghosts R) (found : Result Answer (LookupRefusal Refusal)) (r : R) (h : History) (ask : Ask) → is_call ask ≡ true → (m.showing.shows r h → (e : Refusal) → found ≡ Err (look_ups.Names e) → IsFault e) → (m.has_failed r → found ≡ Err (look_ups.Names Failed)) → (e : Refusal) → IsGivenRefusal (refusal_of_names found) e → StoppedBy m r h ask e
+pub names_cause : {R : Type 0} (m : Ghosts R) (found : Result Answer (LookupRefusal Refusal)) (r : R) (h : History) (ask : Ask) → is_call ask ≡ true → (m.showing.shows r h → (e : Refusal) → found ≡ Err (look_ups.Names e) → IsMemoryOrStore e) → (m.has_failed r → found ≡ Err (look_ups.Names Failed)) → (e : Refusal) → IsGivenRefusal (refusal_of_names found) e → StoppedBy m r h ask e
 names_cause m found r h ask called live failed e given = by (names_in found e given.0)
   where
     by : (e ≡ Memory) ⊎ (found ≡ Err (look_ups.Names e)) → StoppedBy m r h ask e

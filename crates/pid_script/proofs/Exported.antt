@@ -13,7 +13,7 @@ use Rattle.pid_moderation.specs.ReplyLines.{refused_line}
 use Rattle.pid_moderation.specs.Writes.{tree_of}
 use Rattle.pid_service.specs.declared.exporting.ExportFault.{ExportFault}
 use Rattle.pid_service.specs.declared.exporting.ExportFault.TheVariants.{Refused, Write}
-use Rattle.pid_moderation.specs.Faults.{IsFault}
+use Rattle.pid_moderation.specs.Faults.{IsMemoryOrStore}
 use Rattle.pid_service_laws.specs.Calls.{nothing_sent}
 use Rattle.pid_service_laws.specs.Registries.{Does}
 use Rattle.pid_script.specs.declared.line_end.LineEnd.{LineEnd}
@@ -67,7 +67,7 @@ export_broken m h r new a b c was left went told kept failed does stands = recor
 pub write_told : (f : ExportFault) (w : OutputFault) (a b : Option (List ℕ)) (text : List ℕ) → f ≡ Write w → ExportsText {X = Unit {0}} (Err f) a b text → SendsFront a b text
 write_told f w a b text is told = subst (λ g. ExportsText {X = Unit {0}} (Err g) a b text) is told
 
-pub refused_told : (f : ExportFault) (e : Refusal) (a b : Option (List ℕ)) (text : List ℕ) → f ≡ Refused e → ExportsText {X = Unit {0}} (Err f) a b text → IsFault e × TakesWholeFront a b text
+pub refused_told : (f : ExportFault) (e : Refusal) (a b : Option (List ℕ)) (text : List ℕ) → f ≡ Refused e → ExportsText {X = Unit {0}} (Err f) a b text → IsMemoryOrStore e × TakesWholeFront a b text
 refused_told f e a b text is told = subst (λ g. ExportsText {X = Unit {0}} (Err g) a b text) is told
 
 fault_of : {X : Type 0} → Result X ExportFault → ExportFault → ExportFault
@@ -132,7 +132,7 @@ behind_begun m (Err WriteFault) e h r new a b c d was now left went none begun c
 behind_begun m (Err TooLong) e h r new a b c d was now left went none begun cause stop kept failed t goes fits does = absurd (fits refl)
 
 pub export_refused : {R : Type 0} (m : Ghosts R) (result : Result (Unit {0}) LineEnd) (e : Refusal) (h : History) (r new : R) (a b c d : Option (List ℕ)) (was now left : List ℕ)
-    → Appends a b was → now ≡ [] → (m.showing.shows r h → IsFault e × TakesWholeFront b c (print (tree_of h))) → (m.has_failed r → (e ≡ Failed) × (new ≡ r) × (c ≡ b)) → (m.showing.shows r h → m.showing.shows new h) → ShowsOrHasFailed m r h
+    → Appends a b was → now ≡ [] → (m.showing.shows r h → IsMemoryOrStore e × TakesWholeFront b c (print (tree_of h))) → (m.has_failed r → (e ≡ Failed) × (new ≡ r) × (c ≡ b)) → (m.showing.shows r h → m.showing.shows new h) → ShowsOrHasFailed m r h
     → ((reply : List ℕ) → IsReplyOrStop reply (Err e) → TellsLine result reply (IsGivenStop (Some e)) (out c now) (out d left)) → GoesOnAfter result (Some e) → (result ≡ Err TooLong → ⊥) → Does m.showing r nothing_sent new
     → AnswersLine m result lines.AsksExport h r (out a was) new (out d left)
 export_refused m result e h r new a b c d was now left went none told failed kept stands sends goes fits does =
@@ -147,4 +147,4 @@ export_refused m result e h r new a b c d was now left went none told failed kep
     stops (inr f) = ap is_stop (failed f).0
 
     cause : (f : Refusal) → IsGivenRefusal (Some e) f → StoppedBy m r h lines.AsksExport f
-    cause f given = record { stops = given.1; live = λ s. (let same : e ≡ f = cc given.0 in subst IsFault same (told s).0); failed = λ g. inl (let same : e ≡ f = cc given.0 in sym same ∙ (failed g).0); unasked = λ off. absurd (true≢false off) }
+    cause f given = record { stops = given.1; live = λ s. (let same : e ≡ f = cc given.0 in subst IsMemoryOrStore same (told s).0); failed = λ g. inl (let same : e ≡ f = cc given.0 in sym same ∙ (failed g).0); unasked = λ off. absurd (true≢false off) }

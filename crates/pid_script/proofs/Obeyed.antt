@@ -13,7 +13,7 @@ use Rattle.pid_moderation.specs.Judgement as judgement
 use Rattle.pid_moderation.specs.ReplyLines.{outcome_line}
 use Rattle.pid_moderation.specs.Views.{views_of}
 use Rattle.pid_service.specs.Files.{asks}
-use Rattle.pid_moderation.specs.Faults.{IsFault}
+use Rattle.pid_moderation.specs.Faults.{IsMemoryOrStore}
 use Rattle.pid_service_laws.specs.Calls as lives
 use Rattle.pid_service_laws.specs.Outcomes.{is_outcome}
 use Rattle.pid_service_laws.specs.Registries.{CommandLeaves, Does}
@@ -38,7 +38,7 @@ obey_cause : {R : Type 0} (m : Ghosts R) (answer : Result Reply Refusal) (c : Co
     → (e : Refusal) → IsGivenRefusal (refusal_given answer) e → StoppedBy m r h ask e
 obey_cause m answer c ask h r new called obeys failed e given = record { stops = given.1; live = λ s. by (obeys s); failed = λ f. inl (let same : Err e ≡ Err Failed = sym (err_in answer e given.0) ∙ failed f in cc); unasked = λ off. absurd (true≢false (sym called ∙ off)) }
   where
-    by : CommandLeaves m.showing answer new h (asks c) → IsFault e
+    by : CommandLeaves m.showing answer new h (asks c) → IsMemoryOrStore e
     by (inl judged) = absurd (true≢false (sym given.1 ∙ judged_no_stop (views_of h) (asks c) e (sym judged.0 ∙ err_in answer e given.0)))
     by (inr fault) = fault_in answer e fault.0 (err_in answer e given.0)
 

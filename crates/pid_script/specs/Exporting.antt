@@ -4,7 +4,7 @@ use Rattle.std.specs.Io.KnownBytes.{Appends}
 use Rattle.pid_ident.specs.Sending.{SendsFront}
 use Rattle.pid_service.specs.declared.exporting.ExportFault.{ExportFault}
 use Rattle.pid_service.specs.declared.exporting.ExportFault.TheVariants.{Refused, Write}
-use Rattle.pid_moderation.specs.Faults.{IsFault}
+use Rattle.pid_moderation.specs.Faults.{IsMemoryOrStore}
 use Rattle.pid_script.specs.WholeFronts.{IsWholeFront}
 
 -- whole lines of the text went out
@@ -19,4 +19,4 @@ abbrev pub ExportsText : {X : Type 0} → Result X ExportFault → Option (List 
     → List ℕ → Type 0
 ExportsText (Ok x) old new text = Appends old new text
 ExportsText (Err (Write fault)) old new text = SendsFront old new text
-ExportsText (Err (Refused refusal)) old new text = IsFault refusal × TakesWholeFront old new text
+ExportsText (Err (Refused refusal)) old new text = IsMemoryOrStore refusal × TakesWholeFront old new text

@@ -8,7 +8,7 @@ use Rattle.pid_lookup.specs.declared.answering.LookupRefusal.TheVariants.{BadFla
 use Rattle.pid_lookup.specs.Answers.{answer_of}
 use Rattle.pid_lookup.specs.Flags.{is_bad}
 use Rattle.pid_moderation.specs.declared.refusal.Refusal.{Refusal}
-use Rattle.pid_moderation.specs.Faults.{IsFault}
+use Rattle.pid_moderation.specs.Faults.{IsMemoryOrStore}
 
 -- the answer over the tree, if the flags are not bad; that they are bad; or out of memory or a
 -- fault of the store
@@ -16,5 +16,5 @@ abbrev pub LooksUp : Result Answer (LookupRefusal Refusal) → TreeMap → ℕ �
 LooksUp (Ok answer) tree flags args size = (is_bad flags ≡ false)
     × (answer ≡ answer_of tree flags args size)
 LooksUp (Err BadFlags) tree flags args size = is_bad flags ≡ true
-LooksUp (Err (Names refusal)) tree flags args size = IsFault refusal
+LooksUp (Err (Names refusal)) tree flags args size = IsMemoryOrStore refusal
 LooksUp (Err Memory) tree flags args size = Unit {0}

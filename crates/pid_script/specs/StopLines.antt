@@ -7,7 +7,7 @@ use Rattle.pid_moderation.specs.History.{History}
 use Rattle.pid_moderation.specs.ReplyLines.{refused_line}
 use Rattle.pid_moderation.specs.Writes.{tree_of}
 use Rattle.pid_script.specs.declared.moderated.Moderated.{Ghosts}
-use Rattle.pid_moderation.specs.Faults.{IsFault}
+use Rattle.pid_moderation.specs.Faults.{IsMemoryOrStore}
 use Rattle.pid_script.specs.Replies.{is_call}
 use Rattle.pid_script.specs.ScriptLines.{Ask, AsksNothing, AsksCommand, AsksExport, AsksName}
 use Rattle.pid_script.specs.ScriptLines.{AsksLookUp, Unclear, TooLong}
@@ -50,7 +50,7 @@ module _ {R : Type 0} (registry : Ghosts R) where
   -- all that stops it if the registry is not asked.
   pub record StoppedBy (r : R) (h : History) (ask : Ask) (refusal : Refusal) : Type 0 where
     pub stops : is_stop refusal ≡ true
-    pub live : registry.showing.shows r h → IsFault refusal
+    pub live : registry.showing.shows r h → IsMemoryOrStore refusal
     pub failed : registry.has_failed r → (refusal ≡ Failed) ⊎ (refusal ≡ Memory)
     pub unasked : is_call ask ≡ false → refusal ≡ Memory
 

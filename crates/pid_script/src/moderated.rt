@@ -8,7 +8,7 @@ ghost use Rattle.pid_moderation.specs.Items.{name_at};
 ghost use Rattle.pid_moderation.specs.Views.{items_of};
 ghost use Rattle.pid_moderation.specs.Writes.{tree_of};
 ghost use Rattle.pid_moderation.specs.declared.refusal.Refusal.TheVariants.{Failed};
-ghost use Rattle.pid_moderation.specs.Faults.{IsFault};
+ghost use Rattle.pid_moderation.specs.Faults.{IsMemoryOrStore};
 ghost use Rattle.pid_service_laws.specs.Calls.{nothing_sent, obeyed};
 ghost use Rattle.pid_service_laws.specs.Registries.{CommandLeaves, Does, Showing};
 ghost use Rattle.pid_service.specs.Files.{asks};
@@ -54,7 +54,7 @@ pub trait Moderated {
             → showing.shows self.new h }
         ensures told { showing.is_clean self.new → (h : History) → showing.shows self.old h
             → MatchResult result (λ name. name
-            ≡ name_at (path_text path.now) (items_of h)) IsFault }
+            ≡ name_at (path_text path.now) (items_of h)) IsMemoryOrStore }
         ensures failed { has_failed self.old → (result ≡ Err Failed) × (self.new ≡ self.old) };
 
     /// The text for flags and arguments, for a buffer of `size` bytes.
