@@ -11,7 +11,7 @@ use Rattle.pid_moderation.specs.declared.command.Reply.{Reply as Outcome}
 use Rattle.pid_moderation.specs.declared.refusal.Refusal.{Refusal}
 use Rattle.pid_moderation.specs.declared.refusal.Refusal.TheVariants as refusals
 use Rattle.pid_service.specs.Asking.{Answers}
-use Rattle.pid_service.specs.Histories.{IsFault, Shows, FailsBetween}
+use Rattle.pid_service.specs.Histories.{IsMemoryOrStore, Shows, FailsBetween}
 use Rattle.pid_service.specs.Lives.{showing}
 use Rattle.pid_service.specs.Obeying as service_obeys
 use Rattle.pid_service.specs.Registries.{HasCleanDisk, is_live}
@@ -177,7 +177,7 @@ module _ {S : Type 0} (store : Ghosts S) where
   down old new result Says a k off known = let f = a.failed off in (f.0, subst (λ r. IsKnownOf store r k) (sym f.1) known)
 
   over_history : {X : Type 0} (result : Result X Refusal) (Says : History → X → Type 0) (format : Format) (found : X → Answer) (errand : Errand) (calls : List Call) → AreNothing calls → IsQuestion format found Says errand
-      → (h : History) → MatchResult result (Says h) IsFault → IsMetOver h errand (answer_or format found result) calls (Live h)
+      → (h : History) → MatchResult result (Says h) IsMemoryOrStore → IsMetOver h errand (answer_or format found result) calls (Live h)
   over_history (Ok x) Says format found errand calls nothing q h told = AnsweredOver (q.over h x told) (calls_over h errand calls q.no_command nothing) (same_history h errand q.no_command)
   over_history (Err e) Says format found errand calls nothing q h fault = NotDone e fault (q.refused e) (undone errand e calls q.no_command nothing) refl
 

@@ -10,7 +10,7 @@ use Rattle.pid_moderation.specs.Judgement.{after, after_all, answer, judge}
 use Rattle.pid_moderation.specs.Views.{Views, views_of}
 use Rattle.pid_moderation.specs.declared.command.Reply.{Reply as Outcome}
 use Rattle.pid_moderation.specs.declared.refusal.Refusal.{Refusal}
-use Rattle.pid_service.specs.Histories.{IsFault}
+use Rattle.pid_service.specs.Histories.{IsMemoryOrStore}
 use Rattle.pid_http_stream.specs.Conducts.{AreReplies}
 use Rattle.pid_http_stream.specs.Replies.{Answer}
 use Rattle.pid_http_stream.specs.Requests.{Request}
@@ -93,20 +93,20 @@ over outcomes h None calls k nothing is = quiet h [] calls k nothing is
 over outcomes h (Some c) calls k by is =
     live_so h (c ∷ []) (c ∷ []) calls k (ap (λ (l : List Call). commands_in (sent_in l)) by ∙ one_sent c (answer (judge (views_of h) c)) true (outcomes (views_of h) c)) (inr ([], refl, refl)) is
 
-fault_sends : (c : Asked) (refusal : Refusal) (live : Bool) → IsFault refusal → commands_in (sent_in (obeyed c (Err refusal) live ∷ [])) ≡ []
+fault_sends : (c : Asked) (refusal : Refusal) (live : Bool) → IsMemoryOrStore refusal → commands_in (sent_in (obeyed c (Err refusal) live ∷ [])) ≡ []
 fault_sends c refusal live (inl e) = ap (λ (r : Refusal). commands_in (sent_in (obeyed c (Err r) live ∷ []))) e
 fault_sends c refusal live (inr e) = ap (λ (r : Refusal). commands_in (sent_in (obeyed c (Err r) live ∷ []))) e
 
-fault_stops : (c : Asked) (refusal : Refusal) → IsFault refusal → StopsAt c (obeyed c (Err refusal) false ∷ [])
+fault_stops : (c : Asked) (refusal : Refusal) → IsMemoryOrStore refusal → StopsAt c (obeyed c (Err refusal) false ∷ [])
 fault_stops c refusal (inl e) = subst (λ (r : Refusal). StopsAt c (obeyed c (Err r) false ∷ [])) (sym e) (inl (refl, tt))
 fault_stops c refusal (inr e) = subst (λ (r : Refusal). StopsAt c (obeyed c (Err r) false ∷ [])) (sym e) (inl (refl, tt))
 
-not_done : (h : History) (o : Option Asked) (refusal : Refusal) (calls : List Call) (k : Known) → IsFault refusal → AreUndone o refusal calls → k ≡ Live h → SendsSome h (if_any o) calls k
+not_done : (h : History) (o : Option Asked) (refusal : Refusal) (calls : List Call) (k : Known) → IsMemoryOrStore refusal → AreUndone o refusal calls → k ≡ Live h → SendsSome h (if_any o) calls k
 not_done h None refusal calls k fault nothing is = quiet h [] calls k nothing is
 not_done h (Some c) refusal calls k fault by is =
     live_so h (c ∷ []) [] calls k (ap (λ (l : List Call). commands_in (sent_in l)) by ∙ fault_sends c refusal true fault) (none_of (c ∷ [])) is
 
-in_doubt : (h : History) (c : Asked) (refusal : Refusal) (calls : List Call) (k : Known) → IsFault refusal → calls ≡ obeyed c (Err refusal) false ∷ [] → k ≡ Between h (after h c) → SendsSome h (if_any (Some c)) calls k
+in_doubt : (h : History) (c : Asked) (refusal : Refusal) (calls : List Call) (k : Known) → IsMemoryOrStore refusal → calls ≡ obeyed c (Err refusal) false ∷ [] → k ≡ Between h (after h c) → SendsSome h (if_any (Some c)) calls k
 in_doubt h c refusal calls k fault by is =
     stopped_so h (c ∷ []) [] c calls k (ap (λ (l : List Call). commands_in (sent_in l)) by ∙ fault_sends c refusal false fault) (subst (StopsAt c) (sym by) (fault_stops c refusal fault)) (inr ([], refl, refl)) is
 

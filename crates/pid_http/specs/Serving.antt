@@ -9,7 +9,7 @@ use Rattle.pid_moderation.specs.Judgement.{after, answer, judge}
 use Rattle.pid_moderation.specs.Views.{views_of}
 use Rattle.pid_moderation.specs.Writes.{tree_of}
 use Rattle.pid_moderation.specs.declared.refusal.Refusal.{Refusal}
-use Rattle.pid_service.specs.Histories.{IsFault}
+use Rattle.pid_service.specs.Histories.{IsMemoryOrStore}
 use Rattle.pid_tree.specs.Printing.{print}
 use Rattle.pid_http_stream.specs.Conducts.{Conduct}
 use Rattle.pid_http_stream.specs.Replies.{Answer}
@@ -44,11 +44,11 @@ pub data IsMetOver (h : History) (errand : Errand) (given : Answer) (calls : Lis
   NotAsked : LacksForm errand given → AreNothing calls → k ≡ Live h
       → IsMetOver h errand given calls k
   -- memory or the store failed, and nothing was done
-  NotDone : (fault : Refusal) → IsFault fault → IsErrandRefused errand fault given
+  NotDone : (fault : Refusal) → IsMemoryOrStore fault → IsErrandRefused errand fault given
       → AreUndone (command_sent errand) fault calls → k ≡ Live h → IsMetOver h errand given calls k
   -- They failed while a command was written, at which the calls then stopped: the registry has
   -- failed between the history and the one after the command.
-  InDoubt : (fault : Refusal) (command : Asked) → IsFault fault → IsErrandRefused errand fault given
+  InDoubt : (fault : Refusal) (command : Asked) → IsMemoryOrStore fault → IsErrandRefused errand fault given
       → command_sent errand ≡ Some command → calls ≡ obeyed command (Err fault) false ∷ []
       → k ≡ Between h (after h command) → IsMetOver h errand given calls k
 

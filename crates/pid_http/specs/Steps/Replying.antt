@@ -15,7 +15,7 @@ use Rattle.pid_moderation.specs.declared.command.Reply.{Reply as Outcome}
 use Rattle.pid_moderation.specs.declared.lists.Item.{Item}
 use Rattle.pid_moderation.specs.declared.refusal.Refusal.{Refusal}
 use Rattle.pid_moderation.specs.declared.refusal.Refusal.TheVariants as refusals
-use Rattle.pid_service.specs.Histories.{IsFault}
+use Rattle.pid_service.specs.Histories.{IsMemoryOrStore}
 use Rattle.pid_service.specs.declared.registry.Registry.{Registry}
 use Rattle.pid_http_stream.specs.BodyLengths.{longest_body}
 use Rattle.pid_http_stream.specs.HeadParts.{IsHeadOf}
@@ -57,7 +57,7 @@ abbrev pub IsCommandMet : Asked → Known → Result Outcome Refusal → List Ca
 IsCommandMet c (Live h) result calls k =
     ((result ≡ answer (judge (views_of h) c)) × (calls ≡ obeyed c result true ∷ [])
     × (k ≡ Live (after h c)))
-    ⊎ (IsErrAnd result IsFault × (((calls ≡ obeyed c result true ∷ []) × (k ≡ Live h))
+    ⊎ (IsErrAnd result IsMemoryOrStore × (((calls ≡ obeyed c result true ∷ []) × (k ≡ Live h))
     ⊎ ((calls ≡ obeyed c result false ∷ []) × (k ≡ Between h (after h c)))))
 IsCommandMet c (Between before behind) result calls k = (result ≡ Err refusals.Failed)
     × AreNothing calls × (k ≡ Between before behind)
