@@ -27,8 +27,8 @@ OLD = (
 OLD = OLD.split()
 SOURCES = ("crates/*/src/**/*.rt", "crates/*/specs/**/*.antt")
 WIDEST_SOURCE = 120
-# Sources are older than this rule: so many of their lines are wider, and none is to be added.
-WIDER_SOURCES = 50
+# `rt fmt` keeps an attribute on one line.
+ATTRIBUTE = "#["
 
 # Help is a part of these.
 HELP = ("crates/pid_cli_words/src/commands.rt", "crates/pid_cli_first/src/pages.rt")
@@ -56,9 +56,11 @@ def text_of(name):
         return file.read()
 
 
-def wide_lines(names, widest):
+def wide_lines(names, widest, but=None):
+    """The lines that are too wide, but those that begin so."""
     return [f"{name}:{number}" for name in names
-            for number, line in enumerate(text_of(name).splitlines(), 1) if len(line) > widest]
+            for number, line in enumerate(text_of(name).splitlines(), 1)
+            if len(line) > widest and not (but and line.lstrip().startswith(but))]
 
 
 def scripts():
@@ -102,8 +104,8 @@ def test_columns(cases):
 
 
 def test_columns_of_sources(cases):
-    wide = wide_lines(files(*SOURCES), WIDEST_SOURCE)
-    cases.equal("lines that are too wide", wide if len(wide) > WIDER_SOURCES else [], [])
+    cases.equal("lines that are too wide", wide_lines(files(*SOURCES), WIDEST_SOURCE, ATTRIBUTE),
+                [])
 
 
 def test_words(cases):
