@@ -8,7 +8,7 @@ use Rattle.pid_moderation.specs.declared.refusal.Refusal.{Refusal}
 use Rattle.pid_moderation.specs.ReplyLines.{outcome_line}
 use Rattle.pid_script.specs.declared.line_end.LineEnd.{LineEnd}
 use Rattle.pid_script.specs.declared.line_end.LineEnd.TheVariants.{Stopped, WriteFault}
-use Rattle.pid_script.specs.Steps.Saying.{Out, HasSaid, SaysFront, IsReplyOrStop, IsGivenRefusal, IsGivenStop, IsNothing, TellsLine, refusal_given}
+use Rattle.pid_script.specs.Steps.Output.{Out, HasSaid, SaysFront, IsReplyOrStop, IsGivenRefusal, IsGivenStop, IsNothing, TellsLine, refusal_given}
 use Rattle.pid_script.specs.StopLines.{is_stop, IsStopText}
 use Rattle.pid_script.proofs.SayLemmas.{all_out}
 

@@ -12,7 +12,7 @@ use Rattle.pid_script.specs.declared.line_end.LineEnd.TheVariants.{Stopped, Writ
 use Rattle.pid_script.specs.declared.moderated.Moderated.{Ghosts}
 use Rattle.pid_script.specs.Calling.{CallsSend, CallsSendEither}
 use Rattle.pid_script.specs.Replies.{line_reply, command_of, commands_of_lines, history_after, replies}
-use Rattle.pid_script.specs.Steps.Saying.{Out, out, HasSaid, AnswersLine}
+use Rattle.pid_script.specs.Steps.Output.{Out, out, HasSaid, AnswersLine}
 use Rattle.pid_script.specs.ScriptLines.{Ask, ask_of}
 use Rattle.pid_script.specs.Standing.{ShowsOrHasFailed, Becomes, BecomesEither, StopsBehind}
 use Rattle.pid_script.specs.StopLines.{IsBegun, StoppedBy, IsStopText}

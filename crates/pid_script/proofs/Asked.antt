@@ -29,7 +29,7 @@ use Rattle.pid_lookup.specs.Fields.{as_look_up as look_up_told}
 use Rattle.pid_script.specs.LookingUp.{LooksUp}
 use Rattle.pid_script.specs.Calling.{CallsSend}
 use Rattle.pid_script.specs.Replies.{line_reply, command_of, name_reply, name_line, is_call, looked_up, answer_line, BAD_FLAGS}
-use Rattle.pid_script.specs.Steps.Saying.{Out, IsGivenRefusal, IsGivenStop, IsNothing, TellsLine, IsReplyOrStop, refusal_given, refusal_of_names, GoesOnAfter, LeavesAfter, SendsFor, AnswersLine}
+use Rattle.pid_script.specs.Steps.Output.{Out, IsGivenRefusal, IsGivenStop, IsNothing, TellsLine, IsReplyOrStop, refusal_given, refusal_of_names, GoesOnAfter, LeavesAfter, SendsFor, AnswersLine}
 use Rattle.pid_script.specs.ScriptLines as lines
 use Rattle.pid_script.specs.ScriptLines.{Ask}
 use Rattle.pid_script.specs.Standing.{ShowsOrHasFailed, Becomes}

@@ -23,7 +23,7 @@ use Rattle.pid_script.specs.declared.line_end.LineEnd.TheVariants.{Stopped, Writ
 use Rattle.pid_script.specs.declared.moderated.Moderated.{Ghosts}
 use Rattle.pid_script.specs.Asking.{command_in_form, path_asked, other_fields, refused_or, path_checks}
 use Rattle.pid_script.specs.Replies.{is_call}
-use Rattle.pid_script.specs.Steps.Saying.{Out, IsGivenRefusal, IsNothing, TellsLine, refusal_given, refusal_of_names, GoesOnAfter}
+use Rattle.pid_script.specs.Steps.Output.{Out, IsGivenRefusal, IsNothing, TellsLine, refusal_given, refusal_of_names, GoesOnAfter}
 use Rattle.pid_script.specs.ScriptLines as lines
 use Rattle.pid_script.specs.ScriptLines.{Ask}
 use Rattle.pid_script.specs.StopLines.{is_stop, IsBegun, StoppedBy, IsStopText}

@@ -20,7 +20,7 @@ use Rattle.pid_script.specs.declared.line_end.LineEnd.{LineEnd}
 use Rattle.pid_script.specs.declared.line_end.LineEnd.TheVariants.{Stopped, WriteFault, TooLong}
 use Rattle.pid_script.specs.declared.moderated.Moderated.{Ghosts}
 use Rattle.pid_script.specs.Exporting.{ExportsText, TakesWholeFront}
-use Rattle.pid_script.specs.Steps.Saying.{out, IsGivenRefusal, IsGivenStop, IsNothing, TellsLine, IsReplyOrStop, GoesOnAfter, AnswersLine}
+use Rattle.pid_script.specs.Steps.Output.{out, IsGivenRefusal, IsGivenStop, IsNothing, TellsLine, IsReplyOrStop, GoesOnAfter, AnswersLine}
 use Rattle.pid_script.specs.ScriptLines as lines
 use Rattle.pid_script.specs.Standing.{ShowsOrHasFailed}
 use Rattle.pid_script.specs.StopLines.{is_stop, StoppedBy, IsStopText}

@@ -23,7 +23,7 @@ use Rattle.pid_script.specs.declared.moderated.Moderated.{Ghosts}
 use Rattle.pid_script.specs.Asking.{command_in_form}
 use Rattle.pid_script.specs.Calling.{CallsSend, CallsSendEither}
 use Rattle.pid_script.specs.Replies.{those_sent, outcome_of, is_call}
-use Rattle.pid_script.specs.Steps.Saying.{Out, IsGivenRefusal, IsGivenStop, IsNothing, TellsLine, IsReplyOrStop, refusal_given, GoesOnAfter, LeavesAfter, SendsFor, AnswersLine}
+use Rattle.pid_script.specs.Steps.Output.{Out, IsGivenRefusal, IsGivenStop, IsNothing, TellsLine, IsReplyOrStop, refusal_given, GoesOnAfter, LeavesAfter, SendsFor, AnswersLine}
 use Rattle.pid_script.specs.ScriptLines as lines
 use Rattle.pid_script.specs.ScriptLines.{Ask}
 use Rattle.pid_script.specs.Standing.{ShowsOrHasFailed, FailsAt}

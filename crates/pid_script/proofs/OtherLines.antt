@@ -12,7 +12,7 @@ use Rattle.pid_script.specs.declared.line_end.LineEnd.{LineEnd}
 use Rattle.pid_script.specs.declared.line_end.LineEnd.TheVariants.{Stopped, WriteFault, TooLong}
 use Rattle.pid_script.specs.declared.moderated.Moderated.{Ghosts}
 use Rattle.pid_script.specs.Replies.{line_reply}
-use Rattle.pid_script.specs.Steps.Saying.{Out, out, IsGivenRefusal, IsGivenStop, IsNothing, TellsLine, IsUnfit, Unfit, AnswersLine}
+use Rattle.pid_script.specs.Steps.Output.{Out, out, IsGivenRefusal, IsGivenStop, IsNothing, TellsLine, IsUnfit, Unfit, AnswersLine}
 use Rattle.pid_script.specs.ScriptLines as lines
 use Rattle.pid_script.specs.ScriptLines.{Ask, LONGEST, ask_of}
 use Rattle.pid_script.specs.StopLines.{IsBegun, StoppedBy, IsStopText}

@@ -11,7 +11,7 @@ use Rattle.pid_file.proofs.Cuts.{whole_line, open_behind, whole_same, open_longe
 use Rattle.pid_script.specs.declared.line_end.LineEnd.{LineEnd}
 use Rattle.pid_script.specs.declared.line_end.LineEnd.TheVariants.{WriteFault}
 use Rattle.pid_script.specs.declared.moderated.Moderated.{Ghosts}
-use Rattle.pid_script.specs.Steps.Saying.{Out, out, Unfit, AnswersLine}
+use Rattle.pid_script.specs.Steps.Output.{Out, out, Unfit, AnswersLine}
 use Rattle.pid_script.specs.ScriptLines.{ask_of}
 use Rattle.pid_script.specs.Standing.{ShowsOrHasFailed}
 use Rattle.pid_script.specs.Steps.Progress.{Answered, HasAnswered, Ended, EndsText}

@@ -10,7 +10,7 @@ use Rattle.pid_script.specs.declared.line_end.LineEnd.TheVariants as line_ends
 use Rattle.pid_script.specs.declared.moderated.Moderated.{Ghosts}
 use Rattle.pid_script.specs.declared.script_end.ScriptEnd.TheVariants.{TurnsSpent}
 use Rattle.pid_script.specs.Steps.Progress.{HasAnswered, Ended, EndsText, script_end}
-use Rattle.pid_script.specs.Steps.Saying.{Out, out}
+use Rattle.pid_script.specs.Steps.Output.{Out, out}
 use Rattle.pid_script.specs.Scripts.{passage, IsCutOff, IsScript, BUFFER_ROOM, TakesAtMost}
 use Rattle.pid_script.specs.Standing.{ShowsOrHasFailed}
 use Rattle.pid_script.proofs.Answered.{answers_out}

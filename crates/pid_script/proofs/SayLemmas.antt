@@ -8,7 +8,7 @@ use Rattle.pid_ident.specs.Sending.{SendsFront}
 use Rattle.pid_moderation.specs.declared.refusal.Refusal.{Refusal}
 use Rattle.pid_script.specs.declared.line_end.LineEnd.{LineEnd}
 use Rattle.pid_script.specs.declared.line_end.LineEnd.TheVariants.{Stopped, WriteFault, TooLong}
-use Rattle.pid_script.specs.Steps.Saying.{Out, out, HasSaid, SaysFront, TellsLine, IsGivenStop}
+use Rattle.pid_script.specs.Steps.Output.{Out, out, HasSaid, SaysFront, TellsLine, IsGivenStop}
 
 pub Appends-nil : (a : Option (List ℕ)) → Appends a a []
 Appends-nil None = tt

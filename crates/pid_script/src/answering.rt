@@ -4,7 +4,7 @@ ghost use Rattle.pid_moderation.specs.History.{History};
 ghost use Rattle.pid_script.specs.ScriptLines as asks;
 ghost use Rattle.pid_script.specs.ScriptLines.{ask_of};
 ghost use Rattle.pid_script.specs.Calling.{CallsGo};
-ghost use Rattle.pid_script.specs.Steps.Saying.{out, AnswersLine};
+ghost use Rattle.pid_script.specs.Steps.Output.{out, AnswersLine};
 ghost use Rattle.pid_service_laws.specs.CallLaws.{StaysClean};
 ghost use Rattle.pid_script.specs.Standing.{OverStanding};
 
@@ -13,10 +13,10 @@ use crate::line::{LineAsk, line_asks};
 use crate::line_end::LineEnd;
 use crate::look_up::read_look_up;
 use crate::moderated::Moderated;
+use crate::output::flush;
 use crate::reply::{
     refuse_long, send_answer, send_bad_text, send_found, send_name, stop_for_memory,
 };
-use crate::saying::flush;
 use pid_ident::Output;
 use pid_moderation::Verb;
 use pid_service::ExportFault;

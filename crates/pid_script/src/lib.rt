@@ -8,9 +8,9 @@ mod line;
 mod line_end;
 mod look_up;
 mod moderated;
+mod output;
 mod registry;
 mod reply;
-mod saying;
 mod script;
 mod script_end;
 

@@ -26,7 +26,7 @@ ghost use Rattle.pid_ident.specs.Sending.{SendsFront};
 ghost use Rattle.pid_moderation.specs.declared.refusal.Refusal.TheVariants as refusals;
 ghost use Rattle.pid_lookup.specs.Flags.{is_bad};
 ghost use Rattle.pid_script.specs.StopLines.{is_stop as is_stopping};
-ghost use Rattle.pid_script.specs.Steps.Saying.{
+ghost use Rattle.pid_script.specs.Steps.Output.{
   out,
   TellsLine,
   SaysText,
@@ -39,7 +39,7 @@ ghost use Rattle.pid_script.specs.Steps.Saying.{
 ghost use Rattle.pid_script.specs.Replies.{name_line, answer_line, BAD_FLAGS};
 
 use crate::line_end::LineEnd;
-use crate::saying::{flush, say, say_all};
+use crate::output::{flush, say, say_all};
 use pid_ident::{Name, Output};
 use pid_lookup::{Answer, LookupRefusal, Unanswered};
 use pid_moderation::{Refusal, Reply, write_reply_line};

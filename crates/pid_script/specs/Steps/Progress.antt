@@ -12,7 +12,7 @@ use Rattle.pid_script.specs.declared.script_end.ScriptEnd.TheVariants.{Done, Wri
 use Rattle.pid_script.specs.declared.script_end.ScriptEnd.TheVariants.{Stopped}
 use Rattle.pid_script.specs.Calling.{CallsSend}
 use Rattle.pid_script.specs.Replies.{replies, commands_of_lines, history_after}
-use Rattle.pid_script.specs.Steps.Saying.{Out}
+use Rattle.pid_script.specs.Steps.Output.{Out}
 use Rattle.pid_script.specs.Scripts.{NoneTooLong, NoneCalls, passage, AnswersLines, StopsAtLine}
 use Rattle.pid_script.specs.Scripts.{EndsTooLong, FailsToWrite}
 use Rattle.pid_script.specs.Standing.{Becomes}

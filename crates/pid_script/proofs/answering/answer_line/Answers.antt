@@ -1,5 +1,5 @@
 use Rattle.std.proofs.Common.{Ok, Err, subst}
-use Rattle.pid_script.specs.Steps.Saying.{out, AnswersLine}
+use Rattle.pid_script.specs.Steps.Output.{out, AnswersLine}
 use Rattle.pid_script.proofs.OtherLines.{unclear, long, idle}
 use Rattle.pid_script.proofs.Calling.{go_still}
 use Rattle.pid_script.proofs.answering.answer_line.Goals as goal

@@ -1,7 +1,7 @@
 use Rattle.std.proofs.Common.{ap, ◌∙◌}
 use Rattle.std.specs.Option.{option_map}
 use Rattle.pid_lookup.specs.Fields.{as_look_up as look_up_told}
-use Rattle.pid_script.specs.Steps.Saying.{out}
+use Rattle.pid_script.specs.Steps.Output.{out}
 use Rattle.pid_script.proofs.Asked.{looked_for, bad_look_up, no_look_up}
 use Rattle.pid_service_laws.specs.Calls.{nothing_sent}
 use Rattle.pid_script.proofs.Calling.{go_one, go_still}

@@ -2,7 +2,7 @@ use Rattle.std.proofs.Common.{ap}
 use Rattle.std.specs.Prelude.{is_ok}
 use Rattle.pid_script.specs.Asking.{command_in_form}
 use Rattle.pid_script.specs.Replies.{those_sent, outcome_of}
-use Rattle.pid_script.specs.Steps.Saying.{out}
+use Rattle.pid_script.specs.Steps.Output.{out}
 use Rattle.pid_script.specs.ScriptLines as lines
 use Rattle.pid_script.proofs.Obeyed.{obeyed}
 use Rattle.pid_script.proofs.Asked.{form_refused}

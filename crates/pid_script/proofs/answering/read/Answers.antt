@@ -5,7 +5,7 @@ use Rattle.pid_moderation.specs.Items.{name_at}
 use Rattle.pid_moderation.specs.Views.{items_of}
 use Rattle.pid_script.specs.Asking.{path_asked}
 use Rattle.pid_script.specs.Replies.{name_reply}
-use Rattle.pid_script.specs.Steps.Saying.{out}
+use Rattle.pid_script.specs.Steps.Output.{out}
 use Rattle.pid_script.specs.ScriptLines as lines
 use Rattle.pid_script.proofs.Asked.{form_refused, named}
 use Rattle.pid_script.proofs.Causes.{path_no_stop}

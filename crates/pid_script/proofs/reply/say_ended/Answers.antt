@@ -1,5 +1,5 @@
 use Rattle.std.proofs.Common.{[], ◌∷◌}
-use Rattle.pid_script.specs.Steps.Saying.{out}
+use Rattle.pid_script.specs.Steps.Output.{out}
 use Rattle.pid_script.proofs.SayLemmas.{said_more, front_within}
 use Rattle.pid_script.proofs.reply.say_ended.Goals as goal
 

@@ -1,5 +1,5 @@
 use Rattle.std.proofs.Common.{[], ◌∷◌, ◌++◌, Err, List, ℕ, sym, subst, append_assoc}
-use Rattle.pid_script.specs.Steps.Saying.{out, TellsLine, IsGivenStop}
+use Rattle.pid_script.specs.Steps.Output.{out, TellsLine, IsGivenStop}
 use Rattle.pid_script.proofs.SayLemmas.{tells_said, said_more, front_within}
 use Rattle.pid_script.proofs.reply.say_line.Goals as goal
 

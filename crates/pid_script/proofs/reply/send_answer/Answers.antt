@@ -1,4 +1,4 @@
-use Rattle.pid_script.specs.Steps.Saying.{out}
+use Rattle.pid_script.specs.Steps.Output.{out}
 use Rattle.pid_script.proofs.AnswerLines.{told_broken, told_stopped, told_whole}
 use Rattle.pid_script.proofs.reply.send_answer.Goals as goal
 

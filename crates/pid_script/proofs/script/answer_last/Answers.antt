@@ -1,7 +1,7 @@
 use Rattle.std.proofs.Common.{◌≡◌, ◌<◌, length, ap, subst, arith}
 use Rattle.std.proofs.lemmas.Bool.Decides.{nat_tests}
 use Rattle.std.proofs.lemmas.List.{nil_from_length}
-use Rattle.pid_script.specs.Steps.Saying.{out, AnswersLine}
+use Rattle.pid_script.specs.Steps.Output.{out, AnswersLine}
 use Rattle.pid_script.specs.ScriptLines.{ask_of}
 use Rattle.pid_script.proofs.Pieces.{at_end, at_last, stop_last}
 use Rattle.pid_script.proofs.Calling.{go_still}

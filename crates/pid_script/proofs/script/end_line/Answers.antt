@@ -2,7 +2,7 @@ use Rattle.std.proofs.Common.{◌≡◌, ℕ, List, [], ◌++◌, sym, ap, ◌�
 use Rattle.std.proofs.lemmas.Bool.Decides.{nat_tests}
 use Rattle.std.proofs.lemmas.List.{nil_from_length}
 use Rattle.pid_reader.specs.Lines.{drop_cr}
-use Rattle.pid_script.specs.Steps.Saying.{out, AnswersLine}
+use Rattle.pid_script.specs.Steps.Output.{out, AnswersLine}
 use Rattle.pid_script.specs.ScriptLines.{ask_of}
 use Rattle.pid_script.proofs.OtherLines.{unfit_here}
 use Rattle.pid_script.proofs.Calling.{go_still}

@@ -1,4 +1,4 @@
-use Rattle.pid_script.specs.Steps.Saying.{out}
+use Rattle.pid_script.specs.Steps.Output.{out}
 use Rattle.pid_script.proofs.Pieces.{end_on}
 use Rattle.pid_script.proofs.script.end_text.Goals as goal
 

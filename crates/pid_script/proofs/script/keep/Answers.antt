@@ -1,5 +1,5 @@
 use Rattle.std.proofs.Common.{◌++◌, arith, length-append}
-use Rattle.pid_script.specs.Steps.Saying.{out}
+use Rattle.pid_script.specs.Steps.Output.{out}
 use Rattle.pid_script.proofs.OtherLines.{unfit_memory, unfit_long}
 use Rattle.pid_script.proofs.script.keep.Goals as goal
 

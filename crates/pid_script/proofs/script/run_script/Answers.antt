@@ -1,6 +1,6 @@
 use Rattle.std.proofs.Common.{◌≡◌, ℕ, ◌+◌, List, length, take, Err, sym, ◌∙◌, subst, arith, rules, IfSome}
 use Rattle.pid_script.specs.Steps.Progress.{HasAnswered}
-use Rattle.pid_script.specs.Steps.Saying.{out}
+use Rattle.pid_script.specs.Steps.Output.{out}
 use Rattle.pid_script.specs.Scripts.{passage, IsScript}
 use Rattle.pid_script.proofs.ReadLemmas.{none_read, read_more, one_more, cut_off, turns_over, all_read, ended, not_spent, consumed_none, piece_fits, took_more, took_none}
 use Rattle.pid_script.proofs.Calling.{go_then}

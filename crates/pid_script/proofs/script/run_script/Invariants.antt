@@ -1,5 +1,5 @@
 -- So much was read, and its whole lines were answered.
-use Rattle.pid_script.specs.Steps.Saying.{out}
+use Rattle.pid_script.specs.Steps.Output.{out}
 use Rattle.pid_script.proofs.ReadLemmas.{HasRead}
 use Rattle.pid_script.proofs.script.run_script.Given as goal
 

@@ -1,7 +1,7 @@
 use Rattle.std.proofs.Common.{◌≡◌, ◌<◌, length, ap, arith}
 use Rattle.std.proofs.lemmas.Bool.Decides.{nat_tests}
 use Rattle.std.proofs.lemmas.List.{nil_from_length}
-use Rattle.pid_script.specs.Steps.Saying.{out}
+use Rattle.pid_script.specs.Steps.Output.{out}
 use Rattle.pid_script.proofs.Pieces.{half_start, half_stop, half_more, half_whole, half_kept_on, half_unfit_on}
 use Rattle.pid_script.proofs.Calling.{go_then}
 use Rattle.pid_script.proofs.script.take_lines.Goals as goal

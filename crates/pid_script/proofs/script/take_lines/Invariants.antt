@@ -1,6 +1,6 @@
 -- The lines so far were answered, and what stands behind them is kept.
 use Rattle.std.proofs.Common.{length}
-use Rattle.pid_script.specs.Steps.Saying.{out}
+use Rattle.pid_script.specs.Steps.Output.{out}
 use Rattle.pid_script.proofs.Pieces.{IsHalfway}
 use Rattle.pid_script.proofs.script.take_lines.Given as goal
 

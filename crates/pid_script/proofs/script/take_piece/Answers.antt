@@ -1,5 +1,5 @@
 use Rattle.std.proofs.Common.{◌++◌}
-use Rattle.pid_script.specs.Steps.Saying.{out}
+use Rattle.pid_script.specs.Steps.Output.{out}
 use Rattle.pid_script.proofs.Pieces.{piece_flushed_on, piece_broken_on}
 use Rattle.pid_script.proofs.script.take_piece.Goals as goal
 

@@ -1,8 +1,8 @@
 use Rattle.std.proofs.Common.{◌≡◌, Err, subst, rules}
 use Rattle.std.specs.Io.KnownBytes.{Appends}
-use Rattle.pid_script.specs.Steps.Saying.{out}
+use Rattle.pid_script.specs.Steps.Output.{out}
 use Rattle.pid_script.proofs.SayLemmas.{tells_said, sent_behind, unsent_front}
-use Rattle.pid_script.proofs.saying.say.Goals as goal
+use Rattle.pid_script.proofs.output.say.Goals as goal
 
 pub returns-in-Err-clause-tells : goal.returns-in-Err-clause-tells
 returns-in-Err-clause-tells g c = λ given.

@@ -20,7 +20,7 @@ ghost use Rattle.std.specs.Prelude.{
 ghost use Rattle.std.specs.Io.KnownBytes.{Appends};
 ghost use Rattle.pid_ident.specs.Sending.{SendsFront};
 ghost use Rattle.pid_moderation.specs.declared.refusal.Refusal.{Refusal};
-ghost use Rattle.pid_script.specs.Steps.Saying.{out, SaysText, TellsLine, IsGivenStop};
+ghost use Rattle.pid_script.specs.Steps.Output.{out, SaysText, TellsLine, IsGivenStop};
 
 use crate::line_end::LineEnd;
 use pid_ident::{Output, write_all};

@@ -1,6 +1,6 @@
-use Rattle.pid_script.specs.Steps.Saying.{out}
+use Rattle.pid_script.specs.Steps.Output.{out}
 use Rattle.pid_script.proofs.SayLemmas.{out_front}
-use Rattle.pid_script.proofs.saying.say_all.Goals as goal
+use Rattle.pid_script.proofs.output.say_all.Goals as goal
 
 pub returns-clause-front : goal.returns-clause-front
 returns-clause-front g c =
