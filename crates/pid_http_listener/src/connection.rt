@@ -2,8 +2,8 @@
 ghost use Rattle.pid_http_listener.specs.Streams.{IsGivenMore};
 
 use crate::closing::close;
+use crate::connection_io::{Replies, Requests, send_held};
 use crate::server::StreamServer;
-use crate::sides::{Replies, Requests, send_held};
 use pid_ident::Plain;
 use std::alloc::Global;
 use std::cell::RefCell;

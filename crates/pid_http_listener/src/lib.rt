@@ -7,9 +7,9 @@
 
 mod closing;
 mod connection;
+mod connection_io;
 mod server;
 mod serving;
-mod sides;
 
 pub use server::StreamServer;
 pub use serving::{Serving, ServingEnd, serve_on};
