@@ -20,7 +20,7 @@ use Rattle.pid_http_stream.specs.Steps.Intakes.{StopsFor}
 use Rattle.pid_http_stream.specs.Steps.Loop.{AsksHandler, IsSent, WritesRefusal, IsStep, EndsSo, EndsWithin, Steps, EndsBroken, answered_so, stop_end}
 use Rattle.pid_http_stream.specs.Streams.{closes}
 use Rattle.pid_http_stream.specs.Bodies.{Turns, SpendsTurns}
-use Rattle.pid_http_stream.specs.declared.asking.Asked.TheVariants as asked
+use Rattle.pid_http_stream.specs.declared.one_request.Asked.TheVariants as asked
 use Rattle.pid_http_stream.specs.declared.body_input.BodyFault.{BodyFault}
 use Rattle.pid_http_stream.specs.declared.body_input.BodyFault.TheVariants as faults
 use Rattle.pid_http_stream.specs.declared.handler.Reply.{Reply}

@@ -8,7 +8,6 @@
 //! a reply that the handler writes itself.
 #![tactic(auto)]
 
-mod asking;
 mod body_input;
 mod body_length;
 mod connection;
@@ -21,6 +20,7 @@ mod incoming;
 mod intake;
 mod judging;
 pub mod laws;
+mod one_request;
 mod refusal;
 mod reply;
 mod reply_head;

@@ -31,13 +31,13 @@ ghost use Rattle.pid_http_stream.specs.Steps.Loop.{
   stop_end,
 };
 
-use crate::asking::{Asked, ask_over};
 use crate::body_input::BodyFault;
 use crate::handler::Handler;
 use crate::head::Head;
 use crate::incoming::Incoming;
 use crate::intake::{HeadRead, Stop, read_head};
 use crate::judging::{MOST_FIELDS, StreamFault};
+use crate::one_request::{Asked, ask_over};
 use crate::reply::write_fault;
 use crate::sending::{Sent, send};
 use httparse::spans::EMPTY_HEADER_SPAN;

@@ -21,8 +21,8 @@ use Rattle.pid_http_stream.specs.declared.body_input.BodyFault.{BodyFault}
 use Rattle.pid_http_stream.specs.declared.body_input.BodyFault.TheVariants as faults
 use Rattle.pid_http_stream.specs.declared.handler.Reply.{Reply}
 use Rattle.pid_http_stream.specs.declared.reply_head.ReplyHead.{ReplyHead}
-use Rattle.pid_http_stream.specs.declared.asking.Asked.{Asked}
-use Rattle.pid_http_stream.specs.declared.asking.Asked.TheVariants as asked
+use Rattle.pid_http_stream.specs.declared.one_request.Asked.{Asked}
+use Rattle.pid_http_stream.specs.declared.one_request.Asked.TheVariants as asked
 use Rattle.pid_http_stream.specs.declared.intake.Stop.{Stop}
 use Rattle.pid_http_stream.specs.declared.intake.Stop.TheVariants as stops
 use Rattle.pid_http_stream.specs.declared.sending.Sent.{Sent}

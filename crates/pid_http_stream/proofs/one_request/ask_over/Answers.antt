@@ -6,7 +6,7 @@ use Rattle.pid_http_stream.specs.Moments.{AllSince}
 use Rattle.pid_http_stream.specs.Steps.Loop.{AsksHandler, asked_so}
 use Rattle.pid_http_stream.proofs.Asked.{Reading, asked_is, body_waits, broken_cause}
 use Rattle.pid_http_stream.proofs.Leading.{turned}
-use Rattle.pid_http_stream.proofs.asking.ask_over.Goals as goal
+use Rattle.pid_http_stream.proofs.one_request.ask_over.Goals as goal
 
 pub returns-clause-asked : goal.returns-clause-asked
 returns-clause-asked g c =
