@@ -15,7 +15,6 @@ use crate::registry::Registry;
 use pid_ident::{Name, Path};
 use pid_moderation::{Changes, Discussion, Item, PAGE, Pending, Refusal};
 use pid_tables::refusal_of;
-use pid_tables_lists::changes_page;
 use pid_tables_rows::meta::revision;
 use sqlite::Alter;
 
@@ -97,7 +96,7 @@ impl<S: Alter + Drop> Registry<S> {
             return Err(Refusal::Failed);
         }
         laws::reached_histories_are_kept(); // proof only
-        match changes_page(&mut self.tables.conn, self.alloc, since, after) {
+        match self.tables.changes_page(self.alloc, since, after) {
             Ok(changes) => Ok(changes),
             Err(fault) => Err(refusal_of(fault)),
         }

@@ -11,5 +11,5 @@ returns-in-Err g c = record {
   rests = search rules;
   told = search rules;
   caused = λ clean h shows.
-      caused_by g.S.Store c.args.self.now.tables.conn c.changes_page.new.conn c.in-Err.fault c.refusal_of.result c.refusal_of.ensures.same (c.in-Err.ensures.page.told clean (views_of h) shows.tables (c.reached_histories_are_kept.ensures.readable h shows.history));
+      caused_by g.S.Store c.args.self.now.tables.conn c.changes_page.new.self.conn c.in-Err.fault c.refusal_of.result c.refusal_of.ensures.same (c.in-Err.ensures.told clean (views_of h) shows.tables (c.reached_histories_are_kept.ensures.readable h shows.history));
 }
