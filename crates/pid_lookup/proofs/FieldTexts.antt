@@ -4,7 +4,7 @@ use Rattle.std.specs.Prelude.{string_bytes, codes, unwrap_or, not, ◌||◌, ◌
 use Rattle.std.specs.List.{list_all, list_any}
 use Rattle.pid_form.specs.FormFields.{bytes_of}
 use Rattle.pid_form.specs.Fields.{Fields}
-use Rattle.pid_lookup.specs.Fields.{is_known, are_known, are_bad, flags_said, size_said, number_said, progif_said, look_up_in, look_up_said, LookUp, as_look_up}
+use Rattle.pid_lookup.specs.Fields.{is_known, are_known, are_bad, flags_said, size_said, number_said, progif_said, lookup_from, lookup_said, Lookup, as_lookup}
 
 pub known_texts : {A : Type 0} (fields : List (String A × String A)) → list_all (λ f. is_known (string_bytes f.0)) fields ≡ are_known (bytes_of fields)
 known_texts [] = refl
@@ -22,8 +22,8 @@ pub said_by : (fields : Fields) (flags size vendor device subvendor subdevice cl
     → number_said (codes "vendor") fields ≡ Some vendor → number_said (codes "device") fields ≡ Some device
     → number_said (codes "subvendor") fields ≡ Some subvendor → number_said (codes "subdevice") fields ≡ Some subdevice
     → number_said (codes "class") fields ≡ Some class → progif_said fields ≡ Some progif
-    → look_up_in fields ≡ Some (as_look_up (flags, record { vendor = vendor; device = device; subvendor = subvendor; subdevice = subdevice; class = class; progif = progif }, size))
-unfolding look_up_in
+    → lookup_from fields ≡ Some (as_lookup (flags, record { vendor = vendor; device = device; subvendor = subvendor; subdevice = subdevice; class = class; progif = progif }, size))
+unfolding lookup_from
 said_by fields flags size vendor device subvendor subdevice class progif k f s v d sv sd c p = λ i. cond (not (k i) || list_any is_none (
     f i ∷ s i ∷ v i ∷ d i ∷ sv i ∷ sd i ∷ c i ∷ p i ∷ [])) None (Some (record {
       flags = unwrap_or (f i) 0;
@@ -38,8 +38,8 @@ said_by fields flags size vendor device subvendor subdevice class progif k f s v
       size = unwrap_or (s i) 0;
     }))
 
-pub not_bad : (fields : Fields) (look_up : LookUp) → look_up_in fields ≡ Some look_up → are_bad fields ≡ true → ⊥
-unfolding look_up_in
-not_bad fields look_up said bad =
-    let none : None ≡ Some look_up = sym (ap (λ b. cond b None (Some (look_up_said fields))) bad) ∙ said in
+pub not_bad : (fields : Fields) (lookup : Lookup) → lookup_from fields ≡ Some lookup → are_bad fields ≡ true → ⊥
+unfolding lookup_from
+not_bad fields lookup said bad =
+    let none : None ≡ Some lookup = sym (ap (λ b. cond b None (Some (lookup_said fields))) bad) ∙ said in
     absurd cc

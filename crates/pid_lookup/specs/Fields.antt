@@ -60,14 +60,14 @@ abbrev pub number_at : List ℕ → Fields → ℕ
 number_at name fields = unwrap_or (number_said name fields) 0
 
 -- a look-up: its flags, what is looked up, and the size of the buffer
-pub record LookUp : Type 0 where
+pub record Lookup : Type 0 where
   pub flags : ℕ
   pub args : Args
   pub size : ℕ
 
 -- the look-up that fields say which are not bad
-abbrev pub look_up_said : Fields → LookUp
-look_up_said fields = record {
+abbrev pub lookup_said : Fields → Lookup
+lookup_said fields = record {
   flags = unwrap_or (flags_said fields) 0;
   args = record {
     vendor = number_at (codes "vendor") fields;
@@ -81,9 +81,9 @@ look_up_said fields = record {
 }
 
 -- or none if they are bad
-unfoldable pub look_up_in : Fields → Option LookUp
-look_up_in fields = if are_bad fields then None else Some (look_up_said fields)
+unfoldable pub lookup_from : Fields → Option Lookup
+lookup_from fields = if are_bad fields then None else Some (lookup_said fields)
 
 -- flags, arguments and size as a look-up
-abbrev pub as_look_up : ℕ × Args × ℕ → LookUp
-as_look_up look_up = record { flags = look_up.0; args = look_up.1; size = look_up.2 }
+abbrev pub as_lookup : ℕ × Args × ℕ → Lookup
+as_lookup lookup = record { flags = lookup.0; args = lookup.1; size = lookup.2 }

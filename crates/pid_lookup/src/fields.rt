@@ -10,8 +10,8 @@ ghost use Rattle.pid_lookup.specs.Fields.{
   progif_said,
   is_known as known_name,
   are_bad,
-  look_up_in,
-  as_look_up,
+  lookup_from,
+  as_lookup,
 };
 
 use crate::args::Args;
@@ -30,16 +30,16 @@ pub struct BadField;
 /// is missing. `vendor`, `device`, `subvendor`, `subdevice` and `class` are 4 hex digits, `progif`
 /// is 2, and 0 if they are missing. The order of the fields does not matter.
 pub fn args_of(fields: &[(String, String)]) -> Result<(u32, Args, u32), BadField>
-    ensures ok { IfOk result (λ look_up. look_up_in (bytes_of fields.now)
-        ≡ Some (as_look_up look_up)) }
+    ensures ok { IfOk result (λ lookup. lookup_from (bytes_of fields.now)
+        ≡ Some (as_lookup lookup)) }
     ensures bad { IsErr result ↔ (are_bad (bytes_of fields.now) ≡ true) }
 {
     read_fields(fields).ok_or(BadField)
 }
 
 fn read_fields(fields: &[(String, String)]) -> Option<(u32, Args, u32)>
-    ensures found { IfSome result (λ look_up. look_up_in (bytes_of fields.now)
-        ≡ Some (as_look_up look_up)) }
+    ensures found { IfSome result (λ lookup. lookup_from (bytes_of fields.now)
+        ≡ Some (as_lookup lookup)) }
     ensures none { IsNone result ↔ (are_bad (bytes_of fields.now) ≡ true) }
 {
     if !are_known(fields) {

@@ -15,7 +15,7 @@ use std::alloc::{AllocError, Global};
 
 /// The answer to a look-up in the tree of the input's text, of which only the names are kept that
 /// it can ask for. Faults of the text come as from `read_input`, and before those of the look-up.
-pub fn look_up_in<I: Input>(
+pub fn lookup_in<I: Input>(
     alloc: Global,
     limit: usize,
     input: &mut I,

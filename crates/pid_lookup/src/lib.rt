@@ -26,7 +26,7 @@ pub use answer::{Answer, AnswerText};
 pub use answering::{LookupRefusal, lookup};
 pub use args::Args;
 pub use fields::{BadField, args_of};
-pub use in_text::look_up_in;
+pub use in_text::lookup_in;
 pub use name_cache::{CAPACITY, NameCache};
 pub use names::Names;
 pub use tree_names::TreeNames;

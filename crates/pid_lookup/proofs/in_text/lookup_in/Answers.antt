@@ -1,7 +1,7 @@
 use Rattle.std.proofs.Common.{refl}
 use Rattle.pid_lookup.specs.Kept.{kept_map}
 use Rattle.pid_lookup.proofs.Answered.{answered}
-use Rattle.pid_lookup.proofs.in_text.look_up_in.Goals as goal
+use Rattle.pid_lookup.proofs.in_text.lookup_in.Goals as goal
 
 pub returns-in-Ok-clause-answer : goal.returns-in-Ok-clause-answer
 returns-in-Ok-clause-answer g c =
