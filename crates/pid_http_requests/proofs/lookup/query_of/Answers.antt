@@ -1,6 +1,6 @@
 use Rattle.std.proofs.Common.{cond, None, Some, refl, sym, ap}
 use Rattle.std.specs.Option.{option_map}
-use Rattle.pid_lookup.specs.Fields.{bytes_of, look_up_in, look_up_said}
+use Rattle.pid_lookup.specs.Fields.{bytes_of, lookup_from, lookup_said}
 use Rattle.pid_http_requests.specs.Lookups.{as_query}
 use Rattle.pid_http_requests.proofs.lookup.query_of.Goals as goal
 
@@ -8,5 +8,5 @@ pub returns-in-Ok : goal.returns-in-Ok
 returns-in-Ok c = sym (ap (option_map as_query) c.in-Ok.ensures.ok)
 
 pub returns-in-Err : goal.returns-in-Err
-unfolding look_up_in
-returns-in-Err c = sym (ap (λ b. option_map as_query (cond b None (Some (look_up_said (bytes_of c.args.fields.now))))) (c.in-Err.ensures.bad.0 refl))
+unfolding lookup_from
+returns-in-Err c = sym (ap (λ b. option_map as_query (cond b None (Some (lookup_said (bytes_of c.args.fields.now))))) (c.in-Err.ensures.bad.0 refl))
