@@ -7,7 +7,7 @@ use Rattle.pid_lookup.specs.declared.args.Args.{Args}
 use Rattle.pid_lookup.specs.Answers.{answer_of}
 use Rattle.pid_lookup.specs.Flags.{is_bad}
 use Rattle.pid_lookup.specs.declared.answering.LookupRefusal.{LookupRefusal}
-use Rattle.pid_lookup.specs.declared.answering.LookupRefusal.TheVariants as look_ups
+use Rattle.pid_lookup.specs.declared.answering.LookupRefusal.TheVariants as lookups
 use Rattle.pid_moderation.specs.declared.refusal.Refusal.{Refusal}
 use Rattle.pid_moderation.specs.declared.refusal.Refusal.TheVariants.{BadText, Memory, Failed}
 use Rattle.pid_moderation.specs.History.{History}
@@ -24,8 +24,8 @@ use Rattle.pid_moderation.specs.Views.{items_of}
 use Rattle.pid_script.specs.declared.line_end.LineEnd.{LineEnd}
 use Rattle.pid_script.specs.declared.line_end.LineEnd.TheVariants.{Stopped, WriteFault, TooLong}
 use Rattle.pid_script.specs.declared.moderated.Moderated.{Ghosts}
-use Rattle.pid_script.specs.Asking.{path_asked, look_up_asked}
-use Rattle.pid_lookup.specs.Fields.{as_look_up as look_up_told}
+use Rattle.pid_script.specs.Asking.{path_asked, lookup_in_form}
+use Rattle.pid_lookup.specs.Fields.{as_lookup as lookup_told}
 use Rattle.pid_script.specs.LookingUp.{LooksUp}
 use Rattle.pid_script.specs.Calling.{CallsSend}
 use Rattle.pid_script.specs.Replies.{line_reply, command_of, name_reply, name_line, is_call, looked_up, answer_line, BAD_FLAGS}
@@ -131,47 +131,47 @@ err_stops (Ok x) all = tt
 err_stops (Err e) all = all e refl
 
 -- a look-up was answered
-look_up_facts : {R : Type 0} (m : Ghosts R) (found : Result Answer (LookupRefusal Refusal)) (h : History) (r : R) (flags size : ℕ) (args : Args) → (m.showing.shows r h → LooksUp found (tree_of h) flags args size) → (m.has_failed r → found ≡ Err (look_ups.Names Failed)) → ShowsOrHasFailed m r h
-    → IfOk found (λ a. (is_bad flags ≡ false) × (a ≡ answer_of (tree_of h) flags args size)) × (IsErrOf found look_ups.BadFlags → is_bad flags ≡ true) × ((e : Refusal) → IsErrOf found (look_ups.Names e) → is_stop e ≡ true)
-look_up_facts m found h r flags size args told failed (inl s) = by found (told s)
+lookup_facts : {R : Type 0} (m : Ghosts R) (found : Result Answer (LookupRefusal Refusal)) (h : History) (r : R) (flags size : ℕ) (args : Args) → (m.showing.shows r h → LooksUp found (tree_of h) flags args size) → (m.has_failed r → found ≡ Err (lookups.Names Failed)) → ShowsOrHasFailed m r h
+    → IfOk found (λ a. (is_bad flags ≡ false) × (a ≡ answer_of (tree_of h) flags args size)) × (IsErrOf found lookups.BadFlags → is_bad flags ≡ true) × ((e : Refusal) → IsErrOf found (lookups.Names e) → is_stop e ≡ true)
+lookup_facts m found h r flags size args told failed (inl s) = by found (told s)
   where
-    by : (f : Result Answer (LookupRefusal Refusal)) → LooksUp f (tree_of h) flags args size → IfOk f (λ a. (is_bad flags ≡ false) × (a ≡ answer_of (tree_of h) flags args size)) × (IsErrOf f look_ups.BadFlags → is_bad flags ≡ true) × ((e : Refusal) → IsErrOf f (look_ups.Names e) → is_stop e ≡ true)
+    by : (f : Result Answer (LookupRefusal Refusal)) → LooksUp f (tree_of h) flags args size → IfOk f (λ a. (is_bad flags ≡ false) × (a ≡ answer_of (tree_of h) flags args size)) × (IsErrOf f lookups.BadFlags → is_bad flags ≡ true) × ((e : Refusal) → IsErrOf f (lookups.Names e) → is_stop e ≡ true)
     by (Ok a) t = (t, (λ is. absurd cc), (λ e is. absurd cc))
-    by (Err look_ups.BadFlags) t = (tt, (λ is. t), (λ e is. absurd cc))
-    by (Err (look_ups.Names g)) t = (tt, (λ is. absurd cc), (λ e is. let same : g ≡ e = cc in faults_stop e (subst IsMemoryOrStore same t)))
-    by (Err look_ups.Memory) t = (tt, (λ is. absurd cc), (λ e is. absurd cc))
-look_up_facts m found h r flags size args told failed (inr f) = subst (λ g. IfOk g (λ a. (is_bad flags ≡ false) × (a ≡ answer_of (tree_of h) flags args size)) × (IsErrOf g look_ups.BadFlags → is_bad flags ≡ true) × ((e : Refusal) → IsErrOf g (look_ups.Names e) → is_stop e ≡ true)) (sym (failed f))
+    by (Err lookups.BadFlags) t = (tt, (λ is. t), (λ e is. absurd cc))
+    by (Err (lookups.Names g)) t = (tt, (λ is. absurd cc), (λ e is. let same : g ≡ e = cc in faults_stop e (subst IsMemoryOrStore same t)))
+    by (Err lookups.Memory) t = (tt, (λ is. absurd cc), (λ e is. absurd cc))
+lookup_facts m found h r flags size args told failed (inr f) = subst (λ g. IfOk g (λ a. (is_bad flags ≡ false) × (a ≡ answer_of (tree_of h) flags args size)) × (IsErrOf g lookups.BadFlags → is_bad flags ≡ true) × ((e : Refusal) → IsErrOf g (lookups.Names e) → is_stop e ≡ true)) (sym (failed f))
     (tt, (λ is. absurd cc), (λ e is. let same : Failed ≡ e = cc in ap is_stop (sym same)))
 
-faults_named : (found : Result Answer (LookupRefusal Refusal)) (tree : TreeMap) (flags size : ℕ) (args : Args) → LooksUp found tree flags args size → (e : Refusal) → found ≡ Err (look_ups.Names e) → IsMemoryOrStore e
+faults_named : (found : Result Answer (LookupRefusal Refusal)) (tree : TreeMap) (flags size : ℕ) (args : Args) → LooksUp found tree flags args size → (e : Refusal) → found ≡ Err (lookups.Names e) → IsMemoryOrStore e
 faults_named (Ok a) tree flags size args t e is = absurd cc
-faults_named (Err look_ups.BadFlags) tree flags size args t e is = absurd cc
-faults_named (Err (look_ups.Names g)) tree flags size args t e is = let same : g ≡ e = cc in subst IsMemoryOrStore same t
-faults_named (Err look_ups.Memory) tree flags size args t e is = absurd cc
+faults_named (Err lookups.BadFlags) tree flags size args t e is = absurd cc
+faults_named (Err (lookups.Names g)) tree flags size args t e is = let same : g ≡ e = cc in subst IsMemoryOrStore same t
+faults_named (Err lookups.Memory) tree flags size args t e is = absurd cc
 
 pub looked_for : {R : Type 0} (m : Ghosts R) (result : Result (Unit {0}) LineEnd) (found : Result Answer (LookupRefusal Refusal)) (form : List ℕ) (l : ℕ × Args × ℕ) (h : History) (r new : R) (old left : Out)
-    → look_up_asked form ≡ Some (look_up_told l) → (m.showing.shows r h → LooksUp found (tree_of h) l.0 l.1 l.2) → (m.showing.shows r h → m.showing.shows new h) → (m.has_failed r → (found ≡ Err (look_ups.Names Failed)) × (new ≡ r))
-    → ((flags : ℕ) (good : Answer) → IfOk found (λ a. (is_bad flags ≡ false) × (a ≡ good)) → (IsErrOf found look_ups.BadFlags → is_bad flags ≡ true) → ((e : Refusal) → IsErrOf found (look_ups.Names e) → is_stop e ≡ true)
+    → lookup_in_form form ≡ Some (lookup_told l) → (m.showing.shows r h → LooksUp found (tree_of h) l.0 l.1 l.2) → (m.showing.shows r h → m.showing.shows new h) → (m.has_failed r → (found ≡ Err (lookups.Names Failed)) × (new ≡ r))
+    → ((flags : ℕ) (good : Answer) → IfOk found (λ a. (is_bad flags ≡ false) × (a ≡ good)) → (IsErrOf found lookups.BadFlags → is_bad flags ≡ true) → ((e : Refusal) → IsErrOf found (lookups.Names e) → is_stop e ≡ true)
     → TellsLine result (cond (is_bad flags) BAD_FLAGS (answer_line good)) (IsGivenStop (refusal_of_names found)) old left)
-    → GoesOnAfter result (refusal_of_names found) → (result ≡ Err TooLong → ⊥) → Does m.showing r nothing_sent new → ShowsOrHasFailed m r h → AnswersLine m result (lines.AsksLookUp form) h r old new left
+    → GoesOnAfter result (refusal_of_names found) → (result ≡ Err TooLong → ⊥) → Does m.showing r nothing_sent new → ShowsOrHasFailed m r h → AnswersLine m result (lines.AsksLookup form) h r old new left
 looked_for m result found form l h r new old left is told kept failed sends goes fits does stands =
-    let facts = look_up_facts m found h r l.0 l.2 l.1 told (λ f. (failed f).0) stands in
-    asked m result (lines.AsksLookUp form) h r new old left (refusal_of_names found) refl (λ e. cc) (record { shows = kept; failed = λ f. (failed f).1 })
-    (names_cause m found r h (lines.AsksLookUp form) (ap is_some is) (λ s. faults_named found (tree_of h) l.0 l.2 l.1 (told s)) (λ f. (failed f).0))
-    (always result (m.has_failed r → (is_call (lines.AsksLookUp form) ≡ false) ⊎ (refusal_of_names found ≡ Some Failed)) (λ f. inr (ap refusal_of_names (failed f).0)))
+    let facts = lookup_facts m found h r l.0 l.2 l.1 told (λ f. (failed f).0) stands in
+    asked m result (lines.AsksLookup form) h r new old left (refusal_of_names found) refl (λ e. cc) (record { shows = kept; failed = λ f. (failed f).1 })
+    (names_cause m found r h (lines.AsksLookup form) (ap is_some is) (λ s. faults_named found (tree_of h) l.0 l.2 l.1 (told s)) (λ f. (failed f).0))
+    (always result (m.has_failed r → (is_call (lines.AsksLookup form) ≡ false) ⊎ (refusal_of_names found ≡ Some Failed)) (λ f. inr (ap refusal_of_names (failed f).0)))
     goes fits (send_none m.showing r new does)
     (subst (λ o. TellsLine result (looked_up o h) (IsGivenStop (refusal_of_names found)) old left) (sym is) (sends l.0 (answer_of (tree_of h) l.0 l.1 l.2) facts.0 facts.1 facts.2))
 
 -- a look-up whose fields are bad
-pub bad_look_up : {R : Type 0} (m : Ghosts R) (result : Result (Unit {0}) LineEnd) (form : List ℕ) (h : History) (r : R) (old left : Out) → look_up_asked form ≡ None → ((given : Option Refusal) → TellsLine result (refused_line BadText) (IsGivenStop given) old left) → IfErr result (λ e. e ≡ WriteFault) → AnswersLine m result (lines.AsksLookUp form) h r old r left
-bad_look_up m result form h r old left is told end =
-    asked m result (lines.AsksLookUp form) h r r old left None refl (λ e. cc) (same m r h) (no_cause m r h (lines.AsksLookUp form)) (always result (m.has_failed r → (is_call (lines.AsksLookUp form) ≡ false) ⊎ (None ≡ Some Failed)) (λ _. inl (ap is_some is))) (none_goes result) (only_fault result end) (send_still m.showing r)
+pub bad_lookup : {R : Type 0} (m : Ghosts R) (result : Result (Unit {0}) LineEnd) (form : List ℕ) (h : History) (r : R) (old left : Out) → lookup_in_form form ≡ None → ((given : Option Refusal) → TellsLine result (refused_line BadText) (IsGivenStop given) old left) → IfErr result (λ e. e ≡ WriteFault) → AnswersLine m result (lines.AsksLookup form) h r old r left
+bad_lookup m result form h r old left is told end =
+    asked m result (lines.AsksLookup form) h r r old left None refl (λ e. cc) (same m r h) (no_cause m r h (lines.AsksLookup form)) (always result (m.has_failed r → (is_call (lines.AsksLookup form) ≡ false) ⊎ (None ≡ Some Failed)) (λ _. inl (ap is_some is))) (none_goes result) (only_fault result end) (send_still m.showing r)
     (subst (λ o. TellsLine result (looked_up o h) (IsGivenStop None) old left) (sym is) (told None))
 
 -- memory is short for a look-up
-pub no_look_up : {R : Type 0} (m : Ghosts R) (e : LineEnd) (form : List ℕ) (h : History) (r : R) (old left : Out) → ((reply : List ℕ) → TellsLine (Err e) reply (IsGivenStop (Some Memory)) old left) → (e ≡ TooLong → ⊥) → AnswersLine m (Err e) (lines.AsksLookUp form) h r old r left
-no_look_up m e form h r old left told fits =
-    asked m (Err e) (lines.AsksLookUp form) h r r old left (Some Memory) refl (λ e. cc) (same m r h) (own_cause m r h (lines.AsksLookUp form)) tt tt (λ is. fits (cc is)) (send_still m.showing r) (told (line_reply (lines.AsksLookUp form) h))
+pub no_lookup : {R : Type 0} (m : Ghosts R) (e : LineEnd) (form : List ℕ) (h : History) (r : R) (old left : Out) → ((reply : List ℕ) → TellsLine (Err e) reply (IsGivenStop (Some Memory)) old left) → (e ≡ TooLong → ⊥) → AnswersLine m (Err e) (lines.AsksLookup form) h r old r left
+no_lookup m e form h r old left told fits =
+    asked m (Err e) (lines.AsksLookup form) h r r old left (Some Memory) refl (λ e. cc) (same m r h) (own_cause m r h (lines.AsksLookup form)) tt tt (λ is. fits (cc is)) (send_still m.showing r) (told (line_reply (lines.AsksLookup form) h))
 
 -- the name of a path was asked
 name_facts : {R X : Type 0} (m : Ghosts R) (answer : Result X Refusal) (h : History) (r : R) (P : X → Type 0) → (m.showing.shows r h → MatchResult answer P IsMemoryOrStore) → (m.has_failed r → answer ≡ Err Failed) → ShowsOrHasFailed m r h → IfOk answer P × IfErr answer (λ e. is_stop e ≡ true)

@@ -4,7 +4,7 @@ use Rattle.std.proofs.Common.{◌≡◌, ◌≢◌, ℕ, true, false, List, ◌+
 use Rattle.std.specs.Prelude.{◌⊎◌, IsErrAnd, codes}
 use Rattle.pid_lookup.specs.declared.answer.Answer.{Answer}
 use Rattle.pid_lookup.specs.declared.answering.LookupRefusal.{LookupRefusal}
-use Rattle.pid_lookup.specs.declared.answering.LookupRefusal.TheVariants as look_ups
+use Rattle.pid_lookup.specs.declared.answering.LookupRefusal.TheVariants as lookups
 use Rattle.pid_tree.specs.Printing.{print}
 use Rattle.pid_moderation.specs.declared.command.Reply.{Reply}
 use Rattle.pid_moderation.specs.declared.refusal.Refusal.{Refusal}
@@ -49,7 +49,7 @@ none_begun lines.AsksNothing h b none = none
 none_begun (lines.AsksCommand verb account fields) h b none = none
 none_begun lines.AsksExport h b none = record { behind = print (tree_of h); is = sym (ap (λ (l : List ℕ). l ++ print (tree_of h)) none); whole = rw none refl }
 none_begun (lines.AsksName fields) h b none = none
-none_begun (lines.AsksLookUp fields) h b none = none
+none_begun (lines.AsksLookup fields) h b none = none
 none_begun lines.Unclear h b none = none
 none_begun lines.TooLong h b none = none
 
@@ -136,15 +136,15 @@ path_no_stop form g is = refused_no_stop (first_failing (path_checks (fields_in 
 pub fault_cause : {R X : Type 0} (m : Ghosts R) (answer : Result X Refusal) (r : R) (h : History) (ask : Ask) → is_call ask ≡ true → (m.showing.shows r h → (e : Refusal) → answer ≡ Err e → IsMemoryOrStore e) → (m.has_failed r → answer ≡ Err Failed) → (e : Refusal) → IsGivenRefusal (refusal_given answer) e → StoppedBy m r h ask e
 fault_cause m answer r h ask called live failed e given = record { stops = given.1; live = λ s. live s e (err_in answer e given.0); failed = λ f. inl (let same : Err e ≡ Err Failed = sym (err_in answer e given.0) ∙ failed f in cc); unasked = λ off. absurd (true≢false (sym called ∙ off)) }
 
-names_in : (found : Result Answer (LookupRefusal Refusal)) (e : Refusal) → refusal_of_names found ≡ Some e → (e ≡ Memory) ⊎ (found ≡ Err (look_ups.Names e))
+names_in : (found : Result Answer (LookupRefusal Refusal)) (e : Refusal) → refusal_of_names found ≡ Some e → (e ≡ Memory) ⊎ (found ≡ Err (lookups.Names e))
 names_in (Ok text) e is = absurd cc
-names_in (Err look_ups.BadFlags) e is = absurd cc
-names_in (Err (look_ups.Names f)) e is = inr (let same : f ≡ e = cc in ap (λ g. Err (look_ups.Names g)) same)
-names_in (Err look_ups.Memory) e is = inl (let same : Memory ≡ e = cc in sym same)
+names_in (Err lookups.BadFlags) e is = absurd cc
+names_in (Err (lookups.Names f)) e is = inr (let same : f ≡ e = cc in ap (λ g. Err (lookups.Names g)) same)
+names_in (Err lookups.Memory) e is = inl (let same : Memory ≡ e = cc in sym same)
 
-pub names_cause : {R : Type 0} (m : Ghosts R) (found : Result Answer (LookupRefusal Refusal)) (r : R) (h : History) (ask : Ask) → is_call ask ≡ true → (m.showing.shows r h → (e : Refusal) → found ≡ Err (look_ups.Names e) → IsMemoryOrStore e) → (m.has_failed r → found ≡ Err (look_ups.Names Failed)) → (e : Refusal) → IsGivenRefusal (refusal_of_names found) e → StoppedBy m r h ask e
+pub names_cause : {R : Type 0} (m : Ghosts R) (found : Result Answer (LookupRefusal Refusal)) (r : R) (h : History) (ask : Ask) → is_call ask ≡ true → (m.showing.shows r h → (e : Refusal) → found ≡ Err (lookups.Names e) → IsMemoryOrStore e) → (m.has_failed r → found ≡ Err (lookups.Names Failed)) → (e : Refusal) → IsGivenRefusal (refusal_of_names found) e → StoppedBy m r h ask e
 names_cause m found r h ask called live failed e given = by (names_in found e given.0)
   where
-    by : (e ≡ Memory) ⊎ (found ≡ Err (look_ups.Names e)) → StoppedBy m r h ask e
+    by : (e ≡ Memory) ⊎ (found ≡ Err (lookups.Names e)) → StoppedBy m r h ask e
     by (inl memory) = short_cause m r h ask e memory
-    by (inr is) = record { stops = given.1; live = λ s. live s e is; failed = λ f. inl (let same : Err (look_ups.Names e) ≡ Err (look_ups.Names Failed) = sym is ∙ failed f in cc); unasked = λ off. absurd (true≢false (sym called ∙ off)) }
+    by (inr is) = record { stops = given.1; live = λ s. live s e is; failed = λ f. inl (let same : Err (lookups.Names e) ≡ Err (lookups.Names Failed) = sym is ∙ failed f in cc); unasked = λ off. absurd (true≢false (sym called ∙ off)) }

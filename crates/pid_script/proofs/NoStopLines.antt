@@ -7,7 +7,7 @@ use Rattle.pid_ident.specs.PathTexts.{path_text}
 use Rattle.pid_lookup.specs.declared.answer.Answer.{Answer}
 use Rattle.pid_lookup.specs.declared.answer.Answer.TheVariants.{Text, NoAnswer}
 use Rattle.pid_lookup.specs.Answers.{answer_of}
-use Rattle.pid_lookup.specs.Fields.{LookUp}
+use Rattle.pid_lookup.specs.Fields.{Lookup}
 use Rattle.pid_lookup.specs.Flags.{is_bad}
 use Rattle.pid_moderation.specs.declared.command.Command.{Command}
 use Rattle.pid_moderation.specs.declared.command.Reply.{Reply}
@@ -22,7 +22,7 @@ use Rattle.pid_moderation.specs.Views.{views_of, items_of}
 use Rattle.pid_moderation.specs.Writes.{tree_of}
 use Rattle.pid_service.specs.Files.{asks}
 use Rattle.pid_tree.specs.Printing.{print}
-use Rattle.pid_script.specs.Asking.{command_in_form, path_asked, look_up_asked}
+use Rattle.pid_script.specs.Asking.{command_in_form, path_asked, lookup_in_form}
 use Rattle.pid_script.specs.Replies.{line_reply, outcome_of, name_reply, name_line, looked_up, answer_line, BAD_FLAGS}
 use Rattle.pid_script.specs.ScriptLines as lines
 use Rattle.pid_script.specs.ScriptLines.{Ask}
@@ -116,7 +116,7 @@ unfolding stop_bytes
 flags_no_stop true a = by_bytes BAD_FLAGS refl
 flags_no_stop false a = text_no_stop a
 
-looked_no_stop : (l : Option LookUp) (h : History) → IsStopLine (looked_up l h) → ⊥
+looked_no_stop : (l : Option Lookup) (h : History) → IsStopLine (looked_up l h) → ⊥
 looked_no_stop None h = refused_no_stop BadText refl
 looked_no_stop (Some l) h = flags_no_stop (is_bad l.flags) (answer_of (tree_of h) l.flags l.args l.size)
 
@@ -127,6 +127,6 @@ reply_no_stop lines.AsksNothing h = by_bytes [] refl
 reply_no_stop (lines.AsksCommand verb account fields) h = outcome_no_stop (command_in_form verb account fields) h (command_no_stop verb account fields)
 reply_no_stop lines.AsksExport h = by_bytes (print (tree_of h)) refl
 reply_no_stop (lines.AsksName fields) h = item_no_stop (path_asked fields) h (path_no_stop fields)
-reply_no_stop (lines.AsksLookUp fields) h = looked_no_stop (look_up_asked fields) h
+reply_no_stop (lines.AsksLookup fields) h = looked_no_stop (lookup_in_form fields) h
 reply_no_stop lines.Unclear h = refused_no_stop BadText refl
 reply_no_stop lines.TooLong h = refused_no_stop BadText refl

@@ -13,7 +13,7 @@ use Rattle.pid_moderation.specs.CheckTables.{Checks, first_failing}
 use Rattle.pid_moderation.specs.Fields.{Fields, is_once, value, text_at}
 use Rattle.pid_moderation.specs.Forms.{form_checks, command_said}
 use Rattle.pid_form.specs.FormFields.{fields_in}
-use Rattle.pid_lookup.specs.Fields.{LookUp, look_up_in}
+use Rattle.pid_lookup.specs.Fields.{Lookup, lookup_from}
 
 -- the field of the key, which each verb may have
 abbrev pub is_key_field : List ℕ × List ℕ → Bool
@@ -55,5 +55,5 @@ unfoldable pub path_asked : List ℕ → Result Path Refusal
 path_asked form = path_in (fields_in form)
 
 -- the look-up that a form says, if its fields are not bad
-unfoldable pub look_up_asked : List ℕ → Option LookUp
-look_up_asked form = look_up_in (fields_in form)
+unfoldable pub lookup_in_form : List ℕ → Option Lookup
+lookup_in_form form = lookup_from (fields_in form)

@@ -20,10 +20,10 @@ use Rattle.pid_moderation.specs.Judgement.{answer, judge, after_all}
 use Rattle.pid_moderation.specs.ReplyLines.{refused_line, outcome_line}
 use Rattle.pid_moderation.specs.Views.{views_of, items_of}
 use Rattle.pid_moderation.specs.Writes.{tree_of}
-use Rattle.pid_lookup.specs.Fields.{LookUp}
-use Rattle.pid_script.specs.Asking.{command_in_form, path_asked, look_up_asked}
+use Rattle.pid_lookup.specs.Fields.{Lookup}
+use Rattle.pid_script.specs.Asking.{command_in_form, path_asked, lookup_in_form}
 use Rattle.pid_script.specs.ScriptLines.{Ask, AsksNothing, AsksCommand, AsksExport, AsksName}
-use Rattle.pid_script.specs.ScriptLines.{AsksLookUp, Unclear, TooLong, ask_of}
+use Rattle.pid_script.specs.ScriptLines.{AsksLookup, Unclear, TooLong, ask_of}
 
 -- the reply for a path without a name
 abbrev pub NO_ITEM : List ℕ
@@ -54,7 +54,7 @@ name_reply (Err refusal) h = refused_line refusal
 name_reply (Ok path) h = name_line (name_at (path_text path) (items_of h))
 
 -- what a look-up is answered
-abbrev pub looked_up : Option LookUp → History → List ℕ
+abbrev pub looked_up : Option Lookup → History → List ℕ
 looked_up None h = refused_line BadText
 looked_up (Some l) h = if is_bad l.flags then BAD_FLAGS else answer_line
     (answer_of (tree_of h) l.flags l.args l.size)
@@ -65,7 +65,7 @@ line_reply AsksNothing h = []
 line_reply (AsksCommand verb account fields) h = outcome_of (command_in_form verb account fields) h
 line_reply AsksExport h = print (tree_of h)
 line_reply (AsksName fields) h = name_reply (path_asked fields) h
-line_reply (AsksLookUp fields) h = looked_up (look_up_asked fields) h
+line_reply (AsksLookup fields) h = looked_up (lookup_in_form fields) h
 line_reply Unclear h = refused_line BadText
 line_reply TooLong h = refused_line BadText
 
@@ -79,7 +79,7 @@ abbrev pub is_call : Ask → Bool
 is_call (AsksCommand verb account fields) = is_ok (command_in_form verb account fields)
 is_call AsksExport = true
 is_call (AsksName fields) = is_ok (path_asked fields)
-is_call (AsksLookUp fields) = is_some (look_up_asked fields)
+is_call (AsksLookup fields) = is_some (lookup_in_form fields)
 is_call AsksNothing = false
 is_call Unclear = false
 is_call TooLong = false
@@ -90,7 +90,7 @@ command_of (AsksCommand verb account fields) = those_sent (command_in_form verb 
 command_of AsksNothing = []
 command_of AsksExport = []
 command_of (AsksName fields) = []
-command_of (AsksLookUp fields) = []
+command_of (AsksLookup fields) = []
 command_of Unclear = []
 command_of TooLong = []
 

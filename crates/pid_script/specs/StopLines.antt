@@ -10,7 +10,7 @@ use Rattle.pid_script.specs.declared.moderated.Moderated.{Ghosts}
 use Rattle.pid_moderation.specs.Faults.{IsMemoryOrStore}
 use Rattle.pid_script.specs.Replies.{is_call}
 use Rattle.pid_script.specs.ScriptLines.{Ask, AsksNothing, AsksCommand, AsksExport, AsksName}
-use Rattle.pid_script.specs.ScriptLines.{AsksLookUp, Unclear, TooLong}
+use Rattle.pid_script.specs.ScriptLines.{AsksLookup, Unclear, TooLong}
 use Rattle.pid_script.specs.WholeFronts.{IsWholeFront}
 
 -- a refusal of memory, of the store, or of a registry that has failed: it judges nothing, and stops
@@ -31,7 +31,7 @@ IsBegun AsksExport h = λ begun. IsWholeFront (print (tree_of h)) begun
 IsBegun AsksNothing h = λ begun. begun ≡ []
 IsBegun (AsksCommand verb account fields) h = λ begun. begun ≡ []
 IsBegun (AsksName fields) h = λ begun. begun ≡ []
-IsBegun (AsksLookUp fields) h = λ begun. begun ≡ []
+IsBegun (AsksLookup fields) h = λ begun. begun ≡ []
 IsBegun Unclear h = λ begun. begun ≡ []
 IsBegun TooLong h = λ begun. begun ≡ []
 

@@ -11,7 +11,7 @@ ghost use Rattle.pid_script.specs.Standing.{OverStanding};
 use crate::fields::{read_command, read_path};
 use crate::line::{LineAsk, line_asks};
 use crate::line_end::LineEnd;
-use crate::look_up::read_look_up;
+use crate::lookup::read_lookup;
 use crate::moderated::Moderated;
 use crate::output::flush;
 use crate::reply::{
@@ -75,7 +75,7 @@ fn read<R: Moderated, O: Output>(
 }
 
 // Answers the look-up that a form says.
-fn look_up<R: Moderated, O: Output>(
+fn lookup<R: Moderated, O: Output>(
     alloc: Global,
     registry: &mut R,
     output: &mut O,
@@ -85,14 +85,14 @@ fn look_up<R: Moderated, O: Output>(
     ensures honest { StaysClean R.showing registry.old registry.new }
     ensures calls { CallsGo R.showing registry.old registry.new }
     ensures ends { OverStanding R.Moderated registry.old registry.new (λ h.
-        AnswersLine R.Moderated result (asks.AsksLookUp form.now) h registry.old
+        AnswersLine R.Moderated result (asks.AsksLookup form.now) h registry.old
         (out (O.taken output.old) held.old.items) registry.new
         (out (O.taken output.new) held.new.items)) }
     ensures fault { result ≡ Err LineEnd.WriteFault → IsSome (O.write_fault output.new) }
 {
-    match read_look_up(alloc, form) {
+    match read_lookup(alloc, form) {
         Ok(Some((flags, args, size))) => {
-            let found = registry.look_up(flags, &args, size);
+            let found = registry.lookup(flags, &args, size);
             send_found(output, held, found)
         }
         Ok(None) => send_bad_text(output, held),
@@ -149,7 +149,7 @@ pub fn answer_line<R: Moderated, O: Output>(
         } => obey(alloc, registry, output, held, verb, account, form),
         LineAsk::Export => export(registry, output, held),
         LineAsk::Read(form) => read(alloc, registry, output, held, form),
-        LineAsk::LookUp(form) => look_up(alloc, registry, output, held, form),
+        LineAsk::Lookup(form) => lookup(alloc, registry, output, held, form),
         LineAsk::Unclear => send_bad_text(output, held),
         LineAsk::TooLong => Err(refuse_long(output, held)),
     }

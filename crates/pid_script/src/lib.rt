@@ -6,7 +6,7 @@ mod fields;
 pub mod laws;
 mod line;
 mod line_end;
-mod look_up;
+mod lookup;
 mod moderated;
 mod output;
 mod registry;

@@ -1,7 +1,7 @@
 //! What a script asks of a registry.
 ghost use Rattle.std.specs.Prelude.{◌≡◌, Bool, Err, IsSome, IsErrOf, MatchResult};
 ghost use Rattle.pid_ident.specs.PathTexts.{path_text};
-ghost use Rattle.pid_lookup.specs.declared.answering.LookupRefusal.TheVariants as look_ups;
+ghost use Rattle.pid_lookup.specs.declared.answering.LookupRefusal.TheVariants as lookups;
 ghost use Rattle.pid_tree.specs.Printing.{print};
 ghost use Rattle.pid_moderation.specs.History.{History};
 ghost use Rattle.pid_moderation.specs.Items.{name_at};
@@ -58,7 +58,7 @@ pub trait Moderated {
         ensures failed { has_failed self.old → (result ≡ Err Failed) × (self.new ≡ self.old) };
 
     /// The text for flags and arguments, for a buffer of `size` bytes.
-    fn look_up(
+    fn lookup(
         &mut self,
         flags: u32,
         args: &Args,
@@ -71,7 +71,7 @@ pub trait Moderated {
         ensures told { showing.is_clean self.new → (h : History) → showing.shows self.old h
             → LooksUp result (tree_of h) flags args.now size }
         ensures failed { has_failed self.old
-            → (result ≡ Err (look_ups.Names Failed)) × (self.new ≡ self.old) };
+            → (result ≡ Err (lookups.Names Failed)) × (self.new ≡ self.old) };
 
     /// Writes the canonical text, line by line. If it is refused, what was written is whole
     /// lines of the text, or nothing. If the writer failed it may end within a line.

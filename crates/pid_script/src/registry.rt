@@ -25,14 +25,14 @@ impl<S: Alter + Drop> Moderated for Registry<S> {
         Registry::read(self, path)
     }
 
-    fn look_up(
+    fn lookup(
         &mut self,
         flags: u32,
         args: &Args,
         size: u32,
     ) -> Result<Answer, LookupRefusal<Refusal>> {
         pid_service::laws::clauses_meet_lives::<S>(); // proof only
-        self.lookup(flags, args, size)
+        Registry::lookup(self, flags, args, size)
     }
 
     fn export<O: Output>(&mut self, out: &mut O) -> Result<(), ExportFault> {

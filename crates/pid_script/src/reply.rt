@@ -19,7 +19,7 @@ ghost use Rattle.std.specs.Prelude.{
   IsSome,
   IsErrOf,
 };
-ghost use Rattle.pid_lookup.specs.declared.answering.LookupRefusal.TheVariants as look_ups;
+ghost use Rattle.pid_lookup.specs.declared.answering.LookupRefusal.TheVariants as lookups;
 ghost use Rattle.pid_moderation.specs.ReplyLines.{refused_line, outcome_line};
 ghost use Rattle.std.specs.Io.KnownBytes.{Appends};
 ghost use Rattle.pid_ident.specs.Sending.{SendsFront};
@@ -228,8 +228,8 @@ pub fn send_found<O: Output>(
 ) -> Result<(), LineEnd>
     ensures told { (flags : ℕ) (good : _)
         → IfOk found (λ answer. (is_bad flags ≡ false) × (answer ≡ good))
-        → (IsErrOf found look_ups.BadFlags → is_bad flags ≡ true) →
-        ((e : _) → IsErrOf found (look_ups.Names e) → is_stopping e ≡ true) →
+        → (IsErrOf found lookups.BadFlags → is_bad flags ≡ true) →
+        ((e : _) → IsErrOf found (lookups.Names e) → is_stopping e ≡ true) →
         TellsLine result (if is_bad flags then BAD_FLAGS else answer_line good)
         (IsGivenStop (refusal_of_names found))
         (out (O.taken output.old) held.old.items) (out (O.taken output.new) held.new.items) }

@@ -38,7 +38,7 @@ impl Moderated for Refusing {
         Err(self.refusal)
     }
 
-    fn look_up(
+    fn lookup(
         &mut self,
         _flags: u32,
         _args: &Args,

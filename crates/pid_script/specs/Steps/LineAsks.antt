@@ -6,7 +6,7 @@ use Rattle.pid_script.specs.ScriptLines as asks
 use Rattle.pid_script.specs.ScriptLines.{Ask}
 use Rattle.pid_script.specs.declared.line.LineAsk.{LineAsk}
 use Rattle.pid_script.specs.declared.line.LineAsk.TheVariants.{Nothing, Command, Export, Read}
-use Rattle.pid_script.specs.declared.line.LineAsk.TheVariants.{LookUp, Unclear, TooLong}
+use Rattle.pid_script.specs.declared.line.LineAsk.TheVariants.{Lookup, Unclear, TooLong}
 
 -- the same as an ask of scripts
 abbrev pub ask_told : LineAsk → Ask
@@ -14,7 +14,7 @@ ask_told Nothing = asks.AsksNothing
 ask_told (Command verb account form) = asks.AsksCommand verb account.now form.now
 ask_told Export = asks.AsksExport
 ask_told (Read form) = asks.AsksName form.now
-ask_told (LookUp form) = asks.AsksLookUp form.now
+ask_told (Lookup form) = asks.AsksLookup form.now
 ask_told Unclear = asks.Unclear
 ask_told TooLong = asks.TooLong
 

@@ -6,7 +6,7 @@ use Rattle.std.specs.Io.KnownBytes.{Appends}
 use Rattle.pid_ident.specs.Sending.{SendsFront}
 use Rattle.pid_lookup.specs.declared.answer.Answer.{Answer}
 use Rattle.pid_lookup.specs.declared.answering.LookupRefusal.{LookupRefusal}
-use Rattle.pid_lookup.specs.declared.answering.LookupRefusal.TheVariants as look_ups
+use Rattle.pid_lookup.specs.declared.answering.LookupRefusal.TheVariants as lookups
 use Rattle.pid_moderation.specs.declared.refusal.Refusal.{Refusal}
 use Rattle.pid_moderation.specs.declared.refusal.Refusal.TheVariants.{BadText, Memory}
 use Rattle.pid_moderation.specs.History.{History}
@@ -89,9 +89,9 @@ refusal_given (Err refusal) = Some refusal
 -- look-up itself
 abbrev pub refusal_of_names : Result Answer (LookupRefusal Refusal) → Option Refusal
 refusal_of_names (Ok text) = None
-refusal_of_names (Err look_ups.BadFlags) = None
-refusal_of_names (Err (look_ups.Names refusal)) = Some refusal
-refusal_of_names (Err look_ups.Memory) = Some Memory
+refusal_of_names (Err lookups.BadFlags) = None
+refusal_of_names (Err (lookups.Names refusal)) = Some refusal
+refusal_of_names (Err lookups.Memory) = Some Memory
 
 -- the line of an answer is a reply; or the answer is a stop
 abbrev pub IsReplyOrStop : List ℕ → Result Reply Refusal → Type 0

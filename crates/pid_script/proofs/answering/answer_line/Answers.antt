@@ -33,5 +33,5 @@ returns-in-Command-clause-ends g c = λ honest h stands. subst (λ a. AnswersLin
 pub returns-in-Read-clause-ends : goal.returns-in-Read-clause-ends
 returns-in-Read-clause-ends g c = λ honest h stands. subst (λ a. AnswersLine g.R.Moderated c.read.result a h c.args.registry.now (out (g.O.Output.taken c.args.output.now) c.args.held.now.items) c.read.new.registry (out (g.O.Output.taken c.read.new.output) c.read.new.held.items)) c.in-Read.ensures (c.read.ensures.ends honest h stands)
 
-pub returns-in-LookUp-clause-ends : goal.returns-in-LookUp-clause-ends
-returns-in-LookUp-clause-ends g c = λ honest h stands. subst (λ a. AnswersLine g.R.Moderated c.look_up.result a h c.args.registry.now (out (g.O.Output.taken c.args.output.now) c.args.held.now.items) c.look_up.new.registry (out (g.O.Output.taken c.look_up.new.output) c.look_up.new.held.items)) c.in-LookUp.ensures (c.look_up.ensures.ends honest h stands)
+pub returns-in-Lookup-clause-ends : goal.returns-in-Lookup-clause-ends
+returns-in-Lookup-clause-ends g c = λ honest h stands. subst (λ a. AnswersLine g.R.Moderated c.lookup.result a h c.args.registry.now (out (g.O.Output.taken c.args.output.now) c.args.held.now.items) c.lookup.new.registry (out (g.O.Output.taken c.lookup.new.output) c.lookup.new.held.items)) c.in-Lookup.ensures (c.lookup.ensures.ends honest h stands)
