@@ -3,7 +3,7 @@
 
 mod job_end;
 mod jobs;
-mod look_ups;
+mod lookups;
 mod on_files;
 mod replies;
 mod running;

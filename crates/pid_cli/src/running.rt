@@ -1,11 +1,11 @@
 //! The job that the arguments name, on the streams of the process.
 use crate::job_end::JobEnd;
 use crate::jobs::RegistryJob;
-use crate::look_ups::{print_look_up, read_words};
+use crate::lookups::{print_lookup, read_words};
 use crate::on_files::{migrate_file, work_on_file, work_on_memory};
 use crate::replies::{print_reply, tell_reply};
 use crate::serving::Port;
-use pid_cli_words::{Counted, Job, LookUpWords, Progress, job_of, tell_no_job};
+use pid_cli_words::{Counted, Job, LookupWords, Progress, job_of, tell_no_job};
 use pid_file::{TextEnd, Watched, run_check, run_tidy, tell_end, tell_failed};
 use pid_ident::{Account, Input, Key, Output, Plain, WordFault};
 use pid_moderation::Refusal;
@@ -68,7 +68,7 @@ pub fn run_words<I: Read + Drop, O: Write + Drop, F: Write + Drop>(
 // is the account and the key.
 #[derive(Clone, Copy)]
 enum PlainJob<'a> {
-    Lookup(LookUpWords<'a>),
+    Lookup(LookupWords<'a>),
     Script(Option<&'a str>),
     Import {
         files: (&'a str, &'a str),
@@ -165,17 +165,17 @@ fn print_export<O: Write + Drop, F: Output>(
 
 fn run_lookup<O: Output, F: Output>(
     rt: &HostRuntime,
-    words: &LookUpWords<'_>,
+    words: &LookupWords<'_>,
     output: &mut O,
     faults: &mut F,
 ) -> JobEnd {
-    let look_up = match read_words(rt.alloc(), words) {
-        Ok(Ok(look_up)) => look_up,
+    let lookup = match read_words(rt.alloc(), words) {
+        Ok(Ok(lookup)) => lookup,
         Ok(Err(_)) => return JobEnd::Replied(Err(Refusal::BadText)),
         Err(_) => return JobEnd::Told(tell_end(TextEnd::Memory, faults)),
     };
     match fs::open(rt, words.ids) {
-        Ok(file) => print_look_up(rt.alloc(), &look_up, &mut Plain::new(file), output, faults),
+        Ok(file) => print_lookup(rt.alloc(), &lookup, &mut Plain::new(file), output, faults),
         Err(_) => JobEnd::FileFailed,
     }
 }

@@ -11,7 +11,7 @@ use Rattle.clap.specs.Walk.{Row, Text, first_of, one_of}
 use Rattle.clap.specs.Words.{subcommand_of, takes, fault_of, kind_of, Kinds, IsAmong}
 use Rattle.pid_cli_words.specs.Commands.{commands}
 use Rattle.pid_cli_words.specs.declared.job.Job.{Job}
-use Rattle.pid_cli_words.specs.declared.job.LookUpWords.{LookUpWords}
+use Rattle.pid_cli_words.specs.declared.job.LookupWords.{LookupWords}
 use Rattle.pid_cli_words.specs.declared.job.Job.TheVariants as jobs
 use Rattle.pid_cli_words.specs.declared.job.WordsFault.{WordsFault}
 use Rattle.pid_cli_words.specs.declared.job.WordsFault.TheVariants.{Memory, Words}
@@ -33,8 +33,8 @@ abbrev pub text_given : Option (Bor Text) → Option Text
 text_given = option_map (λ text. text.now)
 
 -- the task of a lookup with its texts
-abbrev pub look_up_task : LookUpWords → Task
-look_up_task asked = LooksUp asked.ids.now asked.flags.now (text_given asked.size)
+abbrev pub lookup_task : LookupWords → Task
+lookup_task asked = LooksUp asked.ids.now asked.flags.now (text_given asked.size)
     (text_given asked.vendor) (text_given asked.device)
     (text_given asked.subvendor) (text_given asked.subdevice) (text_given asked.class)
     (text_given asked.progif)
@@ -43,7 +43,7 @@ look_up_task asked = LooksUp asked.ids.now asked.flags.now (text_given asked.siz
 abbrev pub task_of : Job → Task
 task_of jobs.Tidy = Tidies
 task_of jobs.Check = Checks
-task_of (jobs.Lookup asked) = look_up_task asked
+task_of (jobs.Lookup asked) = lookup_task asked
 task_of (jobs.Script db) = Runs (text_given db)
 task_of (jobs.Import db account key ids) = Imports db.now account.now (text_given key) ids.now
 task_of (jobs.Export db) = Exports db.now
@@ -68,8 +68,8 @@ abbrev pub number_given : ℕ → Text → List Row → ℕ
 number_given bits name rows = option_map_or (number_written bits) (one_of name rows) 0
 
 -- the lookup whose options have these values
-abbrev pub look_up_named : List Row → Task
-look_up_named rows = LooksUp (needed (codes "ids") rows) (needed (codes "flags") rows)
+abbrev pub lookup_named : List Row → Task
+lookup_named rows = LooksUp (needed (codes "ids") rows) (needed (codes "flags") rows)
     (first_of (codes "size") rows)
     (first_of (codes "vendor") rows) (first_of (codes "device") rows)
     (first_of (codes "subvendor") rows)
@@ -79,7 +79,7 @@ look_up_named rows = LooksUp (needed (codes "ids") rows) (needed (codes "flags")
 -- the subcommands, each with its task, given the values of its options
 abbrev pub tasks : List (Text × (List Row → Task))
 tasks = (codes "check", λ rows. Checks)
-    ∷ (codes "lookup", look_up_named)
+    ∷ (codes "lookup", lookup_named)
     ∷ (codes "script", λ rows. Runs (first_of (codes "db") rows))
     ∷ (
       codes "import",

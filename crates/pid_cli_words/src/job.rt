@@ -13,7 +13,7 @@ use thiserror::Error;
 pub enum Job<'a> {
     Tidy,
     Check,
-    Lookup(LookUpWords<'a>),
+    Lookup(LookupWords<'a>),
     /// On a registry in memory, if no file is named.
     Script {
         db: Option<&'a str>,
@@ -40,7 +40,7 @@ pub enum Job<'a> {
 
 /// The file and the values of a lookup. The values are not checked yet.
 #[derive(Clone, Copy, Debug)]
-pub struct LookUpWords<'a> {
+pub struct LookupWords<'a> {
     pub ids: &'a str,
     pub flags: &'a str,
     pub size: Option<&'a str>,

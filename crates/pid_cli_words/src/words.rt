@@ -5,8 +5,8 @@ ghost use Rattle.clap.specs.Words.{found_of};
 ghost use Rattle.pid_cli_words.specs.Jobs.{
   are_taken,
   faults_of,
-  look_up_named,
-  look_up_task,
+  lookup_named,
+  lookup_task,
   needed,
   number_given,
   task_meant,
@@ -17,7 +17,7 @@ ghost use Rattle.pid_cli_words.specs.Jobs.{
 };
 
 use crate::commands::commands;
-use crate::job::{Job, LookUpWords, WordsFault};
+use crate::job::{Job, LookupWords, WordsFault};
 use clap::ArgMatches;
 use std::alloc::Global;
 
@@ -34,10 +34,10 @@ fn text<'a>(given: &ArgMatches<'a>, name: &str) -> Option<&'a str>
     given.get_str(name)
 }
 
-fn look_up_words<'a>(given: &ArgMatches<'a>) -> LookUpWords<'a>
-    ensures { look_up_task result ≡ look_up_named (rows_of (found_of given.now)) }
+fn lookup_words<'a>(given: &ArgMatches<'a>) -> LookupWords<'a>
+    ensures { lookup_task result ≡ lookup_named (rows_of (found_of given.now)) }
 {
-    LookUpWords {
+    LookupWords {
         ids: needed_text(given, "ids"),
         flags: needed_text(given, "flags"),
         size: text(given, "size"),
@@ -68,7 +68,7 @@ fn job_named<'a>(name: &str, given: &ArgMatches<'a>) -> Job<'a>
 {
     match name {
         "check" => Job::Check,
-        "lookup" => Job::Lookup(look_up_words(given)),
+        "lookup" => Job::Lookup(lookup_words(given)),
         "script" => Job::Script {
             db: text(given, "db"),
         },

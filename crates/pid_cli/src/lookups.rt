@@ -1,15 +1,15 @@
 //! Lookups in a pci.ids file.
 use crate::job_end::JobEnd;
 use crate::replies::print_answer;
-use pid_cli_words::LookUpWords;
+use pid_cli_words::LookupWords;
 use pid_file::{LARGEST, TextEnd, tell_unread};
 use pid_ident::{Input, Output};
-use pid_lookup::{Args, BadField, args_of, look_up_in};
+use pid_lookup::{Args, BadField, args_of, lookup_in};
 use std::alloc::{AllocError, Global};
 
 /// A lookup whose values were checked.
 #[derive(Clone, Copy, Debug)]
-pub struct LookUp {
+pub struct Lookup {
     pub flags: u32,
     pub args: Args,
     pub size: u32,
@@ -18,8 +18,8 @@ pub struct LookUp {
 /// Checks the values of the arguments and returns the lookup that they ask for.
 pub fn read_words(
     alloc: Global,
-    words: &LookUpWords<'_>,
-) -> Result<Result<LookUp, BadField>, AllocError> {
+    words: &LookupWords<'_>,
+) -> Result<Result<Lookup, BadField>, AllocError> {
     let given = [
         ("flags", Some(words.flags)),
         ("size", words.size),
@@ -39,21 +39,21 @@ pub fn read_words(
         }
     }
     match args_of(&fields) {
-        Ok((flags, args, size)) => Ok(Ok(LookUp { flags, args, size })),
+        Ok((flags, args, size)) => Ok(Ok(Lookup { flags, args, size })),
         Err(bad) => Ok(Err(bad)),
     }
 }
 
 /// Answers a lookup in the text of the input, or reports the fault of the text.
-pub fn print_look_up<I: Input, O: Output, F: Output>(
+pub fn print_lookup<I: Input, O: Output, F: Output>(
     alloc: Global,
-    look_up: &LookUp,
+    lookup: &Lookup,
     input: &mut I,
     output: &mut O,
     faults: &mut F,
 ) -> JobEnd {
-    let LookUp { flags, args, size } = *look_up;
-    match look_up_in(alloc, LARGEST, input, flags, &args, size) {
+    let Lookup { flags, args, size } = *lookup;
+    match lookup_in(alloc, LARGEST, input, flags, &args, size) {
         Ok(found) => print_answer(found, output, faults),
         Err(end) => match tell_unread(end, faults) {
             TextEnd::ReadFault | TextEnd::WriteFault => JobEnd::FileFailed,
