@@ -96,7 +96,7 @@ fn early_ones(rt: HostRuntime) -> Result<(), Fail> {
 }
 
 #[test]
-fn look_ups(rt: HostRuntime) -> Result<(), Fail> {
+fn lookups(rt: HostRuntime) -> Result<(), Fail> {
     let alloc = rt.alloc();
     let nothing = lookup_reply(alloc, Ok(Answer::NoAnswer))?;
     expect(

@@ -12,7 +12,7 @@ mod imports;
 #[cfg(test)]
 mod kept_names;
 #[cfg(test)]
-mod look_ups;
+mod lookups;
 #[cfg(test)]
 mod migrations;
 #[cfg(test)]

@@ -8,7 +8,7 @@
 #[cfg(test)]
 mod identifiers;
 #[cfg(test)]
-mod look_ups;
+mod lookups;
 #[cfg(test)]
 mod reading;
 #[cfg(test)]

@@ -60,7 +60,7 @@ lookup flags=a&vendor=1af4&device=0000&subvendor=1af4&subdevice=1100 | Generic
 ";
 
 #[test]
-fn answers_look_ups(rt: HostRuntime) -> Result<(), Fail> {
+fn answers_lookups(rt: HostRuntime) -> Result<(), Fail> {
     expect_run(&rt, rt.alloc(), PAIRS)?;
     expect_run(&rt, rt.alloc(), CLASSES)?;
     expect_run(&rt, rt.alloc(), SUBSYSTEMS)
