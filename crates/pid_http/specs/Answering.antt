@@ -4,7 +4,7 @@ use Rattle.pid_ident.specs.PathTexts.{path_text}
 use Rattle.pid_file.specs.declared.path.Path.{Path}
 use Rattle.pid_lookup.specs.declared.answer.Answer.{Answer as Found}
 use Rattle.pid_lookup.specs.declared.answering.LookupRefusal.{LookupRefusal}
-use Rattle.pid_lookup.specs.declared.answering.LookupRefusal.TheVariants as look_ups
+use Rattle.pid_lookup.specs.declared.answering.LookupRefusal.TheVariants as lookups
 use Rattle.pid_lookup.specs.Answers.{answer_of}
 use Rattle.pid_lookup.specs.Flags.{is_bad}
 use Rattle.pid_moderation.specs.History.{Asked, History}
@@ -56,7 +56,7 @@ children_or_missing format (Some items) = children_answer format items
 
 -- what a look-up finds over the tree, unless its flags are bad
 abbrev pub lookup_in : LookupQuery → History → Result Found (LookupRefusal Refusal)
-lookup_in l h = if is_bad l.flags then Err look_ups.BadFlags else Ok
+lookup_in l h = if is_bad l.flags then Err lookups.BadFlags else Ok
     (answer_of (tree_of h) l.flags l.args l.size)
 
 -- the submission with a number and its remarks, or that there is none

@@ -4,7 +4,7 @@ use Rattle.pid_lookup.specs.Answers.{answer_of}
 use Rattle.pid_lookup.specs.Flags.{is_bad}
 use Rattle.pid_lookup.specs.declared.answer.Answer.{Answer as Found}
 use Rattle.pid_lookup.specs.declared.answering.LookupRefusal.{LookupRefusal}
-use Rattle.pid_lookup.specs.declared.answering.LookupRefusal.TheVariants as look_ups
+use Rattle.pid_lookup.specs.declared.answering.LookupRefusal.TheVariants as lookups
 use Rattle.pid_service_laws.specs.Calls.{nothing_sent}
 use Rattle.pid_moderation.specs.History.{History}
 use Rattle.pid_moderation.specs.Writes.{tree_of}
@@ -21,22 +21,22 @@ use Rattle.pid_http.proofs.Meeting.{from_call, looked, replied}
 use Rattle.pid_http.proofs.queries.lookup.Goals as goal
 
 -- by whether the flags are bad
-by_flags : (l : LookupQuery) (h : History) (b : Bool) → is_bad l.flags ≡ b → (if b then Err look_ups.BadFlags else Ok (answer_of (tree_of h) l.flags l.args l.size)) ≡ lookup_in l h
-by_flags l h b e = ap (λ (x : Bool). if◌then◌else◌ {A = Result Found (LookupRefusal Refusal)} x (Err look_ups.BadFlags) (Ok (answer_of (tree_of h) l.flags l.args l.size))) (sym e)
+by_flags : (l : LookupQuery) (h : History) (b : Bool) → is_bad l.flags ≡ b → (if b then Err lookups.BadFlags else Ok (answer_of (tree_of h) l.flags l.args l.size)) ≡ lookup_in l h
+by_flags l h b e = ap (λ (x : Bool). if◌then◌else◌ {A = Result Found (LookupRefusal Refusal)} x (Err lookups.BadFlags) (Ok (answer_of (tree_of h) l.flags l.args l.size))) (sym e)
 
 found_over : (l : LookupQuery) (h : History) (b : Bool) (found : Found) → is_bad l.flags ≡ b → (b ≡ true → ⊥) → found ≡ answer_of (tree_of h) l.flags l.args l.size → Ok found ≡ lookup_in l h
 found_over l h true found e good is = absurd (good refl)
 found_over l h false found e good is = ap Ok is ∙ by_flags l h false e
 
 over : (l : LookupQuery) (h : History) (result : Result Found (LookupRefusal Refusal)) → IfOk result (λ found. found ≡ answer_of (tree_of h) l.flags l.args l.size)
-    → (IsErrOf result look_ups.BadFlags ↔ (is_bad l.flags ≡ true)) → ((f : Refusal) → IsErrOf result (look_ups.Names f) → MayGive true f) → IsMetOver h (Lookup l) (lookup_answer result) (nothing_sent ∷ []) (Live h)
+    → (IsErrOf result lookups.BadFlags ↔ (is_bad l.flags ≡ true)) → ((f : Refusal) → IsErrOf result (lookups.Names f) → MayGive true f) → IsMetOver h (Lookup l) (lookup_answer result) (nothing_sent ∷ []) (Live h)
 unfolding answer_over
 over l h (Ok found) is bad fault = AnsweredOver (ap lookup_answer (found_over l h (is_bad l.flags) found refl (λ e. let other = bad.1 e in absurd cc) is)) (refl, tt) refl
-over l h (Err look_ups.BadFlags) is bad fault = AnsweredOver (ap lookup_answer (by_flags l h true (bad.0 refl))) (refl, tt) refl
-over l h (Err (look_ups.Names f)) is bad fault = NotDone f ((fault f refl).alive refl) (refl, refl) (refl, tt) refl
-over l h (Err look_ups.Memory) is bad fault = NotDone Memory (inl refl) (refl, refl) (refl, tt) refl
+over l h (Err lookups.BadFlags) is bad fault = AnsweredOver (ap lookup_answer (by_flags l h true (bad.0 refl))) (refl, tt) refl
+over l h (Err (lookups.Names f)) is bad fault = NotDone f ((fault f refl).alive refl) (refl, refl) (refl, tt) refl
+over l h (Err lookups.Memory) is bad fault = NotDone Memory (inl refl) (refl, refl) (refl, tt) refl
 
-failed : (l : LookupQuery) (result : Result Found (LookupRefusal Refusal)) → result ≡ Err (look_ups.Names HasFailed) → IsErrandRefused (Lookup l) HasFailed (lookup_answer result)
+failed : (l : LookupQuery) (result : Result Found (LookupRefusal Refusal)) → result ≡ Err (lookups.Names HasFailed) → IsErrandRefused (Lookup l) HasFailed (lookup_answer result)
 failed l result e = (refl, ap lookup_answer e)
 
 pub returns : goal.returns
