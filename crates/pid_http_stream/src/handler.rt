@@ -143,9 +143,9 @@ pub trait Handler {
         ensures store { result ≡ Err BodyStop.Store → cannot_go_on self.new };
 
     /// A body that was promised and written is that of an answer.
-    ghost kept: { (a : View) (request : Request) (head : ReplyHead) (told : ℕ) (b : View)
-        (body : List ℕ) (c : View) → conduct.promises a request head told b → writes b body c
-        → conduct.answers a request (answer_behind head told body) c };
+    ghost kept: { (a : View) (request : Request) (head : ReplyHead) (content_length : ℕ) (b : View)
+        (body : List ℕ) (c : View) → conduct.promises a request head content_length b
+        → writes b body c → conduct.answers a request (answer_behind head content_length body) c };
 
     /// No call leaves it as it is.
     ghost stays: { (a : Self) → becomes a a };

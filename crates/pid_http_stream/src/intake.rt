@@ -84,7 +84,7 @@ fn keep(held: &mut Vec<u8>, piece: &[u8]) -> Filled
 // and nothing is read while a whole request is held, or what is refused.
 fn fill<I: Incoming<W>, W: Output>(
     held: &mut Vec<u8>,
-    left: &mut u64,
+    turns_left: &mut u64,
     input: &mut I,
     output: &W,
 ) -> Filled
@@ -92,22 +92,22 @@ fn fill<I: Incoming<W>, W: Output>(
     ensures comes { ComesIn held.old.items held.new.items (I.to_come input.old)
         (I.to_come input.new) }
     ensures stays { StaysBut held.old.items held.new.items (I.to_come input.new) result }
-    ensures piece { result ≡ Filled.Piece → (left.new + 1 ≡ left.old)
+    ensures piece { result ≡ Filled.Piece → (turns_left.new + 1 ≡ turns_left.old)
         × (length held.new.items ≤ length held.old.items + READ_SIZE) }
-    ensures turns { SpendsTurns (turns_at (I.reads input.old) left.old)
-        (turns_at (I.reads input.new) left.new) }
+    ensures turns { SpendsTurns (turns_at (I.reads input.old) turns_left.old)
+        (turns_at (I.reads input.new) turns_left.new) }
     ensures noted { AllSince (IsMoment (I.to_come input.old) (W.taken output.now))
         (I.moments input.old) (I.moments input.new) }
-    ensures stopped { FillStops result (I.read_fault input.new) left.new }
+    ensures stopped { FillStops result (I.read_fault input.new) turns_left.new }
     ensures goes { I.goes input.old input.new }
 {
-    if *left == 0 {
+    if *turns_left == 0 {
         return Filled::Stopped(Stop::TurnsSpent);
     }
     if held.reserve(READ_SIZE).is_err() {
         return Filled::Stopped(Stop::Memory);
     }
-    *left -= 1;
+    *turns_left -= 1;
     let mut buffer = [0u8; READ_SIZE];
     match input.read_behind(output, &mut buffer) {
         Err(_) => Filled::Stopped(Stop::ReadFault),
@@ -162,7 +162,7 @@ fn judge_more(held: &[u8], before: usize, fields: &mut [HeaderSpan]) -> Judged
 /// Reads until a head has come, or none can come.
 pub(crate) fn read_head<I: Incoming<W>, W: Output>(
     held: &mut Vec<u8>,
-    left: &mut u64,
+    turns_left: &mut u64,
     input: &mut I,
     output: &W,
     fields: &mut [HeaderSpan],
@@ -171,14 +171,14 @@ pub(crate) fn read_head<I: Incoming<W>, W: Output>(
     ensures comes { ComesIn held.old.items held.new.items (I.to_come input.old)
         (I.to_come input.new) }
     ensures head { IsHeadRead held.new.items fields.new (I.to_come input.new) result }
-    ensures turns { SpendsTurns (turns_at (I.reads input.old) left.old)
-        (turns_at (I.reads input.new) left.new) }
-    ensures pace { left.new * READ_SIZE + length held.new.items
-        ≤ left.old * READ_SIZE + length held.old.items }
+    ensures turns { SpendsTurns (turns_at (I.reads input.old) turns_left.old)
+        (turns_at (I.reads input.new) turns_left.new) }
+    ensures pace { turns_left.new * READ_SIZE + length held.new.items
+        ≤ turns_left.old * READ_SIZE + length held.old.items }
     ensures waits { AllSince
         (WaitsForRequest held.old.items (I.to_come input.old) (W.taken output.now))
         (I.moments input.old) (I.moments input.new) }
-    ensures stopped { HeadStops result (I.read_fault input.new) left.new }
+    ensures stopped { HeadStops result (I.read_fault input.new) turns_left.new }
     ensures goes { I.goes input.old input.new }
 {
     let mut judged = judge(held, fields);
@@ -189,7 +189,7 @@ pub(crate) fn read_head<I: Incoming<W>, W: Output>(
             Judged::More => {}
         }
         let before = held.len();
-        match fill(held, left, input, output) {
+        match fill(held, turns_left, input, output) {
             Filled::Stopped(stop) => return HeadRead::Stopped(stop),
             Filled::End => return judge_end(held),
             Filled::Piece => {

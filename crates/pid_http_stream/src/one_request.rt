@@ -45,16 +45,20 @@ pub(crate) enum Asked {
 }
 
 // Reads a body to its end, of at most so many bytes.
-fn read_whole<B: Input>(alloc: Global, told: usize, body: &mut B) -> Result<Vec<u8>, NoReply>
+fn read_whole<B: Input>(
+    alloc: Global,
+    content_length: usize,
+    body: &mut B,
+) -> Result<Vec<u8>, NoReply>
     ensures whole { IfOk result (λ v. Consumes (B.to_come body.old) (B.to_come body.new) v.items
         × IsAtEnd (B.to_come body.new)) }
     ensures goes { B.goes body.old body.new }
 {
-    let Ok(mut bytes) = Vec::with_capacity(alloc, told) else {
+    let Ok(mut bytes) = Vec::with_capacity(alloc, content_length) else {
         return Err(NoReply);
     };
     let mut buffer = [0u8; READ_SIZE];
-    for _ in 0..=told {
+    for _ in 0..=content_length {
         let Ok(count) = body.read(&mut buffer) else {
             return Err(NoReply);
         };
@@ -74,7 +78,7 @@ fn ask_buffered<H: Handler, B: Input>(
     handler: &mut H,
     question: H::Question,
     head: &Head<'_>,
-    told: usize,
+    content_length: usize,
     body: &mut B,
 ) -> Result<Reply, NoReply>
     requires asks { (h : RequestHead) → IsHeadOf head.now h
@@ -87,7 +91,7 @@ fn ask_buffered<H: Handler, B: Input>(
         → B.to_come body.old ≡ Some request.body → length request.body ≤ longest_body
         → IsHandled H.conduct v request result (B.to_come body.new) w) }
 {
-    match read_whole(alloc, told, body) {
+    match read_whole(alloc, content_length, body) {
         Err(end) => Err(end),
         Ok(bytes) => handler.answer(question, head, &bytes),
     }
@@ -98,7 +102,7 @@ fn ask<H: Handler, B: Input>(
     alloc: Global,
     handler: &mut H,
     head: &Head<'_>,
-    told: usize,
+    content_length: usize,
     body: &mut B,
 ) -> Result<Reply, NoReply>
     ensures goes { B.goes body.old body.new }
@@ -111,20 +115,27 @@ fn ask<H: Handler, B: Input>(
 {
     match handler.question(head) {
         Err(end) => Err(end),
-        Ok(Wanted::Buffered(question)) => ask_buffered(alloc, handler, question, head, told, body),
+        Ok(Wanted::Buffered(question)) => ask_buffered(
+            alloc,
+            handler,
+            question,
+            head,
+            content_length,
+            body,
+        ),
         Ok(Wanted::Streamed(upload)) => handler.answer_streamed(upload, head, body),
     }
 }
 
 // What came of a body with its head: at most so many of the bytes after that.
-fn came_with<'b>(head: &Head<'b>, told: usize) -> &'b [u8]
-    ensures front { result.now ≡ take (min told
+fn came_with<'b>(head: &Head<'b>, content_length: usize) -> &'b [u8]
+    ensures front { result.now ≡ take (min content_length
         (length (drop head.now.spans.len head.now.bytes.now)))
         (drop head.now.spans.len head.now.bytes.now) }
-    ensures fits { length result.now ≤ told }
+    ensures fits { length result.now ≤ content_length }
 {
     let (_, behind) = head.bytes.split_at(head.spans.len);
-    let (front, _) = behind.split_at(told.min(behind.len()));
+    let (front, _) = behind.split_at(content_length.min(behind.len()));
     front
 }
 
@@ -151,12 +162,12 @@ pub(crate) fn ask_over<H: Handler, I: Incoming<W>, W: Output>(
     alloc: Global,
     handler: &mut H,
     head: &Head<'_>,
-    told: usize,
+    content_length: usize,
     input: &mut I,
-    left: &mut u64,
+    turns_left: &mut u64,
     output: &W,
 ) -> Asked
-    requires { StandsAt head.now.bytes.now head.now.fields.now head.now.spans told }
+    requires { StandsAt head.now.bytes.now head.now.fields.now head.now.spans content_length }
     ensures becomes { H.becomes handler.old handler.new }
     ensures asked { Leads H.is_good H.stands handler.old handler.new
         (λ v w. IfSome (I.to_come input.old) (λ _. AsksHandler H.conduct
@@ -165,26 +176,26 @@ pub(crate) fn ask_over<H: Handler, I: Incoming<W>, W: Output>(
           held = head.now.bytes.now;
           headers = head.now.fields.now;
           spans = head.now.spans;
-          content_length = told;
+          content_length = content_length;
         }) result)) }
-    ensures turns { SpendsTurns (turns_at (I.reads input.old) left.old)
-        (turns_at (I.reads input.new) left.new) }
+    ensures turns { SpendsTurns (turns_at (I.reads input.old) turns_left.old)
+        (turns_at (I.reads input.new) turns_left.new) }
     ensures waits { AllSince (WaitsForRequest head.now.bytes.now (I.to_come input.old)
         (W.taken output.now)) (I.moments input.old) (I.moments input.new) }
     ensures fault { result ≡ Asked.Broken BodyFault.ReadFault → IsSome (I.read_fault input.new) }
-    ensures spent { result ≡ Asked.Broken BodyFault.TurnsSpent → left.new ≡ 0 }
+    ensures spent { result ≡ Asked.Broken BodyFault.TurnsSpent → turns_left.new ≡ 0 }
     ensures goes { I.goes input.old input.new }
 {
     let mut body = BodyInput {
-        held: came_with(head, told),
-        wanted: told,
+        held: came_with(head, content_length),
+        wanted: content_length,
         input,
         output,
-        left: *left,
+        left: *turns_left,
         reads: 0,
         fault: None,
     };
-    let reply = ask(alloc, handler, head, told, &mut body);
-    *left = body.left;
+    let reply = ask(alloc, handler, head, content_length, &mut body);
+    *turns_left = body.left;
     asked_of(reply, body.wanted, body.fault)
 }

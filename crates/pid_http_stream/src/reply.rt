@@ -99,17 +99,17 @@ fn write_lines<'x, W: Output>(
 /// Writes the head of a reply whose body has so many bytes, and then the bytes.
 pub(crate) fn write_reply<W: Output>(
     head: ReplyHead,
-    told: u64,
+    content_length: u64,
     body: &[u8],
     closes: bool,
     out: &mut W,
 ) -> Result<(), WriteFault>
     ensures sent { Sends result (W.taken out.old) (W.taken out.new)
-        (reply_bytes (answer_behind head told body.now) closes) }
+        (reply_bytes (answer_behind head content_length body.now) closes) }
     ensures fault { IfErr result (λ f. W.write_fault out.new ≡ Some f) }
 {
     let mut digits = Buffer::new();
-    let length = digits.format(told).as_bytes();
+    let length = digits.format(content_length).as_bytes();
     let status = head.status.as_str().as_bytes();
     let phrase = phrase_of(head.status);
     let content = type_line(head.content);

@@ -35,12 +35,12 @@ fn send_bytes<W: Output>(head: ReplyHead, body: &[u8], closes: bool, out: &mut W
 }
 
 // Writes the head of a reply.
-fn send_head<W: Output>(head: ReplyHead, told: u64, closes: bool, out: &mut W) -> Sent
+fn send_head<W: Output>(head: ReplyHead, content_length: u64, closes: bool, out: &mut W) -> Sent
     ensures sent { SendsText result (W.taken out.old) (W.taken out.new)
-        (reply_head head.status head.content told closes) }
+        (reply_head head.status head.content content_length closes) }
     ensures fault { result ≡ Sent.WriteFault → IsSome (W.write_fault out.new) }
 {
-    match write_reply(head, told, b"", closes, out) {
+    match write_reply(head, content_length, b"", closes, out) {
         Ok(()) => Sent::Whole,
         Err(_) => Sent::WriteFault,
     }
@@ -62,13 +62,14 @@ fn has_failed<W: Output>(out: &mut W) -> bool
 fn send_written<H: Handler, W: Output>(
     handler: &mut H,
     head: ReplyHead,
-    told: u64,
+    content_length: u64,
     closes: bool,
     out: &mut W,
 ) -> Sent
     ensures becomes { H.becomes handler.old handler.new }
     ensures sent { Leads H.is_good H.stands handler.old handler.new
-        (λ v w. (a : H.View) (request : Request) → (H.conduct).promises a request head told v
+        (λ v w. (a : H.View) (request : Request)
+        → (H.conduct).promises a request head content_length v
         → IsSent H.conduct
         (outside a w (W.taken out.old) (W.taken out.new))
         (record { request = request; closing = closes }) result) }
@@ -76,7 +77,7 @@ fn send_written<H: Handler, W: Output>(
     ensures store { result ≡ Sent.StoreFault → W.write_fault out.new ≡ None }
     ensures stuck { result ≡ Sent.StoreFault → H.cannot_go_on handler.new }
 {
-    match send_head(head, told, closes, out) {
+    match send_head(head, content_length, closes, out) {
         Sent::Whole => {}
         Sent::WriteFault => return Sent::WriteFault,
         Sent::StoreFault => return Sent::StoreFault,
@@ -114,6 +115,6 @@ pub(crate) fn send<H: Handler, W: Output>(
     let Reply { head, body } = reply;
     match body {
         ReplyBody::Bytes(bytes) => send_bytes(head, &bytes, closes, out),
-        ReplyBody::Written(told) => send_written(handler, head, told, closes, out),
+        ReplyBody::Written(length) => send_written(handler, head, length, closes, out),
     }
 }

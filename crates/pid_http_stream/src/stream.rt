@@ -143,12 +143,12 @@ fn serve_request<H: Handler, I: Incoming<W>, W: Output>(
     alloc: Global,
     handler: &mut H,
     head: &Head<'_>,
-    told: usize,
+    content_length: usize,
     input: &mut I,
-    left: &mut u64,
+    turns_left: &mut u64,
     out: &mut W,
 ) -> Answered
-    requires { StandsAt head.now.bytes.now head.now.fields.now head.now.spans told }
+    requires { StandsAt head.now.bytes.now head.now.fields.now head.now.spans content_length }
     ensures becomes { H.becomes handler.old handler.new }
     ensures stepped { Leads H.is_good H.stands handler.old handler.new
         (λ v w. IfSome (I.to_come input.old) (λ _. Steps H.conduct
@@ -157,10 +157,10 @@ fn serve_request<H: Handler, I: Incoming<W>, W: Output>(
           input = I.to_come input.old;
           input_after = I.to_come input.new;
           held = head.now.bytes.now;
-          held_after = drop (head.now.spans.len + told) head.now.bytes.now;
+          held_after = drop (head.now.spans.len + content_length) head.now.bytes.now;
         }) result)) }
-    ensures turns { SpendsTurns (turns_at (I.reads input.old) left.old)
-        (turns_at (I.reads input.new) left.new) }
+    ensures turns { SpendsTurns (turns_at (I.reads input.old) turns_left.old)
+        (turns_at (I.reads input.new) turns_left.new) }
     ensures waits { AllSince
         (WaitsForRequest head.now.bytes.now (I.to_come input.old) (W.taken out.old))
         (I.moments input.old) (I.moments input.new) }
@@ -168,13 +168,13 @@ fn serve_request<H: Handler, I: Incoming<W>, W: Output>(
       read_fault = I.read_fault input.new;
       write_fault = W.write_fault out.new;
       stuck = H.cannot_go_on handler.new;
-      turns = left.old;
+      turns = turns_left.old;
       reads = I.reads input.old;
       reads_after = I.reads input.new;
     }) }
     ensures goes { I.goes input.old input.new }
 {
-    match ask_over(alloc, handler, head, told, input, left, out) {
+    match ask_over(alloc, handler, head, content_length, input, turns_left, out) {
         Asked::Reply(reply) => {
             let closes = head.closes();
             answered_by(send(handler, reply, closes, out), closes)
@@ -245,10 +245,10 @@ pub fn serve_stream<H: Handler, I: Incoming<W>, W: Output>(
 {
     let mut fields = [EMPTY_HEADER_SPAN; MOST_FIELDS];
     let mut held = Vec::new(alloc);
-    let mut left = turns;
+    let mut turns_left = turns;
     let mut answered: u64 = 0;
     'serving: loop {
-        match read_head(&mut held, &mut left, input, output, &mut fields) {
+        match read_head(&mut held, &mut turns_left, input, output, &mut fields) {
             HeadRead::Nothing => return Served {
                 answered,
                 end: StreamEnd::Clean,
@@ -268,7 +268,7 @@ pub fn serve_stream<H: Handler, I: Incoming<W>, W: Output>(
                     fields: &fields,
                     spans,
                 };
-                match serve_request(alloc, handler, &head, body, input, &mut left, output) {
+                match serve_request(alloc, handler, &head, body, input, &mut turns_left, output) {
                     Answered::Open => {
                         answered = answered.saturating_add(1);
                         drop_front(&mut held, spans.len + body);

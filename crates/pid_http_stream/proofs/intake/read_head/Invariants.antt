@@ -10,12 +10,12 @@ abbrev pub invariant-reading : goal.invariant-reading
 invariant-reading g l = record {
   comes : ComesIn l.fn.held.items l.held.items (g.I.Incoming.to_come l.fn.input) (g.I.Incoming.to_come l.input);
   judged : IsHeadJudged l.held.items l.fields l.judged;
-  turns : SpendsTurns (record { reads = g.I.Incoming.reads l.fn.input; left = l.fn.left }) (record { reads = g.I.Incoming.reads l.input; left = l.left });
-  pace : l.left * READ_SIZE + length l.held.items ≤ l.fn.left * READ_SIZE + length l.fn.held.items;
+  turns : SpendsTurns (record { reads = g.I.Incoming.reads l.fn.input; left = l.fn.turns_left }) (record { reads = g.I.Incoming.reads l.input; left = l.turns_left });
+  pace : l.turns_left * READ_SIZE + length l.held.items ≤ l.fn.turns_left * READ_SIZE + length l.fn.held.items;
   room : length l.fields ≡ MOST_FIELDS;
   waits : AllSince (WaitsForRequest l.fn.held.items (g.I.Incoming.to_come l.fn.input) (g.W.Output.taken l.output)) (g.I.Incoming.moments l.fn.input) (g.I.Incoming.moments l.input);
   goes : g.I.Incoming.goes l.fn.input l.input;
 }
 
 abbrev pub decreases-reading : goal.decreases-reading
-decreases-reading g l = l.left
+decreases-reading g l = l.turns_left

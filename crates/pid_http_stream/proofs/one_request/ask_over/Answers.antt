@@ -10,41 +10,41 @@ use Rattle.pid_http_stream.proofs.one_request.ask_over.Goals as goal
 
 pub returns-clause-asked : goal.returns-clause-asked
 returns-clause-asked g c =
-    let old : BodyState = record { held = c.came_with.result.now; wanted = c.args.told; fault = None; to_come = g.I.Incoming.to_come c.args.input.now; kept = g.I.Incoming.read_fault c.args.input.now; turns = record { reads = g.I.Incoming.reads c.args.input.now; left = c.args.left.now }; moments = g.I.Incoming.moments c.args.input.now; taken = g.W.Output.taken c.args.output.now } in
+    let old : BodyState = record { held = c.came_with.result.now; wanted = c.args.content_length; fault = None; to_come = g.I.Incoming.to_come c.args.input.now; kept = g.I.Incoming.read_fault c.args.input.now; turns = record { reads = g.I.Incoming.reads c.args.input.now; left = c.args.turns_left.now }; moments = g.I.Incoming.moments c.args.input.now; taken = g.W.Output.taken c.args.output.now } in
     let body = c.ask-reply.new.body in
     let new : BodyState = record { held = body.held.now; wanted = body.wanted; fault = body.fault; to_come = g.I.Incoming.to_come body.input.now; kept = g.I.Incoming.read_fault body.input.now; turns = record { reads = g.I.Incoming.reads body.input.now; left = body.left }; moments = g.I.Incoming.moments body.input.now; taken = g.W.Output.taken body.output.now } in
-    let reading : Reading c.args.head.now.bytes.now c.args.head.now.fields.now c.args.head.now.spans c.args.told old new =
+    let reading : Reading c.args.head.now.bytes.now c.args.head.now.fields.now c.args.head.now.spans c.args.content_length old new =
     record { stands = c.requires; n = _; n_is = refl; held_is = c.came_with.ensures.front; wanted_is = refl; no_fault = refl; read = c.ask-reply.ensures.goes.2; fits = body.fits } in
     let same : c.ask-reply.new.body.input.now ≡ c.input-1.given.0 = search rules in
-    turned _ _ _ _ (λ v w told. rw c.asked_of.ensures (subst (λ i. IfSome (g.I.Incoming.to_come c.args.input.now) (λ _. AsksHandler g.H.Handler.conduct (record { a = v; b = w; input = g.I.Incoming.to_come c.args.input.now; input_after = g.I.Incoming.to_come i }) (record { held = c.args.head.now.bytes.now; headers = c.args.head.now.fields.now; spans = c.args.head.now.spans; content_length = c.args.told }) (asked_so c.ask-reply.result c.ask-reply.new.body.wanted c.ask-reply.new.body.fault))) same
-    (asked_is g.H.Handler.conduct v w c.args.head.now.bytes.now c.args.head.now.fields.now c.args.head.now.spans c.args.told old new reading c.ask-reply.result told c.ask-reply.ensures.whole))) c.ask-reply.ensures.answered
+    turned _ _ _ _ (λ v w told. rw c.asked_of.ensures (subst (λ i. IfSome (g.I.Incoming.to_come c.args.input.now) (λ _. AsksHandler g.H.Handler.conduct (record { a = v; b = w; input = g.I.Incoming.to_come c.args.input.now; input_after = g.I.Incoming.to_come i }) (record { held = c.args.head.now.bytes.now; headers = c.args.head.now.fields.now; spans = c.args.head.now.spans; content_length = c.args.content_length }) (asked_so c.ask-reply.result c.ask-reply.new.body.wanted c.ask-reply.new.body.fault))) same
+    (asked_is g.H.Handler.conduct v w c.args.head.now.bytes.now c.args.head.now.fields.now c.args.head.now.spans c.args.content_length old new reading c.ask-reply.result told c.ask-reply.ensures.whole))) c.ask-reply.ensures.answered
 
 pub returns-clause-fault : goal.returns-clause-fault
 returns-clause-fault g c = λ e.
-    let old : BodyState = record { held = c.came_with.result.now; wanted = c.args.told; fault = None; to_come = g.I.Incoming.to_come c.args.input.now; kept = g.I.Incoming.read_fault c.args.input.now; turns = record { reads = g.I.Incoming.reads c.args.input.now; left = c.args.left.now }; moments = g.I.Incoming.moments c.args.input.now; taken = g.W.Output.taken c.args.output.now } in
+    let old : BodyState = record { held = c.came_with.result.now; wanted = c.args.content_length; fault = None; to_come = g.I.Incoming.to_come c.args.input.now; kept = g.I.Incoming.read_fault c.args.input.now; turns = record { reads = g.I.Incoming.reads c.args.input.now; left = c.args.turns_left.now }; moments = g.I.Incoming.moments c.args.input.now; taken = g.W.Output.taken c.args.output.now } in
     let body = c.ask-reply.new.body in
     let new : BodyState = record { held = body.held.now; wanted = body.wanted; fault = body.fault; to_come = g.I.Incoming.to_come body.input.now; kept = g.I.Incoming.read_fault body.input.now; turns = record { reads = g.I.Incoming.reads body.input.now; left = body.left }; moments = g.I.Incoming.moments body.input.now; taken = g.W.Output.taken body.output.now } in
-    let reading : Reading c.args.head.now.bytes.now c.args.head.now.fields.now c.args.head.now.spans c.args.told old new =
+    let reading : Reading c.args.head.now.bytes.now c.args.head.now.fields.now c.args.head.now.spans c.args.content_length old new =
     record { stands = c.requires; n = _; n_is = refl; held_is = c.came_with.ensures.front; wanted_is = refl; no_fault = refl; read = c.ask-reply.ensures.goes.2; fits = body.fits } in
     let same : c.ask-reply.new.body.input.now ≡ c.input-1.given.0 = search rules in
-    subst (λ i. IsSome (g.I.Incoming.read_fault i)) same (broken_cause c.args.head.now.bytes.now c.args.head.now.fields.now c.args.head.now.spans c.args.told old new reading c.ask-reply.result _ (rw c.asked_of.ensures at e)).cause
+    subst (λ i. IsSome (g.I.Incoming.read_fault i)) same (broken_cause c.args.head.now.bytes.now c.args.head.now.fields.now c.args.head.now.spans c.args.content_length old new reading c.ask-reply.result _ (rw c.asked_of.ensures at e)).cause
 
 pub returns-clause-spent : goal.returns-clause-spent
 returns-clause-spent g c = λ e.
-    let old : BodyState = record { held = c.came_with.result.now; wanted = c.args.told; fault = None; to_come = g.I.Incoming.to_come c.args.input.now; kept = g.I.Incoming.read_fault c.args.input.now; turns = record { reads = g.I.Incoming.reads c.args.input.now; left = c.args.left.now }; moments = g.I.Incoming.moments c.args.input.now; taken = g.W.Output.taken c.args.output.now } in
+    let old : BodyState = record { held = c.came_with.result.now; wanted = c.args.content_length; fault = None; to_come = g.I.Incoming.to_come c.args.input.now; kept = g.I.Incoming.read_fault c.args.input.now; turns = record { reads = g.I.Incoming.reads c.args.input.now; left = c.args.turns_left.now }; moments = g.I.Incoming.moments c.args.input.now; taken = g.W.Output.taken c.args.output.now } in
     let body = c.ask-reply.new.body in
     let new : BodyState = record { held = body.held.now; wanted = body.wanted; fault = body.fault; to_come = g.I.Incoming.to_come body.input.now; kept = g.I.Incoming.read_fault body.input.now; turns = record { reads = g.I.Incoming.reads body.input.now; left = body.left }; moments = g.I.Incoming.moments body.input.now; taken = g.W.Output.taken body.output.now } in
-    let reading : Reading c.args.head.now.bytes.now c.args.head.now.fields.now c.args.head.now.spans c.args.told old new =
+    let reading : Reading c.args.head.now.bytes.now c.args.head.now.fields.now c.args.head.now.spans c.args.content_length old new =
     record { stands = c.requires; n = _; n_is = refl; held_is = c.came_with.ensures.front; wanted_is = refl; no_fault = refl; read = c.ask-reply.ensures.goes.2; fits = body.fits } in
-    (broken_cause c.args.head.now.bytes.now c.args.head.now.fields.now c.args.head.now.spans c.args.told old new reading c.ask-reply.result _ (rw c.asked_of.ensures at e)).cause
+    (broken_cause c.args.head.now.bytes.now c.args.head.now.fields.now c.args.head.now.spans c.args.content_length old new reading c.ask-reply.result _ (rw c.asked_of.ensures at e)).cause
 
 pub returns-clause-waits : goal.returns-clause-waits
 returns-clause-waits g c =
-    let old : BodyState = record { held = c.came_with.result.now; wanted = c.args.told; fault = None; to_come = g.I.Incoming.to_come c.args.input.now; kept = g.I.Incoming.read_fault c.args.input.now; turns = record { reads = g.I.Incoming.reads c.args.input.now; left = c.args.left.now }; moments = g.I.Incoming.moments c.args.input.now; taken = g.W.Output.taken c.args.output.now } in
+    let old : BodyState = record { held = c.came_with.result.now; wanted = c.args.content_length; fault = None; to_come = g.I.Incoming.to_come c.args.input.now; kept = g.I.Incoming.read_fault c.args.input.now; turns = record { reads = g.I.Incoming.reads c.args.input.now; left = c.args.turns_left.now }; moments = g.I.Incoming.moments c.args.input.now; taken = g.W.Output.taken c.args.output.now } in
     let body = c.ask-reply.new.body in
     let new : BodyState = record { held = body.held.now; wanted = body.wanted; fault = body.fault; to_come = g.I.Incoming.to_come body.input.now; kept = g.I.Incoming.read_fault body.input.now; turns = record { reads = g.I.Incoming.reads body.input.now; left = body.left }; moments = g.I.Incoming.moments body.input.now; taken = g.W.Output.taken body.output.now } in
-    let reading : Reading c.args.head.now.bytes.now c.args.head.now.fields.now c.args.head.now.spans c.args.told old new =
+    let reading : Reading c.args.head.now.bytes.now c.args.head.now.fields.now c.args.head.now.spans c.args.content_length old new =
     record { stands = c.requires; n = _; n_is = refl; held_is = c.came_with.ensures.front; wanted_is = refl; no_fault = refl; read = c.ask-reply.ensures.goes.2; fits = body.fits } in
     let same : c.ask-reply.new.body.input.now ≡ c.input-1.given.0 = search rules in
     subst (λ i. AllSince (WaitsForRequest c.args.head.now.bytes.now (g.I.Incoming.to_come c.args.input.now) (g.W.Output.taken c.args.output.now)) (g.I.Incoming.moments c.args.input.now) (g.I.Incoming.moments i)) same
-    (body_waits c.args.head.now.bytes.now c.args.head.now.fields.now c.args.head.now.spans c.args.told old new reading)
+    (body_waits c.args.head.now.bytes.now c.args.head.now.fields.now c.args.head.now.spans c.args.content_length old new reading)

@@ -6,13 +6,13 @@ use Rattle.pid_http_stream.proofs.sending.send_written.Goals as goal
 pub returns-in-Ok-clause-sent : goal.returns-in-Ok-clause-sent
 returns-in-Ok-clause-sent g c = turned _ _ _ _
     (λ v w written a request promised.
-    (_, g.met.H.Handler.kept a request c.args.head c.args.told v written.0 w promised written.1, head_then_body c.args.head c.args.told c.args.closes _ _ _ written.0 c.in-Whole.ensures.sent written.2))
+    (_, g.met.H.Handler.kept a request c.args.head c.args.content_length v written.0 w promised written.1, head_then_body c.args.head c.args.content_length c.args.closes _ _ _ written.0 c.in-Whole.ensures.sent written.2))
     c.in-Ok.ensures.written
 
 pub returns-in-Err-Writer-clause-sent : goal.returns-in-Err-Writer-clause-sent
 returns-in-Err-Writer-clause-sent g c = turned _ _ _ _
     (λ v w written a request promised.
-    inl (_, g.met.H.Handler.kept a request c.args.head c.args.told v written.0 w promised written.1, head_then_front c.args.head c.args.told c.args.closes _ _ _ written.0 c.in-Whole.ensures.sent written.2))
+    inl (_, g.met.H.Handler.kept a request c.args.head c.args.content_length v written.0 w promised written.1, head_then_front c.args.head c.args.content_length c.args.closes _ _ _ written.0 c.in-Whole.ensures.sent written.2))
     c.in-Err-Writer.ensures.written
 
 pub returns-then-has_failed-clause-sent : goal.returns-then-has_failed-clause-sent
@@ -20,15 +20,15 @@ returns-then-has_failed-clause-sent g c = turned _ _ _ _
     (λ v w written a request promised.
     inl (
       _,
-      g.met.H.Handler.kept a request c.args.head c.args.told v written.0 w promised written.1,
-      head_then_front c.args.head c.args.told c.args.closes _ _ _ written.0 c.in-Whole.ensures.sent (front_then_nothing _ _ _ written.0 written.2 c.has_failed.ensures.taken),
+      g.met.H.Handler.kept a request c.args.head c.args.content_length v written.0 w promised written.1,
+      head_then_front c.args.head c.args.content_length c.args.closes _ _ _ written.0 c.in-Whole.ensures.sent (front_then_nothing _ _ _ written.0 written.2 c.has_failed.ensures.taken),
     ))
     c.in-Err-Store.ensures.written
 
 pub returns-else-has_failed-clause-sent : goal.returns-else-has_failed-clause-sent
 returns-else-has_failed-clause-sent g c = turned _ _ _ _
     (λ v w written a request promised.
-    cut_in_body _ a v w request c.args.head c.args.told written.0 c.args.closes _ _ _ _ promised (g.met.H.Handler.kept a request c.args.head c.args.told v written.0 w promised written.1)
+    cut_in_body _ a v w request c.args.head c.args.content_length written.0 c.args.closes _ _ _ _ promised (g.met.H.Handler.kept a request c.args.head c.args.content_length v written.0 w promised written.1)
     c.in-Whole.ensures.sent written.2 c.has_failed.ensures.taken)
     c.in-Err-Store.ensures.written
 
@@ -36,4 +36,4 @@ pub returns-in-WriteFault-clause-becomes : goal.returns-in-WriteFault-clause-bec
 returns-in-WriteFault-clause-becomes g c = g.met.H.Handler.stays _
 
 pub returns-in-WriteFault-clause-sent : goal.returns-in-WriteFault-clause-sent
-returns-in-WriteFault-clause-sent g c = stays _ _ (λ v a request promised. inr (c.args.head, c.args.told, promised, c.in-WriteFault.ensures.sent))
+returns-in-WriteFault-clause-sent g c = stays _ _ (λ v a request promised. inr (c.args.head, c.args.content_length, promised, c.in-WriteFault.ensures.sent))

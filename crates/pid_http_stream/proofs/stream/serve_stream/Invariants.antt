@@ -17,9 +17,9 @@ invariant-serving g l = record {
       v (g.W.Output.taken l.fn.output) s) (g.I.Incoming.moments l.fn.input) (g.I.Incoming.moments l.input)));
   becomes : g.H.Handler.becomes l.fn.handler l.handler;
   room : length l.fields ≡ MOST_FIELDS;
-  turns : SpendsTurns (record { reads = g.I.Incoming.reads l.fn.input; left = l.turns }) (record { reads = g.I.Incoming.reads l.input; left = l.left });
+  turns : SpendsTurns (record { reads = g.I.Incoming.reads l.fn.input; left = l.turns }) (record { reads = g.I.Incoming.reads l.input; left = l.turns_left });
   goes : g.I.Incoming.goes l.fn.input l.input;
 }
 
 abbrev pub decreases-serving : goal.decreases-serving
-decreases-serving g l = l.left * READ_SIZE + length l.held.items
+decreases-serving g l = l.turns_left * READ_SIZE + length l.held.items
