@@ -8,6 +8,6 @@ mod progress;
 mod words;
 
 pub use job::{Job, LookupWords, WordsFault};
-pub use process::{UNKNOWN_WORDS, tell_no_job, words_given};
+pub use process::{tell_no_job, words_given};
 pub use progress::{Counted, Progress};
 pub use words::job_of;

@@ -27,13 +27,13 @@ mod reply_head;
 mod sending;
 mod stream;
 
-pub use body_length::{BodyLength, LONGEST_BODY};
+pub use body_length::LONGEST_BODY;
 pub use draining::discard;
 pub use fields::{count_named, first_named};
 pub use handler::{BodyStop, Handler, NoReply, Reply, ReplyBody, Wanted};
 pub use head::Head;
 pub use incoming::Incoming;
-pub use judging::{LONGEST_HEAD, MOST_FIELDS, StreamFault};
+pub use judging::StreamFault;
 pub use refusal::RequestRefusal;
 pub use reply_head::{Content, ReplyHead};
 pub use stream::{Served, StreamEnd, serve_stream};
