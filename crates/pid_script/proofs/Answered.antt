@@ -14,7 +14,7 @@ use Rattle.pid_script.specs.Calling.{CallsSend, CallsSendEither}
 use Rattle.pid_script.specs.Replies.{line_reply, command_of, commands_of_lines, history_after, replies}
 use Rattle.pid_script.specs.Steps.Output.{Out, out, HasSaid, AnswersLine}
 use Rattle.pid_script.specs.ScriptLines.{Ask, ask_of}
-use Rattle.pid_script.specs.Standing.{ShowsOrHasFailed, Becomes, BecomesEither, StopsBehind}
+use Rattle.pid_script.specs.RegistryStates.{ShowsOrHasFailed, Becomes, BecomesEither, StopsBehind}
 use Rattle.pid_script.specs.StopLines.{IsBegun, StoppedBy, IsStopText}
 use Rattle.pid_script.specs.Steps.Progress.{Answered, Ended}
 use Rattle.pid_script.specs.Scripts.{NoneTooLong, NoneCalls, AllButLast, IsNotTooLong, CallsNot, passage, AnswersLines, IsTextFor, Replied, StoppedLast, FailsToWrite}

@@ -32,7 +32,7 @@ use Rattle.pid_script.specs.Replies.{line_reply, command_of, name_reply, name_li
 use Rattle.pid_script.specs.Steps.Output.{Out, IsGivenRefusal, IsGivenStop, IsNothing, TellsLine, IsReplyOrStop, refusal_given, refusal_of_names, GoesOnAfter, LeavesAfter, SendsFor, AnswersLine}
 use Rattle.pid_script.specs.ScriptLines as lines
 use Rattle.pid_script.specs.ScriptLines.{Ask}
-use Rattle.pid_script.specs.Standing.{ShowsOrHasFailed, Becomes}
+use Rattle.pid_script.specs.RegistryStates.{ShowsOrHasFailed, Becomes}
 use Rattle.pid_script.specs.StopLines.{is_stop, IsBegun, StoppedBy}
 use Rattle.pid_script.proofs.Calling.{send_still, send_none}
 use Rattle.pid_script.proofs.Causes.{recast, none_begun, faults_stop, no_memory, failed_goes, no_cause, own_cause, is_memory, form_cause, fault_cause, names_cause}

@@ -22,7 +22,7 @@ use Rattle.pid_script.specs.declared.moderated.Moderated.{Ghosts}
 use Rattle.pid_script.specs.Exporting.{ExportsText, TakesWholeFront}
 use Rattle.pid_script.specs.Steps.Output.{out, IsGivenRefusal, IsGivenStop, IsNothing, TellsLine, IsReplyOrStop, GoesOnAfter, AnswersLine}
 use Rattle.pid_script.specs.ScriptLines as lines
-use Rattle.pid_script.specs.Standing.{ShowsOrHasFailed}
+use Rattle.pid_script.specs.RegistryStates.{ShowsOrHasFailed}
 use Rattle.pid_script.specs.StopLines.{is_stop, StoppedBy, IsStopText}
 use Rattle.pid_script.specs.WholeFronts.{IsWholeFront}
 use Rattle.pid_script.proofs.Calling.{send_still, send_none}

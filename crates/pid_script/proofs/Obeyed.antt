@@ -26,7 +26,7 @@ use Rattle.pid_script.specs.Replies.{those_sent, outcome_of, is_call}
 use Rattle.pid_script.specs.Steps.Output.{Out, IsGivenRefusal, IsGivenStop, IsNothing, TellsLine, IsReplyOrStop, refusal_given, GoesOnAfter, LeavesAfter, SendsFor, AnswersLine}
 use Rattle.pid_script.specs.ScriptLines as lines
 use Rattle.pid_script.specs.ScriptLines.{Ask}
-use Rattle.pid_script.specs.Standing.{ShowsOrHasFailed, FailsAt}
+use Rattle.pid_script.specs.RegistryStates.{ShowsOrHasFailed, FailsAt}
 use Rattle.pid_script.specs.StopLines.{is_stop, IsBegun, StoppedBy}
 use Rattle.pid_script.proofs.Calling.{send_obeyed, send_asked, send_refused}
 use Rattle.pid_script.proofs.NoStops.{judged_no_stop}

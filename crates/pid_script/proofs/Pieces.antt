@@ -13,7 +13,7 @@ use Rattle.pid_script.specs.declared.line_end.LineEnd.TheVariants.{WriteFault}
 use Rattle.pid_script.specs.declared.moderated.Moderated.{Ghosts}
 use Rattle.pid_script.specs.Steps.Output.{Out, out, Unfit, AnswersLine}
 use Rattle.pid_script.specs.ScriptLines.{ask_of}
-use Rattle.pid_script.specs.Standing.{ShowsOrHasFailed}
+use Rattle.pid_script.specs.RegistryStates.{ShowsOrHasFailed}
 use Rattle.pid_script.specs.Steps.Progress.{Answered, HasAnswered, Ended, EndsText}
 use Rattle.pid_script.specs.Replies.{history_after}
 use Rattle.pid_script.specs.Calling.{CallsGo}

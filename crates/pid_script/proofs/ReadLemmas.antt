@@ -12,7 +12,7 @@ use Rattle.pid_script.specs.declared.script_end.ScriptEnd.TheVariants.{TurnsSpen
 use Rattle.pid_script.specs.Steps.Progress.{HasAnswered, Ended, EndsText, script_end}
 use Rattle.pid_script.specs.Steps.Output.{Out, out}
 use Rattle.pid_script.specs.Scripts.{passage, IsCutOff, IsScript, BUFFER_ROOM, TakesAtMost}
-use Rattle.pid_script.specs.Standing.{ShowsOrHasFailed}
+use Rattle.pid_script.specs.RegistryStates.{ShowsOrHasFailed}
 use Rattle.pid_script.proofs.Answered.{answers_out}
 use Rattle.pid_script.proofs.Calling.{send_still, go_still, go_then}
 use Rattle.pid_script.specs.Calling.{CallsGo}

@@ -5,7 +5,7 @@ pub mod Calling
 pub mod LookingUp
 pub mod WholeFronts
 pub mod Exporting
-pub mod Standing
+pub mod RegistryStates
 pub mod StopLines
 pub mod Scripts
 pub mod EndStatus

@@ -19,7 +19,7 @@ use Rattle.pid_script.specs.ScriptLines as asks
 use Rattle.pid_script.specs.ScriptLines.{ask_of}
 use Rattle.pid_script.specs.Calling.{CallsSend, CallsSendEither}
 use Rattle.pid_script.specs.Replies.{replies, command_of, commands_of_lines, history_after, is_call}
-use Rattle.pid_script.specs.Standing.{Becomes, BecomesEither, StopsBehind}
+use Rattle.pid_script.specs.RegistryStates.{Becomes, BecomesEither, StopsBehind}
 use Rattle.pid_script.specs.StopLines.{IsStopInPlace}
 
 -- the room of one read, in bytes

@@ -6,7 +6,7 @@ ghost use Rattle.pid_script.specs.ScriptLines.{ask_of};
 ghost use Rattle.pid_script.specs.Calling.{CallsGo};
 ghost use Rattle.pid_script.specs.Steps.Output.{out, AnswersLine};
 ghost use Rattle.pid_service_laws.specs.CallLaws.{StaysClean};
-ghost use Rattle.pid_script.specs.Standing.{OverStanding};
+ghost use Rattle.pid_script.specs.RegistryStates.{OverStanding};
 
 use crate::fields::{read_command, read_path};
 use crate::line::{LineAsk, line_asks};

@@ -30,7 +30,7 @@ ghost use Rattle.pid_script.specs.Calling.{CallsGo};
 ghost use Rattle.pid_script.specs.Steps.Output.{out, AnswersLine, Unfit};
 ghost use Rattle.pid_script.specs.Scripts.{passage, IsScript, KeepsFaults, MakesReads};
 ghost use Rattle.pid_service_laws.specs.CallLaws.{StaysClean};
-ghost use Rattle.pid_script.specs.Standing.{OverStanding, ShowsOrHasFailed};
+ghost use Rattle.pid_script.specs.RegistryStates.{OverStanding, ShowsOrHasFailed};
 
 use crate::answering::answer_line;
 use crate::line::LONGEST_LINE;

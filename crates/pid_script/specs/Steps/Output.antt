@@ -20,7 +20,7 @@ use Rattle.pid_script.specs.Calling.{CallsSend, CallsSendEither}
 use Rattle.pid_script.specs.ScriptLines as lines
 use Rattle.pid_script.specs.ScriptLines.{Ask}
 use Rattle.pid_script.specs.Replies.{line_reply, command_of, is_call}
-use Rattle.pid_script.specs.Standing.{Becomes, BecomesEither, StopsBehind}
+use Rattle.pid_script.specs.RegistryStates.{Becomes, BecomesEither, StopsBehind}
 use Rattle.pid_script.specs.StopLines.{is_stop, IsStopInPlace, IsStopText}
 
 -- what a writer took, and what is held for it

@@ -15,7 +15,7 @@ use Rattle.pid_script.specs.Replies.{replies, commands_of_lines, history_after}
 use Rattle.pid_script.specs.Steps.Output.{Out}
 use Rattle.pid_script.specs.Scripts.{NoneTooLong, NoneCalls, passage, AnswersLines, StopsAtLine}
 use Rattle.pid_script.specs.Scripts.{EndsTooLong, FailsToWrite}
-use Rattle.pid_script.specs.Standing.{Becomes}
+use Rattle.pid_script.specs.RegistryStates.{Becomes}
 
 module _ {R : Type 0} (registry : Ghosts R) where
   -- The lines were answered. Of the replies to those that wait, none of which is a command, some
