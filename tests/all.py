@@ -41,10 +41,11 @@ that are missing or older than a source are built first, and missing packages of
   tests/run --durations=10                what takes long
   tests/run words -n 0 -s                 without other processes, and with what is printed
   PCIIDS=/usr/bin/pciids tests/run        an installed program; nothing is built
+  PCIIDS_SAMPLE=123 tests/run migrate     the calls that a run with that sample refused
 
 PCIIDS has to name the program itself, and not a script that calls it, since some parts refuse it
-memory or stop its disk. The last line is 'N passed, N failed', followed by ', N skipped' if cases
-were skipped.
+memory or stop its disk. Where they refuse some of many calls, these are others in each run. The
+last line is 'N passed, N failed', followed by ', N skipped' if cases were skipped.
 
 """
 

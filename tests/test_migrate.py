@@ -16,7 +16,7 @@ from http_server import JSON, TEXT, Server, reply
 from old_files import TABLES, old_file, texts_in_order
 from program import HEADER, WHOLE
 from registry import asked, script, texts_of_schema, work
-from shims import ROOM
+from shims import ROOM, SAMPLE, first_of
 
 pytestmark = pytest.mark.needs("sqlite3", "curl")
 
@@ -500,10 +500,10 @@ def test_other_orders(cases, room):
 
 
 def stopped(cases, shim, name, step):
-    """A migration with one call refused, the first and every step-th after it: the file is of the
-    one schema or of the other, with the same rows, and the next migration upgrades it."""
+    """A migration with one call refused, every step-th in turn: the file is of the one schema or of
+    the other, with the same rows, and the next migration upgrades it."""
     refusals = 0
-    for at in range(1, 100_000, step):
+    for at in range(first_of(step), 100_000, step):
         with tempfile.TemporaryDirectory(dir=ROOM) as folder:
             path = os.path.join(folder, "old.db")
             old_file(path)
@@ -553,5 +553,5 @@ def stopped(cases, shim, name, step):
 @pytest.mark.parametrize("name, step, least", [("refuse_disk", 1, 10), ("refuse_malloc", 11, 20)])
 def test_stopped(cases, shims, name, step, least):
     refusals = stopped(cases, shims[name], name, step)
-    print(f"{name}: {refusals} calls of a migration refused, one in each run")
+    print(f"{name}: {refusals} calls of a migration refused, one in each run; sample {SAMPLE}")
     cases.equal(f"{name}: calls of a migration were refused", refusals >= least, True)

@@ -15,7 +15,7 @@ import pytest
 from old_files import old_file
 from program import HEADER
 from registry import script, work
-from shims import ROOM
+from shims import ROOM, SAMPLE
 
 BEGIN = [
     "account root who=alice&rank=0",
@@ -39,8 +39,7 @@ FAULTS = {
 REFUSED = [b"refused 16 Memory\n", b"refused 17 Store\n", b"refused 18 Failed\n"]
 SAID = [b"", b"no memory\n", b"open: Memory\n", b"open: Store\n", b"file: failed\n"] + REFUSED
 
-# The runs of a case at most: requests for memory are refused at as many places, evenly spread, the
-# first and the last among them.
+# The runs of a case at most: requests for memory are refused at as many places, evenly spread.
 MOST = 60
 
 
@@ -234,10 +233,12 @@ class Trials:
 
 
 def places(first, last, most):
-    """Each place from the first to the last, or as many as may be, evenly spread."""
+    """Each place from the first to the last; or as many as may be, evenly spread: the first, the
+    last, and between them others in each run."""
     if last - first < most:
         return range(first, last + 1)
-    return [first + (last - first) * number // (most - 1) for number in range(most)]
+    step, moved = (last - first) / (most - 1), SAMPLE % 97 / 97
+    return [first, *(first + int(step * (number + moved)) for number in range(most - 2)), last]
 
 
 @pytest.mark.needs("sqlite3", "gcc")
@@ -262,4 +263,7 @@ def test_refusing(cases, folder, shims, fault):
                 if it is not None
             ]
             cases.equal(f"{name}: {fault}", found[:1], [])
-        print(f"refusing: {fault}: {tried} of {sum(counts.values())} calls failed, one in each run")
+        print(
+            f"refusing: {fault}: {tried} of {sum(counts.values())} calls failed, one in each run;"
+            f" sample {SAMPLE}"
+        )

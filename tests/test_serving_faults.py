@@ -12,7 +12,7 @@ import pytest
 from http_server import JSON, OK, TEXT, Server, refusal, reply
 from program import HEADER, WHOLE
 from registry import work
-from shims import ROOM
+from shims import ROOM, SAMPLE, first_of
 
 FILE = b"8086  Intel Corporation\n\t1237  440FX\n"
 SUBMISSION = (
@@ -72,6 +72,7 @@ CONNECTIONS = 2
 UNBEGUN = [(b"", b"no memory\n", 3), (b"", b"open: Memory\n", 3), (b"", b"open: Store\n", 3)]
 FAILED = [(b"served %d\n" % count, b"", 3) for count in (1, CONNECTIONS)]
 DONE = [(b"served %d\n" % CONNECTIONS, b"", 0)]
+DONE_ONCE, EMPTY = (b"served 1\n", b"", 0), (HEADER, b"", 0)
 
 
 def unless(got, wanted):
@@ -233,15 +234,16 @@ def is_begun(shim, at):
             return server.first_line != b""
 
 
+def first_behind_opening(shim):
+    """The first call that may be refused to a server that listens nevertheless."""
+    return 1 + bisect.bisect_left(range(1, 100_000), True, key=lambda at: is_begun(shim, at))
+
+
 def refuse_in_turn(cases, shim, turn):
     """Refuses the calls of a run in turn, each in a new file, until none is refused, and answers
     how many, and the refusals that were answered."""
     refusals, refused = 0, set()
-    first = (
-        1 + bisect.bisect_left(range(1, 100_000), True, key=lambda at: is_begun(shim, at))
-        if turn.is_behind_opening
-        else 1
-    )
+    first = first_behind_opening(shim) if turn.is_behind_opening else first_of(turn.stride)
     for at in range(first, 1_000_000, turn.stride):
         with tempfile.TemporaryDirectory(dir=ROOM) as folder:
             database = os.path.join(folder, "r.db")
@@ -269,7 +271,73 @@ def test_refused_in_turn(cases, shims, turn):
     name = f"serve: {turn.shim}: {which} of {len(turn.steps)} requests"
     print(
         f"{name} refused, {refusals} runs in {time.monotonic() - start:.0f} s; told"
-        f" {sorted(refused)}"
+        f" {sorted(refused)}; sample {SAMPLE}"
     )
     cases.equal(f"{name}: refusals were told", refused, set(turn.numbers))
     cases.equal(f"{name}: calls were refused", refusals >= turn.least, True)
+
+
+# A command, the text of all items, and a command whose body is short, with their replies. Each of
+# the first two may be refused instead; so may the third, whose body is then not looked at.
+THREE = (
+    b"POST /account HTTP/1.1\r\nX-Account: root\r\nContent-Length: 16\r\n\r\nwho=alice&rank=0"
+    b"GET /pci.ids HTTP/1.1\r\n\r\n"
+    b"POST /submit HTTP/1.1\r\nX-Account: alice\r\nContent-Length: 35\r\n\r\npath=PC/8086"
+)
+THREE_REPLIES = (
+    reply("200 OK", JSON, OK),
+    reply("200 OK", TEXT, HEADER),
+    reply("400 Bad Request", JSON, refusal(23, "BodyShort"), close=True),
+)
+REFUSALS = [
+    reply("503 Service Unavailable", JSON, refusal(number, WORDS[number]), close=close)
+    for number in (16, 18)
+    for close in (False, True)
+]
+
+
+def are_replies(taken):
+    """Each reply is there, or a refusal in its place, up to an end, which may be within the text of
+    all items."""
+    for number, whole in enumerate(THREE_REPLIES):
+        front = next((it for it in (whole, *REFUSALS) if taken.startswith(it)), None)
+        if front is None:
+            return taken == b"" or number == 1 and whole.startswith(taken)
+        taken = taken[len(front) :]
+    return taken == b""
+
+
+def streamed(shim, at, database):
+    """What the stream of three requests gets of a server whose request for memory number `at` is
+    refused, whether there was one, and how the server ended."""
+    told, telling = os.pipe()
+    environment = dict(os.environ, LD_PRELOAD=shim, REFUSE_AT=str(at), REFUSE_FD=str(telling))
+    server = Server(database, 1, program=WHOLE, env=environment, pass_fds=[telling])
+    os.close(telling)
+    try:
+        taken = server.raw(THREE)
+        ended = server.ended()
+    finally:
+        server.process.kill()
+    with os.fdopen(told, "rb") as pipe:
+        return taken, pipe.read(1) == b"!", ended
+
+
+@pytest.mark.needs("gcc")
+def test_three_requests(cases, shims):
+    """Each request for memory after the opening is refused in turn under one stream; afterwards the
+    registry has no item."""
+    shim = shims["refuse_malloc"]
+    first = first_behind_opening(shim)
+    for at in range(first, 1_000_000):
+        with tempfile.TemporaryDirectory(dir=ROOM) as folder:
+            database = os.path.join(folder, "r.db")
+            taken, was_refused, ended = streamed(shim, at, database)
+            left = work(b"", "export", "--db", database)
+        wrong = not are_replies(taken) or ended not in [FAILED[0], DONE_ONCE] or left != EMPTY
+        if wrong or not was_refused:
+            got = (taken, ended, left)
+            cases.equal(f"three requests: {at}", got, (b"".join(THREE_REPLIES), DONE_ONCE, EMPTY))
+            break
+    print(f"three requests: {at - first} requests for memory refused after the opening")
+    cases.equal("three requests: requests were refused", at - first > 100, True)

@@ -1,6 +1,6 @@
 """A script over a file with its disk stopped at each call in turn, and with every seventh request
-for memory refused: the file holds what some of the commands came to, the first ones, and at least
-those that were answered."""
+for memory refused, others in each run: the file holds what some of the commands came to, the first
+ones, and at least those that were answered."""
 import os
 import shutil
 import subprocess
@@ -10,7 +10,7 @@ import pytest
 
 from program import WHOLE
 from registry import asked, script
-from shims import ROOM
+from shims import ROOM, SAMPLE, first_of
 
 LINES = [
     "account root who=bob&rank=1",
@@ -74,10 +74,9 @@ def is_allowed(replies, status, found):
 
 
 def refuse_in_turn(cases, shim, name, step):
-    """Refuses the first call of a run and every step-th after it, each in a new file, and answers
-    how many there were."""
+    """Refuses every step-th call of a run, each in a new file, and answers how many there were."""
     refusals = 0
-    for at in range(1, 100_000, step):
+    for at in range(first_of(step), 100_000, step):
         with tempfile.TemporaryDirectory(dir=ROOM) as folder:
             path = os.path.join(folder, "r.db")
             replies, status, was_refused = run_refusing(shim, at, path)
@@ -104,5 +103,5 @@ def refuse_in_turn(cases, shim, name, step):
 @pytest.mark.parametrize("name, step, least", [("refuse_disk", 1, 40), ("refuse_malloc", 7, 100)])
 def test_stops(cases, shims, name, step, least):
     refusals = refuse_in_turn(cases, shims[name], name, step)
-    print(f"{name}: {refusals} calls refused, one in each run")
+    print(f"{name}: {refusals} calls refused, one in each run; sample {SAMPLE}")
     cases.equal(f"{name}: calls were refused", refusals >= least, True)

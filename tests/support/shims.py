@@ -1,11 +1,21 @@
 """Libraries that refuse the program under test a request for memory, or a call of its disk."""
 import os
 import subprocess
+import time
 
 from program import SUPPORT, WHOLE, Skip
 
 # In memory where that can be had, so that no run waits for a disk.
 ROOM = "/dev/shm" if os.access("/dev/shm", os.W_OK) else None
+
+# Where a sample begins: at another call in each run, so that runs in turn try all of them. A test
+# prints it, and PCIIDS_SAMPLE repeats it.
+SAMPLE = int(os.environ.get("PCIIDS_SAMPLE") or time.time_ns() // 1_000_000_007)
+
+
+def first_of(step):
+    """The first call of a sample that has every step-th one."""
+    return 1 + SAMPLE % step
 
 
 def build_shims(folder):

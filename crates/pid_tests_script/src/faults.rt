@@ -66,21 +66,18 @@ fn each_read_fails(rt: HostRuntime) -> Result<(), Fail> {
     Ok(())
 }
 
-// The writer takes a byte a call, and fails after each count of them.
+// The writer takes a byte a call, and fails after each count of them, by either fault.
 fn expect_broken(rt: &impl Abort, alloc: Global, rows: &str) -> Result<(), Fail> {
     let (script, replies) = script_and_replies(alloc, rows)?;
     for good in 0..replies.len() {
-        let fault = if good % 2 == 0 {
-            WriteFault::Zero
-        } else {
-            WriteFault::Device
-        };
-        let mut registry = new_in_memory(alloc)?;
-        let mut input = FaultyInput::new(script.as_bytes(), 50);
-        let mut output = FaultyOutput::new(alloc, 1).failing_after(good as u64, fault);
-        let end = run_script(alloc, &mut registry, &mut input, &mut output, TURNS);
-        assert_eq!(rt; end, ScriptEnd::WriteFault);
-        assert_eq!(rt; output.taken.as_slice(), &replies.as_bytes()[..good]);
+        for fault in [WriteFault::Zero, WriteFault::Device] {
+            let mut registry = new_in_memory(alloc)?;
+            let mut input = FaultyInput::new(script.as_bytes(), 50);
+            let mut output = FaultyOutput::new(alloc, 1).failing_after(good as u64, fault);
+            let end = run_script(alloc, &mut registry, &mut input, &mut output, TURNS);
+            assert_eq!(rt; end, ScriptEnd::WriteFault);
+            assert_eq!(rt; output.taken.as_slice(), &replies.as_bytes()[..good]);
+        }
     }
     Ok(())
 }
@@ -101,18 +98,52 @@ fn each_write_of_a_refusal_fails(rt: HostRuntime) -> Result<(), Fail> {
     expect_broken(&rt, rt.alloc(), REFUSALS)
 }
 
-// What was answered stays, whatever the writer did after it.
+// What shows that the account of the first line, the submission of the second and the approval of
+// the fourth stand: the reply where they do.
+const SHOWN: [(usize, &str, &str); 3] = [
+    (
+        1,
+        "account root who=alice&rank=0\n",
+        "refused 13 NothingToDo\n",
+    ),
+    (2, "comment root num=1&text=there\n", "ok\n"),
+    (4, "read path=PC/8086\n", "name Intel Corporation\n"),
+];
+
+// Asserts that the registry has what so many answered lines came to.
+fn expect_answered(
+    rt: &impl Abort,
+    alloc: Global,
+    registry: &mut Registry<MemStore>,
+    answered: usize,
+) -> Result<(), Fail> {
+    for (least, line, reply) in SHOWN {
+        if answered >= least {
+            let mut input = FaultyInput::new(line.as_bytes(), 64);
+            let mut output = FaultyOutput::new(alloc, 4_096);
+            let end = run_script(alloc, registry, &mut input, &mut output, 10);
+            assert_eq!(rt; end, ScriptEnd::Done);
+            assert_eq!(rt; output.taken.as_slice(), reply.as_bytes());
+        }
+    }
+    Ok(())
+}
+
+// What was answered stands, whatever the writer did after it, and by whichever fault it did.
 #[test]
 fn answered_commands_stand(rt: HostRuntime) -> Result<(), Fail> {
     let alloc = rt.alloc();
     let (script, replies) = script_and_replies(alloc, FIRST_NAME)?;
-    for good in first_lines(replies.as_str(), 4).len()..replies.len() {
-        let mut registry = new_in_memory(alloc)?;
-        let mut input = FaultyInput::new(script.as_bytes(), 64);
-        let mut output = FaultyOutput::new(alloc, 1).failing_after(good as u64, WriteFault::Device);
-        let end = run_script(alloc, &mut registry, &mut input, &mut output, TURNS);
-        assert_eq!(rt; end, ScriptEnd::WriteFault);
-        expect_export(&rt, alloc, &mut registry, WITH)?;
+    for good in 0..replies.len() {
+        for fault in [WriteFault::Zero, WriteFault::Device] {
+            let mut registry = new_in_memory(alloc)?;
+            let mut input = FaultyInput::new(script.as_bytes(), 64);
+            let mut output = FaultyOutput::new(alloc, 1).failing_after(good as u64, fault);
+            let end = run_script(alloc, &mut registry, &mut input, &mut output, TURNS);
+            assert_eq!(rt; end, ScriptEnd::WriteFault);
+            let answered = lines_in(output.taken.as_slice());
+            expect_answered(&rt, alloc, &mut registry, answered)?;
+        }
     }
     Ok(())
 }

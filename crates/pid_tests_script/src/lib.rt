@@ -1,4 +1,5 @@
-//! Tests of scripts over a registry in memory. They call public functions alone.
+//! Tests of scripts over a registry in memory, and over files in memory that stop. They call public
+//! functions alone.
 #![tactic(auto)]
 
 #[cfg(test)]
@@ -13,3 +14,5 @@ mod rows;
 mod running;
 #[cfg(test)]
 mod stopping;
+#[cfg(test)]
+mod stops;

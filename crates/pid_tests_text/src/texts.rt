@@ -1,6 +1,8 @@
 //! Texts tidied and checked: rows, limits, and readers and writers that fail.
 use pid_file::{TextEnd, check, tidy};
 use pid_ident::{FaultyInput, FaultyOutput, LineKind, WriteFault, hex4};
+use pid_reader::read_ids;
+use pid_tree::TreeItems;
 use std::alloc::{AllocError, Global};
 use std::test::Fail;
 
@@ -159,14 +161,41 @@ fn a_writer_that_fails_took_a_front(rt: HostRuntime) {
     }
     let line = b"line 1: 3 NoParent\n";
     for count in 0..line.len() {
-        let mut input = FaultyInput::new(b"\t1237  X", 64);
-        let mut output = FaultyOutput::new(rt.alloc(), 1).failing_after(
-            count as u64,
-            WriteFault::Zero,
-        );
-        let end = check(rt.alloc(), &mut input, &mut output);
-        assert!(rt; matches!(end, TextEnd::WriteFault));
-        let (front, _) = line.split_at(count);
-        assert!(rt; output.taken.as_slice() == front, "{count}");
+        for fault in [WriteFault::Device, WriteFault::Zero] {
+            let mut input = FaultyInput::new(b"\t1237  X", 64);
+            let mut output = FaultyOutput::new(rt.alloc(), 1).failing_after(count as u64, fault);
+            let end = check(rt.alloc(), &mut input, &mut output);
+            assert!(rt; matches!(end, TextEnd::WriteFault));
+            let (front, _) = line.split_at(count);
+            assert!(rt; output.taken.as_slice() == front, "{count}");
+        }
     }
+}
+
+const QEMU: &[u8] =
+    b"8086  Intel Corporation\n\t1237  440FX\n\t\t1af4 1100  Qemu machine\n1af4  Red Hat, Inc.\n";
+
+// What `check` prints of a text that is read whole.
+fn told_of(alloc: Global, text: &[u8]) -> Result<String, AllocError> {
+    match read_ids(alloc, text) {
+        Ok(tree) => format!(in alloc; "ok {}\n", tree.len()),
+        Err(refusal) => format!(in alloc; "{refusal}\n"),
+    }
+}
+
+// A file that is cut anywhere has one answer, however it is read.
+#[test]
+fn prefixes_are_checked_alike(rt: HostRuntime) -> Result<(), Fail> {
+    for end in 0..=QEMU.len() {
+        let (text, _) = QEMU.split_at(end);
+        let told = told_of(rt.alloc(), text)?;
+        for most in [1, 7, 65_536] {
+            let (_, output) = checked(rt.alloc(), text, most);
+            assert!(rt;
+                output.taken.as_slice() == told.as_bytes(),
+                "{end} by {most}"
+            );
+        }
+    }
+    Ok(())
 }

@@ -1,0 +1,295 @@
+//! Scripts over files in memory that stop at a call: each ends as stopped, with the replies to the
+//! lines before, and what was answered is found when the files are opened again.
+use crate::running::{FIRST_NAME, TURNS, script_and_replies};
+use pid_ident::{FaultyInput, FaultyOutput};
+use pid_script::{ScriptEnd, run_script};
+use pid_service::{Registry, open};
+use sqlite::{Alter, Connection, FileStore, Files, Options};
+use sqlite_disk::{Crash, Disk, Fuse, Memory};
+use std::alloc::Global;
+use std::process::Abort;
+use std::test::Fail;
+
+type Stopping = Fuse<Memory>;
+
+// How many calls of each file go well.
+#[derive(Clone, Copy)]
+struct Calls {
+    log: u64,
+    db: u64,
+}
+
+const ALL: Calls = Calls {
+    log: u64::MAX,
+    db: u64::MAX,
+};
+
+// The bytes of a log and of its database.
+#[derive(Drop)]
+struct Held {
+    log: Vec<u8>,
+    db: Vec<u8>,
+}
+
+// A file in memory with these bytes.
+fn file_with(alloc: Global, bytes: &[u8]) -> Result<Memory, Fail> {
+    let mut file = Memory::new(alloc);
+    file.write_at(0, bytes)?;
+    file.sync()?;
+    Ok(file)
+}
+
+fn laid(alloc: Global, held: &Held, calls: Calls) -> Result<Files<Stopping>, Fail> {
+    let log = file_with(alloc, held.log.as_slice())?;
+    let db = file_with(alloc, held.db.as_slice())?;
+    Ok(Files {
+        log: Fuse::new(log, calls.log),
+        db: Fuse::new(db, calls.db),
+    })
+}
+
+// A log of so few pages is copied into the database at nearly each commit, so that both files are
+// written.
+fn options() -> Options {
+    Options {
+        cache_pages: 16,
+        spill_pages: 64,
+        checkpoint_frames: 8,
+        ..Options::new(7)
+    }
+}
+
+fn connected(
+    alloc: Global,
+    files: Files<Stopping>,
+) -> Result<Connection<FileStore<Stopping>>, Files<Stopping>> {
+    if !files.may_be_used() {
+        return Err(files);
+    }
+    match Connection::open_files(alloc, files, options()) {
+        Ok(conn) => Ok(conn),
+        Err((_, left)) => Err(left.into_files()),
+    }
+}
+
+// Whether a further call fails.
+fn has_stopped(files: &mut Files<Stopping>) -> bool {
+    !files.may_be_used() || files.log.len().is_err() || files.db.len().is_err()
+}
+
+// The machine comes back with what was synced, and does not stop any more.
+fn held_after_crash(alloc: Global, mut files: Files<Stopping>) -> Result<Held, Fail> {
+    files.log.crash();
+    files.db.crash();
+    Ok(Held {
+        log: files.log.inner().bytes().to_vec(alloc)?,
+        db: files.db.inner().bytes().to_vec(alloc)?,
+    })
+}
+
+// The end and the output of a script.
+fn run<S: Alter + Drop>(
+    alloc: Global,
+    registry: &mut Registry<S>,
+    script: &str,
+) -> (ScriptEnd, FaultyOutput) {
+    let mut input = FaultyInput::new(script.as_bytes(), 64);
+    let mut output = FaultyOutput::new(alloc, 4_096);
+    let end = run_script(alloc, registry, &mut input, &mut output, TURNS);
+    (end, output)
+}
+
+const STOPPED: &[u8] = b"refused 17 Store\n";
+
+// Asserts that the output is the replies; or, where the script was stopped, whole lines of them and
+// the refusal. Returns how many lines were answered.
+fn expect_front(rt: &impl Abort, end: ScriptEnd, output: &FaultyOutput, replies: &str) -> usize {
+    let taken = output.taken.as_slice();
+    if end == ScriptEnd::Done {
+        assert_eq!(rt; taken, replies.as_bytes());
+        return lines_in(taken);
+    }
+    assert_eq!(rt; end, ScriptEnd::Stopped);
+    match taken.strip_suffix(STOPPED) {
+        Some(front) => {
+            assert!(rt; replies.as_bytes().starts_with(front));
+            assert!(rt; front.is_empty() || front.ends_with(b"\n"));
+            lines_in(front)
+        }
+        None => {
+            assert!(rt; false, "the script was stopped by {taken:?}");
+            0
+        }
+    }
+}
+
+fn lines_in(text: &[u8]) -> usize {
+    text.iter().filter(|byte| **byte == b'\n').count()
+}
+
+// A script over files of which so many calls go well: how many lines were answered, whether they
+// met no stop, and what the machine comes back with.
+fn stopped(
+    rt: &impl Abort,
+    alloc: Global,
+    calls: Calls,
+    script: &str,
+    replies: &str,
+) -> Result<(usize, bool, Held), Fail> {
+    let nothing = Held {
+        log: Vec::new(alloc),
+        db: Vec::new(alloc),
+    };
+    let (answered, mut files) = match connected(alloc, laid(alloc, &nothing, calls)?) {
+        Ok(conn) => answered(rt, alloc, conn, script, replies)?,
+        Err(files) => (0, files),
+    };
+    let is_whole = !has_stopped(&mut files);
+    Ok((answered, is_whole, held_after_crash(alloc, files)?))
+}
+
+// How many lines of a script were answered, and the files as they are where the process ends.
+fn answered(
+    rt: &impl Abort,
+    alloc: Global,
+    conn: Connection<FileStore<Stopping>>,
+    script: &str,
+    replies: &str,
+) -> Result<(usize, Files<Stopping>), Fail> {
+    match open(alloc, conn) {
+        Ok(mut registry) => {
+            let (end, output) = run(alloc, &mut registry, script);
+            let answered = expect_front(rt, end, &output, replies);
+            Ok((answered, registry.close().into_store().close()))
+        }
+        Err((_, conn)) => Ok((0, conn.into_store().close())),
+    }
+}
+
+// What is expected of a registry that is opened again.
+#[derive(Clone, Copy)]
+struct Expected<'a> {
+    // the text of all items before a line, and after it
+    without: &'a str,
+    with: &'a str,
+    line: usize,
+    // a script that is sent then, and its replies
+    again: &'a str,
+    replies: &'a str,
+}
+
+fn expect_found(
+    rt: &impl Abort,
+    alloc: Global,
+    held: &Held,
+    answered: usize,
+    expected: Expected<'_>,
+) -> Result<(), Fail> {
+    let Ok(conn) = connected(alloc, laid(alloc, held, ALL)?) else {
+        return Err("the files are opened again")?;
+    };
+    let Ok(mut registry) = open(alloc, conn) else {
+        return Err("the registry is opened again")?;
+    };
+    let (end, output) = run(alloc, &mut registry, "export\n");
+    assert_eq!(rt; end, ScriptEnd::Done);
+    let text = output.taken.as_slice();
+    assert!(rt;
+        text == expected.with.as_bytes()
+            || (answered < expected.line && text == expected.without.as_bytes())
+    );
+    let (end, output) = run(alloc, &mut registry, expected.again);
+    assert_eq!(rt; end, ScriptEnd::Done);
+    assert_eq!(rt; output.taken.as_slice(), expected.replies.as_bytes());
+    Ok(())
+}
+
+// More calls than a run makes of either file.
+const MOST: u64 = 5_000;
+
+fn stop_at(of_log: bool, calls: u64) -> Calls {
+    if of_log {
+        Calls { log: calls, ..ALL }
+    } else {
+        Calls { db: calls, ..ALL }
+    }
+}
+
+// Stops one of the files at each call of an opening and of a script.
+fn stop_each(
+    rt: &impl Abort,
+    alloc: Global,
+    of_log: bool,
+    rows: &str,
+    expected: Expected<'_>,
+) -> Result<(), Fail> {
+    let (script, replies) = script_and_replies(alloc, rows)?;
+    let (script, replies) = (script.as_str(), replies.as_str());
+    let mut was_cut = false;
+    for calls in 0..MOST {
+        let (answered, is_whole, held) = stopped(
+            rt,
+            alloc,
+            stop_at(of_log, calls),
+            script,
+            replies,
+        )?;
+        expect_found(rt, alloc, &held, answered, expected)?;
+        if is_whole {
+            assert!(rt; was_cut);
+            return Ok(());
+        }
+        was_cut = was_cut || answered > 0;
+    }
+    Err("a run without a stop")?
+}
+
+const WITHOUT: &str = "# PCI ID registry\n";
+
+const WITH: &str = "# PCI ID registry\n8086  Intel Corporation\n";
+
+// The first name of a registry; afterwards a question alone.
+const ONCE: Expected<'static> = Expected {
+    without: WITHOUT,
+    with: WITH,
+    line: 4,
+    again: "",
+    replies: "",
+};
+
+#[test]
+fn a_log_stops_under_a_script(rt: HostRuntime) -> Result<(), Fail> {
+    stop_each(&rt, rt.alloc(), true, FIRST_NAME, ONCE)
+}
+
+#[test]
+fn a_database_stops_under_a_script(rt: HostRuntime) -> Result<(), Fail> {
+    stop_each(&rt, rt.alloc(), false, FIRST_NAME, ONCE)
+}
+
+const KEYED: &str = "\
+account root key=k1&who=alice&rank=0 | ok
+submit alice key=k1&path=PC/8086&name=Intel+Corporation | ok 1
+approve root key=a1&num=1 | ok
+";
+
+// The same under keys, all of which is sent again.
+const AGAIN: Expected<'static> = Expected {
+    without: WITHOUT,
+    with: WITH,
+    line: 3,
+    again: "account root key=k1&who=alice&rank=0\n\
+submit alice key=k1&path=PC/8086&name=Intel+Corporation\n\
+approve root key=a1&num=1\nexport\n",
+    replies: "ok\nok 1\nok\n# PCI ID registry\n8086  Intel Corporation\n",
+};
+
+#[test]
+fn a_log_stops_under_commands_with_keys(rt: HostRuntime) -> Result<(), Fail> {
+    stop_each(&rt, rt.alloc(), true, KEYED, AGAIN)
+}
+
+#[test]
+fn a_database_stops_under_commands_with_keys(rt: HostRuntime) -> Result<(), Fail> {
+    stop_each(&rt, rt.alloc(), false, KEYED, AGAIN)
+}
