@@ -1,5 +1,5 @@
-"""deploy/mirror.sh, which keeps a copy of a registry's file: at the server, behind a cache of these
-tests, and behind nginx."""
+"""deploy/mirror.sh, which keeps a copy of a registry's file: at the server, through a cache of
+these tests, and behind nginx."""
 import fcntl
 import os
 import re
@@ -29,9 +29,9 @@ http {{
     proxy_cache_path {folder}/deaf keys_zone=deaf:1m;
     server {{
         listen 127.0.0.1:{good};
-        location / {{ proxy_pass http://127.0.0.1:{behind}; }}
+        location / {{ proxy_pass http://127.0.0.1:{server}; }}
         location = /pci.ids {{
-            proxy_pass http://127.0.0.1:{behind};
+            proxy_pass http://127.0.0.1:{server};
             proxy_cache good;
             proxy_cache_valid 200 1h;
             proxy_cache_bypass $http_cache_control;
@@ -39,9 +39,9 @@ http {{
     }}
     server {{
         listen 127.0.0.1:{deaf};
-        location / {{ proxy_pass http://127.0.0.1:{behind}; }}
+        location / {{ proxy_pass http://127.0.0.1:{server}; }}
         location = /pci.ids {{
-            proxy_pass http://127.0.0.1:{behind};
+            proxy_pass http://127.0.0.1:{server};
             proxy_cache deaf;
             proxy_cache_valid 200 1h;
         }}
@@ -363,7 +363,7 @@ def behind_nginx(cases, server, folder):
     for place in places:
         os.mkdir(place)
     with open(config, "w", encoding="utf-8") as file:
-        ports = {"good": good, "deaf": deaf_port, "behind": server.port}
+        ports = {"good": good, "deaf": deaf_port, "server": server.port}
         file.write(CACHES.format(folder=folder, **ports))
     words = ["nginx", "-c", config, "-p", folder, "-e", os.path.join(folder, "errors")]
     nginx = subprocess.Popen(words, stderr=subprocess.DEVNULL)
