@@ -206,8 +206,8 @@ def look(cases, browser):
     print(f"site_access: pictures of {len(PAGES)} pages are in {SHOTS}")
 
 
-# The button of the menu: whether it can be seen, what it is called, whether it says that the menu is
-# open, what it opens, and how many links of that can be seen.
+# The button of the menu: whether it can be seen, what it is called, whether it says that the menu
+# is open, what it opens, and how many links of that can be seen.
 MENU = """
 const menu = document.getElementById("menu");
 const pages = document.getElementById(menu.getAttribute("aria-controls"));
