@@ -3,8 +3,8 @@
 
 const isThere = (child) => child !== null && child !== undefined && child !== false;
 
-/** The nodes and texts of nested lists, without null, undefined and false. */
-export const kept = (children) => children.flat(Infinity).filter(isThere);
+// The nodes and texts of nested lists, without null, undefined and false.
+const kept = (children) => children.flat(Infinity).filter(isThere);
 
 /**
  * Makes an element.

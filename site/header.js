@@ -10,7 +10,9 @@ const RESTS_AFTER = 300;
 const main = document.getElementById("main");
 const box = document.getElementById("q");
 const log = document.getElementById("log");
+const menu = document.getElementById("menu");
 const mine = document.getElementById("mine");
+const pages = document.getElementById("pages");
 
 const firstFound = () => main.querySelector("#found a");
 const isSearch = () => location.pathname === "/search";
@@ -81,8 +83,28 @@ function moveInFound(event) {
   else if (!isDown) box.focus();
 }
 
+// The menu on a phone; elsewhere it is always open.
+function openMenu(isOpen) {
+  menu.setAttribute("aria-expanded", isOpen);
+  pages.classList.toggle("open", isOpen);
+}
+
+function startMenu() {
+  menu.addEventListener("click", () => openMenu(menu.getAttribute("aria-expanded") === "false"));
+  pages.addEventListener("click", () => openMenu(false));
+  document.querySelector("header").addEventListener("keydown", (event) => {
+    if (event.key !== "Escape" || menu.getAttribute("aria-expanded") === "false") return;
+    openMenu(false);
+    menu.focus();
+  });
+}
+
+// A page that is shown again where it is leaves the menu as it is.
+let shownPlace = "";
 function showPlace(address) {
-  for (const it of document.querySelectorAll("header nav a")) {
+  if (address.href !== shownPlace) openMenu(false);
+  shownPlace = address.href;
+  for (const it of pages.querySelectorAll("a")) {
     if (it.pathname === address.pathname) it.setAttribute("aria-current", "page");
     else it.removeAttribute("aria-current");
   }
@@ -111,6 +133,7 @@ const isTyping = () => main.contains(document.activeElement)
 /** Begins to keep the head up to date. */
 export function startHeader() {
   startSearch();
+  startMenu();
   watchPages(showPlace);
   watchAccount((isBusy) => {
     showWho();

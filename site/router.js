@@ -92,7 +92,7 @@ async function made(address, again) {
  * Shows the page of the address. What was there stays until the new one is ready.
  * @param {Object} [how] focus: whether the heading gets it; scroll: how far down, or null for as is
  */
-export async function show({ focus = true, scroll = 0 } = {}) {
+async function show({ focus = true, scroll = 0 } = {}) {
   const mine = turn += 1;
   const pathname = mended(location.pathname);
   if (pathname !== location.pathname) {

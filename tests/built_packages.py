@@ -23,7 +23,7 @@ _built = {}
 
 
 def site():
-    """The folder of the site, or of one that stands in for it."""
+    """The folder of the site, or of a stand-in where there is none."""
     if os.path.exists(os.path.join(SITE, "index.html")):
         return SITE
     if "site" not in _built:

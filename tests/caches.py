@@ -1,5 +1,5 @@
 """A cache in front: the nginx of deploy/nginx/cache.conf before that of the site, which has a
-recorder behind it. What is kept, what is asked anew, and what is always passed on."""
+recorder after it. What is kept, what is asked anew, and what is always passed on."""
 import os
 import re
 import tempfile
@@ -75,7 +75,7 @@ class Cache:
         return self.front.curl(path, *words, port=self.port)
 
     def came(self, count=0):
-        """The requests that came to the site behind the cache since the last time, with their
+        """The requests that came through the cache to the site since the last time, with their
         statuses. So many are waited for: nginx notes one when it is over."""
         found, end = [], time.monotonic() + PATIENCE
         while True:

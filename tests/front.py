@@ -12,11 +12,13 @@ from front_room import HOST, PATIENCE, Front, Recorder, basic, needed
 SLOW = 1_000
 
 # Shares that a test uses up before more of them comes, however slow the machine is; and times that
-# it waits for.
+# it waits for. Whoever is at 127.0.0.4 names visitors, as a proxy does.
 SHARES = {
     "pciids_limits": (
         ("zone=pciids_accounts:4m rate=20r/m", "zone=pciids_accounts:4m rate=1r/m"),
         ("zone=pciids_texts:1m rate=6r/m", "zone=pciids_texts:1m rate=1r/m"),
+        ("#set_real_ip_from 192.0.2.7;", "set_real_ip_from 127.0.0.4;"),
+        ("#real_ip_header", "real_ip_header"),
     ),
     "pciids_site": (("zone=pciids_accounts burst=1000", "zone=pciids_accounts burst=40"),),
 }
@@ -179,6 +181,18 @@ def limits(cases, front):
         it.close()
 
 
+def networks(cases, front):
+    """A visitor of IPv6 is the /64 that his address is in."""
+    def told(address):
+        named = ("--interface", "127.0.0.4", "-H", f"X-Forwarded-For: {address}")
+        return front.curl("/pci.ids", "-H", "Cache-Control: no-cache", *named)[0]
+
+    got = [told(f"2001:db8::{number}") for number in range(1, 9)]
+    cases.equal("front: the text, from eight addresses of a /64", got, [200] * 6 + [429] * 2)
+    got = [told(it) for it in ("2001:db8:0:1::1", "198.51.100.1")]
+    cases.equal("front: from another one, and from an address of IPv4", got, [200, 200])
+
+
 def shares(cases, front):
     """Commands of an account are counted wherever they come from, and a wrong password, or another
     spelling of the right one, takes nobody's share."""
@@ -284,6 +298,7 @@ def run(cases):
             pages(cases, front)
             hostile(cases, front, recorder)
             limits(cases, front)
+            networks(cases, front)
             shares(cases, front)
         finally:
             front.close()

@@ -6,7 +6,7 @@ import time
 from front import SECOND, arrived, faults_of
 from front_room import HOST, Front, Recorder, basic, needed
 
-DATA, HEADERS, RESET, SETTINGS, AWAY, CONTINUATION = 0, 1, 3, 4, 7, 9
+DATA, HEADERS, RESET, SETTINGS, PING, AWAY, CONTINUATION = 0, 1, 3, 4, 6, 7, 9
 END_STREAM, END_HEADERS, ALONE, PADDED = 1, 4, 5, 8
 PREFACE = b"PRI * HTTP/2.0\r\n\r\nSM\r\n\r\n"
 
@@ -167,25 +167,51 @@ def hostile(cases, front, recorder):
         cases.equal(f"HTTP/2: {name}, {len(seen)} came through", is_right, True)
 
 
-def taken_back(cases, front):
-    """Requests that are taken back at once (CVE-2023-44487) hold nobody else up: commands beside
-    them take not many times as long as without, in one of three tries on a busy machine."""
-    numbers = range(1, 2_000, 2)
-    asks = [head(ASK, ALONE, it) + frame(RESET, 0, it, b"\0\0\0\x08")
-            for it in numbers]
-    for _ in range(3):
-        alone = timed(front)[1]
-        with front.connect("127.0.0.5", "h2") as client:
-            try:
-                client.sendall(PREFACE + frame(SETTINGS, 0, 0) + b"".join(asks))
-            except OSError:
-                # nginx has had enough of them.
-                pass
-            told, took = timed(front)
-        cases.equal("HTTP/2: commands beside a thousand requests taken back", told, [200] * 5)
-        if took < 10 * alone:
-            break
-    cases.equal(f"HTTP/2: in {took:.1f} s, alone in {alone:.1f} s", took < 10 * alone, True)
+NUMBERS = range(1, 2_000, 2)
+# A field of 4,000 bytes that the other side is to remember (RFC 7541, 6.2.1), and naming it.
+REMEMBERED, NAMED = b"\x40" + b"".join(number(it) + b"x" * it for it in (6, 3_900)), b"\xbe"
+NO_WINDOW = frame(SETTINGS, 0, 0, b"\0\x04\0\0\0\0")
+TEXT = [*ASK[:2], (":path", "/pci.ids"), ASK[3]]
+# What holds nobody else up, although it is a lot.
+FLOODS = {
+    # CVE-2023-44487.
+    "requests that are taken back": b"".join(
+        head(ASK, ALONE, it) + frame(RESET, 0, it, b"\0\0\0\x08") for it in NUMBERS),
+    # CVE-2024-27316.
+    "a head that goes on and on": frame(HEADERS, END_STREAM, 1, block(ASK)) + b"".join(
+        frame(CONTINUATION, 0, 1, block([(f"x-{it}", "a" * 90)])) for it in range(5_000)),
+    # Each frame is of 4,000 bytes and stands for 16 megabytes.
+    "a field that is named again and again": frame(
+        HEADERS, ALONE, 1, block(ASK) + REMEMBERED + NAMED * 4_000) + frame(
+        HEADERS, ALONE, 3, block(ASK) + NAMED * 4_000),
+    "settings": frame(SETTINGS, 0, 0) * 20_000,
+    "pings": frame(PING, 0, 0, b"12345678") * 20_000,
+    "empty bodies": head(COMMAND) + frame(DATA, 0, 1) * 20_000,
+    "texts that are not read": NO_WINDOW + b"".join(head(TEXT, ALONE, it) for it in NUMBERS[:100]),
+}
+
+
+def floods(cases, front, recorder):
+    """Commands beside a flood take not many times as long as without, in one of three tries on a
+    busy machine."""
+    for name, sent in FLOODS.items():
+        for _ in range(3):
+            alone = timed(front)[1]
+            with front.connect("127.0.0.5", "h2") as client:
+                try:
+                    client.sendall(PREFACE + frame(SETTINGS, 0, 0) + sent)
+                except OSError:
+                    # nginx has had enough of them.
+                    pass
+                recorder.seen.clear()
+                told, took = timed(front)
+            cases.equal(f"HTTP/2: commands beside {name}", told, [200] * 5)
+            if took < 10 * alone:
+                break
+        times = f"in {took:.1f} s, alone in {alone:.1f} s"
+        cases.equal(f"HTTP/2: beside {name} {times}", took < 10 * alone, True)
+        strange = [it for it in recorder.seen if it.values(b"x-account") not in ([], [b"bob"])]
+        cases.equal(f"HTTP/2: no command comes of {name}", len(strange), 0)
 
 
 def timed(front):
@@ -204,6 +230,6 @@ def run(cases):
             kinds = spoken(front, command(), front.quiet())
             cases.equal("HTTP/2: it is spoken", HEADERS in kinds, True)
             hostile(cases, front, recorder)
-            taken_back(cases, front)
+            floods(cases, front, recorder)
         finally:
             front.close()

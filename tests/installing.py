@@ -17,7 +17,7 @@ ENABLED = {
 
 
 class Folder:
-    """A root of its own for dpkg. The scripts of the packages run outside and are told of it."""
+    """A root of its own for dpkg. The scripts of the packages run outside and get its path."""
 
     def __init__(self, folder):
         self.folder = folder

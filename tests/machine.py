@@ -45,7 +45,7 @@ def examples():
 
 
 class Story:
-    """What the cases share: the machine, the passwords that were told, and how things are said."""
+    """What the cases share: the machine, the passwords that were printed, and what is compared."""
 
     def __init__(self, cases, machine):
         self.cases, self.machine, self.passwords = cases, machine, {}

@@ -29,7 +29,7 @@ LATE = 5.0
 VENDORS, DEVICES = 50_000, 1
 ITEMS = VENDORS * (DEVICES + 1)
 
-# Behind how many requests of one greedy visitor another one waits at most: nginx lets four lists of
+# For how many requests of one greedy visitor another one waits at most: nginx lets four lists of
 # his through at once, and now and then the whole text. He sends 32 at once.
 AHEAD = 8
 
@@ -98,7 +98,7 @@ def stands(story):
 
 def restarts(story):
     """Restarts by hand and deaths of the server, beneath people at work: what was acknowledged
-    stands, once each, and nobody is told anything else than that the registry is away."""
+    stands, once each, and nobody hears anything else than that the registry is away."""
     story.machine.run("systemctl stop pciids-publish.timer")
     longest, number, end = 0.0, 0, time.monotonic() + LONGEST
     with Visitors(story) as visitors:

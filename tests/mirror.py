@@ -1,4 +1,5 @@
-"""deploy/mirror.sh, which keeps a copy of a registry's file: at the server, behind a cache of these tests, and behind nginx."""
+"""deploy/mirror.sh, which keeps a copy of a registry's file: at the server, through a cache of
+these tests, and behind nginx."""
 import fcntl
 import os
 import re
@@ -18,7 +19,8 @@ from registry import script
 
 MIRROR = os.path.join(TOP, "deploy", "mirror.sh")
 
-# nginx keeps the file, and nothing else: at the first port it goes by what a request says of that, at the second not.
+# nginx keeps the file, and nothing else: at the first port it goes by what a request says of that,
+# at the second not.
 CACHES = """worker_processes 1; daemon off; user root; pid {folder}/pid; error_log {folder}/errors;
 events {{ worker_connections 64; }}
 http {{
@@ -27,15 +29,22 @@ http {{
     proxy_cache_path {folder}/deaf keys_zone=deaf:1m;
     server {{
         listen 127.0.0.1:{good};
-        location / {{ proxy_pass http://127.0.0.1:{behind}; }}
+        location / {{ proxy_pass http://127.0.0.1:{server}; }}
         location = /pci.ids {{
-            proxy_pass http://127.0.0.1:{behind}; proxy_cache good; proxy_cache_valid 200 1h; proxy_cache_bypass $http_cache_control;
+            proxy_pass http://127.0.0.1:{server};
+            proxy_cache good;
+            proxy_cache_valid 200 1h;
+            proxy_cache_bypass $http_cache_control;
         }}
     }}
     server {{
         listen 127.0.0.1:{deaf};
-        location / {{ proxy_pass http://127.0.0.1:{behind}; }}
-        location = /pci.ids {{ proxy_pass http://127.0.0.1:{behind}; proxy_cache deaf; proxy_cache_valid 200 1h; }}
+        location / {{ proxy_pass http://127.0.0.1:{server}; }}
+        location = /pci.ids {{
+            proxy_pass http://127.0.0.1:{server};
+            proxy_cache deaf;
+            proxy_cache_valid 200 1h;
+        }}
     }}
 }}
 """
@@ -48,18 +57,21 @@ LATE = b"mirror: the file is older than the changes\n"
 
 
 class Cache:
-    """Keeps the file for good, and asks for it anew where it is told to, unless it is deaf; on the way commands may come."""
+    """Keeps the file for good, and asks for it anew if a request says so, unless it is deaf; on the
+    way commands may come."""
 
     def __init__(self, server):
         self.server, self.is_deaf, self.kept, self.asked = server, False, {}, []
-        # What happens before the first request for a target goes on, and what comes in place of a reply.
+        # What happens before the first request for a target goes on, and what comes in place of a
+        # reply.
         self.before, self.instead = {}, {}
         cache = self
 
         class Handler(BaseHTTPRequestHandler):
             def do_GET(self):
                 self.close_connection = True
-                self.wfile.write(cache.reply(self.path, self.headers.get("Cache-Control") == "no-cache"))
+                is_fresh = self.headers.get("Cache-Control") == "no-cache"
+                self.wfile.write(cache.reply(self.path, is_fresh))
 
             def log_message(self, *_):
                 pass
@@ -87,7 +99,8 @@ class Cache:
         told = asked.getresponse()
         body = told.read()
         asked.close()
-        whole = b"HTTP/1.1 %d %s\r\nContent-Length: %d\r\n\r\n" % (told.status, told.reason.encode(), len(body)) + body
+        head = b"HTTP/1.1 %d %s\r\nContent-Length: %d\r\n\r\n"
+        whole = head % (told.status, told.reason.encode(), len(body)) + body
         if target == "/pci.ids":
             self.kept[target] = whole
         return whole
@@ -122,8 +135,8 @@ def imported(server, text):
 
 def removed(server, path):
     """The item is proposed for removal, which is approved: two commands."""
-    number = server.post("/submit?format=text", "root", f"path={path}&remove=yes")[2].split()[1].decode()
-    return server.post("/approve", "bob", f"num={number}")
+    told = server.post("/submit?format=text", "root", f"path={path}&remove=yes")[2]
+    return server.post("/approve", "bob", f"num={told.split()[1].decode()}")
 
 
 def revision_of(server):
@@ -134,25 +147,75 @@ def text_of(server):
     return server.curl("/pci.ids")[2]
 
 
+FIRST_NAMES = """8086  Intel
+\t1237  440FX
+\t\t1af4 1100  Qemu
+1af4  Red Hat
+S 1af4
+\t1100  Qemu
+C 01  Mass
+\t02  IDE
+\t\t80  ISA
+"""
+FIRST_CHANGES = b"""1 PC/1af4 Red Hat
+1 PC/8086 Intel
+1 PC/8086/1237 440FX
+1 PC/8086/1237/1af41100 Qemu
+1 PD/01 Mass
+1 PD/01/02 IDE
+1 PD/01/02/80 ISA
+1 PS/1af4/1100 Qemu
+"""
+
+
 def at_the_server(cases, server, folder):
-    cases.equal("mirror: an empty registry", mirrored(server.port, folder), (b"", b"", 0, HEADER, b"0\n"))
-    imported(server, "8086  Intel\n\t1237  440FX\n\t\t1af4 1100  Qemu\n1af4  Red Hat\nS 1af4\n\t1100  Qemu\nC 01  Mass\n\t02  IDE\n\t\t80  ISA\n")
-    changes = b"PC/1af4 Red Hat,PC/8086 Intel,PC/8086/1237 440FX,PC/8086/1237/1af41100 Qemu,PD/01 Mass,PD/01/02 IDE,PD/01/02/80 ISA,PS/1af4/1100 Qemu"
+    def same(name, told, text, number):
+        """The next run prints this, and then has this text of this revision."""
+        cases.equal(f"mirror: {name}", mirrored(server.port, folder), (told, b"", 0, text, number))
+
+    same("an empty registry", b"", HEADER, b"0\n")
+    imported(server, FIRST_NAMES)
     text = text_of(server)
-    told = b"".join(b"1 %s\n" % change for change in changes.split(b","))
-    cases.equal("mirror: the first names", mirrored(server.port, folder), (told, b"", 0, text, b"1\n"))
-    cases.equal("mirror: nothing new", mirrored(server.port, folder), (b"", b"", 0, text, b"1\n"))
+    same("the first names", FIRST_CHANGES, text, b"1\n")
+    same("nothing new", b"", text, b"1\n")
     imported(server, "C 01  Mass  storage \n")
-    text = text_of(server)
-    cases.equal("mirror: one name", mirrored(server.port, folder), (b"2 PD/01 Mass  storage \n", b"", 0, text, b"2\n"))
+    same("one name", b"2 PD/01 Mass  storage \n", text_of(server), b"2\n")
     server.post("/account", "root", "who=bob&rank=2")
     removed(server, "PD/01/02/80")
-    text = text_of(server)
-    cases.equal("mirror: a removal is in the file alone", mirrored(server.port, folder), (b"", b"", 0, text, b"5\n"))
+    same("a removal is in the file alone", b"", text_of(server), b"5\n")
     imported(server, "".join(f"{number:04x}  Vendor {number}\n" for number in range(1, 251)))
-    text = text_of(server)
     told = b"".join(b"6 PC/%04x Vendor %d\n" % (number, number) for number in range(1, 251))
-    cases.equal("mirror: three pages", mirrored(server.port, folder), (told, b"", 0, text, b"6\n"))
+    same("three pages", told, text_of(server), b"6\n")
+
+
+REPLY = b"HTTP/1.1 200 OK\r\nContent-Length: %d\r\n\r\n%s"
+ELSEWHERE = b"HTTP/1.1 302 Found\r\nLocation: /\r\nContent-Length: 0\r\n\r\n"
+BUSY = b"HTTP/1.1 503 Service Unavailable\r\nContent-Length: 0\r\n\r\n"
+NO_FILE = b"mirror: what came for /pci.ids is no file of a registry\n"
+NO_CHANGES = b"mirror: what came for /changes is no page of changes\n"
+
+
+def other_answers(cases, server, folder, copy, number):
+    """What comes in place of a reply of the server is not kept."""
+    page = b"<html>Sign in</html>"
+    since = f"/changes?format=text&since={number.decode().strip()}&after="
+    with Cache(server) as between:
+        for name, target, told, status, said in (
+            ("a page of somebody else", "/pci.ids", REPLY % (len(page), page), 1, NO_FILE),
+            ("changes of somebody else", since, REPLY % (len(page), page), 1, NO_CHANGES),
+            ("somewhere else", "/pci.ids", ELSEWHERE, 1, NO_FILE),
+            ("a text that is cut", "/pci.ids", REPLY % (1_000, HEADER), 18, None),
+            ("a refusal", "/pci.ids", BUSY, 22, None),
+        ):
+            between.instead = {target: told}
+            ran = mirrored(between.port, folder)
+            got = ran[0], ran[1] if said else None, *ran[2:]
+            cases.equal(f"mirror: {name}", got, (b"", said, status, copy, number))
+
+
+def with_tools(tools):
+    """The environment in which the tools of a folder are found before all others."""
+    return dict(os.environ, PATH=tools + os.pathsep + os.environ["PATH"])
 
 
 def not_to_be_had(cases, server, folder):
@@ -164,28 +227,24 @@ def not_to_be_had(cases, server, folder):
     busy = b"mirror: another run is at work in this folder\n"
     cases.equal("mirror: two at once", mirrored(server.port, folder), (b"", busy, 1, copy, number))
     os.close(place)
-    with subprocess.Popen([MIRROR, f"http://127.0.0.1:{server.port}", folder], stdout=subprocess.PIPE, stderr=subprocess.DEVNULL) as ran:
+    words = [MIRROR, f"http://127.0.0.1:{server.port}", folder]
+    with subprocess.Popen(words, stdout=subprocess.PIPE, stderr=subprocess.DEVNULL) as ran:
         ran.stdout.close()
-    cases.equal("mirror: nobody reads what is told", (ran.returncode != 0, *kept_in(folder)), (True, copy, number, []))
-    with Cache(server) as between:
-        whole = b"HTTP/1.1 200 OK\r\nContent-Length: %d\r\n\r\n%s"
-        page, since = b"<html>Sign in</html>", f"/changes?format=text&since={number.decode().strip()}&after="
-        for name, target, told, status, said in (
-            ("a page of somebody else", "/pci.ids", whole % (len(page), page), 1, b"mirror: what came for /pci.ids is no file of a registry\n"),
-            ("changes of somebody else", since, whole % (len(page), page), 1, b"mirror: what came for /changes is no page of changes\n"),
-            ("somewhere else", "/pci.ids", b"HTTP/1.1 302 Found\r\nLocation: /\r\nContent-Length: 0\r\n\r\n", 1, b"mirror: what came for /pci.ids is no file of a registry\n"),
-            ("a text that is cut", "/pci.ids", whole % (1_000, HEADER), 18, None),
-            ("a refusal", "/pci.ids", b"HTTP/1.1 503 Service Unavailable\r\nContent-Length: 0\r\n\r\n", 22, None),
-        ):
-            between.instead = {target: told}
-            ran = mirrored(between.port, folder)
-            cases.equal(f"mirror: {name}", (ran[0], ran[1] if said else None, *ran[2:]), (b"", said, status, copy, number))
+    got = ran.returncode != 0, *kept_in(folder)
+    cases.equal("mirror: nobody reads what is printed", got, (True, copy, number, []))
+    other_answers(cases, server, folder, copy, number)
+    told = b"7 PC/fffe New\n"
     with tempfile.TemporaryDirectory() as tools:
-        with open(os.path.join(tools, "mv"), "w", encoding="utf-8", opener=lambda path, flags: os.open(path, flags, 0o755)) as file:
-            file.write(f"#!/bin/sh\n[ ! -e {tools}/one ] || exit 5\n: > {tools}/one\nexec /bin/mv \"$@\"\n")
-        told = mirrored(server.port, folder, env=dict(os.environ, PATH=tools + os.pathsep + os.environ["PATH"]))
-    cases.equal("mirror: a stop between the copy and its number", told, (b"7 PC/fffe New\n", b"", 5, text_of(server), number))
-    cases.equal("mirror: then", mirrored(server.port, folder), (b"7 PC/fffe New\n", b"", 0, text_of(server), b"7\n"))
+        path = os.path.join(tools, "mv")
+        with open(path, "w", encoding="utf-8") as file:
+            file.write(f"#!/bin/sh\n[ ! -e {tools}/one ] || exit 5\n")
+            file.write(f": > {tools}/one\nexec /bin/mv \"$@\"\n")
+        os.chmod(path, 0o755)
+        ran = mirrored(server.port, folder, env=with_tools(tools))
+    want = told, b"", 5, text_of(server), number
+    cases.equal("mirror: a stop between the copy and its number", ran, want)
+    want = told, b"", 0, text_of(server), b"7\n"
+    cases.equal("mirror: then", mirrored(server.port, folder), want)
     told = mirrored(free_port(), folder)
     cases.equal("mirror: no server", (told[0], *told[2:]), (b"", 7, text_of(server), b"7\n"))
     for name, number, told in (
@@ -194,72 +253,95 @@ def not_to_be_had(cases, server, folder):
     ):
         with open(os.path.join(folder, "revision"), "wb") as file:
             file.write(number)
-        cases.equal(f"mirror: {name}", mirrored(server.port, folder), (b"", told, 1, text_of(server), number))
+        want = b"", told, 1, text_of(server), number
+        cases.equal(f"mirror: {name}", mirrored(server.port, folder), want)
 
 
 def behind_a_cache(cases, server, folder):
+    def same(name, told, number, text=None):
+        """The next run prints this, and then has the text of the server."""
+        got = mirrored(cache.port, folder)
+        cases.equal(f"cache: {name}", got, (told, b"", 0, text or text_of(server), number))
+
     with Cache(server) as cache:
-        cases.equal("cache: the first copy", mirrored(cache.port, folder)[1:], (b"", 0, text_of(server), b"7\n"))
+        got = mirrored(cache.port, folder)[1:]
+        cases.equal("cache: the first copy", got, (b"", 0, text_of(server), b"7\n"))
         removed(server, "PC/0001")
         old, text = cache.ask("/pci.ids"), text_of(server)
         cases.equal("cache: it has an older text", old != text, True)
-        cases.equal("cache: a removal", mirrored(cache.port, folder), (b"", b"", 0, text, b"9\n"))
+        same("a removal", b"", b"9\n")
         imported(server, "0002  Renamed\n")
         cache.kept.clear()
         old = cache.ask("/pci.ids")
         removed(server, "PC/0003")
-        text = text_of(server)
-        cases.equal("cache: it has the change and not the removal", (b"0002  Renamed\n" in old, cache.ask("/pci.ids") != text), (True, True))
-        cases.equal("cache: a change, then a removal", mirrored(cache.port, folder), (b"10 PC/0002 Renamed\n", b"", 0, text, b"12\n"))
-
-        # Commands between the changes and the file: the copy is newer than its number, and the next run tells what is left.
-        imported(server, "0002  Again\n0004  Again\n0005  Again\n")
-        cache.before["/pci.ids"] = lambda: (imported(server, "0002  Once more\n"), removed(server, "PC/0004"))
-        told = mirrored(cache.port, folder)
-        cases.equal("cache: another name and a removal meanwhile", told, (b"13 PC/0005 Again\n", b"", 0, text_of(server), b"13\n"))
-        told = mirrored(cache.port, folder)
-        cases.equal("cache: then the other name", told, (b"14 PC/0002 Once more\n", b"", 0, text_of(server), b"16\n"))
-
-        # And between two pages: a name of the first page, one of the second, and one of each that goes.
-        imported(server, "".join(f"{number:04x}  Page {number}\n" for number in range(0x10, 0x10 + 150)))
-        between = "0011  Other\n0080  Other\n"
-        cache.before["/changes?format=text&since=16&after=PC/0073"] = lambda: (imported(server, between), removed(server, "PC/0012"), removed(server, "PC/0081"))
-        told = [b"17 PC/%04x Page %d\n" % (number, number) for number in range(0x10, 0x10 + 150) if number not in (0x11, 0x12, 0x80, 0x81)]
-        told.insert(110, b"18 PC/0080 Other\n")
-        cases.equal("cache: names and removals between pages", mirrored(cache.port, folder), (b"".join(told), b"", 0, text_of(server), b"17\n"))
-        told = b"18 PC/0011 Other\n18 PC/0080 Other\n"
-        cases.equal("cache: then the other names", mirrored(cache.port, folder), (told, b"", 0, text_of(server), b"22\n"))
-
-        # One that does not go by what it is told: the change has to be at its own path.
-        cache.is_deaf = True
-        imported(server, "0020  A\n\t1000  Bridge\n0021  B\n")
-        cache.kept.clear()
-        cases.equal("deaf cache: it has it", mirrored(cache.port, folder)[2:], (0, text_of(server), b"23\n"))
-        copy = text_of(server)
-        imported(server, "0021  B\n\t1000  Bridge\n")
-        cases.equal("deaf cache: the text is an older one", mirrored(cache.port, folder), (b"", LATE, 1, copy, b"23\n"))
-        cache.kept.clear()
-        cases.equal("deaf cache: the next run has it", mirrored(cache.port, folder), (b"24 PC/0021/1000 Bridge\n", b"", 0, text_of(server), b"24\n"))
-        cache.is_deaf = False
+        got = b"0002  Renamed\n" in old, cache.ask("/pci.ids") != text_of(server)
+        cases.equal("cache: it has the change and not the removal", got, (True, True))
+        same("a change, then a removal", b"10 PC/0002 Renamed\n", b"12\n")
+        meanwhile(server, cache, same)
+        deaf(cases, server, cache, folder)
         cache.asked.clear()
-        cases.equal("cache: nothing new", mirrored(cache.port, folder), (b"", b"", 0, text_of(server), b"24\n"))
-        cases.equal("cache: nothing new, and the file is not asked for", cache.asked, ["/changes?format=text&since=24&after="])
+        same("nothing new", b"", b"24\n")
+        asked = ["/changes?format=text&since=24&after="]
+        cases.equal("cache: nothing new, and the file is not asked for", cache.asked, asked)
         tools_failing(cases, server, cache, folder)
 
 
+def meanwhile(server, cache, same):
+    """Commands between the changes and the file: the copy is newer than its number, and the next
+    run prints what is left. And commands between two pages: a name of the first page, one of the
+    second, and one of each that goes."""
+    imported(server, "0002  Again\n0004  Again\n0005  Again\n")
+    cache.before["/pci.ids"] = lambda: (
+        imported(server, "0002  Once more\n"), removed(server, "PC/0004"))
+    same("another name and a removal meanwhile", b"13 PC/0005 Again\n", b"13\n")
+    same("then the other name", b"14 PC/0002 Once more\n", b"16\n")
+    numbers = range(0x10, 0x10 + 150)
+    imported(server, "".join(f"{number:04x}  Page {number}\n" for number in numbers))
+    between = "0011  Other\n0080  Other\n"
+    cache.before["/changes?format=text&since=16&after=PC/0073"] = lambda: (
+        imported(server, between), removed(server, "PC/0012"), removed(server, "PC/0081"))
+    told = [b"17 PC/%04x Page %d\n" % (number, number)
+            for number in numbers if number not in (0x11, 0x12, 0x80, 0x81)]
+    told.insert(110, b"18 PC/0080 Other\n")
+    same("names and removals between pages", b"".join(told), b"17\n")
+    same("then the other names", b"18 PC/0011 Other\n18 PC/0080 Other\n", b"22\n")
+
+
+def deaf(cases, server, cache, folder):
+    """A cache that does not go by what a request says: the change has to be at its own path."""
+    cache.is_deaf = True
+    imported(server, "0020  A\n\t1000  Bridge\n0021  B\n")
+    cache.kept.clear()
+    got = mirrored(cache.port, folder)[2:]
+    cases.equal("deaf cache: it has it", got, (0, text_of(server), b"23\n"))
+    copy = text_of(server)
+    imported(server, "0021  B\n\t1000  Bridge\n")
+    got = mirrored(cache.port, folder)
+    cases.equal("deaf cache: the text is an older one", got, (b"", LATE, 1, copy, b"23\n"))
+    cache.kept.clear()
+    want = b"24 PC/0021/1000 Bridge\n", b"", 0, text_of(server), b"24\n"
+    cases.equal("deaf cache: the next run has it", mirrored(cache.port, folder), want)
+    cache.is_deaf = False
+
+
 def tools_failing(cases, server, cache, folder):
-    """Over two pages of changes, one of which is undone meanwhile, each tool that the script runs fails in turn: nothing is saved."""
+    """Over two pages of changes, one of which is undone meanwhile, each tool that the script runs
+    fails in turn: nothing is saved."""
     copy, number, _ = kept_in(folder)
-    imported(server, "".join(f"{vendor:04x}  Vendor\n" for vendor in range(0x10, 0x10 + 150)))
-    for tool in ("awk", "cat", "comm", "curl", "flock", "mktemp", "mv", "sed", "sort", "sync", "wc"):
+    vendors = range(0x10, 0x10 + 150)
+    imported(server, "".join(f"{vendor:04x}  Vendor\n" for vendor in vendors))
+    for tool in "awk cat comm curl flock mktemp mv sed sort sync wc".split():
         cache.before["/pci.ids"] = lambda: imported(server, f"0010  Without {tool}\n")
         with tempfile.TemporaryDirectory() as tools:
             os.symlink("/bin/false", os.path.join(tools, tool))
-            told = mirrored(cache.port, folder, env=dict(os.environ, PATH=tools + os.pathsep + os.environ["PATH"]))
-        cases.equal(f"mirror: without {tool}", (told[2] != 0, *told[3:]), (True, copy, number))
+            told = mirrored(cache.port, folder, env=with_tools(tools))
+        got = told[2] != 0, *told[3:]
+        cases.equal(f"mirror: without {tool}", got, (True, copy, number))
     cache.before.clear()
     told = mirrored(cache.port, folder)
-    cases.equal("mirror: with all tools", (told[0].count(b"\n"), *told[1:]), (150, b"", 0, text_of(server), revision_of(server)))
+    got = told[0].count(b"\n"), *told[1:]
+    want = 150, b"", 0, text_of(server), revision_of(server)
+    cases.equal("mirror: with all tools", got, want)
 
 
 def emptied(folder):
@@ -275,30 +357,38 @@ def is_listening(port):
 
 
 def behind_nginx(cases, server, folder):
-    places, config = [os.path.join(folder, name) for name in ("one", "two")], os.path.join(folder, "nginx.conf")
-    good, deaf = free_port(), free_port()
+    places = [os.path.join(folder, name) for name in ("one", "two")]
+    config = os.path.join(folder, "nginx.conf")
+    good, deaf_port = free_port(), free_port()
     for place in places:
         os.mkdir(place)
     with open(config, "w", encoding="utf-8") as file:
-        file.write(CACHES.format(folder=folder, good=good, deaf=deaf, behind=server.port))
-    nginx = subprocess.Popen(["nginx", "-c", config, "-p", folder, "-e", os.path.join(folder, "errors")], stderr=subprocess.DEVNULL)
+        ports = {"good": good, "deaf": deaf_port, "server": server.port}
+        file.write(CACHES.format(folder=folder, **ports))
+    words = ["nginx", "-c", config, "-p", folder, "-e", os.path.join(folder, "errors")]
+    nginx = subprocess.Popen(words, stderr=subprocess.DEVNULL)
     try:
         for _ in range(200):
-            if is_listening(good) and is_listening(deaf):
+            if is_listening(good) and is_listening(deaf_port):
                 break
             time.sleep(0.05)
         first, number = text_of(server), revision_of(server)
-        cases.equal("nginx: the first copy", mirrored(good, places[0])[2:], (0, first, number))
-        cases.equal("deaf nginx: the first copy", mirrored(deaf, places[1])[2:], (0, first, number))
+        want = 0, first, number
+        cases.equal("nginx: the first copy", mirrored(good, places[0])[2:], want)
+        cases.equal("deaf nginx: the first copy", mirrored(deaf_port, places[1])[2:], want)
         removed(server, "PC/0030")
-        cases.equal("nginx: it has an older text", ask_curl(f"http://127.0.0.1:{good}/pci.ids")[2], first)
-        cases.equal("nginx: a removal", mirrored(good, places[0]), (b"", b"", 0, text_of(server), revision_of(server)))
+        kept = ask_curl(f"http://127.0.0.1:{good}/pci.ids")[2]
+        cases.equal("nginx: it has an older text", kept, first)
+        want = b"", b"", 0, text_of(server), revision_of(server)
+        cases.equal("nginx: a removal", mirrored(good, places[0]), want)
         imported(server, "ffff  New\n")
         told = revision_of(server)[:-1] + b" PC/ffff New\n"
-        cases.equal("nginx: a change", mirrored(good, places[0]), (told, b"", 0, text_of(server), revision_of(server)))
-        cases.equal("deaf nginx: the text is an older one", mirrored(deaf, places[1]), (b"", LATE, 1, first, number))
+        want = told, b"", 0, text_of(server), revision_of(server)
+        cases.equal("nginx: a change", mirrored(good, places[0]), want)
+        late = b"", LATE, 1, first, number
+        cases.equal("deaf nginx: the text is an older one", mirrored(deaf_port, places[1]), late)
         emptied(os.path.join(folder, "deaf"))
-        cases.equal("deaf nginx: a later run has it", mirrored(deaf, places[1]), (told, b"", 0, text_of(server), revision_of(server)))
+        cases.equal("deaf nginx: a later run has it", mirrored(deaf_port, places[1]), want)
     finally:
         nginx.terminate()
         nginx.wait()
@@ -356,7 +446,8 @@ def run(cases):
             not_to_be_had(cases, server, copies[0])
             behind_a_cache(cases, server, copies[1])
             if shutil.which("nginx") is None or os.geteuid() != 0:
-                cases.skipped("mirror behind nginx", "nginx is not installed, or not root's to start")
+                why = "nginx is not installed, or not root's to start"
+                cases.skipped("mirror behind nginx", why)
                 return
             with tempfile.TemporaryDirectory() as room:
                 os.chmod(room, 0o755)

@@ -1,4 +1,5 @@
-"""nginx in front of the server, by deploy/nginx.conf as it is but for its ports and places: who is taken to ask, and clients that are slow."""
+"""nginx in front of the server, by deploy/nginx.conf as it is but for its ports and places: who is
+taken to ask, and clients that are slow."""
 import json
 import os
 import shutil
@@ -26,7 +27,8 @@ def config():
 
 
 def in_place(text, folder, port, behind):
-    """The configuration with its ports and places made those of a test; None where one of them is not in it."""
+    """The configuration with its ports and places made those of a test; None if one of them is not
+    in it."""
     for old, new in (
         ("/run/pciids-nginx.pid", f"{folder}/pid"),
         ("/var/log/nginx/", f"{folder}/"),
@@ -41,22 +43,27 @@ def in_place(text, folder, port, behind):
 
 
 class Proxy:
-    """nginx with the configuration, its certificate and its file of passwords in a folder, in front of a port."""
+    """nginx with the configuration, its certificate and its file of passwords in a folder, in front
+    of a port."""
 
     def __init__(self, folder, behind):
         self.folder, self.port = folder, free_port()
         os.chmod(folder, 0o755)
         self.certificate = os.path.join(folder, "certificate.pem")
-        words = ["openssl", "req", "-x509", "-newkey", "rsa:2048", "-nodes", "-days", "1", "-subj", f"/CN={HOST}", "-addext", f"subjectAltName=DNS:{HOST}"]
-        subprocess.run([*words, "-keyout", os.path.join(folder, "key.pem"), "-out", self.certificate], stderr=subprocess.DEVNULL, check=True)
+        words = ["openssl", "req", "-x509", "-newkey", "rsa:2048", "-nodes", "-days", "1"]
+        words += ["-subj", f"/CN={HOST}", "-addext", f"subjectAltName=DNS:{HOST}"]
+        words += ["-keyout", os.path.join(folder, "key.pem"), "-out", self.certificate]
+        quiet = {"stderr": subprocess.DEVNULL, "check": True}
+        subprocess.run(words, **quiet)
         passwords = os.path.join(folder, "passwords")
         open(passwords, "w").close()
         for name, password in PASSWORDS.items():
-            subprocess.run(["htpasswd", "-bB", passwords, name, password], stderr=subprocess.DEVNULL, check=True)
+            subprocess.run(["htpasswd", "-bB", passwords, name, password], **quiet)
         path = os.path.join(folder, "nginx.conf")
         with open(path, "w", encoding="utf-8") as file:
             file.write(in_place(config(), folder, self.port, behind))
-        self.process = subprocess.Popen(["nginx", "-c", path, "-p", folder, "-e", os.path.join(folder, "errors"), "-g", "daemon off;"], stderr=subprocess.PIPE)
+        words = ["nginx", "-c", path, "-p", folder, "-e", os.path.join(folder, "errors")]
+        self.process = subprocess.Popen([*words, "-g", "daemon off;"], stderr=subprocess.PIPE)
 
     def __enter__(self):
         for _ in range(100):
@@ -76,11 +83,13 @@ class Proxy:
 
     def connect_safely(self):
         """A client to which TLS is spoken."""
-        return ssl.create_default_context(cafile=self.certificate).wrap_socket(self.connect(), server_hostname=HOST)
+        context = ssl.create_default_context(cafile=self.certificate)
+        return context.wrap_socket(self.connect(), server_hostname=HOST)
 
     def curl(self, path, *words):
         place = f"{HOST}:{self.port}"
-        return ask_curl("--cacert", self.certificate, "--resolve", f"{place}:127.0.0.1", *words, f"https://{place}{path}")
+        words = ("--cacert", self.certificate, "--resolve", f"{place}:127.0.0.1", *words)
+        return ask_curl(*words, f"https://{place}{path}")
 
     def post(self, path, account, form, *words):
         return self.curl(path, "-u", f"{account}:{PASSWORDS[account]}", "-d", form, *words)
@@ -91,14 +100,18 @@ FORGED = ("-H", "X-Account: root", "-H", "x-account: root", "-H", "X_Account: ro
 
 def accounts(cases, proxy):
     """Who is taken to ask: the name whose password was right, whatever else is said."""
-    new_accounts = (("alice", 0), ("mona", 2))
-    for name, rank in new_accounts:
-        cases.equal(f"proxy: an account for {name}", proxy.post("/account", "root", f"who={name}&rank={rank}"), (200, JSON, OK))
-    intel = "path=PC/8086&name=Intel"
-    cases.equal("proxy: a submission with a forged account", proxy.post("/submit", "alice", intel, *FORGED), (200, JSON, b'{"num":1,"ok":true}'))
+    for name, rank in (("alice", 0), ("mona", 2)):
+        told = proxy.post("/account", "root", f"who={name}&rank={rank}")
+        cases.equal(f"proxy: an account for {name}", told, (200, JSON, OK))
+    told = proxy.post("/submit", "alice", "path=PC/8086&name=Intel", *FORGED)
+    want = 200, JSON, b'{"num":1,"ok":true}'
+    cases.equal("proxy: a submission with a forged account", told, want)
     told = json.loads(proxy.curl("/submission/1")[2])
-    cases.equal("proxy: it stands under the name of the password", (told["author"], told["state"]), ("alice", "pending"))
-    cases.equal("proxy: a forged account decides nothing", proxy.post("/approve", "alice", "num=1", *FORGED), (403, JSON, refusal(5, "RankTooLow")))
+    got = told["author"], told["state"]
+    cases.equal("proxy: it is under the name of the password", got, ("alice", "pending"))
+    told = proxy.post("/approve", "alice", "num=1", *FORGED)
+    want = 403, JSON, refusal(5, "RankTooLow")
+    cases.equal("proxy: a forged account decides nothing", told, want)
     for name, words in {
         "no password": (),
         "no password, a forged account": FORGED,
@@ -110,16 +123,22 @@ def accounts(cases, proxy):
     }.items():
         status, kind, _ = proxy.curl("/approve", "-d", "num=1", *words)
         cases.equal(f"proxy: {name}", (status, kind), (401, "text/html"))
-    cases.equal("proxy: a name that is no account's", proxy.post("/approve", "Bob", "num=1"), (400, JSON, refusal(3, "BadText")))
-    cases.equal("proxy: nothing came of them", proxy.curl("/pending?format=text"), (200, TEXT, b"1 alice name PC/8086 Intel\n"))
-    cases.equal("proxy: a decision", proxy.post("/approve?format=text", "mona", "num=1"), (200, TEXT, b"ok\n"))
+    told = proxy.post("/approve", "Bob", "num=1")
+    cases.equal("proxy: a name that is no account's", told, (400, JSON, refusal(3, "BadText")))
+    told = proxy.curl("/pending?format=text")
+    want = 200, TEXT, b"1 alice name PC/8086 Intel\n"
+    cases.equal("proxy: nothing came of them", told, want)
+    told = proxy.post("/approve?format=text", "mona", "num=1")
+    cases.equal("proxy: a decision", told, (200, TEXT, b"ok\n"))
+    keyed = ("path=PC/10ec&name=Realtek", "-H", "X-Key: 2024-05-01/7")
     for _ in range(2):
-        told = proxy.post("/submit", "alice", "path=PC/10ec&name=Realtek", "-H", "X-Key: 2024-05-01/7")
+        told = proxy.post("/submit", "alice", *keyed)
         cases.equal("proxy: a key goes through", told, (200, JSON, b'{"num":2,"ok":true}'))
 
 
 def questions(cases, proxy):
-    """Questions need no password, and a forged account, or a wrong password, changes nothing about them."""
+    """Questions need no password, and a forged account, or a wrong password, changes nothing about
+    them."""
     for path, want in {
         "/read/PC/8086": (200, JSON, b'{"name":"Intel","path":"PC/8086"}'),
         "/read/PC/8086?format=text": (200, TEXT, b"Intel\n"),
@@ -130,21 +149,33 @@ def questions(cases, proxy):
         "/pci.ids": (200, TEXT, HEADER + b"8086  Intel\n"),
     }.items():
         for words in ((), FORGED, ("-u", "alice:wrong")):
-            cases.equal(f"proxy: GET {path} {' '.join(words)}", proxy.curl(path, *words), want)
+            told = proxy.curl(path, *words)
+            cases.equal(f"proxy: GET {path} {' '.join(words)}", told, want)
     cases.equal("proxy: HEAD", proxy.curl("/pci.ids", "-I")[0], 405)
-    cases.equal("proxy: another method, with a password", proxy.post("/pci.ids", "alice", "", "-X", "DELETE")[0], 405)
+    status = proxy.post("/pci.ids", "alice", "", "-X", "DELETE")[0]
+    cases.equal("proxy: another method, with a password", status, 405)
     fields = [word for number in range(40) for word in ("-H", f"X-{number}: {number}")]
-    cases.equal("proxy: a head that the server refuses", proxy.curl("/pending", *fields), (400, JSON, refusal(20, "BadHead")))
+    told = proxy.curl("/pending", *fields)
+    cases.equal("proxy: a head that the server refuses", told, (400, JSON, refusal(20, "BadHead")))
+
+
+GET = b"GET /pending HTTP/1.1\r\n"
+HOST_A, CLOSE = b"Host: a\r\n", b"Connection: close\r\n"
+# A client that waits for a go-ahead before it sends its body, and then sends it at once.
+WAITING = (
+    b"POST /comment HTTP/1.1\r\n" + HOST_A + CLOSE + b"Authorization: Basic bW9uYTptb25h\r\n"
+    b"Expect: 100-continue\r\nContent-Length: 16\r\n\r\nnum=9&text=seen."
+)
 
 
 def standards(cases, proxy):
     """What the server leaves out of HTTP and nginx does."""
-    command = b"POST /comment HTTP/1.1\r\nHost: a\r\nConnection: close\r\nAuthorization: Basic bW9uYTptb25h\r\nExpect: 100-continue\r\nContent-Length: 16\r\n\r\nnum=9&text=seen."
+    absolute = GET.replace(b"/pending", b"https://a/pending")
     for name, sent, want in (
-        ("no Host", b"GET /pending HTTP/1.1\r\nConnection: close\r\n\r\n", b"HTTP/1.1 400 "),
-        ("two of Host", b"GET /pending HTTP/1.1\r\nHost: a\r\nHost: a\r\nConnection: close\r\n\r\n", b"HTTP/1.1 400 "),
-        ("a target in absolute form", b"GET https://a/pending HTTP/1.1\r\nHost: a\r\nConnection: close\r\n\r\n", b"HTTP/1.1 200 "),
-        ("a client that waits for a go-ahead", command, b"HTTP/1.1 100 Continue\r\n\r\nHTTP/1.1 404 "),
+        ("no Host", GET + CLOSE + b"\r\n", b"HTTP/1.1 400 "),
+        ("two of Host", GET + HOST_A + HOST_A + CLOSE + b"\r\n", b"HTTP/1.1 400 "),
+        ("a target in absolute form", absolute + HOST_A + CLOSE + b"\r\n", b"HTTP/1.1 200 "),
+        ("a go-ahead", WAITING, b"HTTP/1.1 100 Continue\r\n\r\nHTTP/1.1 404 "),
     ):
         with proxy.connect_safely() as client:
             client.sendall(sent)
@@ -153,12 +184,15 @@ def standards(cases, proxy):
 
 
 def files(cases, proxy, server):
-    """Long bodies and long replies: Debian's file in, with its length and in chunks, and out again."""
-    for name, size, status in (("the longest body", 4_194_304, 200), ("a longer one", 4_194_305, 413)):
-        path = os.path.join(proxy.folder, "body")
+    """Long bodies and long replies: Debian's file in, with its length and in chunks, and out
+    again."""
+    path = os.path.join(proxy.folder, "body")
+    longest = 4_194_304
+    for name, size, status in (("the longest body", longest, 200), ("longer", longest + 1, 413)):
         with open(path, "wb") as file:
             file.write(b"#" * size)
-        cases.equal(f"proxy: {name}", proxy.curl("/import", "-u", "mona:mona", "--data-binary", f"@{path}")[0], status)
+        told = proxy.curl("/import", "-u", "mona:mona", "--data-binary", f"@{path}")
+        cases.equal(f"proxy: {name}", told[0], status)
     if not os.path.exists(REAL_FILE):
         cases.skipped("proxy: the real file", "the package pci.ids is not installed")
         return
@@ -167,15 +201,17 @@ def files(cases, proxy, server):
     count = canonical.count(b"\n") - 1 - canonical.count(b"\nS ")
     words = ("-u", "mona:mona", "--data-binary", f"@{REAL_FILE}")
     told = proxy.curl("/import", *words)
-    cases.equal("proxy: import of the real file", told, (200, JSON, b'{"added":%d,"ok":true,"renamed":1,"same":0}' % (count - 1)))
+    body = b'{"added":%d,"ok":true,"renamed":1,"same":0}' % (count - 1)
+    cases.equal("proxy: import of the real file", told, (200, JSON, body))
     told = proxy.curl("/import?format=text", *words, "-H", "Transfer-Encoding: chunked")
-    cases.equal("proxy: the same in chunks", told, (200, TEXT, b"ok added=0 renamed=0 same=%d\n" % count))
+    body = b"ok added=0 renamed=0 same=%d\n" % count
+    cases.equal("proxy: the same in chunks", told, (200, TEXT, body))
     cases.equal("proxy: its text", proxy.curl("/pci.ids"), (200, TEXT, canonical))
     cases.equal("proxy: its text behind the proxy", server.curl("/pci.ids"), (200, TEXT, canonical))
 
 
 class Slow(threading.Thread):
-    """A client that sends so much and then nothing: for how long it is borne, and what it is told."""
+    """A client that sends so much and then nothing: for how long nginx waits, and what it says."""
 
     def __init__(self, connect, sent):
         super().__init__(daemon=True)
@@ -195,7 +231,7 @@ class Slow(threading.Thread):
 
 HALF_HEAD = b"POST /submit HTTP/1.1\r\nHost: a\r\nAuth"
 # With the name and the password of mona, so that the body is waited for.
-HALF_BODY = b"POST /submit HTTP/1.1\r\nHost: a\r\nAuthorization: Basic bW9uYTptb25h\r\nContent-Length: 24\r\n\r\npath=PC/1"
+HALF_BODY = HALF_HEAD + b"orization: Basic bW9uYTptb25h\r\nContent-Length: 24\r\n\r\npath=PC/1"
 
 
 def slow_clients(proxy):
@@ -208,7 +244,8 @@ def slow_clients(proxy):
 
 
 def cut(cases, proxy, server, slow):
-    """A client that does not read keeps nobody waiting, and those that say nothing are cut when nginx's time is over."""
+    """A client that does not read keeps nobody waiting, and those that say nothing are cut when
+    nginx's time is over."""
     with proxy.connect_safely() as client:
         # More than the kernel keeps for a client.
         client.sendall(b"GET /pci.ids HTTP/1.1\r\nHost: a\r\n\r\n" * 12)
@@ -253,12 +290,18 @@ def head_of_one(listener, heads):
         client.sendall(b"HTTP/1.1 200 OK\r\nContent-Length: 0\r\nConnection: close\r\n\r\n")
 
 
+# What curl says by itself.
+BY_CURL = ("host", "user-agent", "accept", "content-type")
+
+
 def passed_on(cases, proxy, port):
-    """What comes to the port of the server, and nothing of a client's account or password with it."""
+    """What comes to the port of the server, and nothing of a client's account or password."""
     cases.equal("proxy: where the server does not run", proxy.curl("/pending")[0], 502)
+    alice = ("-u", "alice:secret:of:alice", *FORGED)
+    fields = ["connection: close", "content-length: 5", "x-account: alice", "x-key: k"]
     for name, words, want in (
-        ("a command", ("-u", "alice:secret:of:alice", "-d", "num=1", "-H", "X-Key: k", *FORGED), ["POST / HTTP/1.1", "connection: close", "content-length: 5", "x-account: alice", "x-key: k"]),
-        ("a question", ("-u", "alice:secret:of:alice", *FORGED), ["GET / HTTP/1.1", "connection: close"]),
+        ("a command", (*alice, "-d", "num=1", "-H", "X-Key: k"), ["POST / HTTP/1.1", *fields]),
+        ("a question", alice, ["GET / HTTP/1.1", "connection: close"]),
     ):
         heads = []
         with socket.create_server(("127.0.0.1", port)) as listener:
@@ -267,22 +310,26 @@ def passed_on(cases, proxy, port):
             proxy.curl("/", *words)
             taker.join()
         first, *fields = heads[0]
-        fields = sorted(field.partition(":")[0].lower() + ":" + field.partition(":")[2] for field in fields)
-        known = [field for field in fields if field.partition(":")[0] not in ("host", "user-agent", "accept", "content-type")]
+        parts = sorted((it.partition(":")[0].lower(), it.partition(":")[2]) for it in fields)
+        known = [f"{it}:{value}" for it, value in parts if it not in BY_CURL]
         cases.equal(f"proxy: {name} as it comes to the server", [first, *known], want)
 
 
 def run(cases):
-    cases.equal("deploy/nginx.conf has the ports and places that are known", in_place(config(), "/", 1, 2) is None, False)
+    is_known = in_place(config(), "/", 1, 2) is not None
+    cases.equal("deploy/nginx.conf has the ports and places that are known", is_known, True)
     missing = [it for it in ("nginx", "htpasswd", "openssl", "curl") if shutil.which(it) is None]
     if missing or os.geteuid() != 0:
-        cases.skipped("proxy", f"{', '.join(missing)} not installed" if missing else "nginx of Debian is started by root")
+        why = f"{', '.join(missing)} not installed" if missing else "only root starts nginx"
+        cases.skipped("proxy", why)
         return
     with tempfile.TemporaryDirectory() as folder:
-        with Server(os.path.join(folder, "registry.db")) as server, Proxy(folder, server.port) as proxy:
+        database = os.path.join(folder, "registry.db")
+        with Server(database) as server, Proxy(folder, server.port) as proxy:
             slow = slow_clients(proxy)
             cases.equal("proxy: beside slow clients", proxy.curl("/pending"), (200, JSON, b"[]"))
-            cases.equal("proxy: they are still borne then", [client.is_alive() for client in slow.values()], [True] * len(slow))
+            waiting = [client.is_alive() for client in slow.values()]
+            cases.equal("proxy: nginx still waits for them", waiting, [True] * len(slow))
             accounts(cases, proxy)
             questions(cases, proxy)
             standards(cases, proxy)

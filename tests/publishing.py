@@ -21,6 +21,8 @@ C 01  Mass
 \t01  IDE
 \t\t80  Master
 """
+# A name with what other programs take for the end of a line, and then a line that leads elsewhere.
+LINES = TEXT.replace("  Intel\n", "  Intel\u2028../../escaped  <b>\x85\t0000  One\u2029\t\t\tx\n")
 # How scripts of distributions find the version and the date.
 READERS = {
     "sed": "sed -n 's/^#\\s*Version: *//p' pci.ids",
@@ -157,6 +159,18 @@ def pages(cases, press):
     cases.equal("publish: 404", "No such page" in press.read("404.html"), True)
 
 
+def lines(cases, press):
+    """Only a line feed ends a line: a name makes no other page than its own."""
+    before = press.shell("find .. -type f | sort")[1]
+    cases.equal("publish: line separators in a name", press.run(LINES)[0], 0)
+    cases.equal("publish: no other page", press.shell("find .. -type f | sort")[1], before)
+    shown = "<h1>Intel[U+2028]../../escaped  &lt;b&gt;[U+0085][U+0009]0000  One[U+2029]"
+    cases.equal("publish: they are shown", shown in press.read("item/PC/8086.html"), True)
+    status, told = press.run(f"{TEXT}9999 no name\n")
+    cases.equal("publish: no canonical text", (status, "9999 no name" in told), (1, True))
+    cases.equal("publish: the text again", press.run(TEXT)[0], 0)
+
+
 def run(cases):
     with tempfile.TemporaryDirectory() as folder:
         press = Press(folder)
@@ -164,6 +178,7 @@ def run(cases):
         cases.equal("publish: the first run", (status, "published: 1 text" in told), (0, True))
         tools(cases, press)
         pages(cases, press)
+        lines(cases, press)
         path = os.path.join(press.public, "pci.ids")
         os.utime(path, (1_000_000_000, 1_000_000_000))
         cases.equal("publish: nothing new", press.run(TEXT), (0, ""))

@@ -19,12 +19,6 @@ TEXTS = ("pciids", "test", ".ci/*", "bench/*", "tests/**/*", "tools/*")
 WIDEST = 100
 # Its statements of SQL are those of the program.
 WIDE = ("bench/registry.c",)
-# These tests, and those of the site, are older than the rules.
-OLD = (
-    "caches front front_http2 installing keeping machine machine_load mirror packages proxy"
-    " publishing built_packages front_room machine_room visitors greedy"
-)
-OLD = OLD.split()
 SOURCES = ("crates/*/src/**/*.rt", "crates/*/specs/**/*.antt")
 WIDEST_SOURCE = 120
 # `rt fmt` keeps an attribute on one line.
@@ -44,11 +38,6 @@ def files(*patterns):
             if is_text and "__pycache__" not in name:
                 found.add(name)
     return sorted(found)
-
-
-def is_old(name):
-    part = os.path.basename(name).partition(".")[0].removeprefix("test_")
-    return name.startswith("tests/site/") or (name.startswith("tests/") and part in OLD)
 
 
 def text_of(name):
@@ -99,7 +88,7 @@ def words_of(names, read, words=WORDS):
 
 
 def test_columns(cases):
-    names = [it for it in files(*TEXTS) if it not in WIDE and not is_old(it)]
+    names = [it for it in files(*TEXTS) if it not in WIDE]
     cases.equal("lines that are too wide", wide_lines(names, WIDEST), [])
 
 
@@ -109,8 +98,7 @@ def test_columns_of_sources(cases):
 
 
 def test_words(cases):
-    names = [it for it in files(*TEXTS) if not is_old(it)]
-    cases.equal("words of comments to change", words_of(names, comments_of), [])
+    cases.equal("words of comments to change", words_of(files(*TEXTS), comments_of), [])
     cases.equal("words of help to change", words_of(HELP, text_of), [])
     found = words_of(files(*SOURCES), comments_of, WORDS_OF_SOURCES)
     cases.equal("words of comments in sources to change", found, [])

@@ -81,7 +81,7 @@ class Person(threading.Thread):
         return told
 
     def command(self, count):
-        """A submission under a key. Its number, as often as it was told."""
+        """A submission under a key. Its number, as often as it came."""
         name, path = f"Name {self.name} {count}", f"PC/{self.number:x}{count:03x}"
         key = {"X-Key": f"{self.name}/{count}", **self.login}
         form, numbers = {"path": path, "name": name}, []

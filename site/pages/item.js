@@ -86,7 +86,7 @@ function facts(path, name, text) {
     el("dt", {}, "Kind"), el("dd", {}, kindOf(path)),
     el("dt", {}, "Path"), el("dd", {}, el("code", {}, path)),
     el("dt", {}, "In pci.ids"),
-    el("dd", { class: "line" }, el("pre", {}, line.replace(/[^\t].*/, ""), shown(line.trimStart())),
+    el("dd", { class: "line" }, el("pre", {}, /^\t*/.exec(line)[0], shown(line.trimStart())),
       copyButton(line)),
     text ? [el("dt", {}, el("code", {}, "lspci -nn"), " shows"),
       el("dd", {}, el("pre", {}, shown(text)))] : null);

@@ -44,9 +44,9 @@ for (const it of all("input, select, textarea").filter(seen)) {
 for (const it of all("a[href], button, summary").filter(seen)) if (!nameOf(it)) say("no name", it);
 const ids = all("[id]").map((it) => it.id);
 ids.forEach((it, at) => { if (ids.indexOf(it) !== at) faults.push(`twice the id ${it}`); });
-for (const it of all("[for], [aria-describedby], [aria-labelledby]")) {
+for (const it of all("[for], [aria-describedby], [aria-labelledby], [aria-controls]")) {
   const id = it.htmlFor ?? it.getAttribute("aria-describedby")
-    ?? it.getAttribute("aria-labelledby");
+    ?? it.getAttribute("aria-labelledby") ?? it.getAttribute("aria-controls");
   if (it.id !== "dialog" && !document.getElementById(id)) say("points to nothing", it);
 }
 if (all("main").length !== 1 || all("header").length !== 1 || all("footer").length !== 1
@@ -206,6 +206,55 @@ def look(cases, browser):
     print(f"site_access: pictures of {len(PAGES)} pages are in {SHOTS}")
 
 
+# The button of the menu: whether it can be seen, what it is called, whether it says that the menu
+# is open, what it opens, and how many links of that can be seen.
+MENU = """
+const menu = document.getElementById("menu");
+const pages = document.getElementById(menu.getAttribute("aria-controls"));
+const seen = (it) => it.checkVisibility({ checkVisibilityCSS: true });
+return [seen(menu), menu.textContent, menu.getAttribute("aria-expanded"), pages.tagName,
+  [...pages.querySelectorAll("a")].filter(seen).length];
+"""
+
+
+def menu(cases, browser):
+    """On a phone a button opens the list of pages, and the first screen is the page's."""
+    focused = "return document.activeElement.textContent"
+    high = "return document.querySelector('header').offsetHeight"
+    closed, opened = ([True, "Menu", said, "NAV", links]
+                      for said, links in (("false", 0), ("true", 8)))
+    for way in ("phone", "narrow"):
+        window(browser, way)
+        ready(browser, PAGES["item"])
+        height = browser.js(high)
+        is_low = height <= WAYS[way][1] / 6
+        cases.equal(f"access: {way}: a head of {height} pixels", is_low, True)
+        cases.equal(f"access: {way}: the menu is closed", browser.js(MENU), closed)
+        browser.js("document.getElementById('menu').focus()")
+        browser.press(browser.keys.ENTER)
+        cases.equal(f"access: {way}: Enter opens it", browser.js(MENU), opened)
+        got = browser.js(high) <= WAYS[way][1] / 2, browser.js(WIDE), browser.js(SIZES)
+        cases.equal(f"access: {way}: an open menu", got, (True, 0, []))
+        for colours in ("light", "dark"):
+            scheme(browser, colours)
+            picture(browser, f"menu-{way}-{colours}")
+            pale = browser.js(CONTRAST, LEAST)
+            cases.equal(f"access: menu, {way}, {colours}: contrast", pale, [])
+        browser.tab()
+        cases.equal(f"access: {way}: Tab goes into it", browser.js(focused), "Vendors")
+        browser.press(browser.keys.ESCAPE)
+        got = browser.js(MENU), browser.js(focused)
+        cases.equal(f"access: {way}: Escape closes it", got, (closed, "Menu"))
+        browser.press(browser.keys.ENTER)
+        browser.click("#pages a[href='/help']")
+        browser.heading("Help")
+        cases.equal(f"access: {way}: so does a link of it", browser.js(MENU), closed)
+    scheme(browser, "light")
+    browser.driver.execute_cdp_cmd("Emulation.clearDeviceMetricsOverride", {})
+    all_of_them = [False, "Menu", "false", "NAV", 8]
+    cases.equal("access: elsewhere all links are there", browser.js(MENU), all_of_them)
+
+
 def broken(cases, browser):
     """The checks themselves see what they look for."""
     browser.go("/help")
@@ -363,6 +412,7 @@ def run(cases):
         browser.go("/")
         browser.log_in("mona")
         look(cases, browser)
+        menu(cases, browser)
         keyboard(cases, browser)
         motion(cases, browser)
         cases.equal("access: the console", browser.faults(), [])

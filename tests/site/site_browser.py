@@ -27,7 +27,7 @@ def selenium():
 SWITCHES = ("--headless=new", "--no-sandbox", "--disable-gpu", "--disable-dev-shm-usage",
             "--ignore-certificate-errors", "--disable-extensions", "--no-first-run",
             "--disable-background-networking", "--force-color-profile=srgb")
-# What a page may say in its console: requests that the registry refused, which are told there too.
+# What a page may say in its console: browsers list there which requests the registry refused.
 EXPECTED = ("the server responded with a status of", "net::ERR_")
 
 

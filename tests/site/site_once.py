@@ -354,7 +354,7 @@ def imports(cases, world, browser):
 
 
 def stopped(cases, world, browser):
-    """A slow and a stopped registry are told of, and browsing goes on."""
+    """The page says that a registry is slow or stopped, and browsing goes on."""
     browser.go("/help")
     time.sleep(3)
     world.spoiler.set("hold", seconds=5)

@@ -59,7 +59,7 @@ def imported(world, texts):
 
 
 class Texts:
-    """Texts of each fault: a good front, one line that has it, and lines behind."""
+    """Texts of each fault: a good front, one line that has it, and lines after it."""
 
     GOOD = ("ab01  V", "\t0000  D", "\t\t0001 0002  S", "\t0001  E", "C 01  c", "\t01  s",
             "\t\t01  p", "S ab01", "\t0a0b  g", "ba10\tW", "\t0000 \tF", "# c", "", " \t ")
@@ -151,7 +151,7 @@ def of_program(text):
 
 
 def processes(cases, page):
-    """A few texts by `check` and `tidy` themselves, which imports stand in for elsewhere."""
+    """A few texts by `check` and `tidy` themselves; elsewhere imports take their place."""
     texts = Texts(SEED + 1)
     for kind in (*range(9), *range(9)):
         text = texts.text(kind)
