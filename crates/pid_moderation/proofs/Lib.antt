@@ -17,3 +17,4 @@ pub mod TreesAreFiles
 pub mod BrokenForms
 pub mod NeverFailed
 pub mod RevisionLemmas
+pub mod AccountsCounted

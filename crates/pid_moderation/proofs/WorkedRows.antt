@@ -16,6 +16,10 @@ use Rattle.pid_moderation.specs.Changes.{with_pairs}
 use Rattle.pid_moderation.specs.CheckTables.{most_revision}
 use Rattle.pid_moderation.specs.Revisions.{taken_over}
 use Rattle.pid_moderation.specs.Judgement.{answer, answers, after_all, judge}
+use Rattle.pid_moderation.specs.declared.facts.State.TheVariants.{Pending, Approved}
+use Rattle.pid_moderation.specs.SubmissionPages.{Search, Listing, submissions_of}
+use Rattle.pid_moderation.specs.QueuePages.{queue_in}
+use Rattle.pid_moderation.specs.RegistryStatus.{status_of_registry}
 
 abbrev by : List ℕ → Deed → Asked
 by account deed = record { account = account; key = None; deed = deed }
@@ -151,3 +155,60 @@ at_the_limit = refl
 -- a kept reply is answered there, and what fails another check is told by that
 kept_at_the_limit : answers_at most_revision (under (codes "k1") root (Imports intel) ∷ by alice (Approves 1) ∷ by root (Approves 2) ∷ by (codes "carol") (Withdraws 1) ∷ []) ≡ Ok (Counts 1 0 0) ∷ Err RankTooLow ∷ Err NoSubmission ∷ Err NoAccount ∷ []
 kept_at_the_limit = refl
+
+-- LISTS
+
+-- four submissions, three of them by alice and two for each path, of which the first has a remark and was approved
+abbrev listed : List Asked
+listed = by root (Ranks alice Contributor) ∷ by alice (Submits (Vendor 32902) (Name (codes "Intel")) []) ∷ by root (Submits (Vendor 4332) (Name (codes "Realtek")) []) ∷ by alice (Submits (Vendor 32902) Removal (codes "gone")) ∷ by root (Comments 1 (codes "seen")) ∷ by alice (Submits (Vendor 4332) (Name (codes "R")) []) ∷ by root (Approves 1) ∷ []
+
+abbrev listed_views : Views
+listed_views = views_of (after_all new_history listed)
+
+abbrev any_before : ℕ → Search
+any_before before = record { path = None; author = None; before = before }
+
+abbrev of_alice_before : ℕ → Search
+of_alice_before before = record { path = None; author = Some alice; before = before }
+
+abbrev of_intel_before : ℕ → Search
+of_intel_before before = record { path = Some (Vendor 32902); author = None; before = before }
+
+-- of a page of at most two, out of at most three that were looked at: where the next begins, and the numbers on it
+abbrev numbers_on : Search → ℕ × List ℕ
+numbers_on search = ((submissions_of 2 3 search listed_views).before, map (λ (l : Listing). l.number) (submissions_of 2 3 search listed_views).submissions)
+
+latest_submissions : numbers_on (any_before 0) ≡ (3, 4 ∷ 3 ∷ [])
+latest_submissions = refl
+
+-- the last one listed is the first of all, so that no page is left
+earlier_submissions : numbers_on (any_before 3) ≡ (0, 2 ∷ 1 ∷ [])
+earlier_submissions = refl
+
+none_before_the_first : numbers_on (any_before 1) ≡ (0, [])
+none_before_the_first = refl
+
+latest_of_alice : numbers_on (of_alice_before 0) ≡ (3, 4 ∷ 3 ∷ [])
+latest_of_alice = refl
+
+earlier_of_alice : (submissions_of 2 3 (of_alice_before 3) listed_views) ≡ record { before = 0; submissions = record { number = 1; standing = record { submitted = record { author = alice; path = Vendor 32902; proposal = Name (codes "Intel"); note = [] }; state = Approved root }; remarks = 1 } ∷ [] }
+earlier_of_alice = refl
+
+-- a page that is not full goes on below the last one that was looked at
+latest_of_intel : numbers_on (of_intel_before 0) ≡ (2, 3 ∷ [])
+latest_of_intel = refl
+
+earlier_of_intel : numbers_on (of_intel_before 2) ≡ (0, 1 ∷ [])
+earlier_of_intel = refl
+
+queue : queue_in 1 2 listed_views ≡ record { number = 3; standing = record { submitted = record { author = alice; path = Vendor 32902; proposal = Removal; note = codes "gone" }; state = Pending }; now = Some (codes "Intel"); remarks = 0 } ∷ []
+queue = refl
+
+queue_of_a_new_registry : queue_in 2 0 (views_of new_history) ≡ []
+queue_of_a_new_registry = refl
+
+status : status_of_registry (after_all new_history listed) ≡ record { accounts = 2; items = 1; pending = 3; revision = 7; submissions = 4 }
+status = refl
+
+status_of_a_new_registry : status_of_registry new_history ≡ record { accounts = 1; items = 0; pending = 0; revision = 0; submissions = 0 }
+status_of_a_new_registry = refl

@@ -1,5 +1,5 @@
 -- The laws that others cite: each is the contract of a public function that does nothing.
-use Rattle.std.specs.Prelude.{ℕ, ◌≤◌, T, List, length}
+use Rattle.std.specs.Prelude.{◌≡◌, ◌↔◌, ℕ, ◌≤◌, T, List, length}
 use Rattle.std.specs.FinMap.{entries}
 use Rattle.std.specs.FinMap.Entries.{is_sorted}
 use Rattle.pid_file.specs.Trees.{IsTree, TreeMap, text_cmp}
@@ -7,8 +7,9 @@ use Rattle.pid_moderation.specs.CheckTables.{most_items, most_revision}
 use Rattle.pid_moderation.specs.History.{Asked, Begins, History}
 use Rattle.pid_moderation.specs.Judgement.{after_all}
 use Rattle.pid_moderation.specs.Keys.{times_under}
+use Rattle.pid_moderation.specs.RegistryStatus.{RegistryStatus, IsStatusIn, status_of_registry}
 use Rattle.pid_moderation.specs.Sound.{IsSound}
-use Rattle.pid_moderation.specs.Views.{items_of, revision_of}
+use Rattle.pid_moderation.specs.Views.{items_of, revision_of, views_of}
 use Rattle.pid_moderation.specs.WellMade.{AreWellMade, IsFile}
 
 -- what well made commands lead to, from any beginning, is sound
@@ -33,3 +34,8 @@ RevisionsAreWithin = (h : History) (commands : List Asked) → revision_of h ≤
 -- a tree of names, if it is not too large, is what a file may read to
 abbrev pub TreesAreFiles : Type 0
 TreesAreFiles = (t : TreeMap) → IsTree t → length (entries t) ≤ most_items → IsFile (entries t)
+
+-- what the views of a history say of its status is its status, and nothing else
+abbrev pub ViewsTellStatus : Type 0
+ViewsTellStatus = (h : History) (status : RegistryStatus)
+    → IsStatusIn (views_of h) status ↔ (status ≡ status_of_registry h)

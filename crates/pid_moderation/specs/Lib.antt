@@ -26,4 +26,7 @@ pub mod ItemPairs
 pub mod Children
 pub mod PendingPages
 pub mod ChangePages
+pub mod SubmissionPages
+pub mod QueuePages
+pub mod RegistryStatus
 pub mod Steps

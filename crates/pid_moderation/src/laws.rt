@@ -20,6 +20,7 @@ ghost use Rattle.pid_moderation.specs.Laws.{
   ItemsAreSorted,
   RevisionsAreWithin,
   TreesAreFiles,
+  ViewsTellStatus,
 };
 ghost use Rattle.pid_moderation.specs.Revisions.{IsMarked, taken_over, with_mark};
 ghost use Rattle.pid_moderation.specs.Views.{
@@ -53,6 +54,11 @@ pub fn trees_are_last_writes()
     ensures names { (h : History) (path : List ℕ)
         → get (tree_of h) path ≡ last_written path (writes_of h) }
     ensures entries { (h : History) → entries (tree_of h) ≡ items_of h }
+{}
+
+/// The status of a history is the one that its views say, and they say no other.
+pub fn views_tell_status()
+    ensures { ViewsTellStatus }
 {}
 
 /// The items of a history are in the order of their paths.

@@ -26,8 +26,12 @@ pub use laws::{
     command_is_well_made, histories_are_sound, items_are_sorted, keys_stand_once,
     marks_judge_nothing, marks_stay, revisions_are_within, revisions_count,
     sinces_are_last_changes, taken_files_begin_anew, trees_are_files, trees_are_last_writes,
+    views_tell_status,
 };
-pub use lists::{ChangedItem, Changes, Comment, Discussion, Item, PAGE, Pending, Submission};
+pub use lists::{
+    ChangedItem, Changes, Comment, Discussion, Item, Listed, PAGE, Pending, Queued, SEARCHED,
+    Status, Submission, SubmissionPage,
+};
 pub use policy::{before_file, decide};
 pub use rank::{Rank, needed_rank};
 pub use refusal::{FileFault, Refusal};

@@ -6,6 +6,9 @@ use pid_ident::{Account, Name, Path, Text};
 /// How many submissions or items a page holds.
 pub const PAGE: usize = 100;
 
+/// How many submissions one page of a search looks at.
+pub const SEARCHED: usize = 10_000;
+
 /// A path and the name of the item there.
 #[derive(Debug, Drop)]
 pub struct Item {
@@ -57,4 +60,41 @@ pub struct ChangedItem {
 pub struct Changes {
     pub revision: u64,
     pub items: Vec<ChangedItem>,
+}
+
+/// A submission as it stands, its number, and how many remarks it has.
+#[derive(Debug, Drop)]
+pub struct Listed {
+    pub number: u32,
+    pub submission: Submission,
+    pub remarks: u32,
+}
+
+/// Submissions that a search found, the latest first. The next page has those below `before`; 0
+/// where there is none.
+#[derive(Debug, Drop)]
+pub struct SubmissionPage {
+    pub before: u32,
+    pub submissions: Vec<Listed>,
+}
+
+/// A pending submission and its number, the name that the path has today, and how many remarks it
+/// has.
+#[derive(Debug, Drop)]
+pub struct Queued {
+    pub number: u32,
+    pub submission: Submission,
+    pub now: Option<Name>,
+    pub remarks: u32,
+}
+
+/// How many accounts, items and pending submissions a registry has, its revision, and how many
+/// submissions were made in all.
+#[derive(Debug, Drop)]
+pub struct Status {
+    pub accounts: u64,
+    pub items: u32,
+    pub pending: u32,
+    pub revision: u64,
+    pub submissions: u32,
 }
