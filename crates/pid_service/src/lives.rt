@@ -35,7 +35,7 @@ impl<S: Alter + Drop> ShowsHistories for Registry<S> {
 ///
 /// `obeys` is of `obey` and `import`, `imports` of `import_from`, `runs` of `run`; the premises are
 /// the facts `clean`, `failed`, and `obeyed` or `ran` of their contracts. Every other call `looks`:
-/// `read`, `children`, `submission`, `pending`, `changes`, `lookup`, `name_of`, `export` and
+/// `read`, `rank`, `children`, `submission`, `pending`, `changes`, `lookup`, `name_of`, `export` and
 /// `export_length`. A command is in doubt where its fault left the registry failed; where the
 /// registry stayed live, it counts as not sent.
 pub fn clauses_meet_lives<S: Alter + Drop>()
