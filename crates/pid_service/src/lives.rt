@@ -31,7 +31,7 @@ impl<S: Alter + Drop> ShowsHistories for Registry<S> {
 ///
 /// `obeys` is of `obey` and `import`, `imports` of `import_from`, `runs` of `run`; the premises are
 /// the facts `clean`, `failed`, and `obeyed` or `ran` of their contracts. Every other call `looks`:
-/// `read`, `children`, `submission`, `pending`, `changes`, `lookup`, `name_of`, `export` and
+/// `read`, `rank`, `children`, `submission`, `pending`, `changes`, `lookup`, `name_of`, `export` and
 /// `export_length`. A command is in doubt if its fault left the registry failed; if the registry
 /// stayed live, the command counts as not sent.
 pub fn clauses_meet_lives<S: Alter + Drop>()

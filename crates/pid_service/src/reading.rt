@@ -2,7 +2,7 @@
 ghost use Rattle.std.specs.Prelude.{◌≡◌, map, option_copied, option_map};
 ghost use Rattle.pid_ident.specs.PathTexts.{path_text};
 ghost use Rattle.pid_moderation.specs.Items.{name_at};
-ghost use Rattle.pid_moderation.specs.Views.{items_of, views_of};
+ghost use Rattle.pid_moderation.specs.Views.{items_of, rank_of, views_of};
 ghost use Rattle.pid_moderation.specs.ItemPairs.{pair_of};
 ghost use Rattle.pid_moderation.specs.ChangePages.{changes_in, page_of, start_text};
 ghost use Rattle.pid_moderation.specs.Children.{children_of};
@@ -12,9 +12,10 @@ ghost use Rattle.pid_service.specs.Asking.{Answers, AnswersIfThere};
 
 use crate::laws;
 use crate::registry::Registry;
-use pid_ident::{Name, Path};
-use pid_moderation::{Changes, Discussion, Item, PAGE, Pending, Refusal};
+use pid_ident::{Account, Name, Path};
+use pid_moderation::{Changes, Discussion, Item, PAGE, Pending, Rank, Refusal};
 use pid_tables::refusal_of;
+use pid_tables_rows::account::rank;
 use pid_tables_rows::meta::revision;
 use sqlite::Alter;
 
@@ -31,6 +32,20 @@ impl<S: Alter + Drop> Registry<S> {
         laws::reached_histories_are_kept(); // proof only
         match self.tables.item(self.alloc, path) {
             Ok(name) => Ok(name),
+            Err(fault) => Err(refusal_of(fault)),
+        }
+    }
+
+    /// The rank of an account, where there is one.
+    pub fn rank(&mut self, who: &Account) -> Result<Option<Rank>, Refusal>
+        ensures { Answers S.Store self.old self.new result (λ h rank. rank ≡ rank_of who.now h) }
+    {
+        if !self.live {
+            return Err(Refusal::Failed);
+        }
+        laws::reached_histories_are_kept(); // proof only
+        match rank(&mut self.tables.conn, who.as_str()) {
+            Ok(rank) => Ok(rank),
             Err(fault) => Err(refusal_of(fault)),
         }
     }

@@ -3,9 +3,9 @@
 //! A row is a command, as `comment alice num=1&text=seen`, where the key of a caller is before a
 //! slash; or `import`, the caller and the file, which comes whole, or in chunks with `slowly`, or
 //! from an input that fails after it with `broken`; or a question: `export`, `length` (of the
-//! export), `read`, `children` with a path or `top`, `submission` and `pending` with a number,
-//! `changes` with a revision and a path, if there is one, `lookup` with its fields. In a row `;`
-//! ends a line of a file and `>` is a tab.
+//! export), `read`, `rank` with an account, `children` with a path or `top`, `submission` and
+//! `pending` with a number, `changes` with a revision and a path, if there is one, `lookup` with its
+//! fields. In a row `;` ends a line of a file and `>` is a tab.
 use pid_ident::{Account, FaultyInput, FaultyOutput, Key, Path, PathText};
 use pid_lookup::{Answer, LookupRefusal, args_of};
 use pid_model::rows::{command_in, fields_of};
@@ -156,6 +156,18 @@ fn read<S: Alter + Drop>(
     let path = Path::parse(path).ok_or("a path")?;
     match registry.read(&path) {
         Ok(Some(name)) => Ok(String::from_str(alloc, name.as_str())?),
+        Ok(None) => Ok(String::from_str(alloc, "none")?),
+        Err(refusal) => refused(alloc, refusal),
+    }
+}
+
+fn rank<S: Alter + Drop>(
+    registry: &mut Registry<S>,
+    alloc: Global,
+    who: &str,
+) -> Result<String, Fail> {
+    match registry.rank(&Account::of(alloc, who)?) {
+        Ok(Some(rank)) => Ok(rank.number().to_string(alloc)?),
         Ok(None) => Ok(String::from_str(alloc, "none")?),
         Err(refusal) => refused(alloc, refusal),
     }
@@ -336,6 +348,7 @@ pub(crate) fn told<S: Alter + Drop>(
         "export" => export(registry, alloc),
         "length" => length(registry, alloc),
         "read" => read(registry, alloc, rest),
+        "rank" => rank(registry, alloc, rest),
         "children" => children(registry, alloc, rest),
         "pending" => pending(registry, alloc, rest.parse::<u32>()?),
         "submission" => submission(registry, alloc, rest.parse::<u32>()?),

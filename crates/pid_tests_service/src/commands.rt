@@ -111,9 +111,19 @@ export | # PCI ID registry;1af4  Red Hat, Inc.;8086  Intel Corporation;>1237  44
 >>1af4 1100  Qemu machine;C 01  Mass;S 8086;>1100  Board;
 ";
 
+const RANKS: &str = "\
+rank root | 2
+rank alice | none
+account root who=alice&rank=0 | ok
+rank alice | 0
+account root who=alice&rank=1 | ok
+rank alice | 1
+rank root | 2
+";
+
 #[test]
 fn worked_runs(rt: HostRuntime) -> Result<(), Fail> {
-    for rows in [FAULTY, FORMS, CHILDREN] {
+    for rows in [FAULTY, FORMS, CHILDREN, RANKS] {
         expect_run(&rt, rt.alloc(), rows)?;
     }
     Ok(())
