@@ -1,8 +1,8 @@
 //! A file of PCI identifiers: its bytes, its entries, its tree, and its canonical text.
 //!
-//! All that the program needs without arguments, for `tidy` and for `check` stands here, and
-//! no code that only a registry needs. `pid_ident`, `pid_tree` and `pid_reader` hand it on to the
-//! crates above.
+//! All that the program needs without arguments, for `tidy` and for `check` stands here, with what
+//! the first program, `pid_cli_first`, makes of its arguments, and no code that only a registry
+//! needs. `pid_ident`, `pid_tree` and `pid_reader` hand it on to the crates above.
 #![tactic(auto)]
 
 mod bytes;
@@ -13,12 +13,14 @@ mod entry_line;
 mod identifier;
 mod input_text;
 mod io;
+mod job;
 mod judge;
 mod line;
 mod line_kind;
 mod name;
 mod open_levels;
 mod open_text;
+mod pages;
 mod path;
 mod pieces;
 mod plain;
@@ -26,7 +28,9 @@ mod print;
 mod process;
 mod progress;
 mod refusal;
+mod running;
 mod seen;
+mod showing;
 mod sink;
 mod text_end;
 mod tidying;
@@ -45,10 +49,12 @@ pub use cutter::Cutter;
 pub use identifier::{Id8, Id16, hex2, hex4};
 pub use input_text::{count_input, end_without_fault, read_input};
 pub use io::{Input, Output, ReadFault, WriteFault, write_all, write_parts};
+pub use job::{Job, job_of};
 pub use line::without_cr;
 pub use line_kind::LineKind;
 pub use name::{Name, is_name};
 pub use open_levels::{OpenLevels, Said, read_line};
+pub use pages::Pages;
 pub use path::{Path, PathKind};
 pub use pieces::split_line;
 pub use plain::Plain;
@@ -57,6 +63,8 @@ pub use print::{
 };
 pub use process::{FAILED, run_check, run_tidy, tell_end, tell_failed};
 pub use refusal::ReadRefusal;
+pub use running::{OTHER_JOB, run_job};
+pub use showing::tell_no_words;
 pub use sink::{CutEnd, Entry, Sink};
 pub use text_end::{LARGEST, TextEnd, end_of};
 pub use tidying::tidy;
