@@ -40,7 +40,7 @@ pub struct Progress {
     /// How many lines were read.
     pub lines: usize,
     /// The paths of their entries.
-    pub seen: Seen,
+    pub seen: Seen<Path>,
 }
 
 impl Progress {
