@@ -12,6 +12,17 @@ HEAD = '''\
 //! The pages of help and the version, as the whole program prints them.
 //!
 //! Written by tests/first_pages.py. A test compares them with what the whole program prints.
+
+use pid_file::Pages;
+'''
+
+TABLE = '''
+/// The pages.
+pub const PAGES: Pages<'static> = Pages {
+    version: VERSION,
+    usage: USAGE,
+    help: HELP,
+    commands: &[
 '''
 
 
@@ -26,25 +37,23 @@ def literal(text):
     return '"\\\n' + escaped + '"'
 
 
-def constant(name, text, about):
-    return f"\n/// {about}\npub const {name}: &str = {literal(text)};\n"
+def constant(name, text):
+    return f"\nconst {name}: &str = {literal(text)};\n"
 
 
 def source(program):
     """The text of pages.rt."""
     usage = subprocess.run([program, "no.such.command"], capture_output=True).stderr.decode()
     usage = usage[usage.index("Usage: "):usage.index("To read a file")]
-    parts = [HEAD, constant("VERSION", printed(program, "--version"), "What `--version` prints.")]
-    parts.append(constant("USAGE", usage, "What follows an argument that is no command."))
-    parts.append(constant("HELP", printed(program, "help"), "What `--help` and `help` print."))
-    parts.append("\n/// The help of one of the commands, except for `help`.\n")
-    parts.append("pub fn page_of(command: &str) -> Option<&'static str> {\n    match command {\n")
-    for command in COMMANDS:
-        parts.append(f'        "{command}" => Some({command.upper()}),\n')
-    parts.append("        _ => None,\n    }\n}\n")
-    for command in COMMANDS:
-        text = printed(program, command, "--help")
-        parts.append(f"\nconst {command.upper()}: &str = {literal(text)};\n")
+    parts = [HEAD, constant("VERSION", printed(program, "--version"))]
+    parts.append(constant("USAGE", usage))
+    parts.append(constant("HELP", printed(program, "help")))
+    parts.append(TABLE)
+    parts.extend(f'        ("{command}", {command.upper()}),\n' for command in COMMANDS)
+    parts.append("    ],\n};\n")
+    parts.extend(
+        constant(command.upper(), printed(program, command, "--help")) for command in COMMANDS
+    )
     return "".join(parts)
 
 

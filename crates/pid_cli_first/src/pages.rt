@@ -2,21 +2,20 @@
 //!
 //! Written by tests/first_pages.py. A test compares them with what the whole program prints.
 
-/// What `--version` prints.
-pub const VERSION: &str = "\
+use pid_file::Pages;
+
+const VERSION: &str = "\
 pciids 0.1.0
 ";
 
-/// What follows an argument that is no command.
-pub const USAGE: &str = "\
+const USAGE: &str = "\
 Usage: pciids < FILE
        pciids <COMMAND> [ARGS]
 
 For more information, try '--help'.
 ";
 
-/// What `--help` and `help` print.
-pub const HELP: &str = "\
+const HELP: &str = "\
 Checks and prints pci.ids files, and keeps a moderated registry of PCI IDs
 
 Usage: pciids < FILE
@@ -49,19 +48,21 @@ Run 'pciids help <COMMAND>' for details and an example.
 ";
 
 /// The help of one of the commands, except for `help`.
-pub fn page_of(command: &str) -> Option<&'static str> {
-    match command {
-        "tidy" => Some(TIDY),
-        "check" => Some(CHECK),
-        "lookup" => Some(LOOKUP),
-        "script" => Some(SCRIPT),
-        "import" => Some(IMPORT),
-        "export" => Some(EXPORT),
-        "serve" => Some(SERVE),
-        "migrate" => Some(MIGRATE),
-        _ => None,
-    }
-}
+pub const PAGES: Pages<'static> = Pages {
+    version: VERSION,
+    usage: USAGE,
+    help: HELP,
+    commands: &[
+        ("tidy", TIDY),
+        ("check", CHECK),
+        ("lookup", LOOKUP),
+        ("script", SCRIPT),
+        ("import", IMPORT),
+        ("export", EXPORT),
+        ("serve", SERVE),
+        ("migrate", MIGRATE),
+    ],
+};
 
 const TIDY: &str = "\
 Prints the canonical form of a pci.ids file (the default)

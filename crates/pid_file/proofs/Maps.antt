@@ -1,7 +1,7 @@
 -- A map of paths as a map of their texts.
-use Rattle.std.proofs.Common.{◌≡◌, ℕ, suc, Bool, true, false, cond, ◌&&◌, List, [], ◌∷◌, length, map, Option, Some, None, refl, sym, ap, subst, ◌∙◌, arith}
+use Rattle.std.proofs.Common.{◌≡◌, ℕ, Bool, true, false, cond, ◌&&◌, List, [], ◌∷◌, map, Option, Some, None, refl, sym, ap, subst, ◌∙◌}
 use mathlib.Core.Bool.{false≢true}
-use Rattle.std.specs.Prelude.{T, IsSome, IsNone, IsSomeAnd, IfSome, IsTrue, is_some}
+use Rattle.std.specs.Prelude.{T, IfSome}
 use Rattle.std.specs.declared.cmp.Ordering.{Ordering}
 use Rattle.std.specs.declared.cmp.Ordering.TheVariants.{Less, Equal, Greater}
 use Rattle.std.specs.Ordering.{is_eq, is_lt, eq_by_cmp, match_ordering}
@@ -9,13 +9,12 @@ use Rattle.std.specs.Map.{lookup}
 use Rattle.std.specs.BTreeMap.{insert_entry}
 use Rattle.std.specs.List.{AllByRecursion}
 use Rattle.std.specs.List.Sorted.{IsStrictlySortedBy}
-use Rattle.std.proofs.lemmas.Cmp.{nat_list_cmp_total, tied_itself}
-use Rattle.std.specs.FinMap.{get, insert, entries, empty, len, from_sorted, get-from_entries, get-from_sorted, get-insert, get-empty, entries-from_sorted, len-entries, same_map, slice_cmp-IsAntisymmetric, nat_cmp-IsAntisymmetric}
+use Rattle.std.proofs.lemmas.Cmp.{nat_list_cmp_total}
+use Rattle.std.specs.FinMap.{get, insert, entries, from_sorted, get-from_entries, get-from_sorted, get-insert, entries-from_sorted, same_map, slice_cmp-IsAntisymmetric, nat_cmp-IsAntisymmetric}
 use Rattle.std.specs.FinMap.Entries.{find as value_at, is_sorted, below_all, put, by_order, find-put}
 use Rattle.pid_file.specs.declared.path.Path.{Path}
-use Rattle.pid_file.specs.PathTexts.{IsPath, IsTextOf, path_text, parent_of, path_cmp}
-use Rattle.pid_file.specs.Words.{is_name}
-use Rattle.pid_file.specs.Trees.{TreeMap, IsTree, text_cmp}
+use Rattle.pid_file.specs.PathTexts.{path_text, path_cmp}
+use Rattle.pid_file.specs.Trees.{text_cmp}
 use Rattle.pid_file.specs.Items.{item_of, tree_of}
 
 pub same_texts : (a b : List ℕ) → text_cmp a b ≡ Equal → a ≡ b

@@ -182,7 +182,7 @@ one_more_value : (b : Bool) (n : List ℕ) (o : Option (List ℕ)) → cond b tr
 one_more_value true n o = refl
 one_more_value false n o = refl
 
-pub item_taken : (now next : OpenLevels) (seen more : List Path) (lines number : ℕ) (earlier : List (List ℕ)) (line name : List ℕ) (p : Path) → IsShown now seen lines earlier → number ≡ lines + 1 → line_fault_of earlier line ≡ None → (path_text p, name) ∷ [] ≡ entry_of earlier line → is_block line ≡ false → has_path seen p ≡ false → length seen < ENTRIES → IsOneMore seen p more → length more ≡ length seen + 1 → IsOpenAt next (line ∷ earlier) → IsShown next more number (line ∷ earlier) × (refusal_at earlier line ≡ None) × ((number, (path_text p, name)) ∷ [] ≡ numbered_at earlier line)
+pub item_taken : (now next : OpenLevels) (seen more : List Path) (lines number : ℕ) (earlier : List (List ℕ)) (line name : List ℕ) (p : Path) → IsShown now seen lines earlier → number ≡ lines + 1 → line_fault_of earlier line ≡ None → (path_text p, name) ∷ [] ≡ entry_of earlier line → is_block line ≡ false → has_path seen p ≡ false → length seen < ENTRIES → IsOneMore path_cmp seen p more → length more ≡ length seen + 1 → IsOpenAt next (line ∷ earlier) → IsShown next more number (line ∷ earlier) × (refusal_at earlier line ≡ None) × ((number, (path_text p, name)) ∷ [] ≡ numbered_at earlier line)
 item_taken now next seen more lines number earlier line name p shown at own entry block absent few one_more longer behind =
     let e = an_entry earlier line (path_text p) name entry in
     let room : leb ENTRIES (length (entries_back earlier)) ≡ false = subst (λ n. leb ENTRIES n ≡ false) shown.count (has_room (length seen) few) in

@@ -1,21 +1,18 @@
 -- What a cutter holds of the text that it was fed. Callers need not open it: `new` makes it, and
 -- `feed` and `finish` take it.
-use Rattle.std.specs.Prelude.{◌≡◌, ℕ, List, reverse, Some, None}
+use Rattle.std.specs.Prelude.{◌≡◌, ℕ, List, Some, None}
 use Rattle.pid_file.specs.declared.refusal.ReadRefusal.{ReadRefusal}
 use Rattle.pid_file.specs.declared.refusal.ReadRefusal.TheVariants.{Memory}
 use Rattle.pid_file.specs.declared.cutter.Cutter.{Cutter}
 use Rattle.pid_file.specs.declared.sink.CutEnd.{CutEnd}
 use Rattle.pid_file.specs.declared.sink.CutEnd.TheVariants.{Refused, Fault}
-use Rattle.pid_file.specs.Reading.{refusal_of}
-use Rattle.pid_file.specs.WholeLines.{open_part, whole_lines}
+use Rattle.pid_file.specs.OpenTexts.{IsOpen}
 use Rattle.pid_file.specs.Progress.{Shows}
 
 -- the cutter was fed this text, whose whole lines weren't refused
 pub record Holds (c : Cutter) (text : List ℕ) : Type 0 where
   pub running : c.stopped ≡ None
-  pub open_line : c.line.items ≡ open_part text
-  pub good : refusal_of (whole_lines text) ≡ None
-  pub shown : Shows c.progress (reverse (whole_lines text))
+  pub is_open : IsOpen Shows c.text text
 
 -- the cutter answers this refusal from then on
 abbrev pub IsStopped : Cutter → ReadRefusal → Type 0

@@ -1,6 +1,7 @@
 -- What the reading of an input's text comes to. That a text is too long before any line is judged
 -- is a choice of this project.
-use Rattle.std.specs.Prelude.{◌≡◌, ℕ, ◌<◌, ◌≤◌, List, length, None, Result, Ok, Err}
+use Rattle.std.specs.Prelude.{◌≡◌, ℕ, ◌+◌, ◌<◌, ◌≤◌, List, length, Option, None, Result, Ok, Err}
+use Rattle.std.specs.Io.KnownBytes.{Consumes}
 use Rattle.pid_file.specs.LookingBack.{entries_back}
 use Rattle.pid_file.specs.Reading.{history_of, refused}
 use Rattle.pid_file.specs.Refusals.{IsRefusal}
@@ -12,6 +13,13 @@ use Rattle.pid_file.specs.declared.whole_input.InputEnd.TheVariants.{ReadFault, 
 -- the text has so many entries
 abbrev pub HasEntries : List ℕ → ℕ → Type 0
 HasEntries text count = count ≡ length (entries_back (history_of text))
+
+-- what became of the input: reads alone were made of it, of at most one byte past the limit
+pub record IsReadWithin (limit : ℕ) (reads : Type 0) (old new : Option (List ℕ)) : Type 0 where
+  pub goes : reads
+  pub front : List ℕ
+  pub consumed : Consumes old new front
+  pub short : length front ≤ limit + 1
 
 -- why a text was not read
 abbrev pub IsUnread : {F : Type 0} → ℕ → InputEnd F → List ℕ → Type 0

@@ -1,14 +1,14 @@
 -- What is kept of the lines that were read shows them, the last one first.
 use Rattle.std.specs.Prelude.{◌≡◌, ℕ, List, [], ◌∷◌, Option, Some, None, length}
 use Rattle.pid_file.specs.declared.path.Path.{Path}
-use Rattle.pid_file.specs.PathTexts.{path_text}
+use Rattle.pid_file.specs.PathTexts.{path_text, path_cmp}
 use Rattle.pid_file.specs.declared.open_levels.OpenLevels.{OpenLevels}
 use Rattle.pid_file.specs.declared.progress.Progress.{Progress}
 use Rattle.pid_file.specs.declared.sink.Entry.{Entry}
 use Rattle.pid_file.specs.LookingBack.{entries_back, is_told}
 use Rattle.pid_file.specs.Numbered.{Numbered, as_told}
 use Rattle.pid_file.specs.OpenLevels.{IsOpenAt}
-use Rattle.pid_file.specs.SeenPaths.{IsRising, has_path, paths_of}
+use Rattle.pid_file.specs.SeenPaths.{IsRising, has_path, items_of}
 
 pub record IsShown (at : OpenLevels) (seen : List Path) (lines : ℕ)
     (earlier : List (List ℕ)) : Type 0 where
@@ -19,8 +19,8 @@ pub record IsShown (at : OpenLevels) (seen : List Path) (lines : ℕ)
 
 -- the kept run of paths rises, and what is kept shows the lines
 pub record Shows (p : Progress) (earlier : List (List ℕ)) : Type 0 where
-  pub rising : IsRising p.seen.run.items
-  pub shown : IsShown p.levels (paths_of p.seen) p.lines earlier
+  pub rising : IsRising path_cmp p.seen.run.items
+  pub shown : IsShown p.levels (items_of p.seen) p.lines earlier
 
 -- the entry that is given, if any
 abbrev pub given : Option Entry → List Numbered

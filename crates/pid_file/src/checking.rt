@@ -1,8 +1,7 @@
 //! Counting the entries of a text, or finding its first fault.
 ghost use Rattle.std.specs.Prelude.{
   ◌≡◌,
-  ◌+◌,
-  ◌≤◌,
+  ◌↔◌,
   ℕ,
   [],
   List,
@@ -12,12 +11,10 @@ ghost use Rattle.std.specs.Prelude.{
   Err,
   Some,
   None,
-  length,
 };
-ghost use Rattle.std.specs.Io.KnownBytes.{Consumes};
 ghost use Rattle.pid_file.specs.Sending.{Sends};
 ghost use Rattle.pid_file.specs.Checked.{IsChecked, ok_line};
-ghost use Rattle.pid_file.specs.InputTexts.{HasEntries, ReadsInput};
+ghost use Rattle.pid_file.specs.InputTexts.{HasEntries, ReadsInput, IsReadWithin};
 
 use crate::counter::Never;
 use crate::input_text::count_input;
@@ -35,12 +32,10 @@ use std::alloc::Global;
 pub fn check<I: Input, O: Output>(alloc: Global, input: &mut I, output: &mut O) -> TextEnd
     ensures checked { IfSome (I.to_come input.old)
         (λ text. IsChecked result text (O.taken output.old) (O.taken output.new)) }
-    ensures read_fault { result ≡ TextEnd.ReadFault → IsSome (I.read_fault input.new) }
-    ensures read_fault_first { IsSome (I.read_fault input.new) → result ≡ TextEnd.ReadFault }
+    ensures read_fault { (result ≡ TextEnd.ReadFault) ↔ IsSome (I.read_fault input.new) }
     ensures write_fault { result ≡ TextEnd.WriteFault → IsSome (O.write_fault output.new) }
-    ensures goes { I.goes input.old input.new }
-    ensures stops { (front : List ℕ) × Consumes (I.to_come input.old) (I.to_come input.new) front
-        × (length front ≤ LARGEST + 1) }
+    ensures reads { IsReadWithin LARGEST (I.goes input.old input.new)
+        (I.to_come input.old) (I.to_come input.new) }
 {
     let counted = count_input(alloc, LARGEST, input);
     write_counted(counted, output)

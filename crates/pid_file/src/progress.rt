@@ -20,6 +20,7 @@ ghost use Rattle.pid_file.specs.OpenLevels.{Says, IsNamed, open_behind};
 ghost use Rattle.pid_file.specs.Refusals.{refusal_at, IsRefusal};
 ghost use Rattle.pid_file.specs.Progress.{Shows, given};
 
+use crate::judge::Judge;
 use crate::line_kind::LineKind;
 use crate::open_levels::{OpenLevels, Said, read_line};
 use crate::path::Path;
@@ -39,7 +40,7 @@ pub struct Progress {
     /// How many lines were read.
     pub lines: usize,
     /// The paths of their entries.
-    pub seen: Seen,
+    pub seen: Seen<Path>,
 }
 
 impl Progress {
@@ -110,16 +111,14 @@ impl Progress {
             }
         }
     }
+}
 
-    /// Reads one more line: its entry, if it is one; or what is refused at it, or `Memory`.
-    pub fn judge<'b>(&mut self, line: &'b [u8]) -> Result<Option<Entry<'b>>, ReadRefusal>
-        ensures taken { (earlier : List (List ℕ)) → Shows self.old earlier →
-            IfOk result (λ o. Shows self.new (line.now ∷ earlier)
-            × (refusal_at earlier line.now ≡ None) × (given o ≡ numbered_at earlier line.now)) }
-        ensures named { IfOk result (λ o. IfSome o (λ entry. IsTrue (is_name entry.name.now))) }
-        ensures refused { (earlier : List (List ℕ)) → Shows self.old earlier
-            → IfErr result (λ r. IsRefusal r (refusal_at earlier line.now)) }
-    {
+impl Judge for Progress {
+    ghost use Rattle.pid_file.specs.Progress.{Shows};
+
+    ghost shows = { Shows };
+
+    fn judge<'b>(&mut self, line: &'b [u8]) -> Result<Option<Entry<'b>>, ReadRefusal> {
         let Some(number) = self.lines.checked_add(1) else {
             return Err(ReadRefusal::Memory);
         };

@@ -1,4 +1,4 @@
-//! The paths of the entries that were read.
+//! Items that were seen, most of which come in order.
 ghost use Rattle.std.specs.Prelude.{
   ◌≡◌,
   ◌+◌,
@@ -13,28 +13,27 @@ ghost use Rattle.std.specs.Prelude.{
   IfOk,
   if◌then◌else◌,
 };
-ghost use Rattle.pid_file.specs.SeenPaths.{IsOneMore, IsRising, has_path, paths_of};
+ghost use Rattle.pid_file.specs.SeenPaths.{IsOneMore, IsRising, has_item, items_of};
 
-use crate::path::Path;
 use std::alloc::{AllocError, Global};
 use std::collections::BTreeSet;
 
-/// The paths that were seen: a run, each greater than the one before it, and the rest.
+/// The items that were seen: a run, each greater than the one before it, and the rest.
 ///
-/// A text in canonical order fills the run alone, where a new path costs one comparison.
+/// The paths of a text in canonical order fill the run alone, where a new one costs one comparison.
 #[derive(Drop)]
-pub struct Seen {
+pub struct Seen<P: Ord> {
     /// Each is greater than the one before it.
-    pub run: Vec<Path>,
+    pub run: Vec<P>,
     /// Those that were not greater than the last of the run.
-    pub rest: BTreeSet<Path>,
+    pub rest: BTreeSet<P>,
 }
 
-impl Seen {
-    /// No path was seen.
-    pub fn new(alloc: Global) -> Seen
-        ensures empty { paths_of result ≡ [] }
-        ensures rising { IsRising result.run.items }
+impl<P: Ord + Copy> Seen<P> {
+    /// Nothing was seen.
+    pub fn new(alloc: Global) -> Seen<P>
+        ensures empty { items_of result ≡ [] }
+        ensures rising { IsRising P.cmp result.run.items }
     {
         Seen {
             run: Vec::new(alloc),
@@ -42,63 +41,65 @@ impl Seen {
         }
     }
 
-    /// How many paths were seen.
+    /// How many items were seen.
     pub fn len(&self) -> usize
-        ensures { result ≡ length (paths_of self.now) }
+        ensures { result ≡ length (items_of self.now) }
     {
         self.run.len() + self.rest.len()
     }
 
-    // Whether the path is greater than all of the run.
-    fn is_above_run(&self, path: &Path) -> bool
-        ensures absent { IsTrue result → IsRising self.now.run.items
-            → has_path self.now.run.items path.now ≡ false }
-        ensures rising { IsTrue result → IsRising self.now.run.items
-            → IsRising (self.now.run.items ++ path.now ∷ []) }
+    // Whether the item is greater than all of the run.
+    fn is_above_run(&self, item: &P) -> bool
+        ensures absent { IsTrue result → IsRising P.cmp self.now.run.items
+            → has_item P.cmp self.now.run.items item.now ≡ false }
+        ensures rising { IsTrue result → IsRising P.cmp self.now.run.items
+            → IsRising P.cmp (self.now.run.items ++ item.now ∷ []) }
     {
         match self.run.last() {
             None => true,
-            Some(last) => last.cmp(path).is_lt(),
+            Some(last) => last.cmp(item).is_lt(),
         }
     }
 
-    fn is_in_run(&self, path: &Path) -> bool
-        ensures { IsRising self.now.run.items → result ≡ has_path self.now.run.items path.now }
+    fn is_in_run(&self, item: &P) -> bool
+        ensures { IsRising P.cmp self.now.run.items
+            → result ≡ has_item P.cmp self.now.run.items item.now }
     {
-        self.run.binary_search(path).is_ok()
+        self.run.binary_search(item).is_ok()
     }
 
-    /// Whether the path was seen.
-    pub fn contains(&self, path: &Path) -> bool
-        ensures { IsRising self.now.run.items → result ≡ has_path (paths_of self.now) path.now }
+    /// Whether the item was seen.
+    pub fn contains(&self, item: &P) -> bool
+        ensures { IsRising P.cmp self.now.run.items
+            → result ≡ has_item P.cmp (items_of self.now) item.now }
     {
-        self.is_in_run(path) || self.rest.contains(path)
+        self.is_in_run(item) || self.rest.contains(item)
     }
 
-    /// One more path, and whether it was not seen before.
-    pub fn insert(&mut self, path: Path) -> Result<bool, AllocError>
-        ensures rising { IsRising self.old.run.items → IsRising self.new.run.items }
-        ensures added { IsRising self.old.run.items
-            → IfOk result (λ added. added ≡ not (has_path (paths_of self.old) path)) }
-        ensures updates { IsRising self.old.run.items
+    /// One more item, and whether it was not seen before.
+    pub fn insert(&mut self, item: P) -> Result<bool, AllocError>
+        ensures rising { IsRising P.cmp self.old.run.items → IsRising P.cmp self.new.run.items }
+        ensures added { IsRising P.cmp self.old.run.items
+            → IfOk result (λ added. added ≡ not (has_item P.cmp (items_of self.old) item)) }
+        ensures updates { IsRising P.cmp self.old.run.items
             → IfOk result (λ added. IsTrue added
-            → IsOneMore (paths_of self.old) path (paths_of self.new)) }
+            → IsOneMore P.cmp (items_of self.old) item (items_of self.new)) }
         ensures len { IfOk result (λ added. IsTrue added
-            → length (paths_of self.new) ≡ length (paths_of self.old) + 1) }
+            → length (items_of self.new) ≡ length (items_of self.old) + 1) }
     {
-        if self.is_above_run(&path) {
-            if self.rest.contains(&path) {
+        if self.is_above_run(&item) {
+            if self.rest.contains(&item) {
                 return Ok(false);
             }
-            if self.run.push(path).is_err() {
+            if self.run.push(item).is_err() {
                 return Err(AllocError);
             }
             return Ok(true);
         }
-        if self.is_in_run(&path) {
+        if self.is_in_run(&item) {
             return Ok(false);
         }
-        match self.rest.insert(path) {
+        match self.rest.insert(item) {
             Ok(added) => Ok(added),
             Err(_) => Err(AllocError),
         }

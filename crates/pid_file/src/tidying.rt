@@ -1,7 +1,6 @@
 //! Printing the canonical form of a text.
-ghost use Rattle.std.specs.Prelude.{◌≡◌, ◌⊎◌, ◌+◌, ◌≤◌, ℕ, List, IsSome, IfSome, Err, length};
-ghost use Rattle.std.specs.Io.KnownBytes.{Consumes};
-ghost use Rattle.pid_file.specs.InputTexts.{ReadsInput};
+ghost use Rattle.std.specs.Prelude.{◌≡◌, ◌⊎◌, ◌↔◌, ℕ, List, IsSome, IfSome, Err};
+ghost use Rattle.pid_file.specs.InputTexts.{ReadsInput, IsReadWithin};
 ghost use Rattle.pid_file.specs.Reading.{Reads};
 ghost use Rattle.pid_file.specs.Tidied.{IsTidied, PrintsNothing};
 
@@ -32,14 +31,12 @@ pub fn tidy<I: Input, O: Output, F: Output>(
       faults = F.taken faults.old;
       faults_after = F.taken faults.new;
     })) }
-    ensures read_fault { result ≡ TextEnd.ReadFault → IsSome (I.read_fault input.new) }
-    ensures read_fault_first { IsSome (I.read_fault input.new) → result ≡ TextEnd.ReadFault }
+    ensures read_fault { (result ≡ TextEnd.ReadFault) ↔ IsSome (I.read_fault input.new) }
     ensures write_fault { result ≡ TextEnd.WriteFault
         → IsSome (O.write_fault output.new) ⊎ IsSome (F.write_fault faults.new) }
     ensures nothing_printed { PrintsNothing result (O.taken output.old) (O.taken output.new) }
-    ensures goes { I.goes input.old input.new }
-    ensures stops { (front : List ℕ) × Consumes (I.to_come input.old) (I.to_come input.new) front
-        × (length front ≤ LARGEST + 1) }
+    ensures reads { IsReadWithin LARGEST (I.goes input.old input.new)
+        (I.to_come input.old) (I.to_come input.new) }
 {
     let read = read_input(alloc, LARGEST, input);
     print_read(read, output, faults)

@@ -19,14 +19,16 @@ ghost use Rattle.std.specs.Prelude.{
   length,
 };
 ghost use Rattle.std.specs.Io.KnownBytes.{Consumes};
-ghost use Rattle.pid_file.specs.Cutters.{Holds};
 ghost use Rattle.pid_file.specs.Lines.{lines_of};
+ghost use Rattle.pid_file.specs.OpenTexts.{IsOpen};
 ghost use Rattle.pid_file.specs.Sinks.{Ends};
 ghost use Rattle.pid_file.specs.WholeLines.{whole_lines};
 ghost use Rattle.pid_file.specs.WholeInputs.{CutsInput, FailsPiece, IsNoPiece, IsPiece};
 
-use crate::cutter::Cutter;
 use crate::io::Input;
+use crate::judge::Judge;
+use crate::open_text::OpenText;
+use crate::progress::Progress;
 use crate::sink::{CutEnd, Sink};
 use std::alloc::Global;
 use thiserror::Error;
@@ -101,38 +103,69 @@ pub fn next_piece<'b, I: Input>(
 }
 
 // Takes the next chunk, if the text was not given up before.
-fn take_next<K: Sink>(
-    cutter: &mut Cutter,
+fn take_next<J: Judge, K: Sink>(
+    text: &mut OpenText<J>,
     outcome: Result<(), CutEnd<K::Fault>>,
     piece: &[u8],
     sink: &mut K,
 ) -> Result<(), CutEnd<K::Fault>>
 where
     K::Fault: Drop,
-    ensures holds { (text : List ℕ) → OnOk outcome (Holds cutter.old text)
-        → OnOk result (Holds cutter.new (text ++ piece.now)) }
-    ensures ends { (text : List ℕ) (start : K) → OnOk outcome (Holds cutter.old text)
-        → Ends K.takes K.faults outcome start (whole_lines text) sink.old →
-        Ends K.takes K.faults result start (whole_lines (text ++ piece.now)) sink.new }
+    ensures holds { (front : List ℕ) → OnOk outcome (IsOpen J.shows text.old front)
+        → OnOk result (IsOpen J.shows text.new (front ++ piece.now)) }
+    ensures ends { (front : List ℕ) (start : K) → OnOk outcome (IsOpen J.shows text.old front)
+        → Ends K.takes K.faults outcome start (whole_lines front) sink.old →
+        Ends K.takes K.faults result start (whole_lines (front ++ piece.now)) sink.new }
 {
     outcome?;
-    cutter.feed(piece, sink)
+    text.take(piece, sink)
 }
 
 // The text has ended.
-fn end_text<K: Sink>(
-    cutter: Cutter,
+fn end_text<J: Judge + Drop, K: Sink>(
+    text: OpenText<J>,
     outcome: Result<(), CutEnd<K::Fault>>,
     sink: &mut K,
 ) -> Result<(), CutEnd<K::Fault>>
 where
     K::Fault: Drop,
-    ensures ends { (text : List ℕ) (start : K) → OnOk outcome (Holds cutter text)
-        → Ends K.takes K.faults outcome start (whole_lines text) sink.old →
-        Ends K.takes K.faults result start (lines_of text) sink.new }
+    ensures ends { (whole : List ℕ) (start : K) → OnOk outcome (IsOpen J.shows text whole)
+        → Ends K.takes K.faults outcome start (whole_lines whole) sink.old →
+        Ends K.takes K.faults result start (lines_of whole) sink.new }
 {
     outcome?;
-    cutter.finish(sink)
+    text.end(sink)
+}
+
+// As `cut_input`, by what judges lines.
+fn cut_judged<J: Judge + Drop, K: Sink, I: Input>(
+    mut text: OpenText<J>,
+    limit: usize,
+    input: &mut I,
+    sink: &mut K,
+) -> Result<(), InputEnd<K::Fault>>
+where
+    K::Fault: Drop,
+    requires { IsOpen J.shows text [] }
+    ensures read { (text : List ℕ) × Consumes (I.to_come input.old) (I.to_come input.new) text
+        × CutsInput K.takes K.faults limit result (I.to_come input.new) text sink.old sink.new }
+    ensures stops { (front : List ℕ) × Consumes (I.to_come input.old) (I.to_come input.new) front
+        × (length front ≤ limit + 1) }
+    ensures fault { result ≡ Err InputEnd.ReadFault → IsSome (I.read_fault input.new) }
+    ensures fault_first { IsSome (I.read_fault input.new) → result ≡ Err InputEnd.ReadFault }
+    ensures goes { I.goes input.old input.new }
+{
+    let mut buffer = [0u8; BUFFER];
+    let mut room = limit;
+    let mut outcome = Ok(());
+    while let Some(piece) = next_piece(input, room, &mut buffer)? {
+        outcome = take_next(&mut text, outcome, piece, sink);
+        room -= piece.len();
+    }
+    match end_text(text, outcome, sink) {
+        Ok(()) => Ok(()),
+        Err(end) => Err(InputEnd::Cut(end)),
+    }
 }
 
 /// Hands the entries of the input's text to the sink, in the order of their lines, until the text
@@ -155,16 +188,6 @@ where
     ensures fault_first { IsSome (I.read_fault input.new) → result ≡ Err InputEnd.ReadFault }
     ensures goes { I.goes input.old input.new }
 {
-    let mut cutter = Cutter::new(alloc);
-    let mut buffer = [0u8; BUFFER];
-    let mut room = limit;
-    let mut outcome = Ok(());
-    while let Some(piece) = next_piece(input, room, &mut buffer)? {
-        outcome = take_next(&mut cutter, outcome, piece, sink);
-        room -= piece.len();
-    }
-    match end_text(cutter, outcome, sink) {
-        Ok(()) => Ok(()),
-        Err(end) => Err(InputEnd::Cut(end)),
-    }
+    let text = OpenText::new(alloc, Progress::new(alloc));
+    cut_judged(text, limit, input, sink)
 }

@@ -1,10 +1,10 @@
 use Rattle.std.proofs.Common.{◌++◌, [], refl}
 use Rattle.std.proofs.lemmas.Result.{err_from_is_err_and}
 use Rattle.pid_file.proofs.FrontEnds.{starts_read, reads_on, ends_read, given_up, cuts_by}
-use Rattle.pid_file.proofs.whole_input.cut_input.Goals as goal
+use Rattle.pid_file.proofs.whole_input.cut_judged.Goals as goal
 
 pub loop-outcome-init : goal.loop-outcome-init
-loop-outcome-init g c = ([], starts_read _ c.args.limit, record { holds = c.new-cutter.ensures; ends = (refl, refl) }, g.met.I.Input.stays _)
+loop-outcome-init g c = ([], starts_read _ c.args.limit, record { holds = c.requires; ends = (refl, refl) }, g.met.I.Input.stays _)
 
 pub returns-in_err-piece-clause-read : goal.returns-in_err-piece-clause-read
 returns-in_err-piece-clause-read g c =

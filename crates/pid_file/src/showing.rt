@@ -1,5 +1,9 @@
-//! What the program prints besides the result of `tidy` and `check`.
-use pid_file::{Plain, TextEnd, Watched, tell_end, tell_failed, write_all, write_parts};
+//! What the first program prints besides the result of `tidy` and `check`.
+use crate::io::{write_all, write_parts};
+use crate::plain::Plain;
+use crate::process::{tell_end, tell_failed};
+use crate::text_end::TextEnd;
+use crate::watched::Watched;
 use std::io::{ErrorKind, Write};
 
 /// The exit status if the arguments name no job.

@@ -1,5 +1,5 @@
-//! What the arguments ask for.
-use crate::pages::{HELP, VERSION, page_of};
+//! What the arguments ask the first program for.
+use crate::pages::Pages;
 
 /// What the program can do by itself, and what it leaves to the whole program.
 #[derive(Clone, Copy)]
@@ -7,7 +7,7 @@ pub enum Job<'a> {
     Tidy,
     Check,
     /// Shows a page of help, or the version.
-    Show(&'static str),
+    Show(&'a str),
     /// The first argument is no command.
     NoCommand(&'a str),
     /// `tidy` and `check` take no argument. A common mistake is the name of a file.
@@ -17,24 +17,24 @@ pub enum Job<'a> {
 }
 
 /// What the arguments ask for. The first of them is the program's name.
-pub fn job_of(words: &[String]) -> Job<'_> {
+pub fn job_of<'a>(words: &'a [String], pages: &Pages<'a>) -> Job<'a> {
     match words {
         [] | [_] => Job::Tidy,
         [_, word] => match word.as_str() {
             "tidy" => Job::Tidy,
             "check" => Job::Check,
-            "--version" | "-V" => Job::Show(VERSION),
-            "--help" | "-h" | "help" => Job::Show(HELP),
-            word => job_of_more(word),
+            "--version" | "-V" => Job::Show(pages.version),
+            "--help" | "-h" | "help" => Job::Show(pages.help),
+            word => job_of_more(word, pages),
         },
-        [_, first, second] => job_of_two(first.as_str(), second.as_str()),
-        [_, first, ..] => job_of_more(first.as_str()),
+        [_, first, second] => job_of_two(first.as_str(), second.as_str(), pages),
+        [_, first, ..] => job_of_more(first.as_str(), pages),
     }
 }
 
-fn job_of_two<'a>(first: &'a str, second: &'a str) -> Job<'a> {
+fn job_of_two<'a>(first: &'a str, second: &'a str, pages: &Pages<'a>) -> Job<'a> {
     match (first, second) {
-        ("help", command) | (command, "--help" | "-h") => match page_of(command) {
+        ("help", command) | (command, "--help" | "-h") => match pages.of(command) {
             Some(page) => Job::Show(page),
             None => Job::Other,
         },
@@ -42,13 +42,13 @@ fn job_of_two<'a>(first: &'a str, second: &'a str) -> Job<'a> {
             command: first,
             word,
         },
-        _ => job_of_more(first),
+        _ => job_of_more(first, pages),
     }
 }
 
 // An option is left to the whole program, and so is a command.
-fn job_of_more(first: &str) -> Job<'_> {
-    if matches!(first.as_bytes(), [b'-', ..]) || first == "help" || page_of(first).is_some() {
+fn job_of_more<'a>(first: &'a str, pages: &Pages<'a>) -> Job<'a> {
+    if matches!(first.as_bytes(), [b'-', ..]) || first == "help" || pages.of(first).is_some() {
         return Job::Other;
     }
     Job::NoCommand(first)

@@ -1,0 +1,12 @@
+-- What is kept of a text of which some pieces have come. Callers need not open it.
+use Rattle.std.specs.Prelude.{◌≡◌, ℕ, List, reverse, None}
+use Rattle.pid_file.specs.declared.open_text.OpenText.{OpenText}
+use Rattle.pid_file.specs.Reading.{refusal_of}
+use Rattle.pid_file.specs.WholeLines.{open_part, whole_lines}
+
+-- these pieces came, and their whole lines, which what judges lines shows, weren't refused
+pub record IsOpen {J : Type 0} (shows : J → List (List ℕ) → Type 0) (t : OpenText J)
+    (text : List ℕ) : Type 0 where
+  pub open_line : t.line.items ≡ open_part text
+  pub good : refusal_of (whole_lines text) ≡ None
+  pub shown : shows t.judge (reverse (whole_lines text))
