@@ -33,7 +33,7 @@ module _ {S : Type 0} (store : Ghosts S) where
     pub lead : CallsLead (showing store) old calls new
 
   -- What is known of a registry within a session: how it was as that began, the calls since then,
-  -- and what it shows.
+  -- and what is known of it now.
   pub record Told : Type 0 where
     pub start : Registry S store
     pub calls : List Call

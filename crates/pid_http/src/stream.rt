@@ -28,12 +28,13 @@ use std::alloc::Global;
 /// # How it ends
 ///
 /// - `Clean`, `Closed`, `HeadFault`, `BodyFault`: all requests of the stream were answered, and
-/// then what is no request was refused. - `ReadFault`, `TurnsSpent`: the requests that came whole
-/// were answered. - `Memory`: the requests before were answered; the next may have been obeyed. -
-/// `WriteFault`: the requests before were answered, and a prefix of the next reply was written,
-/// which may be all of it if the writer failed after it; the next may have been obeyed. -
-/// `StoreFault`: the same within the text of all items, which the store or memory cut short, over a
-/// writer that is good.
+///   then what is no request was refused.
+/// - `ReadFault`, `TurnsSpent`: the requests that came whole were answered.
+/// - `Memory`: the requests before were answered; the next may have been obeyed.
+/// - `WriteFault`: the requests before were answered, and a prefix of the next reply was written,
+///   which may be all of it if the writer failed after it; the next may have been obeyed.
+/// - `StoreFault`: the same within the text of all items, which the store or memory cut short, over
+///   a writer that is good.
 ///
 /// If there is no memory for the routes, it ends so before anything is read. A server makes them
 /// once, and calls `serve_with`.

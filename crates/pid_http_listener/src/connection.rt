@@ -32,7 +32,7 @@ fn buffered<R: Read + Drop, W: Write + Drop>(
     Ok((reader, writer))
 }
 
-// Serves what a reader reads, and sends all replies.
+// Serves what comes from a reader, and sends all replies.
 fn serve_buffered<S: StreamServer, R: Read + Drop, W: Write + Drop>(
     reader: BufReader<R>,
     writer: BufWriter<W>,
@@ -51,7 +51,7 @@ fn serve_buffered<S: StreamServer, R: Read + Drop, W: Write + Drop>(
     send_held(&writer)
 }
 
-// Serves what a reader reads, each reply sent in chunks.
+// Serves what comes from a reader, each reply sent in chunks.
 fn serve_bare<S: StreamServer, R: Read + Drop, W: Write + Drop>(
     reader: R,
     writer: W,

@@ -4,10 +4,8 @@ ghost use Rattle.httparse.specs.Spans.{header_bytes, IsHeaderWithin};
 ghost use Rattle.pid_http_stream.specs.BodyLengths.{length_said, body_length};
 
 use crate::fields::{count_named, first_named};
+use crate::limits::LONGEST_BODY;
 use httparse::spans::HeaderSpan;
-
-/// The longest body of a request, in bytes: 4 MiB.
-pub const LONGEST_BODY: usize = 4_194_304;
 
 /// What a head says of the body after it.
 #[derive(Clone, Copy, Debug, PartialEq, Eq)]

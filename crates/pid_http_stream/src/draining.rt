@@ -2,9 +2,8 @@
 ghost use Rattle.std.specs.Prelude.{◌≡◌, ◌⊎◌, ◌<◌, IfOk, IfErr, IfSome, IsSome, length};
 ghost use Rattle.std.specs.Io.KnownBytes.{IsAtEnd};
 
-use crate::body_length::LONGEST_BODY;
 use crate::handler::NoReply;
-use crate::intake::READ_SIZE;
+use crate::limits::{LONGEST_BODY, READ_SIZE};
 use pid_ident::Input;
 
 /// Reads a body to its end, and drops it: for a handler that replies whatever the body is.

@@ -32,14 +32,10 @@ ghost use Rattle.pid_http_stream.specs.Moments.{AllSince, IsMoment};
 ghost use Rattle.pid_http_stream.specs.Unfinished.{HasNoLineEnd, IsHeadUnfinished, IsUnfinished};
 
 use crate::incoming::Incoming;
-use crate::judging::{
-    Judged, LONGEST_HEAD, MOST_FIELDS, StreamFault, are_line_ends, judge, judge_unended,
-};
+use crate::judging::{Judged, StreamFault, are_line_ends, judge, judge_unended};
+use crate::limits::{LONGEST_HEAD, MOST_FIELDS, READ_SIZE};
 use httparse::spans::{HeaderSpan, RequestSpans};
 use pid_ident::Output;
-
-/// The most that one read asks for, in bytes.
-pub(crate) const READ_SIZE: usize = 4096;
 
 /// Why reading stops.
 #[derive(Clone, Copy, Debug, PartialEq, Eq)]

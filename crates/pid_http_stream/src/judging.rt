@@ -23,16 +23,11 @@ ghost use Rattle.pid_http_stream.specs.Steps.LineScans.{blank_after};
 ghost use Rattle.pid_http_stream.specs.Unfinished.{CanBeHead};
 
 use crate::body_length::{BodyLength, length_of};
+use crate::limits::LONGEST_HEAD;
 use crate::refusal::RequestRefusal;
 use httparse::Status;
 use httparse::spans::{HeaderSpan, RequestSpans, parse_request};
 use thiserror::Error;
-
-/// The most fields of a head.
-pub const MOST_FIELDS: usize = 32;
-
-/// The longest head, in bytes, with the empty lines before it.
-pub const LONGEST_HEAD: usize = 16_384;
 
 /// Why a stream is refused.
 #[derive(Clone, Copy, Debug, PartialEq, Eq, Error)]

@@ -30,7 +30,7 @@ use crate::body_input::{BodyFault, BodyInput};
 use crate::handler::{Handler, NoReply, Reply, Wanted};
 use crate::head::Head;
 use crate::incoming::Incoming;
-use crate::intake::READ_SIZE;
+use crate::limits::READ_SIZE;
 use pid_ident::{Input, Output};
 use std::alloc::Global;
 

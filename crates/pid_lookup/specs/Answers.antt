@@ -50,7 +50,7 @@ abbrev pub pair_shown : Switches → Request → Args → Option (List ℕ) → 
     → Option (List ℕ)
 pair_shown s request a v d = pair_text s (request_number request a) v d
 
--- MIXED, but if only numbers are wanted
+-- MIXED, unless only numbers are wanted
 abbrev pub with_numbers : Switches → Switches
 with_numbers s = record s { mixed = s.mixed || not s.numeric }
 

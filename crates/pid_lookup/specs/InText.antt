@@ -22,7 +22,7 @@ pub record LeavesInput {X A F : Type 0} (input : Ghosts X) (limit : ℕ) (old ne
     (result : Result A (InputEnd F)) : Type 0 where
   pub stops : (front : List ℕ) × Consumes (input.to_come old) (input.to_come new) front
       × (length front ≤ limit + 1)
-  -- it is the end if the reader failed, and only there
+  -- it is the end exactly if the reader failed
   pub fault : result ≡ Err ReadFault → IsSome (input.read_fault new)
   pub fault_first : IsSome (input.read_fault new) → result ≡ Err ReadFault
   -- and nothing but reading was done to it

@@ -15,6 +15,7 @@ pub record QueueEntry : Type 0 where
   pub now : Option (List ℕ)
   pub remarks : ℕ
 
+-- the entry of a pending submission
 abbrev pub entry_in : Views → ℕ × Standing → QueueEntry
 entry_in v s = record {
   number = s.0;

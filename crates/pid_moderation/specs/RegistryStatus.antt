@@ -36,10 +36,11 @@ status_in accounts v = record {
   submissions = length v.submits;
 }
 
+-- what the history comes to
 abbrev pub status_of_registry : History → RegistryStatus
 status_of_registry h = status_in (length (accounts_of h)) (views_of h)
 
--- these accounts have a rank in the views and no other has one; each stands there once
+-- these accounts have a rank in the views and no other has one; each comes once
 pub record AreRanked (v : Views) (names : List (List ℕ)) : Type 0 where
   pub once : IsDistinct bytes_eq names
   pub ranked : (a : List ℕ) → is_some (v.rank a) ≡ list_any (bytes_eq a) names

@@ -29,6 +29,7 @@ pub record ListingPage : Type 0 where
   pub before : ℕ
   pub submissions : List Listing
 
+-- a submission as it stands, in the views
 abbrev pub listing_in : Views → ℕ × Standing → Listing
 listing_in v s = record { number = s.0; standing = s.1; remarks = length (v.remarks s.0) }
 
@@ -77,6 +78,7 @@ next_before most looked_at listed = unless_first
 abbrev pub first_sought : ℕ → Search → List Listing → List Listing
 first_sought most search looked_at = take most (filter (is_sought search) looked_at)
 
+-- the page that comes of those that were looked at
 abbrev pub page_among : ℕ → Search → List Listing → ListingPage
 page_among most search looked_at = record {
   before = next_before most looked_at (first_sought most search looked_at);

@@ -32,7 +32,7 @@ pub record Views : Type 0 where
   pub rank : List ℕ → Option Rank
   -- the submissions; the n-th is number n
   pub submits : List Submitted
-  -- whether a submission is pending, and how it was decided
+  -- whether a submission is pending, or how it ended
   pub state : ℕ → State
   -- the remarks on a submission, in order
   pub remarks : ℕ → List Remark

@@ -4,7 +4,7 @@ use crate::rank::Rank;
 use crate::refusal::FileFault;
 use pid_ident::{Account, Name, Path, Text};
 
-/// Whether a submission is pending, and how it was decided.
+/// Whether a submission is pending, or how it ended.
 #[derive(Debug, Drop)]
 pub enum State {
     Pending,

@@ -102,7 +102,7 @@ module _ {S : Type 0} (store : Ghosts S) where
   step_of (Ok r) = Ok r.1
   step_of (Err e) = Err e.0
 
-  -- What an opening leaves of a connection, whatever other tables there are.
+  -- What an opening leaves of a connection, whatever is in the file.
   pub record OpensAtOnce {X : Type 0} (old new : Held S) (result : Result X TableFault)
       : Type 0 where
     pub settled : new.in_transaction ≡ false
@@ -162,7 +162,7 @@ module _ {S : Type 0} (store : Ghosts S) where
     -- there is no table, a new registry is made.
     pub opened : (h : History) → IsReached h → tables.ShowsOrBlank store conn h → Opens result h
 
-  -- What a migration leaves of a connection, whatever other tables there are.
+  -- What a migration leaves of a connection, whatever is in the file.
   pub record MovesAtOnce (conn : Held S) (result : Result (Held S × Step) (TableFault × Held S))
       : Type 0 where
     pub settled : (moved_to result).in_transaction ≡ false

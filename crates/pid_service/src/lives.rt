@@ -31,8 +31,8 @@ impl<S: Alter + Drop> ShowsHistories for Registry<S> {
 ///
 /// `obeys` is of `obey` and `import`, `imports` of `import_from`, `runs` of `run`; the premises are
 /// the facts `clean`, `failed`, and `obeyed` or `ran` of their contracts. Every other call `looks`:
-/// `read`, `rank`, `children`, `submission`, `pending`, `changes`, `lookup`, `name_of`, `export` and
-/// `export_length`. A command is in doubt if its fault left the registry failed; if the registry
+/// `read`, `rank`, `children`, `submission`, `pending`, `changes`, `lookup`, `name_of`, `export`
+/// and `export_length`. A command is in doubt if its fault left the registry failed; if the registry
 /// stayed live, the command counts as not sent.
 pub fn clauses_meet_lives<S: Alter + Drop>()
     ensures { CallsMeetLives S.Store }
@@ -48,8 +48,8 @@ pub fn first_openings_show_what_is_there<S: Alter + Drop>()
 {}
 
 /// A migration, or an opening that fails. The tables that a migration leaves show the history in
-/// the schema of today. If either failed with a fault that is neither damage nor a later schema,
-/// the connection that comes back shows the same history, so that the call may be made again.
+/// the schema of today. If either failed, the fault is `Memory` or `Store`, never damage or a later
+/// schema, and the connection that comes back shows the same history: the call may be made again.
 pub fn histories_are_kept<S: Alter + Drop>()
     ensures { HistoriesAreKept S.Store }
 {}

@@ -67,7 +67,7 @@ module _ {R : Type 0} (w : Showing R) where
       → w.is_clean new
       → EndsLife w h calls new
 
--- No session leaves the history at the start.
+-- Without a session the history is that of the start.
 abbrev pub NoLifeIsAPrefix : Type 0
 NoLifeIsAPrefix = (mark : ℕ) (before : List Asked) → let start = after_all (Begins mark) before in
     IsAfterPrefixes start [] start

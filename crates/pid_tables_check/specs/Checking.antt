@@ -25,8 +25,8 @@ FindsVersion db None = HasNoTable db.schema
 FindsVersion db (Some found) = HasTables found db.schema × ShowsRegistry found db
     × ShowsLater db None
 
--- A later schema is judged before all else. Damaged is answered if there is some table, and
--- if the tables of a schema are there, of rows that are not a registry's.
+-- A later schema is judged before all else. Damaged is answered only if there is some table; and if
+-- the tables of a schema are all there, only of rows that are not a registry's.
 abbrev pub Explains : Database → TableFault → Type 0
 Explains db Memory = Unit {0}
 Explains db Store = Unit {0}

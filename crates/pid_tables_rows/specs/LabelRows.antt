@@ -61,6 +61,6 @@ IsDamageOf This Store = Unit {0}
 IsDamageOf This (NewerSchema n) = ⊥
 IsDamageOf This Damaged = This
 
--- why the number of a label is not answered: it is Damaged if there is none, and nowhere else
+-- why the number of a label is not answered: it is Damaged exactly if there is none
 abbrev pub ExplainsNumber : Trees → List ℕ → TableFault → Type 0
 ExplainsNumber db label fault = IsDamageOf (LacksNumber db label) fault

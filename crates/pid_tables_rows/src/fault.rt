@@ -11,10 +11,11 @@ use thiserror::Error;
 
 /// Why a call on the tables has no answer. Whatever it is, the tables keep what was committed.
 ///
-/// - `Memory`: out of memory. The same call may succeed later. - `Store`: the disk failed or
-/// refused; an earlier fault has shut the connection; the connection's limit of steps was reached;
-/// or the database refused the statement: a key that is there twice, a row that another needs, or a
-/// number that it does not hold. - `NewerSchema`: the tables are of a later schema, of this number.
+/// - `Memory`: out of memory. The same call may succeed later.
+/// - `Store`: the disk failed or refused; an earlier fault has shut the connection; the connection's
+///   limit of steps was reached; or the database refused the statement: a key that is there twice, a
+///   row that another needs, or a number that it does not hold.
+/// - `NewerSchema`: the tables are of a later schema, of this number.
 /// - `Damaged`: a table, a row or a value is not one that this program writes.
 #[derive(Clone, Copy, Debug, PartialEq, Eq, Error)]
 pub enum TableFault {

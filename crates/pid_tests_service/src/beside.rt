@@ -74,7 +74,7 @@ fn expect_borne(
 }
 
 #[test]
-fn what_stands_beside_is_borne(rt: HostRuntime) -> Result<(), Fail> {
+fn other_tables_are_allowed(rt: HostRuntime) -> Result<(), Fail> {
     let alloc = rt.alloc();
     for (before, behind, question, shown) in BESIDE {
         let mut conn = Connection::open_in_memory(alloc)?;

@@ -112,13 +112,13 @@ export | # PCI ID registry;1af4  Red Hat, Inc.;8086  Intel Corporation;>1237  44
 ";
 
 const RANKS: &str = "\
-rank root | 2
+rank root | 3
 rank alice | none
 account root who=alice&rank=0 | ok
 rank alice | 0
 account root who=alice&rank=1 | ok
 rank alice | 1
-rank root | 2
+rank root | 3
 ";
 
 #[test]

@@ -48,7 +48,7 @@ bob 8086  I | refused 4 NoAccount
 ";
 
 #[test]
-fn files_come_by_pieces(rt: HostRuntime) -> Result<(), Fail> {
+fn files_come_in_chunks(rt: HostRuntime) -> Result<(), Fail> {
     let alloc = rt.alloc();
     for most in 1..28 {
         let mut registry = new_in_memory(alloc)?;

@@ -186,7 +186,7 @@ fn good_databases_pass(rt: HostRuntime) -> Result<(), Fail> {
 }
 
 #[test]
-fn what_stands_beside_is_borne(rt: HostRuntime) -> Result<(), Fail> {
+fn other_tables_are_allowed(rt: HostRuntime) -> Result<(), Fail> {
     let alloc = rt.alloc();
     let wrong = "UPDATE meta SET value = 3 WHERE label = 'items'";
     for (before, between, behind) in BESIDE {

@@ -146,7 +146,7 @@ fn a_read_that_fails_is_told_before_all_else(rt: HostRuntime) {
 }
 
 #[test]
-fn a_writer_that_fails_took_a_front(rt: HostRuntime) {
+fn a_writer_that_fails_took_a_prefix(rt: HostRuntime) {
     for count in 0..VENDORS_TIDIED.len() {
         for fault in [WriteFault::Device, WriteFault::Zero] {
             let mut input = FaultyInput::new(VENDORS, 64);

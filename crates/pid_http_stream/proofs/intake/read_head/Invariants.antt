@@ -2,8 +2,8 @@ use Rattle.std.proofs.Common.{◌≡◌, ◌+◌, ◌*◌, ◌≤◌, length}
 use Rattle.pid_http_stream.specs.Bodies.{SpendsTurns}
 use Rattle.pid_http_stream.specs.Steps.Intakes.{ComesIn, IsHeadJudged, WaitsForRequest}
 use Rattle.pid_http_stream.specs.Moments.{AllSince}
-use Rattle.pid_http_stream.specs.declared.intake.TheConstants.{READ_SIZE}
-use Rattle.pid_http_stream.specs.declared.judging.TheConstants.{MOST_FIELDS}
+use Rattle.pid_http_stream.specs.declared.limits.TheConstants.{READ_SIZE}
+use Rattle.pid_http_stream.specs.declared.limits.TheConstants.{MOST_FIELDS}
 use Rattle.pid_http_stream.proofs.intake.read_head.Given as goal
 
 abbrev pub invariant-reading : goal.invariant-reading

@@ -5,8 +5,8 @@ use Rattle.pid_http_stream.specs.Leading.{Leads}
 use Rattle.pid_http_stream.specs.Moments.{AllSince}
 use Rattle.pid_http_stream.specs.Serving.{IsCaughtUp}
 use Rattle.pid_http_stream.proofs.Serving.{IsServing}
-use Rattle.pid_http_stream.specs.declared.intake.TheConstants.{READ_SIZE}
-use Rattle.pid_http_stream.specs.declared.judging.TheConstants.{MOST_FIELDS}
+use Rattle.pid_http_stream.specs.declared.limits.TheConstants.{READ_SIZE}
+use Rattle.pid_http_stream.specs.declared.limits.TheConstants.{MOST_FIELDS}
 use Rattle.pid_http_stream.proofs.stream.serve_stream.Given as goal
 
 abbrev pub invariant-serving : goal.invariant-serving
