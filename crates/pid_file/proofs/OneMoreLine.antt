@@ -7,8 +7,8 @@ use Rattle.std.proofs.lemmas.Cmp.{nat_list_cmp_total}
 use Rattle.std.specs.Ordering.{is_eq}
 use Rattle.std.specs.Cmp.{on_total, eq_by_cmp_equiv}
 use Rattle.std.specs.FinMap.Entries.{find as value_at}
-use Rattle.pid_file.specs.declared.line_kind.LineKind.{LineKind}
-use Rattle.pid_file.specs.declared.line_kind.LineKind.TheVariants.{NotUtf8, TooDeep, NoParent, BadId, NoName, BadName, Duplicate, VendorMissing}
+use Rattle.pid_file.specs.declared.fault_kind.LineKind.{LineKind}
+use Rattle.pid_file.specs.declared.fault_kind.LineKind.TheVariants.{NotUtf8, TooDeep, NoParent, BadId, NoName, BadName, Duplicate, VendorMissing}
 use Rattle.pid_file.specs.declared.path.Path.{Path}
 use Rattle.pid_file.specs.declared.path.Path.TheVariants.{Vendor}
 use Rattle.pid_file.specs.PathTexts.{path_text, path_cmp}
