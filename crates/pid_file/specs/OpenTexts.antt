@@ -5,7 +5,7 @@ use Rattle.pid_file.specs.Reading.{refusal_of}
 use Rattle.pid_file.specs.WholeLines.{open_part, whole_lines}
 
 -- these pieces came, and their whole lines, which what judges lines shows, weren't refused
-pub record IsOpen {J : Type 0} (shows : J → List (List ℕ) → Type 0) (t : OpenText J)
+pub record IsLeftOpen {J : Type 0} (shows : J → List (List ℕ) → Type 0) (t : OpenText J)
     (text : List ℕ) : Type 0 where
   pub open_line : t.line.items ≡ open_part text
   pub good : refusal_of (whole_lines text) ≡ None
