@@ -27,7 +27,7 @@ use Rattle.pid_file.specs.Reading.{refused_at, ENTRIES}
 use Rattle.pid_file.specs.OpenLevels.{IsOpenAt}
 use Rattle.pid_file.specs.Refusals.{refusal_at}
 use Rattle.pid_file.specs.Progress.{IsShown}
-use Rattle.pid_file.specs.SeenPaths.{has_path, IsOneMore}
+use Rattle.pid_file.specs.SeenItems.{has_path, IsOneMore}
 
 abbrev pub or_kind : Option LineKind → Option LineKind → Option LineKind
 or_kind (Some k) o = Some k
