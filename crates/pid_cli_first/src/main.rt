@@ -8,14 +8,14 @@
 mod pages;
 
 use pages::PAGES;
-use pid_file::{job_of, run_job, tell_no_words};
+use pid_file::{first_job_of, run_job, tell_no_words};
 use std::process::ExitCode;
 use std::{env, io};
 
 fn main(rt: HostRuntime) -> ExitCode {
     ExitCode::from(match words_given(&rt) {
         Ok(words) => {
-            let job = job_of(words.as_slice(), &PAGES);
+            let job = first_job_of(words.as_slice(), &PAGES);
             run_job(
                 job,
                 PAGES.usage,
