@@ -2,7 +2,7 @@
 //!
 //! The script `pciids` builds it in minutes and runs it until the whole program, `pid_cli`, is
 //! built. It answers with the whole program's texts, byte for byte, and leaves all else to it. What
-//! it does stands in `pid_file`, whose functions are proved side by side.
+//! it does is in `pid_file`.
 #![tactic(auto)]
 
 mod pages;

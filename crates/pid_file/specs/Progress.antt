@@ -10,6 +10,7 @@ use Rattle.pid_file.specs.Numbered.{Numbered, as_told}
 use Rattle.pid_file.specs.OpenLevels.{IsOpenAt}
 use Rattle.pid_file.specs.SeenItems.{IsRising, has_path, seen_items}
 
+-- the seen paths, the open levels and the number of lines are those of the lines
 pub record IsShown (at : OpenLevels) (seen : List Path) (lines : ℕ)
     (earlier : List (List ℕ)) : Type 0 where
   pub paths : (q : Path) → has_path seen q ≡ is_told earlier (path_text q)

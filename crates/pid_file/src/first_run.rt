@@ -8,7 +8,7 @@ use std::io::{Read, Write};
 /// The exit status if only the whole program can do the job. Nothing was read or written.
 pub const OTHER_JOB: u8 = 4;
 
-/// Does the job, and returns the exit status. `usage` stands below a word that is no command.
+/// Does the job, and returns the exit status. `usage` follows the message about an unknown command.
 pub fn run_job<I: Read + Drop, O: Write + Drop, F: Write + Drop>(
     job: FirstJob<'_>,
     usage: &str,

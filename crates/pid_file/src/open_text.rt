@@ -1,4 +1,4 @@
-//! A text in pieces, line by line, into a sink.
+//! A text that comes in chunks, line by line, into a sink.
 ghost use Rattle.std.specs.Prelude.{◌≡◌, ◌∷◌, ◌++◌, ℕ, [], List, OnOk, reverse};
 ghost use Rattle.pid_file.specs.Lines.{drop_cr, lines_of};
 ghost use Rattle.pid_file.specs.WholeLines.{ended_pieces, open_part, whole_lines};
@@ -14,10 +14,8 @@ use crate::refusal::ReadRefusal;
 use crate::sink::{CutEnd, Sink};
 use std::alloc::Global;
 
-/// A text of which some pieces have come: its last line, which is still open, and what judges its
+/// A text of which some chunks have come: its last line, which is still open, and what judges its
 /// lines.
-///
-/// It is generic, so that it is proved beside what judges lines, and not after it.
 #[derive(Drop)]
 pub struct OpenText<J> {
     line: Vec<u8>,
@@ -77,7 +75,7 @@ impl<J: Judge> OpenText<J> {
         Ok(())
     }
 
-    /// Takes the next piece, where nothing was refused, and hands the entries of the lines whose LF
+    /// Takes the next chunk, if nothing was refused, and hands the entries of the lines whose LF
     /// has come to the sink, up to the first line that is refused.
     pub fn take<S: Sink>(&mut self, piece: &[u8], sink: &mut S) -> Result<(), CutEnd<S::Fault>>
         ensures holds { (text : List ℕ) → IsLeftOpen J.shows self.old text

@@ -1,8 +1,7 @@
 //! Tests of the crates that know the texts of identifiers: identifiers, trees, readers and
 //! look-ups.
 //!
-//! They call public functions alone, and are in a crate of their own so that each crate is proved
-//! once, and each test once.
+//! They call public functions alone.
 #![tactic(auto)]
 
 #[cfg(test)]
