@@ -1,4 +1,6 @@
 //! What the first program prints besides the result of `tidy` and `check`.
+ghost use Rattle.std.specs.Prelude.{◌≡◌};
+
 use crate::io::{write_all, write_parts};
 use crate::plain::Plain;
 use crate::process::{tell_end, tell_failed};
@@ -7,7 +9,7 @@ use crate::watched::Watched;
 use std::io::{ErrorKind, Write};
 
 /// The exit status if the arguments name no job.
-const UNKNOWN_WORDS: u8 = 2;
+pub const UNKNOWN_WORDS: u8 = 2;
 
 /// Prints a page on `output`, and returns the exit status: 0, or 3 if it can't be written.
 pub fn show<O: Write + Drop, F: Write + Drop>(page: &str, output: O, faults: F) -> u8 {
@@ -19,7 +21,9 @@ pub fn show<O: Write + Drop, F: Write + Drop>(page: &str, output: O, faults: F) 
 }
 
 /// Reports why the arguments name no job, and returns the exit status.
-pub fn refuse<F: Write + Drop>(reason: &[&[u8]], faults: F) -> u8 {
+pub fn refuse<F: Write + Drop>(reason: &[&[u8]], faults: F) -> u8
+    ensures { result ≡ UNKNOWN_WORDS }
+{
     let _ = write_parts(&mut Plain::new(faults), reason);
     UNKNOWN_WORDS
 }
