@@ -1,5 +1,5 @@
 //! What the first program prints besides the result of `tidy` and `check`.
-ghost use Rattle.std.specs.Prelude.{◌≡◌};
+ghost use Rattle.std.specs.Prelude.{◌≡◌, ◌⊎◌};
 
 use crate::io::{write_all, write_parts};
 use crate::plain::Plain;
@@ -12,7 +12,9 @@ use std::io::{ErrorKind, Write};
 pub const UNKNOWN_WORDS: u8 = 2;
 
 /// Prints a page on `output`, and returns the exit status: 0, or 3 if it can't be written.
-pub fn show<O: Write + Drop, F: Write + Drop>(page: &str, output: O, faults: F) -> u8 {
+pub fn show<O: Write + Drop, F: Write + Drop>(page: &str, output: O, faults: F) -> u8
+    ensures { (result ≡ 0) ⊎ (result ≡ 3) }
+{
     let mut output = Plain::new(Watched::new(output));
     match write_all(&mut output, page.as_bytes()) {
         Ok(()) => 0,
@@ -29,7 +31,9 @@ pub fn refuse<F: Write + Drop>(reason: &[&[u8]], faults: F) -> u8
 }
 
 /// Reports that the arguments can't be read, and returns the exit status.
-pub fn tell_no_words<F: Write + Drop>(kind: ErrorKind, faults: F) -> u8 {
+pub fn tell_no_words<F: Write + Drop>(kind: ErrorKind, faults: F) -> u8
+    ensures { (result ≡ 2) ⊎ (result ≡ 3) }
+{
     match kind {
         ErrorKind::OutOfMemory => tell_end(TextEnd::Memory, &mut Plain::new(faults)),
         _ => refuse(&[b"error: an argument is not valid UTF-8\n"], faults),
