@@ -17,7 +17,7 @@ use pid_file::Pages;
 '''
 
 TABLE = '''
-/// The pages.
+/// All the pages.
 pub const PAGES: Pages<'static> = Pages {
     version: VERSION,
     usage: USAGE,

@@ -47,7 +47,7 @@ Exit status:
 Run 'pciids help <COMMAND>' for details and an example.
 ";
 
-/// The help of one of the commands, except for `help`.
+/// All the pages.
 pub const PAGES: Pages<'static> = Pages {
     version: VERSION,
     usage: USAGE,

@@ -8,7 +8,7 @@ use Rattle.pid_file.specs.declared.open_text.OpenText.{OpenText}
 use Rattle.pid_file.specs.declared.refusal.ReadRefusal.{ReadRefusal}
 use Rattle.pid_file.specs.declared.sink.CutEnd.{CutEnd}
 use Rattle.pid_file.specs.declared.sink.CutEnd.TheVariants.{Refused, Fault}
-use Rattle.pid_file.specs.OpenTexts.{IsOpen}
+use Rattle.pid_file.specs.OpenTexts.{IsLeftOpen}
 use Rattle.pid_file.specs.Lines.{drop_cr, lines_of}
 use Rattle.pid_file.specs.Numbered.{Numbered, numbered_back, numbered_of}
 use Rattle.pid_file.specs.Reading.{or_else, refused_from, refusal_of, read_from}
@@ -104,7 +104,7 @@ pub record HasRead (old new : Option (List ℕ)) (limit room : ℕ) (front : Lis
 
 -- and the sink has what was made of the front
 pub record HasFed {J S F : Type 0} (shows : J → List (List ℕ) → Type 0) (takes : S → Numbered → S → Type 0) (faults : S → Numbered → F → S → Type 0) (kept : OpenText J) (outcome : Result (Unit {0}) (CutEnd F)) (start sink : S) (front : List ℕ) : Type 0 where
-  pub holds : OnOk outcome (IsOpen shows kept front)
+  pub holds : OnOk outcome (IsLeftOpen shows kept front)
   pub ends : Ends takes faults outcome start (whole_lines front) sink
 
 pub Consumes-nil : (a : Option (List ℕ)) → Consumes a a []

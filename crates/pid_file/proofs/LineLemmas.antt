@@ -3,7 +3,7 @@ use Rattle.std.proofs.Common.{◌≡◌, ◌≢◌, ℕ, zero, suc, ◌-◌, ◌
 use mathlib.Core.Bool.{true≢false}
 use Rattle.std.specs.Str.{is_utf8, IsUtf8}
 use Rattle.pid_file.specs.Bytes.{is_empty}
-use Rattle.pid_file.specs.declared.line_kind.LineKind.TheVariants.{BadName}
+use Rattle.pid_file.specs.declared.fault_kind.LineKind.TheVariants.{BadName}
 use Rattle.pid_file.specs.Steps.EntryLines.{name_fault}
 use Rattle.std.proofs.lemmas.Str.{IsUtf8-from_is_utf8}
 use Rattle.std.proofs.lemmas.Bool.Decides.{nat_tests}

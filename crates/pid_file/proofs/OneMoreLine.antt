@@ -7,8 +7,8 @@ use Rattle.std.proofs.lemmas.Cmp.{nat_list_cmp_total}
 use Rattle.std.specs.Ordering.{is_eq}
 use Rattle.std.specs.Cmp.{on_total, eq_by_cmp_equiv}
 use Rattle.std.specs.FinMap.Entries.{find as value_at}
-use Rattle.pid_file.specs.declared.line_kind.LineKind.{LineKind}
-use Rattle.pid_file.specs.declared.line_kind.LineKind.TheVariants.{NotUtf8, TooDeep, NoParent, BadId, NoName, BadName, Duplicate, VendorMissing}
+use Rattle.pid_file.specs.declared.fault_kind.LineKind.{LineKind}
+use Rattle.pid_file.specs.declared.fault_kind.LineKind.TheVariants.{NotUtf8, TooDeep, NoParent, BadId, NoName, BadName, Duplicate, VendorMissing}
 use Rattle.pid_file.specs.declared.path.Path.{Path}
 use Rattle.pid_file.specs.declared.path.Path.TheVariants.{Vendor}
 use Rattle.pid_file.specs.PathTexts.{path_text, path_cmp}
@@ -27,7 +27,7 @@ use Rattle.pid_file.specs.Reading.{refused_at, ENTRIES}
 use Rattle.pid_file.specs.OpenLevels.{IsOpenAt}
 use Rattle.pid_file.specs.Refusals.{refusal_at}
 use Rattle.pid_file.specs.Progress.{IsShown}
-use Rattle.pid_file.specs.SeenPaths.{has_path, IsOneMore}
+use Rattle.pid_file.specs.SeenItems.{has_path, IsOneMore}
 
 abbrev pub or_kind : Option LineKind → Option LineKind → Option LineKind
 or_kind (Some k) o = Some k

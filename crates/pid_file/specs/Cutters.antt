@@ -6,13 +6,13 @@ use Rattle.pid_file.specs.declared.refusal.ReadRefusal.TheVariants.{Memory}
 use Rattle.pid_file.specs.declared.cutter.Cutter.{Cutter}
 use Rattle.pid_file.specs.declared.sink.CutEnd.{CutEnd}
 use Rattle.pid_file.specs.declared.sink.CutEnd.TheVariants.{Refused, Fault}
-use Rattle.pid_file.specs.OpenTexts.{IsOpen}
+use Rattle.pid_file.specs.OpenTexts.{IsLeftOpen}
 use Rattle.pid_file.specs.Progress.{Shows}
 
 -- the cutter was fed this text, whose whole lines weren't refused
 pub record Holds (c : Cutter) (text : List ℕ) : Type 0 where
   pub running : c.stopped ≡ None
-  pub is_open : IsOpen Shows c.text text
+  pub is_open : IsLeftOpen Shows c.text text
 
 -- the cutter answers this refusal from then on
 abbrev pub IsStopped : Cutter → ReadRefusal → Type 0

@@ -3,10 +3,10 @@
 use Rattle.std.specs.Prelude.{Bool, not, ◌&&◌, ◌||◌, List, [], ◌∷◌, ◌++◌, length, nat_le, ◌==◌}
 use Rattle.std.specs.Prelude.{Option, is_none, find, codes, ℕ}
 use Rattle.std.specs.Str.{is_utf8}
-use Rattle.pid_file.specs.declared.line_kind.LineKind.{LineKind}
-use Rattle.pid_file.specs.declared.line_kind.LineKind.TheVariants.{NotUtf8, TooDeep, NoParent}
-use Rattle.pid_file.specs.declared.line_kind.LineKind.TheVariants.{BadId, NoName, BadName}
-use Rattle.pid_file.specs.declared.line_kind.LineKind.TheVariants.{Duplicate, VendorMissing}
+use Rattle.pid_file.specs.declared.fault_kind.LineKind.{LineKind}
+use Rattle.pid_file.specs.declared.fault_kind.LineKind.TheVariants.{NotUtf8, TooDeep, NoParent}
+use Rattle.pid_file.specs.declared.fault_kind.LineKind.TheVariants.{BadId, NoName, BadName}
+use Rattle.pid_file.specs.declared.fault_kind.LineKind.TheVariants.{Duplicate, VendorMissing}
 use Rattle.pid_file.specs.Bytes.{is_empty}
 use Rattle.pid_file.specs.Words.{is_name}
 use Rattle.pid_file.specs.Marks.{depth, inside}

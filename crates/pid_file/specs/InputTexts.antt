@@ -14,9 +14,9 @@ use Rattle.pid_file.specs.declared.whole_input.InputEnd.TheVariants.{ReadFault, 
 abbrev pub HasEntries : List ℕ → ℕ → Type 0
 HasEntries text count = count ≡ length (entries_back (history_of text))
 
--- what became of the input: reads alone were made of it, of at most one byte past the limit
-pub record IsReadWithin (limit : ℕ) (reads : Type 0) (old new : Option (List ℕ)) : Type 0 where
-  pub goes : reads
+-- the input was only read, and at most one byte past the limit of it was used
+pub record IsUsedUpTo (limit : ℕ) (only_reads : Type 0) (old new : Option (List ℕ)) : Type 0 where
+  pub goes : only_reads
   pub front : List ℕ
   pub consumed : Consumes old new front
   pub short : length front ≤ limit + 1

@@ -1,9 +1,9 @@
 -- The number and the word of each fault of a line: choices of this project.
 use Rattle.std.specs.Prelude.{ℕ, List, codes}
-use Rattle.pid_file.specs.declared.line_kind.LineKind.{LineKind}
-use Rattle.pid_file.specs.declared.line_kind.LineKind.TheVariants.{NotUtf8, TooDeep, NoParent}
-use Rattle.pid_file.specs.declared.line_kind.LineKind.TheVariants.{BadId, NoName, BadName}
-use Rattle.pid_file.specs.declared.line_kind.LineKind.TheVariants.{Duplicate, VendorMissing}
+use Rattle.pid_file.specs.declared.fault_kind.LineKind.{LineKind}
+use Rattle.pid_file.specs.declared.fault_kind.LineKind.TheVariants.{NotUtf8, TooDeep, NoParent}
+use Rattle.pid_file.specs.declared.fault_kind.LineKind.TheVariants.{BadId, NoName, BadName}
+use Rattle.pid_file.specs.declared.fault_kind.LineKind.TheVariants.{Duplicate, VendorMissing}
 
 abbrev pub number_of : LineKind → ℕ
 number_of NotUtf8 = 1

@@ -1,11 +1,11 @@
--- What is kept of a text of which some pieces have come. Callers need not open it.
+-- What is kept of a text of which some chunks have come. Callers need not open it.
 use Rattle.std.specs.Prelude.{◌≡◌, ℕ, List, reverse, None}
 use Rattle.pid_file.specs.declared.open_text.OpenText.{OpenText}
 use Rattle.pid_file.specs.Reading.{refusal_of}
 use Rattle.pid_file.specs.WholeLines.{open_part, whole_lines}
 
--- these pieces came, and their whole lines, which what judges lines shows, weren't refused
-pub record IsOpen {J : Type 0} (shows : J → List (List ℕ) → Type 0) (t : OpenText J)
+-- these bytes came, none of their whole lines was refused, and what judges lines shows the lines
+pub record IsLeftOpen {J : Type 0} (shows : J → List (List ℕ) → Type 0) (t : OpenText J)
     (text : List ℕ) : Type 0 where
   pub open_line : t.line.items ≡ open_part text
   pub good : refusal_of (whole_lines text) ≡ None

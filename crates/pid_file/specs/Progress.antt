@@ -8,8 +8,9 @@ use Rattle.pid_file.specs.declared.sink.Entry.{Entry}
 use Rattle.pid_file.specs.LookingBack.{entries_back, is_told}
 use Rattle.pid_file.specs.Numbered.{Numbered, as_told}
 use Rattle.pid_file.specs.OpenLevels.{IsOpenAt}
-use Rattle.pid_file.specs.SeenPaths.{IsRising, has_path, items_of}
+use Rattle.pid_file.specs.SeenItems.{IsRising, has_path, seen_items}
 
+-- the seen paths, the open levels and the number of lines are those of the lines
 pub record IsShown (at : OpenLevels) (seen : List Path) (lines : ℕ)
     (earlier : List (List ℕ)) : Type 0 where
   pub paths : (q : Path) → has_path seen q ≡ is_told earlier (path_text q)
@@ -20,7 +21,7 @@ pub record IsShown (at : OpenLevels) (seen : List Path) (lines : ℕ)
 -- the kept run of paths rises, and what is kept shows the lines
 pub record Shows (p : Progress) (earlier : List (List ℕ)) : Type 0 where
   pub rising : IsRising path_cmp p.seen.run.items
-  pub shown : IsShown p.levels (items_of p.seen) p.lines earlier
+  pub shown : IsShown p.levels (seen_items p.seen) p.lines earlier
 
 -- the entry that is given, if any
 abbrev pub given : Option Entry → List Numbered

@@ -3,7 +3,7 @@
 use Rattle.std.specs.Prelude.{◌≡◌, ℕ, ◌+◌, List, [], ◌∷◌, length, reverse, nat_le, ◌&&◌}
 use Rattle.std.specs.Prelude.{if◌then◌else◌, Option, Some, None, is_some}
 use Rattle.std.specs.FinMap.{from_entries}
-use Rattle.pid_file.specs.declared.line_kind.LineKind.{LineKind}
+use Rattle.pid_file.specs.declared.fault_kind.LineKind.{LineKind}
 use Rattle.pid_file.specs.Trees.{TreeMap}
 use Rattle.pid_file.specs.declared.refusal.ReadRefusal.{ReadRefusal}
 use Rattle.pid_file.specs.declared.refusal.ReadRefusal.TheVariants.{Line, TooManyEntries}

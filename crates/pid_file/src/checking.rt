@@ -14,7 +14,7 @@ ghost use Rattle.std.specs.Prelude.{
 };
 ghost use Rattle.pid_file.specs.Sending.{Sends};
 ghost use Rattle.pid_file.specs.Checked.{IsChecked, ok_line};
-ghost use Rattle.pid_file.specs.InputTexts.{HasEntries, ReadsInput, IsReadWithin};
+ghost use Rattle.pid_file.specs.InputTexts.{HasEntries, ReadsInput, IsUsedUpTo};
 
 use crate::counter::Never;
 use crate::input_text::count_input;
@@ -34,7 +34,7 @@ pub fn check<I: Input, O: Output>(alloc: Global, input: &mut I, output: &mut O) 
         (λ text. IsChecked result text (O.taken output.old) (O.taken output.new)) }
     ensures read_fault { (result ≡ TextEnd.ReadFault) ↔ IsSome (I.read_fault input.new) }
     ensures write_fault { result ≡ TextEnd.WriteFault → IsSome (O.write_fault output.new) }
-    ensures reads { IsReadWithin LARGEST (I.goes input.old input.new)
+    ensures reads { IsUsedUpTo LARGEST (I.goes input.old input.new)
         (I.to_come input.old) (I.to_come input.new) }
 {
     let counted = count_input(alloc, LARGEST, input);

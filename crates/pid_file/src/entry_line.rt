@@ -16,9 +16,9 @@ ghost use Rattle.pid_file.specs.Columns.{
 ghost use Rattle.pid_file.specs.Steps.Columns.{are_digits};
 ghost use Rattle.pid_file.specs.Steps.EntryLines.{name_fault, columns_fault, widths_of, IsPathAt};
 
+use crate::fault_kind::LineKind;
 use crate::identifier::{Id8, Id16};
 use crate::line::{is_blank, trim_blanks};
-use crate::line_kind::LineKind;
 use crate::name::is_name;
 use crate::path::Path;
 

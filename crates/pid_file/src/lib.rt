@@ -1,8 +1,8 @@
 //! A file of PCI identifiers: its bytes, its entries, its tree, and its canonical text.
 //!
-//! This is all that the program needs without arguments, for `tidy` and for `check`. Code that
-//! only a registry needs is in other crates. `pid_ident`, `pid_tree` and `pid_reader` hand this
-//! crate on to those above.
+//! This is all that the first program needs: `tidy`, `check`, and what it does with its arguments,
+//! help and version. Code that only a registry needs is in other crates. `pid_ident`, `pid_tree`
+//! and `pid_reader` hand this crate on to those above.
 #![tactic(auto)]
 
 mod bytes;
@@ -10,17 +10,19 @@ mod checking;
 mod counter;
 mod cutter;
 mod entry_line;
+mod fault_kind;
+mod first_job;
+mod first_output;
+mod first_pages;
+mod first_run;
 mod identifier;
 mod input_text;
 mod io;
-mod job;
 mod judge;
 mod line;
-mod line_kind;
 mod name;
 mod open_levels;
 mod open_text;
-mod pages;
 mod path;
 mod pieces;
 mod plain;
@@ -28,9 +30,7 @@ mod print;
 mod process;
 mod progress;
 mod refusal;
-mod running;
 mod seen;
-mod showing;
 mod sink;
 mod text_end;
 mod tidying;
@@ -46,15 +46,17 @@ pub use bytes::{are_printed, is_empty};
 pub use checking::check;
 pub use counter::{Counter, Never};
 pub use cutter::Cutter;
+pub use fault_kind::LineKind;
+pub use first_job::{FirstJob, first_job_of};
+pub use first_output::tell_no_words;
+pub use first_pages::Pages;
+pub use first_run::{OTHER_JOB, run_job};
 pub use identifier::{Id8, Id16, hex2, hex4};
 pub use input_text::{count_input, end_without_fault, read_input};
 pub use io::{Input, Output, ReadFault, WriteFault, write_all, write_parts};
-pub use job::{Job, job_of};
 pub use line::without_cr;
-pub use line_kind::LineKind;
 pub use name::{Name, is_name};
 pub use open_levels::{OpenLevels, Said, read_line};
-pub use pages::Pages;
 pub use path::{Path, PathKind};
 pub use pieces::split_line;
 pub use plain::Plain;
@@ -63,8 +65,6 @@ pub use print::{
 };
 pub use process::{FAILED, run_check, run_tidy, tell_end, tell_failed};
 pub use refusal::ReadRefusal;
-pub use running::{OTHER_JOB, run_job};
-pub use showing::tell_no_words;
 pub use sink::{CutEnd, Entry, Sink};
 pub use text_end::{LARGEST, TextEnd, end_of};
 pub use tidying::tidy;

@@ -15,9 +15,9 @@ ghost use Rattle.pid_file.specs.OpenLevels.{
 };
 
 use crate::entry_line::{Named, Place, read_columns, vendor_of_block};
+use crate::fault_kind::LineKind;
 use crate::identifier::{Id8, Id16};
 use crate::line::{Mark, is_idle, is_utf8, split_depth, split_mark};
-use crate::line_kind::LineKind;
 use crate::path::Path;
 
 /// What the next nested line can belong to.

@@ -1,10 +1,10 @@
-//! A text in pieces, line by line, into a sink.
+//! A text that comes in chunks, line by line, into a sink.
 ghost use Rattle.std.specs.Prelude.{◌≡◌, ◌∷◌, ◌++◌, ℕ, [], List, OnOk, reverse};
 ghost use Rattle.pid_file.specs.Lines.{drop_cr, lines_of};
 ghost use Rattle.pid_file.specs.WholeLines.{ended_pieces, open_part, whole_lines};
 ghost use Rattle.pid_file.specs.Numbered.{numbered_of};
 ghost use Rattle.pid_file.specs.Sinks.{Took, Ends};
-ghost use Rattle.pid_file.specs.OpenTexts.{IsOpen};
+ghost use Rattle.pid_file.specs.OpenTexts.{IsLeftOpen};
 ghost use Rattle.pid_file.specs.Steps.LineEnds.{LineEnds};
 
 use crate::judge::Judge;
@@ -14,10 +14,8 @@ use crate::refusal::ReadRefusal;
 use crate::sink::{CutEnd, Sink};
 use std::alloc::Global;
 
-/// A text of which some pieces have come: its last line, which is still open, and what judges its
+/// A text of which some chunks have come: its last line, which is still open, and what judges its
 /// lines.
-///
-/// It is generic, so that it is proved beside what judges lines, and not after it.
 #[derive(Drop)]
 pub struct OpenText<J> {
     line: Vec<u8>,
@@ -49,7 +47,7 @@ impl<J: Judge> OpenText<J> {
     /// A text of which no byte has come, and what judges its lines.
     pub fn new(alloc: Global, judge: J) -> OpenText<J>
         requires { J.shows judge [] }
-        ensures { IsOpen J.shows result [] }
+        ensures { IsLeftOpen J.shows result [] }
     {
         OpenText {
             line: Vec::new(alloc),
@@ -60,9 +58,9 @@ impl<J: Judge> OpenText<J> {
     // The open line ends with these bytes.
     fn end_line<S: Sink>(&mut self, front: &[u8], sink: &mut S) -> Result<(), CutEnd<S::Fault>>
         requires { ended_pieces front.now ≡ [] }
-        ensures holds { (text : List ℕ) → IsOpen J.shows self.old text
-            → OnOk result (IsOpen J.shows self.new (text ++ (front.now ++ 10 ∷ []))) }
-        ensures ends { (text : List ℕ) → IsOpen J.shows self.old text
+        ensures holds { (text : List ℕ) → IsLeftOpen J.shows self.old text
+            → OnOk result (IsLeftOpen J.shows self.new (text ++ (front.now ++ 10 ∷ []))) }
+        ensures ends { (text : List ℕ) → IsLeftOpen J.shows self.old text
             → LineEnds S.takes S.faults result (reverse (whole_lines text))
             (drop_cr (open_part text ++ front.now)) sink.old sink.new }
     {
@@ -77,12 +75,12 @@ impl<J: Judge> OpenText<J> {
         Ok(())
     }
 
-    /// Takes the next piece, where nothing was refused, and hands the entries of the lines whose LF
+    /// Takes the next chunk, if nothing was refused, and hands the entries of the lines whose LF
     /// has come to the sink, up to the first line that is refused.
     pub fn take<S: Sink>(&mut self, piece: &[u8], sink: &mut S) -> Result<(), CutEnd<S::Fault>>
-        ensures holds { (text : List ℕ) → IsOpen J.shows self.old text
-            → OnOk result (IsOpen J.shows self.new (text ++ piece.now)) }
-        ensures ends { (text : List ℕ) (start : S) → IsOpen J.shows self.old text
+        ensures holds { (text : List ℕ) → IsLeftOpen J.shows self.old text
+            → OnOk result (IsLeftOpen J.shows self.new (text ++ piece.now)) }
+        ensures ends { (text : List ℕ) (start : S) → IsLeftOpen J.shows self.old text
             → Took S.takes start (numbered_of (whole_lines text)) sink.old →
             Ends S.takes S.faults result start (whole_lines (text ++ piece.now)) sink.new }
     {
@@ -101,7 +99,7 @@ impl<J: Judge> OpenText<J> {
     pub fn end<S: Sink>(self, sink: &mut S) -> Result<(), CutEnd<S::Fault>>
     where
         J: Drop,
-        ensures { (text : List ℕ) (start : S) → IsOpen J.shows self text
+        ensures { (text : List ℕ) (start : S) → IsLeftOpen J.shows self text
             → Took S.takes start (numbered_of (whole_lines text)) sink.old →
             Ends S.takes S.faults result start (lines_of text) sink.new }
     {

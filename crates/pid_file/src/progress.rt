@@ -20,8 +20,8 @@ ghost use Rattle.pid_file.specs.OpenLevels.{Says, IsNamed, open_behind};
 ghost use Rattle.pid_file.specs.Refusals.{refusal_at, IsRefusal};
 ghost use Rattle.pid_file.specs.Progress.{Shows, given};
 
+use crate::fault_kind::LineKind;
 use crate::judge::Judge;
-use crate::line_kind::LineKind;
 use crate::open_levels::{OpenLevels, Said, read_line};
 use crate::path::Path;
 use crate::refusal::ReadRefusal;

@@ -1,5 +1,5 @@
 //! Why a text is not read.
-use crate::line_kind::LineKind;
+use crate::fault_kind::LineKind;
 use thiserror::Error;
 
 /// Why a text of PCI identifiers is not read.

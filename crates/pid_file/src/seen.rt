@@ -13,17 +13,17 @@ ghost use Rattle.std.specs.Prelude.{
   IfOk,
   if◌then◌else◌,
 };
-ghost use Rattle.pid_file.specs.SeenPaths.{IsOneMore, IsRising, has_item, items_of};
+ghost use Rattle.pid_file.specs.SeenItems.{IsOneMore, IsRising, has_item, seen_items};
 
 use std::alloc::{AllocError, Global};
 use std::collections::BTreeSet;
 
-/// The items that were seen: a run, each greater than the one before it, and the rest.
+/// The items that were seen: a run that rises, and the rest.
 ///
 /// The paths of a text in canonical order fill the run alone, where a new one costs one comparison.
 #[derive(Drop)]
 pub struct Seen<P: Ord> {
-    /// Each is greater than the one before it.
+    /// None is less than the one before it.
     pub run: Vec<P>,
     /// Those that were not greater than the last of the run.
     pub rest: BTreeSet<P>,
@@ -32,7 +32,7 @@ pub struct Seen<P: Ord> {
 impl<P: Ord + Copy> Seen<P> {
     /// Nothing was seen.
     pub fn new(alloc: Global) -> Seen<P>
-        ensures empty { items_of result ≡ [] }
+        ensures empty { seen_items result ≡ [] }
         ensures rising { IsRising P.cmp result.run.items }
     {
         Seen {
@@ -43,7 +43,7 @@ impl<P: Ord + Copy> Seen<P> {
 
     /// How many items were seen.
     pub fn len(&self) -> usize
-        ensures { result ≡ length (items_of self.now) }
+        ensures { result ≡ length (seen_items self.now) }
     {
         self.run.len() + self.rest.len()
     }
@@ -71,7 +71,7 @@ impl<P: Ord + Copy> Seen<P> {
     /// Whether the item was seen.
     pub fn contains(&self, item: &P) -> bool
         ensures { IsRising P.cmp self.now.run.items
-            → result ≡ has_item P.cmp (items_of self.now) item.now }
+            → result ≡ has_item P.cmp (seen_items self.now) item.now }
     {
         self.is_in_run(item) || self.rest.contains(item)
     }
@@ -80,12 +80,12 @@ impl<P: Ord + Copy> Seen<P> {
     pub fn insert(&mut self, item: P) -> Result<bool, AllocError>
         ensures rising { IsRising P.cmp self.old.run.items → IsRising P.cmp self.new.run.items }
         ensures added { IsRising P.cmp self.old.run.items
-            → IfOk result (λ added. added ≡ not (has_item P.cmp (items_of self.old) item)) }
+            → IfOk result (λ added. added ≡ not (has_item P.cmp (seen_items self.old) item)) }
         ensures updates { IsRising P.cmp self.old.run.items
             → IfOk result (λ added. IsTrue added
-            → IsOneMore P.cmp (items_of self.old) item (items_of self.new)) }
+            → IsOneMore P.cmp (seen_items self.old) item (seen_items self.new)) }
         ensures len { IfOk result (λ added. IsTrue added
-            → length (items_of self.new) ≡ length (items_of self.old) + 1) }
+            → length (seen_items self.new) ≡ length (seen_items self.old) + 1) }
     {
         if self.is_above_run(&item) {
             if self.rest.contains(&item) {

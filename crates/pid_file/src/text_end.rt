@@ -4,8 +4,8 @@ ghost use Rattle.pid_file.specs.LineKinds.{number_of, word_of};
 ghost use Rattle.pid_file.specs.Sending.{Sends};
 ghost use Rattle.pid_file.specs.TextEnds.{end_of as end_made, fault_line, line_told, status_of};
 
+use crate::fault_kind::LineKind;
 use crate::io::{Output, WriteFault, write_all, write_parts};
-use crate::line_kind::LineKind;
 use crate::refusal::ReadRefusal;
 use itoa::Buffer;
 

@@ -1,6 +1,6 @@
 //! Printing the canonical form of a text.
 ghost use Rattle.std.specs.Prelude.{◌≡◌, ◌⊎◌, ◌↔◌, ℕ, List, IsSome, IfSome, Err};
-ghost use Rattle.pid_file.specs.InputTexts.{ReadsInput, IsReadWithin};
+ghost use Rattle.pid_file.specs.InputTexts.{ReadsInput, IsUsedUpTo};
 ghost use Rattle.pid_file.specs.Reading.{Reads};
 ghost use Rattle.pid_file.specs.Tidied.{IsTidied, PrintsNothing};
 
@@ -35,7 +35,7 @@ pub fn tidy<I: Input, O: Output, F: Output>(
     ensures write_fault { result ≡ TextEnd.WriteFault
         → IsSome (O.write_fault output.new) ⊎ IsSome (F.write_fault faults.new) }
     ensures nothing_printed { PrintsNothing result (O.taken output.old) (O.taken output.new) }
-    ensures reads { IsReadWithin LARGEST (I.goes input.old input.new)
+    ensures reads { IsUsedUpTo LARGEST (I.goes input.old input.new)
         (I.to_come input.old) (I.to_come input.new) }
 {
     let read = read_input(alloc, LARGEST, input);

@@ -20,7 +20,7 @@ ghost use Rattle.std.specs.Prelude.{
 };
 ghost use Rattle.std.specs.Io.KnownBytes.{Consumes};
 ghost use Rattle.pid_file.specs.Lines.{lines_of};
-ghost use Rattle.pid_file.specs.OpenTexts.{IsOpen};
+ghost use Rattle.pid_file.specs.OpenTexts.{IsLeftOpen};
 ghost use Rattle.pid_file.specs.Sinks.{Ends};
 ghost use Rattle.pid_file.specs.WholeLines.{whole_lines};
 ghost use Rattle.pid_file.specs.WholeInputs.{CutsInput, FailsPiece, IsNoPiece, IsPiece};
@@ -111,9 +111,9 @@ fn take_next<J: Judge, K: Sink>(
 ) -> Result<(), CutEnd<K::Fault>>
 where
     K::Fault: Drop,
-    ensures holds { (front : List ℕ) → OnOk outcome (IsOpen J.shows text.old front)
-        → OnOk result (IsOpen J.shows text.new (front ++ piece.now)) }
-    ensures ends { (front : List ℕ) (start : K) → OnOk outcome (IsOpen J.shows text.old front)
+    ensures holds { (front : List ℕ) → OnOk outcome (IsLeftOpen J.shows text.old front)
+        → OnOk result (IsLeftOpen J.shows text.new (front ++ piece.now)) }
+    ensures ends { (front : List ℕ) (start : K) → OnOk outcome (IsLeftOpen J.shows text.old front)
         → Ends K.takes K.faults outcome start (whole_lines front) sink.old →
         Ends K.takes K.faults result start (whole_lines (front ++ piece.now)) sink.new }
 {
@@ -129,7 +129,7 @@ fn end_text<J: Judge + Drop, K: Sink>(
 ) -> Result<(), CutEnd<K::Fault>>
 where
     K::Fault: Drop,
-    ensures ends { (whole : List ℕ) (start : K) → OnOk outcome (IsOpen J.shows text whole)
+    ensures ends { (whole : List ℕ) (start : K) → OnOk outcome (IsLeftOpen J.shows text whole)
         → Ends K.takes K.faults outcome start (whole_lines whole) sink.old →
         Ends K.takes K.faults result start (lines_of whole) sink.new }
 {
@@ -146,7 +146,7 @@ fn cut_judged<J: Judge + Drop, K: Sink, I: Input>(
 ) -> Result<(), InputEnd<K::Fault>>
 where
     K::Fault: Drop,
-    requires { IsOpen J.shows text [] }
+    requires { IsLeftOpen J.shows text [] }
     ensures read { (text : List ℕ) × Consumes (I.to_come input.old) (I.to_come input.new) text
         × CutsInput K.takes K.faults limit result (I.to_come input.new) text sink.old sink.new }
     ensures stops { (front : List ℕ) × Consumes (I.to_come input.old) (I.to_come input.new) front

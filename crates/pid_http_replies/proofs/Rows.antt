@@ -4,7 +4,7 @@ use Rattle.std.specs.Fmt.{digits}
 use Rattle.std.specs.List.{flat_map}
 use Rattle.serde_json.proofs.OnLiterals.{serde_json_on_literals}
 use Rattle.serde_json.specs.Written.{compact_text}
-use Rattle.pid_file.specs.declared.line_kind.LineKind.TheVariants.{Duplicate}
+use Rattle.pid_file.specs.declared.fault_kind.LineKind.TheVariants.{Duplicate}
 use Rattle.pid_file.specs.declared.path.Path.TheVariants.{Vendor}
 use Rattle.pid_lookup.specs.declared.unanswered.Unanswered.TheVariants.{NoItem}
 use Rattle.pid_moderation.specs.declared.command.Proposal.TheVariants.{Name, Removal}

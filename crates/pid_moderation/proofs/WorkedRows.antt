@@ -2,7 +2,7 @@
 use Rattle.std.proofs.Common.{◌≡◌, ℕ, List, [], ◌∷◌, ◌++◌, Some, None, refl}
 use Rattle.std.specs.Prelude.{codes, map, Result, Ok, Err}
 use Rattle.pid_file.specs.declared.path.Path.TheVariants.{Vendor, Device}
-use Rattle.pid_file.specs.declared.line_kind.LineKind.TheVariants.{Duplicate}
+use Rattle.pid_file.specs.declared.fault_kind.LineKind.TheVariants.{Duplicate}
 use Rattle.pid_moderation.specs.declared.command.Proposal.TheVariants.{Name, Removal}
 use Rattle.pid_moderation.specs.declared.command.Reply.{Reply}
 use Rattle.pid_moderation.specs.declared.command.Reply.TheVariants.{Done, Numbered, Counts}

@@ -1,6 +1,6 @@
 -- One more line of a text that is told line by line.
 use Rattle.std.proofs.Common.{◌≡◌, ℕ, ◌+◌, List, [], ◌∷◌, ◌++◌, length, map, Some, None, Result, Ok, Err, refl, sym, ap, ◌∙◌, arith}
-use Rattle.pid_file.specs.declared.line_kind.LineKind.{LineKind}
+use Rattle.pid_file.specs.declared.fault_kind.LineKind.{LineKind}
 use Rattle.pid_reader.specs.declared.line_fault.LineFault.{LineFault}
 use Rattle.pid_reader.specs.declared.lines.Lines.{Lines}
 use Rattle.pid_file.specs.declared.open_levels.Said.{Said}

@@ -5,7 +5,7 @@ use Rattle.std.proofs.lemmas.Bool.Decides.{nat_tests}
 use Rattle.std.proofs.lemmas.List.{length-append}
 use Rattle.std.specs.Prelude.{Option, is_some}
 use mathlib.Core.Bool.{true≢false}
-use Rattle.pid_file.specs.declared.line_kind.LineKind.{LineKind}
+use Rattle.pid_file.specs.declared.fault_kind.LineKind.{LineKind}
 use Rattle.pid_file.specs.declared.refusal.ReadRefusal.{ReadRefusal}
 use Rattle.pid_file.specs.Reading.{AreGood, refused_from, refused_at, or_else, ENTRIES}
 use Rattle.pid_file.specs.LookingBack.{entries_back, entry_of, is_entry, path_at, name_at}

@@ -3,7 +3,7 @@ use Rattle.std.proofs.Common.{◌≡◌, ℕ, List, [], ◌∷◌, ◌++◌, Som
 use Rattle.std.specs.Prelude.{codes}
 use Rattle.std.specs.Str.{is_utf8, chars}
 use lib.Utf8.{encode}
-use Rattle.pid_file.specs.declared.line_kind.LineKind.TheVariants.{NotUtf8, TooDeep, NoParent, BadId, NoName, Duplicate, VendorMissing}
+use Rattle.pid_file.specs.declared.fault_kind.LineKind.TheVariants.{NotUtf8, TooDeep, NoParent, BadId, NoName, Duplicate, VendorMissing}
 use Rattle.pid_file.specs.declared.refusal.ReadRefusal.TheVariants.{Line}
 use Rattle.pid_file.specs.Printing.{lines_behind}
 use Rattle.pid_file.specs.LookingBack.{entries_back}

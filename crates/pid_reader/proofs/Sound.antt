@@ -16,7 +16,7 @@ use Rattle.pid_file.specs.Columns.{begins_with_id, begins_with_ids}
 use Rattle.pid_file.specs.Faults.{has}
 use Rattle.pid_file.specs.Reading.{AreGood}
 use Rattle.pid_file.specs.LookingBack.{is_above, above, parent_line, if_depth, is_entry, head_path, path_at}
-use Rattle.pid_file.specs.declared.line_kind.LineKind.TheVariants.{VendorMissing}
+use Rattle.pid_file.specs.declared.fault_kind.LineKind.TheVariants.{VendorMissing}
 use Rattle.pid_reader.proofs.Written.{both_true, not_true}
 use Rattle.pid_reader.proofs.Digits.{Number4, Number2, id4, id2, whole4}
 use Rattle.std.proofs.lemmas.Cmp.{nat_list_cmp_total, tied_itself}

@@ -12,7 +12,7 @@ pub use Rattle.pid_file.specs.OpenLevels
 pub use Rattle.pid_file.specs.WholeLines
 pub use Rattle.pid_file.specs.Refusals
 pub use Rattle.pid_file.specs.Progress
-pub use Rattle.pid_file.specs.SeenPaths
+pub use Rattle.pid_file.specs.SeenItems
 pub use Rattle.pid_file.specs.Sinks
 pub use Rattle.pid_file.specs.Cutters
 pub use Rattle.pid_file.specs.Steps.LineEnds

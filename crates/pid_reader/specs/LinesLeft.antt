@@ -1,7 +1,7 @@
 -- What is read line by line, up to the first line that has a fault of its own.
 use Rattle.std.specs.Prelude.{◌≡◌, ℕ, ◌+◌, List, [], ◌∷◌, ◌++◌, length, map}
 use Rattle.std.specs.Prelude.{Option, Some, None, Result, Ok, Err}
-use Rattle.pid_file.specs.declared.line_kind.LineKind.{LineKind}
+use Rattle.pid_file.specs.declared.fault_kind.LineKind.{LineKind}
 use Rattle.pid_reader.specs.declared.line_fault.LineFault.{LineFault}
 use Rattle.pid_file.specs.declared.sink.Entry.{Entry}
 use Rattle.pid_reader.specs.declared.lines.Lines.{Lines}

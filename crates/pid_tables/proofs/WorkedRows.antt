@@ -3,7 +3,7 @@ use Rattle.std.proofs.Common.{◌≡◌, [], ◌∷◌, ◌++◌, refl}
 use Rattle.std.specs.Prelude.{codes}
 use Rattle.std.specs.Str.{is_utf8, chars}
 use lib.Utf8.{encode}
-use Rattle.pid_file.specs.declared.line_kind.LineKind.TheVariants.{NoName}
+use Rattle.pid_file.specs.declared.fault_kind.LineKind.TheVariants.{NoName}
 use Rattle.pid_moderation.specs.declared.refusal.FileFault.TheVariants.{Line}
 use Rattle.pid_moderation.specs.History.{Faulty, Good}
 use Rattle.pid_tables.specs.Files.{file_reading}

@@ -1,8 +1,8 @@
 -- What is wrong with the columns of a line, and what a line names, except for its own digits.
 -- Serves private functions alone; no promise rests on it.
 use Rattle.std.specs.Prelude.{◌≡◌, ℕ, not, List, [], ◌∷◌, ◌++◌, if◌then◌else◌, Option, Some, None}
-use Rattle.pid_file.specs.declared.line_kind.LineKind.{LineKind}
-use Rattle.pid_file.specs.declared.line_kind.LineKind.TheVariants.{BadId, NoName, BadName}
+use Rattle.pid_file.specs.declared.fault_kind.LineKind.{LineKind}
+use Rattle.pid_file.specs.declared.fault_kind.LineKind.TheVariants.{BadId, NoName, BadName}
 use Rattle.pid_file.specs.declared.path.Path.{Path}
 use Rattle.pid_file.specs.declared.path.Path.TheVariants as paths
 use Rattle.pid_file.specs.Bytes.{is_empty}

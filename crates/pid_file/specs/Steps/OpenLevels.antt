@@ -1,8 +1,8 @@
 -- Steps of OpenLevels.
 use Rattle.std.specs.Prelude.{ℕ, ◌==◌, if◌then◌else◌}
 use Rattle.std.specs.Prelude.{Option, Some, None, Result, Ok, Err}
-use Rattle.pid_file.specs.declared.line_kind.LineKind.{LineKind}
-use Rattle.pid_file.specs.declared.line_kind.LineKind.TheVariants.{TooDeep, NoParent}
+use Rattle.pid_file.specs.declared.fault_kind.LineKind.{LineKind}
+use Rattle.pid_file.specs.declared.fault_kind.LineKind.TheVariants.{TooDeep, NoParent}
 use Rattle.pid_file.specs.declared.entry_line.Place.{Place}
 use Rattle.pid_file.specs.declared.entry_line.Place.TheVariants as places
 use Rattle.pid_file.specs.declared.open_levels.OpenLevels.{OpenLevels}

@@ -1,5 +1,5 @@
 use Rattle.std.proofs.Common.{◌≡◌, ◌∙◌, sym, subst, List, ℕ, Some}
-use Rattle.pid_file.specs.declared.line_kind.LineKind.TheVariants.{BadName}
+use Rattle.pid_file.specs.declared.fault_kind.LineKind.TheVariants.{BadName}
 use Rattle.pid_file.specs.Steps.EntryLines.{name_fault}
 use Rattle.pid_file.proofs.LineLemmas.{not_utf8, some_bytes, bad_bytes}
 use Rattle.pid_file.proofs.entry_line.name_at.Goals as goal

@@ -1,5 +1,5 @@
 use Rattle.std.proofs.Common.{◌≡◌, ◌∙◌, sym, subst}
-use Rattle.pid_file.specs.SeenPaths.{IsRising, has_item}
+use Rattle.pid_file.specs.SeenItems.{IsRising, has_item}
 use Rattle.pid_file.proofs.Rising.{searched}
 use Rattle.pid_file.proofs.seen.Seen.is_in_run.Goals as goal
 

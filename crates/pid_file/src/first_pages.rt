@@ -5,11 +5,11 @@
 pub struct Pages<'a> {
     /// What `--version` prints.
     pub version: &'a str,
-    /// What stands below a word that is no command.
+    /// What follows the message about an unknown command.
     pub usage: &'a str,
     /// What `--help` and `help` print.
     pub help: &'a str,
-    /// The commands, each with its help, but for `help`.
+    /// The commands, each with its help, except for `help`.
     pub commands: &'a [(&'a str, &'a str)],
 }
 

@@ -14,11 +14,11 @@ has_item cmp seen p = list_any (λ k. is_eq (cmp p k)) seen
 
 -- whether a path is among those that were seen
 abbrev pub has_path : List Path → Path → Bool
-has_path seen p = list_any (λ k. is_eq (path_cmp p k)) seen
+has_path seen p = has_item path_cmp seen p
 
 -- the run and then the rest
-abbrev pub items_of : {P : Type 0} → Seen P → List P
-items_of s = s.run.items ++ s.rest.keys
+abbrev pub seen_items : {P : Type 0} → Seen P → List P
+seen_items s = s.run.items ++ s.rest.keys
 
 -- none is less than the one before it
 abbrev pub IsRising : {P : Type 0} → (P → P → Ordering) → List P → Type 0

@@ -1,9 +1,9 @@
 //! What the arguments ask the first program for.
-use crate::pages::Pages;
+use crate::first_pages::Pages;
 
 /// What the program can do by itself, and what it leaves to the whole program.
 #[derive(Clone, Copy)]
-pub enum Job<'a> {
+pub enum FirstJob<'a> {
     Tidy,
     Check,
     /// Shows a page of help, or the version.
@@ -17,14 +17,14 @@ pub enum Job<'a> {
 }
 
 /// What the arguments ask for. The first of them is the program's name.
-pub fn job_of<'a>(words: &'a [String], pages: &Pages<'a>) -> Job<'a> {
+pub fn first_job_of<'a>(words: &'a [String], pages: &Pages<'a>) -> FirstJob<'a> {
     match words {
-        [] | [_] => Job::Tidy,
+        [] | [_] => FirstJob::Tidy,
         [_, word] => match word.as_str() {
-            "tidy" => Job::Tidy,
-            "check" => Job::Check,
-            "--version" | "-V" => Job::Show(pages.version),
-            "--help" | "-h" | "help" => Job::Show(pages.help),
+            "tidy" => FirstJob::Tidy,
+            "check" => FirstJob::Check,
+            "--version" | "-V" => FirstJob::Show(pages.version),
+            "--help" | "-h" | "help" => FirstJob::Show(pages.help),
             word => job_of_more(word, pages),
         },
         [_, first, second] => job_of_two(first.as_str(), second.as_str(), pages),
@@ -32,13 +32,13 @@ pub fn job_of<'a>(words: &'a [String], pages: &Pages<'a>) -> Job<'a> {
     }
 }
 
-fn job_of_two<'a>(first: &'a str, second: &'a str, pages: &Pages<'a>) -> Job<'a> {
+fn job_of_two<'a>(first: &'a str, second: &'a str, pages: &Pages<'a>) -> FirstJob<'a> {
     match (first, second) {
         ("help", command) | (command, "--help" | "-h") => match pages.of(command) {
-            Some(page) => Job::Show(page),
-            None => Job::Other,
+            Some(page) => FirstJob::Show(page),
+            None => FirstJob::Other,
         },
-        ("tidy" | "check", word) if !matches!(word.as_bytes(), [b'-', ..]) => Job::NoArgument {
+        ("tidy" | "check", word) if !matches!(word.as_bytes(), [b'-', ..]) => FirstJob::NoArgument {
             command: first,
             word,
         },
@@ -47,9 +47,9 @@ fn job_of_two<'a>(first: &'a str, second: &'a str, pages: &Pages<'a>) -> Job<'a>
 }
 
 // An option is left to the whole program, and so is a command.
-fn job_of_more<'a>(first: &'a str, pages: &Pages<'a>) -> Job<'a> {
+fn job_of_more<'a>(first: &'a str, pages: &Pages<'a>) -> FirstJob<'a> {
     if matches!(first.as_bytes(), [b'-', ..]) || first == "help" || pages.of(first).is_some() {
-        return Job::Other;
+        return FirstJob::Other;
     }
-    Job::NoCommand(first)
+    FirstJob::NoCommand(first)
 }

@@ -1,27 +1,31 @@
 //! What the first program does, on the streams of a process.
-use crate::job::Job;
+ghost use Rattle.std.specs.Prelude.{◌≡◌};
+
+use crate::first_job::FirstJob;
+use crate::first_output::{refuse, show};
 use crate::process::{run_check, run_tidy};
-use crate::showing::{refuse, show};
 use std::alloc::Global;
 use std::io::{Read, Write};
 
 /// The exit status if only the whole program can do the job. Nothing was read or written.
 pub const OTHER_JOB: u8 = 4;
 
-/// Does the job, and returns the exit status. `usage` stands below a word that is no command.
+/// Does the job, and returns the exit status. `usage` follows the message about an unknown command.
 pub fn run_job<I: Read + Drop, O: Write + Drop, F: Write + Drop>(
-    job: Job<'_>,
+    job: FirstJob<'_>,
     usage: &str,
     alloc: Global,
     input: I,
     output: O,
     faults: F,
-) -> u8 {
+) -> u8
+    ensures other { job ≡ FirstJob.Other → result ≡ OTHER_JOB }
+{
     match job {
-        Job::Tidy => run_tidy(alloc, input, output, faults),
-        Job::Check => run_check(alloc, input, output, faults),
-        Job::Show(page) => show(page, output, faults),
-        Job::NoCommand(word) => refuse(
+        FirstJob::Tidy => run_tidy(alloc, input, output, faults),
+        FirstJob::Check => run_check(alloc, input, output, faults),
+        FirstJob::Show(page) => show(page, output, faults),
+        FirstJob::NoCommand(word) => refuse(
             &[
                 b"error: unrecognized subcommand '",
                 word.as_bytes(),
@@ -31,7 +35,7 @@ pub fn run_job<I: Read + Drop, O: Write + Drop, F: Write + Drop>(
             ],
             faults,
         ),
-        Job::NoArgument { command, word } => refuse(
+        FirstJob::NoArgument { command, word } => refuse(
             &[
                 b"error: unexpected argument '",
                 word.as_bytes(),
@@ -44,6 +48,6 @@ pub fn run_job<I: Read + Drop, O: Write + Drop, F: Write + Drop>(
             ],
             faults,
         ),
-        Job::Other => OTHER_JOB,
+        FirstJob::Other => OTHER_JOB,
     }
 }

@@ -1,4 +1,6 @@
 //! What the first program prints besides the result of `tidy` and `check`.
+ghost use Rattle.std.specs.Prelude.{◌≡◌, ◌⊎◌};
+
 use crate::io::{write_all, write_parts};
 use crate::plain::Plain;
 use crate::process::{tell_end, tell_failed};
@@ -7,10 +9,12 @@ use crate::watched::Watched;
 use std::io::{ErrorKind, Write};
 
 /// The exit status if the arguments name no job.
-const UNKNOWN_WORDS: u8 = 2;
+pub const UNKNOWN_WORDS: u8 = 2;
 
 /// Prints a page on `output`, and returns the exit status: 0, or 3 if it can't be written.
-pub fn show<O: Write + Drop, F: Write + Drop>(page: &str, output: O, faults: F) -> u8 {
+pub fn show<O: Write + Drop, F: Write + Drop>(page: &str, output: O, faults: F) -> u8
+    ensures { (result ≡ 0) ⊎ (result ≡ 3) }
+{
     let mut output = Plain::new(Watched::new(output));
     match write_all(&mut output, page.as_bytes()) {
         Ok(()) => 0,
@@ -19,13 +23,17 @@ pub fn show<O: Write + Drop, F: Write + Drop>(page: &str, output: O, faults: F) 
 }
 
 /// Reports why the arguments name no job, and returns the exit status.
-pub fn refuse<F: Write + Drop>(reason: &[&[u8]], faults: F) -> u8 {
+pub fn refuse<F: Write + Drop>(reason: &[&[u8]], faults: F) -> u8
+    ensures { result ≡ UNKNOWN_WORDS }
+{
     let _ = write_parts(&mut Plain::new(faults), reason);
     UNKNOWN_WORDS
 }
 
 /// Reports that the arguments can't be read, and returns the exit status.
-pub fn tell_no_words<F: Write + Drop>(kind: ErrorKind, faults: F) -> u8 {
+pub fn tell_no_words<F: Write + Drop>(kind: ErrorKind, faults: F) -> u8
+    ensures { (result ≡ 2) ⊎ (result ≡ 3) }
+{
     match kind {
         ErrorKind::OutOfMemory => tell_end(TextEnd::Memory, &mut Plain::new(faults)),
         _ => refuse(&[b"error: an argument is not valid UTF-8\n"], faults),
