@@ -45,7 +45,8 @@ function facts(it, names) {
   const row = (word, ...value) => [el("dt", {}, word), el("dd", {}, ...value)];
   const isDecided = it.state === "approved" || it.state === "rejected";
   return el("dl", { class: "facts" },
-    row(kindOf(it.path), chainOf(it.path, (path) => names.get(path)), " ", el("code", {}, it.path)),
+    row(kindOf(it.path), chainOf(it.path, (path) => names.get(path)),
+      now === undefined ? null : [" ", el("code", {}, it.path)]),
     it.state === "pending" && was ? row("Now", el("del", {}, was)) : null,
     row(it.name === null ? "Removal" : "Name", el("ins", { class: "proposed" }, wish)),
     row("By", it.author),

@@ -195,7 +195,8 @@ const KEY_WORDS = [["j", "next"], ["k", "previous"], ["a a", "approve"], ["r", "
 
 function keyWords() {
   return el("p", { class: "keys" }, "In the list: ", KEY_WORDS.map(([keys, word], at) => [
-    at ? ", " : null, keys.split(" ").map((it) => [el("kbd", {}, it), " "]), word]), ".");
+    at ? ", " : null,
+    el("span", {}, keys.split(" ").map((it) => [el("kbd", {}, it), " "]), word)]), ".");
 }
 
 // No question tells a contributor from a moderator: a moderator says so once in this browser.

@@ -348,7 +348,8 @@ def imports(cases, world, browser):
     browser.type("#owed input", other)
     cases.equal("once: another file is refused", browser.has("another file", "#notice"), True)
     browser.type("#owed input", path)
-    browser.has("done.", "#owed")
+    # That it isn't known whether it was done is said until then.
+    browser.has(": done.", "#owed")
     now = world.ask("/changes?since=9000000000000000000")["revision"]
     cases.equal("once: an import after a reload", (now - revision, browser.owed()), (1, []))
 
