@@ -183,7 +183,7 @@ fn told_of(alloc: Global, text: &[u8]) -> Result<String, AllocError> {
     }
 }
 
-// A file that is cut anywhere has one answer, however it is read.
+// Each prefix of a file has one answer, however it is read.
 #[test]
 fn prefixes_are_checked_alike(rt: HostRuntime) -> Result<(), Fail> {
     for end in 0..=QEMU.len() {
