@@ -18,6 +18,7 @@ from script_rows import ROWS
 BAD = (b"refused 3 BadText\n", b"", 1)
 FAILED = (b"", b"file: failed\n", 3)
 ROW_10 = b"8086  Intel Corporation"
+EXPORTED = HEADER + b"8086  Intel\n"
 
 
 def look_up(folder, text, *words):
@@ -220,6 +221,22 @@ def test_scripts(cases, folder):
     os.close(here)
     cases.equal("a script: a folder as the input", (ran.stdout, ran.stderr, ran.returncode), FAILED)
 
+
+def test_names_of_files(cases, folder):
+    """A registry is in the file that is named, whatever the name; what is no name of a file is
+    refused."""
+    line, names = b"import root file=8086++Intel\n", ("-", " ", "a b.db", "\u00e9.db", "x" * 200)
+    for name in names:
+        told = work(line, "script", "--db", name, cwd=folder)
+        cases.equal(f"a file named {name!r}", told, (b"ok added=1 renamed=0 same=0\n", b"", 0))
+        there = os.path.isfile(os.path.join(folder, name))
+        left = work(b"", "export", "--db", name, cwd=folder)
+        cases.equal(f"a file named {name!r}: it has the name", (there, left[0]), (True, EXPORTED))
+    before = sorted(os.listdir(folder))
+    for name in ("", ":memory:", "file:r.db"):
+        told = work(line, "script", "--db", name, cwd=folder)
+        cases.equal(f"no file: {name!r}", told, (b"", b"open: Store\n", 3))
+    cases.equal("no file: none is made", sorted(os.listdir(folder)), before)
 
 def test_killed_between_lines(cases, folder):
     """Each line by a program of its own, which is killed once it has replied."""

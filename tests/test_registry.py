@@ -395,6 +395,84 @@ def test_last_revision(cases, folder):
     )
 
 
+# What somebody makes in the file of a registry, and how the program then opens it.
+BESIDE = {
+    "an index": ("CREATE INDEX by_name ON item (name)", None),
+    "an index of two columns": ("CREATE INDEX by_state ON submission (state, author DESC)", None),
+    "a unique index": ("CREATE UNIQUE INDEX once ON receipt (token, account)", None),
+    "an index of some rows": ("CREATE INDEX classes ON item (name) WHERE path > 'PD'", None),
+    "statistics": ("ANALYZE", None),
+    "an index and statistics": ("CREATE INDEX by_name ON item (name); ANALYZE", None),
+    "a table": ("CREATE TABLE other (x TEXT); INSERT INTO other VALUES ('kept')", None),
+    "a table that refers to items": (
+        (
+            "CREATE TABLE liked (path TEXT REFERENCES item(path)); INSERT INTO liked VALUES"
+            " ('PC/8086')"
+        ),
+        None,
+    ),
+    "a table without rowids": (
+        "CREATE TABLE other (x TEXT PRIMARY KEY) WITHOUT ROWID; INSERT INTO other VALUES ('kept')",
+        None,
+    ),
+    "a counted table": (
+        "CREATE TABLE other (x INTEGER PRIMARY KEY AUTOINCREMENT); INSERT INTO other VALUES (7)",
+        None,
+    ),
+    "a view": ("CREATE VIEW vendors AS SELECT * FROM item WHERE length(path) = 7", None),
+    "a trigger": (
+        "CREATE TABLE seen (path TEXT); CREATE TRIGGER noted AFTER INSERT ON item BEGIN INSERT INTO"
+        " seen VALUES (new.path); END",
+        None,
+    ),
+    "a virtual table": ("CREATE VIRTUAL TABLE words USING fts5(name)", None),
+}
+
+# A command of each kind that writes another table, and what they come to.
+GOES_ON = (
+    ("account root who=carol&rank=0", b"ok\n"),
+    ("submit carol path=PC/8087&name=Intel&key=k1", b"ok 3\n"),
+    ("comment root num=3&text=seen", b"ok\n"),
+    ("approve root num=3", b"ok\n"),
+    ("import root file=8086++Intel+Corporation", b"ok added=0 renamed=1 same=0\n"),
+    ("submit bob path=PC/8087&remove=yes", b"ok 4\n"),
+    ("approve root num=4", b"ok\n"),
+    ("submit carol path=PC/8087&name=Intel&key=k1", b"ok 3\n"),
+    ("lookup flags=1&vendor=8086", b"text Intel Corporation\n"),
+)
+
+# All rows of the registry, and all that the file has.
+REGISTRY_ROWS = (
+    "SELECT * FROM meta ORDER BY label; SELECT * FROM account ORDER BY name; SELECT * FROM item"
+    " ORDER BY path; SELECT * FROM submission; SELECT * FROM remark; SELECT * FROM receipt; SELECT"
+    " * FROM item_since ORDER BY path"
+)
+MADE = "SELECT type, name, sql FROM sqlite_master ORDER BY name"
+
+
+def test_beside(cases, folder):
+    """A file of a registry in which somebody made something: it is opened and goes on as one
+    without it, or is refused and stays as it is."""
+    first, plain = os.path.join(folder, "first.db"), os.path.join(folder, "plain.db")
+    bring_in(first, VENDORS)
+    script(first, *moderated(2))
+    shutil.copy(first, plain)
+    answered(cases, "alone", plain, *GOES_ON)
+    rows, text = asked(plain, REGISTRY_ROWS), work(b"", "export", "--db", plain)
+    for number, (name, (sql, fault)) in enumerate(BESIDE.items()):
+        path = os.path.join(folder, f"beside{number}.db")
+        shutil.copy(first, path)
+        cases.equal(f"beside {name}: made", asked(path, sql), "")
+        made = asked(path, MADE)
+        if fault is None:
+            answered(cases, f"beside {name}", path, *GOES_ON)
+            found = (asked(path, REGISTRY_ROWS), work(b"", "export", "--db", path))
+            cases.equal(f"beside {name}: the rows and the text", found, (rows, text))
+            cases.equal(f"beside {name}: integrity", asked(path, "PRAGMA integrity_check"), "ok\n")
+        else:
+            cases.equal(f"beside {name}: refused", script(path), (b"", fault, 3))
+        cases.equal(f"beside {name}: it stays", asked(path, MADE), made)
+
 @pytest.mark.needs(REAL_FILE)
 def test_real_file(cases, folder):
     path = os.path.join(folder, "real.db")

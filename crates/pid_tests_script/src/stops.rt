@@ -1,6 +1,6 @@
 //! Scripts over files in memory that stop at a call: each ends as stopped, with the replies to the
 //! lines before, and what was answered is found when the files are opened again.
-use crate::running::{FIRST_NAME, TURNS, script_and_replies};
+use crate::running::TURNS;
 use pid_ident::{FaultyInput, FaultyOutput};
 use pid_script::{ScriptEnd, run_script};
 use pid_service::{Registry, open};
@@ -132,80 +132,87 @@ fn lines_in(text: &[u8]) -> usize {
 fn stopped(
     rt: &impl Abort,
     alloc: Global,
+    held: &Held,
     calls: Calls,
-    script: &str,
-    replies: &str,
 ) -> Result<(usize, bool, Held), Fail> {
-    let nothing = Held {
-        log: Vec::new(alloc),
-        db: Vec::new(alloc),
-    };
-    let (answered, mut files) = match connected(alloc, laid(alloc, &nothing, calls)?) {
-        Ok(conn) => answered(rt, alloc, conn, script, replies)?,
+    let (answered, mut files) = match connected(alloc, laid(alloc, held, calls)?) {
+        Ok(conn) => answered(rt, alloc, conn)?,
         Err(files) => (0, files),
     };
     let is_whole = !has_stopped(&mut files);
     Ok((answered, is_whole, held_after_crash(alloc, files)?))
 }
 
-// How many lines of a script were answered, and the files as they are where the process ends.
+// How many lines of the script were answered, and the files as they are where the process ends.
 fn answered(
     rt: &impl Abort,
     alloc: Global,
     conn: Connection<FileStore<Stopping>>,
-    script: &str,
-    replies: &str,
 ) -> Result<(usize, Files<Stopping>), Fail> {
     match open(alloc, conn) {
         Ok(mut registry) => {
-            let (end, output) = run(alloc, &mut registry, script);
-            let answered = expect_front(rt, end, &output, replies);
+            let (end, output) = run(alloc, &mut registry, SCRIPT);
+            let answered = expect_front(rt, end, &output, REPLIES);
             Ok((answered, registry.close().into_store().close()))
         }
         Err((_, conn)) => Ok((0, conn.into_store().close())),
     }
 }
 
-// What is expected of a registry that is opened again.
-#[derive(Clone, Copy)]
-struct Expected<'a> {
-    // the text of all items before a line, and after it
-    without: &'a str,
-    with: &'a str,
-    line: usize,
-    // a script that is sent then, and its replies
-    again: &'a str,
-    replies: &'a str,
-}
+// The text of all items before the last line of the script, and after it.
+const WITHOUT: &str = "# PCI ID registry\n";
 
-fn expect_found(
-    rt: &impl Abort,
-    alloc: Global,
-    held: &Held,
-    answered: usize,
-    expected: Expected<'_>,
-) -> Result<(), Fail> {
+const WITH: &str = "# PCI ID registry\n8086  Intel Corporation\n";
+
+const SCRIPT: &str = "submit alice key=k1&path=PC/8086&name=Intel+Corporation\n\
+approve root key=a1&num=1\n";
+
+const REPLIES: &str = "ok 1\nok\n";
+
+// The script once more, between two questions, and what is replied from the first line on.
+const AGAIN: &str = "export\nsubmit alice key=k1&path=PC/8086&name=Intel+Corporation\n\
+approve root key=a1&num=1\nexport\n";
+
+const THEIR_REPLIES: &str = "ok 1\nok\n# PCI ID registry\n8086  Intel Corporation\n";
+
+// Opened again, the registry has what was answered, and the script that is sent again gets its
+// replies.
+fn expect_found(rt: &impl Abort, alloc: Global, held: &Held, answered: usize) -> Result<(), Fail> {
     let Ok(conn) = connected(alloc, laid(alloc, held, ALL)?) else {
         return Err("the files are opened again")?;
     };
     let Ok(mut registry) = open(alloc, conn) else {
         return Err("the registry is opened again")?;
     };
-    let (end, output) = run(alloc, &mut registry, "export\n");
+    let (end, output) = run(alloc, &mut registry, AGAIN);
     assert_eq!(rt; end, ScriptEnd::Done);
-    let text = output.taken.as_slice();
-    assert!(rt;
-        text == expected.with.as_bytes()
-            || (answered < expected.line && text == expected.without.as_bytes())
-    );
-    let (end, output) = run(alloc, &mut registry, expected.again);
-    assert_eq!(rt; end, ScriptEnd::Done);
-    assert_eq!(rt; output.taken.as_slice(), expected.replies.as_bytes());
+    match output.taken.strip_suffix(THEIR_REPLIES.as_bytes()) {
+        Some(found) => assert!(rt;
+            found == WITH.as_bytes() || (answered < 2 && found == WITHOUT.as_bytes())
+        ),
+        None => assert!(rt; false, "the script sent again gets its replies"),
+    }
     Ok(())
 }
 
-// More calls than a run makes of either file.
-const MOST: u64 = 5_000;
+// What files hold after the account of the script was made, without a stop.
+fn held_before(alloc: Global) -> Result<Held, Fail> {
+    let nothing = Held {
+        log: Vec::new(alloc),
+        db: Vec::new(alloc),
+    };
+    let Ok(conn) = connected(alloc, laid(alloc, &nothing, ALL)?) else {
+        return Err("a connection")?;
+    };
+    let Ok(mut registry) = open(alloc, conn) else {
+        return Err("a registry")?;
+    };
+    let (end, _) = run(alloc, &mut registry, "account root who=alice&rank=0\n");
+    if end != ScriptEnd::Done {
+        return Err("an account")?;
+    }
+    held_after_crash(alloc, registry.close().into_store().close())
+}
 
 fn stop_at(of_log: bool, calls: u64) -> Calls {
     if of_log {
@@ -215,81 +222,54 @@ fn stop_at(of_log: bool, calls: u64) -> Calls {
     }
 }
 
-// Stops one of the files at each call of an opening and of a script.
-fn stop_each(
-    rt: &impl Abort,
-    alloc: Global,
-    of_log: bool,
-    rows: &str,
-    expected: Expected<'_>,
-) -> Result<(), Fail> {
-    let (script, replies) = script_and_replies(alloc, rows)?;
-    let (script, replies) = (script.as_str(), replies.as_str());
+fn is_opened(alloc: Global, held: &Held, calls: Calls) -> Result<bool, Fail> {
+    match connected(alloc, laid(alloc, held, calls)?) {
+        Ok(conn) => Ok(open(alloc, conn).is_ok()),
+        Err(_) => Ok(false),
+    }
+}
+
+// More calls than an opening makes of a file, which is halved so often until it is one.
+const MOST: u64 = 256;
+
+const HALVINGS: u32 = 8;
+
+// The least number of calls with which the registry is opened.
+fn calls_of_opening(alloc: Global, held: &Held, of_log: bool) -> Result<u64, Fail> {
+    let mut low: u64 = 0;
+    let mut width = MOST;
+    for _ in 0..HALVINGS {
+        width /= 2;
+        if !is_opened(alloc, held, stop_at(of_log, low.saturating_add(width)))? {
+            low = low.saturating_add(width);
+        }
+    }
+    Ok(low)
+}
+
+// Stops one of the files at each call of the script, from the last one of the opening on.
+fn stop_each(rt: &impl Abort, alloc: Global, of_log: bool) -> Result<(), Fail> {
+    let held = held_before(alloc)?;
+    let opening = calls_of_opening(alloc, &held, of_log)?;
     let mut was_cut = false;
-    for calls in 0..MOST {
-        let (answered, is_whole, held) = stopped(
-            rt,
-            alloc,
-            stop_at(of_log, calls),
-            script,
-            replies,
-        )?;
-        expect_found(rt, alloc, &held, answered, expected)?;
+    for calls in opening..opening.saturating_add(MOST) {
+        let (answered, is_whole, left) = stopped(rt, alloc, &held, stop_at(of_log, calls))?;
+        expect_found(rt, alloc, &left, answered)?;
         if is_whole {
             assert!(rt; was_cut);
             return Ok(());
         }
-        was_cut = was_cut || answered > 0;
+        was_cut = was_cut || answered == 1;
     }
     Err("a run without a stop")?
 }
 
-const WITHOUT: &str = "# PCI ID registry\n";
-
-const WITH: &str = "# PCI ID registry\n8086  Intel Corporation\n";
-
-// The first name of a registry; afterwards a question alone.
-const ONCE: Expected<'static> = Expected {
-    without: WITHOUT,
-    with: WITH,
-    line: 4,
-    again: "",
-    replies: "",
-};
-
 #[test]
 fn a_log_stops_under_a_script(rt: HostRuntime) -> Result<(), Fail> {
-    stop_each(&rt, rt.alloc(), true, FIRST_NAME, ONCE)
+    stop_each(&rt, rt.alloc(), true)
 }
 
 #[test]
 fn a_database_stops_under_a_script(rt: HostRuntime) -> Result<(), Fail> {
-    stop_each(&rt, rt.alloc(), false, FIRST_NAME, ONCE)
-}
-
-const KEYED: &str = "\
-account root key=k1&who=alice&rank=0 | ok
-submit alice key=k1&path=PC/8086&name=Intel+Corporation | ok 1
-approve root key=a1&num=1 | ok
-";
-
-// The same under keys, all of which is sent again.
-const AGAIN: Expected<'static> = Expected {
-    without: WITHOUT,
-    with: WITH,
-    line: 3,
-    again: "account root key=k1&who=alice&rank=0\n\
-submit alice key=k1&path=PC/8086&name=Intel+Corporation\n\
-approve root key=a1&num=1\nexport\n",
-    replies: "ok\nok 1\nok\n# PCI ID registry\n8086  Intel Corporation\n",
-};
-
-#[test]
-fn a_log_stops_under_commands_with_keys(rt: HostRuntime) -> Result<(), Fail> {
-    stop_each(&rt, rt.alloc(), true, KEYED, AGAIN)
-}
-
-#[test]
-fn a_database_stops_under_commands_with_keys(rt: HostRuntime) -> Result<(), Fail> {
-    stop_each(&rt, rt.alloc(), false, KEYED, AGAIN)
+    stop_each(&rt, rt.alloc(), false)
 }
