@@ -1,6 +1,4 @@
 //! What the first program does, on the streams of a process.
-ghost use Rattle.std.specs.Prelude.{◌≡◌};
-
 use crate::first_job::FirstJob;
 use crate::first_output::{refuse, show};
 use crate::process::{run_check, run_tidy};
@@ -18,9 +16,7 @@ pub fn run_job<I: Read + Drop, O: Write + Drop, F: Write + Drop>(
     input: I,
     output: O,
     faults: F,
-) -> u8
-    ensures other { job ≡ FirstJob.Other → result ≡ OTHER_JOB }
-{
+) -> u8 {
     match job {
         FirstJob::Tidy => run_tidy(alloc, input, output, faults),
         FirstJob::Check => run_check(alloc, input, output, faults),
