@@ -18,6 +18,7 @@ ghost use Rattle.httparse.specs.Grammar.{HasNoRequest as HasNoHeadYet};
 ghost use Rattle.httparse.specs.Spans.{header_bytes, IsRequestWithin, IsRequestOf};
 ghost use Rattle.httparse.specs.declared.spans.HeaderSpan.{HeaderSpan as FieldSpan};
 ghost use Rattle.pid_http_stream.specs.Steps.Intakes.{IsHeadJudged};
+ghost use Rattle.pid_http_stream.specs.declared.limits.TheConstants.{MOST_FIELDS};
 ghost use Rattle.pid_http_stream.specs.Leftovers.{AreLineEnds};
 ghost use Rattle.pid_http_stream.specs.Steps.LineScans.{blank_after};
 ghost use Rattle.pid_http_stream.specs.Unfinished.{CanBeHead};
