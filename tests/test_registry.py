@@ -395,38 +395,27 @@ def test_last_revision(cases, folder):
     )
 
 
-# What somebody makes in the file of a registry, and how the program then opens it.
+# What somebody makes in the file of a registry.
 BESIDE = {
-    "an index": ("CREATE INDEX by_name ON item (name)", None),
-    "an index of two columns": ("CREATE INDEX by_state ON submission (state, author DESC)", None),
-    "a unique index": ("CREATE UNIQUE INDEX once ON receipt (token, account)", None),
-    "an index of some rows": ("CREATE INDEX classes ON item (name) WHERE path > 'PD'", None),
-    "statistics": ("ANALYZE", None),
-    "an index and statistics": ("CREATE INDEX by_name ON item (name); ANALYZE", None),
-    "a table": ("CREATE TABLE other (x TEXT); INSERT INTO other VALUES ('kept')", None),
-    "a table that refers to items": (
-        (
-            "CREATE TABLE liked (path TEXT REFERENCES item(path)); INSERT INTO liked VALUES"
-            " ('PC/8086')"
-        ),
-        None,
-    ),
-    "a table without rowids": (
-        "CREATE TABLE other (x TEXT PRIMARY KEY) WITHOUT ROWID; INSERT INTO other VALUES ('kept')",
-        None,
-    ),
+    "an index": "CREATE INDEX by_name ON item (name)",
+    "a table": "CREATE TABLE other (x TEXT); INSERT INTO other VALUES ('kept')",
     "a counted table": (
-        "CREATE TABLE other (x INTEGER PRIMARY KEY AUTOINCREMENT); INSERT INTO other VALUES (7)",
-        None,
+        "CREATE TABLE other (x INTEGER PRIMARY KEY AUTOINCREMENT); INSERT INTO other VALUES (7)"
     ),
-    "a view": ("CREATE VIEW vendors AS SELECT * FROM item WHERE length(path) = 7", None),
+    "a view": "CREATE VIEW names AS SELECT path, name FROM item",
+}
+
+# The same, where the file may also be refused: no page says which.
+MAY_BE_REFUSED = {
+    "statistics": "ANALYZE",
+    "an index of some rows": "CREATE INDEX classes ON item (name) WHERE path > 'PD'",
+    "a falling index": "CREATE INDEX by_state ON submission (state, author DESC)",
     "a trigger": (
         "CREATE TABLE seen (path TEXT); CREATE TRIGGER noted AFTER INSERT ON item BEGIN INSERT INTO"
-        " seen VALUES (new.path); END",
-        None,
+        " seen VALUES (new.path); END"
     ),
-    "a virtual table": ("CREATE VIRTUAL TABLE words USING fts5(name)", None),
 }
+REFUSED = [(b"", b"open: Damaged\n", 3), (b"", b"open: Store\n", 3)]
 
 # A command of each kind that writes another table, and what they come to.
 GOES_ON = (
@@ -459,18 +448,18 @@ def test_beside(cases, folder):
     shutil.copy(first, plain)
     answered(cases, "alone", plain, *GOES_ON)
     rows, text = asked(plain, REGISTRY_ROWS), work(b"", "export", "--db", plain)
-    for number, (name, (sql, fault)) in enumerate(BESIDE.items()):
+    for number, (name, sql) in enumerate([*BESIDE.items(), *MAY_BE_REFUSED.items()]):
         path = os.path.join(folder, f"beside{number}.db")
         shutil.copy(first, path)
         cases.equal(f"beside {name}: made", asked(path, sql), "")
-        made = asked(path, MADE)
-        if fault is None:
+        made, opened = asked(path, MADE), script(path)
+        if name in MAY_BE_REFUSED and opened in REFUSED:
+            print(f"a registry beside {name}: {opened[1].decode().strip()}")
+        else:
             answered(cases, f"beside {name}", path, *GOES_ON)
             found = (asked(path, REGISTRY_ROWS), work(b"", "export", "--db", path))
             cases.equal(f"beside {name}: the rows and the text", found, (rows, text))
             cases.equal(f"beside {name}: integrity", asked(path, "PRAGMA integrity_check"), "ok\n")
-        else:
-            cases.equal(f"beside {name}: refused", script(path), (b"", fault, 3))
         cases.equal(f"beside {name}: it stays", asked(path, MADE), made)
 
 @pytest.mark.needs(REAL_FILE)

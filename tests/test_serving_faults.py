@@ -3,6 +3,7 @@ turn: a client that does what docs/HTTP.md says of such replies gets every answe
 nothing that was acknowledged is lost."""
 import bisect
 import os
+import socket
 import tempfile
 import time
 from typing import NamedTuple
@@ -307,6 +308,17 @@ def are_replies(taken):
     return taken == b""
 
 
+def taken_of(client):
+    """What comes until the connection ends."""
+    taken = b""
+    try:
+        while piece := client.recv(65536):
+            taken += piece
+    except ConnectionResetError:
+        pass
+    return taken
+
+
 def streamed(shim, at, database):
     """What the stream of three requests gets of a server whose request for memory number `at` is
     refused, whether there was one, and how the server ended."""
@@ -315,7 +327,10 @@ def streamed(shim, at, database):
     server = Server(database, 1, program=WHOLE, env=environment, pass_fds=[telling])
     os.close(telling)
     try:
-        taken = server.raw(THREE)
+        with server.connect() as client:
+            client.sendall(THREE)
+            client.shutdown(socket.SHUT_WR)
+            taken = taken_of(client)
         ended = server.ended()
     finally:
         server.process.kill()

@@ -66,36 +66,55 @@ fn each_read_fails(rt: HostRuntime) -> Result<(), Fail> {
     Ok(())
 }
 
-// The writer takes a byte a call, and fails after each count of them, by either fault.
-fn expect_broken(rt: &impl Abort, alloc: Global, rows: &str) -> Result<(), Fail> {
+// The writer takes a byte a call, and fails after each count of them.
+fn expect_broken(
+    rt: &impl Abort,
+    alloc: Global,
+    rows: &str,
+    fault: WriteFault,
+) -> Result<(), Fail> {
     let (script, replies) = script_and_replies(alloc, rows)?;
     for good in 0..replies.len() {
-        for fault in [WriteFault::Zero, WriteFault::Device] {
-            let mut registry = new_in_memory(alloc)?;
-            let mut input = FaultyInput::new(script.as_bytes(), 50);
-            let mut output = FaultyOutput::new(alloc, 1).failing_after(good as u64, fault);
-            let end = run_script(alloc, &mut registry, &mut input, &mut output, TURNS);
-            assert_eq!(rt; end, ScriptEnd::WriteFault);
-            assert_eq!(rt; output.taken.as_slice(), &replies.as_bytes()[..good]);
-        }
+        let mut registry = new_in_memory(alloc)?;
+        let mut input = FaultyInput::new(script.as_bytes(), 50);
+        let mut output = FaultyOutput::new(alloc, 1).failing_after(good as u64, fault);
+        let end = run_script(alloc, &mut registry, &mut input, &mut output, TURNS);
+        assert_eq!(rt; end, ScriptEnd::WriteFault);
+        assert_eq!(rt; output.taken.as_slice(), &replies.as_bytes()[..good]);
     }
     Ok(())
 }
 
 #[test]
 fn each_write_of_a_change_fails(rt: HostRuntime) -> Result<(), Fail> {
-    expect_broken(&rt, rt.alloc(), FIRST_NAME)?;
-    expect_broken(&rt, rt.alloc(), PARENT_FIRST)
+    expect_broken(&rt, rt.alloc(), FIRST_NAME, WriteFault::Device)?;
+    expect_broken(&rt, rt.alloc(), PARENT_FIRST, WriteFault::Device)
+}
+
+#[test]
+fn each_write_of_a_change_takes_nothing(rt: HostRuntime) -> Result<(), Fail> {
+    expect_broken(&rt, rt.alloc(), FIRST_NAME, WriteFault::Zero)?;
+    expect_broken(&rt, rt.alloc(), PARENT_FIRST, WriteFault::Zero)
 }
 
 #[test]
 fn each_write_of_an_import_fails(rt: HostRuntime) -> Result<(), Fail> {
-    expect_broken(&rt, rt.alloc(), IMPORTS)
+    expect_broken(&rt, rt.alloc(), IMPORTS, WriteFault::Device)
+}
+
+#[test]
+fn each_write_of_an_import_takes_nothing(rt: HostRuntime) -> Result<(), Fail> {
+    expect_broken(&rt, rt.alloc(), IMPORTS, WriteFault::Zero)
 }
 
 #[test]
 fn each_write_of_a_refusal_fails(rt: HostRuntime) -> Result<(), Fail> {
-    expect_broken(&rt, rt.alloc(), REFUSALS)
+    expect_broken(&rt, rt.alloc(), REFUSALS, WriteFault::Device)
+}
+
+#[test]
+fn each_write_of_a_refusal_takes_nothing(rt: HostRuntime) -> Result<(), Fail> {
+    expect_broken(&rt, rt.alloc(), REFUSALS, WriteFault::Zero)
 }
 
 // What shows that the account of the first line, the submission of the second and the approval of
