@@ -1,13 +1,9 @@
 //! `pciids`: checks and prints pci.ids files, and keeps a moderated registry of PCI IDs.
 #![tactic(auto)]
 
-mod job_end;
-mod jobs;
 mod lookups;
 mod on_files;
-mod replies;
 mod running;
-mod serving;
 
 use pid_cli_words::words_given;
 use running::run_words;

@@ -1,10 +1,8 @@
 //! The jobs of a registry in a file or in memory.
-use crate::job_end::JobEnd;
-use crate::jobs::{RegistryJob, migrate_on, work_on};
-use crate::replies::tell_unopened;
+use pid_cli_jobs::{JobEnd, RegistryJob, migrate_on, open_file, tell_unopened, work_on};
 use pid_ident::{Input, Output};
 use pid_service::TableFault;
-use sqlite::Connection;
+use sqlite::{Connection, Unknown};
 
 /// Does the job on a registry file, which is created if it does not exist. Afterwards, all that was
 /// committed is in the file or in the log next to it.
@@ -15,16 +13,16 @@ pub fn work_on_file<I: Input + Drop, O: Output, F: Output>(
     output: &mut O,
     faults: &mut F,
 ) -> JobEnd {
-    match Connection::open(rt, file) {
+    match open_file(rt, file, Unknown) {
         Ok(conn) => {
             let (end, conn) = work_on(rt, conn, job, output, faults);
             if let Some(conn) = conn {
                 // If the log cannot be copied into the file, it stays for the next opening.
-                let _ = conn.close();
+                let _ = conn.close_files();
             }
             end
         }
-        Err(error) => JobEnd::Told(tell_unopened(TableFault::from(error), faults)),
+        Err(fault) => JobEnd::Told(tell_unopened(fault, faults)),
     }
 }
 
@@ -36,15 +34,15 @@ pub fn migrate_file<O: Output, F: Output>(
     output: &mut O,
     faults: &mut F,
 ) -> JobEnd {
-    match Connection::open(rt, file) {
+    match open_file(rt, file, Unknown) {
         Ok(conn) => {
             let (end, conn) = migrate_on(rt.alloc(), conn, output, faults);
             if let Some(conn) = conn {
-                let _ = conn.close();
+                let _ = conn.close_files();
             }
             end
         }
-        Err(error) => JobEnd::Told(tell_unopened(TableFault::from(error), faults)),
+        Err(fault) => JobEnd::Told(tell_unopened(fault, faults)),
     }
 }
 

@@ -1,10 +1,7 @@
 //! The job that the arguments name, on the streams of the process.
-use crate::job_end::JobEnd;
-use crate::jobs::RegistryJob;
 use crate::lookups::{print_lookup, read_words};
 use crate::on_files::{migrate_file, work_on_file, work_on_memory};
-use crate::replies::{print_reply, tell_reply};
-use crate::serving::Port;
+use pid_cli_jobs::{JobEnd, Port, RegistryJob, print_reply, tell_reply};
 use pid_cli_words::{Counted, Job, LookupWords, Progress, job_of, tell_no_job};
 use pid_file::{TextEnd, Watched, run_check, run_tidy, tell_end, tell_failed};
 use pid_ident::{Account, Input, Key, Output, Plain, WordFault};

@@ -1,0 +1,23 @@
+use Rattle.std.proofs.Common.{ap, refl, subst}
+use Rattle.pid_service.specs.Opening.{OpensTo}
+use Rattle.pid_cli_jobs.specs.declared.job_end.JobEnd.TheVariants.{Told}
+use Rattle.pid_cli_jobs.specs.Sessions.{Session, Unopened}
+use Rattle.pid_cli_jobs.proofs.jobs.work_on.Goals as goal
+
+pub returns-in-Ok : goal.returns-in-Ok
+returns-in-Ok g c = Session (record {
+  opened = c.in-Ok.registry;
+  opens = subst (λ r. OpensTo g.S.Store c.args.conn r) c.in-Ok.is c.open.ensures.history;
+  ended = c.do_job-end.new.registry;
+  goes = c.do_job-end.ensures;
+  hands = c.handed_back.ensures;
+})
+
+pub returns-in-Err : goal.returns-in-Err
+returns-in-Err g c = Unopened (record {
+  fault = c.in-Err.fault;
+  left = c.in-Err.field-0-1;
+  opens = subst (λ r. OpensTo g.S.Store c.args.conn r) c.in-Err.is c.open.ensures.history;
+  ends = ap Told c.tell_unopened.ensures.status;
+  hands = refl;
+})

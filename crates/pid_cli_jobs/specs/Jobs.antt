@@ -1,0 +1,71 @@
+-- What each job does with a registry that is open, and how it ends by that. Choices of this project.
+use Rattle.std.specs.Prelude.{◌≡◌, false, ℕ, List, Option, IfSome, Result, Ok, Err}
+use Rattle.sqlite_trees.specs.declared.store.Store.{Ghosts}
+use Rattle.pid_file.specs.declared.io.Output as outputs
+use Rattle.pid_moderation.specs.declared.command.Reply.{Reply}
+use Rattle.pid_moderation.specs.declared.refusal.Refusal.{Refusal}
+use Rattle.pid_moderation.specs.BeforeFile.{import_of}
+use Rattle.pid_moderation.specs.History.{History}
+use Rattle.pid_script.specs.declared.moderated.Moderated as moderated
+use Rattle.pid_script.specs.declared.script_end.ScriptEnd.{ScriptEnd}
+use Rattle.pid_script.specs.declared.script_end.ScriptEnd.TheVariants as scripts
+use Rattle.pid_script.specs.EndStatus.{script_status}
+use Rattle.pid_script.specs.Scripts.{IsScript, passage}
+use Rattle.pid_script.specs.RegistryStates.{OverStanding}
+use Rattle.pid_service.specs.declared.exporting.ExportFault.{ExportFault}
+use Rattle.pid_service.specs.declared.exporting.ExportFault.TheVariants as exports
+use Rattle.pid_service.specs.declared.importing.ImportEnd.{ImportEnd}
+use Rattle.pid_service.specs.declared.importing.ImportEnd.TheVariants as imports
+use Rattle.pid_service.specs.declared.registry.Registry.{Registry}
+use Rattle.pid_service.specs.Exporting.{IsExported}
+use Rattle.pid_service.specs.Importing.{HasRead, ObeysText}
+use Rattle.pid_service.specs.Lives.{showing}
+use Rattle.pid_service.specs.Registries.{is_live}
+use Rattle.pid_cli_jobs.specs.declared.job_end.JobEnd.{JobEnd}
+use Rattle.pid_cli_jobs.specs.declared.job_end.JobEnd.TheVariants.{Told, Replied, FileFailed}
+
+-- a fault of the reader or the writer is still to be reported
+abbrev pub script_end : ScriptEnd → JobEnd
+script_end scripts.ReadFault = FileFailed
+script_end scripts.WriteFault = FileFailed
+script_end end = Told (script_status end)
+
+-- the reply is still to be printed
+abbrev pub import_end : Result Reply ImportEnd → JobEnd
+import_end (Ok reply) = Replied (Ok reply)
+import_end (Err (imports.Refused refusal)) = Replied (Err refusal)
+import_end (Err imports.Body) = FileFailed
+
+abbrev pub export_end : Result (Unit {0}) ExportFault → JobEnd
+export_end (Ok done) = Told 0
+export_end (Err (exports.Refused refusal)) = Replied (Err refusal)
+export_end (Err (exports.Write fault)) = FileFailed
+
+module _ {S : Type 0} (store : Ghosts S) where
+  -- a registry, as scripts ask it
+  abbrev pub asked : moderated.Ghosts (Registry S store)
+  asked = record { showing = showing store; has_failed = λ r. is_live r ≡ false }
+
+  -- The lines of the text were answered as a script, of which a part may not have been read.
+  pub record RunsLines (old new : Registry S store) (to_come taken taken_now : Option (List ℕ))
+      (end : JobEnd) : Type 0 where
+    pub script : ScriptEnd
+    pub ends : end ≡ script_end script
+    pub rest : Option (List ℕ)
+    pub ran : OverStanding asked old new (λ h. IfSome to_come (λ text.
+        IsScript asked script h (passage old new taken taken_now) text rest))
+
+  -- An import of what was read of the file was obeyed.
+  pub record BringsIn (old new : Registry S store) (account : List ℕ) (key : Option (List ℕ))
+      (to_come : Option (List ℕ)) (end : JobEnd) : Type 0 where
+    pub result : Result Reply ImportEnd
+    pub ends : end ≡ import_end result
+    pub rest : Option (List ℕ)
+    pub obeyed : HasRead result to_come rest (ObeysText store old new result (import_of account key))
+
+  -- The canonical text of the registry went to the writer, or a part of it before a fault.
+  pub record PrintsAll {W : Type 0} (writer : outputs.Ghosts W) (old new : Registry S store)
+      (before after : W) (end : JobEnd) : Type 0 where
+    pub result : Result (Unit {0}) ExportFault
+    pub ends : end ≡ export_end result
+    pub exported : IsExported store writer old new before after result

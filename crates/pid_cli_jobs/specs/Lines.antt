@@ -1,0 +1,80 @@
+-- The lines that a job prints, and the status with which it ends: choices of this project.
+use Rattle.std.specs.Prelude.{◌≡◌, ℕ, List, ◌++◌, codes, decimal, Option, Result, Ok, Err}
+use Rattle.std.specs.Io.KnownBytes.{Appends}
+use Rattle.pid_file.specs.Sending.{SendsFront}
+use Rattle.pid_lookup.specs.declared.answer.Answer.{Answer}
+use Rattle.pid_lookup.specs.declared.answer.Answer.TheVariants as answers
+use Rattle.pid_lookup.specs.declared.answering.LookupRefusal.{LookupRefusal}
+use Rattle.pid_lookup.specs.declared.answering.LookupRefusal.TheVariants as look_ups
+use Rattle.pid_lookup.specs.declared.unanswered.Unanswered.TheVariants as unanswered
+use Rattle.pid_lookup.specs.Unanswered.{unanswered_line}
+use Rattle.pid_moderation.specs.declared.command.Reply.{Reply}
+use Rattle.pid_moderation.specs.declared.refusal.Refusal.{Refusal}
+use Rattle.pid_moderation.specs.declared.refusal.Refusal.TheVariants as refusals
+use Rattle.pid_tables.specs.declared.migration.Step.{Step}
+use Rattle.pid_tables.specs.declared.migration.Step.TheVariants.{Created, Moved, Already}
+use Rattle.pid_tables_rows.specs.declared.fault.TableFault.{TableFault}
+use Rattle.pid_tables_rows.specs.declared.fault.TableFault.TheVariants as faults
+use Rattle.pid_cli_jobs.specs.declared.job_end.JobEnd.{JobEnd}
+use Rattle.pid_cli_jobs.specs.declared.job_end.JobEnd.TheVariants.{Told, Replied, FileFailed}
+
+-- the status after the reply to a command: 0 if it was accepted, 3 if memory, the store or the
+-- registry failed, else 1
+abbrev pub refused_status : Refusal → ℕ
+refused_status refusals.Memory = 3
+refused_status refusals.Store = 3
+refused_status refusals.Failed = 3
+refused_status refusal = 1
+
+abbrev pub reply_status : Result Reply Refusal → ℕ
+reply_status (Ok reply) = 0
+reply_status (Err refusal) = refused_status refusal
+
+-- the line of an answer to a look-up, and the status after it
+abbrev pub answer_line : Answer → List ℕ
+answer_line (answers.Text text) = codes "text " ++ text ++ codes "\n"
+answer_line answers.NoAnswer = unanswered_line unanswered.NoAnswer
+
+abbrev pub answer_status : Answer → ℕ
+answer_status (answers.Text text) = 0
+answer_status answers.NoAnswer = 1
+
+-- the line of what a migration did
+abbrev pub step_line : Step → List ℕ
+step_line Created = codes "created schema 2\n"
+step_line Moved = codes "moved to schema 2\n"
+step_line Already = codes "schema 2 already\n"
+
+-- the line of why a registry was not opened; after a newer schema comes its number
+abbrev pub unopened_word : TableFault → List ℕ
+unopened_word faults.Memory = codes "open: Memory\n"
+unopened_word faults.Store = codes "open: Store\n"
+unopened_word faults.Damaged = codes "open: Damaged\n"
+unopened_word (faults.NewerSchema schema) = codes "open: NewerSchema "
+
+abbrev pub unopened_line : TableFault → List ℕ
+unopened_line (faults.NewerSchema schema) = unopened_word (faults.NewerSchema schema)
+    ++ decimal schema ++ codes "\n"
+unopened_line fault = unopened_word fault
+
+-- a word and a count
+abbrev pub count_line : List ℕ → ℕ → List ℕ
+count_line word count = word ++ decimal count ++ codes "\n"
+
+-- A job that prints this line and then ends with this status: the writer took the whole line, or it
+-- failed after a prefix of it.
+abbrev pub PrintsLine : JobEnd → Option (List ℕ) → Option (List ℕ) → List ℕ → ℕ → Type 0
+PrintsLine (Told status) old new line wanted = (status ≡ wanted) × Appends old new line
+PrintsLine FileFailed old new line wanted = SendsFront old new line
+PrintsLine (Replied reply) old new line wanted = ⊥
+
+-- What becomes of the answer to a look-up, or of its refusal: its line, and the status after it.
+-- Out of memory nothing is printed.
+abbrev pub PrintsAnswer : {X : Type 0} → Result Answer (LookupRefusal X) → JobEnd
+    → Option (List ℕ) → Option (List ℕ) → Type 0
+PrintsAnswer (Ok answer) end old new = PrintsLine end old new (answer_line answer)
+    (answer_status answer)
+PrintsAnswer (Err look_ups.BadFlags) end old new = PrintsLine end old new
+    (unanswered_line unanswered.BadFlags) 1
+PrintsAnswer (Err look_ups.Memory) end old new = (end ≡ Told 3) × (new ≡ old)
+PrintsAnswer (Err (look_ups.Names fault)) end old new = (end ≡ Told 3) × (new ≡ old)

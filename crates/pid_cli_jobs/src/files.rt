@@ -1,0 +1,25 @@
+//! The files of a database.
+ghost use Rattle.std.specs.Prelude.{IfOk};
+ghost use Rattle.sqlite_wal.specs.Files.{image_at};
+ghost use Rattle.pid_cli_jobs.specs.Files.{OpensFiles};
+
+use pid_service::TableFault;
+use sqlite::{Connection, FileStore};
+use sqlite_disk::Start;
+use sqlite_std_file::FileFrom;
+
+/// Opens the database file at a path, which is created if it does not exist. `start` stands for
+/// what the files hold, and says how a crash is read (`Unknown`: a torn write leaves each byte old
+/// or new; `Wary`: it may leave anything).
+pub fn open_file<S: Start>(
+    rt: &HostRuntime,
+    path: &str,
+    start: S,
+) -> Result<Connection<FileStore<FileFrom<S>>>, TableFault>
+    ensures { IfOk result (λ conn. OpensFiles (image_at S.Start) conn) }
+{
+    match Connection::open_from(rt, path, false, start) {
+        Ok(conn) => Ok(conn),
+        Err((error, _)) => Err(TableFault::from(error)),
+    }
+}

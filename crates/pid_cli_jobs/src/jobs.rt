@@ -1,0 +1,149 @@
+//! The jobs of a registry, on any store. Each returns the connection if the registry is live.
+ghost use Rattle.std.specs.Prelude.{◌≡◌};
+ghost use Rattle.pid_cli_jobs.specs.Jobs.{BringsIn, PrintsAll, RunsLines};
+ghost use Rattle.pid_cli_jobs.specs.Sessions.{GoesOn, Migrates, WorksOn, handed_back as back_of};
+
+use crate::job_end::JobEnd;
+use crate::replies::{print_step, tell_unopened};
+use crate::serving::{Port, serve_registry};
+use pid_ident::{Account, Input, Key, Output};
+use pid_script::{ScriptEnd, run_script};
+use pid_service::{ExportFault, ImportEnd, Registry, migrate, open};
+use sqlite::{Alter, Connection};
+use std::alloc::Global;
+
+/// The number of reads that a script may use.
+const TURNS: u64 = 10_000_000;
+
+/// A job of a registry, with its input.
+#[derive(Drop)]
+pub enum RegistryJob<I> {
+    Script(I),
+    Import {
+        account: Account,
+        key: Option<Key>,
+        input: I,
+    },
+    Export,
+    Serve(Port),
+}
+
+// Answers the lines of a script.
+fn run_lines<S: Alter + Drop, I: Input + Drop, O: Output>(
+    alloc: Global,
+    registry: &mut Registry<S>,
+    mut input: I,
+    output: &mut O,
+) -> JobEnd
+    ensures goes { GoesOn S.Store registry.old registry.new }
+    ensures ran { RunsLines S.Store registry.old registry.new
+        (I.to_come input) (O.taken output.old) (O.taken output.new) result }
+{
+    match run_script(alloc, registry, &mut input, output, TURNS) {
+        ScriptEnd::ReadFault | ScriptEnd::WriteFault => JobEnd::FileFailed,
+        end => JobEnd::Told(end.status()),
+    }
+}
+
+// Imports a file.
+fn bring_in<S: Alter + Drop, I: Input + Drop>(
+    registry: &mut Registry<S>,
+    account: Account,
+    key: Option<Key>,
+    mut input: I,
+) -> JobEnd
+    ensures goes { GoesOn S.Store registry.old registry.new }
+    ensures imported { BringsIn S.Store registry.old registry.new account key (I.to_come input) result }
+{
+    pid_service::laws::clauses_meet_lives::<S>(); // proof only
+    match registry.import_from(account, key, &mut input) {
+        Ok(reply) => JobEnd::Replied(Ok(reply)),
+        Err(ImportEnd::Refused(refusal)) => JobEnd::Replied(Err(refusal)),
+        Err(ImportEnd::Body) => JobEnd::FileFailed,
+    }
+}
+
+// Prints the canonical text.
+fn print_all<S: Alter + Drop, O: Output>(registry: &mut Registry<S>, output: &mut O) -> JobEnd
+    ensures goes { GoesOn S.Store registry.old registry.new }
+    ensures printed { PrintsAll S.Store O.Output registry.old registry.new output.old output.new
+        result }
+{
+    pid_service::laws::clauses_meet_lives::<S>(); // proof only
+    match registry.export(output) {
+        Ok(()) => JobEnd::Told(0),
+        Err(ExportFault::Refused(refusal)) => JobEnd::Replied(Err(refusal)),
+        Err(ExportFault::Write(_)) => JobEnd::FileFailed,
+    }
+}
+
+fn do_job<S: Alter + Drop, I: Input + Drop, O: Output, F: Output>(
+    rt: &HostRuntime,
+    registry: &mut Registry<S>,
+    job: RegistryJob<I>,
+    output: &mut O,
+    faults: &mut F,
+) -> JobEnd
+    ensures { GoesOn S.Store registry.old registry.new }
+{
+    match job {
+        RegistryJob::Script(input) => run_lines(rt.alloc(), registry, input, output),
+        RegistryJob::Import {
+            account,
+            key,
+            input,
+        } => bring_in(registry, account, key, input),
+        RegistryJob::Export => print_all(registry, output),
+        RegistryJob::Serve(port) => serve_registry(rt, registry, port, output, faults),
+    }
+}
+
+// The connection of a registry that has not failed.
+fn handed_back<S: Alter + Drop>(registry: Registry<S>) -> Option<Connection<S>>
+    ensures { result ≡ back_of S.Store registry }
+{
+    if registry.is_live() {
+        Some(registry.close())
+    } else {
+        None
+    }
+}
+
+/// Opens or creates the registry of a connection, and does the job.
+///
+/// It is a session of the registry: what `pid_service::reopened_registries_show_prefixes` says of
+/// calls between an opening and an end holds of it. Where the registry is not opened, `faults` gets
+/// the reason (`open: Store`), and the exit status is 3.
+pub fn work_on<S: Alter + Drop, I: Input + Drop, O: Output, F: Output>(
+    rt: &HostRuntime,
+    conn: Connection<S>,
+    job: RegistryJob<I>,
+    output: &mut O,
+    faults: &mut F,
+) -> (JobEnd, Option<Connection<S>>)
+    ensures { WorksOn S.Store conn result.0 result.1 }
+{
+    match open(rt.alloc(), conn) {
+        Ok(registry) => {
+            let mut registry = registry;
+            let end = do_job(rt, &mut registry, job, output, faults);
+            (end, handed_back(registry))
+        }
+        Err((fault, _)) => (JobEnd::Told(tell_unopened(fault, faults)), None),
+    }
+}
+
+/// Moves the tables of a connection to the newest schema; opens no registry. Prints what was done.
+pub fn migrate_on<S: Alter + Drop, O: Output, F: Output>(
+    alloc: Global,
+    conn: Connection<S>,
+    output: &mut O,
+    faults: &mut F,
+) -> (JobEnd, Option<Connection<S>>)
+    ensures { Migrates S.Store conn result.0 result.1 }
+{
+    match migrate(alloc, conn) {
+        Ok((conn, step)) => (print_step(step, output), Some(conn)),
+        Err((fault, _)) => (JobEnd::Told(tell_unopened(fault, faults)), None),
+    }
+}

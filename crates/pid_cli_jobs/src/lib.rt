@@ -1,0 +1,16 @@
+//! The jobs of a registry, over any store, any input and any output: sessions from opening to end,
+//! and the lines and the statuses with which they end.
+#![tactic(auto)]
+
+mod files;
+mod job_end;
+mod jobs;
+pub mod laws;
+mod replies;
+mod serving;
+
+pub use files::open_file;
+pub use job_end::JobEnd;
+pub use jobs::{RegistryJob, migrate_on, work_on};
+pub use replies::{print_answer, print_reply, tell_reply, tell_unopened};
+pub use serving::Port;

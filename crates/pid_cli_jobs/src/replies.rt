@@ -1,0 +1,174 @@
+//! The lines that jobs print.
+ghost use Rattle.std.specs.Prelude.{◌≡◌, ℕ, List, Option};
+ghost use Rattle.pid_file.specs.Sending.{Sends};
+ghost use Rattle.pid_file.specs.Told.{TriesLine};
+ghost use Rattle.pid_moderation.specs.ReplyLines.{outcome_line};
+ghost use Rattle.pid_cli_jobs.specs.Lines.{
+  PrintsAnswer,
+  PrintsLine,
+  answer_line,
+  answer_status,
+  count_line,
+  reply_status,
+  step_line,
+  unopened_line,
+  unopened_word,
+};
+
+use crate::job_end::JobEnd;
+use itoa::Buffer;
+use pid_file::{FAILED, TextEnd, tell_end};
+use pid_ident::{Output, WriteFault, write_all, write_parts};
+use pid_lookup::{Answer, LookupRefusal, Unanswered};
+use pid_moderation::{Refusal, Reply, write_reply_line};
+use pid_service::{Step, TableFault};
+use std::alloc::AllocError;
+
+/// The exit status if a command or a lookup is refused.
+const REFUSED: u8 = 1;
+
+fn status_of(reply: Result<Reply, Refusal>) -> u8
+    ensures { result ≡ reply_status reply }
+{
+    match reply {
+        Ok(_) => 0,
+        Err(Refusal::Memory | Refusal::Store | Refusal::Failed) => FAILED,
+        Err(_) => REFUSED,
+    }
+}
+
+/// Prints the reply to a command, for which no memory is taken. The exit status is 0 if it was
+/// accepted, 3 if memory or the store failed, else 1.
+pub fn print_reply<O: Output>(reply: Result<Reply, Refusal>, output: &mut O) -> JobEnd
+    ensures { PrintsLine result (O.taken output.old) (O.taken output.new) (outcome_line reply)
+        (reply_status reply) }
+{
+    match write_reply_line(output, reply) {
+        Ok(()) => JobEnd::Told(status_of(reply)),
+        Err(_) => JobEnd::FileFailed,
+    }
+}
+
+/// Reports the refusal of a job whose output is not a reply line, which is an export. Returns the
+/// exit status of a failure.
+pub fn tell_reply<F: Output>(reply: Result<Reply, Refusal>, faults: &mut F) -> u8
+    ensures status { result ≡ FAILED }
+    ensures told { TriesLine (F.taken faults.old) (F.taken faults.new) (outcome_line reply) }
+{
+    let _ = write_reply_line(faults, reply);
+    FAILED
+}
+
+// Ends with the status if the line went out.
+fn ends_with(printed: Result<(), WriteFault>, status: u8) -> JobEnd
+    ensures { (old now : Option (List ℕ)) (line : List ℕ) → Sends printed old now line
+        → PrintsLine result old now line status }
+{
+    match printed {
+        Ok(()) => JobEnd::Told(status),
+        Err(_) => JobEnd::FileFailed,
+    }
+}
+
+fn write_answer<O: Output>(answer: &Answer, output: &mut O) -> Result<(), WriteFault>
+    ensures { Sends result (O.taken output.old) (O.taken output.new) (answer_line answer.now) }
+{
+    match answer {
+        Answer::Text(text) => write_parts(output, &[b"text ", text.as_bytes(), b"\n"]),
+        Answer::NoAnswer => write_all(output, Unanswered::NoAnswer.line().as_bytes()),
+    }
+}
+
+fn status_of_answer(answer: &Answer) -> u8
+    ensures { result ≡ answer_status answer.now }
+{
+    match answer {
+        Answer::Text(_) => 0,
+        Answer::NoAnswer => REFUSED,
+    }
+}
+
+/// Prints the answer to a lookup, as a script does. The exit status is 0 for a text, else 1; out of
+/// memory is reported to `faults`, with status 3.
+pub fn print_answer<O: Output, F: Output>(
+    found: Result<Answer, LookupRefusal<AllocError>>,
+    output: &mut O,
+    faults: &mut F,
+) -> JobEnd
+    ensures { PrintsAnswer found result (O.taken output.old) (O.taken output.new) }
+{
+    match found {
+        Ok(answer) => {
+            let printed = write_answer(&answer, output);
+            ends_with(printed, status_of_answer(&answer))
+        }
+        Err(LookupRefusal::BadFlags) => {
+            let printed = write_all(output, Unanswered::BadFlags.line().as_bytes());
+            ends_with(printed, REFUSED)
+        }
+        Err(LookupRefusal::Memory | LookupRefusal::Names(_)) => {
+            JobEnd::Told(tell_end(TextEnd::Memory, faults))
+        }
+    }
+}
+
+fn step_text(step: Step) -> &'static str
+    ensures { result.now ≡ step_line step }
+{
+    match step {
+        Step::Created => "created schema 2\n",
+        Step::Moved => "moved to schema 2\n",
+        Step::Already => "schema 2 already\n",
+    }
+}
+
+/// Prints what a migration did, with exit status 0.
+pub fn print_step<O: Output>(step: Step, output: &mut O) -> JobEnd
+    ensures { PrintsLine result (O.taken output.old) (O.taken output.new) (step_line step) 0 }
+{
+    let printed = write_all(output, step_text(step).as_bytes());
+    ends_with(printed, 0)
+}
+
+fn unopened_reason(fault: TableFault) -> &'static str
+    ensures { result.now ≡ unopened_word fault }
+{
+    match fault {
+        TableFault::Memory => "open: Memory\n",
+        TableFault::Store => "open: Store\n",
+        TableFault::Damaged => "open: Damaged\n",
+        TableFault::NewerSchema(_) => "open: NewerSchema ",
+    }
+}
+
+fn write_unopened<F: Output>(fault: TableFault, faults: &mut F) -> Result<(), WriteFault>
+    ensures { Sends result (F.taken faults.old) (F.taken faults.new) (unopened_line fault) }
+{
+    let reason = unopened_reason(fault).as_bytes();
+    match fault {
+        TableFault::Memory | TableFault::Store | TableFault::Damaged => write_all(faults, reason),
+        TableFault::NewerSchema(schema) => {
+            let mut digits = Buffer::new();
+            let schema = digits.format(schema).as_bytes();
+            write_parts(faults, &[reason, schema, b"\n"])
+        }
+    }
+}
+
+/// Reports why a registry was not opened, and returns the exit status.
+pub fn tell_unopened<F: Output>(fault: TableFault, faults: &mut F) -> u8
+    ensures status { result ≡ FAILED }
+    ensures told { TriesLine (F.taken faults.old) (F.taken faults.new) (unopened_line fault) }
+{
+    let _ = write_unopened(fault, faults);
+    FAILED
+}
+
+/// Prints a word and a count, as a line.
+pub fn write_count<O: Output>(word: &str, count: u64, output: &mut O) -> Result<(), WriteFault>
+    ensures { Sends result (O.taken output.old) (O.taken output.new) (count_line word.now count) }
+{
+    let mut digits = Buffer::new();
+    let count = digits.format(count).as_bytes();
+    write_parts(output, &[word.as_bytes(), count, b"\n"])
+}

@@ -1,0 +1,139 @@
+//! Serving a registry over HTTP to clients on this machine.
+ghost use Rattle.std.specs.Prelude.{◌≡◌};
+ghost use Rattle.pid_http.specs.Known.{LivesOn};
+ghost use Rattle.pid_cli_jobs.specs.Serving.{IsLoopback};
+ghost use Rattle.pid_cli_jobs.specs.Sessions.{GoesOn};
+
+use crate::job_end::JobEnd;
+use crate::replies::write_count;
+use pid_file::{FAILED, TextEnd, tell_end};
+use pid_http::{Routes, serve_with};
+use pid_http_listener::{Serving, ServingEnd, StreamServer, serve_on};
+use pid_http_stream::Served;
+use pid_ident::{Input, Output, WriteFault, write_all};
+use pid_service::Registry;
+use sqlite::Alter;
+use std::alloc::Global;
+use std::net::{IpAddr, Ipv4Addr, SocketAddr, TcpListener};
+
+/// The port that clients connect to, and the number of connections to serve, one after the other.
+#[derive(Clone, Copy, Debug)]
+pub struct Port {
+    pub number: u16,
+    pub connections: u32,
+}
+
+// A registry that answers the requests of one stream after the other.
+#[derive(Drop)]
+struct Server<'r, 't, S: Alter + Drop> {
+    alloc: Global,
+    registry: &'r mut Registry<S>,
+    routes: &'t Routes,
+}
+
+impl<S: Alter + Drop> StreamServer for Server<'_, '_, S> {
+    ghost use Rattle.std.specs.Prelude.{◌≡◌, refl};
+    ghost use Rattle.pid_http.specs.Known.{LivesOn};
+    ghost use Rattle.pid_http.specs.Steps.Going.{lives_further, lives_still};
+    ghost use Rattle.pid_http.specs.Steps.Handling.{same_on};
+    ghost use Rattle.pid_service.specs.Registries.{is_live};
+
+    ghost live = { λ server. is_live server.registry.now };
+
+    ghost goes = { λ a b. (b.registry.ghost_name ≡ a.registry.ghost_name)
+        × LivesOn S.Store a.registry.now b.registry.now };
+
+    ghost stays = { λ a. (refl, lives_still a.registry.now) };
+
+    ghost joins = { λ a b c p q. (
+      same_on a.registry.ghost_name b.registry.ghost_name c.registry.ghost_name p.0 q.0,
+      lives_further a.registry.now b.registry.now c.registry.now p.1 q.1,
+    ) };
+
+    fn is_live(&self) -> bool {
+        self.registry.is_live()
+    }
+
+    fn serve<I: Input, O: Output>(&mut self, input: &mut I, output: &mut O, turns: u64) -> Served {
+        serve_with(self.alloc, self.routes, self.registry, input, output, turns)
+    }
+}
+
+fn tell_socket<F: Output>(faults: &mut F) -> JobEnd
+    ensures { result ≡ JobEnd.Told FAILED }
+{
+    let _ = write_all(faults, b"socket: failed\n");
+    JobEnd::Told(FAILED)
+}
+
+// Reports the number of streams that were started, and how the serving ended.
+fn report<O: Output, F: Output>(serving: Serving, output: &mut O, faults: &mut F) -> JobEnd {
+    let printed = write_count("served ", u64::from(serving.streams), output);
+    match (serving.end, printed) {
+        (ServingEnd::AcceptFault, _) => tell_socket(faults),
+        (_, Err(_)) => JobEnd::FileFailed,
+        (ServingEnd::NotLive, Ok(())) => JobEnd::Told(FAILED),
+        (ServingEnd::All, Ok(())) => JobEnd::Told(0),
+    }
+}
+
+// Serves so many connections of a listener.
+fn serve_listener<S: Alter + Drop>(
+    alloc: Global,
+    registry: &mut Registry<S>,
+    routes: &Routes,
+    listener: &TcpListener,
+    connections: u32,
+) -> Serving
+    ensures { LivesOn S.Store registry.old registry.new }
+{
+    let mut server = Server {
+        alloc,
+        registry,
+        routes,
+    };
+    serve_on(alloc, listener, &mut server, connections)
+}
+
+// The address of a port for clients on this machine, and for no others.
+fn address_of(port: u16) -> SocketAddr
+    ensures { IsLoopback result port }
+{
+    SocketAddr::new(IpAddr::V4(Ipv4Addr::new(127, 0, 0, 1)), port)
+}
+
+/// Listens on a port of this machine and serves a registry to so many connections, one at a time.
+///
+/// Prints where it listens before it accepts the first connection, and the number of streams that
+/// were started at the end. The exit status is 0 if all connections were served and the registry is
+/// live, else 3.
+pub fn serve_registry<S: Alter + Drop, O: Output, F: Output>(
+    rt: &HostRuntime,
+    registry: &mut Registry<S>,
+    port: Port,
+    output: &mut O,
+    faults: &mut F,
+) -> JobEnd
+    ensures { GoesOn S.Store registry.old registry.new }
+{
+    let Ok(listener) = TcpListener::bind(rt, address_of(port.number)) else {
+        return tell_socket(faults);
+    };
+    let Ok(routes) = Routes::new(rt.alloc()) else {
+        return JobEnd::Told(tell_end(TextEnd::Memory, faults));
+    };
+    let number = u64::from(port.number);
+    match write_count("listening on 127.0.0.1:", number, output) {
+        Ok(()) => {
+            let serving = serve_listener(
+                rt.alloc(),
+                registry,
+                &routes,
+                &listener,
+                port.connections,
+            );
+            report(serving, output, faults)
+        }
+        Err(_) => JobEnd::FileFailed,
+    }
+}
