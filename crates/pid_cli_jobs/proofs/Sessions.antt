@@ -10,22 +10,22 @@ use Rattle.pid_script.specs.declared.script_end.ScriptEnd.{ScriptEnd}
 use Rattle.pid_script.specs.declared.script_end.ScriptEnd.TheVariants as scripts
 use Rattle.pid_script.specs.EndStatus.{script_status}
 use Rattle.pid_cli_jobs.specs.declared.job_end.JobEnd.TheVariants.{Told, FileFailed}
-use Rattle.pid_cli_jobs.specs.Jobs.{script_end}
-use Rattle.pid_cli_jobs.specs.Sessions.{GoesOn}
+use Rattle.pid_cli_jobs.specs.Steps.Jobs.{end_of_script}
+use Rattle.pid_cli_jobs.specs.Sessions.{IsPartOfSession}
 
 -- a single call is a part of a session
 pub one_call : {S : Type 0} (store : Ghosts S) (old new : Registry S store) (call : Call)
-    → Does (showing store) old call new → GoesOn store old new
+    → Does (showing store) old call new → IsPartOfSession store old new
 one_call store old new call does = record { calls = call ∷ []; lead = (new, does, refl) }
 
 -- how a script ends a job
 pub file_ended : (end : ScriptEnd) → (end ≡ scripts.ReadFault) ⊎ (end ≡ scripts.WriteFault)
-    → FileFailed ≡ script_end end
-file_ended end (inl is) = sym (ap script_end is)
-file_ended end (inr is) = sym (ap script_end is)
+    → FileFailed ≡ end_of_script end
+file_ended end (inl is) = sym (ap end_of_script is)
+file_ended end (inr is) = sym (ap end_of_script is)
 
 pub status_ended : (end : ScriptEnd) → (end ≡ scripts.ReadFault → ⊥)
-    → (end ≡ scripts.WriteFault → ⊥) → Told (script_status end) ≡ script_end end
+    → (end ≡ scripts.WriteFault → ⊥) → Told (script_status end) ≡ end_of_script end
 status_ended scripts.Done read write = refl
 status_ended scripts.ReadFault read write = absurd (read refl)
 status_ended scripts.WriteFault read write = absurd (write refl)

@@ -1,5 +1,5 @@
 pub mod Lines
 pub mod Sessions
-pub mod Jobs
 pub mod Serving
 pub mod Files
+pub mod Steps

@@ -31,13 +31,13 @@ reply_status (Ok reply) = 0
 reply_status (Err refusal) = refused_status refusal
 
 -- the line of an answer to a look-up, and the status after it
-abbrev pub answer_line : Answer → List ℕ
-answer_line (answers.Text text) = codes "text " ++ text ++ codes "\n"
-answer_line answers.NoAnswer = unanswered_line unanswered.NoAnswer
+abbrev pub lookup_line : Answer → List ℕ
+lookup_line (answers.Text text) = codes "text " ++ text ++ codes "\n"
+lookup_line answers.NoAnswer = unanswered_line unanswered.NoAnswer
 
-abbrev pub answer_status : Answer → ℕ
-answer_status (answers.Text text) = 0
-answer_status answers.NoAnswer = 1
+abbrev pub lookup_status : Answer → ℕ
+lookup_status (answers.Text text) = 0
+lookup_status answers.NoAnswer = 1
 
 -- the line of what a migration did
 abbrev pub step_line : Step → List ℕ
@@ -72,8 +72,8 @@ PrintsLine (Replied reply) old new line wanted = ⊥
 -- Out of memory nothing is printed.
 abbrev pub PrintsAnswer : {X : Type 0} → Result Answer (LookupRefusal X) → JobEnd
     → Option (List ℕ) → Option (List ℕ) → Type 0
-PrintsAnswer (Ok answer) end old new = PrintsLine end old new (answer_line answer)
-    (answer_status answer)
+PrintsAnswer (Ok answer) end old new = PrintsLine end old new (lookup_line answer)
+    (lookup_status answer)
 PrintsAnswer (Err look_ups.BadFlags) end old new = PrintsLine end old new
     (unanswered_line unanswered.BadFlags) 1
 PrintsAnswer (Err look_ups.Memory) end old new = (end ≡ Told 3) × (new ≡ old)

@@ -15,7 +15,7 @@ use Rattle.pid_cli_jobs.specs.declared.job_end.JobEnd.TheVariants.{Told}
 
 module _ {S : Type 0} (store : Ghosts S) where
   -- calls in turn lead from the one registry to the other, and each does what its contract says
-  pub record GoesOn (old new : Registry S store) : Type 0 where
+  pub record IsPartOfSession (old new : Registry S store) : Type 0 where
     pub calls : List Call
     pub lead : CallsLead (showing store) old calls new
 
@@ -29,7 +29,7 @@ module _ {S : Type 0} (store : Ghosts S) where
     pub opened : Registry S store
     pub opens : OpensTo store conn (Ok opened)
     pub ended : Registry S store
-    pub goes : GoesOn opened ended
+    pub goes : IsPartOfSession opened ended
     pub hands : back ≡ handed_back ended
 
   -- No registry was opened. Nothing came back, and the job ended with status 3.

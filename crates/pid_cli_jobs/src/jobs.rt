@@ -1,7 +1,7 @@
 //! The jobs of a registry, on any store. Each returns the connection if the registry is live.
 ghost use Rattle.std.specs.Prelude.{◌≡◌};
-ghost use Rattle.pid_cli_jobs.specs.Jobs.{BringsIn, PrintsAll, RunsLines};
-ghost use Rattle.pid_cli_jobs.specs.Sessions.{GoesOn, Migrates, WorksOn, handed_back as back_of};
+ghost use Rattle.pid_cli_jobs.specs.Steps.Jobs.{BringsIn, PrintsAll, RunsLines};
+ghost use Rattle.pid_cli_jobs.specs.Sessions.{IsPartOfSession, Migrates, WorksOn, handed_back as back_of};
 
 use crate::job_end::JobEnd;
 use crate::replies::{print_step, tell_unopened};
@@ -35,7 +35,7 @@ fn run_lines<S: Alter + Drop, I: Input + Drop, O: Output>(
     mut input: I,
     output: &mut O,
 ) -> JobEnd
-    ensures goes { GoesOn S.Store registry.old registry.new }
+    ensures goes { IsPartOfSession S.Store registry.old registry.new }
     ensures ran { RunsLines S.Store registry.old registry.new
         (I.to_come input) (O.taken output.old) (O.taken output.new) result }
 {
@@ -52,7 +52,7 @@ fn bring_in<S: Alter + Drop, I: Input + Drop>(
     key: Option<Key>,
     mut input: I,
 ) -> JobEnd
-    ensures goes { GoesOn S.Store registry.old registry.new }
+    ensures goes { IsPartOfSession S.Store registry.old registry.new }
     ensures imported { BringsIn S.Store registry.old registry.new account key (I.to_come input) result }
 {
     pid_service::laws::clauses_meet_lives::<S>(); // proof only
@@ -65,7 +65,7 @@ fn bring_in<S: Alter + Drop, I: Input + Drop>(
 
 // Prints the canonical text.
 fn print_all<S: Alter + Drop, O: Output>(registry: &mut Registry<S>, output: &mut O) -> JobEnd
-    ensures goes { GoesOn S.Store registry.old registry.new }
+    ensures goes { IsPartOfSession S.Store registry.old registry.new }
     ensures printed { PrintsAll S.Store O.Output registry.old registry.new output.old output.new
         result }
 {
@@ -84,7 +84,7 @@ fn do_job<S: Alter + Drop, I: Input + Drop, O: Output, F: Output>(
     output: &mut O,
     faults: &mut F,
 ) -> JobEnd
-    ensures { GoesOn S.Store registry.old registry.new }
+    ensures { IsPartOfSession S.Store registry.old registry.new }
 {
     match job {
         RegistryJob::Script(input) => run_lines(rt.alloc(), registry, input, output),

@@ -6,8 +6,8 @@ ghost use Rattle.pid_moderation.specs.ReplyLines.{outcome_line};
 ghost use Rattle.pid_cli_jobs.specs.Lines.{
   PrintsAnswer,
   PrintsLine,
-  answer_line,
-  answer_status,
+  lookup_line,
+  lookup_status,
   count_line,
   reply_status,
   step_line,
@@ -71,7 +71,7 @@ fn ends_with(printed: Result<(), WriteFault>, status: u8) -> JobEnd
 }
 
 fn write_answer<O: Output>(answer: &Answer, output: &mut O) -> Result<(), WriteFault>
-    ensures { Sends result (O.taken output.old) (O.taken output.new) (answer_line answer.now) }
+    ensures { Sends result (O.taken output.old) (O.taken output.new) (lookup_line answer.now) }
 {
     match answer {
         Answer::Text(text) => write_parts(output, &[b"text ", text.as_bytes(), b"\n"]),
@@ -80,7 +80,7 @@ fn write_answer<O: Output>(answer: &Answer, output: &mut O) -> Result<(), WriteF
 }
 
 fn status_of_answer(answer: &Answer) -> u8
-    ensures { result ≡ answer_status answer.now }
+    ensures { result ≡ lookup_status answer.now }
 {
     match answer {
         Answer::Text(_) => 0,

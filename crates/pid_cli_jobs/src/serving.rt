@@ -2,7 +2,7 @@
 ghost use Rattle.std.specs.Prelude.{◌≡◌};
 ghost use Rattle.pid_http.specs.Known.{LivesOn};
 ghost use Rattle.pid_cli_jobs.specs.Serving.{IsLoopback};
-ghost use Rattle.pid_cli_jobs.specs.Sessions.{GoesOn};
+ghost use Rattle.pid_cli_jobs.specs.Sessions.{IsPartOfSession};
 
 use crate::job_end::JobEnd;
 use crate::replies::write_count;
@@ -114,7 +114,7 @@ pub fn serve_registry<S: Alter + Drop, O: Output, F: Output>(
     output: &mut O,
     faults: &mut F,
 ) -> JobEnd
-    ensures { GoesOn S.Store registry.old registry.new }
+    ensures { IsPartOfSession S.Store registry.old registry.new }
 {
     let Ok(listener) = TcpListener::bind(rt, address_of(port.number)) else {
         return tell_socket(faults);

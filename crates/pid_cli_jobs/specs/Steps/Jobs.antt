@@ -25,41 +25,41 @@ use Rattle.pid_cli_jobs.specs.declared.job_end.JobEnd.{JobEnd}
 use Rattle.pid_cli_jobs.specs.declared.job_end.JobEnd.TheVariants.{Told, Replied, FileFailed}
 
 -- a fault of the reader or the writer is still to be reported
-abbrev pub script_end : ScriptEnd → JobEnd
-script_end scripts.ReadFault = FileFailed
-script_end scripts.WriteFault = FileFailed
-script_end end = Told (script_status end)
+abbrev pub end_of_script : ScriptEnd → JobEnd
+end_of_script scripts.ReadFault = FileFailed
+end_of_script scripts.WriteFault = FileFailed
+end_of_script end = Told (script_status end)
 
 -- the reply is still to be printed
-abbrev pub import_end : Result Reply ImportEnd → JobEnd
-import_end (Ok reply) = Replied (Ok reply)
-import_end (Err (imports.Refused refusal)) = Replied (Err refusal)
-import_end (Err imports.Body) = FileFailed
+abbrev pub end_of_import : Result Reply ImportEnd → JobEnd
+end_of_import (Ok reply) = Replied (Ok reply)
+end_of_import (Err (imports.Refused refusal)) = Replied (Err refusal)
+end_of_import (Err imports.Body) = FileFailed
 
-abbrev pub export_end : Result (Unit {0}) ExportFault → JobEnd
-export_end (Ok done) = Told 0
-export_end (Err (exports.Refused refusal)) = Replied (Err refusal)
-export_end (Err (exports.Write fault)) = FileFailed
+abbrev pub end_of_export : Result (Unit {0}) ExportFault → JobEnd
+end_of_export (Ok done) = Told 0
+end_of_export (Err (exports.Refused refusal)) = Replied (Err refusal)
+end_of_export (Err (exports.Write fault)) = FileFailed
 
 module _ {S : Type 0} (store : Ghosts S) where
   -- a registry, as scripts ask it
-  abbrev pub asked : moderated.Ghosts (Registry S store)
-  asked = record { showing = showing store; has_failed = λ r. is_live r ≡ false }
+  abbrev pub as_moderated : moderated.Ghosts (Registry S store)
+  as_moderated = record { showing = showing store; has_failed = λ r. is_live r ≡ false }
 
   -- The lines of the text were answered as a script, of which a part may not have been read.
   pub record RunsLines (old new : Registry S store) (to_come taken taken_now : Option (List ℕ))
       (end : JobEnd) : Type 0 where
     pub script : ScriptEnd
-    pub ends : end ≡ script_end script
+    pub ends : end ≡ end_of_script script
     pub rest : Option (List ℕ)
-    pub ran : OverStanding asked old new (λ h. IfSome to_come (λ text.
-        IsScript asked script h (passage old new taken taken_now) text rest))
+    pub ran : OverStanding as_moderated old new (λ h. IfSome to_come (λ text.
+        IsScript as_moderated script h (passage old new taken taken_now) text rest))
 
   -- An import of what was read of the file was obeyed.
   pub record BringsIn (old new : Registry S store) (account : List ℕ) (key : Option (List ℕ))
       (to_come : Option (List ℕ)) (end : JobEnd) : Type 0 where
     pub result : Result Reply ImportEnd
-    pub ends : end ≡ import_end result
+    pub ends : end ≡ end_of_import result
     pub rest : Option (List ℕ)
     pub obeyed : HasRead result to_come rest (ObeysText store old new result (import_of account key))
 
@@ -67,5 +67,5 @@ module _ {S : Type 0} (store : Ghosts S) where
   pub record PrintsAll {W : Type 0} (writer : outputs.Ghosts W) (old new : Registry S store)
       (before after : W) (end : JobEnd) : Type 0 where
     pub result : Result (Unit {0}) ExportFault
-    pub ends : end ≡ export_end result
+    pub ends : end ≡ end_of_export result
     pub exported : IsExported store writer old new before after result
