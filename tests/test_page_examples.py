@@ -3,7 +3,8 @@ of docs/LOOKUP.md and the script of docs/REGISTRY.md."""
 import os
 import re
 
-from program import TOP, run
+import program
+from program import TOP
 
 
 def section_of(page, heading):
@@ -51,7 +52,7 @@ def test_files(cases):
     rows = rows_of(section)
     cases.equal("docs/FILE_FORMAT.md: texts with their answers", len(rows) > 8, True)
     for cell, answer in rows:
-        ran = run(bytes_of(text_of(cell)), "check")
+        ran = program.run(bytes_of(text_of(cell)), "check")
         cases.equal(f"docs/FILE_FORMAT.md: {cell}", ran.out.decode(), answer.strip("`") + "\n")
 
 
@@ -73,7 +74,7 @@ def test_look_ups(cases, folder):
     rows = rows_of(section)
     cases.equal("docs/LOOKUP.md: there are some", len(rows) > 15, True)
     for flags, arguments, answer in rows:
-        ran = run(b"", "lookup", "--ids", path, *words_of(flags, arguments))
+        ran = program.run(b"", "lookup", "--ids", path, *words_of(flags, arguments))
         shown = re.match(r"`([^`]*)`", answer)
         want = f"text {shown[1]}\n" if shown else "none\n"
         cases.equal(f"docs/LOOKUP.md: {flags}, {arguments}", ran.out.decode(), want)
@@ -84,5 +85,5 @@ def test_script(cases):
     lines = [re.split(r" {2,}", line) for line in block.splitlines()]
     cases.equal("docs/REGISTRY.md: lines with their replies", {len(it) for it in lines}, {2})
     script = "".join(f"{line}\n" for line, _ in lines)
-    ran = run(script.encode(), "script")
+    ran = program.run(script.encode(), "script")
     cases.equal("docs/REGISTRY.md", ran.out.decode().splitlines(), [it for _, it in lines])
