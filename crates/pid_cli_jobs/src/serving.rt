@@ -1,7 +1,7 @@
 //! Serving a registry over HTTP to clients on this machine.
 ghost use Rattle.std.specs.Prelude.{◌≡◌};
 ghost use Rattle.pid_http.specs.Known.{LivesOn};
-ghost use Rattle.pid_cli_jobs.specs.Serving.{IsLoopback};
+ghost use Rattle.pid_cli_jobs.specs.Steps.Serving.{IsLoopback};
 ghost use Rattle.pid_cli_jobs.specs.Sessions.{IsPartOfSession};
 
 use crate::job_end::JobEnd;
