@@ -18,7 +18,7 @@ pub fn work_on_file<I: Input + Drop, O: Output, F: Output>(
             let (end, conn) = work_on(rt, conn, job, output, faults);
             if let Some(conn) = conn {
                 // If the log cannot be copied into the file, it stays for the next opening.
-                let _ = conn.close_files();
+                let _ = conn.close();
             }
             end
         }
@@ -38,7 +38,7 @@ pub fn migrate_file<O: Output, F: Output>(
         Ok(conn) => {
             let (end, conn) = migrate_on(rt.alloc(), conn, output, faults);
             if let Some(conn) = conn {
-                let _ = conn.close_files();
+                let _ = conn.close();
             }
             end
         }
