@@ -45,7 +45,8 @@ fn status_of(outcome: Result<Reply, Refusal>) -> StatusCode
             Refusal::NotPending
             | Refusal::ParentMissing
             | Refusal::HasChildren
-            | Refusal::NothingToDo,
+            | Refusal::NothingToDo
+            | Refusal::Changed,
         ) => StatusCode::CONFLICT,
         Err(Refusal::FileFault(_)) => StatusCode::UNPROCESSABLE_ENTITY,
         Err(Refusal::Full | Refusal::Memory | Refusal::Store | Refusal::Failed) => {

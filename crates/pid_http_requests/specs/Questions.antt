@@ -98,6 +98,7 @@ question_at routes.Submit path fields = buffered (verb_asked verbs.Submit fields
 question_at routes.Comment path fields = buffered (verb_asked verbs.Comment fields)
 question_at routes.Withdraw path fields = buffered (verb_asked verbs.Withdraw fields)
 question_at routes.Approve path fields = buffered (verb_asked verbs.Approve fields)
+question_at routes.Confirm path fields = buffered (verb_asked verbs.Confirm fields)
 question_at routes.Reject path fields = buffered (verb_asked verbs.Reject fields)
 question_at routes.Import path fields = option_map Streamed (format_in fields)
 

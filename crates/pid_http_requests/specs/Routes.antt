@@ -8,7 +8,7 @@ use Rattle.pid_http_requests.specs.declared.route.Route.TheVariants.{Export, Rea
 use Rattle.pid_http_requests.specs.declared.route.Route.TheVariants.{Lookup, Submission, Pending}
 use Rattle.pid_http_requests.specs.declared.route.Route.TheVariants.{Changes, Account, Submit}
 use Rattle.pid_http_requests.specs.declared.route.Route.TheVariants.{Comment, Withdraw, Approve}
-use Rattle.pid_http_requests.specs.declared.route.Route.TheVariants.{Reject, Import}
+use Rattle.pid_http_requests.specs.declared.route.Route.TheVariants.{Confirm, Reject, Import}
 
 -- a route with this path alone
 abbrev pub literal : List ℕ → Route → List ℕ × RouteOf Route
@@ -52,6 +52,7 @@ table =
     ∷ literal (codes "/changes") Changes
     ∷ literal (codes "/children") Children
     ∷ literal (codes "/comment") Comment
+    ∷ literal (codes "/confirm") Confirm
     ∷ literal (codes "/import") Import
     ∷ literal (codes "/lookup") Lookup
     ∷ literal (codes "/pci.ids") Export
@@ -81,5 +82,6 @@ method_at Submit = codes "POST"
 method_at Comment = codes "POST"
 method_at Withdraw = codes "POST"
 method_at Approve = codes "POST"
+method_at Confirm = codes "POST"
 method_at Reject = codes "POST"
 method_at Import = codes "POST"

@@ -251,6 +251,7 @@ fn ask_route(
         Route::Comment => buffered(command_of(Verb::Comment, fields)),
         Route::Withdraw => buffered(command_of(Verb::Withdraw, fields)),
         Route::Approve => buffered(command_of(Verb::Approve, fields)),
+        Route::Confirm => buffered(command_of(Verb::Confirm, fields)),
         Route::Reject => buffered(command_of(Verb::Reject, fields)),
         Route::Import => import_of(fields),
     }

@@ -32,6 +32,8 @@ pub enum Route {
     Withdraw,
     /// `/approve`
     Approve,
+    /// `/confirm`
+    Confirm,
     /// `/reject`
     Reject,
     /// `/import`
@@ -55,6 +57,7 @@ pub(crate) fn path_of(route: Route) -> &'static str
         Route::Comment => "/comment",
         Route::Withdraw => "/withdraw",
         Route::Approve => "/approve",
+        Route::Confirm => "/confirm",
         Route::Reject => "/reject",
         Route::Import => "/import",
     }
@@ -77,6 +80,7 @@ pub(crate) fn method_for(route: Route) -> Method
         | Route::Comment
         | Route::Withdraw
         | Route::Approve
+        | Route::Confirm
         | Route::Reject
         | Route::Import => Method::POST,
     }
