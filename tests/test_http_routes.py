@@ -90,6 +90,23 @@ COMMANDS = [
     ("/comment", "bob", b"num=6&text=" + b"%5C" * 4_001, 3),
     ("/comment", "mona", b"num=6&text=thanks", 0),
     ("/reject", "mona", b"num=6&reason=" + b"%26" * 4_000, 0),
+    # Approvals of what was seen.
+    ("/submit", "alice", b"path=PC/8086&name=Intel", 0),
+    ("/confirm", "mona", b"num=8", 3),
+    ("/confirm", "mona", b"num=8&was=+Intel", 3),
+    ("/confirm", "mona", b"num=8&was=Intel+Corporation&was=Intel+Corporation", 3),
+    ("/confirm", "carol", b"num=8&was=Intel", 4),
+    ("/confirm", "bob", b"num=8&was=Intel", 5),
+    ("/confirm", "mona", b"num=9&was=Intel+Corporation", 7),
+    ("/confirm", "mona", b"num=8&was=Intel", 30),
+    ("/confirm", "mona", b"num=8&was=", 30),
+    ("/confirm", "mona", b"was=Intel+Corporation&num=8", 0),
+    ("/confirm", "mona", b"num=8&was=Intel", 8),
+    ("/submit", "alice", b"path=PC/10ec&name=Realtek", 0),
+    ("/confirm", "mona", b"num=9&was=Realtek", 13),
+    ("/submit", "alice", b"path=PC/1af4&name=Red+Hat", 0),
+    ("/confirm", "mona", b"num=10&was=Red+Hat", 30),
+    ("/confirm", "mona", b"num=10&was=", 0),
 ]
 
 # What a registry that has counted as many commands as it may is asked: each that would be accepted
@@ -103,6 +120,8 @@ FULL = [
     ("/withdraw", "alice", b"num=1", 15),
     ("/approve", "mona", b"num=1", 15),
     ("/approve", "mona", b"num=2", 7),
+    ("/confirm", "mona", b"num=1&was=", 15),
+    ("/confirm", "mona", b"num=1&was=Intel", 30),
     ("/reject", "mona", b"num=1&reason=no", 15),
     ("/import", "mona", b"8086  Intel\n", 15),
     ("/import", "mona", b"8086 \n", 14),
@@ -121,8 +140,8 @@ QUESTIONS = [
     ("/children?of=PC/8087", 25),
     ("/children?of=" + "%41" * 4_000, 1),
     ("/read/PC/8086?" + "&" * 8_000, 0),
-    *((f"/submission/{number}", 0) for number in range(1, 8)),
-    ("/submission/8", 7),
+    *((f"/submission/{number}", 0) for number in range(1, 11)),
+    ("/submission/11", 7),
     ("/submission/x", 3),
     ("/pending", 0),
     ("/pending?after=3", 0),
@@ -261,7 +280,7 @@ def test_routes(cases, folder):
     cases.equal(
         "docs/REFUSALS.md: the numbers",
         sorted(known),
-        [*range(1, 6), *range(7, 19), *range(20, 29)],
+        [*range(1, 6), *range(7, 19), *range(20, 29), 30],
     )
     with Server(os.path.join(folder, "json")) as first, Server(
         os.path.join(folder, "text")

@@ -1,4 +1,4 @@
--- Which refusals the judgement gives, whatever the facts are: those with a number from 1 to 15.
+-- Which refusals the judgement gives, whatever the facts are: none of 16 to 18.
 use Rattle.std.proofs.Common.{◌≡◌, ℕ, Bool, true, false, cond, List, [], ◌∷◌, ◌++◌, Option, Some, None, Result, Ok, Err, refl, sym, subst}
 use Rattle.std.specs.Prelude.{◌≢◌, find, is_none, nat_le, IfErr, IfSome}
 use Rattle.std.specs.Option.{option_map}

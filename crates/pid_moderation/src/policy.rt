@@ -67,7 +67,8 @@ ghost use Rattle.pid_moderation.specs.Revisions.{IsMarked};
 use crate::change::{Change, Edit, Effect, Receipt, Write};
 use crate::checks::{
     ITEMS, REMARKS, REVISIONS, SUBMISSIONS, first_failing, has_rank, is_changed, is_ill_formed,
-    is_pending, is_rank, is_removal, is_so, is_unknown, lacks_parent, leaves_children, overflows, pass,
+    is_pending, is_rank, is_removal, is_so, is_unknown, lacks_parent, leaves_children, overflows,
+    pass,
 };
 use crate::command::{Act, Command, Expected, Proposal, Reply};
 use crate::facts::{Facts, Named, State, Verdict};
