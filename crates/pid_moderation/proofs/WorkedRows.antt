@@ -3,14 +3,15 @@ use Rattle.std.proofs.Common.{◌≡◌, ℕ, List, [], ◌∷◌, ◌++◌, Som
 use Rattle.std.specs.Prelude.{codes, map, Result, Ok, Err}
 use Rattle.pid_file.specs.declared.path.Path.TheVariants.{Vendor, Device}
 use Rattle.pid_file.specs.declared.fault_kind.LineKind.TheVariants.{Duplicate}
-use Rattle.pid_moderation.specs.declared.command.Expected.TheVariants.{Anything, Absent, Named}
+use Rattle.pid_moderation.specs.declared.command.Expected.TheVariants.{Anything, Absent}
+use Rattle.pid_moderation.specs.declared.command.Expected.TheVariants as expecteds
 use Rattle.pid_moderation.specs.declared.command.Proposal.TheVariants.{Name, Removal}
 use Rattle.pid_moderation.specs.declared.command.Reply.{Reply}
 use Rattle.pid_moderation.specs.declared.command.Reply.TheVariants.{Done, Numbered, Counts}
 use Rattle.pid_moderation.specs.declared.refusal.Refusal.{Refusal}
 use Rattle.pid_moderation.specs.declared.rank.Rank.TheVariants.{Contributor, Moderator, Senior}
 use Rattle.pid_moderation.specs.declared.refusal.FileFault.TheVariants.{Line}
-use Rattle.pid_moderation.specs.declared.refusal.Refusal.TheVariants.{Full, NoAccount, RankTooLow, NoSubmission, NotPending, NotAuthor, OwnDecision, ParentMissing, HasChildren, NothingToDo, FileFault}
+use Rattle.pid_moderation.specs.declared.refusal.Refusal.TheVariants.{Full, NoAccount, RankTooLow, NoSubmission, NotPending, NotAuthor, OwnDecision, ParentMissing, HasChildren, NothingToDo, FileFault, Changed}
 use Rattle.pid_moderation.specs.History.{Deed, Reading, Good, Faulty, Ranks, Submits, Comments, Withdraws, Approves, Rejects, Imports, Asked, Begins, History, new_history}
 use Rattle.pid_moderation.specs.Views.{Views, views_of, items_of, revision_of, since_of}
 use Rattle.pid_moderation.specs.Changes.{with_pairs}
@@ -97,6 +98,13 @@ device_waits_for_vendor_answers = refl
 
 device_waits_for_vendor_items : items_of (after_all new_history device_waits_for_vendor) ≡ (codes "PC/8086", codes "Intel") ∷ (codes "PC/8086/1237", codes "440FX") ∷ []
 device_waits_for_vendor_items = refl
+
+-- a rename is confirmed where the name is the one that was seen
+abbrev confirmations : List Asked
+confirmations = by bob (Submits (Vendor 32902) (Name (codes "Intel Corporation")) []) ∷ by root (Approves 3 Absent) ∷ by root (Approves 3 (expecteds.Named (codes "Intel Corporation"))) ∷ by root (Approves 3 (expecteds.Named (codes "Intel"))) ∷ by root (Approves 3 (expecteds.Named (codes "Intel"))) ∷ []
+
+confirmations_answers : answers (after_all new_history device_waits_for_vendor) confirmations ≡ Ok (Numbered 3) ∷ Err Changed ∷ Err Changed ∷ Ok Done ∷ Err NotPending ∷ []
+confirmations_answers = refl
 
 abbrev removals : List Asked
 removals = by bob (Submits (Vendor 32902) Removal []) ∷ by root (Approves 3 Anything) ∷ by bob (Submits (Device 32902 4663) Removal []) ∷ by root (Approves 4 Anything) ∷ by root (Approves 3 Anything) ∷ []
