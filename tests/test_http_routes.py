@@ -130,6 +130,30 @@ QUESTIONS = [
     ("/changes?since=6&after=PC/8086", 0),
     ("/changes?since=9000000000000000000", 0),
     ("/changes?after=PC", 1),
+    ("/account?who=alice", 0),
+    ("/account?who=root", 0),
+    ("/account?who=" + "a" * 32, 29),
+]
+
+# A question that is judged by its query alone, with the refusal that it gets in any format.
+BAD_QUERIES = [
+    "/account",
+    "/account?who=",
+    "/account?who=Alice",
+    "/account?who=" + "a" * 33,
+    "/account?who=alice&who=alice",
+    "/account?who=alice&rank=0",
+    "/account?who=alice&format=xml",
+]
+
+# What questions about accounts are answered in both formats, and the same with a sender.
+ACCOUNTS = [
+    ("/account?who=alice", b'{"rank":0,"who":"alice"}'),
+    ("/account?who=bob&format=json", b'{"rank":1,"who":"bob"}'),
+    ("/account?who=mona", b'{"rank":2,"who":"mona"}'),
+    ("/account?who=root", b'{"rank":3,"who":"root"}'),
+    ("/account?format=text&who=alice", b"alice 0\n"),
+    ("/account?who=root&format=text", b"root 3\n"),
 ]
 
 
@@ -161,6 +185,8 @@ def as_text(told):
         lines = [f"revision {told['revision']}"] + [
             f"{it['since']} {it['path']} {it['name']}" for it in told["items"]
         ]
+    elif "rank" in told:
+        lines = [f"{told['who']} {told['rank']}"]
     elif "ok" not in told:
         lines = [told["name"]]
     elif not told["ok"]:
@@ -261,7 +287,7 @@ def test_routes(cases, folder):
     cases.equal(
         "docs/REFUSALS.md: the numbers",
         sorted(known),
-        [*range(1, 6), *range(7, 19), *range(20, 29)],
+        [*range(1, 6), *range(7, 19), *range(20, 30)],
     )
     with Server(os.path.join(folder, "json")) as first, Server(
         os.path.join(folder, "text")
@@ -269,6 +295,18 @@ def test_routes(cases, folder):
         ask_commands(cases, known, (first, second), COMMANDS, folder)
         for target, refusal in QUESTIONS:
             asked_alike(cases, known, (first, second), f"GET {target[:60]}", target, refusal)
+        for target in BAD_QUERIES:
+            cases.equal(
+                f"GET {target[:60]}",
+                first.curl(target + ("&" if "?" in target else "?") + "format=text"),
+                (400, JSON, b'{"ok":false,"refused":3,"word":"BadText"}'),
+            )
+        for target, body in ACCOUNTS:
+            kind = TEXT if "format=text" in target else JSON
+            cases.equal(f"GET {target}", first.curl(target), (200, kind, body))
+            # Nobody's rank is that of the account that asks.
+            asked_by = first.curl(target, "-H", "X-Account: mona", "-H", "X-Account: No account")
+            cases.equal(f"GET {target}, whoever asks", asked_by, (200, kind, body))
         cases.equal(
             "both registries hold the same", first.curl("/pci.ids"), second.curl("/pci.ids")
         )
