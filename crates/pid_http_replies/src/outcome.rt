@@ -79,7 +79,8 @@ fn fault_value(alloc: Global, line: u64, kind: u8) -> Result<Value, AllocError>
     json!(in alloc; {"kind": kind, "line": line, "ok": false, "refused": 14, "word": "FileFault"})
 }
 
-fn refusal_value(alloc: Global, number: u8, word: &str) -> Result<Value, AllocError>
+/// The value of a refusal: its number and its word.
+pub(crate) fn refusal_value(alloc: Global, number: u8, word: &str) -> Result<Value, AllocError>
     ensures { IfOk result (λ value. view value ≡ refusal_data number word.now) }
 {
     json!(in alloc; {"ok": false, "refused": number, "word": word})
