@@ -158,6 +158,15 @@ def pages(cases, front):
     there = front.curl("/vendors/", "-i", "-H", "Host: evil.example")[2].lower()
     found = [it for it in there.split(b"\r\n") if it.startswith(b"location: ")]
     cases.equal("front: a redirect leads to no other host", found, [b"location: /vendors"])
+    there = front.curl("/search/?q=a%20b", "-i", *page)[2].lower()
+    cases.equal("front: it keeps the query", b"\r\nlocation: /search?q=a%20b\r\n" in there, True)
+    for sent in (b"\r", b"\n", b"\r\n", b"\0", b"\xff", b"<"):
+        path = b"/item/%%%s:x/" % sent.hex("%").encode()
+        asked = b"GET %s HTTP/1.1\r\nHost: a\r\nConnection: close\r\n" % path
+        head = front.raw(asked + b"Accept: text/html\r\n\r\n", front.quiet())
+        told = head.partition(b"\r\n")[0].split()[1:2], b"\nlocation:" in head.lower()
+        is_refused = told in (([b"404"], False), ([b"400"], False))
+        cases.equal(f"front: {path.decode()} is no redirect: {told}", is_refused, True)
 
 
 def limits(cases, front):
