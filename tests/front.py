@@ -153,8 +153,12 @@ def pages(cases, front):
         ("/site/%2e%2e/%2e%2e/passwords", 400),
         ("/pci.ids", 200),
         ("/vendors/", 301),
+        ("/vendors", 200),
+        ("/classes", 200),
     ):
         cases.equal(f"front: {path}", front.curl(path, *page, "--path-as-is")[0], want)
+    told = front.curl("/vendors", *page)[2]
+    cases.equal("front: the published list of vendors", b"<h1>Vendors</h1>" in told, True)
     there = front.curl("/vendors/", "-i", "-H", "Host: evil.example")[2].lower()
     found = [it for it in there.split(b"\r\n") if it.startswith(b"location: ")]
     cases.equal("front: a redirect leads to no other host", found, [b"location: /vendors"])
