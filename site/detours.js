@@ -4,6 +4,7 @@
 
 import { ask, request } from "./api.js";
 import { keep, keysOf, recall } from "./kept.js";
+import { parentOf } from "./paths.js";
 
 const PAGE = 100;
 const MOST_PENDING = 1_000;
@@ -122,7 +123,8 @@ function before(path) {
   const cut = path.search(/[0-9a-f]+$/);
   const digits = path.slice(cut);
   const less = parseInt(digits, 16) - 1;
-  if (less < 0) return null;
+  // The first one below an item comes right after that.
+  if (less < 0) return path.startsWith("PS/") ? null : parentOf(path);
   const number = less.toString(16).padStart(digits.length, "0");
   const deeper = { 7: "/ffff/ffffffff", 12: "/ffffffff", 5: "/ff/ff", 8: "/ff" };
   const depth = path.startsWith("PS/") ? "" : deeper[path.length] ?? "";

@@ -19,11 +19,12 @@ export default async function people() {
   const submit = async (event) => {
     event.preventDefault();
     const name = who.value, word = RANKS[rank.value];
+    const its = `${word.startsWith("a") ? "an" : "a"} ${word}`;
     const answer = await carryOut({
       route: "/account", fields: { who: name, rank: rank.value },
-      about: `Make ${name} a ${word}`, button, place, why: "This is for administrators.", sent,
+      about: `Make ${name} ${its}`, button, place, why: "This is for administrators.", sent,
     });
-    if (answer?.value) tell(`${name} is a ${word} now.`, 5);
+    if (answer?.value) tell(`${name} is ${its} now.`, 5);
   };
   const form = el("form", { onsubmit: submit },
     el("p", {}, el("label", { for: "who-name" }, "Account"), who),
