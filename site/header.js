@@ -1,9 +1,9 @@
 // The head of the page: the search box, the menu, and who is logged in.
 
 import { account, logOut, rank, watchAccount } from "./account.js";
-import { askToLogIn } from "./login.js";
+import { askToLogIn, isAwaited } from "./login.js";
 import { load } from "./names.js";
-import { currentPage, go, refresh, watchPages } from "./router.js";
+import { currentPage, go, readdress, refresh, watchPages } from "./router.js";
 import { RANKS } from "./words.js";
 
 const RESTS_AFTER = 300;
@@ -23,7 +23,7 @@ const searchHref = () => `/search?q=${encodeURIComponent(box.value)}`;
 let resting = 0;
 let followedAt = -Infinity;
 function addressFollows() {
-  if (resting && isSearch()) history.replaceState(history.state, "", searchHref());
+  if (resting && isSearch()) readdress(searchHref());
   clearTimeout(resting);
   resting = 0;
   followedAt = performance.now();
@@ -137,7 +137,7 @@ export function startHeader() {
   watchPages(showPlace);
   watchAccount((isBusy) => {
     showWho();
-    if (!isBusy && !isTyping()) refresh();
+    if (!isBusy && !isTyping() && !isAwaited()) refresh();
   });
   log.addEventListener("click", () => (account() ? logOut() : askToLogIn()));
   showWho();

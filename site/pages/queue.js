@@ -5,7 +5,7 @@ import { ask } from "../api.js";
 import { forgetPending, pendingPage } from "../detours.js";
 import { el, fill, link, several } from "../dom.js";
 import { failed, title } from "../parts.js";
-import { isTooSoon } from "../steady.js";
+import { appear, isTooSoon } from "../steady.js";
 import { troubleWords } from "../words.js";
 import { Card } from "./card.js";
 
@@ -90,6 +90,7 @@ class List {
         looks[at] = this.cards[at].look();
       }
       this.element.append(this.cards[at].row);
+      appear(this.cards[at].row);
       this.sayRest(at + 1 < this.cards.length ? "More rows …" : this.nextPage());
     }
   }

@@ -195,6 +195,17 @@ def rejected(cases, world, browser, number):
                 ["half a reason", False])
 
 
+def beside_decision(cases, world, browser):
+    """A decision leaves the comment that is half written on the same page."""
+    number = world.submit("dora", "PC/8086/a076", "To approve")
+    browser.go(f"/proposals/{number}")
+    browser.type("#comment", "half a comment")
+    browser.click(".decide button.main")
+    browser.has("Approved", "h1")
+    cases.equal("kept: a comment beside a decision", value(browser, "#comment"),
+                ["half a comment", False])
+
+
 def typed(cases, world, browser):
     """Everything else that is typed."""
     for path, box, text in (
@@ -340,6 +351,7 @@ def run(cases):
         with Browser(world.base) as browser:
             browser.go("/").log_in("sam")
             rejected(cases, world, browser, taken)
+            beside_decision(cases, world, browser)
             late_rows(cases, world, browser)
             called_today(cases, world, browser)
             unfetched(cases, world, browser)

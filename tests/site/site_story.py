@@ -53,6 +53,10 @@ def visitor(cases, browser):
     cases.equal("story: back to the search", typed, "8086:1237")
     browser.go("/item/PC/8086/")
     cases.equal("story: an address with a slash", browser.heading("Intel Corporation"), True)
+    for path in ("PC/8086/1237", "PD/01/00", "PD/01"):
+        browser.go(f"/item/{path}")
+        cases.equal(f"story: since when {path} has its name",
+                    browser.has("Command 5 of 5 gave it its name", ".history"), True)
 
 
 def contributor(cases, world, browser):
@@ -175,11 +179,16 @@ def many(cases, world, browser):
     """A paste of several unknown devices becomes several proposals."""
     browser.go("/propose?many=yes")
     browser.put("#pasted", LSPCI)
-    browser.click("main form button")
-    browser.wait(lambda: len(browser.all(".many > li")) == 3, "three rows")
+    browser.one("main form button")
+    browser.js("const it = document.querySelector('main form button'); it.click(); it.click()")
+    browser.wait(lambda: browser.all(".many > li"), "rows")
+    browser.js("return new Promise((go) => setTimeout(go, 300))")
+    cases.equal("story: three rows, though they were asked for twice",
+                len(browser.all(".many > li")), 3)
     for row, name in ((1, "First of two"), (2, "Second of two")):
         browser.all(".many input")[row].send_keys(name)
     browser.has("Propose 2 names")
+    browser.js("return new Promise((go) => setTimeout(go, 600))")
     browser.js("[...document.querySelectorAll('main button')]"
                ".find((it) => it.textContent.startsWith('Propose 2')).click()")
     browser.wait(lambda: len(browser.all(".many .good")) == 2, "both proposed")
