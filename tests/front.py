@@ -125,6 +125,11 @@ def refusals(cases, front):
     ):
         cases.equal(f"front: {name}", front.curl("/approve", *alice, *words)[0], want)
     cases.equal("front: no password", front.curl("/approve", "-d", "num=1")[0], 401)
+    for size, want in ((4_194_304, 200), (4_194_305, 413)):
+        front.write("file", "#" * size)
+        body = ("--data-binary", f"@{front.folder}/file", "-H", "Expect:")
+        told = front.curl("/import", "-u", "alice:pw-alice", *body)[0]
+        cases.equal(f"front: a body of {size} bytes", told, want)
     told = front.curl("/whoami", "-u", "alice:pw-alice")
     cases.equal("front: whoami", told, (200, "application/json", b'{"account":"alice"}'))
     cases.equal("front: whoami, a wrong password", front.curl("/whoami", "-u", "alice:no")[0], 401)
