@@ -1,6 +1,6 @@
 // The head of the page: the search box, the menu, and who is logged in.
 
-import { account, logOut, rank, watchAccount } from "./account.js";
+import { account, logOut, NONE, rank, watchAccount } from "./account.js";
 import { askToLogIn, isAwaited } from "./login.js";
 import { load } from "./names.js";
 import { currentPage, go, readdress, refresh, watchPages } from "./router.js";
@@ -112,11 +112,8 @@ function showPlace(address) {
   box.value = address.pathname === "/search" ? address.searchParams.get("q") ?? "" : "";
 }
 
-function rankWords() {
-  const { least, most } = rank();
-  if (most < 0) return "not an account of the registry yet";
-  return least === most ? RANKS[least] : "";
-}
+const rankWords = () => (
+  rank() === NONE ? "not an account of the registry yet" : RANKS[rank()] ?? "");
 
 function showWho() {
   const name = account();

@@ -79,6 +79,9 @@ export function answerWords(answer) {
 /** The ranks, by their numbers. */
 export const RANKS = ["contributor", "moderator", "senior moderator", "administrator"];
 
+/** "a moderator", "an administrator". */
+export const oneOf = (rank) => `${/^a/.test(RANKS[rank]) ? "an" : "a"} ${RANKS[rank]}`;
+
 /** The states of proposals. */
 export const STATES = {
   pending: "Pending", approved: "Approved", rejected: "Rejected", withdrawn: "Withdrawn",

@@ -1,6 +1,6 @@
 // A row of the queue: a proposal beside what its item is called now, and deciding on it.
 
-import { account, rank } from "../account.js";
+import { account, maySuffice } from "../account.js";
 import { ask } from "../api.js";
 import { faultWords } from "../carry.js";
 import { el, fill, link, several } from "../dom.js";
@@ -31,8 +31,7 @@ export class Card {
     this.isArmed = false;
     this.needed = rankFor(it.path, it.name === null);
     this.isOwn = account() === it.author;
-    this.mayDecide = account() !== null && !this.isOwn && rank().least >= 1
-      && rank().most >= this.needed;
+    this.mayDecide = account() !== null && !this.isOwn && maySuffice(this.needed);
     this.place = el("div", { class: "said" });
     this.note = el("p", { class: "note" });
     this.above = el("p", { class: "under" });
@@ -75,7 +74,7 @@ export class Card {
   }
 
   whyNot() {
-    if (!account() || rank().least < 1) return null;
+    if (!account() || !maySuffice(1)) return null;
     return el("p", { class: "aside" }, this.isOwn ? "Your own: somebody else decides."
       : `For a ${RANKS[this.needed]} or above.`);
   }
@@ -208,8 +207,8 @@ export class Card {
 
   async carry(state, command) {
     if (this.isDecided) return;
-    const { it, needed, place } = this;
-    const answer = await decide(it, needed, { ...command, place });
+    const { it, place } = this;
+    const answer = await decide(it, { ...command, place });
     if (answer?.value) {
       tell(`${it.num} is ${state}.`, 3);
       this.setDecided(state);

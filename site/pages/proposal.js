@@ -1,6 +1,6 @@
 // A proposal: what it proposes, its comments, and deciding on it.
 
-import { account, learnRank, rank } from "../account.js";
+import { account, learnRank, maySuffice } from "../account.js";
 import { ask } from "../api.js";
 import { carryOut, faultWords } from "../carry.js";
 import { el, fill, link, several, utf8Length } from "../dom.js";
@@ -19,7 +19,7 @@ const NEEDS_ACCOUNT = "Decisions are made under an account.";
 
 /** The page of a proposal. */
 export default async function proposal({ number, again }) {
-  const answer = await ask(`/submission/${number}`);
+  const [answer] = await Promise.all([ask(`/submission/${number}`), learnRank()]);
   if (!answer.value) return failed(answer, again);
   const it = answer.value;
   const chain = withParents(it.path);
@@ -103,10 +103,10 @@ function decisions(it, isIdle, done) {
       + ` ${RANKS[needed]} or above, to decide.`);
   }
   if (account() === it.author) return withdrawal(it, done);
-  if (rank().most < needed) {
+  if (!maySuffice(needed)) {
     return el("p", { class: "aside" }, `A ${RANKS[needed]} or above decides on this.`);
   }
-  return decision(it, needed, isIdle, done);
+  return decision(it, isIdle, done);
 }
 
 function withdrawal(it, done) {
@@ -123,16 +123,12 @@ function withdrawal(it, done) {
 
 const deciding = new Set();
 
-/** Sends a decision, one at a time on each proposal, and learns from the answer that it returns. */
-export async function decide(it, needed, command) {
+/** Sends a decision, one at a time on each proposal, and returns its answer. */
+export async function decide(it, command) {
   if (deciding.has(it.num)) return null;
   deciding.add(it.num);
-  const by = account();
   const answer = await carryOut({ ...command, why: NEEDS_ACCOUNT })
     .finally(() => deciding.delete(it.num));
-  const isSame = by === null || by === account();
-  if (isSame && answer?.value) learnRank(needed, true);
-  else if (isSame && answer?.refusal?.refused === 5) learnRank(needed, false);
   if (answer?.value && command.route === "/approve") learnName(it.path, it.name);
   return answer;
 }
@@ -169,10 +165,10 @@ export function rejectionOf(it, { reason, reject, sent }, place) {
   };
 }
 
-function decision(it, needed, isIdle, done) {
+function decision(it, isIdle, done) {
   const place = el("div", { class: "said" });
   const onclick = async () => {
-    const answer = await decide(it, needed, {
+    const answer = await decide(it, {
       route: "/approve", fields: { num: it.num }, about: approvalWords(it), button: approve, place,
     });
     if (answer?.value) done(`${it.num} is approved.`);
@@ -180,7 +176,7 @@ function decision(it, needed, isIdle, done) {
   const approve = steadyButton({ class: "main", onclick }, "Approve");
   const no = rejection(it, place, async () => {
     const command = rejectionOf(it, no, place);
-    if (command && (await decide(it, needed, command))?.value) done(`${it.num} is rejected.`);
+    if (command && (await decide(it, command))?.value) done(`${it.num} is rejected.`);
   });
   return el("div", { class: "decide" },
     isIdle ? faultWords("Nothing would change: it is so already.") : null,

@@ -1,6 +1,6 @@
 // What is pending, for going through it by keyboard.
 
-import { account, learnRank, rank } from "../account.js";
+import { account, learnRank, maySuffice } from "../account.js";
 import { ask } from "../api.js";
 import { forgetPending, pendingPage } from "../detours.js";
 import { el, fill, link, several } from "../dom.js";
@@ -200,20 +200,10 @@ function keyWords() {
     el("span", {}, keys.split(" ").map((it) => [el("kbd", {}, it), " "]), word)]), ".");
 }
 
-// No question tells a contributor from a moderator: a moderator says so once in this browser.
-function rankOffer(again) {
-  const { least, most } = rank();
-  if (!account()) return el("p", { class: "aside" }, "Everybody may read this. Log in to decide.");
-  if (least >= 1 || most < 1) return null;
-  const onclick = () => { learnRank(1, true); again(); };
-  return el("p", { class: "aside" }, "Do you moderate here? ",
-    el("button", { type: "button", class: "small", onclick }, "Show Approve and Reject"));
-}
-
 /** The queue. */
 export default async function queue({ query, again, go }) {
   const after = Math.max(0, Number.parseInt(query.get("after") ?? "0", 10)) || 0;
-  const answer = await pendingPage(after);
+  const [answer] = await Promise.all([pendingPage(after), learnRank()]);
   if (!answer.value) return failed(answer, again);
   const all = answer.value;
   const list = new List(all, go);
@@ -223,8 +213,8 @@ export default async function queue({ query, again, go }) {
   return [
     title("Queue"),
     list.left,
-    rankOffer(again),
-    all.length && rank().least >= 1 && account() ? keyWords() : null,
+    account() ? null : el("p", { class: "aside" }, "Everybody may read this. Log in to decide."),
+    all.length && account() && maySuffice(1) ? keyWords() : null,
     el("p", {}, link("/decided", "The latest proposals, decided ones too")),
     list.whole,
   ];

@@ -122,8 +122,6 @@ def queued(cases, world, browser):
     """Held keys and double clicks in the queue."""
     numbers = [world.submit("alice", f"PC/8086/a1{it:02x}", f"Row {it}") for it in range(8)]
     browser.go("/queue")
-    if browser.all("main .aside button"):
-        browser.click("main .aside button")
     browser.wait(lambda: browser.all(".queue .buttons"), "buttons")
     browser.js("document.querySelector('.queue > li[tabindex=\"0\"]').focus()")
     time.sleep(SETTLE)
