@@ -8,9 +8,9 @@ import { tell } from "../notice.js";
 import { chainOf, kindOf, wishOf } from "../parts.js";
 import { parentOf, rankFor, withParents } from "../paths.js";
 import { compared, shown, spelled } from "../shown.js";
-import { steadyButton } from "../steady.js";
-import { RANKS, STATES } from "../words.js";
-import { approvalWords, decide, rejection, rejectionOf } from "./proposal.js";
+import { appear, steadyButton } from "../steady.js";
+import { answerWords, RANKS, STATES } from "../words.js";
+import { approvalOf, CHANGED, decide, rejection, rejectionOf } from "./proposal.js";
 
 const ARMED_FOR = 3_000;
 
@@ -22,7 +22,7 @@ export class Card {
   /**
    * @param {Object} it the proposal, as /pending has it
    * @param {Object} around rivals: others on its path; read: the answer for a path; decided,
-   *   changed: called with what was
+   *   changed: called with what was; changed resolves once the rows show it
    */
   constructor(it, around) {
     this.it = it;
@@ -113,6 +113,7 @@ export class Card {
     if (own.value) this.showNote(own.value);
     this.showAbove(nameOf);
     this.showChange(nameOf(this.it.path));
+    this.hold(nameOf(this.it.path));
     this.showWarning(this.warningWords(nameOf));
     if (own.value && own.value.state !== "pending") this.setDecided(own.value.state);
     return null;
@@ -137,6 +138,15 @@ export class Card {
   showNote({ note, remarks }) {
     fill(this.note, note === "" ? null : shown(note),
       remarks.length ? el("small", {}, ` (${several(remarks.length, "comment")})`) : null);
+  }
+
+  /** Takes up what the item is called. A press that was meant for another name does nothing. */
+  hold(now) {
+    if (this.row.isConnected && now !== this.now) {
+      this.disarm();
+      appear(this.row);
+    }
+    this.now = now;
   }
 
   showChange(now) {
@@ -194,10 +204,7 @@ export class Card {
   }
 
   async doApprove() {
-    await this.carry("approved", {
-      route: "/approve", fields: { num: this.it.num }, about: approvalWords(this.it),
-      button: this.approve,
-    });
+    await this.carry("approved", approvalOf(this.it, this.now, this.approve));
   }
 
   async doReject() {
@@ -214,6 +221,10 @@ export class Card {
       this.setDecided(state);
       if (state === "approved") this.around.changed(it.path);
     } else if (answer?.refusal?.refused === 8) this.setDecided("");
+    else if (answer?.refusal?.refused === CHANGED) {
+      await this.around.changed(it.path);
+      fill(place, faultWords(answerWords(answer)));
+    }
   }
 
   /** Greys the row, which stays where it is, so that nothing else comes under the pointer. */

@@ -187,7 +187,8 @@ class List {
   changed(path) {
     const isNear = (it) => it === path || it.startsWith(`${path}/`);
     this.reads.delete(path);
-    this.cards.filter((it) => isNear(it.it.path) && !it.isDecided).forEach((it) => it.look());
+    const near = this.cards.filter((it) => isNear(it.it.path) && !it.isDecided);
+    return Promise.all(near.map((it) => it.look()));
   }
 }
 
