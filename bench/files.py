@@ -1,6 +1,6 @@
 """Rows of the program on files of names."""
 from processes import in_turn, peak_memory
-from rows import Figures, OURS, Row
+from rows import OURS, Figures, Row
 
 # The name of a row, its file, the bars of tidy and of check.
 TEXTS = (

@@ -1,7 +1,7 @@
 """Rows of a registry in a file."""
 from processes import Profile, Script, in_turn, memory_of, peak_memory, seconds
 from room import LARGE, SMALL, closed, ran, selected
-from rows import Figures, KITS, OURS, Row
+from rows import KITS, OURS, Figures, Row
 
 COMMANDS = 2_000
 ROUNDS = 5
@@ -32,7 +32,8 @@ def export_line(room):
     size = len(ran([room.program, "export", "--db", ours]))
     with Script(room.script(ours)) as script:
         least = min(script.time_of_export(size) for _ in range(ROUNDS))
-    return Figures(least, min(in_turn([[room.sqlite, theirs, "export", "1"]], rounds=9)) - room.idle)
+    [whole] = in_turn([[room.sqlite, theirs, "export", "1"]], rounds=9)
+    return Figures(least, whole - room.idle)
 
 
 def export_process(room):
@@ -119,7 +120,7 @@ def look_up_kept(room):
     pairs = "".join(PAIR.format(at % 500, 0) for at in range(PAIRS)).encode()
     asked = room.lines("asked", (f"3 {at % 500:x} 0 0 0 0 0 1024" for at in range(PAIRS)))
     words = [room.libpci_lookups, room.text("100,000 items")]
-    least, worked = in_turn([words], rounds=5)[0], in_turn([words], asked, 5)[0]
+    [least], [worked] = in_turn([words], rounds=5), in_turn([words], asked, 5)
     return Figures(least_of_lines(database, room, pairs) / PAIRS, (worked - least) / PAIRS)
 
 
@@ -127,10 +128,8 @@ def look_up_read(room):
     """Pairs of names that it reads, beside two selects."""
     ours, theirs = room.imported("100,000 items")[:2]
     pairs = "".join(PAIR.format(0xFFFF, at % 34_000) for at in range(PAIRS)).encode()
-    worked = in_turn([[room.sqlite, theirs, "unknown", str(PAIRS)]], rounds=5)[0]
-    return Figures(
-        least_of_lines(ours, room, pairs) / PAIRS, (worked - room.idle) / PAIRS
-    )
+    [worked] = in_turn([[room.sqlite, theirs, "unknown", str(PAIRS)]], rounds=5)
+    return Figures(least_of_lines(ours, room, pairs) / PAIRS, (worked - room.idle) / PAIRS)
 
 
 # -- opening

@@ -32,17 +32,17 @@ class Figures:
         if self.other is None:
             return ""
         ratio = self.judged()
-        return f"{ratio:.0f}" if ratio >= 20 else f"{ratio:.1f}" if ratio >= 5 else f"{ratio:.2f}"
+        return f"{ratio:.0f}" if ratio >= 20 else f"{ratio:.2f}"
 
 
 def in_unit(figure, unit):
-    if unit == "s":
-        figure, unit = next(
-            ((figure * times, name) for times, name in ((1, "s"), (1e3, "ms")) if figure * times >= 1),
-            (figure * 1e6, "µs"),
-        )
+    """A figure as a cell shows it."""
     if unit == "instructions":
         return f"{figure:,.0f}"
+    if unit == "s" and figure < 0.001:
+        figure, unit = figure * 1_000_000, "µs"
+    elif unit == "s" and figure < 1:
+        figure, unit = figure * 1_000, "ms"
     return f"{figure:.1f} {unit}" if figure < 100 else f"{figure:.0f} {unit}"
 
 

@@ -4,7 +4,7 @@ import os
 from processes import Profile, Script, memory_of, seconds
 from registry import ROUNDS, least_of_lines, with_bob
 from room import DEBIANS_FILE, LARGE, SMALL, ran, selected
-from rows import Figures, KITS, OURS, Row
+from rows import KITS, OURS, Figures, Row
 from serving import connected, free_port, get, nginx, our_server, posted, served, whole_reply
 
 READ, LOOK_UP = "/read/PC/8086", "/lookup?flags=3&vendor=8086&device=1237"
@@ -229,7 +229,7 @@ def memory_of_text(room):
     """What the server has in memory once the published text is kept, and before."""
     with our_server(room, room.imported("100,000 items")[0]) as server:
         with connected(server.port) as client:
-            client.sendall(get(READ))
+            server.time_of(client, get(READ))
             before = memory_of(server.process, "VmRSS")
         server.ask("/pci.ids")
         return Figures(memory_of(server.process, "VmRSS"), before, "MB")
