@@ -5,7 +5,7 @@ import shutil
 import subprocess
 import threading
 
-from rows import Skip
+from rows import Fault, Skip
 
 
 def seconds(command, path=os.devnull, status=0):
@@ -24,7 +24,7 @@ def seconds(command, path=os.devnull, status=0):
 
 def check_status(command, ended, status=0):
     if ended != status:
-        raise SystemExit(f"{' '.join(command)} ended with status {ended}")
+        raise Fault(f"{' '.join(command)} ended with status {ended}")
 
 
 def in_turn(commands, path=os.devnull, rounds=25):
@@ -112,7 +112,7 @@ class Profile:
     """The instructions of one run of a program, as callgrind counts them: those of each function
     itself, and those within it and what it calls. What the kernel does is not in them."""
 
-    def __init__(self, folder, words, talk):
+    def __init__(self, folder, words, talk=lambda process: None):
         if not shutil.which("valgrind"):
             raise Skip("valgrind is missing")
         self.path = os.path.join(folder, "profile")

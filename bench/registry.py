@@ -104,7 +104,7 @@ def command_share(room):
 def import_share(room):
     """The same of an import into a new registry, for an item."""
     words = room.import_words(room.path("anew"), room.text("10,000 items"))
-    profile = Profile(room.folder, words, lambda process: None)
+    profile = Profile(room.folder, words)
     return Figures(profile.of_ours() / 10_000, profile.total / 10_000, "instructions")
 
 

@@ -17,7 +17,7 @@ DEBIANS_FILE = "/usr/share/misc/pci.ids"
 os.environ["PATH"] = os.environ.get("PATH", os.defpath) + ":/usr/sbin:/sbin"
 
 # Items, submissions, and how many of these are pending.
-SMALL, LARGE = (1_000, 1_000, 10), (100_000, 1_000_000, 10)
+SMALL, MIDDLE, LARGE = (1_000, 1_000, 10), (10_000, 10_000, 10), (100_000, 1_000_000, 10)
 
 
 def said(what):

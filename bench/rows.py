@@ -12,6 +12,10 @@ class Skip(Exception):
     """Ends a row. It says what is missing."""
 
 
+class Fault(Exception):
+    """Ends a row. It says what went wrong."""
+
+
 @dataclass
 class Figures:
     """What the program takes and what the other takes: seconds, MB or instructions. Without
@@ -62,6 +66,10 @@ class Row:
         """What no run changes."""
         limits = [f"{it:g} {self.unit}".strip() if it else "" for it in (self.bar, self.aim)]
         return [self.work, self.whose, *limits]
+
+    def without_figures(self, why):
+        work, whose, bar, aim = self.fixed()
+        return [work, whose, "", "", why, bar, aim, ""]
 
     def met(self, figures):
         judged = figures.judged()

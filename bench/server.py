@@ -1,9 +1,9 @@
 """Rows of the server."""
 import os
 
-from processes import Profile, Script, memory_of, seconds
-from registry import ROUNDS, least_of_lines, with_bob
-from room import DEBIANS_FILE, LARGE, SMALL, ran, selected
+from processes import Profile, memory_of, seconds
+from registry import ROUNDS, least_of_lines
+from room import LARGE, MIDDLE, SMALL, ran, selected
 from rows import KITS, OURS, Figures, Row
 from serving import connected, free_port, get, nginx, our_server, posted, served, whole_reply
 
@@ -20,6 +20,20 @@ def small(room):
 
 def large(room):
     return room.registry(LARGE)
+
+
+def profiled(room, database, talk, connections=1):
+    """The instructions of a server that serves so many clients, each of whom talks."""
+    port = free_port()
+    words = ["serve", "--db", database, "--port", str(port), "--connections", str(connections)]
+
+    def clients(process):
+        process.stdout.readline()
+        for _ in range(connections):
+            with connected(port) as client:
+                talk(client)
+
+    return Profile(room.folder, [room.program, *words], clients)
 
 
 # -- beside nginx
@@ -50,21 +64,32 @@ def published(registry):
     return measure
 
 
+def changes_then(room, database, asks, count):
+    """All instructions of a server on which an item is renamed so many times, and something is
+    asked after each."""
+
+    def talk(client):
+        for at in range(count):
+            form = f"path=PC/0001&name=renamed+{at}".encode()
+            number = MIDDLE[1] + at + 1
+            for request in (
+                posted("/submit", "author-1", form),
+                posted("/approve", "root", f"num={number}".encode()),
+                *asks,
+            ):
+                client.sendall(request)
+                whole_reply(client)
+
+    return profiled(room, room.copy(database), talk).total
+
+
 def published_after_change(room):
     """The first request after an item was renamed, beside one walk of the items."""
-    database = with_bob(room, debians(room))
-    size = len(ran([room.program, "export", "--db", database]))
-    with Script(room.script(database)) as script:
-        walk = min(script.time_of_export(size) for _ in range(ROUNDS))
-    number, times = int(selected(database, "SELECT count(*) FROM submission")), []
-    with our_server(room, database) as ours, connected(ours.port) as client:
-        ours.time_of(client, get("/pci.ids"))
-        for at in range(1, ROUNDS + 1):
-            form = f"path=PC/8086&name=renamed+{at}".encode()
-            ours.time_of(client, posted("/submit", "bob", form))
-            ours.time_of(client, posted("/approve", "root", f"num={number + at}".encode()))
-            times.append(ours.time_of(client, get("/pci.ids")))
-    return Figures(min(times), walk)
+    database, count, asked = room.registry(MIDDLE), 3, get("/pci.ids")
+    without = changes_then(room, database, [], count)
+    took = (changes_then(room, database, [asked], count) - without) / count
+    export = Profile(room.folder, [room.program, "export", "--db", database])
+    return Figures(took, export.within("::Registry::export::"), "instructions")
 
 
 # -- beside a smaller registry
@@ -76,8 +101,9 @@ def of_both_sizes(target):
     def measure(room):
         times = []
         for database in large(room), small(room):
+            asked = target(database)
             with our_server(room, database) as server:
-                times.append(server.ask(target(database)))
+                times.append(server.ask(asked))
         return Figures(*times)
 
     return measure
@@ -115,18 +141,13 @@ def changes(back):
 
 def requests_on(room, connections, requests):
     """All instructions of a server that answers so many requests on each of so many connections."""
-    port = free_port()
-    words = ["serve", "--db", small(room), "--port", str(port), "--connections", str(connections)]
 
-    def talk(process):
-        process.stdout.readline()
-        for _ in range(connections):
-            with connected(port) as client:
-                for _ in range(requests):
-                    client.sendall(get("/read/PC/0001"))
-                    whole_reply(client)
+    def talk(client):
+        for _ in range(requests):
+            client.sendall(get("/read/PC/0001"))
+            whole_reply(client)
 
-    return Profile(room.folder, [room.program, *words], talk).total
+    return profiled(room, small(room), talk, connections).total
 
 
 def own_connection(room):
@@ -166,31 +187,29 @@ def submit_time(room):
     return Figures(ours / count, least_of_lines(database, room, lines) / count)
 
 
-def instructions_of(words, talk, call):
-    """200 submissions, beside what of them is in the registry's call that obeys them."""
-
-    def measure(room):
-        count, port = 200, free_port()
-        forms = [f"path=PC/{at:04x}&name=renamed" for at in range(count)]
-        where = [room.program, *(it.format(port=port) for it in words)]
-        where += ["--db", room.copy(small(room))]
-        profile = Profile(room.folder, where, lambda process: talk(process, port, forms))
-        figures = profile.within(call) / count, profile.within("::Registry::obey::") / count
-        return Figures(*figures, "instructions")
-
-    return measure
+FORMS = [f"path=PC/{at:04x}&name=renamed" for at in range(200)]
 
 
-def post_forms(process, port, forms):
-    process.stdout.readline()
-    with connected(port) as client:
-        for form in forms:
+def beside_obey(profile, call):
+    """Submissions, beside what of them is in the registry's call that obeys them."""
+    figures = [profile.within(it) / len(FORMS) for it in (call, "::Registry::obey::")]
+    return Figures(*figures, "instructions")
+
+
+def submit_instructions(room):
+    def talk(client):
+        for form in FORMS:
             client.sendall(posted("/submit", "root", form.encode()))
             whole_reply(client)
 
+    return beside_obey(profiled(room, room.copy(small(room)), talk), "::serve_connection::")
 
-def write_lines(process, _, forms):
-    process.stdin.write("".join(f"submit root {form}\n" for form in forms).encode())
+
+def line_instructions(room):
+    lines = "".join(f"submit root {form}\n" for form in FORMS).encode()
+    words = room.script(room.copy(small(room)))
+    profile = Profile(room.folder, words, lambda process: process.stdin.write(lines))
+    return beside_obey(profile, "::answer_line::")
 
 
 def import_time(room):
@@ -237,7 +256,6 @@ def memory_of_text(room):
 
 NAME = b'{"name":"Intel Corporation","path":"PC/8086"}'
 NAMES = b"Intel Corporation 440FX - 82441FX PMC [Natoma]"
-SERVE = ["serve", "--port", "{port}", "--connections", "1"]
 
 ROWS = [
     Row("read", f"`GET {READ}` / nginx, a file of that size", OURS, beside_nginx(READ, NAME), 4),
@@ -264,9 +282,9 @@ ROWS = [
     Row("lookup-at-once", "`GET /lookup`, so", OURS, at_once(LOOK_UP)),
     Row("submit", "`POST /submit` / a script's line of the same", OURS, submit_time, 1.3),
     Row("submit-obey", "`POST /submit`, instructions / `obey` within it", OURS,
-        instructions_of(SERVE, post_forms, "::serve_connection::")),
+        submit_instructions),
     Row("line-obey", "a script's line of the same, instructions / `obey` within it", OURS,
-        instructions_of(["script"], write_lines, "::answer_line::")),
+        line_instructions),
     Row("post-import", "`POST /import`, Debian's file / `import`, whole processes", OURS,
         import_time, 1.3),
     Row("memory-lookups", "memory of a server, 1,000,000 look-ups more / before", OURS,

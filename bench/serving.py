@@ -5,6 +5,7 @@ import subprocess
 import time
 
 from processes import check_status, thread_time
+from rows import Fault
 
 NGINX = """worker_processes 1; daemon off; master_process off;
 pid {folder}/pid; error_log {folder}/errors;
@@ -33,7 +34,7 @@ def whole_reply(client):
     while len(body) < length:
         body += client.recv(1 << 20)
     if not head.startswith(b"HTTP/1.1 200 "):
-        raise SystemExit(f"a server answers {head[:80]!r}")
+        raise Fault(f"a server answers {head[:80]!r}")
     return len(head) + 4 + length
 
 
@@ -69,7 +70,7 @@ class Serving:
                 return
             except ConnectionRefusedError:
                 time.sleep(0.05)
-        raise SystemExit(f"{words[0]} does not listen")
+        raise Fault(f"{words[0]} does not listen")
 
     def __enter__(self):
         return self
