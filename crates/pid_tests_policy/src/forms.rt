@@ -117,7 +117,8 @@ confirm alice num=1 | refused 3 BadText
 confirm alice was=a | refused 3 BadText
 confirm alice num=x&was=a | refused 3 BadText
 confirm alice num=1&was=a&was=a | refused 3 BadText
-confirm alice num=1&was=+a | refused 3 BadText
+confirm alice num=1&was=*1000 | ok
+confirm alice num=1&was=*1001 | refused 3 BadText
 confirm alice num=1&name=a | refused 3 BadText
 reject alice num=1&reason=no | ok
 reject alice num=1&reason= | refused 3 BadText
