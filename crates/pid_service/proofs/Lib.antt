@@ -17,3 +17,4 @@ pub mod Questions
 pub mod ItemLines
 pub mod WalkEnds
 pub mod CountedLines
+pub mod Waiting
