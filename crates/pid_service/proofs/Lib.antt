@@ -17,4 +17,4 @@ pub mod Questions
 pub mod ItemLines
 pub mod WalkEnds
 pub mod CountedLines
-pub mod Waiting
+pub mod PendingNumbers

@@ -29,6 +29,7 @@ use std::alloc::Global;
 
 // The most numbers that are kept, and the pages that have them.
 const MOST: usize = 1_000_000;
+
 const PAGES: u32 = 10_001;
 
 /// Adds a number, if memory is there and the most are not reached.

@@ -4,7 +4,7 @@ use Rattle.pid_tables_rows.specs.Causes.{IsCaused, IsReadable}
 use Rattle.pid_tables_rows.proofs.CauseLemmas.{caused_later, passed_on}
 use Rattle.pid_tables_rows.proofs.OnlyReading.{reads_then}
 use Rattle.pid_service.specs.Steps.Waiting.{standings_at}
-use Rattle.pid_service.proofs.Waiting.{one_numbered}
+use Rattle.pid_service.proofs.PendingNumbers.{one_numbered}
 use Rattle.pid_service.proofs.waiting.pending_at.Goals as goal
 
 pub loop-number-preserved : goal.loop-number-preserved

@@ -4,7 +4,7 @@ use Rattle.pid_moderation.specs.Changes.{affected, changed, keeping}
 use Rattle.pid_moderation.specs.Views.{Views}
 use Rattle.pid_service.specs.KeptViews.{HoldsWaiting}
 use Rattle.pid_service.proofs.Keeping.{no_items, same_items}
-use Rattle.pid_service.proofs.Waiting.{still_waiting}
+use Rattle.pid_service.proofs.PendingNumbers.{still_waiting}
 use Rattle.pid_service.proofs.kept_views.KeptViews.follow.Goals as goal
 
 kept_items : (r : Option Receipt) (v : Views) → (keeping r v).items ≡ v.items

@@ -6,7 +6,7 @@ use Rattle.pid_service.proofs.registry.Registry.carry_out.Goals as goal
 pub returns-in-Ok-clause-obeyed : goal.returns-in-Ok-clause-obeyed
 returns-in-Ok-clause-obeyed g c h asks to =
     accepted g.S.Store c.args.self.now _ h asks c.args.change.now c.args.reply to.shows to.judged to.reached
-    (λ v rest fit. c.in-Ok.ensures.stands v rest fit) refl c.write.ensures.clean 
+    (λ v rest fit. c.in-Ok.ensures.stands v rest fit) refl c.write.ensures.clean
     (λ fits kept. c.follow.ensures.right (views_of h) (c.views_of_sound_histories.ensures.views h (c.reached_histories_are_kept.ensures.sound h to.shows.history)) fits kept)
 
 pub returns-in-Err-clause-obeyed : goal.returns-in-Err-clause-obeyed
