@@ -18,3 +18,4 @@ pub mod ItemLines
 pub mod WalkEnds
 pub mod CountedLines
 pub mod PendingNumbers
+pub mod KeptNumbers

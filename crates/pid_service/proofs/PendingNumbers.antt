@@ -1,5 +1,5 @@
 -- The numbers of what is pending, after each change and page by page.
-use Rattle.std.proofs.Common.{◌≡◌, ℕ, zero, suc, ◌+◌, ◌≤◌, ◌<◌, List, [], ◌∷◌, ◌++◌, length, map, filter, take, drop, get_or, Bool, true, false, cond, None, Some, Option, refl, sym, ap, subst, ◌∙◌, arith, add-one}
+use Rattle.std.proofs.Common.{◌≡◌, ℕ, zero, suc, ◌+◌, ◌-◌, ◌≤◌, ◌<◌, List, [], ◌∷◌, ◌++◌, length, map, filter, take, drop, get_or, Bool, true, false, cond, None, Some, Option, IfSome, refl, sym, ap, subst, ◌∙◌, arith, add-one}
 use Rattle.std.specs.Prelude.{◌&&◌, ◌==◌, nat_lt, not, slice_get, option_map, if◌then◌else◌, Vec}
 use Rattle.std.specs.declared.alloc.Global.{Global}
 use Rattle.std.specs.List.{cons_option}
@@ -7,11 +7,16 @@ use Rattle.std.proofs.lemmas.Bool.Decides.{nat_tests}
 use Rattle.std.proofs.lemmas.List.{append-nil, append_assoc, length-map, length_push, map-append, take_all, take-append-drop, take-append-le, take-map, take_more}
 use Rattle.std.proofs.lemmas.List.Elements.{filter-append, filter_map-append}
 use Rattle.pid_moderation.specs.declared.change.Change.{Change}
+use Rattle.pid_moderation.specs.declared.change.Effect.{Effect}
+use Rattle.pid_moderation.specs.declared.change.Effect.TheVariants.{Decided, Submitted as Made}
 use Rattle.pid_moderation.specs.declared.change.Receipt.{Receipt}
+use Rattle.pid_moderation.specs.declared.change.Write.{Write}
+use Rattle.pid_moderation.specs.declared.command.Proposal.{Proposal}
+use Rattle.pid_file.specs.declared.path.Path.{Path}
 use Rattle.pid_moderation.specs.declared.facts.State.{State}
 use Rattle.pid_moderation.specs.declared.facts.State.TheVariants.{Pending as PendingState}
 use Rattle.pid_moderation.specs.declared.lists.Pending.{Pending}
-use Rattle.pid_moderation.specs.Changes.{affected, changed, keeping}
+use Rattle.pid_moderation.specs.Changes.{FitsEffect, affected, changed, keeping}
 use Rattle.pid_moderation.specs.CheckTables.{is_pending}
 use Rattle.pid_moderation.specs.PendingPages.{standings_from, waits_above, waiting_above, pending_in, told_of}
 use Rattle.pid_moderation.specs.Submissions.{Standing}
@@ -103,6 +108,20 @@ decided_from n number st (x ∷ submits) state off =
 pub decided_waits : (v w : Views) (number : ℕ) (st : State) → is_pending st ≡ false → w.submits ≡ v.submits → w.state ≡ (λ m. if m == number then st else v.state m) → numbers_waiting w ≡ others number (numbers_waiting v)
 decided_waits v w number st off same states = (λ i. waiting_from 1 (same i) (states i)) ∙ decided_from 1 number st v.submits v.state off
 
+-- the same of numbers that are kept
+
+pub submitted_holds : (effect : Effect) (number : ℕ) (author : List ℕ) (path : Path) (proposal : Proposal) (note : List ℕ) → effect ≡ Made number author path proposal note → (n : ℕ) (v : Views) (old new : List ℕ) → AreViews v → FitsEffect effect v
+    → old ≡ numbers_waiting v → new ≡ old ++ number ∷ [] → new ≡ numbers_waiting (affected n effect v)
+submitted_holds effect number author path proposal note is n v old new views fits held added =
+    let many : number ≡ length v.submits + 1 = subst (λ (e : Effect). FitsEffect e v) is fits in
+    added ∙ ap (λ l. l ++ number ∷ []) held ∙ sym (submitted_waits v number (record { author = author; path = path; proposal = proposal; note = note }) views many) ∙ ap (λ (e : Effect). numbers_waiting (affected n e v)) (sym is)
+
+pub decided_holds : (effect : Effect) (number : ℕ) (st : State) (w : Option Write) → effect ≡ Decided number st w → (n : ℕ) (v : Views) (old : List ℕ) (r : Option (Vec ℕ Global)) → old ≡ numbers_waiting v
+    → IfSome r (λ left. (is_pending st ≡ false) × (left.items ≡ filter (λ k. not (k == number)) old)) → HoldsWaiting r (affected n effect v)
+decided_holds effect number st w is n v old None held left = tt
+decided_holds effect number st w is n v old (Some numbers) held left =
+    left.1 ∙ ap (others number) held ∙ sym (decided_waits v (affected n (Decided number st w) v) number st left.0 refl refl) ∙ ap (λ (e : Effect). numbers_waiting (affected n e v)) (sym is)
+
 -- ---- pages of it, one after the other
 
 abbrev pub waiting : ℕ → Views → List ℕ
@@ -140,6 +159,10 @@ last_is (x ∷ []) zero after p many is = let same : x ≡ p = cc in ap number_o
 last_is (x ∷ []) (suc n) after p many is = absurd (omega (arith, many))
 last_is (x ∷ y ∷ page) zero after p many is = absurd (omega (arith, many))
 last_is (x ∷ y ∷ page) (suc n) after p many is = last_is (y ∷ page) n x.number p (omega (arith, many)) is
+
+pub last_told : (page : List Pending) (after : ℕ) (p : Pending) → slice_get page (length page - 1) ≡ Some p → last_of pending_number after (map told_of page) ≡ p.number
+last_told [] after p is = absurd (let bad : ⊥ = cc in bad)
+last_told (x ∷ page) after p is = last_is (x ∷ page) (length (x ∷ page) - 1) after p (omega arith) is
 
 -- ---- a page by its numbers
 

@@ -39,7 +39,7 @@ module _ {S : Type 0} (store : Ghosts S) where
   caused_since old mid new Store first second clean cause = caused_later (state store old) (state store mid) (state store new) (λ _. ⊥) faults.Store first.survives second.survives.counts (second.clean clean) cause
   caused_since old mid new e first second clean cause = cause
 
-  fault_since : {X : Type 0} (r : Result X Refusal) (old mid new : Held S) → clauses.OnlyReads store old mid → clauses.OnlyReads store mid new → clauses.HasCleanDisk store new → IfErr r (IsCausedAs store mid new) → IfErr r (IsCausedAs store old new)
+  pub fault_since : {X : Type 0} (r : Result X Refusal) (old mid new : Held S) → clauses.OnlyReads store old mid → clauses.OnlyReads store mid new → clauses.HasCleanDisk store new → IfErr r (IsCausedAs store mid new) → IfErr r (IsCausedAs store old new)
   fault_since (Ok x) old mid new first second clean cause = tt
   fault_since (Err e) old mid new first second clean cause = caused_since old mid new e first second clean cause
 
