@@ -24,7 +24,7 @@ use Rattle.pid_tables_rows.specs.declared.fault.TableFault.{TableFault}
 use Rattle.pid_service.specs.Asking.{IsCausedAs}
 use Rattle.pid_service.specs.Exporting.{ExportsTree}
 use Rattle.pid_service.specs.Histories.{Shows}
-use Rattle.pid_service.specs.KeptViews.{kept_by}
+use Rattle.pid_service.specs.KeptViews.{HoldsWaiting, kept_by, kept_views}
 use Rattle.pid_service.specs.Registries.{HasCleanDisk, OnlyReads, is_live}
 use Rattle.pid_lookup.specs.CacheAgreement.{Agrees}
 use Rattle.pid_lookup.specs.CacheEntries.{Entries}
@@ -69,11 +69,11 @@ module _ {S : Type 0} (store : Ghosts S) where
   text_told r h text is clean shows same = subst (λ (t : Option (Vec ℕ Global)). IfSome t (λ bytes. bytes.items ≡ text_of_items (items_of h))) is (shows.kept clean).text ∙ same
 
   -- a registry that has read keeps a text that is right, and shows what it did
-  pub text_kept : (old new : Registry S store) (h : History) → Shows store old h → is_live new ≡ is_live old → (kept_by new).names ≡ (kept_by old).names → OnlyReads store old new
+  pub text_kept : (old new : Registry S store) (h : History) → Shows store old h → is_live new ≡ is_live old → (kept_by new).names ≡ (kept_by old).names → (kept_views new).pending ≡ (kept_views old).pending → OnlyReads store old new
       → IfSome (kept_by new).text (λ bytes. bytes.items ≡ text_of_items (items_of h)) → Shows store new h
-  text_kept old new h shows same names reads text = record {
+  text_kept old new h shows same names numbers reads text = record {
     lives = same ∙ shows.lives;
     history = shows.history;
     tables = reads.kept (views_of h) shows.tables;
-    kept = λ clean. record { names = subst (λ (n : Entries). Agrees n (λ path. name_at path (items_of h))) (sym names) (shows.kept (reads.clean clean)).names; text = text };
+    kept = λ clean. record { names = subst (λ (n : Entries). Agrees n (λ path. name_at path (items_of h))) (sym names) (shows.kept (reads.clean clean)).names; text = text; pending = subst (λ (n : Option (Vec ℕ Global)). HoldsWaiting n (views_of h)) (sym numbers) (shows.kept (reads.clean clean)).pending };
   }

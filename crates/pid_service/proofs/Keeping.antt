@@ -1,19 +1,31 @@
--- What is kept in memory, beside the items that it is right about.
-use Rattle.std.proofs.Common.{◌≡◌, ℕ, List, Option, IfSome, rules, sym, subst}
+-- What is kept in memory, beside the views that it is right about.
+use Rattle.std.proofs.Common.{◌≡◌, ℕ, List, Option, None, IfSome, rules, sym, subst, ap, ◌∙◌}
+use Rattle.std.specs.Prelude.{Vec}
+use Rattle.std.specs.declared.alloc.Global.{Global}
 use Rattle.pid_lookup.specs.CacheAgreement.{Agrees}
 use Rattle.pid_moderation.specs.Items.{Items, name_at}
 use Rattle.pid_moderation.specs.Views.{Views}
 use Rattle.pid_service.specs.ItemTexts.{text_of_items}
-use Rattle.pid_service.specs.KeptViews.{IsRightFor, nothing}
+use Rattle.pid_service.specs.KeptViews.{HoldsWaiting, IsRightFor, nothing}
+use Rattle.pid_service.specs.declared.kept_views.KeptItems.{KeptItems}
 use Rattle.pid_service.specs.declared.kept_views.KeptViews.{KeptViews}
+use Rattle.pid_service.specs.Steps.KeptViews.{KeepsNothing}
+
+-- what is kept of the items is right about them
+abbrev pub ItemsRight : KeptItems → Items → Type 0
+ItemsRight k items = Agrees k.names (λ path. name_at path items) × IfSome k.text (λ bytes. bytes.items ≡ text_of_items items)
 
 -- nothing is right about any items
-pub nothing_kept : (k : KeptViews) (v : Views) → k ≡ nothing → IsRightFor k v
-nothing_kept k v none = subst (λ (n : KeptViews). IsRightFor n v) (sym none) (record { names = record { known = λ entry there. absurd (let no : ⊥ = search rules in no) }; text = tt })
+pub no_items : (k : KeptItems) (items : Items) → k ≡ nothing → ItemsRight k items
+no_items k items none = subst (λ (n : KeptItems). ItemsRight n items) (sym none) (record { known = λ entry there. absurd (let no : ⊥ = search rules in no) }, tt)
+
+no_numbers : (numbers : Option (Vec ℕ Global)) (v : Views) → numbers ≡ None → HoldsWaiting numbers v
+no_numbers numbers v none = subst (λ (n : Option (Vec ℕ Global)). HoldsWaiting n v) (sym none) tt
+
+-- nothing is right about any views
+pub nothing_kept : (k : KeptViews) (v : Views) → KeepsNothing k → IsRightFor k v
+nothing_kept k v none = let items = no_items k.items v.items none.items in record { names = items.0; text = items.1; pending = no_numbers k.pending v none.pending }
 
 -- what is right about the items stays so while they are the same
-pub same_items : (k : KeptViews) (v w : Views) → w.items ≡ v.items → IsRightFor k v → IsRightFor k w
-same_items k v w same right = record {
-  names = subst (λ (items : Items). Agrees k.names (λ path. name_at path items)) (sym same) right.names;
-  text = subst (λ (items : Items). IfSome k.text (λ bytes. bytes.items ≡ text_of_items items)) (sym same) right.text;
-}
+pub same_items : (k : KeptItems) (old new : Items) → new ≡ old → ItemsRight k old → ItemsRight k new
+same_items k old new same right = subst (λ (items : Items). ItemsRight k items) (sym same) right

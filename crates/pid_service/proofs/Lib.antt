@@ -17,3 +17,5 @@ pub mod Questions
 pub mod ItemLines
 pub mod WalkEnds
 pub mod CountedLines
+pub mod PendingNumbers
+pub mod KeptNumbers

@@ -22,14 +22,14 @@ use Rattle.pid_service.specs.declared.registry.Registry.{Registry}
 use Rattle.pid_service.specs.Histories.{IsReached, Shows, IsMemoryOrStore}
 use Rattle.pid_service.specs.Asking.{IsCausedAs}
 use Rattle.pid_service.specs.Steps.Judging.{IsJudgedFor, JudgesCommand}
-use Rattle.pid_service.specs.KeptViews.{IsRightFor, kept_by, nothing}
+use Rattle.pid_service.specs.KeptViews.{IsRightFor, kept_by, kept_views, nothing}
 use Rattle.pid_service.specs.declared.kept_views.KeptViews.{KeptViews}
 use Rattle.pid_service.specs.Obeying.{Forgets, IsAnswered, IsRefusedFor, Obeys}
 use Rattle.pid_service.specs.Registries.{HasCleanDisk, OnlyReads, connection, is_live}
 use Rattle.pid_service.proofs.Judged.{refused_stays}
 
 module _ {S : Type 0} (store : Ghosts S) where
-  pub only_read : (old new : Registry S store) (h : History) → is_live new ≡ is_live old → OnlyReads store old new → kept_by new ≡ kept_by old → Shows store old h → Shows store new h
+  pub only_read : (old new : Registry S store) (h : History) → is_live new ≡ is_live old → OnlyReads store old new → kept_views new ≡ kept_views old → Shows store old h → Shows store new h
   only_read old new h same reads names shows = record { lives = same ∙ shows.lives; history = shows.history; tables = reads.kept (views_of h) shows.tables; kept = λ clean. subst (λ (k : KeptViews). IsRightFor k (views_of h)) (sym names) (shows.kept (reads.clean clean)) }
 
   pub refused : (r : Registry S store) (h : History) (c : Asked) (e : Refusal) → Shows store r h → JudgesCommand h c (Err e) → Obeys store (Err e) r h c
@@ -41,14 +41,14 @@ module _ {S : Type 0} (store : Ghosts S) where
 
   pub accepted : (old new : Registry S store) (h : History) (c : Asked) (change : Change) (reply : Reply) → Shows store old h → JudgesCommand h c (Ok (Accepted change reply)) → IsReached (after h c)
       → ((v : Views) → AtRest store (connection old) v → FitsViews change v → AtRest store (connection new) (changed change v)) → is_live new ≡ is_live old
-      → (HasCleanDisk store new → HasCleanDisk store old) → ((v : Views) → IsRightFor (kept_by old) v → IsRightFor (kept_by new) (changed change v)) → Obeys store (Ok reply) new h c
+      → (HasCleanDisk store new → HasCleanDisk store old) → (FitsViews change (views_of h) → IsRightFor (kept_views old) (views_of h) → IsRightFor (kept_views new) (changed change (views_of h))) → Obeys store (Ok reply) new h c
   accepted old new h c change reply shows told reached stands same back names = inl (
     sym told.0,
     record {
       lives = same ∙ shows.lives;
       history = reached;
       tables = subst (AtRest store (connection new)) (sym told.1) (stands (views_of h) shows.tables told.2);
-      kept = λ clean. subst (IsRightFor (kept_by new)) (sym told.1) (names (views_of h) (shows.kept (back clean)));
+      kept = λ clean. subst (IsRightFor (kept_views new)) (sym told.1) (names told.2 (shows.kept (back clean)));
     },
   )
 

@@ -20,7 +20,7 @@ use Rattle.pid_tables_rows.specs.Clauses as clauses
 use Rattle.pid_tables_rows.specs.declared.fault.TableFault.TheVariants as faults
 use Rattle.pid_service.specs.declared.registry.Registry.{Registry}
 use Rattle.pid_service.specs.Asking.{Answers, IsCausedAs, MayGive}
-use Rattle.pid_service.specs.KeptViews.{kept_by}
+use Rattle.pid_service.specs.KeptViews.{kept_views}
 use Rattle.pid_service.specs.Registries.{OnlyAsked, OnlyReads, connection, is_live}
 use Rattle.pid_service.proofs.Obeyed.{only_read}
 
@@ -39,12 +39,12 @@ module _ {S : Type 0} (store : Ghosts S) where
   caused_since old mid new Store first second clean cause = caused_later (state store old) (state store mid) (state store new) (λ _. ⊥) faults.Store first.survives second.survives.counts (second.clean clean) cause
   caused_since old mid new e first second clean cause = cause
 
-  fault_since : {X : Type 0} (r : Result X Refusal) (old mid new : Held S) → clauses.OnlyReads store old mid → clauses.OnlyReads store mid new → clauses.HasCleanDisk store new → IfErr r (IsCausedAs store mid new) → IfErr r (IsCausedAs store old new)
+  pub fault_since : {X : Type 0} (r : Result X Refusal) (old mid new : Held S) → clauses.OnlyReads store old mid → clauses.OnlyReads store mid new → clauses.HasCleanDisk store new → IfErr r (IsCausedAs store mid new) → IfErr r (IsCausedAs store old new)
   fault_since (Ok x) old mid new first second clean cause = tt
   fault_since (Err e) old mid new first second clean cause = caused_since old mid new e first second clean cause
 
   -- a question behind a read is one
-  pub answers_then : {X : Type 0} (old mid new : Registry S store) (r : Result X Refusal) (Says : History → X → Type 0) → is_live old ≡ true → is_live mid ≡ is_live old → OnlyReads store old mid → kept_by mid ≡ kept_by old
+  pub answers_then : {X : Type 0} (old mid new : Registry S store) (r : Result X Refusal) (Says : History → X → Type 0) → is_live old ≡ true → is_live mid ≡ is_live old → OnlyReads store old mid → kept_views mid ≡ kept_views old
       → Answers store mid new r Says → Answers store old new r Says
   answers_then old mid new r Says on same reads kept a = record {
     failed = λ off. absurd (let both : true ≡ false = sym on ∙ off in let no : ⊥ = cc in no);

@@ -1,30 +1,48 @@
 -- What a registry keeps in memory of what is asked for again and again.
-use Rattle.std.specs.Prelude.{◌≡◌, [], None, IfSome}
+use Rattle.std.specs.Prelude.{◌≡◌, ℕ, List, [], Option, None, IfSome, Vec, map}
+use Rattle.std.specs.declared.alloc.Global.{Global}
 use Rattle.sqlite_trees.specs.declared.store.Store.{Ghosts}
 use Rattle.pid_moderation.specs.History.{History}
 use Rattle.pid_moderation.specs.Items.{name_at}
+use Rattle.pid_moderation.specs.PendingPages.{waiting_above}
+use Rattle.pid_moderation.specs.Submissions.{Standing}
 use Rattle.pid_moderation.specs.Views.{Views, views_of}
 use Rattle.pid_lookup.specs.CacheAgreement.{Agrees}
+use Rattle.pid_service.specs.declared.kept_views.KeptItems.{KeptItems}
 use Rattle.pid_service.specs.declared.kept_views.KeptViews.{KeptViews}
 use Rattle.pid_service.specs.declared.registry.Registry.{Registry}
 use Rattle.pid_service.specs.ItemTexts.{text_of_items}
 use Rattle.pid_service.specs.Registries.{HasCleanDisk}
 
 -- what it keeps
-abbrev pub kept_by : {S : Type 0} {store : Ghosts S} → Registry S store → KeptViews
-kept_by r = r.kept
+abbrev pub kept_views : {S : Type 0} {store : Ghosts S} → Registry S store → KeptViews
+kept_views r = r.kept
+
+-- what it keeps of the items
+abbrev pub kept_by : {S : Type 0} {store : Ghosts S} → Registry S store → KeptItems
+kept_by r = r.kept.items
 
 -- no name and no text
-abbrev pub nothing : KeptViews
+abbrev pub nothing : KeptItems
 nothing = record { names = []; text = None }
 
--- Each part is right about the items.
+-- the numbers of what is pending, rising
+abbrev pub numbers_waiting : Views → List ℕ
+numbers_waiting v = map (λ (s : ℕ × Standing). s.0) (waiting_above 0 v)
+
+-- these are they, if they are kept
+abbrev pub HoldsWaiting : Option (Vec ℕ Global) → Views → Type 0
+HoldsWaiting numbers v = IfSome numbers (λ kept. kept.items ≡ numbers_waiting v)
+
+-- Each part is right about the views.
 pub record IsRightFor (k : KeptViews) (v : Views) : Type 0 where
   -- the paths that were asked for last, each with its name or the absence of one
-  pub names : Agrees k.names (λ path. name_at path v.items)
+  pub names : Agrees k.items.names (λ path. name_at path v.items)
   -- the canonical text, if it is kept
-  pub text : IfSome k.text (λ bytes. bytes.items ≡ text_of_items v.items)
+  pub text : IfSome k.items.text (λ bytes. bytes.items ≡ text_of_items v.items)
+  -- the numbers of what is pending, if they are kept
+  pub pending : HoldsWaiting k.pending v
 
 -- while the disk returns what was written, what is kept is right about the history
 abbrev pub KeepsRight : {S : Type 0} (store : Ghosts S) → Registry S store → History → Type 0
-KeepsRight store r h = HasCleanDisk store r → IsRightFor (kept_by r) (views_of h)
+KeepsRight store r h = HasCleanDisk store r → IsRightFor (kept_views r) (views_of h)

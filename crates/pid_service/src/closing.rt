@@ -23,7 +23,7 @@ impl<S: Alter + Drop> Registry<S> {
         ensures count { result ≡ length (kept_by self.now).names }
         ensures limit { result ≤ 1024 }
     {
-        self.kept.names.len()
+        self.kept.items.names.len()
     }
 
     /// Hands the connection back, outside a transaction. If the registry has failed, open the files

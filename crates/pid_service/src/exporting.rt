@@ -68,7 +68,7 @@ impl<S: Alter + Drop> Registry<S> {
         }
         laws::reached_histories_are_kept(); // proof only
         laws::items_print_as_their_tree(); // proof only
-        if let Some(text) = &self.kept.text {
+        if let Some(text) = &self.kept.items.text {
             return match write_all(output, text.as_slice()) {
                 Ok(()) => Ok(()),
                 Err(fault) => Err(ExportFault::Write(fault)),
@@ -105,13 +105,13 @@ impl<S: Alter + Drop> Registry<S> {
         }
         laws::reached_histories_are_kept(); // proof only
         laws::items_print_as_their_tree(); // proof only
-        if let Some(text) = &self.kept.text {
+        if let Some(text) = &self.kept.items.text {
             return Ok(text.len() as u64);
         }
         let first = first_line(self.alloc);
         match items_text(&mut self.tables, first) {
             Ok(ItemsText { bytes, text }) => {
-                self.kept.text = text;
+                self.kept.items.text = text;
                 Ok(bytes)
             }
             // The text may have taken the memory that ran out.

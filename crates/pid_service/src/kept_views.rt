@@ -1,19 +1,43 @@
 //! What a registry keeps in memory of what is asked for again and again.
-ghost use Rattle.std.specs.Prelude.{◌≡◌, ◌⊎◌, ℕ, false, IfOk};
-ghost use Rattle.pid_moderation.specs.Changes.{affected, changed};
+ghost use Rattle.std.specs.Prelude.{
+  ◌≡◌,
+  ◌⊎◌,
+  ◌==◌,
+  ℕ,
+  false,
+  not,
+  filter,
+  IfOk,
+  IfSome,
+};
+ghost use Rattle.pid_moderation.specs.Changes.{FitsEffect, FitsViews, affected, changed};
+ghost use Rattle.pid_moderation.specs.CheckTables.{is_pending};
 ghost use Rattle.pid_moderation.specs.Views.{Views};
-ghost use Rattle.pid_service.specs.KeptViews.{IsRightFor, nothing};
+ghost use Rattle.pid_tables_rows.specs.Shows.{AreViews};
+ghost use Rattle.pid_service.specs.KeptViews.{HoldsWaiting, IsRightFor, nothing};
+ghost use Rattle.pid_service.specs.Steps.KeptViews.{KeepsNothing};
 
+use crate::waiting::add_number;
 use pid_lookup::NameCache;
-use pid_moderation::{Change, Effect};
+use pid_moderation::{Change, Effect, State};
 use std::alloc::{AllocError, Global};
 
-/// Views of the history that the tables show, or nothing: the names that were asked for last, 1,024
+/// Views of the items that the tables show, or nothing: the names that were asked for last, 1,024
 /// at most, and the canonical text of all items, of 16,777,216 bytes at most.
 #[derive(Drop)]
-pub struct KeptViews {
+pub struct KeptItems {
     pub(crate) names: NameCache,
     pub(crate) text: Option<Vec<u8>>,
+}
+
+/// Views of the history that the tables show, or nothing: those of the items, and the numbers of
+/// what is pending, rising, 1,000,000 at most.
+#[derive(Drop)]
+pub struct KeptViews {
+    pub(crate) items: KeptItems,
+    pub(crate) pending: Option<Vec<u32>>,
+    /// Whether the numbers were read. If none are kept then, they were too many, or memory ran out.
+    pub(crate) pending_read: bool,
 }
 
 fn writes_items(effect: &Effect) -> bool
@@ -29,12 +53,55 @@ fn writes_items(effect: &Effect) -> bool
     }
 }
 
-impl KeptViews {
+// Numbers after one is decided.
+fn without(mut numbers: Vec<u32>, number: u32) -> Vec<u32>
+    ensures { result.items ≡ filter (λ n. not (n == number)) numbers.items }
+{
+    numbers.retain(|waiting| *waiting != number);
+    numbers
+}
+
+// Numbers after one gets a state; none if that is no decision.
+fn without_decided(numbers: Vec<u32>, number: u32, state: &State) -> Option<Vec<u32>>
+    ensures { IfSome result (λ left. (is_pending state.now ≡ false)
+        × (left.items ≡ filter (λ n. not (n == number)) numbers.items)) }
+{
+    match state {
+        State::Pending => None,
+        State::Approved { .. } | State::Rejected { .. } | State::Withdrawn => {
+            Some(without(numbers, number))
+        }
+    }
+}
+
+// The numbers of what is pending after a change.
+fn waiting_after(numbers: Option<Vec<u32>>, effect: &Effect) -> Option<Vec<u32>>
+    ensures { (n : ℕ) (v : Views) → AreViews v → FitsEffect effect.now v → HoldsWaiting numbers v
+        → HoldsWaiting result (affected n effect.now v) }
+{
+    let mut numbers = numbers?;
+    match effect {
+        Effect::Submitted { number, .. } => {
+            if add_number(&mut numbers, *number) {
+                Some(numbers)
+            } else {
+                None
+            }
+        }
+        Effect::Decided { number, state, .. } => without_decided(numbers, *number, state),
+        Effect::Nothing
+        | Effect::Ranked { .. }
+        | Effect::Remarked { .. }
+        | Effect::Imported { .. } => Some(numbers),
+    }
+}
+
+impl KeptItems {
     /// Nothing is kept.
-    pub(crate) fn new(alloc: Global) -> Result<KeptViews, AllocError>
+    pub(crate) fn new(alloc: Global) -> Result<KeptItems, AllocError>
         ensures { IfOk result (λ kept. kept ≡ nothing) }
     {
-        Ok(KeptViews {
+        Ok(KeptItems {
             names: NameCache::new(alloc)?,
             text: None,
         })
@@ -47,17 +114,43 @@ impl KeptViews {
         self.names.clear();
         self.text = None;
     }
+}
 
-    /// Drops all that is kept if the change writes an item.
-    pub(crate) fn forget_for(&mut self, change: &Change)
-        ensures right { (v : Views) → IsRightFor self.old v → IsRightFor self.new (changed change.now v) }
-        ensures spares { (self.new ≡ nothing)
-            ⊎ ((v : Views) → (changed change.now v).items ≡ v.items) }
-        ensures none { self.old ≡ nothing → self.new ≡ nothing }
+impl KeptViews {
+    /// Nothing is kept.
+    pub(crate) fn new(alloc: Global) -> Result<KeptViews, AllocError>
+        ensures { IfOk result KeepsNothing }
     {
+        Ok(KeptViews {
+            items: KeptItems::new(alloc)?,
+            pending: None,
+            pending_read: false,
+        })
+    }
+
+    /// Drops all that is kept.
+    pub(crate) fn clear(&mut self)
+        ensures { KeepsNothing self.new }
+    {
+        self.items.clear();
+        self.pending = None;
+        self.pending_read = false;
+    }
+
+    /// Follows a change: what is kept of the items is dropped if it writes one, and the number of a
+    /// submission is added when it is made, and taken away when it is decided.
+    pub(crate) fn follow(&mut self, change: &Change)
+        ensures right { (v : Views) → AreViews v → FitsViews change.now v → IsRightFor self.old v
+            → IsRightFor self.new (changed change.now v) }
+        ensures spares { (self.new.items ≡ nothing)
+            ⊎ ((v : Views) → (changed change.now v).items ≡ v.items) }
+        ensures none { self.old.items ≡ nothing → self.new.items ≡ nothing }
+    {
+        let numbers = self.pending.take();
+        self.pending = waiting_after(numbers, &change.effect);
         if !writes_items(&change.effect) {
             return;
         }
-        self.clear();
+        self.items.clear();
     }
 }

@@ -15,9 +15,11 @@ mod looking_up;
 mod names;
 mod obeying;
 mod opening;
+mod pending;
 mod reading;
 mod registry;
 mod running;
+mod waiting;
 mod writing;
 
 pub use exporting::ExportFault;

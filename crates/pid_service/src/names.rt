@@ -29,7 +29,7 @@ impl<S: Alter + Drop> Registry<S> {
         ensures caused { IfSome result
             (λ r. IfErr r (FaultIsCaused S.Store self.old self.new)) }
     {
-        match self.kept.names.get(path) {
+        match self.kept.items.names.get(path) {
             Ok(None) => None,
             Ok(Some(name)) => Some(Ok(name)),
             Err(_) => Some(Err(Refusal::Memory)),
@@ -51,7 +51,7 @@ impl<S: Alter + Drop> Registry<S> {
         laws::reached_histories_are_kept(); // proof only
         match self.tables.item(self.alloc, path) {
             Ok(name) => {
-                self.kept.names.put(path, &name);
+                self.kept.items.names.put(path, &name);
                 Ok(name)
             }
             Err(fault) => Err(refusal_of(fault)),

@@ -30,11 +30,14 @@ impl<S: Alter + Drop> Registry<S> {
         ensures none { kept_by self.old ≡ nothing → kept_by self.new ≡ nothing }
         ensures held { LivesOrFails S.Store result self.old self.new }
     {
-        self.kept.forget_for(change);
+        laws::reached_histories_are_kept(); // proof only
+        pid_tables::laws::views_of_sound_histories(); // proof only
+        self.kept.follow(change);
         match write(&mut self.tables.conn, self.alloc, change) {
             Ok(()) => Ok(reply),
             Err(fault) => {
                 self.live = false;
+                self.kept.clear();
                 Err(refusal_of(fault))
             }
         }

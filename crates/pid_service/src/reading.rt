@@ -7,13 +7,12 @@ ghost use Rattle.pid_moderation.specs.ItemPairs.{pair_of};
 ghost use Rattle.pid_moderation.specs.ChangePages.{changes_in, page_of, start_text};
 ghost use Rattle.pid_moderation.specs.Children.{children_of};
 ghost use Rattle.pid_moderation.specs.Submissions.{discussion_in, discussion_of};
-ghost use Rattle.pid_moderation.specs.PendingPages.{pending_in, told_of};
 ghost use Rattle.pid_service.specs.Asking.{Answers, AnswersIfThere};
 
 use crate::laws;
 use crate::registry::Registry;
 use pid_ident::{Account, Name, Path};
-use pid_moderation::{Changes, Discussion, Item, PAGE, Pending, Rank, Refusal};
+use pid_moderation::{Changes, Discussion, Item, PAGE, Rank, Refusal};
 use pid_tables::refusal_of;
 use pid_tables_rows::account::rank;
 use pid_tables_rows::meta::revision;
@@ -64,22 +63,6 @@ impl<S: Alter + Drop> Registry<S> {
         laws::reached_histories_are_kept(); // proof only
         match self.tables.children(self.alloc, above) {
             Ok(items) => Ok(items),
-            Err(fault) => Err(refusal_of(fault)),
-        }
-    }
-
-    /// The pending submissions whose numbers are above a number, rising, `PAGE` at most: from 0 on,
-    /// and then from the last number of a page, the pages go through all that are pending.
-    pub fn pending(&mut self, after: u32) -> Result<Vec<Pending>, Refusal>
-        ensures { Answers S.Store self.old self.new result
-            (λ h page. map told_of page.items ≡ pending_in PAGE after (views_of h)) }
-    {
-        if !self.live {
-            return Err(Refusal::Failed);
-        }
-        laws::reached_histories_are_kept(); // proof only
-        match self.tables.pending_page(self.alloc, after) {
-            Ok(page) => Ok(page),
             Err(fault) => Err(refusal_of(fault)),
         }
     }

@@ -111,6 +111,27 @@ export | # PCI ID registry;1af4  Red Hat, Inc.;8086  Intel Corporation;>1237  44
 >>1af4 1100  Qemu machine;C 01  Mass;S 8086;>1100  Board;
 ";
 
+// What is pending is asked for before and after each command that changes it.
+const WAITING: &str = "\
+pending 0 | 
+submit root path=PC/8086&name=a | ok 1
+submit root path=PC/8086&name=b | ok 2
+pending 0 | 1 root PC/8086 a;2 root PC/8086 b;
+account root who=bob&rank=2 | ok
+reject bob num=1&reason=no | ok
+pending 0 | 2 root PC/8086 b;
+submit root path=PC/10ec&name=c | ok 3
+import bob 8086  Intel Corporation; | ok added=1 renamed=0 same=0
+pending 0 | 2 root PC/8086 b;3 root PC/10ec c;
+withdraw root num=3 | ok
+approve bob num=2 | ok
+pending 0 | 
+submit root path=PC/10ec&name=d | ok 4
+comment bob num=4&text=seen | ok
+pending 0 | 4 root PC/10ec d;
+pending 4 | 
+";
+
 const RANKS: &str = "\
 rank root | 3
 rank alice | none
@@ -123,7 +144,7 @@ rank root | 3
 
 #[test]
 fn worked_runs(rt: HostRuntime) -> Result<(), Fail> {
-    for rows in [FAULTY, FORMS, CHILDREN, RANKS] {
+    for rows in [FAULTY, FORMS, CHILDREN, WAITING, RANKS] {
         expect_run(&rt, rt.alloc(), rows)?;
     }
     Ok(())

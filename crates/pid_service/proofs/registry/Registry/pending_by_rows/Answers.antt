@@ -1,7 +1,7 @@
 use Rattle.std.proofs.Common.{rules}
 use Rattle.pid_moderation.specs.Views.{views_of}
 use Rattle.pid_service.proofs.Causes.{caused_by}
-use Rattle.pid_service.proofs.registry.Registry.pending.Goals as goal
+use Rattle.pid_service.proofs.registry.Registry.pending_by_rows.Goals as goal
 
 pub returns-in-Err : goal.returns-in-Err
 returns-in-Err g c = record {

@@ -1,0 +1,27 @@
+use Rattle.std.proofs.Common.{◌≡◌, ◌<◌, ◌≤◌, ◌∷◌, ◌++◌, [], true, false, get_or, length, arith, rules, ◌∙◌}
+use Rattle.std.specs.Prelude.{nat_lt}
+use Rattle.std.proofs.lemmas.Bool.Decides.{nat_tests}
+use Rattle.pid_service.proofs.PendingNumbers.{not_above, one_above, page_full}
+use Rattle.pid_service.proofs.waiting.numbers_above.Goals.{else-after-number-via-then-after-number+then-len-lt-PAGE+else-is_err, else-after-number-via-then-after-number+else-len-lt-PAGE, else-after-number-via-else-after-number}
+use Rattle.pid_service.proofs.waiting.numbers_above.Goals as goal
+
+pub loop-number-preserved : goal.loop-number-preserved
+loop-number-preserved c =
+    let all = c.args.numbers.now in
+    let i = c.loop-number.number-index in
+    let page = c.loop-number.page.items in
+    let low = c.loop-number-test.true in
+    let is = c.loop-number.invariant in
+    elim c.else-after-number.branch [
+      | else-after-number-via-then-after-number+then-len-lt-PAGE+else-is_err w ↦
+          let above : nat_lt c.args.after (get_or all i 0) ≡ true = search (rules, nat_tests) in
+          let room : length page < 100 = search rules in
+          let pushed : w.push.new.self.items ≡ page ++ get_or all i 0 ∷ [] = search rules in
+          rw w.page-is (pushed ∙ one_above 100 c.args.after all i 0 page low is above room)
+      | else-after-number-via-then-after-number+else-len-lt-PAGE w ↦
+          let full : 100 ≤ length page = search rules in
+          rw w.page-is (page_full 100 c.args.after all i 0 page low is full)
+      | else-after-number-via-else-after-number w ↦
+          let below : nat_lt c.args.after (get_or all i 0) ≡ false = search (rules, nat_tests) in
+          rw w.page-is (not_above 100 c.args.after all i 0 page low is below)
+    ]

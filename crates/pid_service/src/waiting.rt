@@ -1,0 +1,155 @@
+//! The numbers of what is pending, and pages of it that are read by them.
+ghost use Rattle.std.specs.Prelude.{
+  ◌≡◌,
+  ◌∷◌,
+  ◌++◌,
+  [],
+  true,
+  false,
+  nat_lt,
+  option_map,
+  IfSome,
+  filter,
+  map,
+  take,
+};
+ghost use Rattle.pid_moderation.specs.PendingPages.{told_of};
+ghost use Rattle.pid_tables_rows.specs.Clauses.{Reads};
+ghost use Rattle.pid_tables_lists.specs.Laws.{pending_number};
+ghost use Rattle.pid_tables_lists.specs.Pages.{last_of};
+ghost use Rattle.pid_tables_lists.specs.Steps.Adding.{Adds};
+ghost use Rattle.pid_service.specs.KeptViews.{HoldsWaiting};
+ghost use Rattle.pid_service.specs.Steps.Waiting.{number_of, standing_at, standings_at};
+
+use pid_moderation::{PAGE, Pending};
+use pid_tables::{TableFault, Tables};
+use pid_tables_rows::submission::standing;
+use sqlite::{Alter, Connection};
+use std::alloc::Global;
+
+// The most numbers that are kept, and the pages that have them.
+const MOST: usize = 1_000_000;
+
+const PAGES: u32 = 10_001;
+
+/// Adds a number, if memory is there and the most are not reached.
+pub(crate) fn add_number(numbers: &mut Vec<u32>, number: u32) -> bool
+    ensures { result ≡ true → numbers.new.items ≡ numbers.old.items ++ number ∷ [] }
+{
+    numbers.len() < MOST && numbers.push(number).is_ok()
+}
+
+// Adds the numbers of a page.
+fn add_numbers(numbers: &mut Vec<u32>, page: &[Pending]) -> bool
+    ensures { result ≡ true
+        → numbers.new.items ≡ numbers.old.items ++ map number_of page.now }
+{
+    for pending in page {
+        if !add_number(numbers, pending.number) {
+            return false;
+        }
+    }
+    true
+}
+
+// The number after which the next page is asked.
+fn last_number(after: u32, page: &[Pending]) -> u32
+    ensures { result ≡ last_of pending_number after (map told_of page.now) }
+{
+    match page.last() {
+        Some(pending) => pending.number,
+        None => after,
+    }
+}
+
+/// The numbers of what is pending, rising, by pages of submissions. None if they are too many, or if
+/// there is no memory for them.
+pub(crate) fn waiting_numbers<S: Alter + Drop>(
+    tables: &mut Tables<S>,
+    alloc: Global,
+) -> Result<Option<Vec<u32>>, TableFault>
+    requires { tables.old.conn.in_transaction ≡ false }
+    ensures { Reads S.Store tables.old.conn tables.new.conn result
+        (λ v numbers. HoldsWaiting numbers v) }
+{
+    pid_tables_lists::laws::pending_go_on(); // proof only
+    let mut numbers = Vec::new(alloc);
+    let mut after = 0;
+    for _ in 0..PAGES {
+        let page = tables.pending_page(alloc, after)?;
+        if !add_numbers(&mut numbers, page.as_slice()) {
+            return Ok(None);
+        }
+        if page.len() < PAGE {
+            return Ok(Some(numbers));
+        }
+        after = last_number(after, page.as_slice());
+    }
+    Ok(None)
+}
+
+/// The first numbers above a number, as many as a page holds. None if memory runs out.
+pub(crate) fn numbers_above(alloc: Global, numbers: &[u32], after: u32) -> Option<Vec<u32>>
+    ensures { IfSome result
+        (λ page. page.items ≡ take PAGE (filter (nat_lt after) numbers.now)) }
+{
+    let mut page = Vec::new(alloc);
+    for number in numbers {
+        if after < *number && page.len() < PAGE && page.push(*number).is_err() {
+            return None;
+        }
+    }
+    Some(page)
+}
+
+// The submission with a number, as a pending one; none if there is none.
+fn numbered<S: Alter>(
+    conn: &mut Connection<S>,
+    alloc: Global,
+    number: u32,
+) -> Result<Option<Pending>, TableFault>
+    requires { conn.old.in_transaction ≡ false }
+    ensures { Reads S.Store conn.old conn.new result
+        (λ v pending. option_map told_of pending ≡ standing_at v number) }
+{
+    match standing(conn, alloc, number)? {
+        None => Ok(None),
+        Some(submission) => Ok(Some(Pending { number, submission })),
+    }
+}
+
+fn add_numbered<S: Alter>(
+    page: &mut Vec<Pending>,
+    conn: &mut Connection<S>,
+    alloc: Global,
+    number: u32,
+) -> Result<(), TableFault>
+    requires { conn.old.in_transaction ≡ false }
+    ensures { Reads S.Store conn.old conn.new result
+        (λ v _. Adds told_of page.old.items page.new.items (standings_at (number ∷ []) v)) }
+{
+    match numbered(conn, alloc, number)? {
+        None => Ok(()),
+        Some(pending) => match page.push(pending) {
+            Ok(()) => Ok(()),
+            Err(_) => Err(TableFault::Memory),
+        },
+    }
+}
+
+/// The submissions with these numbers, in their order. Each is read by its key.
+pub(crate) fn pending_at<S: Alter>(
+    conn: &mut Connection<S>,
+    alloc: Global,
+    numbers: &[u32],
+) -> Result<Vec<Pending>, TableFault>
+    requires { conn.old.in_transaction ≡ false }
+    ensures { Reads S.Store conn.old conn.new result
+        (λ v page. map told_of page.items ≡ standings_at numbers.now v) }
+{
+    let mut page = Vec::new(alloc);
+    for number in numbers {
+        add_numbered(&mut page, conn, alloc, *number)?;
+    }
+    Ok(page)
+}
