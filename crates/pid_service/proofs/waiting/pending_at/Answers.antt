@@ -1,4 +1,4 @@
-use Rattle.std.proofs.Common.{◌≡◌, ◌++◌, ap, sym, ◌∙◌, arith}
+use Rattle.std.proofs.Common.{◌≡◌, ◌∷◌, ◌++◌, [], get_or, ap, sym, ◌∙◌, arith}
 use Rattle.std.proofs.lemmas.List.{take_all}
 use Rattle.sqlite.specs.Held.{state}
 use Rattle.pid_tables_rows.specs.Causes.{IsCaused, IsReadable}
@@ -11,10 +11,11 @@ use Rattle.pid_service.proofs.waiting.pending_at.Goals as goal
 pub loop-number-preserved : goal.loop-number-preserved
 loop-number-preserved g c =
     let one = c.in_ok-add_numbered.ensures in
+    let number = get_or c.args.numbers.now c.loop-number.number-index 0 in
     let before = c.loop-number.invariant in (
       reads_then _ _ _ before.0 one.rests,
       λ clean v rest.
-          one.told clean v (before.0.kept v rest) ∙ ap (λ l. l ++ standings_at _ v) (before.1 (one.rests.clean clean) v rest) ∙ sym (one_numbered v c.args.numbers.now c.loop-number.number-index _ c.loop-number-test.true),
+          one.told clean v (before.0.kept v rest) ∙ ap (λ l. l ++ standings_at (number ∷ []) v) (before.1 (one.rests.clean clean) v rest) ∙ sym (one_numbered v c.args.numbers.now c.loop-number.number-index 0 c.loop-number-test.true),
     )
 
 pub returns : goal.returns
