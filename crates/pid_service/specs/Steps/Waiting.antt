@@ -5,8 +5,8 @@ use Rattle.pid_moderation.specs.Submissions.{Standing, standing_in}
 use Rattle.pid_moderation.specs.Views.{Views}
 use Rattle.pid_moderation.specs.declared.lists.Pending.{Pending}
 
-abbrev pub number_of : Pending → ℕ
-number_of pending = pending.number
+abbrev pub its_number : Pending → ℕ
+its_number pending = pending.number
 
 -- the submission with a number, as it stands, with its number
 abbrev pub standing_at : Views → ℕ → Option (ℕ × Standing)
