@@ -3,7 +3,7 @@ from processes import Profile, Script, in_turn, memory_of, peak_memory, seconds
 from room import LARGE, SMALL, closed, ran, selected
 from rows import KITS, OURS, Figures, Row
 
-COMMANDS = 2_000
+COMMANDS = 1_000
 ROUNDS = 5
 
 
