@@ -3,7 +3,7 @@ from processes import Profile, Script, in_turn, memory_of, peak_memory, seconds
 from room import LARGE, SMALL, closed, ran, selected
 from rows import KITS, OURS, Figures, Row
 
-COMMANDS = 2_000
+COMMANDS = 1_000
 ROUNDS = 5
 
 
@@ -235,7 +235,7 @@ ROWS = [
     Row("import-100k", "`import`, 100,000 items / C SQLite", KITS, imported("100,000 items")),
     Row("import-share", "`import` of an item, instructions in `pid_*` / all", OURS, import_share,
         0.1),
-    Row("export-100k", "`export`, 100,000 items, without opening / C SQLite", KITS, export_line),
+    Row("export-100k", "a script's `export`, 100,000 items / C SQLite", OURS, export_line, 2),
     Row("export-debian", "`export`, Debian's file, whole process / C SQLite", KITS,
         export_process),
     Row("command-1k", "a script's command, 1,000 items / C SQLite", KITS,

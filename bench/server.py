@@ -171,7 +171,7 @@ def at_once(target):
 
 def submit_time(room):
     """Submissions without keys, over one connection and as lines of a script."""
-    count, database = 2_000, debians(room)
+    count, database = 1_000, debians(room)
     forms = [b"path=PC/%04x&name=renamed" % at for at in range(count)]
 
     def submit(client):
