@@ -27,11 +27,7 @@ use Rattle.pid_tables_lists.specs.Pages.{last_of}
 use Rattle.pid_tables_lists.specs.Steps.PendingRows.{AreStandingIn}
 use Rattle.pid_tables_lists.proofs.PendingLists.{page_in}
 use Rattle.pid_service.specs.KeptViews.{HoldsWaiting, numbers_waiting}
-<<<<<<< HEAD
-use Rattle.pid_service.specs.Steps.Waiting.{number_listed, standing_at, standings_at}
-=======
 use Rattle.pid_service.specs.Steps.Waiting.{its_number, standing_at, standings_at}
->>>>>>> fcf2f017a3ef4d8d4d2d6106d51577ff51d4dd54
 
 -- ---- what a change does
 
@@ -131,11 +127,7 @@ decided_holds effect number st w is n v old (Some numbers) held left =
 abbrev pub waiting : ℕ → Views → List ℕ
 waiting after v = map pending_number (waiting_above after v)
 
-<<<<<<< HEAD
-numbers_told : (page : List Pending) → map number_listed page ≡ map pending_number (map told_of page)
-=======
 numbers_told : (page : List Pending) → map its_number page ≡ map pending_number (map told_of page)
->>>>>>> fcf2f017a3ef4d8d4d2d6106d51577ff51d4dd54
 numbers_told [] = refl
 numbers_told (p ∷ page) = ap (λ l. p.number ∷ l) (numbers_told page)
 
@@ -145,41 +137,25 @@ take_short (suc n) [] low = refl
 take_short (suc n) (x ∷ xs) low = ap (λ l. x ∷ l) (take_short n xs (omega (arith, low)))
 
 -- a page that is not full has all that wait after this number
-<<<<<<< HEAD
-pub last_page : (v : Views) (most after : ℕ) (page : List Pending) (before : List ℕ) → map told_of page ≡ pending_in most after v → length page < most → before ++ map number_listed page ≡ before ++ waiting after v
-=======
 pub last_page : (v : Views) (most after : ℕ) (page : List Pending) (before : List ℕ) → map told_of page ≡ pending_in most after v → length page < most → before ++ map its_number page ≡ before ++ waiting after v
->>>>>>> fcf2f017a3ef4d8d4d2d6106d51577ff51d4dd54
 last_page v most after page before told short =
     let many : length (pending_in most after v) ≡ length page = sym (ap length told) ∙ length-map page told_of in
     ap (λ l. before ++ l) (numbers_told page ∙ ap (map pending_number) (told ∙ take_short most (waiting_above after v) (omega (arith, many, short))))
 
 -- what waits after the last number of a page comes after it
 pub next_page : PendingGoOn → (v : Views) (most after : ℕ) (page : List Pending) (before : List ℕ) → map told_of page ≡ pending_in most after v
-<<<<<<< HEAD
-    → (before ++ map number_listed page) ++ waiting (last_of pending_number after (map told_of page)) v ≡ before ++ waiting after v
-next_page law v most after page before told =
-    let all = waiting_above after v in
-    let rest : waiting (last_of pending_number after (map told_of page)) v ≡ map pending_number (drop most all) = ap (λ p. waiting (last_of pending_number after p) v) told ∙ ap (map pending_number) (law most after v) in
-    let head : map number_listed page ≡ map pending_number (take most all) = numbers_told page ∙ ap (map pending_number) told in
-=======
     → (before ++ map its_number page) ++ waiting (last_of pending_number after (map told_of page)) v ≡ before ++ waiting after v
 next_page law v most after page before told =
     let all = waiting_above after v in
     let rest : waiting (last_of pending_number after (map told_of page)) v ≡ map pending_number (drop most all) = ap (λ p. waiting (last_of pending_number after p) v) told ∙ ap (map pending_number) (law most after v) in
     let head : map its_number page ≡ map pending_number (take most all) = numbers_told page ∙ ap (map pending_number) told in
->>>>>>> fcf2f017a3ef4d8d4d2d6106d51577ff51d4dd54
     (λ i. (before ++ head i) ++ rest i) ∙ append_assoc before (map pending_number (take most all)) (map pending_number (drop most all))
     ∙ ap (λ l. before ++ l) (sym (map-append pending_number (take most all) (drop most all)) ∙ ap (map pending_number) (take-append-drop most all))
 
 -- the last one of a page
 pub last_is : (page : List Pending) (n after : ℕ) (p : Pending) → n + 1 ≡ length page → slice_get page n ≡ Some p → last_of pending_number after (map told_of page) ≡ p.number
 last_is [] n after p many is = absurd (omega (arith, many))
-<<<<<<< HEAD
-last_is (x ∷ []) zero after p many is = let same : x ≡ p = cc in ap number_listed same
-=======
 last_is (x ∷ []) zero after p many is = let same : x ≡ p = cc in ap its_number same
->>>>>>> fcf2f017a3ef4d8d4d2d6106d51577ff51d4dd54
 last_is (x ∷ []) (suc n) after p many is = absurd (omega (arith, many))
 last_is (x ∷ y ∷ page) zero after p many is = absurd (omega (arith, many))
 last_is (x ∷ y ∷ page) (suc n) after p many is = last_is (y ∷ page) n x.number p (omega (arith, many)) is

@@ -19,11 +19,7 @@ ghost use Rattle.pid_tables_lists.specs.Laws.{pending_number};
 ghost use Rattle.pid_tables_lists.specs.Pages.{last_of};
 ghost use Rattle.pid_tables_lists.specs.Steps.Adding.{Adds};
 ghost use Rattle.pid_service.specs.KeptViews.{HoldsWaiting};
-<<<<<<< HEAD
-ghost use Rattle.pid_service.specs.Steps.Waiting.{number_listed, standing_at, standings_at};
-=======
 ghost use Rattle.pid_service.specs.Steps.Waiting.{its_number, standing_at, standings_at};
->>>>>>> fcf2f017a3ef4d8d4d2d6106d51577ff51d4dd54
 
 use pid_moderation::{PAGE, Pending};
 use pid_tables::{TableFault, Tables};
@@ -46,11 +42,7 @@ pub(crate) fn add_number(numbers: &mut Vec<u32>, number: u32) -> bool
 // Adds the numbers of a page.
 fn add_numbers(numbers: &mut Vec<u32>, page: &[Pending]) -> bool
     ensures { result ≡ true
-<<<<<<< HEAD
-        → numbers.new.items ≡ numbers.old.items ++ map number_listed page.now }
-=======
         → numbers.new.items ≡ numbers.old.items ++ map its_number page.now }
->>>>>>> fcf2f017a3ef4d8d4d2d6106d51577ff51d4dd54
 {
     for pending in page {
         if !add_number(numbers, pending.number) {

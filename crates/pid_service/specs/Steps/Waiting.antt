@@ -5,13 +5,8 @@ use Rattle.pid_moderation.specs.Submissions.{Standing, standing_in}
 use Rattle.pid_moderation.specs.Views.{Views}
 use Rattle.pid_moderation.specs.declared.lists.Pending.{Pending}
 
-<<<<<<< HEAD
-abbrev pub number_listed : Pending → ℕ
-number_listed pending = pending.number
-=======
 abbrev pub its_number : Pending → ℕ
 its_number pending = pending.number
->>>>>>> fcf2f017a3ef4d8d4d2d6106d51577ff51d4dd54
 
 -- the submission with a number, as it stands, with its number
 abbrev pub standing_at : Views → ℕ → Option (ℕ × Standing)
