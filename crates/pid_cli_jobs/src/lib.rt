@@ -6,11 +6,15 @@ mod files;
 mod job_end;
 mod jobs;
 pub mod laws;
+mod lookups;
+mod on_files;
 mod replies;
+mod running;
 mod serving;
 
 pub use files::open_file;
 pub use job_end::JobEnd;
 pub use jobs::{RegistryJob, migrate_on, work_on};
 pub use replies::{print_answer, print_reply, tell_reply, tell_unopened};
+pub use running::run_words;
 pub use serving::Port;

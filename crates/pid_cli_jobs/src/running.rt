@@ -1,11 +1,15 @@
 //! The job that the arguments name, on the streams of the process.
+use crate::job_end::JobEnd;
+use crate::jobs::RegistryJob;
 use crate::lookups::{print_lookup, read_words};
 use crate::on_files::{migrate_file, work_on_file, work_on_memory};
-use pid_cli_jobs::{JobEnd, Port, RegistryJob, print_reply, tell_reply};
+use crate::replies::{print_reply, tell_reply};
+use crate::serving::Port;
 use pid_cli_words::{Counted, Job, LookupWords, Progress, job_of, tell_no_job};
 use pid_file::{TextEnd, Watched, run_check, run_tidy, tell_end, tell_failed};
 use pid_ident::{Account, Input, Key, Output, Plain, WordFault};
 use pid_moderation::Refusal;
+use sqlite_disk::Start;
 use std::alloc::Global;
 use std::fs;
 use std::fs::File;
@@ -17,8 +21,9 @@ const BUFFER: usize = 65_536;
 ///
 /// Faults are found in this order: the arguments; the account, the key and the values of a lookup;
 /// the opening of the pci.ids file; the database; the port; the rest.
-pub fn run_words<I: Read + Drop, O: Write + Drop, F: Write + Drop>(
+pub fn run_words<S: Start, I: Read + Drop, O: Write + Drop, F: Write + Drop>(
     rt: &HostRuntime,
+    start: S,
     words: &[String],
     input: I,
     output: O,
@@ -31,9 +36,9 @@ pub fn run_words<I: Read + Drop, O: Write + Drop, F: Write + Drop>(
     match job {
         Job::Tidy => run_tidy(rt.alloc(), input, output, faults),
         Job::Check => run_check(rt.alloc(), input, output, faults),
-        Job::Export { db } => run_export(rt, db, output, faults),
-        Job::Lookup(words) => run_plain(rt, PlainJob::Lookup(words), input, output, faults),
-        Job::Script { db } => run_plain(rt, PlainJob::Script(db), input, output, faults),
+        Job::Export { db } => run_export(rt, start, db, output, faults),
+        Job::Lookup(words) => run_plain(rt, start, PlainJob::Lookup(words), input, output, faults),
+        Job::Script { db } => run_plain(rt, start, PlainJob::Script(db), input, output, faults),
         Job::Import {
             db,
             account,
@@ -44,7 +49,7 @@ pub fn run_words<I: Read + Drop, O: Write + Drop, F: Write + Drop>(
                 files: (db, ids),
                 sender: (account, key),
             };
-            run_plain(rt, job, input, output, faults)
+            run_plain(rt, start, job, input, output, faults)
         }
         Job::Serve {
             db,
@@ -55,9 +60,9 @@ pub fn run_words<I: Read + Drop, O: Write + Drop, F: Write + Drop>(
                 number: port,
                 connections,
             };
-            run_plain(rt, PlainJob::Serve(db, port), input, output, faults)
+            run_plain(rt, start, PlainJob::Serve(db, port), input, output, faults)
         }
-        Job::Migrate { db } => run_plain(rt, PlainJob::Migrate(db), input, output, faults),
+        Job::Migrate { db } => run_plain(rt, start, PlainJob::Migrate(db), input, output, faults),
     }
 }
 
@@ -75,8 +80,9 @@ enum PlainJob<'a> {
     Migrate(&'a str),
 }
 
-fn run_plain<I: Read + Drop, O: Write + Drop, F: Write + Drop>(
+fn run_plain<S: Start, I: Read + Drop, O: Write + Drop, F: Write + Drop>(
     rt: &HostRuntime,
+    start: S,
     job: PlainJob<'_>,
     input: I,
     output: O,
@@ -84,15 +90,16 @@ fn run_plain<I: Read + Drop, O: Write + Drop, F: Write + Drop>(
 ) -> u8 {
     let mut output = Plain::new(Watched::new(output));
     let mut faults = Plain::new(faults);
-    let end = match do_plain(rt, job, Plain::new(input), &mut output, &mut faults) {
+    let end = match do_plain(rt, start, job, Plain::new(input), &mut output, &mut faults) {
         JobEnd::Replied(reply) => print_reply(reply, &mut output),
         end => end,
     };
     status(end, output.into_inner().is_unread(), &mut faults)
 }
 
-fn do_plain<I: Input + Drop, O: Output, F: Output>(
+fn do_plain<S: Start, I: Input + Drop, O: Output, F: Output>(
     rt: &HostRuntime,
+    start: S,
     job: PlainJob<'_>,
     input: I,
     output: &mut O,
@@ -101,15 +108,15 @@ fn do_plain<I: Input + Drop, O: Output, F: Output>(
     match job {
         PlainJob::Lookup(words) => run_lookup(rt, &words, output, faults),
         PlainJob::Script(Some(file)) => {
-            work_on_file(rt, file, RegistryJob::Script(input), output, faults)
+            work_on_file(rt, start, file, RegistryJob::Script(input), output, faults)
         }
         PlainJob::Script(None) => work_on_memory(rt, RegistryJob::Script(input), output, faults),
-        PlainJob::Import { files, sender } => run_import(rt, files, sender, output, faults),
+        PlainJob::Import { files, sender } => run_import(rt, start, files, sender, output, faults),
         PlainJob::Serve(file, port) => {
             let job: RegistryJob<I> = RegistryJob::Serve(port);
-            work_on_file(rt, file, job, output, faults)
+            work_on_file(rt, start, file, job, output, faults)
         }
-        PlainJob::Migrate(file) => migrate_file(rt, file, output, faults),
+        PlainJob::Migrate(file) => migrate_file(rt, start, file, output, faults),
     }
 }
 
@@ -123,8 +130,9 @@ fn status<F: Output>(end: JobEnd, is_unread: bool, faults: &mut F) -> u8 {
 }
 
 // If standard output is a terminal too, the text itself shows the progress.
-fn run_export<O: Write + Drop, F: Write + Drop>(
+fn run_export<S: Start, O: Write + Drop, F: Write + Drop>(
     rt: &HostRuntime,
+    start: S,
     db: &str,
     output: O,
     faults: F,
@@ -133,15 +141,16 @@ fn run_export<O: Write + Drop, F: Write + Drop>(
     let mut progress = Progress::new(rt, "exporting", is_told);
     let mut faults = Plain::new(faults);
     let output = Counted::new(output, &mut progress);
-    let (end, is_unread) = print_export(rt, db, output, &mut faults);
+    let (end, is_unread) = print_export(rt, start, db, output, &mut faults);
     progress.clear();
     status(end, is_unread, &mut faults)
 }
 
 // Prints the registry of a file through a buffer. Also returns whether the reader of the output has
 // gone away.
-fn print_export<O: Write + Drop, F: Output>(
+fn print_export<S: Start, O: Write + Drop, F: Output>(
     rt: &HostRuntime,
+    start: S,
     db: &str,
     output: O,
     faults: &mut F,
@@ -151,7 +160,7 @@ fn print_export<O: Write + Drop, F: Output>(
     };
     let mut output = Plain::new(buffer);
     let job: RegistryJob<Plain<Stdin>> = RegistryJob::Export;
-    let end = work_on_file(rt, db, job, &mut output, faults);
+    let end = work_on_file(rt, start, db, job, &mut output, faults);
     let mut buffer = output.into_inner();
     let end = match (end, buffer.flush()) {
         (JobEnd::Told(0), Err(_)) => JobEnd::FileFailed,
@@ -178,8 +187,9 @@ fn run_lookup<O: Output, F: Output>(
 }
 
 // `files` are the registry file and the pci.ids file; `sender` is the account and the key.
-fn run_import<O: Output, F: Output>(
+fn run_import<S: Start, O: Output, F: Output>(
     rt: &HostRuntime,
+    start: S,
     files: (&str, &str),
     sender: (&str, Option<&str>),
     output: &mut O,
@@ -188,7 +198,7 @@ fn run_import<O: Output, F: Output>(
     let (db, ids) = files;
     match sender_of(rt.alloc(), sender) {
         Ok(sender) => match fs::open(rt, ids) {
-            Ok(file) => bring_in_file(rt, db, sender, file, output, faults),
+            Ok(file) => bring_in_file(rt, start, db, sender, file, output, faults),
             Err(_) => JobEnd::FileFailed,
         },
         Err(WordFault::Bad) => JobEnd::Replied(Err(Refusal::BadText)),
@@ -197,8 +207,9 @@ fn run_import<O: Output, F: Output>(
 }
 
 // Imports an open pci.ids file into the registry of a file.
-fn bring_in_file<O: Output, F: Output>(
+fn bring_in_file<S: Start, O: Output, F: Output>(
     rt: &HostRuntime,
+    start: S,
     db: &str,
     sender: (Account, Option<Key>),
     file: File,
@@ -212,7 +223,7 @@ fn bring_in_file<O: Output, F: Output>(
         key,
         input: Plain::new(Counted::new(file, &mut progress)),
     };
-    let end = work_on_file(rt, db, job, output, faults);
+    let end = work_on_file(rt, start, db, job, output, faults);
     progress.clear();
     end
 }

@@ -1,5 +1,6 @@
 //! Lookups in a pci.ids file.
-use pid_cli_jobs::{JobEnd, print_answer};
+use crate::job_end::JobEnd;
+use crate::replies::print_answer;
 use pid_cli_words::LookupWords;
 use pid_file::{LARGEST, TextEnd, tell_unread};
 use pid_ident::{Input, Output};

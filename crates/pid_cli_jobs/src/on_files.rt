@@ -1,25 +1,35 @@
 //! The jobs of a registry in a file or in memory.
-use pid_cli_jobs::{JobEnd, RegistryJob, migrate_on, open_file, tell_unopened, work_on};
+use crate::files::open_file;
+use crate::job_end::JobEnd;
+use crate::jobs::{RegistryJob, migrate_on, work_on};
+use crate::replies::tell_unopened;
 use pid_ident::{Input, Output};
 use pid_service::TableFault;
-use sqlite::{Connection, Unknown};
+use sqlite::{Connection, FileStore};
+use sqlite_disk::{Disk, Start};
+
+// Closes a connection that a job handed back. If the log cannot be copied into the file, it stays
+// for the next opening.
+fn close_back<D: Disk + Drop>(back: Option<Connection<FileStore<D>>>) {
+    if let Some(conn) = back {
+        let _ = conn.close();
+    }
+}
 
 /// Does the job on a registry file, which is created if it does not exist. Afterwards, all that was
-/// committed is in the file or in the log next to it.
-pub fn work_on_file<I: Input + Drop, O: Output, F: Output>(
+/// committed is in the file or in the log next to it. `start` is as for `open_file`.
+pub fn work_on_file<S: Start, I: Input + Drop, O: Output, F: Output>(
     rt: &HostRuntime,
+    start: S,
     file: &str,
     job: RegistryJob<I>,
     output: &mut O,
     faults: &mut F,
 ) -> JobEnd {
-    match open_file(rt, file, Unknown) {
+    match open_file(rt, file, start) {
         Ok(conn) => {
-            let (end, conn) = work_on(rt, conn, job, output, faults);
-            if let Some(conn) = conn {
-                // If the log cannot be copied into the file, it stays for the next opening.
-                let _ = conn.close();
-            }
+            let (end, back) = work_on(rt, conn, job, output, faults);
+            close_back(back);
             end
         }
         Err(fault) => JobEnd::Told(tell_unopened(fault, faults)),
@@ -27,19 +37,18 @@ pub fn work_on_file<I: Input + Drop, O: Output, F: Output>(
 }
 
 /// Moves the tables of a registry file, which is created if it does not exist, to the newest
-/// schema.
-pub fn migrate_file<O: Output, F: Output>(
+/// schema. `start` is as for `open_file`.
+pub fn migrate_file<S: Start, O: Output, F: Output>(
     rt: &HostRuntime,
+    start: S,
     file: &str,
     output: &mut O,
     faults: &mut F,
 ) -> JobEnd {
-    match open_file(rt, file, Unknown) {
+    match open_file(rt, file, start) {
         Ok(conn) => {
-            let (end, conn) = migrate_on(rt.alloc(), conn, output, faults);
-            if let Some(conn) = conn {
-                let _ = conn.close();
-            }
+            let (end, back) = migrate_on(rt.alloc(), conn, output, faults);
+            close_back(back);
             end
         }
         Err(fault) => JobEnd::Told(tell_unopened(fault, faults)),
