@@ -127,12 +127,16 @@ module _ (v : Views) (search : Search) (asked : Asked) (searched : ℕ) (last_is
   lowest_is : 1 ≤ searched → unless_first (asked.low + 1) ≡ unless_first (last_number 0 looked)
   lowest_is some_searched = elim (cases_Bool (nat_lt asked.low asked.last)) [
     | inl less ↦
-        let under : asked.low < length (take asked.last v.submits) = rw (length-take-le asked.last v.submits few) (grind (arith, nat_tests)) in
+        let size : length (take asked.last v.submits) ≡ asked.last = length-take-le asked.last v.submits few in
+        let under : asked.low < length (take asked.last v.submits) = grind (arith, nat_tests) in
         let first = first_left v.state 1 asked.low (take asked.last v.submits) under in
-        ap unless_first (omega (arith, first.3) ∙ sym (last_turned 0 (listing_in v first.0) (map (listing_in v) first.1)) ∙ ap (λ l. last_number 0 (reverse (map (listing_in v) l))) (sym first.2) ∙ ap (last_number 0) (sym looked_is))
+        let start : asked.low + 1 ≡ first.0.0 = omega (arith, first.3) in
+        let turned : last_number 0 (reverse (listing_in v first.0 ∷ map (listing_in v) first.1)) ≡ first.0.0 = last_turned 0 (listing_in v first.0) (map (listing_in v) first.1) in
+        ap unless_first (start ∙ sym turned ∙ ap (λ l. last_number 0 (reverse (map (listing_in v) l))) (sym first.2) ∙ ap (last_number 0) (sym looked_is))
     | inr none ↦
+        let low = low_is in
         let nothing : asked.last ≡ 0 = grind (arith, nat_tests) in
-        let bottom : asked.low ≡ 0 = grind (arith, nat_tests) in
+        let bottom : asked.low ≡ 0 = omega (arith, low, nothing) in
         ap (λ n. unless_first (n + 1)) bottom ∙ sym (ap (λ l. unless_first (last_number 0 l)) (looked_is ∙ ap (λ n. reverse (map (listing_in v) (drop asked.low (standings_from 1 (take n v.submits) v.state)))) nothing
         ∙ ap (λ n. reverse (map (listing_in v) (drop n []))) bottom))
   ]
