@@ -203,7 +203,7 @@ module _ (v : Views) where
           nothing_below (suc n) = under_first sought 0 (omega arith)
 
       step : IsStep (under any k)
-      step = elim (cases_Bool (length (take most found) == most)) [ | inl is ↦ full is | inr is ↦ short is ]
+      step = elim (cases_Bool (length (take most found) == most)) [ inl is ↦ full is | inr is ↦ short is ]
 
     lower_bound : (m : ℕ) → nat_le m 1 ≡ false → m ≤ count → last_before count m + 1 ≡ m
     lower_bound m more within = go (m == 0) refl (nat_lt count m) refl

@@ -47,7 +47,7 @@ use Rattle.pid_tables_rows.proofs.QueryTexts.{IsOneAs, in_order}
 use Rattle.pid_tables_rows.proofs.Select.{passing, said, out}
 use Rattle.pid_tables_rows.proofs.Statements.{program, listing}
 use Rattle.pid_tables_rows.proofs.TurnLemmas.{hits, permuted}
-use Rattle.pid_tables_lists.specs.Steps.SubmissionRows.{Asked, is_any_or, is_asked, latest_asked, numbers_of}
+use Rattle.pid_tables_lists.specs.Steps.SubmissionRows.{WantedRows, is_any_or, is_asked, latest_asked, numbers_among}
 use Rattle.pid_tables_lists.proofs.ItemLists.{kept_distinct, finer_distinct}
 use Rattle.pid_tables_lists.proofs.OrderedLemmas.{StandsFor, listed}
 use Rattle.pid_tables_lists.proofs.PendingLists.{a_hundred, higher, in_standing, less_number, number_within, stands_in}
@@ -81,14 +81,14 @@ unfolding understood everything
 select_numbers_unlisted = refl
 
 -- what is asked, as the parameters have it
-abbrev pub params_of : Asked → Row
+abbrev pub params_of : WantedRows → Row
 params_of asked = number asked.low ∷ number asked.last ∷ Text asked.path ∷ Text asked.author ∷ []
 
-numbers_one : (asked : Asked) → IsOneAs select_numbers (params_of asked) (understood pid_schema select_numbers)
+numbers_one : (asked : WantedRows) → IsOneAs select_numbers (params_of asked) (understood pid_schema select_numbers)
 unfolding understood everything
 numbers_one asked = record { whole = omega arith; given = refl; bare = refl; timeless = refl }
 
-pub numbers_query : (asked : Asked) → IsQuery pid_schema select_numbers (params_of asked)
+pub numbers_query : (asked : WantedRows) → IsQuery pid_schema select_numbers (params_of asked)
 numbers_query asked = in_order pid_schema select_numbers (params_of asked) 6 asked_for its_number (codes "num" ∷ []) (numbers_one asked) falling a_hundred select_numbers_is select_numbers_unlisted refl
 
 -- ---- the tests
@@ -117,7 +117,7 @@ four_tests true true false d = refl
 four_tests true false c d = refl
 four_tests false b c d = refl
 
-hits_asked : (asked : Asked) (id : ℤ) (n : ℕ) (s : Standing) → hits asked_for (params_of asked) (submission_row id n s) ≡ is_asked asked (n, s)
+hits_asked : (asked : WantedRows) (id : ℤ) (n : ℕ) (s : Standing) → hits asked_for (params_of asked) (submission_row id n s) ≡ is_asked asked (n, s)
 hits_asked asked id n s =
     (λ i. higher n asked.low i && (no_higher n asked.last i && (any_said asked.path (path_text s.submitted.path) i && (any_said asked.author s.submitted.author i && true))))
     ∙ four_tests _ _ _ _
@@ -149,7 +149,7 @@ module _ {X : Type 0} where
 abbrev pub number_mark : ℕ × Standing → Output
 number_mark s = (number s.0 ∷ [], value_row s.0)
 
-module _ (asked : Asked) (submits : List Submitted) (state : ℕ → Standings) where
+module _ (asked : WantedRows) (submits : List Submitted) (state : ℕ → Standings) where
   abbrev cmp : Output → Output → Ordering
   cmp = output_cmp (listing 6 asked_for its_number falling a_hundred)
 
@@ -161,7 +161,7 @@ module _ (asked : Asked) (submits : List Submitted) (state : ℕ → Standings) 
       (ascending_weaker (λ (a b : ℕ × Standing). b.0 < a.0) (λ a b. cmp (number_mark a) (number_mark b) ≡ Less) later_first _
       (ascending_reverse (λ (a b : ℕ × Standing). a.0 < b.0) (filter (is_asked asked) (standings_from 1 submits state)) (ascending-filter (λ (a b : ℕ × Standing). a.0 < b.0) (is_asked asked) _ (standings_ascend 1 submits state))))
 
-module _ (db : Database) (c : Counts) (v : Views) (shows : ShowsCounting c db v) (asked : Asked) where
+module _ (db : Database) (c : Counts) (v : Views) (shows : ShowsCounting c db v) (asked : WantedRows) where
   abbrev params : Row
   params = params_of asked
 
@@ -173,8 +173,7 @@ module _ (db : Database) (c : Counts) (v : Views) (shows : ShowsCounting c db v)
     each = λ r h.
         let passed = has_filtered (hits asked_for params) (db.trees 6) r h in
         let pair = shows.submissions.sound r passed.0 in
-        let is : is_asked asked (pair.key, pair.value) ≡ true = sym (hits_asked asked pair.id pair.key pair.value) ∙ subst (λ x. hits asked_for params x ≡ true) pair.is passed.1 in
-        (
+        let is : is_asked asked (pair.key, pair.value) ≡ true = sym (hits_asked asked pair.id pair.key pair.value) ∙ subst (λ x. hits asked_for params x ≡ true) pair.is passed.1 in (
           (pair.key, pair.value),
           permuted kept (reverse kept) (pair.key, pair.value) (IsPermutation-reverse kept) (has_kept (is_asked asked) _ (pair.key, pair.value) (stands_in v pair.key pair.value pair.maps) is),
           ap (out 6 asked_for its_number falling a_hundred params) pair.is,
@@ -188,14 +187,14 @@ module _ (db : Database) (c : Counts) (v : Views) (shows : ShowsCounting c db v)
     rises = numbers_fall asked v.submits v.state;
   }
 
-  pub numbers_found : (old new : State) → old.now ≡ db → (answer : List Row) → Shown select_numbers (params_of asked) old new answer → answer ≡ map value_row (numbers_of (latest_asked 100 asked v))
+  pub numbers_found : (old new : State) → old.now ≡ db → (answer : List Row) → Shown select_numbers (params_of asked) old new answer → answer ≡ map value_row (numbers_among (latest_asked 100 asked v))
   numbers_found old new is answer h =
       let got = reads_as select_numbers params old new pid_schema (ap (λ (d : Database). d.schema) is ∙ shows.schema) _ select_numbers_is select_numbers_plain select_numbers_unlisted answer h in
       listed 6 asked_for its_number falling a_hundred params number_mark (reverse kept) (overlay db.trees []) (db.trees 6) answer (none_over db.trees 6) numbers_stand
       (subst (λ (d : Database). IsAnswer (listing 6 asked_for its_number falling a_hundred) (overlay d.trees []) params answer) is (got.answer Null))
       ∙ first_of 100 (reverse kept)
     where
-      first_of : (k : ℕ) (xs : List (ℕ × Standing)) → take k (map (λ (e : ℕ × Standing). (number_mark e).1) xs) ≡ map value_row (numbers_of (take k xs))
+      first_of : (k : ℕ) (xs : List (ℕ × Standing)) → take k (map (λ (e : ℕ × Standing). (number_mark e).1) xs) ≡ map value_row (numbers_among (take k xs))
       first_of zero xs = refl
       first_of (suc k) [] = refl
       first_of (suc k) (x ∷ xs) = ap (λ l. value_row x.0 ∷ l) (first_of k xs)
@@ -209,13 +208,13 @@ taken_has (suc k) (x ∷ xs) e (inl same) = inl same
 taken_has (suc k) (x ∷ xs) e (inr later) = inr (taken_has k xs e later)
 
 -- each of them is a submission
-pub latest_there : (v : Views) (most : ℕ) (asked : Asked) (e : ℕ × Standing) → Has (latest_asked most asked v) e → Has (standings_from 1 v.submits v.state) e
+pub latest_there : (v : Views) (most : ℕ) (asked : WantedRows) (e : ℕ × Standing) → Has (latest_asked most asked v) e → Has (standings_from 1 v.submits v.state) e
 latest_there v most asked e h =
     let kept = filter (is_asked asked) (standings_from 1 v.submits v.state) in
     (has_filtered (is_asked asked) (standings_from 1 v.submits v.state) e (permuted (reverse kept) kept e (IsPermutation-sym _ _ (IsPermutation-reverse kept)) (taken_has most (reverse kept) e h))).0
 
 -- their numbers fit 32 bits
-pub numbers_fit : (v : Views) (most : ℕ) (asked : Asked) → IsReadable v → AllByRecursion (λ (n : ℕ). n < 2 ^ 32) (numbers_of (latest_asked most asked v))
+pub numbers_fit : (v : Views) (most : ℕ) (asked : WantedRows) → IsReadable v → AllByRecursion (λ (n : ℕ). n < 2 ^ 32) (numbers_among (latest_asked most asked v))
 numbers_fit v most asked readable = all-map (λ (n : ℕ). n < 2 ^ 32) (λ (s : ℕ × Standing). s.0) (latest_asked most asked v) (all_from _ _ (λ e h.
     let low = number_within v e.0 e.1 (in_standing v e (latest_there v most asked e h)) in
     omega (arith, low, readable.submission_count)))

@@ -16,7 +16,7 @@ use Rattle.pid_moderation.specs.SubmissionPages.{Search, Listing, ListingPage, l
 use Rattle.pid_moderation.specs.declared.lists.SubmissionPage.{SubmissionPage}
 use Rattle.pid_moderation.specs.declared.lists.TheConstants.{PAGE, SEARCHED}
 use Rattle.pid_tables_lists.specs.ByNumber.{standings_at}
-use Rattle.pid_tables_lists.specs.Steps.SubmissionRows.{Asked, StandsFor, is_any_or, is_asked, last_before, latest_asked, next_after, numbers_of}
+use Rattle.pid_tables_lists.specs.Steps.SubmissionRows.{WantedRows, StandsFor, is_any_or, is_asked, last_before, latest_asked, next_after, numbers_among}
 use Rattle.pid_tables_lists.proofs.FallingLemmas.{filter_reverse, map_reverse, filter_same_on, filter_twice, take_reverse, up_to, above, standings_count, first_left}
 use Rattle.pid_tables_lists.proofs.NumberLemmas.{read_again}
 use Rattle.pid_tables_lists.proofs.PendingLists.{in_standing, standings_are}
@@ -48,7 +48,7 @@ before_is count before n within = go (before == 0) refl (nat_lt count before) re
     go false bound false above = grind (arith, nat_tests)
 
 either_part : (n k : ℕ) → (n ≡ (n - k) + k) ⊎ ((n - k ≡ 0) × (n ≤ k))
-either_part n k = elim (cases_Bool (nat_le k n)) [ | inl fits ↦ inl (grind (arith, nat_tests)) | inr short ↦ inr (grind (arith, nat_tests), grind (arith, nat_tests)) ]
+either_part n k = elim (cases_Bool (nat_le k n)) [ inl fits ↦ inl (grind (arith, nat_tests)) | inr short ↦ inr (grind (arith, nat_tests), grind (arith, nat_tests)) ]
 
 reordered : (a b c : Bool) → (a && (b && c)) ≡ ((b && a) && c)
 reordered true true c = refl
@@ -65,7 +65,7 @@ last_turned d l xs = ap (last_number d) (reverse-append (l ∷ []) xs) ∙ last_
 
 -- ---- the rows that a page looks at
 
-module _ (v : Views) (search : Search) (asked : Asked) (searched : ℕ) (last_is : asked.last ≡ last_before (length v.submits) search.before) (low_is : asked.low ≡ asked.last - searched) where
+module _ (v : Views) (search : Search) (asked : WantedRows) (searched : ℕ) (last_is : asked.last ≡ last_before (length v.submits) search.before) (low_is : asked.low ≡ asked.last - searched) where
   abbrev all : List (ℕ × Standing)
   all = standings_from 1 v.submits v.state
 
@@ -98,7 +98,7 @@ module _ (v : Views) (search : Search) (asked : Asked) (searched : ℕ) (last_is
   so_many = length-map some (listing_in v) ∙ standings_count v.state 1 (take asked.last v.submits) ∙ length-take-le asked.last v.submits few
 
   parts : (length (map (listing_in v) some) ≡ asked.low + searched) ⊎ ((asked.low ≡ 0) × (length (map (listing_in v) some) ≤ searched))
-  parts = elim (either_part asked.last searched) [ | inl fits ↦ inl (so_many ∙ fits ∙ ap (λ n. n + searched) (sym low_is)) | inr short ↦ inr (low_is ∙ short.0, omega (arith, so_many, short.1)) ]
+  parts = elim (either_part asked.last searched) [ inl fits ↦ inl (so_many ∙ fits ∙ ap (λ n. n + searched) (sym low_is)) | inr short ↦ inr (low_is ∙ short.0, omega (arith, so_many, short.1)) ]
 
   looked_is : looked ≡ reverse (map (listing_in v) reached)
   looked_is = ap (take searched) below_are ∙ take_reverse searched asked.low (map (listing_in v) some) parts ∙ ap reverse (drop-map (listing_in v) asked.low some)
@@ -142,7 +142,7 @@ module _ (v : Views) (search : Search) (asked : Asked) (searched : ℕ) (last_is
   ]
 
   -- the page of the rows that were read
-  pub page_is : (most : ℕ) (page : SubmissionPage) (numbers : List ℕ) → 1 ≤ searched → StandsFor (option_map path_text search.path) asked.path → StandsFor search.author asked.author → numbers ≡ numbers_of (latest_asked most asked v)
+  pub page_is : (most : ℕ) (page : SubmissionPage) (numbers : List ℕ) → 1 ≤ searched → StandsFor (option_map path_text search.path) asked.path → StandsFor search.author asked.author → numbers ≡ numbers_among (latest_asked most asked v)
       → map listed_of page.submissions.items ≡ map (listing_in v) (standings_at numbers v) → page.before ≡ next_after most (map listed_of page.submissions.items) (asked.low + 1) → submission_page_of page ≡ submissions_of most searched search v
   page_is most page numbers some_searched path author numbered listed next =
       let found = first_sought most search looked in

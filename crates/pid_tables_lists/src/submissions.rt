@@ -37,7 +37,7 @@ ghost use Rattle.pid_tables_lists.specs.Steps.SubmissionRows.{
   last_before,
   latest_asked,
   next_after,
-  numbers_of as numbers_in,
+  numbers_among,
 };
 
 use pid_ident::{Account, Path, PathText};
@@ -61,7 +61,7 @@ fn number_rows<'x, S: Alter>(
 ) -> Result<Vec<Row>, TableFault>
     requires { conn.old.in_transaction ≡ false }
     ensures { Reads S.Store conn.old conn.new result
-        (λ v rows. rows.items ≡ map value_row (numbers_in (latest_asked PAGE (record {
+        (λ v rows. rows.items ≡ map value_row (numbers_among (latest_asked PAGE (record {
           low = low;
           last = last;
           path = path.now;
@@ -114,7 +114,7 @@ fn sought_numbers<'x, S: Alter>(
 ) -> Result<Vec<u32>, TableFault>
     requires { conn.old.in_transaction ≡ false }
     ensures { Reads S.Store conn.old conn.new result
-        (λ v numbers. numbers.items ≡ numbers_in (latest_asked PAGE (record {
+        (λ v numbers. numbers.items ≡ numbers_among (latest_asked PAGE (record {
           low = low;
           last = last;
           path = path.now;

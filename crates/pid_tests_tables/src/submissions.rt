@@ -59,11 +59,7 @@ fn submissions_are_found(rt: HostRuntime) -> Result<(), Fail> {
 }
 
 // Adds pending submissions of bob with these numbers.
-fn add_removals(
-    tables: &mut Tables<MemStore>,
-    first: u32,
-    last: u32,
-) -> Result<(), TableFault> {
+fn add_removals(tables: &mut Tables<MemStore>, first: u32, last: u32) -> Result<(), TableFault> {
     for number in first..=last {
         let number = number.to_sql();
         tables.conn.execute(

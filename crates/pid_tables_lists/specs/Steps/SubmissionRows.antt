@@ -10,7 +10,7 @@ use Rattle.pid_moderation.specs.Views.{Views}
 
 -- the submissions whose numbers are above one and up to another, for a path by its text, of an
 -- author; the empty text stands for every path and every author
-pub record Asked : Type 0 where
+pub record WantedRows : Type 0 where
   pub low : ℕ
   pub last : ℕ
   pub path : List ℕ
@@ -20,18 +20,18 @@ pub record Asked : Type 0 where
 abbrev pub is_any_or : List ℕ → List ℕ → Bool
 is_any_or asked text = bytes_eq asked [] || bytes_eq text asked
 
-abbrev pub is_asked : Asked → ℕ × Standing → Bool
+abbrev pub is_asked : WantedRows → ℕ × Standing → Bool
 is_asked asked s = nat_lt asked.low s.0 && (nat_le s.0 asked.last
     && (is_any_or asked.path (path_text s.1.submitted.path)
     && is_any_or asked.author s.1.submitted.author))
 
 -- those that are asked for, the latest first, at most so many
-abbrev pub latest_asked : ℕ → Asked → Views → List (ℕ × Standing)
+abbrev pub latest_asked : ℕ → WantedRows → Views → List (ℕ × Standing)
 latest_asked most asked v =
     take most (reverse (filter (is_asked asked) (standings_from 1 v.submits v.state)))
 
-abbrev pub numbers_of : List (ℕ × Standing) → List ℕ
-numbers_of all = map (λ (s : ℕ × Standing). s.0) all
+abbrev pub numbers_among : List (ℕ × Standing) → List ℕ
+numbers_among all = map (λ (s : ℕ × Standing). s.0) all
 
 -- the greatest number of so many that is below this one, where 0 stands for no bound
 abbrev pub last_before : ℕ → ℕ → ℕ

@@ -1,7 +1,7 @@
 use Rattle.std.proofs.Common.{◌+◌, length, map, ap, sym, ◌∙◌, arith}
 use Rattle.pid_moderation.specs.SubmissionPages.{listed_of}
 use Rattle.pid_tables_rows.proofs.OnlyReading.{reads_then}
-use Rattle.pid_tables_lists.specs.Steps.SubmissionRows.{Asked, last_before, next_after}
+use Rattle.pid_tables_lists.specs.Steps.SubmissionRows.{WantedRows, last_before, next_after}
 use Rattle.pid_tables_lists.proofs.SubmissionPageLemmas.{page_is}
 use Rattle.pid_tables_lists.proofs.submissions.page_by_texts.Goals as goal
 
@@ -10,7 +10,7 @@ returns g c = record {
   rests = reads_then _ _ _ (reads_then _ _ _ c.in_ok-count.ensures.rests c.in_ok-numbers.ensures.rests) c.in_ok-submissions.ensures.rests;
   told = λ clean v rest search path author before.
       let low = c.saturating_sub-low.result in
-      let asked : Asked = record { low = low; last = c.last_of-last.result; path = c.args.path.now; author = c.args.author.now } in
+      let asked : WantedRows = record { low = low; last = c.last_of-last.result; path = c.args.path.now; author = c.args.author.now } in
       let counted = c.in_ok-count.ensures in
       let numbered = c.in_ok-numbers.ensures in
       let listed = c.in_ok-submissions.ensures in
