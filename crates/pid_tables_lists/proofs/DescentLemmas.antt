@@ -25,7 +25,7 @@ use Rattle.pid_tables_lists.proofs.PendingLists.{standings_are}
 use Rattle.pid_tables_lists.proofs.SubmissionLists.{all_reverse, ascending_reverse, standings_ascend}
 use Rattle.pid_tables_lists.proofs.SubmissionPageLemmas.{before_is, last_within}
 
-abbrev pub falls : ℕ → ℕ → Bool
+abbrev falls : ℕ → ℕ → Bool
 falls a b = nat_lt b a
 
 falls_strictly : IsStrict falls
@@ -75,6 +75,10 @@ full_is n m h = grind (arith, nat_tests)
 not_full : (n m : ℕ) → (n == m) ≡ false → n ≢ m
 not_full n m h same = grind (arith, nat_tests)
 
+below_next : (n m : ℕ) (b : Bool) → nat_lt n (m + 1) ≡ b → nat_le n m ≡ (b && true)
+below_next n m true h = grind (arith, nat_tests)
+below_next n m false h = grind (arith, nat_tests)
+
 module _ (v : Views) where
   abbrev count : ℕ
   count = length v.submits
@@ -99,7 +103,7 @@ module _ (v : Views) where
     rise (x ∷ xs) up = (up.0, rise xs up.1)
 
     -- those below a number that pass
-    abbrev pub under : ℕ → List Listing
+    abbrev under : ℕ → List Listing
     under k = filter (comes number_of falls falls_strictly p k) all
 
     behind : (m k : ℕ) → under (last_of number_of k (take m (under k))) ≡ drop m (under k)
@@ -112,30 +116,24 @@ module _ (v : Views) where
         let no : nat_lt l.number k ≡ false = let first = bound.0 in grind (arith, nat_tests) in
         ap (λ b. b && p l) no))
 
+    under_one : (k : ℕ) (x : Listing) (rest : List Listing) (low : Bool) → nat_lt x.number k ≡ low → (passes : Bool) → AllByRecursion (λ (l : Listing). l.number < k) rest
+        → AllByRecursion (λ (l : Listing). l.number < k) (cond (low && passes) (x ∷ rest) rest)
+    under_one k x rest true low true all = (grind (arith, nat_tests), all)
+    under_one k x rest true low false all = all
+    under_one k x rest false low passes all = all
+
+    filtered_under : (k : ℕ) (xs : List Listing) → AllByRecursion (λ (l : Listing). l.number < k) (filter (comes number_of falls falls_strictly p k) xs)
+    filtered_under k [] = tt
+    filtered_under k (x ∷ xs) = under_one k x (filter (comes number_of falls falls_strictly p k) xs) (nat_lt x.number k) refl (p x) (filtered_under k xs)
+
     all_under : (k : ℕ) → AllByRecursion (λ (l : Listing). l.number < k) (under k)
-    all_under k = go all
-      where
-        go : (xs : List Listing) → AllByRecursion (λ (l : Listing). l.number < k) (filter (comes number_of falls falls_strictly p k) xs)
-        go [] = tt
-        go (x ∷ xs) = one (nat_lt x.number k) refl (p x)
-          where
-            one : (a : Bool) → nat_lt x.number k ≡ a → (b : Bool) → AllByRecursion (λ (l : Listing). l.number < k) (cond (a && b) (x ∷ filter (comes number_of falls falls_strictly p k) xs) (filter (comes number_of falls falls_strictly p k) xs))
-            one true low true = (grind (arith, nat_tests), go xs)
-            one true low false = go xs
-            one false low b = go xs
+    all_under k = filtered_under k all
 
   -- what is below the bound, and what of it is sought
   below_is : (before : ℕ) → listings_before before v ≡ under any (last_before count before + 1)
   below_is before = filter_same_on (is_before before) (comes number_of falls falls_strictly any (last_before count before + 1)) all (λ l h.
       let bound = all_has (λ (l : Listing). (1 ≤ l.number) × (l.number ≤ count)) all l numbers_in h in
-      before_is count before l.number bound.1 ∙ up_to_is l.number (last_before count before))
-    where
-      up_to_is : (n m : ℕ) → nat_le n m ≡ (nat_lt n (m + 1) && true)
-      up_to_is n m = go (nat_lt n (m + 1)) refl
-        where
-          go : (b : Bool) → nat_lt n (m + 1) ≡ b → nat_le n m ≡ (b && true)
-          go true h = grind (arith, nat_tests)
-          go false h = grind (arith, nat_tests)
+      before_is count before l.number bound.1 ∙ below_next l.number (last_before count before) (nat_lt l.number (last_before count before + 1)) refl)
 
   module _ (search : Search) where
     abbrev sought : Listing → Bool
@@ -147,13 +145,21 @@ module _ (v : Views) where
     sought_is : (before : ℕ) → sought_in (search_below search before) v ≡ under sought (last_before count before + 1)
     sought_is before = ap (filter sought) (below_is before) ∙ sifted (last_before count before + 1)
 
+    nothing_sought : (n : ℕ) → filter sought (drop n []) ≡ []
+    nothing_sought zero = refl
+    nothing_sought (suc n) = refl
+
+    nothing_below : (n : ℕ) → under sought (last_number 0 (take n [])) ≡ []
+    nothing_below zero = under_first sought 0 (omega arith)
+    nothing_below (suc n) = under_first sought 0 (omega arith)
+
     module _ (most searched k : ℕ) (some_listed : 1 ≤ most) (some_searched : 1 ≤ searched) (bounded : 1 ≤ k) where
       -- where the next page begins, and what is below
-      pub record IsStep (below : List Listing) : Type 0 where
-        pub number : ℕ
-        pub next : next_before most (take searched below) (first_sought most search (take searched below)) ≡ unless_first number
-        pub lower : number < k
-        pub left : under sought k ≡ first_sought most search (take searched below) ++ under sought number
+      record IsStep (below : List Listing) : Type 0 where
+        number : ℕ
+        next : next_before most (take searched below) (first_sought most search (take searched below)) ≡ unless_first number
+        lower : number < k
+        left : under sought k ≡ first_sought most search (take searched below) ++ under sought number
 
       abbrev looked : List Listing
       looked = take searched (under any k)
@@ -192,15 +198,7 @@ module _ (v : Views) where
               ap (filter sought) (sym (behind any searched k) ∙ ap (under any) (sym last)) ∙ sifted (last_number 0 looked)
           rest false none =
               let empty : under any k ≡ [] = nothing_left (under any k) (grind (arith, nat_tests)) in
-              ap (λ l. filter sought (drop searched l)) empty ∙ nothing searched ∙ sym (ap (λ l. under sought (last_number 0 (take searched l))) empty ∙ nothing_below searched)
-
-          nothing : (n : ℕ) → filter sought (drop n []) ≡ []
-          nothing zero = refl
-          nothing (suc n) = refl
-
-          nothing_below : (n : ℕ) → under sought (last_number 0 (take n [])) ≡ []
-          nothing_below zero = under_first sought 0 (omega arith)
-          nothing_below (suc n) = under_first sought 0 (omega arith)
+              ap (λ l. filter sought (drop searched l)) empty ∙ nothing_sought searched ∙ sym (ap (λ l. under sought (last_number 0 (take searched l))) empty ∙ nothing_below searched)
 
       step : IsStep (under any k)
       step = elim (cases_Bool (length (take most found) == most)) [ inl is ↦ full is | inr is ↦ short is ]
@@ -238,15 +236,14 @@ module _ (v : Views) where
           go m lower true is bad = absurd (let none : ⊥ = cc in none)
           go m lower false is more = let bound = last_within count before in let same = lower_bound m is (omega (arith, bound, lower)) in omega (arith, same, lower, room)
 
+      rest_pages : (pages next : ℕ) (b : Bool) → (next == 0) ≡ b → ((next == 0) ≡ false → pages_down (λ before. submissions_of most searched (search_below search before) v) pages next ≡ sought_in (search_below search next) v)
+          → (if b then [] else pages_down (λ before. submissions_of most searched (search_below search before) v) pages next) ≡ (if b then [] else sought_in (search_below search next) v)
+      rest_pages pages next true is later = refl
+      rest_pages pages next false is later = later is
+
       pub all_pages : (pages before : ℕ) → last_before count before ≤ pages → pages_down (λ before. submissions_of most searched (search_below search before) v) pages before ≡ sought_in (search_below search before) v
       all_pages zero before room = sym (sought_is before ∙ under_first sought (last_before count before + 1) (omega (arith, room)))
-      all_pages (suc pages) before room = ap (λ l. (submissions_of most searched (search_below search before) v).submissions ++ l) (go ((submissions_of most searched (search_below search before) v).before == 0) refl) ∙ sym (goes_down before)
-        where
-          next : ℕ
-          next = (submissions_of most searched (search_below search before) v).before
-
-          go : (b : Bool) → ((submissions_of most searched (search_below search before) v).before == 0) ≡ b
-              → (if b then [] else pages_down (λ before. submissions_of most searched (search_below search before) v) pages (submissions_of most searched (search_below search before) v).before)
-              ≡ (if b then [] else sought_in (search_below search (submissions_of most searched (search_below search before) v).before) v)
-          go true is = refl
-          go false is = all_pages pages (submissions_of most searched (search_below search before) v).before (next_lower before pages room is)
+      all_pages (suc pages) before room =
+          ap (λ l. (submissions_of most searched (search_below search before) v).submissions ++ l)
+          (rest_pages pages (submissions_of most searched (search_below search before) v).before ((submissions_of most searched (search_below search before) v).before == 0) refl
+          (λ more. all_pages pages (submissions_of most searched (search_below search before) v).before (next_lower before pages room more))) ∙ sym (goes_down before)

@@ -120,7 +120,7 @@ four_tests false b c d = refl
 hits_asked : (asked : WantedRows) (id : ℤ) (n : ℕ) (s : Standing) → hits asked_for (params_of asked) (submission_row id n s) ≡ is_asked asked (n, s)
 hits_asked asked id n s =
     (λ i. higher n asked.low i && (no_higher n asked.last i && (any_said asked.path (path_text s.submitted.path) i && (any_said asked.author s.submitted.author i && true))))
-    ∙ four_tests _ _ _ _
+    ∙ four_tests (nat_lt asked.low n) (nat_le n asked.last) (is_any_or asked.path (path_text s.submitted.path)) (is_any_or asked.author s.submitted.author)
 
 -- ---- numbers rise, and the other way round they fall
 

@@ -1,9 +1,9 @@
 -- A page of submissions by its definition, and by the rows that were read.
 use Rattle.std.proofs.Common.{◌≡◌, ◌⊎◌, inl, inr, ℕ, zero, suc, ◌+◌, ◌-◌, ◌<◌, ◌≤◌, length, List, [], ◌∷◌, ◌++◌, map, filter, take, drop, reverse, Bool, true, false, cond, Option, Some, None, refl, sym, ap, subst, ◌∙◌, arith}
-use Rattle.std.specs.Prelude.{◌&&◌, ◌||◌, ◌==◌, nat_lt, nat_le, option_map, if◌then◌else◌}
+use Rattle.std.specs.Prelude.{◌&&◌, ◌||◌, ◌==◌, nat_lt, nat_le, option_map, slice_get, if◌then◌else◌}
 use Rattle.std.specs.Str.{bytes_eq}
-use Rattle.std.proofs.lemmas.Bool.{cases_Bool}
-use Rattle.std.proofs.lemmas.Bool.Decides.{nat_tests}
+use Rattle.std.proofs.lemmas.Bool.{cases_Bool, false_from_ne_true}
+use Rattle.std.proofs.lemmas.Bool.Decides.{nat_tests, Decides-eqb}
 use Rattle.std.proofs.lemmas.List.{drop-map, length-map, length-take-le, reverse-append, take-map}
 use Rattle.std.proofs.lemmas.Option.{slice_get_within}
 use Rattle.sqlite_trees.proofs.ListLemmas.{filter-map}
@@ -13,10 +13,11 @@ use Rattle.pid_moderation.specs.Views.{Views}
 use Rattle.pid_moderation.specs.Submissions.{Standing}
 use Rattle.pid_moderation.specs.PendingPages.{standings_from}
 use Rattle.pid_moderation.specs.SubmissionPages.{Search, Listing, ListingPage, listing_in, is_before, is_wanted, is_sought, listings_before, last_number, unless_first, next_before, first_sought, submissions_of, submission_page_of, listed_of}
+use Rattle.pid_moderation.specs.declared.lists.Listed.{Listed}
 use Rattle.pid_moderation.specs.declared.lists.SubmissionPage.{SubmissionPage}
 use Rattle.pid_moderation.specs.declared.lists.TheConstants.{PAGE, SEARCHED}
 use Rattle.pid_tables_lists.specs.ByNumber.{standings_at}
-use Rattle.pid_tables_lists.specs.Steps.SubmissionRows.{WantedRows, StandsFor, is_any_or, is_asked, last_before, latest_asked, next_after, numbers_among}
+use Rattle.pid_tables_lists.specs.Steps.SubmissionRows.{WantedRows, StandsFor, end_number, is_any_or, is_asked, last_before, latest_asked, next_after, numbers_among}
 use Rattle.pid_tables_lists.proofs.FallingLemmas.{filter_reverse, map_reverse, filter_same_on, filter_twice, take_reverse, up_to, above, standings_count, first_left}
 use Rattle.pid_tables_lists.proofs.NumberLemmas.{read_again}
 use Rattle.pid_tables_lists.proofs.PendingLists.{in_standing, standings_are}
@@ -30,7 +31,7 @@ any_is (Some wanted) asked text is = ap (λ t. bytes_eq t [] || bytes_eq text t)
 
 -- ---- the last number that is looked at
 
-last_within : (count before : ℕ) → last_before count before ≤ count
+pub last_within : (count before : ℕ) → last_before count before ≤ count
 last_within count before = go (before == 0) refl (nat_lt count before) refl
   where
     go : (a : Bool) → (before == 0) ≡ a → (b : Bool) → nat_lt count before ≡ b → (if a || b then count else before - 1) ≤ count
@@ -39,7 +40,7 @@ last_within count before = go (before == 0) refl (nat_lt count before) refl
     go false bound false above = grind (arith, nat_tests)
 
 -- below the bound are those up to it
-before_is : (count before n : ℕ) → n ≤ count → (before == 0 || nat_lt n before) ≡ nat_le n (last_before count before)
+pub before_is : (count before n : ℕ) → n ≤ count → (before == 0 || nat_lt n before) ≡ nat_le n (last_before count before)
 before_is count before n within = go (before == 0) refl (nat_lt count before) refl
   where
     go : (a : Bool) → (before == 0) ≡ a → (b : Bool) → nat_lt count before ≡ b → (a || nat_lt n before) ≡ nat_le n (if a || b then count else before - 1)
@@ -62,6 +63,32 @@ last_pushed d (x ∷ xs) l = last_pushed x.number xs l
 
 last_turned : (d : ℕ) (l : Listing) (xs : List Listing) → last_number d (reverse (l ∷ xs)) ≡ l.number
 last_turned d l xs = ap (last_number d) (reverse-append (l ∷ []) xs) ∙ last_pushed d (reverse xs) l
+
+-- ---- the end of a page
+
+last_at : (d : ℕ) (x : Listed) (xs : List Listed) (y : Listed) → slice_get (x ∷ xs) (length xs) ≡ Some y → last_number d (map listed_of (x ∷ xs)) ≡ y.number
+last_at d x [] y h = let same : x ≡ y = cc in ap (λ (l : Listed). l.number) same
+last_at d x (z ∷ xs) y h = last_at x.number z xs y h
+
+pub end_full : (page : List Listed) (x : Listed) (lowest : ℕ) → slice_get page (length page - 1) ≡ Some x → length page ≡ 100 → x.number ≡ end_number 100 (map listed_of page) lowest
+end_full [] x lowest h full = absurd (omega (arith, full))
+end_full (z ∷ page) x lowest h full =
+    let at : length (z ∷ page) - 1 ≡ length page = omega arith in
+    let many : (length (map listed_of (z ∷ page)) == 100) ≡ true = let same = length-map (z ∷ page) listed_of in grind (arith, nat_tests) in
+    sym (ap (λ b. if b then last_number 0 (map listed_of (z ∷ page)) else lowest) many ∙ last_at 0 z page x (ap (slice_get (z ∷ page)) (sym at) ∙ h))
+
+pub end_short : (page : List Listed) (lowest : ℕ) → (length page ≡ 100 → ⊥) → lowest ≡ end_number 100 (map listed_of page) lowest
+end_short page lowest short =
+    let few : (length (map listed_of page) == 100) ≡ false = false_from_ne_true _ (λ full. short (sym (length-map page listed_of) ∙ (Decides-eqb (length (map listed_of page)) 100).0 full)) in
+    sym (ap (λ b. if b then last_number 0 (map listed_of page) else lowest) few)
+
+pub end_none : (page : List Listed) (lowest : ℕ) → slice_get page (length page - 1) ≡ None → lowest ≡ end_number 100 (map listed_of page) lowest
+end_none [] lowest none = refl
+end_none (z ∷ page) lowest none = absurd (nothing_last z page (let at : length (z ∷ page) - 1 ≡ length page = omega arith in ap (slice_get (z ∷ page)) (sym at) ∙ none))
+  where
+    nothing_last : (z : Listed) (page : List Listed) → slice_get (z ∷ page) (length page) ≡ None → ⊥
+    nothing_last z [] h = let none : ⊥ = cc in none
+    nothing_last z (y ∷ page) h = nothing_last y page h
 
 -- ---- the rows that a page looks at
 

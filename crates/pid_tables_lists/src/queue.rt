@@ -1,8 +1,9 @@
 //! Pages of the queue of a moderator: pending submissions, each with what a decision asks for.
-ghost use Rattle.std.specs.Prelude.{◌≡◌, ◌∷◌, [], false, map};
+ghost use Rattle.std.specs.Prelude.{◌≡◌, ◌∷◌, ◌++◌, [], false, map, OnOk, IfErr};
 ghost use Rattle.pid_moderation.specs.PendingPages.{told_of};
 ghost use Rattle.pid_moderation.specs.QueuePages.{entry_in, queue_in, queued_of};
 ghost use Rattle.pid_tables_rows.specs.Clauses.{Reads};
+ghost use Rattle.pid_tables_rows.specs.declared.fault.TableFault.TheVariants as faults;
 ghost use Rattle.pid_tables_lists.specs.ByNumber.{standings_at};
 ghost use Rattle.pid_tables_lists.specs.Steps.Adding.{Adds};
 
@@ -37,6 +38,17 @@ fn queued<S: Alter>(
     })
 }
 
+// Adds an element after the last one.
+fn put_last<T: Drop>(list: &mut Vec<T>, element: T) -> Result<(), TableFault>
+    ensures items { OnOk result (list.new.items ≡ list.old.items ++ element ∷ []) }
+    ensures full { IfErr result (λ fault. fault ≡ faults.Memory) }
+{
+    match list.push(element) {
+        Ok(()) => Ok(()),
+        Err(_) => Err(TableFault::Memory),
+    }
+}
+
 fn add_queued<S: Alter>(
     queue: &mut Vec<Queued>,
     conn: &mut Connection<S>,
@@ -48,10 +60,7 @@ fn add_queued<S: Alter>(
         (λ v _. Adds queued_of queue.old.items queue.new.items (entry_in v (told_of pending) ∷ [])) }
 {
     let entry = queued(conn, alloc, pending)?;
-    match queue.push(entry) {
-        Ok(()) => Ok(()),
-        Err(_) => Err(TableFault::Memory),
-    }
+    put_last(queue, entry)
 }
 
 // Pending submissions, each with the rest.

@@ -34,6 +34,7 @@ ghost use Rattle.pid_tables_lists.specs.ByNumber.{standing_at, standings_at};
 ghost use Rattle.pid_tables_lists.specs.Steps.Adding.{Adds};
 ghost use Rattle.pid_tables_lists.specs.Steps.SubmissionRows.{
   StandsFor,
+  end_number,
   last_before,
   latest_asked,
   next_after,
@@ -196,15 +197,28 @@ fn last_of(count: u32, before: u32) -> u32
     }
 }
 
-// Where the next page begins, after one that looked at the numbers above `low`.
-fn next_of(page: &[Listed], low: u32) -> u32
-    requires { low < 4294967295 }
-    ensures { result ≡ next_after PAGE (map listed_of page.now) (low + 1) }
+// The number of the last one of a full page, or else the least that was looked at.
+#[tactic(auto, using(crate::proofs::SubmissionPageLemmas::end_full, crate::proofs::SubmissionPageLemmas::end_short, crate::proofs::SubmissionPageLemmas::end_none))]
+fn end_of(page: &[Listed], lowest: u32) -> u32
+    ensures { result ≡ end_number PAGE (map listed_of page.now) lowest }
 {
-    let number = match page.last() {
-        Some(last) if page.len() == PAGE => last.number,
-        _ => low + 1,
-    };
+    match page.last() {
+        Some(last) => {
+            if page.len() == PAGE {
+                last.number
+            } else {
+                lowest
+            }
+        }
+        None => lowest,
+    }
+}
+
+// Where the next page begins, after one that looked at numbers down to `lowest`.
+fn next_of(page: &[Listed], lowest: u32) -> u32
+    ensures { result ≡ next_after PAGE (map listed_of page.now) lowest }
+{
+    let number = end_of(page, lowest);
     if number <= 1 { 0 } else { number }
 }
 
@@ -227,7 +241,7 @@ fn page_by_texts<'x, S: Alter>(
     let low = last.saturating_sub(SEARCHED as u32);
     let numbers = sought_numbers(conn, alloc, low, last, path, author)?;
     let submissions = listed_at(conn, alloc, numbers.as_slice())?;
-    let before = next_of(submissions.as_slice(), low);
+    let before = next_of(submissions.as_slice(), low + 1);
     Ok(SubmissionPage {
         before,
         submissions,

@@ -43,7 +43,10 @@ abbrev pub StandsFor : Option (List ℕ) → List ℕ → Type 0
 StandsFor None text = text ≡ []
 StandsFor (Some wanted) text = (text ≡ wanted) × (bytes_eq wanted [] ≡ false)
 
+-- the number of the last one of a full page, or else the least that was looked at
+abbrev pub end_number : ℕ → List Listing → ℕ → ℕ
+end_number most listed lowest = if length listed == most then last_number 0 listed else lowest
+
 -- where the page after one begins that looked down to this number
 abbrev pub next_after : ℕ → List Listing → ℕ → ℕ
-next_after most listed lowest = unless_first
-    (if length listed == most then last_number 0 listed else lowest)
+next_after most listed lowest = unless_first (end_number most listed lowest)

@@ -34,3 +34,17 @@ returns g c =
     let empty : into_iter_items at.pending-iterator ≡ [] = nothing_left _ (sym at.invariant.2 ∙ none.0) in
     let all = sym (append-nil at.yielded) ∙ rw empty at at.invariant.1 ∙ c.into_iter-pending-iterator.ensures.into_iter_gives.0 in
     record { rests = at.invariant.0; told = λ clean v rest. at.invariant.3 clean v rest ∙ ap (λ l. map (entry_in v) (map told_of l)) all }
+
+pub returns-in_err-add_queued : goal.returns-in_err-add_queued
+returns-in_err-add_queued g c =
+    let one = c.in_err-add_queued.ensures in
+    let before = c.loop-pending.invariant in
+    let old = state g.S.Store c.args.conn.now in
+    let mid = state g.S.Store c.loop-pending.conn in
+    let new = state g.S.Store c.add_queued.new.conn in
+    record {
+      rests = reads_then _ _ _ before.0 one.rests;
+      told = λ clean v rest.
+          passed_on c.from_residual.result _ _ (λ fault. IsReadable v → IsCaused old new fault) c.from_residual.ensures.1
+          (λ readable. caused_later old mid new (λ _. ⊥) c.in_err-add_queued.field-0.0 before.0.survives one.rests.survives.counts (one.rests.clean clean) (one.told clean v (before.0.kept v rest) readable));
+    }

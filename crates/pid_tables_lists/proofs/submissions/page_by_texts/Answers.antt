@@ -18,6 +18,6 @@ returns g c = record {
       let rest1 = counted.rests.kept v rest in
       let count = counted.told (numbered.rests.clean later) v rest in
       page_is v search asked 10000 (c.last_of-last.ensures ∙ ap (λ n. last_before n c.args.before) count ∙ ap (last_before (length v.submits)) (sym before)) c.saturating_sub-low.ensures
-      100 _ c.as_slice.result.now (omega arith) path author (c.as_slice.ensures.value ∙ numbered.told later v rest1)
+      100 (record { before = c.next_of-before.result; submissions = c.in_ok-submissions.submissions }) c.as_slice.result.now (omega arith) path author (c.as_slice.ensures.value ∙ numbered.told later v rest1)
       (listed.told clean v (numbered.rests.kept v rest1)) (c.next_of-before.ensures ∙ ap (λ l. next_after 100 (map listed_of l) (low + 1)) c.as_slice-2.ensures.value);
 }
