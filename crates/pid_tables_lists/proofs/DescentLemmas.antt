@@ -87,7 +87,9 @@ module _ (v : Views) where
   all = all_listings v
 
   numbers_in : AllByRecursion (λ (l : Listing). (1 ≤ l.number) × (l.number ≤ count)) all
-  numbers_in = all_reverse _ _ (all-map (λ (l : Listing). (1 ≤ l.number) × (l.number ≤ count)) (listing_in v) (standings_from 1 v.submits v.state) (all_from _ _ (λ e h.
+  numbers_in = all_reverse (λ (l : Listing). (1 ≤ l.number) × (l.number ≤ count)) (map (listing_in v) (standings_from 1 v.submits v.state))
+      (all-map (λ (l : Listing). (1 ≤ l.number) × (l.number ≤ count)) (listing_in v) (standings_from 1 v.submits v.state)
+      (all_from (λ (e : ℕ × Standing). (1 ≤ e.0) × (e.0 ≤ count)) (standings_from 1 v.submits v.state) (λ e h.
       let it = standings_are v.submits v.state 1 e h in
       let low = slice_get_within v.submits it.0 e.1.submitted it.2 in
       (omega (arith, it.1), omega (arith, it.1, low)))))
@@ -111,16 +113,16 @@ module _ (v : Views) where
 
     -- no number is below 1
     under_first : (k : ℕ) → k ≤ 1 → under k ≡ []
-    under_first k low = filter_none _ all (all_from _ all (λ l h.
+    under_first k low = filter_none (comes number_of falls falls_strictly p k) all (all_from (λ l. comes number_of falls falls_strictly p k l ≡ false) all (λ l h.
         let bound = all_has (λ (l : Listing). (1 ≤ l.number) × (l.number ≤ count)) all l numbers_in h in
         let no : nat_lt l.number k ≡ false = let first = bound.0 in grind (arith, nat_tests) in
         ap (λ b. b && p l) no))
 
     under_one : (k : ℕ) (x : Listing) (rest : List Listing) (low : Bool) → nat_lt x.number k ≡ low → (passes : Bool) → AllByRecursion (λ (l : Listing). l.number < k) rest
         → AllByRecursion (λ (l : Listing). l.number < k) (cond (low && passes) (x ∷ rest) rest)
-    under_one k x rest true low true all = (grind (arith, nat_tests), all)
-    under_one k x rest true low false all = all
-    under_one k x rest false low passes all = all
+    under_one k x rest true low true others = (grind (arith, nat_tests), others)
+    under_one k x rest true low false others = others
+    under_one k x rest false low passes others = others
 
     filtered_under : (k : ℕ) (xs : List Listing) → AllByRecursion (λ (l : Listing). l.number < k) (filter (comes number_of falls falls_strictly p k) xs)
     filtered_under k [] = tt
@@ -140,7 +142,7 @@ module _ (v : Views) where
     sought = is_sought search
 
     sifted : (k : ℕ) → filter sought (under any k) ≡ under sought k
-    sifted k = filter_twice sought (comes number_of falls falls_strictly any k) all ∙ filter_same_on _ _ all (λ l h. and_true (nat_lt l.number k) (sought l))
+    sifted k = filter_twice sought (comes number_of falls falls_strictly any k) all ∙ filter_same_on (λ l. comes number_of falls falls_strictly any k l && sought l) (comes number_of falls falls_strictly sought k) all (λ l h. and_true (nat_lt l.number k) (sought l))
 
     sought_is : (before : ℕ) → sought_in (search_below search before) v ≡ under sought (last_before count before + 1)
     sought_is before = ap (filter sought) (below_is before) ∙ sifted (last_before count before + 1)
@@ -153,14 +155,14 @@ module _ (v : Views) where
     nothing_below zero = under_first sought 0 (omega arith)
     nothing_below (suc n) = under_first sought 0 (omega arith)
 
-    module _ (most searched k : ℕ) (some_listed : 1 ≤ most) (some_searched : 1 ≤ searched) (bounded : 1 ≤ k) where
-      -- where the next page begins, and what is below
-      record IsStep (below : List Listing) : Type 0 where
-        number : ℕ
-        next : next_before most (take searched below) (first_sought most search (take searched below)) ≡ unless_first number
-        lower : number < k
-        left : under sought k ≡ first_sought most search (take searched below) ++ under sought number
+    -- where the page begins that comes after one, and what is below
+    record IsStep (most searched k : ℕ) (below : List Listing) : Type 0 where
+      number : ℕ
+      next : next_before most (take searched below) (first_sought most search (take searched below)) ≡ unless_first number
+      lower : number < k
+      left : under sought k ≡ first_sought most search (take searched below) ++ under sought number
 
+    module _ (most searched k : ℕ) (some_listed : 1 ≤ most) (some_searched : 1 ≤ searched) (bounded : 1 ≤ k) where
       abbrev looked : List Listing
       looked = take searched (under any k)
 
@@ -170,7 +172,7 @@ module _ (v : Views) where
       all_found : under sought k ≡ found ++ filter sought (drop searched (under any k))
       all_found = sym (sifted k) ∙ ap (filter sought) (sym (take-append-drop searched (under any k))) ∙ filter-append sought looked (drop searched (under any k))
 
-      full : (length (take most found) == most) ≡ true → IsStep (under any k)
+      full : (length (take most found) == most) ≡ true → IsStep most searched k (under any k)
       full is =
           let many : length (take most found) ≡ most = full_is (length (take most found)) most is in
           let enough : most ≤ length found = let taken = length-take most found in omega (arith, many, taken) in
@@ -183,7 +185,7 @@ module _ (v : Views) where
             left = sym (take-append-drop most (under sought k)) ∙ λ i. same i ++ (sym (behind sought most k) ∙ ap (under sought) (sym last)) i;
           }
 
-      short : (length (take most found) == most) ≡ false → IsStep (under any k)
+      short : (length (take most found) == most) ≡ false → IsStep most searched k (under any k)
       short is =
           let few : length found ≤ most = let taken = length-take most found in let other = not_full (length (take most found)) most is in omega (arith, taken, other) in
           let whole : take most found ≡ found = take_all most found few in
@@ -200,7 +202,7 @@ module _ (v : Views) where
               let empty : under any k ≡ [] = nothing_left (under any k) (grind (arith, nat_tests)) in
               ap (λ l. filter sought (drop searched l)) empty ∙ nothing_sought searched ∙ sym (ap (λ l. under sought (last_number 0 (take searched l))) empty ∙ nothing_below searched)
 
-      step : IsStep (under any k)
+      step : IsStep most searched k (under any k)
       step = elim (cases_Bool (length (take most found) == most)) [ inl is ↦ full is | inr is ↦ short is ]
 
     lower_bound : (m : ℕ) → nat_le m 1 ≡ false → m ≤ count → last_before count m + 1 ≡ m
@@ -212,8 +214,8 @@ module _ (v : Views) where
         go false bound false above = grind (arith, nat_tests)
 
     module _ (most searched : ℕ) (some_listed : 1 ≤ most) (some_searched : 1 ≤ searched) where
-      stepped : (before : ℕ) → IsStep most searched (last_before count before + 1) some_listed some_searched (omega arith) (listings_before before v)
-      stepped before = subst (IsStep most searched (last_before count before + 1) some_listed some_searched (omega arith)) (sym (below_is before)) (step most searched (last_before count before + 1) some_listed some_searched (omega arith))
+      stepped : (before : ℕ) → IsStep most searched (last_before count before + 1) (listings_before before v)
+      stepped before = subst (IsStep most searched (last_before count before + 1)) (sym (below_is before)) (step most searched (last_before count before + 1) some_listed some_searched (omega arith))
 
       -- the page, and what is left below it
       pub goes_down : (before : ℕ) → sought_in (search_below search before) v
