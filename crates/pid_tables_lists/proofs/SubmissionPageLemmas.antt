@@ -1,5 +1,5 @@
 -- A page of submissions by its definition, and by the rows that were read.
-use Rattle.std.proofs.Common.{◌≡◌, ◌⊎◌, inl, inr, ℕ, zero, suc, ◌+◌, ◌-◌, ◌<◌, ◌≤◌, length, List, [], ◌∷◌, ◌++◌, map, filter, take, drop, reverse, Bool, true, false, cond, Option, Some, None, refl, sym, ap, subst, ◌∙◌, arith}
+use Rattle.std.proofs.Common.{◌≡◌, ◌⊎◌, inl, inr, ℕ, ◌+◌, ◌-◌, ◌<◌, ◌≤◌, length, List, [], ◌∷◌, ◌++◌, map, filter, take, drop, reverse, Bool, true, false, Option, Some, None, refl, sym, ap, subst, ◌∙◌, arith}
 use Rattle.std.specs.Prelude.{◌&&◌, ◌||◌, ◌==◌, nat_lt, nat_le, option_map, slice_get, if◌then◌else◌}
 use Rattle.std.specs.Str.{bytes_eq}
 use Rattle.std.proofs.lemmas.Bool.{cases_Bool, false_from_ne_true}
@@ -12,10 +12,9 @@ use Rattle.pid_ident.specs.PathTexts.{path_text}
 use Rattle.pid_moderation.specs.Views.{Views}
 use Rattle.pid_moderation.specs.Submissions.{Standing}
 use Rattle.pid_moderation.specs.PendingPages.{standings_from}
-use Rattle.pid_moderation.specs.SubmissionPages.{Search, Listing, ListingPage, listing_in, is_before, is_wanted, is_sought, listings_before, last_number, unless_first, next_before, first_sought, submissions_of, submission_page_of, listed_of}
+use Rattle.pid_moderation.specs.SubmissionPages.{Search, Listing, listing_in, is_before, is_wanted, is_sought, listings_before, last_number, unless_first, next_before, first_sought, submissions_of, submission_page_of, listed_of}
 use Rattle.pid_moderation.specs.declared.lists.Listed.{Listed}
 use Rattle.pid_moderation.specs.declared.lists.SubmissionPage.{SubmissionPage}
-use Rattle.pid_moderation.specs.declared.lists.TheConstants.{PAGE, SEARCHED}
 use Rattle.pid_tables_lists.specs.ByNumber.{standings_at}
 use Rattle.pid_tables_lists.specs.Steps.SubmissionRows.{WantedRows, StandsFor, end_number, is_any_or, is_asked, last_before, latest_asked, next_after, numbers_among}
 use Rattle.pid_tables_lists.proofs.FallingLemmas.{filter_reverse, map_reverse, filter_same_on, filter_twice, take_reverse, up_to, above, standings_count, first_left}

@@ -1,4 +1,4 @@
-use Rattle.std.proofs.Common.{◌≤◌, length, arith}
+use Rattle.std.proofs.Common.{length, arith}
 use Rattle.pid_tables_lists.proofs.DescentLemmas.{goes_down, all_pages}
 use Rattle.pid_tables_lists.proofs.SubmissionPageLemmas.{last_within}
 use Rattle.pid_tables_lists.proofs.laws.submissions_go_on.Goals as goal
