@@ -10,3 +10,8 @@ pub mod WalkLemmas
 pub mod ItemLists
 pub mod PlainTexts
 pub mod OrderedLemmas
+pub mod NumberLemmas
+pub mod FallingLemmas
+pub mod SubmissionLists
+pub mod SubmissionPageLemmas
+pub mod DescentLemmas

@@ -125,7 +125,7 @@ hits_waiting after id n s =
     (λ i. zero_state (state_number s.state) i && (higher n after i && true)) ∙ turned (Rattle.std.specs.Prelude.◌==◌ (state_number s.state) 0) (nat_lt after n)
     ∙ ap (λ b. nat_lt after n && b) (open_state s.state)
 
-less_number : (a b : ℕ) → a < b → int_cmp (pos a) (pos b) ≡ Less
+pub less_number : (a b : ℕ) → a < b → int_cmp (pos a) (pos b) ≡ Less
 less_number a b h = grind (arith, ints, nat_tests)
 
 standings_there : (submits : List Submitted) (state : ℕ → Standings) (n k : ℕ) (s : Submitted) → slice_get submits k ≡ Some s → Has (standings_from n submits state) (k + n, record { submitted = s; state = state (k + n) })
@@ -135,7 +135,7 @@ standings_there (x ∷ submits) state n (suc k) s h =
     let at : k + (n + 1) ≡ suc k + n = omega arith in
     inr (subst (λ p. Has (standings_from (n + 1) submits state) (p, record { submitted = s; state = state p })) at (standings_there submits state (n + 1) k s h))
 
-standings_are : (submits : List Submitted) (state : ℕ → Standings) (n : ℕ) (e : ℕ × Standing) → Has (standings_from n submits state) e
+pub standings_are : (submits : List Submitted) (state : ℕ → Standings) (n : ℕ) (e : ℕ × Standing) → Has (standings_from n submits state) e
     → (k : ℕ) × (e.0 ≡ k + n) × (slice_get submits k ≡ Some e.1.submitted) × (e.1.state ≡ state e.0)
 standings_are [] state n e h = absurd h
 standings_are (x ∷ submits) state n e (inl same) =
@@ -183,7 +183,7 @@ module _ (v : Views) where
       let there : submission_at e.0 v.submits ≡ Some e.1.submitted = ap (λ n. submission_at n v.submits) at ∙ it.2 in
       ap (option_map (λ s. record { submitted = s; state = v.state e.0 })) there ∙ λ i. Some (record { submitted = e.1.submitted; state = sym it.3 i })
 
-  among_all : (after most : ℕ) (e : ℕ × Standing) → Has (pending_in most after v) e → Has all e
+  pub among_all : (after most : ℕ) (e : ℕ × Standing) → Has (pending_in most after v) e → Has all e
   among_all after most e h = (has_filtered (waits_above after) all e (taken_has most (filter (waits_above after) all) e h)).0
     where
       taken_has : (k : ℕ) (xs : List (ℕ × Standing)) (e : ℕ × Standing) → Has (take k xs) e → Has xs e
@@ -248,7 +248,7 @@ pending_read one v s row submission n views is row_is reads at =
 
 -- ---- what is readable
 
-number_within : (v : Views) (n : ℕ) (s : Standing) → standing_in v n ≡ Some s → n ≤ length v.submits
+pub number_within : (v : Views) (n : ℕ) (s : Standing) → standing_in v n ≡ Some s → n ≤ length v.submits
 number_within v n s is = let from = mapped_some _ (submission_at n v.submits) s is in within n from.0 from.1
   where
     within : (n : ℕ) (x : Submitted) → submission_at n v.submits ≡ Some x → n ≤ length v.submits

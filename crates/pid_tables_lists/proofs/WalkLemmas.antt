@@ -35,7 +35,7 @@ use Rattle.pid_tables_rows.specs.Shows.{counts_of}
 use Rattle.pid_tables_rows.proofs.GoingLemmas.{earlier}
 use Rattle.pid_tables_rows.proofs.ReadLemmas.{fails_to_query}
 use Rattle.pid_tables_rows.proofs.OnlyReading.{Keeps, keeps_same, keeps_back, keeps_then, rests_on}
-use Rattle.pid_tables_lists.specs.EachItem.{Walks, WalksSome, TookFirst, FaultedAtOne, IsCausedEnd, placed_from}
+use Rattle.pid_tables_lists.specs.EachItem.{Walks, WalksSome, IsCausedEnd, placed_from}
 use Rattle.pid_tables_lists.specs.Steps.EachItem.{TakesOne, IsUnreadEnd}
 use Rattle.pid_tables_lists.specs.declared.walk.EachEnd.{EachEnd}
 use Rattle.pid_tables_lists.specs.declared.walk.EachEnd.TheVariants.{Tables, Fault}

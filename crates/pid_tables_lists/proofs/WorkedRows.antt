@@ -1,5 +1,5 @@
 -- Worked rows, by computation.
-use Rattle.std.proofs.Common.{◌≡◌, List, [], ◌∷◌, None, Some, Ok, Err, codes, refl, ℕ, cond}
+use Rattle.std.proofs.Common.{◌≡◌, List, [], ◌∷◌, map, None, Some, Ok, Err, codes, refl, ℕ, cond}
 use Rattle.std.specs.Prelude.{◌==◌, if◌then◌else◌}
 use Rattle.std.specs.Str.{bytes_eq}
 use Rattle.pid_file.specs.declared.path.Path.TheVariants.{Vendor, Device}
@@ -15,6 +15,10 @@ use Rattle.pid_moderation.specs.ChangePages.{Changed, changes_in, start_text}
 use Rattle.pid_moderation.specs.Children.{children_of}
 use Rattle.pid_tables_lists.specs.EachItem.{Walks, placed_from}
 use Rattle.pid_moderation.specs.PendingPages.{pending_in}
+use Rattle.pid_moderation.specs.SubmissionPages.{Listing, Search, sought_in, submissions_of}
+use Rattle.pid_tables_lists.specs.ByNumber.{standings_at}
+use Rattle.pid_tables_lists.specs.Laws.{search_below, what_is_left}
+use Rattle.pid_tables_lists.specs.Pages.{pages_down}
 
 abbrev intel : Item
 intel = (codes "PC/8086", codes "Intel")
@@ -76,6 +80,24 @@ behind_the_first = refl
 
 behind_the_last : pending_in 100 3 views ≡ []
 behind_the_last = refl
+
+-- one that was decided is read too, and a number that no submission has is passed over
+read_by_numbers : standings_at (3 ∷ 9 ∷ 2 ∷ []) views ≡ waiting 3 ∷ (2, record { submitted = by_bob 2; state = Withdrawn }) ∷ []
+read_by_numbers = refl
+
+read_by_no_number : standings_at [] views ≡ []
+read_by_no_number = refl
+
+abbrev all_of_bob : Search
+all_of_bob = record { path = None; author = Some (codes "bob"); before = 0 }
+
+-- pages of two are two pages
+all_pages : map (λ (l : Listing). l.number) (pages_down (λ before. submissions_of 2 10 (search_below all_of_bob before) views) 3 0) ≡ 3 ∷ 2 ∷ 1 ∷ []
+all_pages = refl
+
+-- a page that looks at one alone goes on below it, though nothing is listed
+nothing_at_the_first : what_is_left (submissions_of 2 1 (record { path = Some (Vendor 2); author = None; before = 0 }) views).before all_of_bob views ≡ sought_in (record { path = None; author = Some (codes "bob"); before = 3 }) views
+nothing_at_the_first = refl
 
 remarks_in_order : discussion_in views 3 ≡ Some (record { submitted = by_bob 3; state = Pending }, record { author = codes "bob"; text = codes "one" } ∷ record { author = codes "root"; text = codes "two" } ∷ [])
 remarks_in_order = refl

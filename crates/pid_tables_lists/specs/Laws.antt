@@ -1,11 +1,14 @@
 -- Laws of pages: each is the contract of a public function that does nothing.
-use Rattle.std.specs.Prelude.{◌≡◌, ℕ, ◌*◌, ◌≤◌, true, List, length, take, drop}
+use Rattle.std.specs.Prelude.{◌≡◌, ℕ, ◌*◌, ◌≤◌, ◌==◌, nat_lt, true, if◌then◌else◌, List, [], ◌++◌}
+use Rattle.std.specs.Prelude.{length, map, filter, take, drop}
 use Rattle.std.specs.FinMap.Entries.{is_sorted}
 use Rattle.pid_ident.specs.Trees.{text_cmp}
 use Rattle.pid_moderation.specs.Views.{Views}
 use Rattle.pid_moderation.specs.Submissions.{Standing}
 use Rattle.pid_moderation.specs.ChangePages.{Changed, changes_in, changed_behind}
-use Rattle.pid_tables_lists.specs.Pages.{last_of, most_listed, pages_after}
+use Rattle.pid_moderation.specs.SubmissionPages.{Search, Listing, sought_in, submissions_of}
+use Rattle.pid_tables_lists.specs.ByNumber.{standings_at}
+use Rattle.pid_tables_lists.specs.Pages.{last_of, most_listed, pages_after, pages_down}
 use Rattle.pid_moderation.specs.PendingPages.{pending_in, waiting_above}
 use Rattle.pid_moderation.specs.declared.lists.TheConstants.{PAGE}
 
@@ -68,3 +71,30 @@ abbrev pub ChangesMostListed : Type 0
 ChangesMostListed = (since : ℕ) (after : List ℕ) (v : Views)
     → length (changes_in PAGE since after v).items
     ≡ most_listed (length (changed_behind since after v))
+
+-- the same search below another number
+abbrev pub search_below : Search → ℕ → Search
+search_below search before = record search { before = before }
+
+-- what is sought below the number that a page names: nothing if it names 0
+abbrev pub what_is_left : ℕ → Search → Views → List Listing
+what_is_left next search v = if next == 0 then [] else sought_in (search_below search next) v
+
+-- a page, and what is sought below the number that it names, are all that is sought
+abbrev pub SubmissionsGoOn : Type 0
+SubmissionsGoOn = (most searched : ℕ) (search : Search) (v : Views) → 1 ≤ most → 1 ≤ searched
+    → sought_in search v ≡ (submissions_of most searched search v).submissions
+    ++ what_is_left (submissions_of most searched search v).before search v
+
+-- so many pages as there are submissions list all that is sought, each once
+abbrev pub SubmissionPagesAreAll : Type 0
+SubmissionPagesAreAll = (most searched count : ℕ) (search : Search) (v : Views)
+    → 1 ≤ most → 1 ≤ searched → length v.submits ≤ count
+    → pages_down (λ before. submissions_of most searched (search_below search before) v) count
+    search.before ≡ sought_in search v
+
+-- the numbers of all that wait, as a caller may keep them, make each page of pending submissions
+abbrev pub PendingByNumber : Type 0
+PendingByNumber = (most after : ℕ) (v : Views)
+    → standings_at (take most (filter (nat_lt after) (map pending_number (waiting_above 0 v)))) v
+    ≡ pending_in most after v

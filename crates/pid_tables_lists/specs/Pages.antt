@@ -1,5 +1,6 @@
 -- Lists that are answered page by page.
-use Rattle.std.specs.Prelude.{ℕ, zero, suc, min, List, [], ◌∷◌, ◌++◌}
+use Rattle.std.specs.Prelude.{ℕ, zero, suc, min, ◌==◌, if◌then◌else◌, List, [], ◌∷◌, ◌++◌}
+use Rattle.pid_moderation.specs.SubmissionPages.{Listing, ListingPage}
 use Rattle.pid_moderation.specs.declared.lists.TheConstants.{PAGE}
 
 -- how many of so many a page has: all of them, or as many as it holds
@@ -17,3 +18,9 @@ abbrev pub pages_after : {X K : Type 0} → (X → K) → (K → List X) → ℕ
 pages_after key page zero asked = []
 pages_after key page (suc count) asked = page asked ++ pages_after key page count
     (last_of key asked (page asked))
+
+-- so many pages, each below the number that the one before names, until one names 0
+abbrev pub pages_down : (ℕ → ListingPage) → ℕ → ℕ → List Listing
+pages_down page zero before = []
+pages_down page (suc count) before = (page before).submissions
+    ++ (if (page before).before == 0 then [] else pages_down page count (page before).before)

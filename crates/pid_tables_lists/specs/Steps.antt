@@ -4,4 +4,5 @@ pub mod ChangeRows
 pub mod Children
 pub mod Clauses
 pub mod PendingRows
+pub mod SubmissionRows
 pub mod EachItem

@@ -8,6 +8,11 @@ ghost use Rattle.pid_tables_lists.specs.Laws.{
   ChangePagesAreAll,
 };
 ghost use Rattle.pid_tables_lists.specs.Laws.{HoldMostListed, PendingMostListed, ChangesMostListed};
+ghost use Rattle.pid_tables_lists.specs.Laws.{
+  PendingByNumber,
+  SubmissionPagesAreAll,
+  SubmissionsGoOn,
+};
 
 /// The next page of pending submissions, asked after the last number of a page, begins with what
 /// that page left out.
@@ -35,4 +40,19 @@ pub fn pages_hold_most_listed()
     ensures limit { HoldMostListed }
     ensures pending { PendingMostListed }
     ensures changes { ChangesMostListed }
+{}
+
+/// A page of pending submissions is what is read by the numbers of those that wait, which a caller
+/// may keep.
+pub fn pending_by_number()
+    ensures { PendingByNumber }
+{}
+
+/// A page of the submissions that are sought, and what is sought below the number that it names,
+/// are all that is sought; where it names 0, nothing is left.
+pub fn submissions_go_on()
+    ensures next { SubmissionsGoOn }
+    // Pages one below the other, each asked with the number that the one before names, are the
+    // whole list: each submission that is sought once, the latest first.
+    ensures whole { SubmissionPagesAreAll }
 {}

@@ -1,11 +1,23 @@
 //! Pages of pending submissions.
-ghost use Rattle.std.specs.Prelude.{◌≡◌, ◌∷◌, [], ℕ, List, false, length, map, MatchResult};
+ghost use Rattle.std.specs.Prelude.{
+  ◌≡◌,
+  ◌∷◌,
+  [],
+  ℕ,
+  List,
+  false,
+  length,
+  map,
+  option_map,
+  MatchResult,
+};
 ghost use Rattle.std.specs.List.{AllByRecursion};
 ghost use Rattle.sqlite.specs.Held.{state};
 ghost use Rattle.pid_moderation.specs.Views.{Views};
 ghost use Rattle.pid_tables_rows.specs.Unread.{IsUnreadable};
 ghost use Rattle.pid_moderation.specs.Submissions.{Standing};
 ghost use Rattle.pid_moderation.specs.PendingPages.{pending_in, told_of, waiting_above};
+ghost use Rattle.pid_tables_lists.specs.ByNumber.{standing_at, standings_at};
 ghost use Rattle.pid_tables_lists.specs.Pages.{most_listed};
 ghost use Rattle.pid_tables_lists.specs.Steps.Adding.{Adds};
 ghost use Rattle.pid_tables_lists.specs.Steps.PendingRows.{
@@ -18,7 +30,7 @@ ghost use Rattle.pid_tables_rows.specs.Clauses.{Reads};
 use pid_moderation::{PAGE, Pending, Submission};
 use pid_tables_rows::TableFault;
 use pid_tables_rows::run::read_rows;
-use pid_tables_rows::submission::submission_of;
+use pid_tables_rows::submission::{standing, submission_of};
 use pid_tables_rows::value::number_at;
 use sqlite::types::ToSql;
 use sqlite::{Alter, Connection, Row};
@@ -88,4 +100,58 @@ pub fn pending_page<S: Alter>(
 {
     let rows = pending_rows(conn, after)?;
     page_of(rows.as_slice(), alloc)
+}
+
+// The submission with a number, as a pending one; none if there is none.
+fn numbered<S: Alter>(
+    conn: &mut Connection<S>,
+    alloc: Global,
+    number: u32,
+) -> Result<Option<Pending>, TableFault>
+    requires { conn.old.in_transaction ≡ false }
+    ensures { Reads S.Store conn.old conn.new result
+        (λ v pending. option_map told_of pending ≡ standing_at v number) }
+{
+    match standing(conn, alloc, number)? {
+        None => Ok(None),
+        Some(submission) => Ok(Some(Pending { number, submission })),
+    }
+}
+
+fn add_numbered<S: Alter>(
+    page: &mut Vec<Pending>,
+    conn: &mut Connection<S>,
+    alloc: Global,
+    number: u32,
+) -> Result<(), TableFault>
+    requires { conn.old.in_transaction ≡ false }
+    ensures { Reads S.Store conn.old conn.new result
+        (λ v _. Adds told_of page.old.items page.new.items (standings_at (number ∷ []) v)) }
+{
+    match numbered(conn, alloc, number)? {
+        None => Ok(()),
+        Some(pending) => match page.push(pending) {
+            Ok(()) => Ok(()),
+            Err(_) => Err(TableFault::Memory),
+        },
+    }
+}
+
+/// The submissions with these numbers, in the order of the numbers, for a caller that knows which
+/// are pending: one that was decided is listed too. A number that no submission has is passed over.
+/// Each is read by its key.
+pub fn pending_at<S: Alter>(
+    conn: &mut Connection<S>,
+    alloc: Global,
+    numbers: &[u32],
+) -> Result<Vec<Pending>, TableFault>
+    requires { conn.old.in_transaction ≡ false }
+    ensures { Reads S.Store conn.old conn.new result
+        (λ v page. map told_of page.items ≡ standings_at numbers.now v) }
+{
+    let mut page = Vec::new(alloc);
+    for number in numbers {
+        add_numbered(&mut page, conn, alloc, *number)?;
+    }
+    Ok(page)
 }

@@ -5,3 +5,5 @@
 mod checks;
 #[cfg(test)]
 mod registry;
+#[cfg(test)]
+mod submissions;

@@ -11,7 +11,7 @@ use std::alloc::Global;
 use std::test::Fail;
 
 // A new registry in memory.
-fn new_in_memory(alloc: Global) -> Result<Tables<MemStore>, TableFault> {
+pub(crate) fn new_in_memory(alloc: Global) -> Result<Tables<MemStore>, TableFault> {
     let mut conn = Connection::open_in_memory(alloc)?;
     create(&mut conn)?;
     Ok(Tables::new(conn))
@@ -97,7 +97,7 @@ ok
 refused 8 NotPending
 ";
 
-fn replies(
+pub(crate) fn replies(
     tables: &mut Tables<MemStore>,
     alloc: Global,
     lines: &str,
@@ -263,7 +263,7 @@ fn changes_are_told(rt: HostRuntime) -> Result<(), Fail> {
     Ok(())
 }
 
-const ITEMS: &str = "account root who=bob rank=1
+pub(crate) const ITEMS: &str = "account root who=bob rank=1
 submit bob path=PC/8086 name=Intel
 approve root num=1
 submit bob path=PC/8086/1237 name=440FX

@@ -1,0 +1,112 @@
+//! Pages of the queue of a moderator: pending submissions, each with what a decision asks for.
+ghost use Rattle.std.specs.Prelude.{◌≡◌, ◌∷◌, ◌++◌, [], false, map, OnOk, IfErr};
+ghost use Rattle.pid_moderation.specs.PendingPages.{told_of};
+ghost use Rattle.pid_moderation.specs.QueuePages.{entry_in, queue_in, queued_of};
+ghost use Rattle.pid_tables_rows.specs.Clauses.{Reads};
+ghost use Rattle.pid_tables_rows.specs.declared.fault.TableFault.TheVariants as faults;
+ghost use Rattle.pid_tables_lists.specs.ByNumber.{standings_at};
+ghost use Rattle.pid_tables_lists.specs.Steps.Adding.{Adds};
+
+use crate::pending::{pending_at, pending_page};
+use pid_ident::PathText;
+use pid_moderation::{PAGE, Pending, Queued};
+use pid_tables_rows::TableFault;
+use pid_tables_rows::item::item_name;
+use pid_tables_rows::remark::remark_count;
+use sqlite::{Alter, Connection};
+use std::alloc::Global;
+
+// A pending submission, with the name at its path and the count of its remarks.
+fn queued<S: Alter>(
+    conn: &mut Connection<S>,
+    alloc: Global,
+    pending: Pending,
+) -> Result<Queued, TableFault>
+    requires { conn.old.in_transaction ≡ false }
+    ensures { Reads S.Store conn.old conn.new result
+        (λ v queued. queued_of queued ≡ entry_in v (told_of pending)) }
+{
+    let Pending { number, submission } = pending;
+    let path = submission.path.path_text(alloc)?;
+    let now = item_name(conn, alloc, path.as_str())?;
+    let remarks = remark_count(conn, number)?;
+    Ok(Queued {
+        number,
+        submission,
+        now,
+        remarks,
+    })
+}
+
+// Adds an element after the last one.
+fn put_last<T: Drop>(list: &mut Vec<T>, element: T) -> Result<(), TableFault>
+    ensures items { OnOk result (list.new.items ≡ list.old.items ++ element ∷ []) }
+    ensures full { IfErr result (λ fault. fault ≡ faults.Memory) }
+{
+    match list.push(element) {
+        Ok(()) => Ok(()),
+        Err(_) => Err(TableFault::Memory),
+    }
+}
+
+fn add_queued<S: Alter>(
+    queue: &mut Vec<Queued>,
+    conn: &mut Connection<S>,
+    alloc: Global,
+    pending: Pending,
+) -> Result<(), TableFault>
+    requires { conn.old.in_transaction ≡ false }
+    ensures { Reads S.Store conn.old conn.new result
+        (λ v _. Adds queued_of queue.old.items queue.new.items (entry_in v (told_of pending) ∷ [])) }
+{
+    let entry = queued(conn, alloc, pending)?;
+    put_last(queue, entry)
+}
+
+// Pending submissions, each with the rest.
+fn queue_of<S: Alter>(
+    conn: &mut Connection<S>,
+    alloc: Global,
+    page: Vec<Pending>,
+) -> Result<Vec<Queued>, TableFault>
+    requires { conn.old.in_transaction ≡ false }
+    ensures { Reads S.Store conn.old conn.new result
+        (λ v queue. map queued_of queue.items ≡ map (entry_in v) (map told_of page.items)) }
+{
+    let mut queue = Vec::new(alloc);
+    for pending in page {
+        add_queued(&mut queue, conn, alloc, pending)?;
+    }
+    Ok(queue)
+}
+
+/// The first pending submissions whose numbers are above a number, at most a page of them, each
+/// with the name that its path has today and the count of the remarks on it. Decided ones are
+/// passed over, row by row; the rest of an entry is read by its key.
+pub fn queue_page<S: Alter>(
+    conn: &mut Connection<S>,
+    alloc: Global,
+    after: u32,
+) -> Result<Vec<Queued>, TableFault>
+    requires { conn.old.in_transaction ≡ false }
+    ensures { Reads S.Store conn.old conn.new result
+        (λ v queue. map queued_of queue.items ≡ queue_in PAGE after v) }
+{
+    let page = pending_page(conn, alloc, after)?;
+    queue_of(conn, alloc, page)
+}
+
+/// The same for the submissions with these numbers, for a caller that knows which are pending. A
+/// number that no submission has is passed over. All is read by keys.
+pub fn queue_at<S: Alter>(
+    conn: &mut Connection<S>,
+    alloc: Global,
+    numbers: &[u32],
+) -> Result<Vec<Queued>, TableFault>
+    requires { conn.old.in_transaction ≡ false }
+    ensures { Reads S.Store conn.old conn.new result
+        (λ v queue. map queued_of queue.items ≡ map (entry_in v) (standings_at numbers.now v)) }
+{
+    let page = pending_at(conn, alloc, numbers)?;
+    queue_of(conn, alloc, page)
+}
