@@ -3,7 +3,7 @@
  *
  *   registry FILE make < LINES     a new registry; each line is a path, a tab and a name; one transaction
  *   registry FILE rows COUNT       a new registry with COUNT rows in each table
- *   registry FILE submissions N    a new registry with N submissions, all decided
+ *   registry FILE filled ITEMS SUBMISSIONS PENDING    a new registry with so many of each
  *   registry FILE old N            a registry of schema 1 with N items
  *   registry FILE changes SINCE TIMES    the first page of what changed above that number
  *   registry FILE JOB TIMES        JOB: nothing, export, open, unknown, keyed, migrate
@@ -156,18 +156,55 @@ static void fill(int count)
     run("COMMIT");
 }
 
-/* The submissions alone, of one author, each approved. */
-static void fill_submissions(int count)
+/* Items, 99 devices below each vendor, each the last change of one command; and submissions of a
+ * hundred authors, so many of them pending and the others approved. */
+static void fill_both(int items, int submissions, int pending)
 {
+    char path[32], word[64];
     run("BEGIN");
     create();
-    sqlite3_stmt *submission = prepared("INSERT INTO submission VALUES (?1, 'bob', 'PC/0001', 0, 'a', '', 1, 'root', '')");
-    for (int at = 1; at <= count; at++) {
-        sqlite3_bind_int(submission, 1, at);
+    sqlite3_stmt *account = prepared("INSERT INTO account VALUES (?1, 0)");
+    sqlite3_stmt *item = prepared("INSERT INTO item VALUES (?1, ?2)");
+    sqlite3_stmt *since = prepared("INSERT INTO item_since VALUES (?1, ?2)");
+    sqlite3_stmt *submission = prepared("INSERT INTO submission VALUES (?1, ?2, ?3, 0, ?4, ?5, ?6, ?7, '')");
+    for (int at = 0; at < 100; at++) {
+        snprintf(word, sizeof word, "author-%d", at);
+        text(account, 1, word);
+        rows(account);
+    }
+    for (int at = 0; at < items; at++) {
+        int length = snprintf(path, sizeof path, "PC/%04x", at / 100);
+        if (at % 100 > 0)
+            snprintf(path + length, sizeof path - length, "/%04x", at % 100);
+        snprintf(word, sizeof word, "Item number %d of a registry", at);
+        text(item, 1, path);
+        text(item, 2, word);
+        rows(item);
+        text(since, 1, path);
+        sqlite3_bind_int(since, 2, at + 1);
+        rows(since);
+    }
+    for (int at = 0; at < submissions; at++) {
+        int is_pending = at % (submissions / pending) == 0;
+        snprintf(word, sizeof word, "author-%d", at % 100);
+        snprintf(path, sizeof path, "PC/%04x/%04x", at / 100 & 0xffff, at % 100);
+        sqlite3_bind_int(submission, 1, at + 1);
+        text(submission, 2, word);
+        text(submission, 3, path);
+        text(submission, 4, "A name as it was proposed");
+        text(submission, 5, "as on its label");
+        sqlite3_bind_int(submission, 6, !is_pending);
+        text(submission, 7, is_pending ? "" : "root");
         rows(submission);
     }
-    sqlite3_stmt *counts = prepared("UPDATE meta SET value = ?1 WHERE label = 'submissions'");
-    sqlite3_bind_int(counts, 1, count);
+    sqlite3_stmt *counts = prepared("UPDATE meta SET value = ?1 WHERE label = ?2");
+    sqlite3_bind_int(counts, 1, submissions);
+    text(counts, 2, "submissions");
+    rows(counts);
+    sqlite3_bind_int(counts, 1, items);
+    text(counts, 2, "items");
+    rows(counts);
+    text(counts, 2, "revision");
     rows(counts);
     run("COMMIT");
 }
@@ -396,8 +433,8 @@ int main(int count, char **words)
         make();
     else if (count == 4 && strcmp(words[2], "rows") == 0)
         fill(atoi(words[3]));
-    else if (count == 4 && strcmp(words[2], "submissions") == 0)
-        fill_submissions(atoi(words[3]));
+    else if (count == 6 && strcmp(words[2], "filled") == 0)
+        fill_both(atoi(words[3]), atoi(words[4]), atoi(words[5]));
     else if (count == 4 && strcmp(words[2], "old") == 0)
         fill_old(atoi(words[3]));
     else if (count == 5 && strcmp(words[2], "changes") == 0)

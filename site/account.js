@@ -1,16 +1,17 @@
 // Who asks. The account and its password are in the memory of this page; where the person wants to
-// stay logged in, also in sessionStorage and in the other pages of this site that are open.
+// stay logged in, also in sessionStorage and in the other pages of this site that are open. Pages
+// that depend on its rank ask the registry for it.
 
 import { request } from "./api.js";
 import { keep, recall } from "./kept.js";
-import { ranksOf } from "./detours.js";
 
 const PLACE = "held";
 const OUTS = "outs";
+const NO_SUCH_ACCOUNT = 29;
 const watchers = [];
 const others = channel("account");
 let held = null;           // { name, secret, stays, outs }
-let ranks = { least: 0, most: 3 };
+let known = null;          // its rank, or NONE; null while that isn't known
 
 // Where a browser keeps nothing it may refuse this too: then each page is by itself.
 function channel(name) {
@@ -24,8 +25,14 @@ function channel(name) {
 /** The account that is logged in, or null. */
 export const account = () => held?.name ?? null;
 
-/** The rank of the account, as far as it is known: { least, most }; most is -1 of no account. */
-export const rank = () => ranks;
+/** The rank of a name that is no account of the registry. */
+export const NONE = -1;
+
+/** The rank of the account, as it was when it was asked for; null where it isn't known. */
+export const rank = () => known;
+
+/** Whether the account's rank may suffice. The registry itself judges whether it does. */
+export const maySuffice = (needed) => known === null || known >= needed;
 
 /** The fields of a request that say who asks. */
 export const authorization = () => (held ? { Authorization: `Basic ${held.secret}` } : {});
@@ -39,10 +46,26 @@ const outs = () => recall("localStorage", OUTS) ?? 0;
 
 const base64 = (text) => btoa(String.fromCharCode(...new TextEncoder().encode(text)));
 
-function take(one, its, isBusy) {
+function take(one, isBusy) {
   held = one;
-  ranks = its;
+  known = null;
   watchers.forEach((watcher) => watcher(isBusy));
+}
+
+/** The rank of an account by its name, or NONE; null where no answer comes. */
+export async function rankOf(name) {
+  const path = `/account?who=${encodeURIComponent(name)}`;
+  const { value, refusal } = await request("GET", path, { quiet: true });
+  return refusal?.refused === NO_SUCH_ACCOUNT ? NONE : value?.rank ?? null;
+}
+
+/** Asks for the rank that the account has by now. */
+export async function learnRank() {
+  const one = held;
+  const now = one && await rankOf(one.name);
+  if (held !== one || now === null || now === known) return;
+  known = now;
+  watchers.forEach((watcher) => watcher(true));
 }
 
 /**
@@ -57,17 +80,16 @@ export async function logIn({ name, password, stays, isBusy, isWanted }) {
   const answer = await request("GET", "/whoami", { headers: { Authorization } });
   if (!answer.value || !isWanted()) return answer;
   const one = { name: answer.value.account, secret, stays, outs: outs() };
-  const its = await ranksOf(one.name, { Authorization });
-  if (!isWanted()) return answer;
-  if (stays) keep("sessionStorage", PLACE, { one, ranks: its });
-  take(one, its, isBusy);
-  if (stays) others?.postMessage({ one, ranks: its });
+  if (stays) keep("sessionStorage", PLACE, { one });
+  take(one, isBusy);
+  if (stays) others?.postMessage({ one });
+  learnRank();
   return answer;
 }
 
 function forgetAccount() {
   keep("sessionStorage", PLACE, null);
-  take(null, { least: 0, most: 3 }, false);
+  take(null, false);
 }
 
 /** Logs out, here and in the other pages. */
@@ -77,29 +99,21 @@ export function logOut() {
   others?.postMessage({ out: true });
 }
 
-/** Learns from an answer whether the account's rank suffices for something. */
-export function learnRank(needed, isEnough) {
-  if (isEnough) ranks = { ...ranks, least: Math.max(ranks.least, needed) };
-  else ranks = { least: Math.min(ranks.least, needed - 1), most: needed - 1 };
-  if (held?.stays) keep("sessionStorage", PLACE, { one: held, ranks });
-  keep("localStorage", `rank:${held?.name}`, ranks);
-}
-
 function hear({ data }) {
   if (data.out) {
     if (held) forgetAccount();
   } else if (data.asks) {
-    if (held?.stays) others.postMessage({ one: held, ranks });
+    if (held?.stays) others.postMessage({ one: held });
   } else if (data.one && !held) {
     keep("sessionStorage", PLACE, data);
-    take(data.one, data.ranks, false);
+    take(data.one, false);
   }
 }
 
 /** Takes up who was logged in when the page was loaded before, or is in another page. */
 export function restoreAccount() {
   const before = recall("sessionStorage", PLACE);
-  if (before?.one?.outs === outs()) take(before.one, before.ranks, false);
+  if (before?.one?.outs === outs()) take(before.one, false);
   else keep("sessionStorage", PLACE, null);
   addEventListener("pageshow", () => { if (held && held.outs !== outs()) forgetAccount(); });
   if (!others) return;

@@ -2,36 +2,15 @@
 // same. Nothing else of the site knows of it: where the registry comes to answer such a question
 // itself, a function of this module becomes one request.
 
-import { ask, request } from "./api.js";
+import { ask } from "./api.js";
 import { keep, keysOf, recall } from "./kept.js";
+import { parentOf } from "./paths.js";
 
 const PAGE = 100;
 const MOST_PENDING = 1_000;
 const FRESH_FOR = 20_000;
 const LATEST = 20;
 const REVISION_ONLY = "/changes?since=9000000000000000000";
-
-/**
- * The rank of an account that is about to log in: { least, most }, most is -1 of no account.
- * No question tells it. Two commands are refused whatever the rank is, but differently: a file with
- * a fault (5 below a senior), and giving oneself the highest rank (5 for all but administrators).
- * What remains between contributor and moderator is known only from decisions made before.
- */
-export async function ranksOf(name, headers) {
-  const fields = new URLSearchParams({ who: name, rank: 3 }).toString();
-  const [file, self] = await Promise.all([
-    request("POST", "/import", { headers, body: "?" }),
-    request("POST", "/account", { headers, body: fields }),
-  ]);
-  if (self.refusal?.refused === 10 || self.refusal?.refused === 13) return { least: 3, most: 3 };
-  if (file.refusal?.refused === 14) return { least: 2, most: 2 };
-  if (file.refusal?.refused === 4) return { least: 0, most: -1 };
-  const known = recall("localStorage", `rank:${name}`);
-  const least = known?.least >= 1 ? 1 : 0;
-  // Whoever was refused a decision here may have become a moderator since.
-  if (file.refusal?.refused === 5) return { least, most: 1 };
-  return { least: 0, most: 3 };
-}
 
 /** A page of the pending proposals, those with numbers above `after`. */
 export const pendingPage = (after) => ask(`/pending?after=${after}`);
@@ -122,7 +101,8 @@ function before(path) {
   const cut = path.search(/[0-9a-f]+$/);
   const digits = path.slice(cut);
   const less = parseInt(digits, 16) - 1;
-  if (less < 0) return null;
+  // The first one below an item comes right after that.
+  if (less < 0) return path.startsWith("PS/") ? null : parentOf(path);
   const number = less.toString(16).padStart(digits.length, "0");
   const deeper = { 7: "/ffff/ffffffff", 12: "/ffffffff", 5: "/ff/ff", 8: "/ff" };
   const depth = path.startsWith("PS/") ? "" : deeper[path.length] ?? "";

@@ -1,9 +1,9 @@
 // The head of the page: the search box, the menu, and who is logged in.
 
-import { account, logOut, rank, watchAccount } from "./account.js";
-import { askToLogIn } from "./login.js";
+import { account, logOut, NONE, rank, watchAccount } from "./account.js";
+import { askToLogIn, isAwaited } from "./login.js";
 import { load } from "./names.js";
-import { currentPage, go, refresh, watchPages } from "./router.js";
+import { currentPage, go, readdress, refresh, watchPages } from "./router.js";
 import { RANKS } from "./words.js";
 
 const RESTS_AFTER = 300;
@@ -23,7 +23,7 @@ const searchHref = () => `/search?q=${encodeURIComponent(box.value)}`;
 let resting = 0;
 let followedAt = -Infinity;
 function addressFollows() {
-  if (resting && isSearch()) history.replaceState(history.state, "", searchHref());
+  if (resting && isSearch()) readdress(searchHref());
   clearTimeout(resting);
   resting = 0;
   followedAt = performance.now();
@@ -112,11 +112,8 @@ function showPlace(address) {
   box.value = address.pathname === "/search" ? address.searchParams.get("q") ?? "" : "";
 }
 
-function rankWords() {
-  const { least, most } = rank();
-  if (most < 0) return "not an account of the registry yet";
-  return least === most ? RANKS[least] : "";
-}
+const rankWords = () => (
+  rank() === NONE ? "not an account of the registry yet" : RANKS[rank()] ?? "");
 
 function showWho() {
   const name = account();
@@ -137,7 +134,7 @@ export function startHeader() {
   watchPages(showPlace);
   watchAccount((isBusy) => {
     showWho();
-    if (!isBusy && !isTyping()) refresh();
+    if (!isBusy && !isTyping() && !isAwaited()) refresh();
   });
   log.addEventListener("click", () => (account() ? logOut() : askToLogIn()));
   showWho();

@@ -6,6 +6,10 @@ import { troubleWords } from "./words.js";
 
 const dialog = document.getElementById("dialog");
 const ENTERED = "entered";
+let waits = false;
+
+/** Whether a command waits for a log-in: it belongs to the page that is there. */
+export const isAwaited = () => dialog.open && waits;
 
 function boxes() {
   const shared = { required: true, "aria-describedby": "log-fault" };
@@ -73,6 +77,7 @@ export function askToLogIn(why) {
     dialog.addEventListener("close", close, { once: true });
     fill(dialog, formOf(fields, why, why !== undefined));
     dialog.returnValue = "";
+    waits = why !== undefined;
     dialog.showModal();
     fields.name.focus();
   });

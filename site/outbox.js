@@ -45,11 +45,11 @@ export const entryOf = (key) => unkept.get(key) ?? recall("localStorage", FRONT 
 // and another tab may have had the answer.
 const acted = new Map();
 
-/** What an accepted command was answered: { num, at }; null where none is known. */
+/** What an accepted command was answered, and when; null where that isn't known. */
 export const actedOf = (key) => acted.get(key) ?? recall("localStorage", ACTED + key);
 
-function rememberActed(key, { num }) {
-  acted.set(key, { num, at: Date.now() });
+function rememberActed(key, value) {
+  acted.set(key, { ...value, at: Date.now() });
   keep("localStorage", ACTED + key, acted.get(key));
   const all = keysOf("localStorage", ACTED);
   if (all.length <= MOST_ACTED) return;
@@ -172,7 +172,7 @@ function isEnd(answer, tries) {
 async function sendUntilKnown(entry, work) {
   let isInDoubt = entry.isInDoubt ?? false;
   for (let tries = 1; ; tries += 1) {
-    if (!isThere(entry.key)) return { trouble: "forgotten", certain: !isInDoubt };
+    if (!isThere(entry.key)) return goneBy(entry.key, isInDoubt);
     const body = entry.body ?? files.get(entry.key);
     if (body === undefined) return gaveUp(entry, { trouble: "file" }, isInDoubt);
     if (account() !== entry.account) return gaveUp(entry, { trouble: "account" }, isInDoubt);
@@ -188,6 +188,12 @@ async function sendUntilKnown(entry, work) {
     if (!work.isLeft) await beforeNext(work, answer.trouble, tries);
     if (work.isLeft) return { trouble: isThere(entry.key) ? "left" : "forgotten", certain: false };
   }
+}
+
+// Another tab has had the answer, or was told to forget it.
+function goneBy(key, isInDoubt) {
+  const value = actedOf(key);
+  return value ? { value } : { trouble: "forgotten", certain: !isInDoubt };
 }
 
 function gaveUp(entry, answer, isInDoubt) {

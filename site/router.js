@@ -5,6 +5,7 @@ import { beEager } from "./lists.js";
 import { tell, untell } from "./notice.js";
 import { failed, title, titleOf } from "./parts.js";
 import { keepPlace } from "./place.js";
+import { appear } from "./steady.js";
 
 const PAGES = [
   [/^\/$/, "home"],
@@ -30,6 +31,7 @@ const main = document.getElementById("main");
 const watchers = [];
 let turn = 0;
 let shownAddress = "";
+let wanted = "";           // the address of the page that is shown, or of one that is on its way
 let shownPage = null;
 
 const addressOf = (it) => it.pathname + it.search;
@@ -99,15 +101,17 @@ async function show({ focus = true, scroll = 0 } = {}) {
     history.replaceState(history.state, "", pathname + location.search);
   }
   const address = new URL(location.href);
-  const slow = setTimeout(() => tell(LOADING), LOADING_AFTER);
+  wanted = addressOf(address);
+  const slow = setTimeout(() => { if (mine === turn) tell(LOADING); }, LOADING_AFTER);
   beEager(scroll > 0);
   const page = await made(address, () => again(address));
   clearTimeout(slow);
   if (mine !== turn) return;
   untell(LOADING);
   shownPage = page;
-  shownAddress = addressOf(address);
+  shownAddress = wanted;
   fill(main, page);
+  appear(main);
   document.title = titleOf(main.querySelector("h1"));
   document.body.classList.add("ready");
   watchers.forEach((watcher) => watcher(address));
@@ -123,6 +127,12 @@ function again(address) {
 
 /** Shows the page anew where it is. */
 export const refresh = () => show({ focus: false, scroll: null });
+
+/** Gives the page that is shown another address. */
+export function readdress(href) {
+  history.replaceState(history.state, "", href);
+  shownAddress = wanted = addressOf(location);
+}
 
 /** Goes to an address of this site. */
 export function go(href, how) {
@@ -141,12 +151,24 @@ function followLink(event) {
   go(it.href);
 }
 
+// Back, and forward. Where the page of that place is there, another one that is on its way isn't
+// wanted any more.
+function popped({ state }) {
+  const address = addressOf(location);
+  if (address === wanted) return;
+  if (address !== shownAddress) {
+    show({ scroll: state?.scroll ?? 0 });
+    return;
+  }
+  turn += 1;
+  wanted = address;
+  untell(LOADING);
+}
+
 /** Begins to show pages. */
 export function startRouter() {
   history.scrollRestoration = "manual";
-  addEventListener("popstate", (event) => {
-    if (addressOf(location) !== shownAddress) show({ scroll: event.state?.scroll ?? 0 });
-  });
+  addEventListener("popstate", popped);
   document.addEventListener("click", followLink);
   return show({ focus: false, scroll: history.state?.scroll ?? 0 });
 }

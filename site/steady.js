@@ -1,5 +1,5 @@
 // Buttons that don't act by accident: not on the second click of a double click, and not within
-// half a second of their being made, when a hand may still be after what was there before.
+// half a second of their being shown, when a hand may still be after what was there before.
 
 import { el } from "./dom.js";
 
@@ -8,21 +8,29 @@ const SETTLES = 500;
 /** Whether so little time has gone by since a moment that a hand can't have meant this. */
 export const isTooSoon = (moment) => performance.now() - moment < SETTLES;
 
+// When each button was made, or shown.
+const shownAt = new WeakMap();
+
+/** Says that a button, or those in a place, are shown now, which may be later than made. */
+export function appear(place) {
+  for (const it of [place, ...place.querySelectorAll("button")]) shownAt.set(it, performance.now());
+}
+
 /**
  * Makes a button that acts only when it is meant; without `onclick` it sends its form.
  * @param {Object} attributes as of `el`
  */
 export function steadyButton({ onclick, ...attributes }, ...children) {
-  const made = performance.now();
   const button = el("button", {
     type: onclick ? "button" : "submit",
     ...attributes,
     onclick(event) {
-      const isMeant = !isTooSoon(made) && event.detail < 2 && !isDead(button);
+      const isMeant = !isTooSoon(shownAt.get(button)) && event.detail < 2 && !isDead(button);
       if (!isMeant) event.preventDefault();
       else onclick?.(event);
     },
   }, ...children);
+  shownAt.set(button, performance.now());
   return button;
 }
 

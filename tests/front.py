@@ -125,6 +125,11 @@ def refusals(cases, front):
     ):
         cases.equal(f"front: {name}", front.curl("/approve", *alice, *words)[0], want)
     cases.equal("front: no password", front.curl("/approve", "-d", "num=1")[0], 401)
+    for size, want in ((4_194_304, 200), (4_194_305, 413)):
+        front.write("file", "#" * size)
+        body = ("--data-binary", f"@{front.folder}/file", "-H", "Expect:")
+        told = front.curl("/import", "-u", "alice:pw-alice", *body)[0]
+        cases.equal(f"front: a body of {size} bytes", told, want)
     told = front.curl("/whoami", "-u", "alice:pw-alice")
     cases.equal("front: whoami", told, (200, "application/json", b'{"account":"alice"}'))
     cases.equal("front: whoami, a wrong password", front.curl("/whoami", "-u", "alice:no")[0], 401)
@@ -153,11 +158,24 @@ def pages(cases, front):
         ("/site/%2e%2e/%2e%2e/passwords", 400),
         ("/pci.ids", 200),
         ("/vendors/", 301),
+        ("/vendors", 200),
+        ("/classes", 200),
     ):
         cases.equal(f"front: {path}", front.curl(path, *page, "--path-as-is")[0], want)
+    told = front.curl("/vendors", *page)[2]
+    cases.equal("front: the published list of vendors", b"<h1>Vendors</h1>" in told, True)
     there = front.curl("/vendors/", "-i", "-H", "Host: evil.example")[2].lower()
     found = [it for it in there.split(b"\r\n") if it.startswith(b"location: ")]
     cases.equal("front: a redirect leads to no other host", found, [b"location: /vendors"])
+    there = front.curl("/search/?q=a%20b", "-i", *page)[2].lower()
+    cases.equal("front: it keeps the query", b"\r\nlocation: /search?q=a%20b\r\n" in there, True)
+    for sent in (b"\r", b"\n", b"\r\n", b"\0", b"\xff", b"<"):
+        path = b"/item/%%%s:x/" % sent.hex("%").encode()
+        asked = b"GET %s HTTP/1.1\r\nHost: a\r\nConnection: close\r\n" % path
+        head = front.raw(asked + b"Accept: text/html\r\n\r\n", front.quiet())
+        told = head.partition(b"\r\n")[0].split()[1:2], b"\nlocation:" in head.lower()
+        is_refused = told in (([b"404"], False), ([b"400"], False))
+        cases.equal(f"front: {path.decode()} is no redirect: {told}", is_refused, True)
 
 
 def limits(cases, front):

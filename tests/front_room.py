@@ -127,7 +127,8 @@ class Front:
         os.makedirs(os.path.join(folder, "public", "item", "PC"))
         os.mkdir(os.path.join(folder, "nginx"))
         self.write("public/pci.ids.gz", "packed")
-        for name, text in (("pci.ids", "# PCI ID registry\nC 01  Mass\n"), ("404.html", "none")):
+        for name, text in (("pci.ids", "# PCI ID registry\nC 01  Mass\n"), ("404.html", "none"),
+                           ("vendors.html", "<h1>Vendors</h1>")):
             self.write(f"public/{name}", text)
         self.write("public/item/PC/8086.html", "<h1>Intel</h1>")
         self.write("passwords", "".join(f"{it}:{hashed(f'pw-{it}')}\n" for it in PEOPLE))

@@ -197,6 +197,8 @@ def moderated(story):
     story.same("a page of nothing", f"{page} https://{HOST}/nothing", "404")
     where = f"{ASK_SITE} https://{HOST}/item/PC/8086 | grep -c '<h1>Intel</h1>'"
     story.same("the vendor's name is in it", where, "1")
+    where = f"{ASK_SITE} --compressed https://{HOST}/vendors | grep -c 'PC/8086.>8086</a> Intel'"
+    story.same("the list of vendors has it", where, "1")
 
 
 def stops(story):

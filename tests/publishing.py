@@ -142,7 +142,14 @@ def hwdata(cases, press):
 def pages(cases, press):
     found = press.shell("find item -type f | sort")[1].split()
     want = "PC/1af4 PC/8086 PC/8086/1237 PD/01 PD/01/01".split()
-    cases.equal("publish: the pages", found, [f"item/{it}.html" for it in want])
+    want = sorted(f"item/{it}.html{end}" for it in want for end in ("", ".gz"))
+    cases.equal("publish: the pages", sorted(found), want)
+    every = press.shell("find . -name '*.html' | wc -l; for it in $(find . -name '*.html');"
+                        " do gzip -dc $it.gz | cmp - $it || echo $it; done")[1]
+    cases.equal("publish: eight pages and their packed copies", every.split(), ["8"])
+    for name, link in (("vendors", "PC/8086"), ("classes", "PD/01")):
+        cases.equal(f"publish: {name}", f'<a href="/item/{link}">' in press.read(f"{name}.html"),
+                    True)
     page = press.read("item/PC/8086/1237.html")
     for part in (
         "<title>8086/1237 440FX &lt;b&gt;[U+202E]</title>",
@@ -185,6 +192,7 @@ def run(cases):
         cases.equal("publish: the file is as before", int(os.stat(path).st_mtime), 1_000_000_000)
         status, told = press.run(TEXT.replace("1af4  Red Hat\nS 1af4\n\t1100  Generic\n", ""))
         cases.equal("publish: a vendor is gone", (status, "1 removed" in told), (0, True))
-        cases.equal("publish: its page too", press.read("item/PC/1af4.html"), None)
+        left = press.shell("find . -name '1af4*'")
+        cases.equal("publish: its page too, and its packed copy", left, (0, ""))
         cases.equal("publish: the new file", "Red Hat" in press.read("pci.ids"), False)
         hwdata(cases, press)

@@ -175,6 +175,25 @@ def misplaced_definitions():
     return count, missing
 
 
+def cells_of(line):
+    return [it.strip() for it in line.split("|")[1:-1]]
+
+
+def listed_rows():
+    """The rows of bench/run, each with what no run changes: its work, whose it is, bar and aim."""
+    words = [os.path.join(TOP, "bench", "run"), "--list"]
+    ran = subprocess.run(words, stdout=subprocess.PIPE, text=True, timeout=60, check=True)
+    return [cells_of(line) for line in ran.stdout.splitlines()]
+
+
+def shown_rows():
+    """The same of the table in docs/BENCHMARKS.md."""
+    table = text_of("docs/BENCHMARKS.md").partition("<!-- table: begins -->")[2]
+    lines = table.partition("<!-- table: ends -->")[0].splitlines()
+    rows = [cells_of(line) for line in lines if line.startswith("| ")]
+    return [[*row[:2], *row[5:7]] for row in rows[1:]]
+
+
 def has_reader(page):
     """Whether the first sentence of a page says for whom it is."""
     first = text_of(page).split("\n\n")[1]
@@ -246,6 +265,11 @@ def test_evidence(cases):
     cases.equal("evidence.py: a public function", "Registry::obey" in printed, True)
     cases.equal("evidence.py: a wrong body", "close: close_sets_the_revision_back" in printed, True)
     cases.equal("evidence.py: status", ran.returncode, 0)
+
+
+def test_benchmarks(cases):
+    cases.equal("BENCHMARKS.md: the rows of bench/run (run it with --write)", shown_rows(),
+                listed_rows())
 
 
 def test_glossary(cases):

@@ -92,6 +92,30 @@ COMMANDS = [
     ("/reject", "mona", b"num=6&reason=" + b"%26" * 4_000, 0),
 ]
 
+# Approvals of what was seen.
+CONFIRMATIONS = [
+    ("/account", "root", b"who=alice&rank=0", 0),
+    ("/account", "root", b"who=bob&rank=1", 0),
+    ("/account", "root", b"who=mona&rank=2", 0),
+    ("/import", "mona", b"8086  Intel Corporation\n", 0),
+    ("/submit", "alice", b"path=PC/8086&name=Intel", 0),
+    ("/confirm", "mona", b"num=1", 3),
+    ("/confirm", "mona", b"num=1&was=+Intel", 3),
+    ("/confirm", "mona", b"num=1&was=Intel+Corporation&was=Intel+Corporation", 3),
+    ("/confirm", "carol", b"num=1&was=Intel", 4),
+    ("/confirm", "bob", b"num=1&was=Intel", 5),
+    ("/confirm", "mona", b"num=2&was=Intel+Corporation", 7),
+    ("/confirm", "mona", b"num=1&was=Intel", 30),
+    ("/confirm", "mona", b"num=1&was=", 30),
+    ("/confirm", "mona", b"was=Intel+Corporation&num=1", 0),
+    ("/confirm", "mona", b"num=1&was=Intel", 8),
+    ("/submit", "alice", b"path=PC/8086&name=Intel", 0),
+    ("/confirm", "mona", b"num=2&was=Intel", 13),
+    ("/submit", "alice", b"path=PC/1af4&name=Red+Hat", 0),
+    ("/confirm", "mona", b"num=3&was=Red+Hat", 30),
+    ("/confirm", "mona", b"num=3&was=", 0),
+]
+
 # What a registry that has counted as many commands as it may is asked: each that would be accepted
 # is refused.
 FULL = [
@@ -103,6 +127,8 @@ FULL = [
     ("/withdraw", "alice", b"num=1", 15),
     ("/approve", "mona", b"num=1", 15),
     ("/approve", "mona", b"num=2", 7),
+    ("/confirm", "mona", b"num=1&was=", 15),
+    ("/confirm", "mona", b"num=1&was=Intel", 30),
     ("/reject", "mona", b"num=1&reason=no", 15),
     ("/import", "mona", b"8086  Intel\n", 15),
     ("/import", "mona", b"8086 \n", 14),
@@ -130,6 +156,30 @@ QUESTIONS = [
     ("/changes?since=6&after=PC/8086", 0),
     ("/changes?since=9000000000000000000", 0),
     ("/changes?after=PC", 1),
+    ("/account?who=alice", 0),
+    ("/account?who=root", 0),
+    ("/account?who=" + "a" * 32, 29),
+]
+
+# A question that is judged by its query alone, with the refusal that it gets in any format.
+BAD_QUERIES = [
+    "/account",
+    "/account?who=",
+    "/account?who=Alice",
+    "/account?who=" + "a" * 33,
+    "/account?who=alice&who=alice",
+    "/account?who=alice&rank=0",
+    "/account?who=alice&format=xml",
+]
+
+# What questions about accounts are answered in both formats, and the same with a sender.
+ACCOUNTS = [
+    ("/account?who=alice", b'{"rank":0,"who":"alice"}'),
+    ("/account?who=bob&format=json", b'{"rank":1,"who":"bob"}'),
+    ("/account?who=mona", b'{"rank":2,"who":"mona"}'),
+    ("/account?who=root", b'{"rank":3,"who":"root"}'),
+    ("/account?format=text&who=alice", b"alice 0\n"),
+    ("/account?who=root&format=text", b"root 3\n"),
 ]
 
 
@@ -161,6 +211,8 @@ def as_text(told):
         lines = [f"revision {told['revision']}"] + [
             f"{it['since']} {it['path']} {it['name']}" for it in told["items"]
         ]
+    elif "rank" in told:
+        lines = [f"{told['who']} {told['rank']}"]
     elif "ok" not in told:
         lines = [told["name"]]
     elif not told["ok"]:
@@ -256,12 +308,24 @@ def test_full(cases, folder):
             )
 
 
+def test_confirmations(cases, folder):
+    with Server(os.path.join(folder, "json")) as first, Server(
+        os.path.join(folder, "text")
+    ) as second:
+        ask_commands(cases, refusals.shown(), (first, second), CONFIRMATIONS, folder)
+        cases.equal(
+            "what was confirmed",
+            first.curl("/pci.ids")[2],
+            b"# PCI ID registry\n1af4  Red Hat\n8086  Intel\n",
+        )
+
+
 def test_routes(cases, folder):
     known = refusals.shown()
     cases.equal(
         "docs/REFUSALS.md: the numbers",
         sorted(known),
-        [*range(1, 6), *range(7, 19), *range(20, 29)],
+        [*range(1, 6), *range(7, 19), *range(20, 31)],
     )
     with Server(os.path.join(folder, "json")) as first, Server(
         os.path.join(folder, "text")
@@ -269,6 +333,18 @@ def test_routes(cases, folder):
         ask_commands(cases, known, (first, second), COMMANDS, folder)
         for target, refusal in QUESTIONS:
             asked_alike(cases, known, (first, second), f"GET {target[:60]}", target, refusal)
+        for target in BAD_QUERIES:
+            cases.equal(
+                f"GET {target[:60]}",
+                first.curl(target + ("&" if "?" in target else "?") + "format=text"),
+                (400, JSON, b'{"ok":false,"refused":3,"word":"BadText"}'),
+            )
+        for target, body in ACCOUNTS:
+            kind = TEXT if "format=text" in target else JSON
+            cases.equal(f"GET {target}", first.curl(target), (200, kind, body))
+            # Nobody's rank is that of the account that asks.
+            asked_by = first.curl(target, "-H", "X-Account: mona", "-H", "X-Account: No account")
+            cases.equal(f"GET {target}, whoever asks", asked_by, (200, kind, body))
         cases.equal(
             "both registries hold the same", first.curl("/pci.ids"), second.curl("/pci.ids")
         )

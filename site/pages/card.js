@@ -1,6 +1,6 @@
 // A row of the queue: a proposal beside what its item is called now, and deciding on it.
 
-import { account, rank } from "../account.js";
+import { account, maySuffice } from "../account.js";
 import { ask } from "../api.js";
 import { faultWords } from "../carry.js";
 import { el, fill, link, several } from "../dom.js";
@@ -8,9 +8,9 @@ import { tell } from "../notice.js";
 import { chainOf, kindOf, wishOf } from "../parts.js";
 import { parentOf, rankFor, withParents } from "../paths.js";
 import { compared, shown, spelled } from "../shown.js";
-import { steadyButton } from "../steady.js";
-import { RANKS, STATES } from "../words.js";
-import { approvalWords, decide, rejection, rejectionOf } from "./proposal.js";
+import { appear, steadyButton } from "../steady.js";
+import { answerWords, RANKS, STATES } from "../words.js";
+import { approvalOf, CHANGED, decide, rejection, rejectionOf } from "./proposal.js";
 
 const ARMED_FOR = 3_000;
 
@@ -22,7 +22,7 @@ export class Card {
   /**
    * @param {Object} it the proposal, as /pending has it
    * @param {Object} around rivals: others on its path; read: the answer for a path; decided,
-   *   changed: called with what was
+   *   changed: called with what was; changed resolves once the rows show it
    */
   constructor(it, around) {
     this.it = it;
@@ -31,8 +31,7 @@ export class Card {
     this.isArmed = false;
     this.needed = rankFor(it.path, it.name === null);
     this.isOwn = account() === it.author;
-    this.mayDecide = account() !== null && !this.isOwn && rank().least >= 1
-      && rank().most >= this.needed;
+    this.mayDecide = account() !== null && !this.isOwn && maySuffice(this.needed);
     this.place = el("div", { class: "said" });
     this.note = el("p", { class: "note" });
     this.above = el("p", { class: "under" });
@@ -75,7 +74,7 @@ export class Card {
   }
 
   whyNot() {
-    if (!account() || rank().least < 1) return null;
+    if (!account() || !maySuffice(1)) return null;
     return el("p", { class: "aside" }, this.isOwn ? "Your own: somebody else decides."
       : `For a ${RANKS[this.needed]} or above.`);
   }
@@ -114,6 +113,7 @@ export class Card {
     if (own.value) this.showNote(own.value);
     this.showAbove(nameOf);
     this.showChange(nameOf(this.it.path));
+    this.hold(nameOf(this.it.path));
     this.showWarning(this.warningWords(nameOf));
     if (own.value && own.value.state !== "pending") this.setDecided(own.value.state);
     return null;
@@ -138,6 +138,15 @@ export class Card {
   showNote({ note, remarks }) {
     fill(this.note, note === "" ? null : shown(note),
       remarks.length ? el("small", {}, ` (${several(remarks.length, "comment")})`) : null);
+  }
+
+  /** Takes up what the item is called. A press that was meant for another name does nothing. */
+  hold(now) {
+    if (this.row.isConnected && now !== this.now) {
+      this.disarm();
+      appear(this.row);
+    }
+    this.now = now;
   }
 
   showChange(now) {
@@ -195,10 +204,7 @@ export class Card {
   }
 
   async doApprove() {
-    await this.carry("approved", {
-      route: "/approve", fields: { num: this.it.num }, about: approvalWords(this.it),
-      button: this.approve,
-    });
+    await this.carry("approved", approvalOf(this.it, this.now, this.approve));
   }
 
   async doReject() {
@@ -208,13 +214,17 @@ export class Card {
 
   async carry(state, command) {
     if (this.isDecided) return;
-    const { it, needed, place } = this;
-    const answer = await decide(it, needed, { ...command, place });
+    const { it, place } = this;
+    const answer = await decide(it, { ...command, place });
     if (answer?.value) {
       tell(`${it.num} is ${state}.`, 3);
       this.setDecided(state);
       if (state === "approved") this.around.changed(it.path);
     } else if (answer?.refusal?.refused === 8) this.setDecided("");
+    else if (answer?.refusal?.refused === CHANGED) {
+      await this.around.changed(it.path);
+      fill(place, faultWords(answerWords(answer)));
+    }
   }
 
   /** Greys the row, which stays where it is, so that nothing else comes under the pointer. */

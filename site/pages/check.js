@@ -1,6 +1,6 @@
 // Checks a file in the browser, and has those who may import it, and others propose its names.
 
-import { account, rank } from "../account.js";
+import { account, learnRank, maySuffice } from "../account.js";
 import { carryOut } from "../carry.js";
 import { keepDraft } from "../drafts.js";
 import { canonical } from "../canonical.js";
@@ -18,12 +18,16 @@ const AROUND = 2;
 const LONGEST_LINE = 300;
 const FEW = 20;
 const SAVED_WITHIN = 60_000;
+const SHORT_WAIT = 300;
 
 /** The page that checks. */
 export const check = (context) => new Check(context, false).page();
 
 /** The page that imports. */
-export const load = (context) => new Check(context, true).page();
+export async function load(context) {
+  await Promise.race([learnRank(), new Promise((go) => { setTimeout(go, SHORT_WAIT); })]);
+  return new Check(context, true).page();
+}
 
 function faultLines(bytes, faulty) {
   // A mark of the byte order is part of the first line, and shown with it.
@@ -193,7 +197,7 @@ function importWords() {
     el("p", {}, "For senior moderators: the names of a file are set in the registry, all or none."
       + " Nothing is removed, and proposals are left alone. The file is checked here first, and you"
       + " see what it would change."),
-    account() && rank().most < 2
+    account() && !maySuffice(2)
       ? el("p", { class: "fault" }, "This account's rank is too low for an import. ",
         link("/check", "Check a file"), " offers to propose its names.") : null,
   ];

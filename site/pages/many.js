@@ -15,7 +15,7 @@ import { oneParagraph, title } from "../parts.js";
 import { devicesIn } from "../pasted.js";
 import { hrefOf, parse } from "../paths.js";
 import { shown } from "../shown.js";
-import { setDead, isDead, steadyButton } from "../steady.js";
+import { appear, isDead, setDead, steadyButton } from "../steady.js";
 import { answerWords } from "../words.js";
 import { nameFault, noteBox, noteFault } from "./proposing.js";
 
@@ -156,9 +156,10 @@ class Many {
   }
 
   async add(some) {
-    const fresh = some.filter((it) => parse(it.path) && !this.rows.some((row) => (
-      !row.isDropped && row.path === it.path)));
-    const known = await names.namesAt(fresh.map((it) => it.path));
+    const known = await names.namesAt(some.map((it) => it.path));
+    // What another click brought meanwhile is there already.
+    const has = (path) => this.rows.some((row) => !row.isDropped && row.path === path);
+    const fresh = some.filter((it) => parse(it.path) && !has(it.path));
     const rows = fresh.map((it) => new Row(it, known.get(it.path), () => this.changed()));
     this.rows.push(...rows);
     this.list.append(...rows.map((it) => it.element));
@@ -171,6 +172,7 @@ class Many {
     const open = this.rows.filter((it) => it.isOpen).length;
     fill(this.count, `${several(this.rows.length, "row")}, ${open} to be proposed.`);
     fill(this.button, `Propose ${several(open, "name")}`);
+    if (this.button.hidden && open > 0) appear(this.button);
     this.button.hidden = open === 0;
   }
 

@@ -1,6 +1,6 @@
 // A proposal: what it proposes, its comments, and deciding on it.
 
-import { account, learnRank, rank } from "../account.js";
+import { account, learnRank, maySuffice } from "../account.js";
 import { ask } from "../api.js";
 import { carryOut, faultWords } from "../carry.js";
 import { el, fill, link, several, utf8Length } from "../dom.js";
@@ -11,21 +11,25 @@ import { rankFor, withParents } from "../paths.js";
 import { SentForm } from "../sent.js";
 import { compared, shown } from "../shown.js";
 import { steadyButton } from "../steady.js";
-import { RANKS, STATES } from "../words.js";
+import { RANKS, refusalWords, STATES } from "../words.js";
 
 const MOST_TEXT = 4_000;
 const MOST_REMARKS = 200;
+/** The number of the refusal of an approval whose item isn't as it was shown. */
+export const CHANGED = 30;
 const NEEDS_ACCOUNT = "Decisions are made under an account.";
 
 /** The page of a proposal. */
 export default async function proposal({ number, again }) {
-  const answer = await ask(`/submission/${number}`);
+  const [answer] = await Promise.all([ask(`/submission/${number}`), learnRank()]);
   if (!answer.value) return failed(answer, again);
   const it = answer.value;
   const chain = withParents(it.path);
   const answers = await Promise.all(chain.map((path) => ask(`/read/${path}`)));
   const names = new Map(chain.map((path, at) => [path, answers[at].value?.name]));
   const own = answers.at(-1);
+  // Nobody decides without having seen what it is called now.
+  if (own.trouble) return failed(own, again);
   const isIdle = it.name === null ? own.refusal !== undefined : own.value?.name === it.name;
   const done = (words) => { tell(words, 4); again(); };
   const text = `Proposal ${it.num}: ${it.name === null ? "remove" : it.name} · ${it.path}`;
@@ -33,7 +37,7 @@ export default async function proposal({ number, again }) {
     title(text, `Proposal ${it.num} `,
       el("span", { class: `state ${it.state}` }, STATES[it.state])),
     facts(it, names),
-    it.state === "pending" ? decisions(it, isIdle, done) : null,
+    it.state === "pending" ? decisions(it, names.get(it.path), isIdle, done) : null,
     el("section", {}, el("h2", {}, "Comments"), remarks(it), commentForm(it, done)),
   ];
 }
@@ -96,17 +100,17 @@ function commentForm(it, done) {
 }
 
 // What an author may do, and what others may.
-function decisions(it, isIdle, done) {
+function decisions(it, now, isIdle, done) {
   const needed = rankFor(it.path, it.name === null);
   if (!account()) {
     return el("p", { class: "aside" }, `Log in to comment, to withdraw your own, or, as a`
       + ` ${RANKS[needed]} or above, to decide.`);
   }
   if (account() === it.author) return withdrawal(it, done);
-  if (rank().most < needed) {
+  if (!maySuffice(needed)) {
     return el("p", { class: "aside" }, `A ${RANKS[needed]} or above decides on this.`);
   }
-  return decision(it, needed, isIdle, done);
+  return decision(it, now, isIdle, done);
 }
 
 function withdrawal(it, done) {
@@ -123,24 +127,24 @@ function withdrawal(it, done) {
 
 const deciding = new Set();
 
-/** Sends a decision, one at a time on each proposal, and learns from the answer that it returns. */
-export async function decide(it, needed, command) {
+/** Sends a decision, one at a time on each proposal, and returns its answer. */
+export async function decide(it, command) {
   if (deciding.has(it.num)) return null;
   deciding.add(it.num);
-  const by = account();
   const answer = await carryOut({ ...command, why: NEEDS_ACCOUNT })
     .finally(() => deciding.delete(it.num));
-  const isSame = by === null || by === account();
-  if (isSame && answer?.value) learnRank(needed, true);
-  else if (isSame && answer?.refusal?.refused === 5) learnRank(needed, false);
-  if (answer?.value && command.route === "/approve") learnName(it.path, it.name);
+  if (answer?.value && command.route === "/confirm") learnName(it.path, it.name);
   return answer;
 }
 
-/** What an approval does, in words that stand for themselves. */
-export const approvalWords = (it) => (
-  it.name === null ? `Approve ${it.num}: remove ${it.path}`
-    : `Approve ${it.num}: “${it.name}” for ${it.path}`);
+/** The command that approves, while the item is called as it is shown; undefined is no name. */
+export const approvalOf = (it, now, button) => ({
+  route: "/confirm",
+  fields: { num: it.num, was: now ?? "" },
+  about: it.name === null ? `Approve ${it.num}: remove ${it.path}`
+    : `Approve ${it.num}: “${it.name}” for ${it.path}`,
+  button,
+});
 
 /** The form of a reason, whose draft is the same in the queue and on the proposal's page. */
 export function rejection(it, place, onsubmit) {
@@ -169,18 +173,17 @@ export function rejectionOf(it, { reason, reject, sent }, place) {
   };
 }
 
-function decision(it, needed, isIdle, done) {
+function decision(it, now, isIdle, done) {
   const place = el("div", { class: "said" });
   const onclick = async () => {
-    const answer = await decide(it, needed, {
-      route: "/approve", fields: { num: it.num }, about: approvalWords(it), button: approve, place,
-    });
+    const answer = await decide(it, { ...approvalOf(it, now, approve), place });
     if (answer?.value) done(`${it.num} is approved.`);
+    else if (answer?.refusal?.refused === CHANGED) done(refusalWords(answer.refusal));
   };
   const approve = steadyButton({ class: "main", onclick }, "Approve");
   const no = rejection(it, place, async () => {
     const command = rejectionOf(it, no, place);
-    if (command && (await decide(it, needed, command))?.value) done(`${it.num} is rejected.`);
+    if (command && (await decide(it, command))?.value) done(`${it.num} is rejected.`);
   });
   return el("div", { class: "decide" },
     isIdle ? faultWords("Nothing would change: it is so already.") : null,

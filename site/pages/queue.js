@@ -1,11 +1,11 @@
 // What is pending, for going through it by keyboard.
 
-import { account, learnRank, rank } from "../account.js";
+import { account, learnRank, maySuffice } from "../account.js";
 import { ask } from "../api.js";
 import { forgetPending, pendingPage } from "../detours.js";
 import { el, fill, link, several } from "../dom.js";
 import { failed, title } from "../parts.js";
-import { isTooSoon } from "../steady.js";
+import { appear, isTooSoon } from "../steady.js";
 import { troubleWords } from "../words.js";
 import { Card } from "./card.js";
 
@@ -90,6 +90,7 @@ class List {
         looks[at] = this.cards[at].look();
       }
       this.element.append(this.cards[at].row);
+      appear(this.cards[at].row);
       this.sayRest(at + 1 < this.cards.length ? "More rows …" : this.nextPage());
     }
   }
@@ -186,7 +187,8 @@ class List {
   changed(path) {
     const isNear = (it) => it === path || it.startsWith(`${path}/`);
     this.reads.delete(path);
-    this.cards.filter((it) => isNear(it.it.path) && !it.isDecided).forEach((it) => it.look());
+    const near = this.cards.filter((it) => isNear(it.it.path) && !it.isDecided);
+    return Promise.all(near.map((it) => it.look()));
   }
 }
 
@@ -199,20 +201,10 @@ function keyWords() {
     el("span", {}, keys.split(" ").map((it) => [el("kbd", {}, it), " "]), word)]), ".");
 }
 
-// No question tells a contributor from a moderator: a moderator says so once in this browser.
-function rankOffer(again) {
-  const { least, most } = rank();
-  if (!account()) return el("p", { class: "aside" }, "Everybody may read this. Log in to decide.");
-  if (least >= 1 || most < 1) return null;
-  const onclick = () => { learnRank(1, true); again(); };
-  return el("p", { class: "aside" }, "Do you moderate here? ",
-    el("button", { type: "button", class: "small", onclick }, "Show Approve and Reject"));
-}
-
 /** The queue. */
 export default async function queue({ query, again, go }) {
   const after = Math.max(0, Number.parseInt(query.get("after") ?? "0", 10)) || 0;
-  const answer = await pendingPage(after);
+  const [answer] = await Promise.all([pendingPage(after), learnRank()]);
   if (!answer.value) return failed(answer, again);
   const all = answer.value;
   const list = new List(all, go);
@@ -222,8 +214,8 @@ export default async function queue({ query, again, go }) {
   return [
     title("Queue"),
     list.left,
-    rankOffer(again),
-    all.length && rank().least >= 1 && account() ? keyWords() : null,
+    account() ? null : el("p", { class: "aside" }, "Everybody may read this. Log in to decide."),
+    all.length && account() && maySuffice(1) ? keyWords() : null,
     el("p", {}, link("/decided", "The latest proposals, decided ones too")),
     list.whole,
   ];

@@ -150,9 +150,6 @@ def ready(browser, path):
     browser.go(path)
     browser.one(WHOLE.get(path, "h1"))
     browser.js("return new Promise((go) => setTimeout(go, 100))")
-    if path == "/queue" and browser.all("main .aside button"):
-        browser.click("main .aside button")
-        browser.one(".queue > li:nth-child(5)")
 
 
 # The windows: how wide, how high, and whether it is a phone's.

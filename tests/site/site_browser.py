@@ -141,6 +141,7 @@ class Browser:
         self.js("const it = document.querySelector(arguments[0]); it.focus();"
                 "it.value = arguments[1];"
                 "it.dispatchEvent(new Event('input', { bubbles: true }))", selector, text)
+        return self
 
     def press(self, *keys):
         """Presses keys where the focus is."""

@@ -195,6 +195,17 @@ def rejected(cases, world, browser, number):
                 ["half a reason", False])
 
 
+def beside_decision(cases, world, browser):
+    """A decision leaves the comment that is half written on the same page."""
+    number = world.submit("dora", "PC/8086/a076", "To approve")
+    browser.go(f"/proposals/{number}")
+    browser.type("#comment", "half a comment")
+    browser.click(".decide button.main")
+    browser.has("Approved", "h1")
+    cases.equal("kept: a comment beside a decision", value(browser, "#comment"),
+                ["half a comment", False])
+
+
 def typed(cases, world, browser):
     """Everything else that is typed."""
     for path, box, text in (
@@ -313,6 +324,33 @@ def called_today(cases, world, browser):
     cases.equal("kept: the name of today", world.ask("/read/PC/8086/1237")["name"], "A first name")
 
 
+def changed_meanwhile(cases, world, browser):
+    """Nobody approves over a name that he has not seen, in the queue or on a proposal's page."""
+    number = world.submit("alice", "PC/8086/1237", "By alice")
+    row = "document.querySelector(`.queue .top a[href='/proposals/${arguments[0]}']`).closest('li')"
+    for page, approve in (("/queue", f"return {row}.querySelector('button.main')"),
+                          (f"/proposals/{number}",
+                           "return document.querySelector('.decide button.main')")):
+        browser.go(page)
+        if page == "/queue":
+            browser.all_rows(".queue > li", len(world.pending()))
+        browser.wait(lambda approve=approve: browser.js(approve, number), "Approve")
+        name = f"Meanwhile, beside {page[1:6]}"
+        other = world.submit("dora", "PC/8086/1237", name)
+        world.ask("/approve", {"num": other}, "root")
+        time.sleep(0.6)
+        browser.js(f"{approve}.click()".replace("return ", ""), number)
+        told = browser.has("has another name by now", "body")
+        was = browser.wait(lambda name=name: name in browser.text("main"), "the name of today")
+        got = told, was, world.state(number), world.ask("/read/PC/8086/1237")["name"]
+        cases.equal(f"kept: {page}, a name that changed", got, (True, True, "pending", name))
+    time.sleep(0.6)
+    browser.js("document.querySelector('.decide button.main').click()")
+    browser.has("Approved", "h1")
+    cases.equal("kept: approved once it was seen", world.ask("/read/PC/8086/1237")["name"],
+                "By alice")
+
+
 def long_file(cases, world, browser):
     """A published file of over 4 MiB: its names are found."""
     path = os.path.join(world.folder, "public", "pci.ids")
@@ -340,8 +378,10 @@ def run(cases):
         with Browser(world.base) as browser:
             browser.go("/").log_in("sam")
             rejected(cases, world, browser, taken)
+            beside_decision(cases, world, browser)
             late_rows(cases, world, browser)
             called_today(cases, world, browser)
+            changed_meanwhile(cases, world, browser)
             unfetched(cases, world, browser)
             browser.faults()
             browser.said = []

@@ -122,8 +122,6 @@ def queued(cases, world, browser):
     """Held keys and double clicks in the queue."""
     numbers = [world.submit("alice", f"PC/8086/a1{it:02x}", f"Row {it}") for it in range(8)]
     browser.go("/queue")
-    if browser.all("main .aside button"):
-        browser.click("main .aside button")
     browser.wait(lambda: browser.all(".queue .buttons"), "buttons")
     browser.js("document.querySelector('.queue > li[tabindex=\"0\"]').focus()")
     time.sleep(SETTLE)
@@ -144,6 +142,22 @@ def queued(cases, world, browser):
         approved = before - len(world.pending())
         cases.equal(f"once: a double click of {pause} s approves one", approved, 1)
     cases.equal("once: the decided rows stay", len(browser.all(".queue > li.settled")), 3)
+
+
+def late_row(cases, world, browser):
+    """A button of a row that has just been shown does nothing, however long ago it was made."""
+    number = world.pending()[0]["num"]
+    browser.go("/help")
+    browser.js("window.pressed = 0; new MutationObserver((_, it) => {"
+               "  const button = document.querySelector('.queue button.main');"
+               "  if (button) { it.disconnect(); window.pressed += 1; button.click(); }"
+               "}).observe(document.body, { subtree: true, childList: true })")
+    world.spoiler.set("hold", seconds=0.8)
+    browser.js("document.querySelector('header nav a[href=\"/queue\"]').click()")
+    browser.wait(lambda: browser.js("return window.pressed"), "the first row")
+    world.spoiler.set("pass")
+    time.sleep(SETTLE)
+    cases.equal("once: a row that just came", world.state(number), "pending")
 
 
 def elsewhere_decided(cases, world, browser):
@@ -187,6 +201,17 @@ def late(cases, world, browser):
     typed = browser.js("return document.getElementById('paste').value")
     cases.equal("once: who is elsewhere stays there", (browser.text("main h1"), typed),
                 ("Check a file", "typed meanwhile"))
+    # A page that is on its way isn't shown to who has gone back meanwhile.
+    world.spoiler.set("hold", seconds=1)
+    browser.js("document.querySelector('header nav a[href=\"/vendors\"]').click()")
+    time.sleep(0.2)
+    browser.js("history.back()")
+    time.sleep(2.5)
+    world.spoiler.set("pass")
+    typed = browser.js("return document.getElementById('paste')?.value")
+    cases.equal("once: who went back stays there", (browser.text("main h1"), typed),
+                ("Check a file", "typed meanwhile"))
+    cases.equal("once: nothing is said to load", browser.text("#notice"), "")
 
 
 def forgotten(cases, world, browser):
@@ -235,6 +260,13 @@ def forgotten(cases, world, browser):
     driver.switch_to.window(first)
     browser.js("window.forgetAll()")
     cases.equal("once: and forget them", browser.owed(), [])
+    told = driver.execute_async_script(
+        "const [done] = arguments; import('/site/outbox.js').then(async ({ begin, settle }) => {"
+        "  const entry = await begin('/x', 'a=b', 'x');"
+        "  localStorage.setItem(`acted:${entry.key}`, JSON.stringify({ num: 7, at: 1 }));"
+        "  localStorage.removeItem(`owed:${entry.key}`);"
+        "  done((await settle(entry)).value?.num); })")
+    cases.equal("once: what another tab has had the answer of is done", told, 7)
 
 
 def unkept(cases, world, browser):
@@ -297,6 +329,29 @@ def logged_out_elsewhere(cases, browser):
     browser.log_in("alice")
 
 
+def logged_in_elsewhere(cases, world, browser):
+    """A page whose command waits for a log-in isn't made anew when another tab logs in."""
+    driver = browser.driver
+    browser.click("#log")
+    browser.wait(lambda: browser.text("#log") == "Log in", "logged out")
+    propose(browser, "a047", "Waits for a log-in")
+    browser.js("document.getElementById('name').mark = 1")
+    browser.click("form.propose button.main")
+    browser.one("#log-name")
+    first = driver.current_window_handle
+    driver.switch_to.new_window("tab")
+    browser.go("/help").log_in("alice")
+    driver.close()
+    driver.switch_to.window(first)
+    browser.wait(lambda: browser.text("#log") == "Log out alice", "the log-in of the other tab")
+    time.sleep(0.3)
+    cases.equal("once: a page with a waiting command stays",
+                browser.js("return document.getElementById('name').mark"), 1)
+    browser.enter("alice")
+    browser.heading("Proposal ")
+    cases.equal("once: its command goes out once", count(world, "a047"), 1)
+
+
 def drafts(cases, world, browser):
     """What was typed is there again after a reload, a key in the search box and Back, the skip
     link, and a decision on the same page."""
@@ -317,6 +372,14 @@ def drafts(cases, world, browser):
     time.sleep(0.3)
     cases.equal("drafts: the skip link makes no new page",
                 browser.js("return document.getElementById('name').mark"), 1)
+    browser.go("/search?q=i").put("#q", "intel")
+    browser.wait(lambda: browser.driver.current_url.endswith("q=intel"), "the address")
+    browser.has("Intel", "#found")
+    browser.js("document.querySelector('#found li').mark = 1;"
+               "document.querySelector('.skip').click()")
+    time.sleep(0.5)
+    cases.equal("drafts: nor does it where the address has followed what was typed",
+                browser.js("return document.querySelector('#found li').mark"), 1)
     number = world.submit("mona", "PC/8086/a051", "To comment")
     browser.go(f"/proposals/{number}")
     browser.type("#comment", "half a comment")
@@ -391,6 +454,7 @@ def run(cases):
         reloaded(cases, world, alice)
         doubled(cases, world, alice)
         queued(cases, world, mona)
+        late_row(cases, world, mona)
         elsewhere_decided(cases, world, mona)
         killed(cases, world, alice)
         late(cases, world, alice)
@@ -398,6 +462,7 @@ def run(cases):
         unkept(cases, world, alice)
         others_key(cases, world, alice)
         logged_out_elsewhere(cases, alice)
+        logged_in_elsewhere(cases, world, alice)
         drafts(cases, world, alice)
         mona.click("#log")
         mona.wait(lambda: mona.text("#log") == "Log in", "logged out")

@@ -53,6 +53,10 @@ def visitor(cases, browser):
     cases.equal("story: back to the search", typed, "8086:1237")
     browser.go("/item/PC/8086/")
     cases.equal("story: an address with a slash", browser.heading("Intel Corporation"), True)
+    for path in ("PC/8086/1237", "PD/01/00", "PD/01"):
+        browser.go(f"/item/{path}")
+        cases.equal(f"story: since when {path} has its name",
+                    browser.has("Command 5 of 5 gave it its name", ".history"), True)
 
 
 def contributor(cases, world, browser):
@@ -110,12 +114,43 @@ def others(cases, world, browser):
     cases.equal("story: both taken back", world.pending("PC/8086/1237"), [])
 
 
+def ranks(cases, world, browser):
+    """What a page offers goes by the rank that the account has by now, and no command asks for
+    it. `browser` is alice's, who is a contributor."""
+    number = world.submit("dora", "PC/8086/7d8b", "To decide")
+    approve = f"/proposals/{number}", ".decide button.main"
+    for rank, may in (("0", False), ("1", True), ("2", True), ("0", False)):
+        world.ask("/account", {"who": "alice", "rank": rank})
+        browser.go("/queue")
+        browser.has("To decide", ".queue")
+        got = [len(browser.all(".queue .buttons")) > 0]
+        browser.go(approve[0])
+        got.append(len(browser.all(approve[1])) > 0)
+        cases.equal(f"story: what is offered to rank {rank}", got, [may, may])
+    cases.equal("story: and who decides", browser.has("A moderator or above decides on this"), True)
+    vendor = world.submit("dora", "PC/7d8a", "A vendor")
+    world.ask("/account", {"who": "alice", "rank": "1"})
+    browser.go("/queue")
+    browser.has("For a senior moderator or above.", ".queue")
+    cases.equal("story: rows for another rank", len(browser.all(".queue .buttons")), 1)
+    world.ask("/account", {"who": "alice", "rank": "0"})
+    for it in (number, vendor):
+        world.ask("/withdraw", {"num": it}, "dora")
+    browser.click("#log")
+    browser.wait(lambda: browser.text("#log") == "Log in", "logged out")
+    world.spoiler.seen.clear()
+    browser.log_in("alice")
+    browser.wait(lambda: browser.js("return document.getElementById('log').title"), "her rank")
+    told = browser.js("return document.getElementById('log').title")
+    asked = [it for it in world.spoiler.seen if not it.startswith(b"GET ")]
+    cases.equal("story: a log-in sends no command", (told, asked), ("contributor", []))
+
+
 def moderator(cases, world, browser, number):
     other = world.submit("alice", "PC/8086/7d8e", "Bad")
     browser.go("/queue")
     cases.equal("story: a visitor may not decide", browser.all(".queue .buttons"), [])
     browser.log_in("mona")
-    browser.click("main .aside button")
     browser.wait(lambda: browser.all(".queue > li .buttons"), "buttons")
     browser.has("seen in a laptop", ".queue")
     browser.click(f".queue a[href='/proposals/{number}']")
@@ -175,11 +210,16 @@ def many(cases, world, browser):
     """A paste of several unknown devices becomes several proposals."""
     browser.go("/propose?many=yes")
     browser.put("#pasted", LSPCI)
-    browser.click("main form button")
-    browser.wait(lambda: len(browser.all(".many > li")) == 3, "three rows")
+    browser.one("main form button")
+    browser.js("const it = document.querySelector('main form button'); it.click(); it.click()")
+    browser.wait(lambda: browser.all(".many > li"), "rows")
+    browser.js("return new Promise((go) => setTimeout(go, 300))")
+    cases.equal("story: three rows, though they were asked for twice",
+                len(browser.all(".many > li")), 3)
     for row, name in ((1, "First of two"), (2, "Second of two")):
         browser.all(".many input")[row].send_keys(name)
     browser.has("Propose 2 names")
+    browser.js("return new Promise((go) => setTimeout(go, 600))")
     browser.js("[...document.querySelectorAll('main button')]"
                ".find((it) => it.textContent.startsWith('Propose 2')).click()")
     browser.wait(lambda: len(browser.all(".many .good")) == 2, "both proposed")
@@ -220,9 +260,12 @@ def administrator(cases, world, browser):
     browser.click("#log")
     browser.wait(lambda: browser.text("#log") == "Log in", "logged out")
     browser.log_in("root")
-    browser.type("#who-name", "emil")
+    browser.type("#who-name", "emil", browser.keys.TAB)
+    cases.equal("story: a new account", browser.has("emil is no account yet."), True)
     browser.click("main form button.main")
     browser.has("emil is a contributor now", "#notice")
+    browser.type("#who-name", "mona", browser.keys.TAB)
+    cases.equal("story: an account's rank", browser.has("mona is a moderator."), True)
     told = world.ask("/submit", {"path": "PC/8086/ab04", "name": "By emil"}, "emil")
     cases.equal("story: a new account proposes", told["ok"], True)
     cases.equal("story: nobody's rank was changed by a log-in",
@@ -234,6 +277,7 @@ def run(cases):
         with Browser(world.base) as one, Browser(world.base) as two, Browser(world.base) as three:
             visitor(cases, one)
             number = contributor(cases, world, two)
+            ranks(cases, world, two)
             moderator(cases, world, three, number)
             two.go("/mine")
             cases.equal("story: alice sees what came of it", two.has("Approved"), True)

@@ -87,6 +87,8 @@ class Spoiler:
         self.behind, self.port = behind, free_port()
         self.changed = threading.Condition()
         self.mode, self.left, self.seconds = "pass", 0, 0
+        # The first lines of the requests that came.
+        self.seen = []
         self.listener = socket.create_server(("127.0.0.1", self.port), backlog=100)
         threading.Thread(target=self.listen, daemon=True).start()
 
@@ -118,6 +120,7 @@ class Spoiler:
         request = whole_request(client)
         if request is None:
             return
+        self.seen.append(request.partition(b"\r\n")[0])
         is_command = request.startswith(b"POST") and b"\nx-key:" in request.lower()
         is_lost = is_command and self.is_lost()
         place = ("127.0.0.1", self.behind)

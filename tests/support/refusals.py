@@ -42,6 +42,9 @@ def defined():
     statuses = {variant: int(status) for status, variant in said}
     for variant, (number, word) in numbered(spec("pid_lookup", "Unanswered"), "unanswered").items():
         found[number] = (word, statuses[variant])
+    said = r"= answer_in format (\d+) \(refusal_data (\d+) \(codes \"(\w+)\"\)\)"
+    for status, number, word in re.findall(said, spec("pid_http_replies", "RankAnswers")):
+        found[int(number)] = (word, int(status))
     requests = spec("pid_http_stream", "RequestRefusals")
     statuses = dict(re.findall(r"^request_refusal_status (\w+) = (\d+)$", requests, re.M))
     for variant, (number, word) in numbered(requests, "request_refusal").items():

@@ -10,7 +10,7 @@ use Rattle.pid_lookup.specs.Flags.{is_bad}
 use Rattle.pid_moderation.specs.History.{Asked, History}
 use Rattle.pid_moderation.specs.Items.{Items, name_at}
 use Rattle.pid_moderation.specs.Judgement.{answer, judge, after}
-use Rattle.pid_moderation.specs.Views.{Remark, items_of, views_of}
+use Rattle.pid_moderation.specs.Views.{Remark, items_of, rank_of, views_of}
 use Rattle.pid_moderation.specs.Writes.{tree_of}
 use Rattle.pid_moderation.specs.declared.refusal.Refusal.{Refusal}
 use Rattle.pid_moderation.specs.declared.refusal.Refusal.TheVariants.{NoSubmission, Memory, Failed}
@@ -29,9 +29,10 @@ use Rattle.pid_http_replies.specs.ItemAnswers.{item_answer, children_answer}
 use Rattle.pid_http_replies.specs.LookupAnswers.{lookup_answer}
 use Rattle.pid_http_replies.specs.Outcomes.{outcome_answer, missing_answer}
 use Rattle.pid_http_replies.specs.PendingAnswers.{pending_answer}
+use Rattle.pid_http_replies.specs.RankAnswers.{rank_answer}
 use Rattle.pid_http_replies.specs.SubmissionAnswers.{submission_answer}
 use Rattle.pid_http.specs.Errands.{Errand, Answered, Denied, Obeys, Export, Read, Children, Lookup}
-use Rattle.pid_http.specs.Errands.{Submission, Pending, Changes, format_of, known_answer}
+use Rattle.pid_http.specs.Errands.{Submission, Pending, Changes, Rank, format_of, known_answer}
 
 -- the item at a path, or that there is none
 abbrev pub item_or_missing : Path → Format → Option (List ℕ) → Answer
@@ -84,6 +85,7 @@ answer_over h (Submission number format) = submission_or_missing number format
 answer_over h (Pending number format) = pending_answer format (pending_in PAGE number (views_of h))
 answer_over h (Changes since after format) = changes_answer format
     (changes_in PAGE since (start_text after) (views_of h))
+answer_over h (Rank who format) = rank_answer format who (rank_of who h)
 
 -- the history after it: only a command that is accepted adds to the one before
 abbrev pub history_behind : History → Option Asked → History

@@ -49,6 +49,8 @@ pub data Errand : Type 0 where
   -- the items that were added or renamed by commands with greater numbers than this, after a path
   -- or from the first one on
   Changes : ℕ → Option Path → Format → Errand
+  -- the rank of an account
+  Rank : List ℕ → Format → Errand
 
 -- the command that the registry is to obey, if it is one
 abbrev pub command_sent : Errand → Option Asked
@@ -64,6 +66,7 @@ format_of (Children above format) = format
 format_of (Submission number format) = format
 format_of (Pending number format) = format
 format_of (Changes since after format) = format
+format_of (Rank who format) = format
 format_of errand = Json
 
 -- the answer that is known without the registry; none if that is asked
@@ -125,6 +128,7 @@ errand_for (questions.Lookup lookup) s body = Lookup lookup
 errand_for (questions.Submission number format) s body = submission_for format number
 errand_for (questions.Pending after format) s body = Pending after format
 errand_for (questions.Changes since start format) s body = changes_for since format start
+errand_for (questions.Rank who format) s body = Rank who format
 errand_for (questions.Command verb format) s body = sent format
     (λ sending. command_made verb sending body) s
 

@@ -11,7 +11,7 @@ ghost use Rattle.pid_http.specs.Steps.Replying.{Replies, RepliesTo};
 
 use crate::commanding::command;
 use crate::exporting::export;
-use crate::queries::{changes, children, lookup, pending, read, submission};
+use crate::queries::{changes, children, lookup, pending, rank, read, submission};
 use pid_http_replies::{Early, early_reply, refusal_reply};
 use pid_http_requests::{Above, Format, Question, Start, sender_of};
 use pid_http_stream::{Head, Reply};
@@ -111,6 +111,7 @@ pub(crate) fn answer<S: Alter + Drop>(
             start,
             format,
         } => answer_changes(alloc, registry, since, start, format),
+        Question::Rank { who, format } => rank(alloc, registry, &who, format),
         Question::Command { verb, format } => {
             command(alloc, registry, verb, format, sender_of(head), body)
         }

@@ -9,6 +9,7 @@ ghost use Rattle.pid_moderation.specs.Submissions.{discussion_of};
 ghost use Rattle.pid_moderation.specs.PendingPages.{told_of};
 ghost use Rattle.pid_http_replies.specs.ChangeAnswers.{changes_answer};
 ghost use Rattle.pid_http_replies.specs.PendingAnswers.{pending_answer};
+ghost use Rattle.pid_http_replies.specs.RankAnswers.{rank_answer};
 ghost use Rattle.pid_http_replies.specs.Replying.{MakesReply};
 ghost use Rattle.pid_http_replies.specs.SubmissionAnswers.{submission_answer};
 ghost use Rattle.pid_http.specs.Answering.{
@@ -21,12 +22,12 @@ ghost use Rattle.pid_http.specs.Steps.Replying.{Replies, answer_or, pairs_found}
 
 use pid_http_replies::{
     changes_reply, children_reply, item_reply, lookup_reply, missing_reply, pending_reply,
-    refusal_reply, submission_reply,
+    rank_reply, refusal_reply, submission_reply,
 };
 use pid_http_requests::{Format, LookupQuery};
 use pid_http_stream::Reply;
-use pid_ident::{Name, Path};
-use pid_moderation::{Changes, Discussion, Item, Pending, Refusal};
+use pid_ident::{Account, Name, Path};
+use pid_moderation::{Changes, Discussion, Item, Pending, Rank, Refusal};
 use pid_service::Registry;
 use sqlite::Alter;
 use std::alloc::{AllocError, Global};
@@ -222,4 +223,32 @@ pub(crate) fn changes<S: Alter + Drop>(
     pid_service::laws::clauses_meet_lives::<S>(); // proof only
     let found = registry.changes(since, after);
     changes_outcome(alloc, format, found)
+}
+
+fn rank_outcome(
+    alloc: Global,
+    who: &Account,
+    format: Format,
+    found: Result<Option<Rank>, Refusal>,
+) -> Result<Reply, AllocError>
+    ensures { MakesReply result (answer_or format (rank_answer format who.now) found) }
+{
+    match found {
+        Ok(rank) => rank_reply(alloc, format, who, rank),
+        Err(refusal) => refusal_reply(alloc, format, refusal),
+    }
+}
+
+/// The rank of an account.
+pub(crate) fn rank<S: Alter + Drop>(
+    alloc: Global,
+    registry: &mut Registry<S>,
+    who: &Account,
+    format: Format,
+) -> Result<Reply, AllocError>
+    ensures { Replies S.Store registry.old registry.new (errands.Rank who.now format) result }
+{
+    pid_service::laws::clauses_meet_lives::<S>(); // proof only
+    let found = registry.rank(who);
+    rank_outcome(alloc, who, format, found)
 }

@@ -1,5 +1,5 @@
 -- Worked rows of the definitions.
-use Rattle.std.proofs.Common.{◌≡◌, [], ◌∷◌, refl, codes, Ok, Err}
+use Rattle.std.proofs.Common.{◌≡◌, [], ◌∷◌, refl, codes, Ok, Err, None}
 use Rattle.std.specs.Fmt.{digits}
 use Rattle.std.specs.List.{flat_map}
 use Rattle.serde_json.proofs.OnLiterals.{serde_json_on_literals}
@@ -10,6 +10,7 @@ use Rattle.pid_lookup.specs.declared.unanswered.Unanswered.TheVariants.{NoItem}
 use Rattle.pid_moderation.specs.declared.command.Proposal.TheVariants.{Name, Removal}
 use Rattle.pid_moderation.specs.declared.command.Reply.TheVariants.{Done, Numbered, Counts}
 use Rattle.pid_moderation.specs.declared.facts.State.TheVariants.{Approved, Withdrawn}
+use Rattle.pid_moderation.specs.declared.rank.Rank.TheVariants.{Contributor, Administrator}
 use Rattle.pid_moderation.specs.declared.refusal.FileFault.TheVariants.{Line}
 use Rattle.pid_moderation.specs.declared.refusal.Refusal.TheVariants.{RankTooLow, FileFault}
 use Rattle.pid_moderation.specs.Submissions.{Standing}
@@ -18,7 +19,9 @@ use Rattle.pid_http_replies.specs.ChangeAnswers.{changes_data, changes_text}
 use Rattle.pid_http_replies.specs.ItemAnswers.{item_data, child_line, items_data}
 use Rattle.pid_http_replies.specs.Outcomes.{outcome_data, unanswered_data}
 use Rattle.pid_http_replies.specs.PendingAnswers.{pending_line, pendings_data}
+use Rattle.pid_http_replies.specs.RankAnswers.{rank_answer, rank_data, rank_line}
 use Rattle.pid_http_replies.specs.SubmissionAnswers.{standing_text, submission_data}
+use Rattle.pid_http_requests.specs.declared.format.Format.TheVariants.{Json, Text}
 
 done_row : compact_text (outcome_data (Ok Done)) ≡ codes "{\"ok\":true}"
 unfolding serde_json_on_literals digits
@@ -117,3 +120,18 @@ no_changes = record { revision = 9000000000000000000; items = [] }
 no_changes_row : compact_text (changes_data no_changes) ≡ codes "{\"items\":[],\"revision\":9000000000000000000}"
 unfolding no_changes serde_json_on_literals digits
 no_changes_row = refl
+
+rank_row : compact_text (rank_data (codes "alice") Contributor) ≡ codes "{\"rank\":0,\"who\":\"alice\"}"
+unfolding serde_json_on_literals digits
+rank_row = refl
+
+rank_words : rank_line (codes "root") Administrator ≡ codes "root 3\n"
+unfolding digits
+rank_words = refl
+
+no_account_row : (rank_answer Json (codes "carol") None).body ≡ codes "{\"ok\":false,\"refused\":29,\"word\":\"NoSuchAccount\"}"
+unfolding serde_json_on_literals digits
+no_account_row = refl
+
+no_account_words : (rank_answer Text (codes "carol") None).body ≡ codes "refused 29 NoSuchAccount\n"
+no_account_words = refl

@@ -5,6 +5,7 @@ pub mod ItemAnswers
 pub mod PendingAnswers
 pub mod ChangeAnswers
 pub mod SubmissionAnswers
+pub mod RankAnswers
 pub mod LookupAnswers
 pub mod EarlyAnswers
 pub mod Steps

@@ -41,6 +41,7 @@ status_of_refusal refusals.Full = 503
 status_of_refusal refusals.Memory = 503
 status_of_refusal refusals.Store = 503
 status_of_refusal refusals.Failed = 503
+status_of_refusal refusals.Changed = 409
 
 -- an accepted command is 200 OK
 abbrev pub status_of_outcome : Result Reply Refusal → ℕ

@@ -45,7 +45,8 @@ fn status_of(outcome: Result<Reply, Refusal>) -> StatusCode
             Refusal::NotPending
             | Refusal::ParentMissing
             | Refusal::HasChildren
-            | Refusal::NothingToDo,
+            | Refusal::NothingToDo
+            | Refusal::Changed,
         ) => StatusCode::CONFLICT,
         Err(Refusal::FileFault(_)) => StatusCode::UNPROCESSABLE_ENTITY,
         Err(Refusal::Full | Refusal::Memory | Refusal::Store | Refusal::Failed) => {
@@ -78,7 +79,8 @@ fn fault_value(alloc: Global, line: u64, kind: u8) -> Result<Value, AllocError>
     json!(in alloc; {"kind": kind, "line": line, "ok": false, "refused": 14, "word": "FileFault"})
 }
 
-fn refusal_value(alloc: Global, number: u8, word: &str) -> Result<Value, AllocError>
+/// The value of a refusal: its number and its word.
+pub(crate) fn refusal_value(alloc: Global, number: u8, word: &str) -> Result<Value, AllocError>
     ensures { IfOk result (λ value. view value ≡ refusal_data number word.now) }
 {
     json!(in alloc; {"ok": false, "refused": number, "word": word})

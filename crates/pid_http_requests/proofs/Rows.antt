@@ -15,7 +15,7 @@ use Rattle.pid_http_requests.specs.declared.format.Format.TheVariants as formats
 use Rattle.pid_http_requests.specs.declared.query.Above.TheVariants.{Top, Below, BadPath}
 use Rattle.pid_http_requests.specs.declared.query.Start.TheVariants as starts
 use Rattle.pid_http_requests.specs.declared.question.Question.TheVariants.{AnotherMethod, BadTarget, NoRoute, WantsGet, WantsPost, BadQuery}
-use Rattle.pid_http_requests.specs.declared.question.Question.TheVariants.{Export, Read, Children, Lookup, Submission, Pending, Changes, Command}
+use Rattle.pid_http_requests.specs.declared.question.Question.TheVariants.{Export, Read, Children, Lookup, Submission, Pending, Changes, Rank, Command}
 use Rattle.pid_http_stream.specs.declared.handler.Wanted.TheVariants.{Buffered, Streamed}
 
 another_method : question (codes "HEAD") (codes "/pci.ids") ≡ Buffered AnotherMethod
@@ -189,6 +189,38 @@ changes_since_nothing = refl
 changes_twice : question (codes "GET") (codes "/changes?since=1&since=1") ≡ Buffered BadQuery
 unfolding question with_target question_at lookup_from route_at matchit_on_literals form_urlencoded_on_literals is_utf8 utf8_lossy utf8_valid_len chars encode
 changes_twice = refl
+
+rank : question (codes "GET") (codes "/account?who=alice") ≡ Buffered (Rank (codes "alice") formats.Json)
+unfolding question with_target question_at lookup_from route_at matchit_on_literals form_urlencoded_on_literals is_utf8 utf8_lossy utf8_valid_len chars encode
+rank = refl
+
+rank_as_text : question (codes "GET") (codes "/account?format=text&who=al%69ce") ≡ Buffered (Rank (codes "alice") formats.Text)
+unfolding question with_target question_at lookup_from route_at matchit_on_literals form_urlencoded_on_literals is_utf8 utf8_lossy utf8_valid_len chars encode
+rank_as_text = refl
+
+rank_of_nobody : question (codes "GET") (codes "/account") ≡ Buffered BadQuery
+unfolding question with_target question_at lookup_from route_at matchit_on_literals form_urlencoded_on_literals is_utf8 utf8_lossy utf8_valid_len chars encode
+rank_of_nobody = refl
+
+rank_of_no_account : question (codes "GET") (codes "/account?who=Alice") ≡ Buffered BadQuery
+unfolding question with_target question_at lookup_from route_at matchit_on_literals form_urlencoded_on_literals is_utf8 utf8_lossy utf8_valid_len chars encode
+rank_of_no_account = refl
+
+rank_twice : question (codes "GET") (codes "/account?who=alice&who=alice") ≡ Buffered BadQuery
+unfolding question with_target question_at lookup_from route_at matchit_on_literals form_urlencoded_on_literals is_utf8 utf8_lossy utf8_valid_len chars encode
+rank_twice = refl
+
+rank_and_more : question (codes "GET") (codes "/account?who=alice&rank=0") ≡ Buffered BadQuery
+unfolding question with_target question_at lookup_from route_at matchit_on_literals form_urlencoded_on_literals is_utf8 utf8_lossy utf8_valid_len chars encode
+rank_and_more = refl
+
+account : question (codes "POST") (codes "/account") ≡ Buffered (Command verbs.Account formats.Json)
+unfolding question with_target question_at lookup_from route_at matchit_on_literals form_urlencoded_on_literals is_utf8 utf8_lossy utf8_valid_len chars encode
+account = refl
+
+account_in_its_query : question (codes "POST") (codes "/account?who=alice") ≡ Buffered BadQuery
+unfolding question with_target question_at lookup_from route_at matchit_on_literals form_urlencoded_on_literals is_utf8 utf8_lossy utf8_valid_len chars encode
+account_in_its_query = refl
 
 submit : question (codes "POST") (codes "/submit?format=text") ≡ Buffered (Command verbs.Submit formats.Text)
 unfolding question with_target question_at lookup_from route_at matchit_on_literals form_urlencoded_on_literals is_utf8 utf8_lossy utf8_valid_len chars encode

@@ -5,6 +5,7 @@ use Rattle.std.specs.Str.{bytes_eq}
 use Rattle.pid_form.specs.Numbers as numbers
 use Rattle.pid_ident.specs.Bytes.{is_empty}
 use Rattle.pid_ident.specs.PathReading.{path_of}
+use Rattle.pid_ident.specs.Words.{is_account}
 use Rattle.pid_file.specs.declared.path.Path.{Path}
 use Rattle.pid_moderation.specs.CheckTables.{most_revision}
 use Rattle.pid_moderation.specs.Fields.{Fields, times, value}
@@ -55,6 +56,10 @@ format_beside name fields = if are_both name fields then format_said
 abbrev pub format_beside_two : List ℕ → List ℕ → Fields → Option Format
 format_beside_two first second fields = if are_three first second fields then format_said
     (value (codes "format") fields) else None
+
+-- the account with this name, if a text may be one
+abbrev pub account_said : List ℕ → Option (List ℕ)
+account_said text = if is_account text then Some text else None
 
 -- `0`, also if nothing is said, or the number of a submission
 abbrev pub after_said : Option (List ℕ) → Option ℕ

@@ -14,7 +14,8 @@ use Rattle.pid_moderation.specs.declared.verb.Verb.TheVariants as verbs
 use Rattle.pid_http_requests.specs.Lookups.{lookup_asked}
 use Rattle.pid_http_requests.specs.Methods.{method_in}
 use Rattle.pid_http_requests.specs.Queries.{format_in, format_beside, format_beside_two}
-use Rattle.pid_http_requests.specs.Queries.{after_said, above_said, since_said, start_said}
+use Rattle.pid_http_requests.specs.Queries.{account_said, after_said, above_said, since_said}
+use Rattle.pid_http_requests.specs.Queries.{start_said}
 use Rattle.pid_http_requests.specs.Routes.{route_at, method_at}
 use Rattle.pid_http_requests.specs.declared.format.Format.{Format}
 use Rattle.pid_http_requests.specs.declared.route.Route.{Route}
@@ -27,7 +28,7 @@ use Rattle.pid_http_requests.specs.declared.question.Question.TheVariants.{BadQu
 use Rattle.pid_http_requests.specs.declared.question.Question.TheVariants.{Export, Read, Children}
 use Rattle.pid_http_requests.specs.declared.question.Question.TheVariants.{Lookup, Submission}
 use Rattle.pid_http_requests.specs.declared.question.Question.TheVariants.{Pending, Changes}
-use Rattle.pid_http_requests.specs.declared.question.Question.TheVariants.{Command}
+use Rattle.pid_http_requests.specs.declared.question.Question.TheVariants.{Rank, Command}
 use Rattle.pid_http_stream.specs.declared.handler.Wanted.{Wanted}
 use Rattle.pid_http_stream.specs.declared.handler.Wanted.TheVariants.{Buffered, Streamed}
 
@@ -72,9 +73,20 @@ changes_asked fields =
     (since_said (value (codes "since") fields)))
     (format_beside_two (codes "since") (codes "after") fields)
 
+-- the rank of the account `who`
+abbrev pub rank_asked : Fields → Option Question
+rank_asked fields =
+    option_and_then (λ format. option_map (λ who. Rank who format)
+    (account_said (text_at (codes "who") fields))) (format_beside (codes "who") fields)
+
 -- a command, whose own fields are in the body
 abbrev pub verb_asked : Verb → Fields → Option Question
 verb_asked verb fields = option_map (λ format. Command verb format) (format_in fields)
+
+-- an account is asked for its rank, or by the other method for a command
+abbrev pub account_asked : List ℕ → Fields → Option Question
+account_asked method fields = if bytes_eq method (codes "GET") then rank_asked fields else
+    verb_asked verbs.Account fields
 
 -- a question, or an import with the format of its reply
 abbrev pub Asking : Type 0
@@ -84,26 +96,28 @@ Asking = Wanted Question Format
 abbrev pub buffered : Option Question → Option Asking
 buffered asked = option_map Buffered asked
 
--- what is asked at a route; none if the query is bad
-unfoldable pub question_at : Route → List ℕ → Fields → Option Asking
-question_at routes.Export path fields = buffered (export_asked fields)
-question_at routes.Read path fields = buffered (read_asked path fields)
-question_at routes.Children path fields = buffered (children_asked fields)
-question_at routes.Lookup path fields = buffered (option_map Lookup (lookup_asked fields))
-question_at routes.Submission path fields = buffered (submission_asked path fields)
-question_at routes.Pending path fields = buffered (pending_asked fields)
-question_at routes.Changes path fields = buffered (changes_asked fields)
-question_at routes.Account path fields = buffered (verb_asked verbs.Account fields)
-question_at routes.Submit path fields = buffered (verb_asked verbs.Submit fields)
-question_at routes.Comment path fields = buffered (verb_asked verbs.Comment fields)
-question_at routes.Withdraw path fields = buffered (verb_asked verbs.Withdraw fields)
-question_at routes.Approve path fields = buffered (verb_asked verbs.Approve fields)
-question_at routes.Reject path fields = buffered (verb_asked verbs.Reject fields)
-question_at routes.Import path fields = option_map Streamed (format_in fields)
+-- what is asked by a method at a route that takes it; none if the query is bad
+unfoldable pub question_at : List ℕ → Route → List ℕ → Fields → Option Asking
+question_at method routes.Export path fields = buffered (export_asked fields)
+question_at method routes.Read path fields = buffered (read_asked path fields)
+question_at method routes.Children path fields = buffered (children_asked fields)
+question_at method routes.Lookup path fields = buffered (option_map Lookup (lookup_asked fields))
+question_at method routes.Submission path fields = buffered (submission_asked path fields)
+question_at method routes.Pending path fields = buffered (pending_asked fields)
+question_at method routes.Changes path fields = buffered (changes_asked fields)
+question_at method routes.Account path fields = buffered (account_asked method fields)
+question_at method routes.Submit path fields = buffered (verb_asked verbs.Submit fields)
+question_at method routes.Comment path fields = buffered (verb_asked verbs.Comment fields)
+question_at method routes.Withdraw path fields = buffered (verb_asked verbs.Withdraw fields)
+question_at method routes.Approve path fields = buffered (verb_asked verbs.Approve fields)
+question_at method routes.Confirm path fields = buffered (verb_asked verbs.Confirm fields)
+question_at method routes.Reject path fields = buffered (verb_asked verbs.Reject fields)
+question_at method routes.Import path fields = option_map Streamed (format_in fields)
 
 -- the refusal of a request whose route takes the other method
-abbrev pub in_other : List ℕ → List ℕ → Option Question
-in_other method wanted =
+abbrev pub in_other : List ℕ → Option (List ℕ) → Option Question
+in_other method None = None
+in_other method (Some wanted) =
     if bytes_eq method wanted then None else
     (if bytes_eq wanted (codes "GET") then Some WantsGet else Some WantsPost)
 
@@ -112,7 +126,7 @@ abbrev pub with_route : List ℕ → Option Route → List ℕ → List ℕ → 
 with_route method None path query = Buffered NoRoute
 with_route method (Some route) path query =
     unwrap_or (buffered (in_other method (method_at route)))
-    (unwrap_or (question_at route path (fields_in query)) (Buffered BadQuery))
+    (unwrap_or (question_at method route path (fields_in query)) (Buffered BadQuery))
 
 -- the first byte is `/`
 abbrev pub begins_slash : List ℕ → Bool

@@ -1,5 +1,5 @@
 -- The routes and their methods: choices of this project.
-use Rattle.std.specs.Prelude.{ℕ, List, [], ◌∷◌, ◌++◌, Option, codes}
+use Rattle.std.specs.Prelude.{ℕ, List, [], ◌∷◌, ◌++◌, Option, Some, None, codes}
 use Rattle.matchit.specs.Rows.{RowsOf, param_token, catch_all_token}
 use Rattle.matchit.specs.Router.{RouteOf, map_key}
 use Rattle.matchit.specs.Seek.{first}
@@ -8,7 +8,7 @@ use Rattle.pid_http_requests.specs.declared.route.Route.TheVariants.{Export, Rea
 use Rattle.pid_http_requests.specs.declared.route.Route.TheVariants.{Lookup, Submission, Pending}
 use Rattle.pid_http_requests.specs.declared.route.Route.TheVariants.{Changes, Account, Submit}
 use Rattle.pid_http_requests.specs.declared.route.Route.TheVariants.{Comment, Withdraw, Approve}
-use Rattle.pid_http_requests.specs.declared.route.Route.TheVariants.{Reject, Import}
+use Rattle.pid_http_requests.specs.declared.route.Route.TheVariants.{Confirm, Reject, Import}
 
 -- a route with this path alone
 abbrev pub literal : List ℕ → Route → List ℕ × RouteOf Route
@@ -52,6 +52,7 @@ table =
     ∷ literal (codes "/changes") Changes
     ∷ literal (codes "/children") Children
     ∷ literal (codes "/comment") Comment
+    ∷ literal (codes "/confirm") Confirm
     ∷ literal (codes "/import") Import
     ∷ literal (codes "/lookup") Lookup
     ∷ literal (codes "/pci.ids") Export
@@ -67,19 +68,20 @@ table =
 unfoldable pub route_at : List ℕ → Option Route
 route_at path = map_key (λ found. found.value) (first table path)
 
--- questions are got, commands are posted
-abbrev pub method_at : Route → List ℕ
-method_at Export = codes "GET"
-method_at Read = codes "GET"
-method_at Children = codes "GET"
-method_at Lookup = codes "GET"
-method_at Submission = codes "GET"
-method_at Pending = codes "GET"
-method_at Changes = codes "GET"
-method_at Account = codes "POST"
-method_at Submit = codes "POST"
-method_at Comment = codes "POST"
-method_at Withdraw = codes "POST"
-method_at Approve = codes "POST"
-method_at Reject = codes "POST"
-method_at Import = codes "POST"
+-- the one method that a route takes: GET for questions, POST for commands; none if it takes both
+abbrev pub method_at : Route → Option (List ℕ)
+method_at Export = Some (codes "GET")
+method_at Read = Some (codes "GET")
+method_at Children = Some (codes "GET")
+method_at Lookup = Some (codes "GET")
+method_at Submission = Some (codes "GET")
+method_at Pending = Some (codes "GET")
+method_at Changes = Some (codes "GET")
+method_at Account = None
+method_at Submit = Some (codes "POST")
+method_at Comment = Some (codes "POST")
+method_at Withdraw = Some (codes "POST")
+method_at Approve = Some (codes "POST")
+method_at Confirm = Some (codes "POST")
+method_at Reject = Some (codes "POST")
+method_at Import = Some (codes "POST")

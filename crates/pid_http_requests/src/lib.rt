@@ -5,6 +5,7 @@
 //! its head; `command_in` the command that a sender's form makes. Nothing here knows a registry.
 #![tactic(auto)]
 
+mod asking;
 mod command;
 mod format;
 mod lookup;

@@ -1,5 +1,16 @@
 //! The values of a query's fields.
-ghost use Rattle.std.specs.Prelude.{◌≡◌, ◌+◌, ◌==◌, ◌&&◌, nat_le, codes, length, None, Some};
+ghost use Rattle.std.specs.Prelude.{
+  ◌≡◌,
+  ◌+◌,
+  ◌==◌,
+  ◌&&◌,
+  nat_le,
+  codes,
+  length,
+  None,
+  Some,
+  IfOk,
+};
 ghost use Rattle.std.specs.Option.{option_copied};
 ghost use Rattle.pid_moderation.specs.Fields.{texts_of};
 ghost use Rattle.pid_http_requests.specs.Queries.{
@@ -8,6 +19,7 @@ ghost use Rattle.pid_http_requests.specs.Queries.{
   format_said,
   format_in,
   format_beside as format_in_both,
+  account_said,
   after_said,
   above_said,
 };
@@ -20,8 +32,9 @@ ghost use Rattle.pid_http_requests.specs.Queries.{
 
 use crate::format::Format;
 use pid_form::{number_up_to, times, value};
-use pid_ident::{Path, PathText};
+use pid_ident::{Account, Path, PathText, WordFault};
 use pid_moderation::{REVISIONS, submission_number};
+use std::alloc::{AllocError, Global};
 
 /// Below what children are asked for.
 #[derive(Clone, Copy, Debug)]
@@ -119,6 +132,17 @@ pub(crate) fn format_beside_two(
         return None;
     }
     format_named(value(fields, "format"))
+}
+
+// The account with this name, if a text may be one.
+pub(crate) fn account_named(alloc: Global, text: &str) -> Result<Option<Account>, AllocError>
+    ensures { IfOk result (λ account. account ≡ account_said text.now) }
+{
+    match Account::of(alloc, text) {
+        Ok(account) => Ok(Some(account)),
+        Err(WordFault::Bad) => Ok(None),
+        Err(WordFault::Memory) => Err(AllocError),
+    }
 }
 
 // The number after which a page begins: 0 if none is said.

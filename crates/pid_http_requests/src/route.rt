@@ -32,6 +32,8 @@ pub enum Route {
     Withdraw,
     /// `/approve`
     Approve,
+    /// `/confirm`
+    Confirm,
     /// `/reject`
     Reject,
     /// `/import`
@@ -55,13 +57,14 @@ pub(crate) fn path_of(route: Route) -> &'static str
         Route::Comment => "/comment",
         Route::Withdraw => "/withdraw",
         Route::Approve => "/approve",
+        Route::Confirm => "/confirm",
         Route::Reject => "/reject",
         Route::Import => "/import",
     }
 }
 
-// The method that a route takes.
-pub(crate) fn method_for(route: Route) -> Method
+// The method that a route takes; none if it takes both.
+pub(crate) fn method_for(route: Route) -> Option<Method>
     ensures { result ≡ method_at route }
 {
     match route {
@@ -71,13 +74,14 @@ pub(crate) fn method_for(route: Route) -> Method
         | Route::Lookup
         | Route::Submission
         | Route::Pending
-        | Route::Changes => Method::GET,
-        Route::Account
-        | Route::Submit
+        | Route::Changes => Some(Method::GET),
+        Route::Account => None,
+        Route::Submit
         | Route::Comment
         | Route::Withdraw
         | Route::Approve
+        | Route::Confirm
         | Route::Reject
-        | Route::Import => Method::POST,
+        | Route::Import => Some(Method::POST),
     }
 }

@@ -51,6 +51,7 @@ fn build_router(alloc: Global) -> Result<Router<Route>, InsertError>
         Route::Comment,
         Route::Withdraw,
         Route::Approve,
+        Route::Confirm,
         Route::Reject,
         Route::Import,
     ];

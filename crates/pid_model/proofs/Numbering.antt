@@ -38,7 +38,7 @@ submitted-append account (Ranks who rank) before = sym (append-nil before)
 submitted-append account (Submits path proposal note) before = refl
 submitted-append account (Comments n text) before = sym (append-nil before)
 submitted-append account (Withdraws n) before = sym (append-nil before)
-submitted-append account (Approves n) before = sym (append-nil before)
+submitted-append account (Approves n e) before = sym (append-nil before)
 submitted-append account (Rejects n reason) before = sym (append-nil before)
 submitted-append account (Imports reading) before = sym (append-nil before)
 

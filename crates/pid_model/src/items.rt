@@ -81,7 +81,7 @@ fn itemize(
         (submits_of (accepted_history earlier.now)) (texts items.old)) }
 {
     match &entry.command.act {
-        Act::Approve { number } => match numbered(earlier, *number) {
+        Act::Approve { number, .. } => match numbered(earlier, *number) {
             Some(submission) => write(items, submission.path, submission.proposal),
             None => Ok(()),
         },

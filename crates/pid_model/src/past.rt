@@ -182,7 +182,7 @@ fn decided(entry: &Accepted, submission: u32, before: State) -> Result<State, Al
     let account = &entry.command.account;
     match &entry.command.act {
         Act::Withdraw { number } if submission == *number => Ok(State::Withdrawn),
-        Act::Approve { number } if submission == *number => {
+        Act::Approve { number, .. } if submission == *number => {
             let decider = account.copy()?;
             Ok(State::Approved { decider })
         }

@@ -30,7 +30,7 @@ one_more (Ranks who rank) names once = go (list_any (bytes_eq who) names) refl
 one_more (Submits path proposal note) names once = once
 one_more (Comments n text) names once = once
 one_more (Withdraws n) names once = once
-one_more (Approves n) names once = once
+one_more (Approves n e) names once = once
 one_more (Rejects n reason) names once = once
 one_more (Imports reading) names once = once
 
@@ -55,7 +55,7 @@ module _ (a : List ℕ) where
   ranked_fits (Submits path proposal note) rank names fit = fit
   ranked_fits (Comments n text) rank names fit = fit
   ranked_fits (Withdraws n) rank names fit = fit
-  ranked_fits (Approves n) rank names fit = fit
+  ranked_fits (Approves n e) rank names fit = fit
   ranked_fits (Rejects n reason) rank names fit = fit
   ranked_fits (Imports reading) rank names fit = fit
 

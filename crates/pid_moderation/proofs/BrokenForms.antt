@@ -17,7 +17,7 @@ by_act account key (acts.Account who rank) v reading tells h = absurd cc
 by_act account key (acts.Submit path proposal note) v reading tells h = absurd cc
 by_act account key (acts.Comment n text) v reading tells h = h
 by_act account key (acts.Withdraw n) v reading tells h = absurd cc
-by_act account key (acts.Approve n) v reading tells h = absurd cc
+by_act account key (acts.Approve n e) v reading tells h = absurd cc
 by_act account key (acts.Reject n reason) v reading tells h = h
 by_act account key (acts.Import file) v reading tells h = ap (λ (r : Reading). is_none (verdict v.items r)) (tells h)
 

@@ -42,8 +42,8 @@ approved_item (Some s) v n c items = proposed_item (path_text s.path) s.proposal
 others : (h : History) (account : List ℕ) (key : Option (List ℕ)) (deed : Deed) (reply : Reply)
     → without_numbers (views_of (More (entry (asks account key deed) reply) h))
     ≡ without_numbers (changed (change_of (facts_of (views_of h) (asks account key deed)) (asks account key deed) reply) (with_pairs (file_pairs deed) (views_of h)))
-others h account None (Approves n) reply = ap (λ is. record (without_numbers (views_of (More (entry (asks account None (Approves n)) reply) h))) { items = is }) (approved_item (submission_at n (submits_of h)) (views_of h) n (asks account None (Approves n)) (items_of h))
-others h account (Some key) (Approves n) reply = ap (λ is. record (without_numbers (views_of (More (entry (asks account (Some key) (Approves n)) reply) h))) { items = is }) (approved_item (submission_at n (submits_of h)) (views_of h) n (asks account (Some key) (Approves n)) (items_of h))
+others h account None (Approves n e) reply = ap (λ is. record (without_numbers (views_of (More (entry (asks account None (Approves n e)) reply) h))) { items = is }) (approved_item (submission_at n (submits_of h)) (views_of h) n (asks account None (Approves n e)) (items_of h))
+others h account (Some key) (Approves n e) reply = ap (λ is. record (without_numbers (views_of (More (entry (asks account (Some key) (Approves n e)) reply) h))) { items = is }) (approved_item (submission_at n (submits_of h)) (views_of h) n (asks account (Some key) (Approves n e)) (items_of h))
 others h account None (Imports TooLong) reply = refl
 others h account None (Imports (Faulty fault)) reply = refl
 others h account None (Imports (Good pairs)) reply = refl
@@ -98,9 +98,9 @@ since_leads h account key (Submits path proposal note) q = refl
 since_leads h account key (Comments n text) q = refl
 since_leads h account key (Withdraws n) q = sym (same_number (revision_of h + 1) (items_of h) (with_pairs [] (views_of h)).since q)
 since_leads h account key (Rejects n reason) q = sym (same_number (revision_of h + 1) (items_of h) (with_pairs [] (views_of h)).since q)
-since_leads h account key (Approves n) q =
-    let f = facts_for h account key (Approves n) in
-    ap (λ is. renumbered (revision_of h + 1) (items_of h) is (λ p. since_of p h) q) (approved_item (submission_at n (submits_of h)) (views_of h) n (asks account key (Approves n)) (items_of h))
+since_leads h account key (Approves n e) q =
+    let f = facts_for h account key (Approves n e) in
+    ap (λ is. renumbered (revision_of h + 1) (items_of h) is (λ p. since_of p h) q) (approved_item (submission_at n (submits_of h)) (views_of h) n (asks account key (Approves n e)) (items_of h))
     ∙ ap (λ m. cond (is_named_anew (name_at q (items_of h)) (name_at q (write (option_map (write_of f) f.named) (items_of h)))) (revision_of h + 1) m)
     (sym (same_number (revision_of h + 1) (items_of h) (λ p. since_of p h) q))
 since_leads h account key (Imports TooLong) q = refl

@@ -7,6 +7,7 @@ use Rattle.std.specs.Cmp.Lexicographic.{nat_list_cmp_total}
 use Rattle.std.specs.FinMap.Entries.{put, where_key, is_sorted, length-put, length_without}
 use Rattle.pid_file.specs.PathTexts.{path_text}
 use Rattle.pid_file.specs.Trees.{text_cmp}
+use Rattle.pid_moderation.specs.declared.command.Expected.{Expected}
 use Rattle.pid_moderation.specs.declared.command.Proposal.{Proposal}
 use Rattle.pid_moderation.specs.declared.command.Proposal.TheVariants.{Name, Removal}
 use Rattle.pid_moderation.specs.declared.command.Reply.{Reply}
@@ -51,9 +52,9 @@ written_fits p Removal items o e sorted h =
     let there : is_some (name_at (path_text p.path) items) ≡ true = ap is_some e ∙ named_there o h in
     (removed_count (path_text p.path) items there sorted, there)
 
-approval_fits : (o : Option Submitted) (v : Views) (n : ℕ) (account : List ℕ) (key : Option (List ℕ)) → T (is_sorted text_cmp v.items) → AllPass (approving (with_item_facts v (option_map (seen v n) o) (known v account key)) account) → IsThere o × FitsWrite (option_map (write_of (with_item_facts v (option_map (seen v n) o) (known v account key))) (with_item_facts v (option_map (seen v n) o) (known v account key)).named) v.items
-approval_fits None v n account key sorted passed = let bad = passed.1.0 in absurd cc
-approval_fits (Some s) v n account key sorted passed = (refl, written_fits s s.proposal v.items (name_at (path_text s.path) v.items) refl sorted passed.1.1.1.1.0)
+approval_fits : (o : Option Submitted) (v : Views) (n : ℕ) (e : Expected) (account : List ℕ) (key : Option (List ℕ)) → T (is_sorted text_cmp v.items) → AllPass (approving (with_item_facts v (option_map (seen v n) o) (known v account key)) e account) → IsThere o × FitsWrite (option_map (write_of (with_item_facts v (option_map (seen v n) o) (known v account key))) (with_item_facts v (option_map (seen v n) o) (known v account key)).named) v.items
+approval_fits None v n e account key sorted passed = let bad = passed.1.0 in absurd cc
+approval_fits (Some s) v n e account key sorted passed = (refl, written_fits s s.proposal v.items (name_at (path_text s.path) v.items) refl sorted passed.1.1.1.1.1.0)
 
 comment_fits : (o : Option Submitted) (v : Views) (n : ℕ) → AllPass (if_named (option_map (seen v n) o) comment_checks) → IsThere o × (next_place (option_map (seen v n) o) ≡ length (v.remarks n) + 1)
 comment_fits None v n passed = let bad = passed.0 in absurd cc
@@ -72,7 +73,7 @@ effect_fits h account key (Ranks who rank) passed = refl
 effect_fits h account key (Submits path proposal note) passed = refl
 effect_fits h account key (Comments n text) passed = comment_fits (submission_at n (submits_of h)) (views_of h) n passed.1
 effect_fits h account key (Withdraws n) passed = (withdrawal_fits (submission_at n (submits_of h)) (views_of h) n account passed.1, tt)
-effect_fits h account key (Approves n) passed = approval_fits (submission_at n (submits_of h)) (views_of h) n account key (items_sorted h) passed
+effect_fits h account key (Approves n e) passed = approval_fits (submission_at n (submits_of h)) (views_of h) n e account key (items_sorted h) passed
 effect_fits h account key (Rejects n reason) passed = (rejection_fits (submission_at n (submits_of h)) (views_of h) n account (rank_of account h) passed.1, tt)
 effect_fits h account key (Imports TooLong) passed = tt
 effect_fits h account key (Imports (Faulty fault)) passed = tt

@@ -5,6 +5,7 @@ use Rattle.std.specs.Str.{bytes_eq}
 use Rattle.std.specs.Option.{option_map}
 use Rattle.std.proofs.lemmas.Slice.Eq.{bytes_eq-Decides}
 use Rattle.pid_file.specs.Words.{is_account}
+use Rattle.pid_moderation.specs.declared.command.Expected.{Expected}
 use Rattle.pid_moderation.specs.declared.command.Reply.{Reply}
 use Rattle.pid_moderation.specs.declared.facts.Facts.{Facts}
 use Rattle.pid_moderation.specs.declared.rank.Rank.{Rank}
@@ -31,16 +32,16 @@ same_text t = (bytes_eq-Decides t t).1 refl
 abbrev pub to_deed : History → List ℕ → Option (List ℕ) → Deed → Facts
 to_deed h account key deed = facts_of (views_of h) (asks account key deed)
 
-abbrev pub approving : Facts → List ℕ → Checks
-approving f account = (is_none f.rank, NoAccount) ∷ if_named f.named (approval_checks account f)
+abbrev pub approving : Facts → Expected → List ℕ → Checks
+approving f e account = (is_none f.rank, NoAccount) ∷ if_named f.named (approval_checks account f e)
 
 there : (o : Option Rank) → is_none o ≡ false → is_some o ≡ true
 there None h = absurd cc
 there (Some r) h = refl
 
-approver_known : (o : Option Submitted) (h : History) (n : ℕ) (account : List ℕ) (key : Option (List ℕ)) → AllPass (approving (with_item_facts (views_of h) (option_map (seen (views_of h) n) o) (known (views_of h) account key)) account) → IsRegistered account h
-approver_known None h n account key passed = there _ passed.0
-approver_known (Some s) h n account key passed = there _ passed.0
+approver_known : (o : Option Submitted) (h : History) (n : ℕ) (e : Expected) (account : List ℕ) (key : Option (List ℕ)) → AllPass (approving (with_item_facts (views_of h) (option_map (seen (views_of h) n) o) (known (views_of h) account key)) e account) → IsRegistered account h
+approver_known None h n e account key passed = there _ passed.0
+approver_known (Some s) h n e account key passed = there _ passed.0
 
 -- whoever was obeyed is an account
 pub caller_known : (h : History) (account : List ℕ) (key : Option (List ℕ)) (deed : Deed) → AllPass (command_checks (to_deed h account key deed) (asks account key deed)) → IsRegistered account h
@@ -48,7 +49,7 @@ caller_known h account key (Ranks who rank) passed = there _ passed.0
 caller_known h account key (Submits path proposal note) passed = there _ passed.0
 caller_known h account key (Comments n text) passed = there _ passed.0
 caller_known h account key (Withdraws n) passed = there _ passed.0
-caller_known h account key (Approves n) passed = approver_known (submission_at n (submits_of h)) h n account key passed
+caller_known h account key (Approves n e) passed = approver_known (submission_at n (submits_of h)) h n e account key passed
 caller_known h account key (Rejects n reason) passed = there _ passed.0
 caller_known h account key (Imports reading) passed = there _ passed.0
 

@@ -1,4 +1,4 @@
--- Which refusals the judgement gives, whatever the facts are: those with a number from 1 to 15.
+-- Which refusals the judgement gives, whatever the facts are: none of 16 to 18.
 use Rattle.std.proofs.Common.{◌≡◌, ℕ, Bool, true, false, cond, List, [], ◌∷◌, ◌++◌, Option, Some, None, Result, Ok, Err, refl, sym, subst}
 use Rattle.std.specs.Prelude.{◌≢◌, find, is_none, nat_le, IfErr, IfSome}
 use Rattle.std.specs.Option.{option_map}
@@ -12,7 +12,7 @@ use Rattle.pid_moderation.specs.declared.facts.Verdict.{Verdict}
 use Rattle.pid_moderation.specs.declared.facts.Verdict.TheVariants as verdicts
 use Rattle.pid_moderation.specs.declared.refusal.Refusal.{Refusal}
 use Rattle.pid_moderation.specs.declared.refusal.Refusal.TheVariants.{BadText, Failed, Memory, NoAccount}
-use Rattle.pid_moderation.specs.Refusals.{refusal_number}
+use Rattle.pid_moderation.specs.Refusals.{is_judged_refusal}
 use Rattle.pid_moderation.specs.CheckTables.{Checks, command_checks, revision_checks, checks, comment_checks, decision_checks, approval_checks, withdraw_checks, file_checks, first_failing, if_named, import_checks, is_ill_formed, reply_by_facts}
 use Rattle.pid_moderation.specs.Effects.{Decides}
 use Rattle.pid_moderation.specs.History.{Deed, Ranks, Submits, Comments, Withdraws, Approves, Rejects, Imports, Asked}
@@ -21,7 +21,7 @@ use Rattle.pid_moderation.specs.Judgement.{Outcome, Refused, unless, unless_kept
 -- a reply, or a refusal with such a number
 abbrev pub is_judged : Result Reply Refusal → Bool
 is_judged (Ok reply) = true
-is_judged (Err refusal) = nat_le (refusal_number refusal) 15
+is_judged (Err refusal) = is_judged_refusal refusal
 
 abbrev asks : List ℕ → Option (List ℕ) → Deed → Asked
 asks account key deed = record { account = account; key = key; deed = deed }
@@ -30,7 +30,7 @@ abbrev shown : Bool → Option Reply → Option Refusal → Reply → Outcome
 shown ill kept failing reply = cond ill (Refused BadText) (unless_kept kept (unless failing reply))
 
 abbrev Judges : Bool × Refusal → Type 0
-Judges check = nat_le (refusal_number check.1) 15 ≡ true
+Judges check = is_judged_refusal check.1 ≡ true
 
 abbrev AllJudge : Checks → Type 0
 AllJudge cs = AllByRecursion Judges cs
@@ -49,7 +49,7 @@ command_judges f account key (Ranks who rank) = (refl, (refl, (refl, (refl, tt))
 command_judges f account key (Submits path proposal note) = (refl, (refl, tt))
 command_judges f account key (Comments n text) = (refl, named_judge f.named comment_checks (λ s. (refl, tt)))
 command_judges f account key (Withdraws n) = (refl, named_judge f.named (withdraw_checks account) (λ s. (refl, (refl, tt))))
-command_judges f account key (Approves n) = (refl, named_judge f.named (approval_checks account f) (λ s. (refl, (refl, (refl, (refl, (refl, (refl, (refl, tt)))))))))
+command_judges f account key (Approves n e) = (refl, named_judge f.named (approval_checks account f e) (λ s. (refl, (refl, (refl, (refl, (refl, (refl, (refl, (refl, tt))))))))))
 command_judges f account key (Rejects n reason) = (refl, named_judge f.named (decision_checks account f.rank) (λ s. (refl, (refl, (refl, tt)))))
 command_judges f account key (Imports reading) = (refl, (refl, file_judge f.file))
 
@@ -60,7 +60,7 @@ joined (c ∷ cs) ds h k = (h.0, joined cs ds h.1 k)
 checks_judge : (f : Facts) (c : Asked) → AllJudge (checks f c)
 checks_judge f c = joined (command_checks f c) (revision_checks f) (command_judges f c.account c.key c.deed) (refl, tt)
 
-one_judges : (b : Bool) (r : Refusal) (cs : Checks) (reply : Reply) → nat_le (refusal_number r) 15 ≡ true → is_judged (answer (unless (first_failing cs) reply)) ≡ true
+one_judges : (b : Bool) (r : Refusal) (cs : Checks) (reply : Reply) → is_judged_refusal r ≡ true → is_judged (answer (unless (first_failing cs) reply)) ≡ true
     → is_judged (answer (unless (option_map (λ (x : Bool × Refusal). x.1) (cond b (Some (b, r)) (find (λ x. x.0) cs))) reply)) ≡ true
 one_judges true r cs reply here rest = here
 one_judges false r cs reply here rest = rest
@@ -79,8 +79,8 @@ judged_answer f c =
     shown_judges (is_ill_formed f c.deed) f.kept (first_failing (checks f c)) (reply_by_facts f c.deed)
     (first_judges (checks f c) (reply_by_facts f c.deed) (checks_judge f c))
 
-not_failed : (r : Refusal) → nat_le (refusal_number r) 15 ≡ true → r ≡ Failed → ⊥
-not_failed r judges is = let off : false ≡ true = subst (λ (x : Refusal). nat_le (refusal_number x) 15 ≡ true) is judges in let no : ⊥ = cc in no
+not_failed : (r : Refusal) → is_judged_refusal r ≡ true → r ≡ Failed → ⊥
+not_failed r judges is = let off : false ≡ true = subst (λ (x : Refusal). is_judged_refusal x ≡ true) is judges in let no : ⊥ = cc in no
 
 no_want : (e : Refusal) → e ≡ Failed → e ≡ Memory → ⊥
 no_want e is other = let no : ⊥ = cc in no

@@ -121,7 +121,7 @@ own_reply h account key (Ranks who rank) reply made = tt
 own_reply h account key (Submits path proposal note) reply made = last_number (submits_of h) (record { author = account; path = path; proposal = proposal; note = note })
 own_reply h account key (Comments n text) reply made = tt
 own_reply h account key (Withdraws n) reply made = tt
-own_reply h account key (Approves n) reply made = tt
+own_reply h account key (Approves n e) reply made = tt
 own_reply h account key (Rejects n reason) reply made = tt
 own_reply h account key (Imports TooLong) reply made = omega arith
 own_reply h account key (Imports (Faulty fault)) reply made = omega arith

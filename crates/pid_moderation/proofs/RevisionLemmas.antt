@@ -91,7 +91,7 @@ same_judged last f account key (Ranks who rank) = refl
 same_judged last f account key (Submits path proposal note) = refl
 same_judged last f account key (Comments n text) = refl
 same_judged last f account key (Withdraws n) = refl
-same_judged last f account key (Approves n) = refl
+same_judged last f account key (Approves n e) = refl
 same_judged last f account key (Rejects n reason) = refl
 same_judged last f account key (Imports reading) = refl
 
@@ -100,8 +100,8 @@ same_item v None f = refl
 same_item v (Some s) f = refl
 
 same_facts : (v : Views) (account : List ℕ) (key : Option (List ℕ)) (deed : Deed) → uncounted (facts_of v (asks account key deed)) ≡ facts_of (without_numbers v) (asks account key deed)
-same_facts v account None (Approves n) = same_item v (named v n) (known v account None)
-same_facts v account (Some key) (Approves n) = same_item v (named v n) (known v account (Some key))
+same_facts v account None (Approves n e) = same_item v (named v n) (known v account None)
+same_facts v account (Some key) (Approves n e) = same_item v (named v n) (known v account (Some key))
 same_facts v account None (Imports reading) = refl
 same_facts v account (Some key) (Imports reading) = refl
 same_facts v account None deed = refl

@@ -5,6 +5,7 @@ use Rattle.std.specs.Option.{option_map}
 use Rattle.std.proofs.lemmas.Bool.Decides.{nat_tests, Decides-eqb}
 use Rattle.pid_file.specs.Bytes.{is_empty}
 use Rattle.pid_file.specs.Words.{is_text}
+use Rattle.pid_moderation.specs.declared.command.Expected.{Expected}
 use Rattle.pid_moderation.specs.declared.facts.State.{State}
 use Rattle.pid_moderation.specs.declared.facts.State.TheVariants.{Pending, Approved, Rejected, Withdrawn}
 use Rattle.pid_moderation.specs.declared.rank.Rank.{Rank}
@@ -91,9 +92,9 @@ well_if h n m xs new old here before = chosen (eqb n m) refl
     chosen true e = subst (λ (k : ℕ). IsDecidedWell h (submission_at k xs) new) (sym ((Decides-eqb n m).0 e)) here
     chosen false e = before
 
-approved_well : (h : History) (o : Option Submitted) (v : Views) (n : ℕ) (account : List ℕ) (key : Option (List ℕ)) → IsRegistered account h → AllPass (approving (with_item_facts v (option_map (seen v n) o) (known v account key)) account) → IsDecidedWell h o (Approved account)
-approved_well h None v n account key caller passed = let bad = passed.1.0 in absurd cc
-approved_well h (Some s) v n account key caller passed = (passed.1.1.1.0, caller)
+approved_well : (h : History) (o : Option Submitted) (v : Views) (n : ℕ) (e : Expected) (account : List ℕ) (key : Option (List ℕ)) → IsRegistered account h → AllPass (approving (with_item_facts v (option_map (seen v n) o) (known v account key)) e account) → IsDecidedWell h o (Approved account)
+approved_well h None v n e account key caller passed = let bad = passed.1.0 in absurd cc
+approved_well h (Some s) v n e account key caller passed = (passed.1.1.1.0, caller)
 
 rejected_well : (h : History) (o : Option Submitted) (v : Views) (n : ℕ) (account reason : List ℕ) (rank : Option Rank) → IsRegistered account h → is_text reason ≡ true → is_empty reason ≡ false → AllPass (if_named (option_map (seen v n) o) (decision_checks account rank)) → IsDecidedWell h o (Rejected account reason)
 rejected_well h None v n account reason rank caller text filled passed = let bad = passed.0 in absurd cc
@@ -105,7 +106,7 @@ withdrawn_well h (Some s) v n account passed = tt
 
 decided_well : (h : History) (account : List ℕ) (key : Option (List ℕ)) (deed : Deed) → IsRegistered account h → IsWellMade (asks account key deed) → is_ill_formed (to_deed h account key deed) deed ≡ false → AreDecided h → AllPass (command_checks (to_deed h account key deed) (asks account key deed)) → (n : ℕ) → IsDecidedWell h (submission_at n (submitted account deed (submits_of h))) (decided n account deed (state_of n h))
 decided_well h account key (Submits path proposal note) caller made formed old passed n = push_well h n (submits_of h) _ (state_of n h) (old n)
-decided_well h account key (Approves m) caller made formed old passed n = well_if h n m (submits_of h) (Approved account) (state_of n h) (approved_well h (submission_at m (submits_of h)) (views_of h) m account key caller passed) (old n)
+decided_well h account key (Approves m e) caller made formed old passed n = well_if h n m (submits_of h) (Approved account) (state_of n h) (approved_well h (submission_at m (submits_of h)) (views_of h) m e account key caller passed) (old n)
 decided_well h account key (Rejects m reason) caller made formed old passed n = well_if h n m (submits_of h) (Rejected account reason) (state_of n h) (rejected_well h (submission_at m (submits_of h)) (views_of h) m account reason (rank_of account h) caller made.2 formed passed.1) (old n)
 decided_well h account key (Withdraws m) caller made formed old passed n = well_if h n m (submits_of h) Withdrawn (state_of n h) (withdrawn_well h (submission_at m (submits_of h)) (views_of h) m account passed.1) (old n)
 decided_well h account key deed caller made formed old passed n = old n

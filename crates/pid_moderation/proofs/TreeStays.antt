@@ -10,6 +10,7 @@ use Rattle.std.specs.FinMap.Entries.{put, where_key, by_order, is_sorted, length
 use Rattle.std.proofs.lemmas.Bool.Decides.{nat_tests}
 use Rattle.pid_file.specs.PathTexts.{IsPath, path_text}
 use Rattle.pid_file.specs.Trees.{text_cmp}
+use Rattle.pid_moderation.specs.declared.command.Expected.{Expected}
 use Rattle.pid_moderation.specs.declared.command.Proposal.{Proposal}
 use Rattle.pid_moderation.specs.declared.command.Proposal.TheVariants.{Name, Removal}
 use Rattle.pid_moderation.specs.History.{TooLong, Faulty, Good, Deed, Submits, Approves, Imports, History}
@@ -35,12 +36,12 @@ proposed_keeps : (path : List ℕ) (p : Proposal) (items : Items) → HoldsParen
 proposed_keeps path (Name name) items sound parent children = put_keeps path name items sound (yes _ parent)
 proposed_keeps path Removal items sound parent children = without_keeps path items sound children
 
-approved_keeps : (o : Option Submitted) (v : Views) (n : ℕ) (account : List ℕ) (key : Option (List ℕ)) → HoldsParents v.items → AllPass (approving (with_item_facts v (option_map (seen v n) o) (known v account key)) account) → HoldsParents (carried_out o v.items)
-approved_keeps None v n account key sound h = sound
-approved_keeps (Some s) v n account key sound h = proposed_keeps (path_text s.path) s.proposal v.items sound h.1.1.1.1.1.0 h.1.1.1.1.1.1.0
+approved_keeps : (o : Option Submitted) (v : Views) (n : ℕ) (e : Expected) (account : List ℕ) (key : Option (List ℕ)) → HoldsParents v.items → AllPass (approving (with_item_facts v (option_map (seen v n) o) (known v account key)) e account) → HoldsParents (carried_out o v.items)
+approved_keeps None v n e account key sound h = sound
+approved_keeps (Some s) v n e account key sound h = proposed_keeps (path_text s.path) s.proposal v.items sound h.1.1.1.1.1.1.0 h.1.1.1.1.1.1.1.0
 
 parents_stay : (h : History) (account : List ℕ) (key : Option (List ℕ)) (deed : Deed) → IsParented h → IsWellMade (asks account key deed) → AllPass (command_checks (to_deed h account key deed) (asks account key deed)) → HoldsParents (itemized deed (submits_of h) (items_of h))
-parents_stay h account key (Approves n) sound made passed = approved_keeps (submission_at n (submits_of h)) (views_of h) n account key sound passed
+parents_stay h account key (Approves n e) sound made passed = approved_keeps (submission_at n (submits_of h)) (views_of h) n e account key sound passed
 parents_stay h account key (Imports reading) sound made passed = imported_keeps (pairs_of reading) (items_of h) made.2.tree sound
 parents_stay h account key deed sound made passed = sound
 
@@ -112,7 +113,7 @@ good_submits account key (Submits path proposal note) ss made old = more_good ss
 good_submits account key deed ss made old = old
 
 good_items : (account : List ℕ) (key : Option (List ℕ)) (deed : Deed) (ss : List Submitted) (items : Items) → IsWellMade (asks account key deed) → AreGood ss → AllItems items → AllItems (itemized deed ss items)
-good_items account key (Approves n) ss items made good old = carried_items (submission_at n ss) items (good_at n ss good) old
+good_items account key (Approves n e) ss items made good old = carried_items (submission_at n ss) items (good_at n ss good) old
 good_items account key (Imports reading) ss items made good old = imported_items (pairs_of reading) items made.2.items old
 good_items account key deed ss items made good old = old
 
@@ -132,15 +133,15 @@ written_within : (path : List ℕ) (p : Proposal) (items : Items) → T (is_sort
 written_within path (Name name) items sorted h f = rw (length-put text_cmp nat_list_cmp_total path name items sorted) (one_put (name_at path items) (length items) h f)
 written_within path Removal items sorted h f = let e = length_without text_cmp nat_list_cmp_total path items sorted in omega arith
 
-approved_within : (o : Option Submitted) (v : Views) (n : ℕ) (account : List ℕ) (key : Option (List ℕ)) → T (is_sorted text_cmp v.items) → length v.items ≤ most_items → AllPass (approving (with_item_facts v (option_map (seen v n) o) (known v account key)) account) → length (carried_out o v.items) ≤ most_items
-approved_within None v n account key sorted h passed = h
-approved_within (Some s) v n account key sorted h passed = written_within (path_text s.path) s.proposal v.items sorted h passed.1.1.1.1.1.1.1.0
+approved_within : (o : Option Submitted) (v : Views) (n : ℕ) (e : Expected) (account : List ℕ) (key : Option (List ℕ)) → T (is_sorted text_cmp v.items) → length v.items ≤ most_items → AllPass (approving (with_item_facts v (option_map (seen v n) o) (known v account key)) e account) → length (carried_out o v.items) ≤ most_items
+approved_within None v n e account key sorted h passed = h
+approved_within (Some s) v n e account key sorted h passed = written_within (path_text s.path) s.proposal v.items sorted h passed.1.1.1.1.1.1.1.1.0
 
 not_above : (n : ℕ) → nat_lt most_items n ≡ false → n ≤ most_items
 not_above n h = grind (arith, nat_tests)
 
 within_stays : (h : History) (account : List ℕ) (key : Option (List ℕ)) (deed : Deed) → IsWithin h → AllPass (command_checks (to_deed h account key deed) (asks account key deed)) → length (itemized deed (submits_of h) (items_of h)) ≤ most_items
-within_stays h account key (Approves n) old passed = approved_within (submission_at n (submits_of h)) (views_of h) n account key (items_sorted h) old passed
+within_stays h account key (Approves n e) old passed = approved_within (submission_at n (submits_of h)) (views_of h) n e account key (items_sorted h) old passed
 within_stays h account key (Imports TooLong) old passed = old
 within_stays h account key (Imports (Faulty fault)) old passed = old
 within_stays h account key (Imports (Good pairs)) old passed = not_above _ passed.1.1.0

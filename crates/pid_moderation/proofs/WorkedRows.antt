@@ -3,13 +3,15 @@ use Rattle.std.proofs.Common.{◌≡◌, ℕ, List, [], ◌∷◌, ◌++◌, Som
 use Rattle.std.specs.Prelude.{codes, map, Result, Ok, Err}
 use Rattle.pid_file.specs.declared.path.Path.TheVariants.{Vendor, Device}
 use Rattle.pid_file.specs.declared.fault_kind.LineKind.TheVariants.{Duplicate}
+use Rattle.pid_moderation.specs.declared.command.Expected.TheVariants.{Anything, Absent}
+use Rattle.pid_moderation.specs.declared.command.Expected.TheVariants as expecteds
 use Rattle.pid_moderation.specs.declared.command.Proposal.TheVariants.{Name, Removal}
 use Rattle.pid_moderation.specs.declared.command.Reply.{Reply}
 use Rattle.pid_moderation.specs.declared.command.Reply.TheVariants.{Done, Numbered, Counts}
 use Rattle.pid_moderation.specs.declared.refusal.Refusal.{Refusal}
 use Rattle.pid_moderation.specs.declared.rank.Rank.TheVariants.{Contributor, Moderator, Senior}
 use Rattle.pid_moderation.specs.declared.refusal.FileFault.TheVariants.{Line}
-use Rattle.pid_moderation.specs.declared.refusal.Refusal.TheVariants.{Full, NoAccount, RankTooLow, NoSubmission, NotPending, NotAuthor, OwnDecision, ParentMissing, HasChildren, NothingToDo, FileFault}
+use Rattle.pid_moderation.specs.declared.refusal.Refusal.TheVariants.{Full, NoAccount, RankTooLow, NoSubmission, NotPending, NotAuthor, OwnDecision, ParentMissing, HasChildren, NothingToDo, FileFault, Changed}
 use Rattle.pid_moderation.specs.History.{Deed, Reading, Good, Faulty, Ranks, Submits, Comments, Withdraws, Approves, Rejects, Imports, Asked, Begins, History, new_history}
 use Rattle.pid_moderation.specs.Views.{Views, views_of, items_of, revision_of, since_of}
 use Rattle.pid_moderation.specs.Changes.{with_pairs}
@@ -37,7 +39,7 @@ abbrev bob : List ℕ
 bob = codes "bob"
 
 abbrev first_approval : List Asked
-first_approval = by root (Ranks alice Contributor) ∷ by alice (Submits (Vendor 32902) (Name (codes "Intel Corporation")) []) ∷ by alice (Approves 1) ∷ by root (Approves 1) ∷ []
+first_approval = by root (Ranks alice Contributor) ∷ by alice (Submits (Vendor 32902) (Name (codes "Intel Corporation")) []) ∷ by alice (Approves 1 Anything) ∷ by root (Approves 1 Anything) ∷ []
 
 first_approval_answers : answers new_history first_approval ≡ Ok Done ∷ Ok (Numbered 1) ∷ Err RankTooLow ∷ Ok Done ∷ []
 first_approval_answers = refl
@@ -77,7 +79,7 @@ taken_since = refl
 
 -- then the item is removed, and an import adds it again
 abbrev added_again : List Asked
-added_again = by alice (Submits (Vendor 32902) Removal []) ∷ by root (Approves 2) ∷ by root (Imports (Good ((codes "PC/8086", codes "X") ∷ []))) ∷ []
+added_again = by alice (Submits (Vendor 32902) Removal []) ∷ by root (Approves 2 Anything) ∷ by root (Imports (Good ((codes "PC/8086", codes "X") ∷ []))) ∷ []
 
 added_again_answers : answers taken added_again ≡ Ok (Numbered 2) ∷ Ok Done ∷ Ok (Counts 1 0 0) ∷ []
 added_again_answers = refl
@@ -89,7 +91,7 @@ added_again_since : since_of (codes "PC/8086") (after_all taken added_again) ≡
 added_again_since = refl
 
 abbrev device_waits_for_vendor : List Asked
-device_waits_for_vendor = by root (Ranks bob Moderator) ∷ by bob (Submits (Device 32902 4663) (Name (codes "440FX")) []) ∷ by root (Approves 1) ∷ by bob (Submits (Vendor 32902) (Name (codes "Intel")) []) ∷ by root (Approves 2) ∷ by root (Approves 1) ∷ []
+device_waits_for_vendor = by root (Ranks bob Moderator) ∷ by bob (Submits (Device 32902 4663) (Name (codes "440FX")) []) ∷ by root (Approves 1 Anything) ∷ by bob (Submits (Vendor 32902) (Name (codes "Intel")) []) ∷ by root (Approves 2 Anything) ∷ by root (Approves 1 Anything) ∷ []
 
 device_waits_for_vendor_answers : answers new_history device_waits_for_vendor ≡ Ok Done ∷ Ok (Numbered 1) ∷ Err ParentMissing ∷ Ok (Numbered 2) ∷ Ok Done ∷ Ok Done ∷ []
 device_waits_for_vendor_answers = refl
@@ -97,8 +99,15 @@ device_waits_for_vendor_answers = refl
 device_waits_for_vendor_items : items_of (after_all new_history device_waits_for_vendor) ≡ (codes "PC/8086", codes "Intel") ∷ (codes "PC/8086/1237", codes "440FX") ∷ []
 device_waits_for_vendor_items = refl
 
+-- a rename is confirmed where the name is the one that was seen
+abbrev confirmations : List Asked
+confirmations = by bob (Submits (Vendor 32902) (Name (codes "Intel Corporation")) []) ∷ by root (Approves 3 Absent) ∷ by root (Approves 3 (expecteds.Named (codes "Intel Corporation"))) ∷ by root (Approves 3 (expecteds.Named (codes "Intel"))) ∷ by root (Approves 3 (expecteds.Named (codes "Intel"))) ∷ []
+
+confirmations_answers : answers (after_all new_history device_waits_for_vendor) confirmations ≡ Ok (Numbered 3) ∷ Err Changed ∷ Err Changed ∷ Ok Done ∷ Err NotPending ∷ []
+confirmations_answers = refl
+
 abbrev removals : List Asked
-removals = by bob (Submits (Vendor 32902) Removal []) ∷ by root (Approves 3) ∷ by bob (Submits (Device 32902 4663) Removal []) ∷ by root (Approves 4) ∷ by root (Approves 3) ∷ []
+removals = by bob (Submits (Vendor 32902) Removal []) ∷ by root (Approves 3 Anything) ∷ by bob (Submits (Device 32902 4663) Removal []) ∷ by root (Approves 4 Anything) ∷ by root (Approves 3 Anything) ∷ []
 
 removals_answers : answers (after_all new_history device_waits_for_vendor) removals ≡ Ok (Numbered 3) ∷ Err HasChildren ∷ Ok (Numbered 4) ∷ Ok Done ∷ Ok Done ∷ []
 removals_answers = refl
@@ -125,8 +134,8 @@ faulty_import : answers new_history (by root (Imports (Faulty (Line 3 Duplicate)
 faulty_import = refl
 
 abbrev policy : List Asked
-policy = by root (Ranks alice Contributor) ∷ by root (Submits (Vendor 4332) (Name (codes "Realtek")) []) ∷ by root (Approves 1) ∷ by alice (Withdraws 1) ∷ by alice (Comments 1 (codes "seen")) ∷ by root (Ranks root Senior) ∷ by root (Ranks alice Contributor)
-    ∷ by (codes "carol") (Submits (Vendor 4332) (Name (codes "X")) []) ∷ by root (Approves 2) ∷ by root (Withdraws 1) ∷ by root (Withdraws 1) ∷ by alice (Withdraws 1) ∷ by alice (Rejects 1 (codes "no")) ∷ []
+policy = by root (Ranks alice Contributor) ∷ by root (Submits (Vendor 4332) (Name (codes "Realtek")) []) ∷ by root (Approves 1 Anything) ∷ by alice (Withdraws 1) ∷ by alice (Comments 1 (codes "seen")) ∷ by root (Ranks root Senior) ∷ by root (Ranks alice Contributor)
+    ∷ by (codes "carol") (Submits (Vendor 4332) (Name (codes "X")) []) ∷ by root (Approves 2 Anything) ∷ by root (Withdraws 1) ∷ by root (Withdraws 1) ∷ by alice (Withdraws 1) ∷ by alice (Rejects 1 (codes "no")) ∷ []
 
 policy_answers : answers new_history policy ≡ Ok Done ∷ Ok (Numbered 1) ∷ Err OwnDecision ∷ Err NotAuthor ∷ Ok Done ∷ Err OwnDecision ∷ Err NothingToDo ∷ Err NoAccount ∷ Err NoSubmission ∷ Ok Done ∷ Err NotPending ∷ Err NotAuthor ∷ Err NotPending ∷ []
 policy_answers = refl
@@ -144,7 +153,7 @@ abbrev answers_at : ℕ → List Asked → List (Result Reply Refusal)
 answers_at revision commands = map (λ c. answer (judge (at revision) c)) commands
 
 abbrev one_of_each : List Asked
-one_of_each = by root (Ranks bob Moderator) ∷ by alice (Submits (Vendor 32902) Removal []) ∷ by root (Comments 1 (codes "seen")) ∷ by alice (Withdraws 1) ∷ by root (Approves 1) ∷ by root (Rejects 1 (codes "no")) ∷ by root (Imports intel) ∷ []
+one_of_each = by root (Ranks bob Moderator) ∷ by alice (Submits (Vendor 32902) Removal []) ∷ by root (Comments 1 (codes "seen")) ∷ by alice (Withdraws 1) ∷ by root (Approves 1 Anything) ∷ by root (Rejects 1 (codes "no")) ∷ by root (Imports intel) ∷ []
 
 one_below_the_limit : answers_at 8999999999999999999 one_of_each ≡ Ok Done ∷ Ok (Numbered 2) ∷ Ok Done ∷ Ok Done ∷ Ok Done ∷ Ok Done ∷ Ok (Counts 0 0 1) ∷ []
 one_below_the_limit = refl
@@ -153,14 +162,14 @@ at_the_limit : answers_at most_revision one_of_each ≡ Err Full ∷ Err Full �
 at_the_limit = refl
 
 -- a kept reply is answered there, and what fails another check is told by that
-kept_at_the_limit : answers_at most_revision (under (codes "k1") root (Imports intel) ∷ by alice (Approves 1) ∷ by root (Approves 2) ∷ by (codes "carol") (Withdraws 1) ∷ []) ≡ Ok (Counts 1 0 0) ∷ Err RankTooLow ∷ Err NoSubmission ∷ Err NoAccount ∷ []
+kept_at_the_limit : answers_at most_revision (under (codes "k1") root (Imports intel) ∷ by alice (Approves 1 Anything) ∷ by root (Approves 2 Anything) ∷ by (codes "carol") (Withdraws 1) ∷ []) ≡ Ok (Counts 1 0 0) ∷ Err RankTooLow ∷ Err NoSubmission ∷ Err NoAccount ∷ []
 kept_at_the_limit = refl
 
 -- LISTS
 
 -- four submissions, three of them by alice and two for each path, of which the first has a remark and was approved
 abbrev listed : List Asked
-listed = by root (Ranks alice Contributor) ∷ by alice (Submits (Vendor 32902) (Name (codes "Intel")) []) ∷ by root (Submits (Vendor 4332) (Name (codes "Realtek")) []) ∷ by alice (Submits (Vendor 32902) Removal (codes "gone")) ∷ by root (Comments 1 (codes "seen")) ∷ by alice (Submits (Vendor 4332) (Name (codes "R")) []) ∷ by root (Approves 1) ∷ []
+listed = by root (Ranks alice Contributor) ∷ by alice (Submits (Vendor 32902) (Name (codes "Intel")) []) ∷ by root (Submits (Vendor 4332) (Name (codes "Realtek")) []) ∷ by alice (Submits (Vendor 32902) Removal (codes "gone")) ∷ by root (Comments 1 (codes "seen")) ∷ by alice (Submits (Vendor 4332) (Name (codes "R")) []) ∷ by root (Approves 1 Anything) ∷ []
 
 abbrev listed_views : Views
 listed_views = views_of (after_all new_history listed)

@@ -1,10 +1,12 @@
 -- The checks of each command with the refusal that each means, in order: choices of this project.
 use Rattle.std.specs.Prelude.{◌≡◌, ℕ, ◌+◌, Bool, length, true, false, not, ◌&&◌, nat_lt, nat_le}
 use Rattle.std.specs.Prelude.{List, [], ◌∷◌, ◌++◌, find, Option, Some, None}
-use Rattle.std.specs.Prelude.{is_none}
+use Rattle.std.specs.Prelude.{is_none, is_some}
 use Rattle.std.specs.Option.{option_map}
 use Rattle.std.specs.Str.{bytes_eq}
 use Rattle.pid_file.specs.Bytes.{is_empty}
+use Rattle.pid_moderation.specs.declared.command.Expected.{Expected}
+use Rattle.pid_moderation.specs.declared.command.Expected.TheVariants as expecteds
 use Rattle.pid_moderation.specs.declared.command.Proposal.{Proposal}
 use Rattle.pid_moderation.specs.declared.command.Proposal.TheVariants as proposals
 use Rattle.pid_moderation.specs.declared.command.Reply.{Reply}
@@ -23,7 +25,7 @@ use Rattle.pid_moderation.specs.declared.refusal.Refusal.TheVariants.{RankTooLow
 use Rattle.pid_moderation.specs.declared.refusal.Refusal.TheVariants.{NotPending, NotAuthor}
 use Rattle.pid_moderation.specs.declared.refusal.Refusal.TheVariants.{OwnDecision, ParentMissing}
 use Rattle.pid_moderation.specs.declared.refusal.Refusal.TheVariants.{HasChildren, NothingToDo}
-use Rattle.pid_moderation.specs.declared.refusal.Refusal.TheVariants.{FileFault, Full}
+use Rattle.pid_moderation.specs.declared.refusal.Refusal.TheVariants.{FileFault, Full, Changed}
 use Rattle.pid_moderation.specs.declared.command.Act.{Act}
 use Rattle.pid_moderation.specs.declared.command.Act.TheVariants as acts
 use Rattle.pid_moderation.specs.History.{Reading, TooLong, Deed, Ranks, Submits, Comments}
@@ -105,16 +107,24 @@ decision_checks account rank s =
     ∷ (bytes_eq account s.author, OwnDecision)
     ∷ []
 
-abbrev pub item_checks : Facts → Named → Checks
-item_checks f s =
-    (is_so s.proposal f.present, NothingToDo)
+-- the item is not as an approval expects
+abbrev pub is_changed : Expected → Option (List ℕ) → Bool
+is_changed expecteds.Anything present = false
+is_changed expecteds.Absent present = is_some present
+is_changed (expecteds.Named name) present = not (has_name name present)
+
+abbrev pub item_checks : Facts → Expected → Named → Checks
+item_checks f expected s =
+    (is_changed expected f.present, Changed)
+    ∷ (is_so s.proposal f.present, NothingToDo)
     ∷ (lacks_parent s.proposal f.has_parent, ParentMissing)
     ∷ (leaves_children s.proposal f.has_children, HasChildren)
     ∷ (overflows s.proposal f.present f.items, Full)
     ∷ []
 
-abbrev pub approval_checks : List ℕ → Facts → Named → Checks
-approval_checks account f s = decision_checks account f.rank s ++ item_checks f s
+abbrev pub approval_checks : List ℕ → Facts → Expected → Named → Checks
+approval_checks account f expected s =
+    decision_checks account f.rank s ++ item_checks f expected s
 
 -- the checks of the named submission; if there is none, that is the refusal
 abbrev pub if_named : Option Named → (Named → Checks) → Checks
@@ -136,7 +146,8 @@ later_checks account f (Ranks who rank) = account_checks account f who rank
 later_checks account f (Submits path proposal note) = submit_checks f
 later_checks account f (Comments n text) = if_named f.named comment_checks
 later_checks account f (Withdraws n) = if_named f.named (withdraw_checks account)
-later_checks account f (Approves n) = if_named f.named (approval_checks account f)
+later_checks account f (Approves n expected) =
+    if_named f.named (approval_checks account f expected)
 later_checks account f (Rejects n reason) = if_named f.named (decision_checks account f.rank)
 later_checks account f (Imports reading) = import_checks f ++ file_checks f.file
 
@@ -192,6 +203,6 @@ reply_by_facts f (Ranks who rank) = Done
 reply_by_facts f (Submits path proposal note) = Numbered (f.submissions + 1)
 reply_by_facts f (Comments n text) = Done
 reply_by_facts f (Withdraws n) = Done
-reply_by_facts f (Approves n) = Done
+reply_by_facts f (Approves n expected) = Done
 reply_by_facts f (Rejects n reason) = Done
 reply_by_facts f (Imports reading) = import_reply f.file

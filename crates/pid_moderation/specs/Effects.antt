@@ -64,7 +64,8 @@ effect_of account f (Submits path proposal note) = Submitted
     (f.submissions + 1) account path proposal note
 effect_of account f (Comments n text) = Remarked n (next_place f.named) account text
 effect_of account f (Withdraws n) = Decided n Withdrawn None
-effect_of account f (Approves n) = Decided n (Approved account) (option_map (write_of f) f.named)
+effect_of account f (Approves n expected) =
+    Decided n (Approved account) (option_map (write_of f) f.named)
 effect_of account f (Rejects n reason) = Decided n (Rejected account reason) None
 effect_of account f (Imports reading) = import_effect f.file
 

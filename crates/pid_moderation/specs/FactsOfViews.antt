@@ -69,7 +69,7 @@ wanted (Ranks who rank) = RankOf who
 wanted (Submits path proposal note) = SubmissionCount
 wanted (Comments n text) = SubmissionOf n
 wanted (Withdraws n) = SubmissionOf n
-wanted (Approves n) = ItemOf n
+wanted (Approves n expected) = ItemOf n
 wanted (Rejects n reason) = SubmissionOf n
 wanted (Imports reading) = NoRows
 

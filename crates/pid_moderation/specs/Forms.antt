@@ -1,5 +1,5 @@
 -- The fields of each command and the rules that they keep: choices of this project.
-use Rattle.std.specs.Prelude.{◌≡◌, ◌≢◌, ℕ, ◌+◌, Bool, true, not, ◌&&◌, ◌==◌, nat_le}
+use Rattle.std.specs.Prelude.{◌≡◌, ◌≢◌, ℕ, ◌+◌, Bool, true, not, ◌&&◌, ◌||◌, ◌==◌, nat_le}
 use Rattle.std.specs.Prelude.{if◌then◌else◌, List, [], ◌∷◌, ◌++◌, length}
 use Rattle.std.specs.Prelude.{Option, Some, None, is_none, codes, Result, MatchResult}
 use Rattle.std.specs.Option.{option_map}
@@ -13,6 +13,8 @@ use Rattle.pid_moderation.specs.declared.rank.Rank.TheVariants.{Administrator}
 use Rattle.pid_moderation.specs.declared.refusal.Refusal.{Refusal}
 use Rattle.pid_moderation.specs.declared.refusal.Refusal.TheVariants.{BadPath, BadName, BadText}
 use Rattle.pid_moderation.specs.declared.refusal.Refusal.TheVariants.{Memory}
+use Rattle.pid_moderation.specs.declared.command.Expected.{Expected}
+use Rattle.pid_moderation.specs.declared.command.Expected.TheVariants as expecteds
 use Rattle.pid_moderation.specs.declared.command.Proposal.{Proposal}
 use Rattle.pid_moderation.specs.declared.command.Proposal.TheVariants as proposals
 use Rattle.pid_moderation.specs.declared.command.Act.{Act}
@@ -20,7 +22,7 @@ use Rattle.pid_moderation.specs.declared.command.Act.TheVariants as acts
 use Rattle.pid_moderation.specs.declared.command.Command.{Command}
 use Rattle.pid_moderation.specs.declared.verb.Verb.{Verb}
 use Rattle.pid_moderation.specs.declared.verb.Verb.TheVariants.{Account, Submit, Comment, Withdraw}
-use Rattle.pid_moderation.specs.declared.verb.Verb.TheVariants.{Approve, Reject, Import}
+use Rattle.pid_moderation.specs.declared.verb.Verb.TheVariants.{Approve, Confirm, Reject, Import}
 use Rattle.pid_form.specs.Fields.{Fields, times, is_once, is_one_of, value, text_at}
 use Rattle.pid_form.specs.Numbers as numbers
 use Rattle.pid_ident.specs.PathReading.{path_of}
@@ -41,6 +43,8 @@ has_fields Comment fields = is_once (codes "num") fields && is_once
     (codes "text") fields && length fields == 2
 has_fields Withdraw fields = is_once (codes "num") fields && length fields == 1
 has_fields Approve fields = is_once (codes "num") fields && length fields == 1
+has_fields Confirm fields = is_once (codes "num") fields && is_once
+    (codes "was") fields && length fields == 2
 has_fields Reject fields = is_once (codes "num") fields && is_once
     (codes "reason") fields && length fields == 2
 has_fields Import fields = is_once (codes "file") fields && length fields == 1
@@ -67,6 +71,13 @@ abbrev pub is_none_or : (List ℕ → Bool) → Option (List ℕ) → Bool
 is_none_or test None = true
 is_none_or test (Some text) = test text
 
+-- no text expects no item, and any other an item of that name
+abbrev pub expected_in : List ℕ → Expected
+expected_in text = if is_empty text then expecteds.Absent else expecteds.Named text
+
+abbrev pub is_name_or_empty : List ℕ → Bool
+is_name_or_empty text = is_empty text || is_name text
+
 -- a comment or a reason
 abbrev pub is_remark : List ℕ → Bool
 is_remark text = is_text text && not (is_empty text)
@@ -89,6 +100,10 @@ value_checks Comment fields =
     ∷ []
 value_checks Withdraw fields = (is_none (number_in (text_at (codes "num") fields)), BadText) ∷ []
 value_checks Approve fields = (is_none (number_in (text_at (codes "num") fields)), BadText) ∷ []
+value_checks Confirm fields =
+    (is_none (number_in (text_at (codes "num") fields)), BadText)
+    ∷ (not (is_name_or_empty (text_at (codes "was") fields)), BadText)
+    ∷ []
 value_checks Reject fields =
     (is_none (number_in (text_at (codes "num") fields)), BadText)
     ∷ (not (is_remark (text_at (codes "reason") fields)), BadText)
@@ -124,7 +139,10 @@ act_said Comment fields = option_map (λ n. acts.Comment n (text_at (codes "text
     (number_in (text_at (codes "num") fields))
 act_said Withdraw fields = option_map (λ n. acts.Withdraw n)
     (number_in (text_at (codes "num") fields))
-act_said Approve fields = option_map (λ n. acts.Approve n)
+act_said Approve fields = option_map (λ n. acts.Approve n expecteds.Anything)
+    (number_in (text_at (codes "num") fields))
+act_said Confirm fields = option_map
+    (λ n. acts.Approve n (expected_in (text_at (codes "was") fields)))
     (number_in (text_at (codes "num") fields))
 act_said Reject fields = option_map (λ n. acts.Reject n (text_at (codes "reason") fields))
     (number_in (text_at (codes "num") fields))

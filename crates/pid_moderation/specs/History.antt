@@ -1,6 +1,7 @@
 -- What was asked of the registry, and the list of what it accepted.
 use Rattle.std.specs.Prelude.{ℕ, Bool, true, false, List, [], ◌∷◌, length, Option}
 use Rattle.pid_file.specs.declared.path.Path.{Path}
+use Rattle.pid_moderation.specs.declared.command.Expected.{Expected}
 use Rattle.pid_moderation.specs.declared.command.Proposal.{Proposal}
 use Rattle.pid_moderation.specs.declared.command.Reply.{Reply}
 use Rattle.pid_moderation.specs.declared.command.Act.{Act}
@@ -22,7 +23,7 @@ pub data Deed : Type 0 where
   Submits : (path : Path) (proposal : Proposal) (note : List ℕ) → Deed
   Comments : (number : ℕ) (text : List ℕ) → Deed
   Withdraws : (number : ℕ) → Deed
-  Approves : (number : ℕ) → Deed
+  Approves : (number : ℕ) (expected : Expected) → Deed
   Rejects : (number : ℕ) (reason : List ℕ) → Deed
   Imports : (reading : Reading) → Deed
 
@@ -41,7 +42,7 @@ deed_of (acts.Account who rank) reading = Ranks who rank
 deed_of (acts.Submit path proposal note) reading = Submits path proposal note
 deed_of (acts.Comment number text) reading = Comments number text
 deed_of (acts.Withdraw number) reading = Withdraws number
-deed_of (acts.Approve number) reading = Approves number
+deed_of (acts.Approve number expected) reading = Approves number expected
 deed_of (acts.Reject number reason) reading = Rejects number reason
 deed_of (acts.Import file) reading = Imports reading
 

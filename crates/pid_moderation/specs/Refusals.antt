@@ -1,5 +1,6 @@
--- The number and the word of each refusal: choices of this project. The number 6 is not used.
-use Rattle.std.specs.Prelude.{ℕ, List, codes}
+-- The number and the word of each refusal: choices of this project. Neither 6 nor 19 is used, and 20
+-- to 29 are those of requests.
+use Rattle.std.specs.Prelude.{ℕ, Bool, ◌||◌, nat_lt, List, codes}
 use Rattle.pid_moderation.specs.declared.refusal.Refusal.{Refusal}
 use Rattle.pid_moderation.specs.declared.refusal.Refusal.TheVariants.{BadPath, BadName, BadText}
 use Rattle.pid_moderation.specs.declared.refusal.Refusal.TheVariants.{NoAccount, RankTooLow}
@@ -8,6 +9,7 @@ use Rattle.pid_moderation.specs.declared.refusal.Refusal.TheVariants.{NotAuthor,
 use Rattle.pid_moderation.specs.declared.refusal.Refusal.TheVariants.{ParentMissing, HasChildren}
 use Rattle.pid_moderation.specs.declared.refusal.Refusal.TheVariants.{NothingToDo, FileFault}
 use Rattle.pid_moderation.specs.declared.refusal.Refusal.TheVariants.{Full, Memory, Store, Failed}
+use Rattle.pid_moderation.specs.declared.refusal.Refusal.TheVariants.{Changed}
 
 abbrev pub refusal_number : Refusal → ℕ
 refusal_number BadPath = 1
@@ -27,6 +29,7 @@ refusal_number Full = 15
 refusal_number Memory = 16
 refusal_number Store = 17
 refusal_number Failed = 18
+refusal_number Changed = 30
 
 abbrev pub refusal_word : Refusal → List ℕ
 refusal_word BadPath = codes "BadPath"
@@ -46,3 +49,9 @@ refusal_word Full = codes "Full"
 refusal_word Memory = codes "Memory"
 refusal_word Store = codes "Store"
 refusal_word Failed = codes "Failed"
+refusal_word Changed = codes "Changed"
+
+-- What a command is refused for by judgement. The others are 16 and 17, faults of memory and of the
+-- store, and 18, which a registry answers that has failed before.
+abbrev pub is_judged_refusal : Refusal → Bool
+is_judged_refusal refusal = nat_lt (refusal_number refusal) 16 || nat_lt 18 (refusal_number refusal)

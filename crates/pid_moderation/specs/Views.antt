@@ -69,7 +69,7 @@ submission_at zero submits = None
 submission_at (suc n) submits = slice_get submits n
 
 abbrev pub decided : ℕ → List ℕ → Deed → State → State
-decided n account (Approves m) before = if n == m then Approved account else before
+decided n account (Approves m expected) before = if n == m then Approved account else before
 decided n account (Rejects m reason) before = if n == m then Rejected account reason else before
 decided n account (Withdraws m) before = if n == m then Withdrawn else before
 decided n account deed before = before
@@ -100,7 +100,7 @@ pairs_of TooLong = []
 pairs_of (Faulty fault) = []
 
 abbrev pub itemized : Deed → List Submitted → Items → Items
-itemized (Approves n) submits before = carried_out (submission_at n submits) before
+itemized (Approves n expected) submits before = carried_out (submission_at n submits) before
 itemized (Imports reading) submits before = imported (pairs_of reading) before
 itemized deed submits before = before
 

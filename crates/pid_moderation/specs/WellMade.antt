@@ -51,7 +51,7 @@ IsWellMadeDeed (Submits path proposal note) = IsPath path × ProposesName propos
     × (is_text note ≡ true)
 IsWellMadeDeed (Comments number text) = is_text text ≡ true
 IsWellMadeDeed (Withdraws number) = Unit {0}
-IsWellMadeDeed (Approves number) = Unit {0}
+IsWellMadeDeed (Approves number expected) = Unit {0}
 IsWellMadeDeed (Rejects number reason) = is_text reason ≡ true
 IsWellMadeDeed (Imports reading) = HasGoodFile reading
 

@@ -10,6 +10,7 @@ ghost use Rattle.pid_moderation.specs.CheckTables.{
   is_so as so_already,
   lacks_parent as parent_lacking,
   leaves_children as children_left,
+  is_changed as changed_since,
 };
 ghost use Rattle.pid_moderation.specs.CheckTables.{
   overflows as one_too_many,
@@ -24,7 +25,7 @@ ghost use Rattle.pid_moderation.specs.Views.{Views};
 ghost use Rattle.pid_moderation.specs.Items.{has_name as names_so};
 ghost use Rattle.pid_moderation.specs.Steps.Following.{FollowsChecks};
 
-use crate::command::{Act, Command, Proposal};
+use crate::command::{Act, Command, Expected, Proposal};
 use crate::facts::{Facts, State, Verdict};
 use crate::rank::Rank;
 use crate::refusal::Refusal;
@@ -126,6 +127,17 @@ fn is_named_so(name: &Name, present: &Option<Name>) -> bool
     match present {
         Some(present) => name == present,
         None => false,
+    }
+}
+
+/// Whether the item is not as an approval expects.
+pub fn is_changed(expected: &Expected, present: &Option<Name>) -> bool
+    ensures { result ≡ changed_since expected.now present.now }
+{
+    match expected {
+        Expected::Anything => false,
+        Expected::Absent => present.is_some(),
+        Expected::Named(name) => !is_named_so(name, present),
     }
 }
 

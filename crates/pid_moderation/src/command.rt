@@ -25,6 +25,17 @@ impl Proposal {
     }
 }
 
+/// What an approval expects of the item at the submission's path.
+#[derive(Debug, Drop)]
+pub enum Expected {
+    /// Whatever it is.
+    Anything,
+    /// That there is none.
+    Absent,
+    /// That it has this name.
+    Named(Name),
+}
+
 /// The bytes of a file that is to be imported, of any length.
 #[derive(Debug, Drop)]
 pub struct File {
@@ -78,9 +89,10 @@ pub enum Act {
     Withdraw {
         number: u32,
     },
-    /// Approves a submission: what it proposes is done.
+    /// Approves a submission: what it proposes is done, if the item is as expected.
     Approve {
         number: u32,
+        expected: Expected,
     },
     /// Rejects a submission for a reason, which is not empty.
     Reject {

@@ -12,11 +12,13 @@ ghost use Rattle.pid_moderation.specs.Forms.{
   number_in,
   is_remark as remark_test,
   is_none_or,
+  is_name_or_empty,
+  expected_in,
 };
 ghost use Rattle.pid_moderation.specs.CheckTables.{most_file_bytes as file_bytes};
 
 use crate::checks::{FILE_BYTES, SUBMISSIONS, is_empty_text};
-use crate::command::File;
+use crate::command::{Expected, File};
 use crate::rank::Rank;
 use crate::refusal::Refusal;
 use pid_form::number_up_to;
@@ -97,6 +99,22 @@ pub fn name_in(alloc: Global, text: &str) -> Result<Name, Refusal>
     match Name::of(alloc, text) {
         Ok(word) => Ok(word),
         Err(fault) => Err(refusal_of(fault, Refusal::BadName)),
+    }
+}
+
+/// What an approval expects: a name, or no item if the text is empty; or `BadText`, or `Memory`.
+pub fn expected_said(alloc: Global, text: &str) -> Result<Expected, Refusal>
+    ensures ok { IfOk result (λ expected. (expected ≡ expected_in text.now)
+        × (is_name_or_empty text.now ≡ true)) }
+    ensures err { IfErr result (λ e. e ≢ Refusal.Memory → (e ≡ Refusal.BadText) ×
+        (is_name_or_empty text.now ≡ false)) }
+{
+    if text.is_empty() {
+        return Ok(Expected::Absent);
+    }
+    match Name::of(alloc, text) {
+        Ok(name) => Ok(Expected::Named(name)),
+        Err(fault) => Err(refusal_of(fault, Refusal::BadText)),
     }
 }
 

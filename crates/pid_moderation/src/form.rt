@@ -15,9 +15,10 @@ ghost use Rattle.pid_moderation.specs.Forms.{
 };
 ghost use Rattle.pid_moderation.specs.Forms.{number_in, SaysByChecks};
 
-use crate::command::{Act, Command, Proposal};
+use crate::command::{Act, Command, Expected, Proposal};
 use crate::fields::{
-    account_in, file_in, key_in, name_in, note_in, rank_said, remark_in, submission_number,
+    account_in, expected_said, file_in, key_in, name_in, note_in, rank_said, remark_in,
+    submission_number,
 };
 use crate::refusal::Refusal;
 use crate::verb::Verb;
@@ -35,6 +36,7 @@ fn has_fields(verb: Verb, fields: &[(String, String)]) -> bool
         Verb::Comment => is_once(fields, "num") && is_once(fields, "text") && count == 2,
         Verb::Withdraw => is_once(fields, "num") && count == 1,
         Verb::Approve => is_once(fields, "num") && count == 1,
+        Verb::Confirm => is_once(fields, "num") && is_once(fields, "was") && count == 2,
         Verb::Reject => is_once(fields, "num") && is_once(fields, "reason") && count == 2,
         Verb::Import => is_once(fields, "file") && count == 1,
     }
@@ -126,6 +128,15 @@ fn comment_act(alloc: Global, fields: &[(String, String)]) -> Result<Act, Refusa
     Ok(Act::Comment { number, text })
 }
 
+fn confirm_act(alloc: Global, fields: &[(String, String)]) -> Result<Act, Refusal>
+    ensures { SaysByChecks (value_checks Verb.Confirm (texts_of fields.now))
+        (act_said Verb.Confirm (texts_of fields.now)) result }
+{
+    let number = number_at(fields)?;
+    let expected = expected_said(alloc, text_at(fields, "was"))?;
+    Ok(Act::Approve { number, expected })
+}
+
 fn reject_act(alloc: Global, fields: &[(String, String)]) -> Result<Act, Refusal>
     ensures { SaysByChecks (value_checks Verb.Reject (texts_of fields.now))
         (act_said Verb.Reject (texts_of fields.now)) result }
@@ -157,8 +168,10 @@ fn act(alloc: Global, verb: Verb, fields: &[(String, String)]) -> Result<Act, Re
         }
         Verb::Approve => {
             let number = number_at(fields)?;
-            Ok(Act::Approve { number })
+            let expected = Expected::Anything;
+            Ok(Act::Approve { number, expected })
         }
+        Verb::Confirm => confirm_act(alloc, fields),
         Verb::Reject => reject_act(alloc, fields),
         Verb::Import => import_act(alloc, fields),
     }
@@ -169,8 +182,8 @@ fn act(alloc: Global, verb: Verb, fields: &[(String, String)]) -> Result<Act, Re
 ///
 /// The fields are the names and values of a form, in any order: `who` and `rank` (`0` to `3`) of
 /// `account`; `path`, one of `name` and `remove` (`yes`), and if wanted `note` of `submit`; `num`
-/// and `text` of `comment`; `num` of `withdraw` and `approve`; `num` and `reason` of `reject`;
-/// `file` of `import`.
+/// and `text` of `comment`; `num` of `withdraw` and `approve`; `num` and `was`, a name or
+/// empty, of `confirm`; `num` and `reason` of `reject`; `file` of `import`.
 pub fn command_of(
     alloc: Global,
     verb: Verb,

@@ -66,10 +66,11 @@ ghost use Rattle.pid_moderation.specs.Revisions.{IsMarked};
 
 use crate::change::{Change, Edit, Effect, Receipt, Write};
 use crate::checks::{
-    ITEMS, REMARKS, REVISIONS, SUBMISSIONS, first_failing, has_rank, is_ill_formed, is_pending,
-    is_rank, is_removal, is_so, is_unknown, lacks_parent, leaves_children, overflows, pass,
+    ITEMS, REMARKS, REVISIONS, SUBMISSIONS, first_failing, has_rank, is_changed, is_ill_formed,
+    is_pending, is_rank, is_removal, is_so, is_unknown, lacks_parent, leaves_children, overflows,
+    pass,
 };
-use crate::command::{Act, Command, Proposal, Reply};
+use crate::command::{Act, Command, Expected, Proposal, Reply};
 use crate::facts::{Facts, Named, State, Verdict};
 use crate::rank::{Rank, needed_rank};
 use crate::refusal::Refusal;
@@ -191,12 +192,13 @@ fn may_decide(facts: &Facts, account: &Account, named: &Named) -> Result<(), Ref
     ])
 }
 
-// What an approval writes is new and keeps the tree.
-fn may_write(facts: &Facts, named: &Named) -> Result<(), Refusal>
-    ensures { FollowsChecks (item_checks facts.now named.now) tt result }
+// The item is as the approval expects, and what it writes is new and keeps the tree.
+fn may_write(facts: &Facts, expected: &Expected, named: &Named) -> Result<(), Refusal>
+    ensures { FollowsChecks (item_checks facts.now expected.now named.now) tt result }
 {
     let proposal = &named.proposal;
     pass(&[
+        (is_changed(expected, &facts.present), Refusal::Changed),
         (is_so(proposal, &facts.present), Refusal::NothingToDo),
         (
             lacks_parent(proposal, facts.has_parent),
@@ -213,12 +215,17 @@ fn may_write(facts: &Facts, named: &Named) -> Result<(), Refusal>
     ])
 }
 
-fn may_approve(facts: &Facts, account: &Account, named: &Named) -> Result<(), Refusal>
+fn may_approve(
+    facts: &Facts,
+    account: &Account,
+    expected: &Expected,
+    named: &Named,
+) -> Result<(), Refusal>
     ensures { FollowsChecks ((is_none facts.now.rank, Refusal.NoAccount) ∷
-        approval_checks account.now facts.now named.now) tt result }
+        approval_checks account.now facts.now expected.now named.now) tt result }
 {
     may_decide(facts, account, named)?;
-    may_write(facts, named)
+    may_write(facts, expected, named)
 }
 
 fn edit(proposal: &Proposal, present: &Option<Name>) -> Result<Edit, AllocError>
@@ -263,13 +270,18 @@ fn write(facts: &Facts, named: &Named) -> Result<Write, AllocError>
     })
 }
 
-fn approve(facts: &Facts, account: &Account, number: u32) -> Result<(Effect, Reply), Refusal>
-    ensures { Settles facts.now account.now (Approves number) result }
+fn approve(
+    facts: &Facts,
+    account: &Account,
+    number: u32,
+    expected: &Expected,
+) -> Result<(Effect, Reply), Refusal>
+    ensures { Settles facts.now account.now (Approves number expected.now) result }
 {
     let Some(named) = &facts.named else {
         return Err(absent(facts));
     };
-    may_approve(facts, account, named)?;
+    may_approve(facts, account, expected, named)?;
     let state = State::Approved {
         decider: account.copy()?,
     };
@@ -394,7 +406,7 @@ fn effect(facts: &Facts, command: &Command) -> Result<(Effect, Reply), Refusal>
         } => submit(facts, account, path, proposal, note),
         Act::Comment { number, text } => comment(facts, account, *number, text),
         Act::Withdraw { number } => withdraw(facts, account, *number),
-        Act::Approve { number } => approve(facts, account, *number),
+        Act::Approve { number, expected } => approve(facts, account, *number, expected),
         Act::Reject { number, reason } => reject(facts, account, *number, reason),
         Act::Import { .. } => import(facts),
     }

@@ -54,6 +54,8 @@ pub enum Refusal {
     Store,
     #[error("the registry has failed earlier")]
     Failed,
+    #[error("the item is not as expected any more")]
+    Changed,
 }
 
 impl Refusal {
@@ -81,6 +83,7 @@ impl Refusal {
             Refusal::Memory => 16,
             Refusal::Store => 17,
             Refusal::Failed => 18,
+            Refusal::Changed => 30,
         }
     }
 
@@ -106,6 +109,7 @@ impl Refusal {
             Refusal::Memory => "Memory",
             Refusal::Store => "Store",
             Refusal::Failed => "Failed",
+            Refusal::Changed => "Changed",
         }
     }
 }

@@ -9,6 +9,7 @@ pub enum Verb {
     Comment,
     Withdraw,
     Approve,
+    Confirm,
     Reject,
     Import,
 }
@@ -30,6 +31,8 @@ impl Verb {
             Some(Verb::Withdraw)
         } else if word == "approve" {
             Some(Verb::Approve)
+        } else if word == "confirm" {
+            Some(Verb::Confirm)
         } else if word == "reject" {
             Some(Verb::Reject)
         } else if word == "import" {
@@ -49,6 +52,7 @@ impl Verb {
             Verb::Comment => "comment",
             Verb::Withdraw => "withdraw",
             Verb::Approve => "approve",
+            Verb::Confirm => "confirm",
             Verb::Reject => "reject",
             Verb::Import => "import",
         }

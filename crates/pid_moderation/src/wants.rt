@@ -37,7 +37,7 @@ pub fn needs(command: &Command) -> Rows<'_>
         Act::Submit { .. } => Rows::Submissions,
         Act::Comment { number, .. } => Rows::Submission(*number),
         Act::Withdraw { number } => Rows::Submission(*number),
-        Act::Approve { number } => Rows::Item(*number),
+        Act::Approve { number, .. } => Rows::Item(*number),
         Act::Reject { number, .. } => Rows::Submission(*number),
         Act::Import { .. } => Rows::Nothing,
     }

@@ -8,7 +8,7 @@ use Rattle.pid_lookup.specs.declared.answering.LookupRefusal.TheVariants as look
 use Rattle.pid_tree.specs.Printing.{print}
 use Rattle.pid_moderation.specs.declared.command.Reply.{Reply}
 use Rattle.pid_moderation.specs.declared.refusal.Refusal.{Refusal}
-use Rattle.pid_moderation.specs.declared.refusal.Refusal.TheVariants.{BadPath, BadName, BadText, NoAccount, RankTooLow, NoSubmission, NotPending, NotAuthor, OwnDecision, ParentMissing, HasChildren, NothingToDo, FileFault, Full, Memory, Store, Failed}
+use Rattle.pid_moderation.specs.declared.refusal.Refusal.TheVariants.{BadPath, BadName, BadText, NoAccount, RankTooLow, NoSubmission, NotPending, NotAuthor, OwnDecision, ParentMissing, HasChildren, NothingToDo, FileFault, Full, Memory, Store, Failed, Changed}
 use Rattle.pid_moderation.specs.declared.verb.Verb.{Verb}
 use Rattle.pid_moderation.specs.CheckTables.{first_failing}
 use Rattle.pid_moderation.specs.Fields.{value, text_at}
@@ -104,6 +104,7 @@ is_memory Full = inr (λ e. cc)
 is_memory Memory = inl refl
 is_memory Store = inr (λ e. cc)
 is_memory Failed = inr (λ e. cc)
+is_memory Changed = inr (λ e. cc)
 
 -- the refusal of a form, or want of memory for it
 pub form_cause : {R X : Type 0} (m : Ghosts R) (said : Result X Refusal) (r : R) (h : History) (ask : Ask) (e : Refusal) → (e ≢ Memory → said ≡ Err e) → ((g : Refusal) → said ≡ Err g → is_stop g ≡ false) → (f : Refusal) → IsGivenRefusal (Some e) f → StoppedBy m r h ask f

@@ -13,7 +13,7 @@ use Rattle.pid_moderation.specs.declared.command.Command.{Command}
 use Rattle.pid_moderation.specs.declared.command.Reply.{Reply}
 use Rattle.pid_moderation.specs.declared.command.Reply.TheVariants.{Done, Numbered, Counts}
 use Rattle.pid_moderation.specs.declared.refusal.Refusal.{Refusal}
-use Rattle.pid_moderation.specs.declared.refusal.Refusal.TheVariants.{BadPath, BadName, BadText, NoAccount, RankTooLow, NoSubmission, NotPending, NotAuthor, OwnDecision, ParentMissing, HasChildren, NothingToDo, FileFault, Full, Memory, Store, Failed}
+use Rattle.pid_moderation.specs.declared.refusal.Refusal.TheVariants.{BadPath, BadName, BadText, NoAccount, RankTooLow, NoSubmission, NotPending, NotAuthor, OwnDecision, ParentMissing, HasChildren, NothingToDo, FileFault, Full, Memory, Store, Failed, Changed}
 use Rattle.pid_moderation.specs.History.{History}
 use Rattle.pid_moderation.specs.Items.{name_at}
 use Rattle.pid_moderation.specs.Judgement.{answer, judge}
@@ -54,6 +54,7 @@ stop_has Full stop = absurd cc
 stop_has Memory stop = refl
 stop_has Store stop = refl
 stop_has Failed stop = refl
+stop_has Changed stop = absurd cc
 
 by_bytes : (text : List ℕ) → stop_bytes text ≡ false → IsStopLine text → ⊥
 by_bytes text none (e, stop, is) = true≢false (sym (stop_has e stop) ∙ ap stop_bytes (sym is) ∙ none)
@@ -78,6 +79,7 @@ other_number Full none = refl
 other_number Memory none = absurd cc
 other_number Store none = absurd cc
 other_number Failed none = absurd cc
+other_number Changed none = refl
 
 refused_no_stop : (e : Refusal) → is_stop e ≡ false → IsStopLine (refused_line e) → ⊥
 refused_no_stop e none = by_bytes (refused_line e) (other_number e none)

@@ -39,6 +39,7 @@ no_form_stops verbs.Submit account key fields = (refl, (refl, (refl, (refl, (ref
 no_form_stops verbs.Comment account key fields = (refl, (refl, (refl, (refl, (refl, tt)))))
 no_form_stops verbs.Withdraw account key fields = (refl, (refl, (refl, (refl, tt))))
 no_form_stops verbs.Approve account key fields = (refl, (refl, (refl, (refl, tt))))
+no_form_stops verbs.Confirm account key fields = (refl, (refl, (refl, (refl, (refl, tt)))))
 no_form_stops verbs.Reject account key fields = (refl, (refl, (refl, (refl, (refl, tt)))))
 no_form_stops verbs.Import account key fields = (refl, (refl, (refl, (refl, tt))))
 
@@ -56,7 +57,7 @@ later_stops account f (Ranks who rank) = (refl, (refl, (refl, tt)))
 later_stops account f (Submits path proposal note) = (refl, tt)
 later_stops account f (Comments n text) = named_stops f.named comment_checks (λ s. (refl, tt))
 later_stops account f (Withdraws n) = named_stops f.named (withdraw_checks account) (λ s. (refl, (refl, tt)))
-later_stops account f (Approves n) = named_stops f.named (approval_checks account f) (λ s. (refl, (refl, (refl, (refl, (refl, (refl, (refl, tt))))))))
+later_stops account f (Approves n e) = named_stops f.named (approval_checks account f e) (λ s. (refl, (refl, (refl, (refl, (refl, (refl, (refl, (refl, tt)))))))))
 later_stops account f (Rejects n reason) = named_stops f.named (decision_checks account f.rank) (λ s. (refl, (refl, (refl, tt))))
 later_stops account f (Imports reading) = (refl, file_stops f.file)
 

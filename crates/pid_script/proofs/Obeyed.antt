@@ -5,7 +5,7 @@ use Rattle.std.specs.Prelude.{◌⊎◌, is_ok, OnOk}
 use Rattle.pid_moderation.specs.declared.command.Command.{Command}
 use Rattle.pid_moderation.specs.declared.command.Reply.{Reply}
 use Rattle.pid_moderation.specs.declared.refusal.Refusal.{Refusal}
-use Rattle.pid_moderation.specs.declared.refusal.Refusal.TheVariants.{BadPath, BadName, BadText, NoAccount, RankTooLow, NoSubmission, NotPending, NotAuthor, OwnDecision, ParentMissing, HasChildren, NothingToDo, FileFault, Full, Memory, Store, Failed}
+use Rattle.pid_moderation.specs.declared.refusal.Refusal.TheVariants.{BadPath, BadName, BadText, NoAccount, RankTooLow, NoSubmission, NotPending, NotAuthor, OwnDecision, ParentMissing, HasChildren, NothingToDo, FileFault, Full, Memory, Store, Failed, Changed}
 use Rattle.pid_moderation.specs.declared.verb.Verb.{Verb}
 use Rattle.pid_moderation.specs.History.{History}
 use Rattle.pid_moderation.specs.Judgement.{after, after_all, judge}
@@ -99,6 +99,7 @@ stop_unjudged Full stop = absurd cc
 stop_unjudged Memory stop = refl
 stop_unjudged Store stop = refl
 stop_unjudged Failed stop = refl
+stop_unjudged Changed stop = absurd cc
 
 -- what goes on was judged
 goes_judged : (e : Refusal) → is_stop e ≡ false → is_outcome (Err e) ≡ true
@@ -119,6 +120,7 @@ goes_judged Full goes = refl
 goes_judged Memory goes = absurd cc
 goes_judged Store goes = absurd cc
 goes_judged Failed goes = absurd cc
+goes_judged Changed goes = refl
 
 goes_outcome : (x : Unit {0}) (answer : Result Reply Refusal) → GoesOnAfter (Ok x) (refusal_given answer) → is_outcome answer ≡ true
 goes_outcome x (Ok reply) goes = refl

@@ -7,7 +7,7 @@ use Rattle.pid_moderation.specs.declared.command.Act.TheVariants.{Account, Submi
 use Rattle.pid_moderation.specs.declared.command.Command.{Command}
 use Rattle.pid_moderation.specs.declared.command.Reply.{Reply}
 use Rattle.pid_moderation.specs.declared.refusal.Refusal.{Refusal}
-use Rattle.pid_moderation.specs.declared.refusal.Refusal.TheVariants.{BadPath, BadName, BadText, NoAccount, RankTooLow, NoSubmission, NotPending, NotAuthor, OwnDecision, ParentMissing, HasChildren, NothingToDo, FileFault, Full, Memory, Store, Failed}
+use Rattle.pid_moderation.specs.declared.refusal.Refusal.TheVariants.{BadPath, BadName, BadText, NoAccount, RankTooLow, NoSubmission, NotPending, NotAuthor, OwnDecision, ParentMissing, HasChildren, NothingToDo, FileFault, Full, Memory, Store, Failed, Changed}
 use Rattle.pid_moderation.specs.Changes.{changed, with_pairs, FitsViews}
 use Rattle.pid_moderation.specs.CheckTables.{checks, first_failing, is_ill_formed, reply_by_facts}
 use Rattle.pid_moderation.specs.Effects.{new_pairs, LeadsOn, FitsHistory}
@@ -48,7 +48,7 @@ no_pairs (Account who rank) reading (Accepts r) other = refl
 no_pairs (Submit path proposal note) reading (Accepts r) other = refl
 no_pairs (Comment n text) reading (Accepts r) other = refl
 no_pairs (Withdraw n) reading (Accepts r) other = refl
-no_pairs (Approve n) reading (Accepts r) other = refl
+no_pairs (Approve n e) reading (Accepts r) other = refl
 no_pairs (Reject n reason) reading (Accepts r) other = refl
 no_pairs (Import file) reading (Accepts r) other = absurd (let no : ⊥ = cc in no)
 
@@ -86,6 +86,7 @@ told_or_memory h c Full told = inl (told (λ bad. let no : ⊥ = cc in no))
 told_or_memory h c Memory told = inr refl
 told_or_memory h c Store told = inl (told (λ bad. let no : ⊥ = cc in no))
 told_or_memory h c Failed told = inl (told (λ bad. let no : ⊥ = cc in no))
+told_or_memory h c Changed told = inl (told (λ bad. let no : ⊥ = cc in no))
 
 pub refusal_told : (h : History) (c : Asked) (e : Refusal) → (e ≢ Memory → answer (judge (views_of h) c) ≡ Err e) → ((answer (judge (views_of h) c) ≡ Err e) × (after h c ≡ h)) ⊎ IsMemoryOrStore e
 refusal_told h c e told = elim (told_or_memory h c e told) [

@@ -105,7 +105,7 @@ same_deed (Account who rank) reading other = refl
 same_deed (Submit path proposal note) reading other = refl
 same_deed (Comment number text) reading other = refl
 same_deed (Withdraw number) reading other = refl
-same_deed (Approve number) reading other = refl
+same_deed (Approve number expected) reading other = refl
 same_deed (Reject number reason) reading other = refl
 same_deed (Import file) reading other = absurd (let no : ⊥ = cc in no)
 

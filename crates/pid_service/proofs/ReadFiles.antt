@@ -21,6 +21,6 @@ tells_any (Account who rank) = tt
 tells_any (Submit path proposal note) = tt
 tells_any (Comment number text) = tt
 tells_any (Withdraw number) = tt
-tells_any (Approve number) = tt
+tells_any (Approve number expected) = tt
 tells_any (Reject number reason) = tt
 tells_any (Import file) = long_test file

@@ -3,7 +3,7 @@ use Rattle.std.proofs.Common.{◌≡◌, ◌⊎◌, inl, inr, ℕ, zero, suc, �
 use Rattle.sqlite_trees.specs.declared.store.Store.{Ghosts}
 use Rattle.pid_moderation.specs.declared.command.Reply.{Reply}
 use Rattle.pid_moderation.specs.declared.refusal.Refusal.{Refusal}
-use Rattle.pid_moderation.specs.declared.refusal.Refusal.TheVariants.{BadPath, BadName, BadText, NoAccount, RankTooLow, NoSubmission, NotPending, NotAuthor, OwnDecision, ParentMissing, HasChildren, NothingToDo, FileFault, Full, Memory, Store, Failed}
+use Rattle.pid_moderation.specs.declared.refusal.Refusal.TheVariants.{BadPath, BadName, BadText, NoAccount, RankTooLow, NoSubmission, NotPending, NotAuthor, OwnDecision, ParentMissing, HasChildren, NothingToDo, FileFault, Full, Memory, Store, Failed, Changed}
 use Rattle.pid_moderation.specs.History.{Asked, History}
 use Rattle.pid_moderation.specs.Judgement.{judge, answer, answers, after, after_all}
 use Rattle.pid_moderation.specs.Views.{items_of, views_of}
@@ -68,6 +68,7 @@ told_fault (Err NothingToDo) e is = absurd (let no : ⊥ = cc in no)
 told_fault (Err (FileFault f)) e is = absurd (let no : ⊥ = cc in no)
 told_fault (Err Full) e is = absurd (let no : ⊥ = cc in no)
 told_fault (Err Failed) e is = absurd (let no : ⊥ = cc in no)
+told_fault (Err Changed) e is = absurd (let no : ⊥ = cc in no)
 
 pub none_of : {X : Type 0} (o : Option X) → is_some o ≡ false → o ≡ None
 none_of None off = refl

@@ -49,8 +49,8 @@ abbrev pub EndIsNotFailed : ImportEnd → Type 0
 EndIsNotFailed (Refused e) = e ≢ Failed
 EndIsNotFailed Body = Unit {0}
 
--- if one of these is answered a live registry stays live: a reply, a refusal with a number from
--- 1 to 15, or a fault of the input
+-- if one of these is answered a live registry stays live: a reply, a refusal by judgement, or a
+-- fault of the input
 abbrev pub leaves_live : Result Reply ImportEnd → Bool
 leaves_live (Ok reply) = true
 leaves_live (Err (Refused e)) = is_outcome (Err e)

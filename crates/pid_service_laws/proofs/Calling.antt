@@ -6,7 +6,7 @@ use Rattle.pid_moderation.specs.declared.command.Reply.{Reply}
 use Rattle.pid_moderation.specs.declared.refusal.Refusal.{Refusal}
 use Rattle.pid_moderation.specs.declared.refusal.Refusal.TheVariants.{Memory, Store, Failed}
 use Rattle.pid_moderation.specs.History.{Asked, Begins, History, mark_of}
-use Rattle.pid_moderation.specs.Refusals.{refusal_number}
+use Rattle.pid_moderation.specs.Refusals.{is_judged_refusal}
 use Rattle.pid_moderation.specs.Judgement.{after, after_all, answer, answers, judge}
 use Rattle.pid_moderation.specs.Keys.{times_under}
 use Rattle.pid_moderation.specs.Laws.{KeysStandOnce}
@@ -92,7 +92,7 @@ obeyed-fault c (Ok reply) live f = absurd f
 obeyed-fault c (Err e) live (inl is) = ap (λ (r : Refusal). obeyed c (Err r) live) is
 obeyed-fault c (Err e) live (inr is) = ap (λ (r : Refusal). obeyed c (Err r) live) is
 
-judges_no_fault : (e : Refusal) → nat_le (refusal_number e) 15 ≡ true → is_fault e ≡ false
+judges_no_fault : (e : Refusal) → is_judged_refusal e ≡ true → is_fault e ≡ false
 judges_no_fault Memory h = absurd cc
 judges_no_fault Store h = absurd cc
 judges_no_fault e h = refl

@@ -2,6 +2,7 @@
 use Rattle.std.proofs.Common.{◌≡◌, ℕ, Bool, true, false, List, [], ◌∷◌, Some, None, Ok, Err, refl}
 use Rattle.std.specs.Prelude.{codes}
 use Rattle.pid_file.specs.declared.path.Path.TheVariants.{Vendor}
+use Rattle.pid_moderation.specs.declared.command.Expected.TheVariants.{Anything}
 use Rattle.pid_moderation.specs.declared.command.Proposal.TheVariants.{Name}
 use Rattle.pid_moderation.specs.declared.command.Reply.TheVariants.{Done, Numbered}
 use Rattle.pid_moderation.specs.declared.rank.Rank.TheVariants.{Contributor}
@@ -29,7 +30,7 @@ abbrev pub submission : Asked
 submission = record { account = alice; key = Some (codes "k1"); deed = Submits (Vendor 32902) (Name (codes "Intel")) [] }
 
 abbrev pub approval : Asked
-approval = by root (Approves 1)
+approval = by root (Approves 1 Anything)
 
 -- A FIRST LIFE THAT ENDS IN DOUBT
 
@@ -39,13 +40,13 @@ abbrev pub first_calls : List Call
 first_calls =
     obeyed welcome (Ok Done) true
     ∷ nothing_sent
-    ∷ obeyed (by alice (Approves 1)) (Err NoSubmission) true
+    ∷ obeyed (by alice (Approves 1 Anything)) (Err NoSubmission) true
     ∷ obeyed submission (Err Memory) true
     ∷ obeyed submission (Err Store) false
     ∷ obeyed approval (Err Failed) false
     ∷ []
 
-first_sent : sent_in first_calls ≡ record { command = welcome; outcome = Ok Done } ∷ record { command = by alice (Approves 1); outcome = Err NoSubmission } ∷ []
+first_sent : sent_in first_calls ≡ record { command = welcome; outcome = Ok Done } ∷ record { command = by alice (Approves 1 Anything); outcome = Err NoSubmission } ∷ []
 first_sent = refl
 
 -- a fault that left the registry live sent nothing, and is no doubt
@@ -58,10 +59,10 @@ in_doubt = refl
 abbrev pub first_life : Bool → Life
 first_life stands = life_of first_calls (InDoubt submission stands)
 
-doubt_stands : prefix_of (first_life true) ≡ welcome ∷ by alice (Approves 1) ∷ submission ∷ []
+doubt_stands : prefix_of (first_life true) ≡ welcome ∷ by alice (Approves 1 Anything) ∷ submission ∷ []
 doubt_stands = refl
 
-doubt_falls : prefix_of (first_life false) ≡ welcome ∷ by alice (Approves 1) ∷ []
+doubt_falls : prefix_of (first_life false) ≡ welcome ∷ by alice (Approves 1 Anything) ∷ []
 doubt_falls = refl
 
 -- A SECOND LIFE

@@ -1,5 +1,6 @@
 -- A registry that is nothing but what it shows: what calls promise can be met, and the worked calls lead from opening to opening.
 use Rattle.std.proofs.Common.{◌≡◌, ◌⊎◌, Bool, true, false, [], ◌∷◌, Ok, Err, refl, subst, inl, inr}
+use Rattle.pid_moderation.specs.declared.command.Expected.TheVariants.{Anything}
 use Rattle.pid_moderation.specs.declared.command.Reply.TheVariants.{Done}
 use Rattle.pid_moderation.specs.declared.refusal.Refusal.TheVariants.{Memory, NoSubmission, Store}
 use Rattle.pid_moderation.specs.History.{History, Approves, new_history}
@@ -82,7 +83,7 @@ first_lead = (
     live_does welcomed nothing_sent (Live welcomed) (tt, inl (refl, refl)),
     (
       Live welcomed,
-      live_does welcomed (obeyed (by alice (Approves 1)) (Err NoSubmission) true) (Live welcomed) ((refl, tt), inl (refl, refl)),
+      live_does welcomed (obeyed (by alice (Approves 1 Anything)) (Err NoSubmission) true) (Live welcomed) ((refl, tt), inl (refl, refl)),
       (
         Live welcomed,
         live_does welcomed (obeyed submission (Err Memory) true) (Live welcomed) (tt, inl (refl, refl)),

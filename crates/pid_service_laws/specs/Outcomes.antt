@@ -4,13 +4,12 @@ use Rattle.std.specs.Prelude.{Bool, true, ◌&&◌, nat_le, Result, Ok, Err}
 use Rattle.pid_moderation.specs.declared.command.Reply.{Reply}
 use Rattle.pid_moderation.specs.declared.refusal.Refusal.{Refusal}
 pub use Rattle.pid_moderation.specs.Faults.{IsMemoryOrStore}
-use Rattle.pid_moderation.specs.Refusals.{refusal_number}
+use Rattle.pid_moderation.specs.Refusals.{refusal_number, is_judged_refusal}
 
--- A reply, or a refusal with a number from 1 to 15. The others are 16 and 17, faults of memory and
--- of the store, and 18, which a registry answers that has failed before.
+-- a reply, or a refusal by judgement
 abbrev pub is_outcome : Result Reply Refusal → Bool
 is_outcome (Ok reply) = true
-is_outcome (Err refusal) = nat_le (refusal_number refusal) 15
+is_outcome (Err refusal) = is_judged_refusal refusal
 
 -- it is 16 or 17
 abbrev pub is_fault : Refusal → Bool

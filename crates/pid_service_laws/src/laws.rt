@@ -50,7 +50,7 @@ pub fn doubts_end()
         → HasKey c → EndsAlike h (left_at_stop h c stands) c }
 {}
 
-/// What the judgement answers is an outcome: a reply, or a refusal with a number from 1 to 15.
+/// What the judgement answers is an outcome: a reply, or a refusal by judgement.
 pub fn judgements_are_outcomes()
     ensures { (v : Views) (c : Asked) → is_outcome (answer (judge v c)) ≡ true }
 {}

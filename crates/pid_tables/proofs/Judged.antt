@@ -46,7 +46,7 @@ import_deed (Account who rank) reading is = absurd (let no : ⊥ = cc in no)
 import_deed (Submit path proposal note) reading is = absurd (let no : ⊥ = cc in no)
 import_deed (Comment number text) reading is = absurd (let no : ⊥ = cc in no)
 import_deed (Withdraw number) reading is = absurd (let no : ⊥ = cc in no)
-import_deed (Approve number) reading is = absurd (let no : ⊥ = cc in no)
+import_deed (Approve number expected) reading is = absurd (let no : ⊥ = cc in no)
 import_deed (Reject number reason) reading is = absurd (let no : ⊥ = cc in no)
 import_deed (Import file) reading is = refl
 

@@ -1,7 +1,7 @@
 -- A refusal by the judgement changes nothing.
 use Rattle.std.proofs.Common.{◌≡◌, ◌≢◌, inl, inr, Err, refl}
 use Rattle.pid_moderation.specs.declared.refusal.Refusal.{Refusal}
-use Rattle.pid_moderation.specs.declared.refusal.Refusal.TheVariants.{BadPath, BadName, BadText, NoAccount, RankTooLow, NoSubmission, NotPending, NotAuthor, OwnDecision, ParentMissing, HasChildren, NothingToDo, FileFault, Full, Memory, Store, Failed}
+use Rattle.pid_moderation.specs.declared.refusal.Refusal.TheVariants.{BadPath, BadName, BadText, NoAccount, RankTooLow, NoSubmission, NotPending, NotAuthor, OwnDecision, ParentMissing, HasChildren, NothingToDo, FileFault, Full, Memory, Store, Failed, Changed}
 use Rattle.pid_moderation.specs.History.{Asked, History}
 use Rattle.pid_moderation.specs.Judgement.{Outcome, Refused, Repeated, Accepts, judge, answer, added, after}
 use Rattle.pid_moderation.specs.Views.{views_of}
@@ -36,3 +36,4 @@ refusal_told h c Full told = told_by h c Full (told (λ bad. let no : ⊥ = cc i
 refusal_told h c Memory told = inr (inl refl)
 refusal_told h c Store told = told_by h c Store (told (λ bad. let no : ⊥ = cc in no))
 refusal_told h c Failed told = told_by h c Failed (told (λ bad. let no : ⊥ = cc in no))
+refusal_told h c Changed told = told_by h c Changed (told (λ bad. let no : ⊥ = cc in no))

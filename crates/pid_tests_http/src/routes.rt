@@ -79,6 +79,14 @@ POST /account root who=bob&rank=1 | 409 Conflict json {"ok":false,"refused":13,"
 POST /account root who=root&rank=2 | 403 Forbidden json {"ok":false,"refused":10,"word":"OwnDecision"}
 POST /account?format=text carol who=bob&rank=2 | 403 Forbidden text refused 4 NoAccount;
 POST /account root who=bob&rank=4 | 400 Bad Request json {"ok":false,"refused":3,"word":"BadText"}
+GET /account?who=bob | 200 OK json {"rank":1,"who":"bob"}
+GET /account?format=text&who=root | 200 OK text root 3;
+RAW GET /account?who=alice HTTP/1.1~X-Account: root~~ | 200 OK json {"rank":0,"who":"alice"}
+GET /account?who=carol | 404 Not Found json {"ok":false,"refused":29,"word":"NoSuchAccount"}
+GET /account?who=carol&format=text | 404 Not Found text refused 29 NoSuchAccount;
+GET /account?who=Bob&format=text | 400 Bad Request json {"ok":false,"refused":3,"word":"BadText"}
+GET /account?who=bob&who=bob | 400 Bad Request json {"ok":false,"refused":3,"word":"BadText"}
+RAW PUT /account HTTP/1.1~~ | 405 Method Not Allowed allow GET, POST
 POST /submit?format=text k1/alice note=seen&name=440FX&path=PC/8086/1237 | 200 OK text ok 2;
 POST /submit k1/alice path=PC/8086&remove=yes | 200 OK json {"num":2,"ok":true}
 POST /submit alice path=PC/8086&remove=yes | 200 OK json {"num":3,"ok":true}

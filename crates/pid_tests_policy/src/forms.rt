@@ -109,6 +109,17 @@ withdraw alice num=1&text=a | refused 3 BadText
 approve alice num=1 | ok
 approve alice num=x | refused 3 BadText
 approve alice path=PC/8086 | refused 3 BadText
+approve alice num=1&was=a | refused 3 BadText
+confirm alice num=1&was=a | ok
+confirm alice num=1&was= | ok
+confirm alice was=a&num=2000000000 | ok
+confirm alice num=1 | refused 3 BadText
+confirm alice was=a | refused 3 BadText
+confirm alice num=x&was=a | refused 3 BadText
+confirm alice num=1&was=a&was=a | refused 3 BadText
+confirm alice num=1&was=*1000 | ok
+confirm alice num=1&was=*1001 | refused 3 BadText
+confirm alice num=1&name=a | refused 3 BadText
 reject alice num=1&reason=no | ok
 reject alice num=1&reason= | refused 3 BadText
 reject alice num=1&reason=*4001 | refused 3 BadText
@@ -122,7 +133,7 @@ fn reads_numbers_and_remarks(rt: HostRuntime) -> Result<(), Fail> {
 
 #[test]
 fn tells_verbs_by_their_words(rt: HostRuntime) {
-    for word in "account submit comment withdraw approve reject import".split(' ') {
+    for word in "account submit comment withdraw approve confirm reject import".split(' ') {
         assert_eq!(rt; Verb::of_word(word).map(|verb| verb.word()), Some(word));
     }
     assert_eq!(rt; Verb::of_word("Account"), None);

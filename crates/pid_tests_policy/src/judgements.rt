@@ -204,6 +204,36 @@ fn checks_approvals(rt: HostRuntime) -> Result<(), Fail> {
     expect_answers(&rt, rt.alloc(), APPROVAL_CHECKS)
 }
 
+const CONFIRMATIONS: &str = "\
+confirm root num=1&was= | rank=2&author=bob&path=PC/8086&name=a&parent=yes | ok
+confirm root num=1&was=b | rank=2&author=bob&path=PC/8086&name=a&present=b&parent=yes | ok
+confirm root num=1&was=b | rank=2&author=bob&path=PC/8086&present=b | ok
+confirm root num=1&was=b | kept=yes&rank=2&author=bob&path=PC/8086&name=a&present=c&parent=yes | ok 7
+confirm root num=1&was= | rank=2&author=bob&path=PC/8086&name=a&present=b&parent=yes | refused 30 Changed
+confirm root num=1&was=b | rank=2&author=bob&path=PC/8086&name=a&parent=yes | refused 30 Changed
+confirm root num=1&was=b | rank=2&author=bob&path=PC/8086&name=a&present=c&parent=yes | refused 30 Changed
+confirm root num=1&was=a | rank=2&author=bob&path=PC/8086&name=a&present=b&parent=yes | refused 30 Changed
+confirm root num=1&was=B | rank=2&author=bob&path=PC/8086&name=a&present=b&parent=yes | refused 30 Changed
+confirm root num=1&was= | rank=2&author=bob&path=PC/8086&present=b | refused 30 Changed
+confirm root num=1&was=b | rank=2&author=bob&path=PC/8086&name=a&present=a&parent=yes | refused 30 Changed
+confirm root num=1&was=b | rank=1&author=bob&path=PC/8086/1237&name=a | refused 30 Changed
+confirm root num=1&was=b | rank=2&author=bob&path=PC/8086&name=a&parent=yes&items=100000 | refused 30 Changed
+confirm root num=1&was=b | author=bob&path=PC/8086&name=a&parent=yes | refused 4 NoAccount
+confirm root num=1&was=b | rank=3 | refused 7 NoSubmission
+confirm root num=1&was=b | rank=2&author=bob&path=PC/8086&name=a&state=approved | refused 8 NotPending
+confirm root num=1&was=b | rank=1&author=bob&path=PC/8086&name=a | refused 5 RankTooLow
+confirm root num=1&was=b | rank=3&author=root&path=PC/8086&name=a | refused 10 OwnDecision
+confirm root num=1&was=a | rank=2&author=bob&path=PC/8086&name=a&present=a&parent=yes | refused 13 NothingToDo
+confirm root num=1&was= | rank=1&author=bob&path=PC/8086/1237&name=a | refused 11 ParentMissing
+confirm root num=1&was=a | rank=2&author=bob&path=PC/8086&present=a&children=yes | refused 12 HasChildren
+confirm root num=1&was= | rank=2&author=bob&path=PC/8086&name=a&parent=yes&items=100000 | refused 15 Full
+";
+
+#[test]
+fn confirms_what_was_seen(rt: HostRuntime) -> Result<(), Fail> {
+    expect_answers(&rt, rt.alloc(), CONFIRMATIONS)
+}
+
 const DECISIONS: &str = "\
 approve root num=1 | rank=2&author=bob&path=PC/8086&name=a&parent=yes&items=99999 | ok
 approve root num=1 | rank=2&author=bob&path=PC/8086&name=a&present=b&parent=yes&children=yes&items=100000 | ok

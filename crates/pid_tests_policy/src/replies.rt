@@ -22,6 +22,7 @@ refused 15 Full
 refused 16 Memory
 refused 17 Store
 refused 18 Failed
+refused 30 Changed
 ";
 
 #[test]
@@ -50,6 +51,7 @@ fn tells_refusals_and_replies(rt: HostRuntime) -> Result<(), Fail> {
         Refusal::Memory,
         Refusal::Store,
         Refusal::Failed,
+        Refusal::Changed,
     ] {
         lines.push_str(reply_line(alloc, Err(refusal))?.as_str())?;
     }

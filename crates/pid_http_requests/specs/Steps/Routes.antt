@@ -5,7 +5,7 @@ use Rattle.pid_http_requests.specs.declared.route.Route.TheVariants.{Export, Rea
 use Rattle.pid_http_requests.specs.declared.route.Route.TheVariants.{Lookup, Submission, Pending}
 use Rattle.pid_http_requests.specs.declared.route.Route.TheVariants.{Changes, Account, Submit}
 use Rattle.pid_http_requests.specs.declared.route.Route.TheVariants.{Comment, Withdraw, Approve}
-use Rattle.pid_http_requests.specs.declared.route.Route.TheVariants.{Reject, Import}
+use Rattle.pid_http_requests.specs.declared.route.Route.TheVariants.{Confirm, Reject, Import}
 
 -- the path of a route, with what a router reads at its end
 abbrev pub route_path : Route → List ℕ
@@ -21,5 +21,6 @@ route_path Submit = codes "/submit"
 route_path Comment = codes "/comment"
 route_path Withdraw = codes "/withdraw"
 route_path Approve = codes "/approve"
+route_path Confirm = codes "/confirm"
 route_path Reject = codes "/reject"
 route_path Import = codes "/import"

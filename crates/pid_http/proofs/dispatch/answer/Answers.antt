@@ -53,6 +53,9 @@ returns-in-Pending g c = rw c.in-Pending.is (whoever _ _ _ c.args.head.now _ _ c
 pub returns-in-Changes : goal.returns-in-Changes
 returns-in-Changes g c = rw c.in-Changes.is (whoever _ _ _ c.args.head.now _ _ c.answer_changes.ensures)
 
+pub returns-in-Rank : goal.returns-in-Rank
+returns-in-Rank g c = rw c.in-Rank.is (whoever _ _ _ c.args.head.now _ _ c.rank.ensures)
+
 pub returns-in-Command : goal.returns-in-Command
 returns-in-Command g c =
     rw c.in-Command.is (turned _ _ _

@@ -1,0 +1,294 @@
+"""Rows of the server."""
+import os
+
+from processes import Profile, memory_of, seconds
+from registry import ROUNDS, least_of_lines
+from room import LARGE, MIDDLE, SMALL, ran, selected
+from rows import KITS, OURS, Figures, Row
+from serving import connected, free_port, get, nginx, our_server, posted, served, whole_reply
+
+READ, LOOK_UP = "/read/PC/8086", "/lookup?flags=3&vendor=8086&device=1237"
+
+
+def debians(room):
+    return room.imported("Debian's file")[0]
+
+
+def small(room):
+    return room.registry(SMALL)
+
+
+def large(room):
+    return room.registry(LARGE)
+
+
+def profiled(room, database, talk, connections=1):
+    """The instructions of a server that serves so many clients, each of whom talks."""
+    port = free_port()
+    words = ["serve", "--db", database, "--port", str(port), "--connections", str(connections)]
+
+    def clients(process):
+        process.stdout.readline()
+        for _ in range(connections):
+            with connected(port) as client:
+                talk(client)
+
+    return Profile(room.folder, [room.program, *words], clients)
+
+
+# -- beside nginx
+
+
+def asked_of_both(room, database, target, body):
+    """A request of the server, and of an nginx that has the body in a file."""
+    file = room.path(os.path.join("www", target.partition("?")[0][1:]))
+    os.makedirs(os.path.dirname(file), exist_ok=True)
+    with open(file, "wb") as written:
+        written.write(body)
+    with our_server(room, database) as ours, nginx(room.folder) as theirs:
+        return Figures(ours.ask(target), theirs.ask(target))
+
+
+def beside_nginx(target, body):
+    return lambda room: asked_of_both(room, debians(room), target, body)
+
+
+def published(registry):
+    """The text of all items, nothing changed since it was asked for first."""
+
+    def measure(room):
+        database = registry(room)
+        text = ran([room.program, "export", "--db", database])
+        return asked_of_both(room, database, "/pci.ids", text)
+
+    return measure
+
+
+def changes_then(room, database, asks, count):
+    """All instructions of a server on which an item is renamed so many times, and something is
+    asked after each."""
+
+    def talk(client):
+        for at in range(count):
+            form = f"path=PC/0001&name=renamed+{at}".encode()
+            number = MIDDLE[1] + at + 1
+            for request in (
+                posted("/submit", "author-1", form),
+                posted("/approve", "root", f"num={number}".encode()),
+                *asks,
+            ):
+                client.sendall(request)
+                whole_reply(client)
+
+    return profiled(room, room.copy(database), talk).total
+
+
+def published_after_change(room):
+    """The first request after an item was renamed, beside one walk of the items."""
+    database, count, asked = room.registry(MIDDLE), 3, get("/pci.ids")
+    without = changes_then(room, database, [], count)
+    took = (changes_then(room, database, [asked], count) - without) / count
+    export = Profile(room.folder, [room.program, "export", "--db", database])
+    return Figures(took, export.within("::Registry::export::"), "instructions")
+
+
+# -- beside a smaller registry
+
+
+def of_both_sizes(target):
+    """The same request of a large registry and of a small one."""
+
+    def measure(room):
+        times = []
+        for database in large(room), small(room):
+            asked = target(database)
+            with our_server(room, database) as server:
+                times.append(server.ask(asked))
+        return Figures(*times)
+
+    return measure
+
+
+def pending(_):
+    return "/pending"
+
+
+def nothing_new(database):
+    revision = selected(database, "SELECT value FROM meta WHERE label = 'revision'")
+    return f"/changes?since={revision}"
+
+
+def changes(back):
+    """The items that changed last, so many or all, beside the selects of them."""
+
+    def measure(room):
+        database = large(room)
+        since = str(LARGE[0] - back)
+        with our_server(room, database) as server:
+            ours = server.ask(f"/changes?since={since}")
+        times = 1_000 if back > 100 else 20
+        theirs = min(
+            seconds([room.sqlite, room.copy(database), "changes", since, str(times)])
+            for _ in range(3)
+        )
+        return Figures(ours, (theirs - room.idle) / times)
+
+    return measure
+
+
+# -- connections
+
+
+def requests_on(room, connections, requests):
+    """All instructions of a server that answers so many requests on each of so many connections."""
+
+    def talk(client):
+        for _ in range(requests):
+            client.sendall(get("/read/PC/0001"))
+            whole_reply(client)
+
+    return profiled(room, small(room), talk, connections).total
+
+
+def own_connection(room):
+    """A request on a connection of its own, beside one of many on one: what more of them take."""
+    few, many = 100, 600
+    own = requests_on(room, many, 1) - requests_on(room, few, 1)
+    shared = requests_on(room, 1, many) - requests_on(room, 1, few)
+    return Figures(own / (many - few), shared / (many - few), "instructions")
+
+
+def at_once(target):
+    def measure(room):
+        with our_server(room, debians(room)) as server:
+            return Figures(server.ask(target, at_once=100), server.ask(target))
+
+    return measure
+
+
+# -- commands
+
+
+def submit_time(room):
+    """Submissions without keys, over one connection and as lines of a script."""
+    count, database = 2_000, debians(room)
+    forms = [b"path=PC/%04x&name=renamed" % at for at in range(count)]
+
+    def submit(client):
+        for form in forms:
+            client.sendall(posted("/submit", "root", form))
+            whole_reply(client)
+
+    ours = min(
+        served([room.program, "serve", "--db", room.copy(database)], submit)[1]
+        for _ in range(ROUNDS)
+    )
+    lines = b"".join(b"submit root %s\n" % form for form in forms)
+    return Figures(ours / count, least_of_lines(database, room, lines) / count)
+
+
+FORMS = [f"path=PC/{at:04x}&name=renamed" for at in range(200)]
+
+
+def beside_obey(profile, call):
+    """Submissions, beside what of them is in the registry's call that obeys them."""
+    figures = [profile.within(it) / len(FORMS) for it in (call, "::Registry::obey::")]
+    return Figures(*figures, "instructions")
+
+
+def submit_instructions(room):
+    def talk(client):
+        for form in FORMS:
+            client.sendall(posted("/submit", "root", form.encode()))
+            whole_reply(client)
+
+    return beside_obey(profiled(room, room.copy(small(room)), talk), "::serve_connection::")
+
+
+def line_instructions(room):
+    lines = "".join(f"submit root {form}\n" for form in FORMS).encode()
+    words = room.script(room.copy(small(room)))
+    profile = Profile(room.folder, words, lambda process: process.stdin.write(lines))
+    return beside_obey(profile, "::answer_line::")
+
+
+def import_time(room):
+    """Debian's file into a new registry, whole processes."""
+    text = room.text("Debian's file")
+    with open(text, "rb") as file:
+        request = posted("/import", "root", file.read())
+
+    def send(client):
+        client.sendall(request)
+        whole_reply(client)
+
+    ours, theirs = [], []
+    for at in range(ROUNDS):
+        words = [room.program, "serve", "--db", room.path(f"posted-{at}")]
+        ours.append(served(words, send)[0])
+        theirs.append(seconds(room.import_words(room.path(f"sent-{at}"), text)))
+    return Figures(min(ours), min(theirs))
+
+
+# -- memory
+
+
+def memory_after_look_ups(room):
+    with our_server(room, debians(room)) as server:
+        server.ask(LOOK_UP)
+        before = memory_of(server.process)
+        with connected(server.port) as client:
+            client.sendall(get(LOOK_UP))
+            size = whole_reply(client)
+            server.batch(client, get(LOOK_UP), size, 1_000_000, 100)
+        return Figures(memory_of(server.process), before, "MB")
+
+
+def memory_of_text(room):
+    """What the server has in memory once the published text is kept, and before."""
+    with our_server(room, room.imported("100,000 items")[0]) as server:
+        with connected(server.port) as client:
+            server.time_of(client, get(READ))
+            before = memory_of(server.process, "VmRSS")
+        server.ask("/pci.ids")
+        return Figures(memory_of(server.process, "VmRSS"), before, "MB")
+
+
+NAME = b'{"name":"Intel Corporation","path":"PC/8086"}'
+NAMES = b"Intel Corporation 440FX - 82441FX PMC [Natoma]"
+
+ROWS = [
+    Row("read", f"`GET {READ}` / nginx, a file of that size", OURS, beside_nginx(READ, NAME), 4),
+    Row("lookup", "`GET /lookup`, one device / nginx, so", OURS, beside_nginx(LOOK_UP, NAMES), 4),
+    Row("pci-ids-debian", "`GET /pci.ids`, Debian's file, nothing changed since / nginx, so", OURS,
+        published(debians), 10, 4),
+    Row("pci-ids-1k", "the same, 1,000 submissions, 1,000 items / nginx, so", OURS,
+        published(small), 10, 4),
+    Row("pci-ids-1m", "the same, 1,000,000 submissions, 100,000 items / nginx, so", OURS,
+        published(large), 10, 4),
+    Row("pci-ids-changed", "`GET /pci.ids`, first after a change / `export`'s one walk", OURS,
+        published_after_change, 1.2, 0.1),
+    Row("pending", "`GET /pending`, ten of 1,000,000 / ten of 1,000", OURS, of_both_sizes(pending),
+        5, 1.5),
+    Row("changes", "`GET /changes`, nothing new, 100,000 items / 1,000 items", OURS,
+        of_both_sizes(nothing_new), 5, 1.5),
+    Row("changes-all", "`GET /changes`, 100,000 items, all changed / selects", KITS,
+        changes(LARGE[0])),
+    Row("changes-last", "the same, only the last changed / selects", KITS, changes(1)),
+    Row("own-connection", "a read on a connection of its own / one of many on one", OURS,
+        own_connection, 2, 1.3),
+    Row("read-at-once", f"`GET {READ}`, a hundred sent at once / one at a time", OURS,
+        at_once(READ)),
+    Row("lookup-at-once", "`GET /lookup`, so", OURS, at_once(LOOK_UP)),
+    Row("submit", "`POST /submit` / a script's line of the same", OURS, submit_time, 1.3),
+    Row("submit-obey", "`POST /submit`, instructions / `obey` within it", OURS,
+        submit_instructions),
+    Row("line-obey", "a script's line of the same, instructions / `obey` within it", OURS,
+        line_instructions),
+    Row("post-import", "`POST /import`, Debian's file / `import`, whole processes", OURS,
+        import_time, 1.3),
+    Row("memory-lookups", "memory of a server, 1,000,000 look-ups more / before", OURS,
+        memory_after_look_ups, 1.01),
+    Row("memory-text", "memory of a server, 100,000 items, their text kept / before", OURS,
+        memory_of_text),
+]

@@ -1,0 +1,20 @@
+use Rattle.std.proofs.Common.{◌≡◌, refl, ap, ℕ, List, Option}
+use Rattle.pid_moderation.specs.Views.{rank_of}
+use Rattle.pid_moderation.specs.declared.rank.Rank.{Rank}
+use Rattle.pid_http_requests.specs.declared.format.Format.{Format}
+use Rattle.pid_http_replies.specs.RankAnswers.{rank_answer}
+use Rattle.pid_http.specs.Answering.{answer_over}
+use Rattle.pid_http.specs.Errands as errands
+use Rattle.pid_http.proofs.Meeting.{IsQuestion, question_met, replied}
+use Rattle.pid_http.proofs.queries.rank.Goals as goal
+
+question : (who : List ℕ) (format : Format) → IsQuestion format (λ (rank : Option Rank). rank_answer format who rank) (λ h (rank : Option Rank). rank ≡ rank_of who h) (errands.Rank who format)
+unfolding answer_over
+question who format = record {
+  over = λ h x e. ap (rank_answer format who) e;
+  refused = λ e. (refl, refl);
+  no_command = refl;
+}
+
+pub returns : goal.returns
+returns g c = replied _ _ _ _ _ _ c.rank_outcome.ensures (question_met _ c.clauses_meet_lives.ensures.looks _ _ _ _ _ _ _ (question c.args.who.now c.args.format) c.rank-found.ensures)
