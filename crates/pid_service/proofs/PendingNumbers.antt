@@ -5,7 +5,7 @@ use Rattle.std.specs.declared.alloc.Global.{Global}
 use Rattle.std.specs.List.{cons_option}
 use Rattle.std.proofs.lemmas.Bool.Decides.{nat_tests}
 use Rattle.std.proofs.lemmas.List.{append-nil, append_assoc, length-map, length_push, map-append, take_all, take-append-drop, take-append-le, take-map, take_more}
-use Rattle.std.proofs.lemmas.List.Elements.{filter-append, filter_map-append}
+use Rattle.std.proofs.lemmas.List.Elements.{filter-append}
 use Rattle.pid_moderation.specs.declared.change.Change.{Change}
 use Rattle.pid_moderation.specs.declared.change.Effect.{Effect}
 use Rattle.pid_moderation.specs.declared.change.Effect.TheVariants.{Decided, Submitted as Made}
@@ -27,7 +27,8 @@ use Rattle.pid_tables_lists.specs.Pages.{last_of}
 use Rattle.pid_tables_lists.specs.Steps.PendingRows.{AreStandingIn}
 use Rattle.pid_tables_lists.proofs.PendingLists.{page_in}
 use Rattle.pid_service.specs.KeptViews.{HoldsWaiting, numbers_waiting}
-use Rattle.pid_service.specs.Steps.Waiting.{its_number, standing_at, standings_at}
+use Rattle.pid_service.specs.Steps.Waiting.{its_number}
+use Rattle.pid_tables_lists.specs.ByNumber.{standings_at}
 
 -- ---- what a change does
 
@@ -205,11 +206,6 @@ page_numbered v most after numbers page all is =
     let same : page ≡ map pending_number (pending_in most after v) =
     is ∙ ap (λ l. take most (filter (nat_lt after) l)) all ∙ ap (take most) (filter_numbers after (waiting_above 0 v) ∙ ap (map pending_number) (filter_twice after (standings_from 1 v.submits v.state))) ∙ take-map pending_number most (waiting_above after v) in
     ap (λ l. standings_at l v) same ∙ stand_there v (pending_in most after v) (page_in v after most)
-
--- a loop that reads them in turn
-
-pub one_numbered : (v : Views) (numbers : List ℕ) (i d : ℕ) → i < length numbers → standings_at (take (i + 1) numbers) v ≡ standings_at (take i numbers) v ++ standings_at (get_or numbers i d ∷ []) v
-one_numbered v numbers i d low = ap (λ l. standings_at l v) (take_more numbers i d low) ∙ filter_map-append (standing_at v) (take i numbers) (get_or numbers i d ∷ [])
 
 -- a loop that takes the first numbers above another
 

@@ -6,9 +6,10 @@ ghost use Rattle.pid_service.specs.Asking.{Answers};
 
 use crate::laws;
 use crate::registry::Registry;
-use crate::waiting::{numbers_above, pending_at, waiting_numbers};
+use crate::waiting::{numbers_above, waiting_numbers};
 use pid_moderation::{PAGE, Pending, Refusal};
 use pid_tables::{TableFault, refusal_of};
+use pid_tables_lists::pending_at;
 use sqlite::Alter;
 
 impl<S: Alter + Drop> Registry<S> {

@@ -1,4 +1,4 @@
-//! The numbers of what is pending, and pages of it that are read by them.
+//! The numbers of what is pending.
 ghost use Rattle.std.specs.Prelude.{
   ◌≡◌,
   ◌∷◌,
@@ -7,7 +7,6 @@ ghost use Rattle.std.specs.Prelude.{
   true,
   false,
   nat_lt,
-  option_map,
   IfSome,
   filter,
   map,
@@ -17,14 +16,12 @@ ghost use Rattle.pid_moderation.specs.PendingPages.{told_of};
 ghost use Rattle.pid_tables_rows.specs.Clauses.{Reads};
 ghost use Rattle.pid_tables_lists.specs.Laws.{pending_number};
 ghost use Rattle.pid_tables_lists.specs.Pages.{last_of};
-ghost use Rattle.pid_tables_lists.specs.Steps.Adding.{Adds};
 ghost use Rattle.pid_service.specs.KeptViews.{HoldsWaiting};
-ghost use Rattle.pid_service.specs.Steps.Waiting.{its_number, standing_at, standings_at};
+ghost use Rattle.pid_service.specs.Steps.Waiting.{its_number};
 
 use pid_moderation::{PAGE, Pending};
 use pid_tables::{TableFault, Tables};
-use pid_tables_rows::submission::standing;
-use sqlite::{Alter, Connection};
+use sqlite::Alter;
 use std::alloc::Global;
 
 // The most numbers that are kept, and the pages that have them.
@@ -100,56 +97,4 @@ pub(crate) fn numbers_above(alloc: Global, numbers: &[u32], after: u32) -> Optio
         }
     }
     Some(page)
-}
-
-// The submission with a number, as a pending one; none if there is none.
-fn numbered<S: Alter>(
-    conn: &mut Connection<S>,
-    alloc: Global,
-    number: u32,
-) -> Result<Option<Pending>, TableFault>
-    requires { conn.old.in_transaction ≡ false }
-    ensures { Reads S.Store conn.old conn.new result
-        (λ v pending. option_map told_of pending ≡ standing_at v number) }
-{
-    match standing(conn, alloc, number)? {
-        None => Ok(None),
-        Some(submission) => Ok(Some(Pending { number, submission })),
-    }
-}
-
-fn add_numbered<S: Alter>(
-    page: &mut Vec<Pending>,
-    conn: &mut Connection<S>,
-    alloc: Global,
-    number: u32,
-) -> Result<(), TableFault>
-    requires { conn.old.in_transaction ≡ false }
-    ensures { Reads S.Store conn.old conn.new result
-        (λ v _. Adds told_of page.old.items page.new.items (standings_at (number ∷ []) v)) }
-{
-    match numbered(conn, alloc, number)? {
-        None => Ok(()),
-        Some(pending) => match page.push(pending) {
-            Ok(()) => Ok(()),
-            Err(_) => Err(TableFault::Memory),
-        },
-    }
-}
-
-/// The submissions with these numbers, in their order. Each is read by its key.
-pub(crate) fn pending_at<S: Alter>(
-    conn: &mut Connection<S>,
-    alloc: Global,
-    numbers: &[u32],
-) -> Result<Vec<Pending>, TableFault>
-    requires { conn.old.in_transaction ≡ false }
-    ensures { Reads S.Store conn.old conn.new result
-        (λ v page. map told_of page.items ≡ standings_at numbers.now v) }
-{
-    let mut page = Vec::new(alloc);
-    for number in numbers {
-        add_numbered(&mut page, conn, alloc, *number)?;
-    }
-    Ok(page)
 }
