@@ -24,3 +24,4 @@ pub mod ImportPuts
 pub mod PutInto
 pub mod BringIn
 pub mod WorkedRows
+pub mod Carrying

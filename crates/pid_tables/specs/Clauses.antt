@@ -16,6 +16,7 @@ use Rattle.pid_tables.specs.Creation as creation
 use Rattle.pid_tables.specs.Putting as putting
 use Rattle.pid_tables.specs.SchemaNumbers as numbers
 use Rattle.pid_tables.specs.ShowsOrBlank as shows
+use Rattle.pid_tables.specs.Statements.{IsMadeBy, registry_statements}
 
 module _ {S : Type 0} (store : Ghosts S) where
   abbrev pub IsBlank : Held S → Type 0
@@ -71,7 +72,8 @@ module _ {S : Type 0} (store : Ghosts S) where
   MigratesJudged old new result = bringing.MigratesJudged (state store old) (state store new) result
 
   abbrev pub MigratesNone : Held S → Held S → Result Step TableFault → Type 0
-  MigratesNone old new result = bringing.MigratesNone (state store old) (state store new) result
+  MigratesNone old new result = bringing.MigratesNone (IsMadeBy store registry_statements old)
+      (state store old) (state store new) result
 
   abbrev pub ShowsOrBlank : Held S → History → Type 0
   ShowsOrBlank conn h = shows.ShowsOrBlank (state store conn) h
